@@ -1,0 +1,9 @@
+pub mod Parts
+pub mod Loop
+pub mod Numbers
+pub mod Values
+pub mod Fronts
+pub mod Prefixes
+pub mod Steady
+pub mod FirstFaults
+pub mod Room

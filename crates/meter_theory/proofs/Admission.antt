@@ -1,0 +1,161 @@
+-- The six tests over lists decide admission, where the plan is sound.
+use Rattle.cosem_data.specs.Cells.{same_name}
+use Rattle.cosem_data.proofs.Same.{same_name-true, same_name-from}
+use Rattle.std.proofs.Common.{[], ◌++◌, ◌∙◌, ◌≡◌, ◌==◌, ◌⊎◌, ◌<◌, ◌+◌, ◌≤◌, ℕ, zero, suc, Bool, true, false, not, ◌&&◌, ◌||◌, List, ◌∷◌, map, refl, sym, ap, subst, inl, inr, Option, Some, None, is_some, eqb-true, eq-eqb, length, arith}
+use Rattle.std.specs.List.{list_any, range_with_len}
+use Rattle.std.proofs.lemmas.Bool.{and_parts, and_from, or_cases, or_left, or_right}
+use Rattle.meter_theory.specs.Lists.{IsIn, for_some}
+use Rattle.cosem_data.specs.declared.name.LogicalName.{LogicalName}
+use Rattle.cosem_data.specs.declared.cell.CellRef.{CellRef}
+use Rattle.meter_theory.specs.Plan.{Plan, Object, Right, Part, Data1, Register, ProfileGeneric, ScriptTable, RegisterMonitor, SingleActionSchedule, cells, object_at}
+use Rattle.cosem_data.specs.declared.cell.MethodRef.{MethodRef}
+use Rattle.meter_theory.specs.Rights.{has_right, lists, may_get, may_set}
+use Rattle.meter_theory.specs.Steps.{changed_by, actions_effects, scripts_of}
+use Rattle.meter_theory.specs.Edges.{among, edges}
+use Rattle.meter_theory.specs.Labels.{Labels, Labelling, Label, label_at, labelling_of, has, within, MayChange, method_changes, method_changes_of, all_scripts, Admits}
+use Rattle.meter_theory.specs.Sound.{IsSound}
+use Rattle.meter_theory.specs.Check.{may_change, clients_with_cells, is_labelled, keeps_policy, admits_changer, admits_reader, influence_flows, learn_flows, Pass, FirstFailure, Refusal, NotLabelled, PastPolicy, Changer, Reader, InfluenceEscapes, LearnEscapes, Refuses, AllPass}
+use Rattle.meter_theory.proofs.Lists.{any_in, in_any, in_append_right, in_flat_map, from_flat_map, in_map, from_map, in_range}
+use Rattle.meter_theory.proofs.Agreement.{object-found, not_both}
+use Rattle.meter_theory.proofs.Check.{among_in, in_among, plain_cells, actions_cells, edge-listed, listed-edge}
+
+-- not a, or b
+implies-true : (a b : Bool) → (not a || b) ≡ true → a ≡ true → b ≡ true
+implies-true true b h p = h
+implies-true false b h p = cc
+
+true-implies : (a b : Bool) → (a ≡ true → b ≡ true) → (not a || b) ≡ true
+true-implies true b h = h refl
+true-implies false b h = refl
+
+in_pairs : (P : Plan) (c : ℕ) (x : CellRef) → c < length P.clients → IsIn (cells P) x → IsIn (clients_with_cells P) (c, x)
+in_pairs P c x h i =
+    in_flat_map (λ d. map (λ y. (d, y)) (cells P)) (range_with_len 0 (length P.clients)) c (c, x) (in_range 0 (length P.clients) c (omega arith) (omega arith)) (in_map (λ y. (c, y)) (cells P) x i)
+
+from_pairs : (P : Plan) (cx : ℕ × CellRef) → IsIn (clients_with_cells P) cx → IsIn (cells P) cx.1
+from_pairs P cx i =
+    let c = from_flat_map (λ d. map (λ y. (d, y)) (cells P)) (range_with_len 0 (length P.clients)) cx i in
+    let x = from_map (λ y. (c.0, y)) (cells P) cx c.2 in
+    subst (IsIn (cells P)) (sym (ap (λ z. z.1) x.2)) x.1
+
+-- a right is a client's
+known_client : (P : Plan) → IsSound P → (c : ℕ) (name : LogicalName) (test : Right → Bool) → has_right P c name test ≡ true → c < length P.clients
+known_client P sound c name test h =
+    let r = any_in (λ z. ((z.client == c) && same_name z.object name) && test z) P.rights h in
+    let a = and_parts ((r.0.client == c) && same_name r.0.object name) (test r.0) r.2 in
+    let b = and_parts (r.0.client == c) (same_name r.0.object name) a.0 in
+    subst (λ d. d < length P.clients) (eqb-true r.0.client c b.0) (sound.clients r.0 r.1)
+
+changer_from : (P : Plan) (c : ℕ) (x : CellRef) → IsIn (cells P) x → may_change P c x ≡ true → MayChange P c x
+changer_from P c x there h =
+    elim (or_cases (may_set P c x) (list_any (λ r. (r.client == c) && list_any (λ i. among (method_changes_of P (record { class_id = 0; name = r.object; index = i })) x) r.acts) P.rights) h) [
+      | inl e ↦ inl (there, e)
+      | inr e ↦
+          let r = any_in (λ r. (r.client == c) && list_any (λ i. among (method_changes_of P (record { class_id = 0; name = r.object; index = i })) x) r.acts) P.rights e in
+          let a = and_parts (r.0.client == c) (list_any (λ i. among (method_changes_of P (record { class_id = 0; name = r.0.object; index = i })) x) r.0.acts) r.2 in
+          let i = any_in (λ i. among (method_changes_of P (record { class_id = 0; name = r.0.object; index = i })) x) r.0.acts a.1 in
+          let m : MethodRef = record { class_id = 0; name = r.0.object; index = i.0 } in
+          inr (
+            m,
+            in_any (λ z. ((z.client == c) && same_name z.object m.name) && lists z.acts m.index) P.rights r.0 r.1
+                (and_from ((r.0.client == c) && same_name r.0.object m.name) (lists r.0.acts m.index) (and_from (r.0.client == c) (same_name r.0.object m.name) a.0 (same_name-from m.name m.name refl))
+                (in_any (λ z. z == m.index) r.0.acts i.0 i.1 (eq-eqb m.index m.index refl))),
+            among_in (method_changes_of P m) x i.2,
+          )
+    ]
+
+changer_found : (P : Plan) (c : ℕ) (x : CellRef) → MayChange P c x → may_change P c x ≡ true
+changer_found P c x (inl h) = or_left (may_set P c x) (list_any (λ r. (r.client == c) && list_any (λ i. among (method_changes_of P (record { class_id = 0; name = r.object; index = i })) x) r.acts) P.rights) h.1
+changer_found P c x (inr h) =
+    let m = h.0 in
+    let r = any_in (λ z. ((z.client == c) && same_name z.object m.name) && lists z.acts m.index) P.rights h.1 in
+    let a = and_parts ((r.0.client == c) && same_name r.0.object m.name) (lists r.0.acts m.index) r.2 in
+    let b = and_parts (r.0.client == c) (same_name r.0.object m.name) a.0 in
+    let i = any_in (λ z. z == m.index) r.0.acts a.1 in
+    let name : r.0.object ≡ m.name = same_name-true r.0.object m.name b.1 in
+    let index : i.0 ≡ m.index = eqb-true i.0 m.index i.2 in
+    let there : IsIn (method_changes_of P (record { class_id = 0; name = r.0.object; index = i.0 })) x =
+    subst (λ n. IsIn (method_changes_of P (record { class_id = 0; name = n; index = i.0 })) x) (sym name)
+    (subst (λ k. IsIn (method_changes_of P (record { class_id = 0; name = m.name; index = k })) x) (sym index) h.2) in
+    or_right (may_set P c x) (list_any (λ z. (z.client == c) && list_any (λ k. among (method_changes_of P (record { class_id = 0; name = z.object; index = k })) x) z.acts) P.rights)
+    (in_any (λ z. (z.client == c) && list_any (λ k. among (method_changes_of P (record { class_id = 0; name = z.object; index = k })) x) z.acts) P.rights r.0 r.1
+    (and_from (r.0.client == c) (list_any (λ k. among (method_changes_of P (record { class_id = 0; name = r.0.object; index = k })) x) r.0.acts) b.0
+    (in_any (λ k. among (method_changes_of P (record { class_id = 0; name = r.0.object; index = k })) x) r.0.acts i.0 i.1
+    (in_among (method_changes_of P (record { class_id = 0; name = r.0.object; index = i.0 })) x there))))
+
+-- what a method changes is cells of the plan
+method_cells : (P : Plan) → IsSound P → (m : MethodRef) (x : CellRef) → IsIn (method_changes_of P m) x → IsIn (cells P) x
+method_cells P sound m x i =
+    elim (object_at P m.name) as (λ o. object_at P m.name ≡ o → IsIn (for_some o (λ z. method_changes P m z.part)) x → IsIn (cells P) x) [
+      | None ↦ λ is j. absurd j
+      | Some o ↦ λ is j. at o is o.part refl j
+    ] refl i
+  where
+    at : (o : Object) → object_at P m.name ≡ Some o → (part : Part) → o.part ≡ part → IsIn (method_changes P m part) x → IsIn (cells P) x
+    at o is (ScriptTable scripts) h j =
+        let e = from_flat_map changed_by (all_scripts P scripts) x j in
+        let s = from_flat_map (λ z. actions_effects P z.actions) scripts e.0 e.1 in
+        actions_cells P sound o (object-found P m.name o is).0 s.0 (subst (λ p. IsIn (scripts_of p) s.0) (sym h) s.1) x (in_flat_map changed_by (actions_effects P s.0.actions) e.0 x s.2 e.2)
+    at o is (Data1 start) h j = plain_cells P sound m.name o is (Data1 start) h m.index x j
+    at o is (Register start default scaler_unit) h j = plain_cells P sound m.name o is (Register start default scaler_unit) h m.index x j
+    at o is (ProfileGeneric captured period entries) h j = plain_cells P sound m.name o is (ProfileGeneric captured period entries) h m.index x j
+    at o is (RegisterMonitor monitored th actions) h j = plain_cells P sound m.name o is (RegisterMonitor monitored th actions) h m.index x j
+    at o is (SingleActionSchedule script type times) h j = plain_cells P sound m.name o is (SingleActionSchedule script type times) h m.index x j
+
+some_label : (o : Option Label) → is_some o ≡ true → (l : Label) × (o ≡ Some l)
+some_label None h = cc
+some_label (Some l) h = (l, refl)
+
+pub passes-admits : (P : Plan) (policy : Labelling) (labels : Labels) → IsSound P → AllPass P policy labels → Admits P policy labels
+passes-admits P policy labels sound a = record {
+  labelled = λ x i. some_label (label_at labels x) (a.labelled x i);
+  influence_within = λ x i. (and_parts (within (labelling_of labels x).influence (policy x).influence) (within (labelling_of labels x).learn (policy x).learn) (a.policy_kept x i)).0;
+  learn_within = λ x i. (and_parts (within (labelling_of labels x).influence (policy x).influence) (within (labelling_of labels x).learn (policy x).learn) (a.policy_kept x i)).1;
+  changers = λ c x may. implies-true (may_change P c x) (has (labelling_of labels x).influence c)
+      (a.changers (c, x) (in_pairs P c x (changer_known c x may) (changed_cell c x may))) (changer_found P c x may);
+  readers = λ c x i may. implies-true (may_get P c x) (has (labelling_of labels x).learn c)
+      (a.readers (c, x) (in_pairs P c x (known_client P sound c x.name (λ r. lists r.gets x.index) may) i)) may;
+  influence_flows = λ e is. a.influence e (edge-listed P sound e is);
+  learn_flows = λ e is. a.learn e (edge-listed P sound e is);
+}
+  where
+    changer_known : (c : ℕ) (x : CellRef) → MayChange P c x → c < length P.clients
+    changer_known c x (inl h) = known_client P sound c x.name (λ r. lists r.sets x.index) h.1
+    changer_known c x (inr h) = known_client P sound c h.0.name (λ r. lists r.acts h.0.index) h.1
+
+    changed_cell : (c : ℕ) (x : CellRef) → MayChange P c x → IsIn (cells P) x
+    changed_cell c x (inl h) = h.0
+    changed_cell c x (inr h) = method_cells P sound h.0 x h.2
+
+pub admits-passes : (P : Plan) (policy : Labelling) (labels : Labels) → IsSound P → Admits P policy labels → AllPass P policy labels
+admits-passes P policy labels sound a = record {
+  labelled = λ x i. let l = a.labelled x i in subst (λ o. is_some o ≡ true) (sym l.1) refl;
+  policy_kept = λ x i. and_from (within (labelling_of labels x).influence (policy x).influence) (within (labelling_of labels x).learn (policy x).learn) (a.influence_within x i) (a.learn_within x i);
+  changers = λ cx i. true-implies (may_change P cx.0 cx.1) (has (labelling_of labels cx.1).influence cx.0) (λ may. a.changers cx.0 cx.1 (changer_from P cx.0 cx.1 (from_pairs P cx i) may));
+  readers = λ cx i. true-implies (may_get P cx.0 cx.1) (has (labelling_of labels cx.1).learn cx.0) (λ may. a.readers cx.0 cx.1 (from_pairs P cx i) may);
+  influence = λ e i. a.influence_flows e (listed-edge P sound e i);
+  learn = λ e i. a.learn_flows e (listed-edge P sound e i);
+}
+
+-- what fails first does fail
+pub not_all : {A : Type 0} (test : A → Bool) (xs : List A) (x : A) → FirstFailure test xs x → Pass test xs → ⊥
+not_all test xs x f all =
+    not_both (test x) (all x (subst (λ ys. IsIn ys x) (sym f.whole) (in_append_right f.before (x ∷ f.after) x (inl refl)))) f.fails
+
+pub refusal-right : (P : Plan) (policy : Labelling) (labels : Labels) (r : Refusal) → Refuses P policy labels r → AllPass P policy labels → ⊥
+refusal-right P policy labels (NotLabelled x) h a = not_all (is_labelled labels) (cells P) x h a.labelled
+refusal-right P policy labels (PastPolicy x) h a = not_all (keeps_policy policy labels) (cells P) x h.1 a.policy_kept
+refusal-right P policy labels (Changer c x) h a = not_all (admits_changer P labels) (clients_with_cells P) (c, x) h.2 a.changers
+refusal-right P policy labels (Reader c x) h a = not_all (admits_reader P labels) (clients_with_cells P) (c, x) h.3 a.readers
+refusal-right P policy labels (InfluenceEscapes e) h a = not_all (influence_flows labels) (edges P) e h.4 a.influence
+refusal-right P policy labels (LearnEscapes e) h a = not_all (learn_flows labels) (edges P) e h.5 a.learn
+
+same_first : {A : Type 0} (test : A → Bool) (b c : List A) (x y : A) (a d : List A) → b ++ x ∷ a ≡ c ++ y ∷ d → Pass test b → Pass test c → test x ≡ false → test y ≡ false → x ≡ y
+same_first test [] [] x y a d e p q f g = cc
+same_first test [] (z ∷ c) x y a d e p q f g = let same : x ≡ z = cc in not_both (test x) (subst (λ w. test w ≡ true) (sym same) (q z (inl refl))) f
+same_first test (z ∷ b) [] x y a d e p q f g = let same : z ≡ y = cc in not_both (test y) (subst (λ w. test w ≡ true) same (p z (inl refl))) g
+same_first test (z ∷ b) (w ∷ c) x y a d e p q f g = let rest : b ++ x ∷ a ≡ c ++ y ∷ d = cc in same_first test b c x y a d rest (λ v i. p v (inr i)) (λ v i. q v (inr i)) f g
+
+-- There is one first failure.
+pub first_once : {A : Type 0} (test : A → Bool) (xs : List A) (x y : A) → FirstFailure test xs x → FirstFailure test xs y → x ≡ y
+first_once test xs x y f g = same_first test f.before g.before x y f.after g.after (sym f.whole ∙ g.whole) f.earlier g.earlier f.fails g.fails

@@ -1,0 +1,17 @@
+pub mod Lists
+pub mod State
+pub mod Depends
+pub mod Classes
+pub mod Agreement
+pub mod Rights
+pub mod Theorem
+pub mod Check
+pub mod Admission
+pub mod Unequal
+pub mod KeepKinds
+pub mod KeepSteps
+pub mod SoundTest
+pub mod Start
+pub mod Unique
+pub mod Lengths
+pub mod Demo

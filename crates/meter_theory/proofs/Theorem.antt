@@ -1,0 +1,334 @@
+-- An admitted plan keeps influence and secrecy.
+use Rattle.cosem_data.proofs.Same.{same_cell-true}
+use Rattle.cosem_data.proofs.Bits.{none_above}
+use Rattle.cosem_data.specs.declared.clients.ClientSet.{ClientSet}
+use Rattle.std.proofs.Common.{◌≡◌, ◌==◌, ◌≤◌, ◌<◌, ◌+◌, ℕ, zero, suc, Bool, true, false, not, cond, ◌&&◌, ◌||◌, List, [], ◌∷◌, refl, sym, ap, ap₂, subst, ◌∙◌, inl, inr, Option, Some, None, option_map, eqb-true, eq-eqb, ne_eqb, nat_lt, ltb-true, arith}
+use Rattle.std.specs.List.{list_all, range_with_len}
+use Rattle.std.proofs.lemmas.Bool.{cond-false, not-true, and_parts, and_from, or_cases, or_left, or_right, false_from_ne_true, ltb-false}
+use Rattle.meter_theory.specs.Lists.{IsIn, for_some}
+use Rattle.cosem_data.specs.Tree.{Tree}
+use Rattle.cosem_data.specs.declared.name.LogicalName.{LogicalName}
+use Rattle.cosem_data.specs.declared.cell.CellRef.{CellRef}
+use Rattle.meter_theory.specs.State.{State, keys, value}
+use Rattle.cosem_data.specs.Cells.{same_name, same_cell}
+use Rattle.meter_theory.specs.Plan.{Plan, Object, Part, Data1, Register, ProfileGeneric, ScriptTable, RegisterMonitor, SingleActionSchedule, start, start_of, association_name, association, interface_of, interface_at, cells, is_cell, object_at, rule_of}
+use Rattle.meter_theory.specs.Access.{is_success}
+use Rattle.meter_theory.specs.Rights.{Argument, Descriptor, cell_of, Selection, class_is, get_answer, set_answer, may_read, may_get, lists, readable_of_association}
+use Rattle.meter_theory.specs.Fixed.{fixed}
+use Rattle.meter_theory.specs.Replies.{Value, Code, is_step_of_client, attribute, selected, reply_to, run, replies, replies_of}
+use Rattle.meter_theory.specs.Steps.{Put, Step, Get, Set, Act, Input, CaptureAt, Evaluate, ScheduleAt, client_of, given_value, effects_of, next, is_fed, meets_some}
+use Rattle.meter_theory.specs.Edges.{Agree, IsClosed}
+use Rattle.meter_theory.specs.Labels.{has, within, Labels, Labelling, labelling_of, Admits}
+use Rattle.meter_theory.specs.Safety.{HasCells, is_step_of, Thinned, DifferHidden, Alike, outside, LookAlike, Influence, Secrecy}
+use Rattle.meter_theory.proofs.Lists.{any_in, from_flat_map, from_map, in_range}
+use Rattle.meter_theory.proofs.State.{value_missing}
+use Rattle.meter_theory.proofs.Depends.{is_touched}
+use Rattle.meter_theory.proofs.Agreement.{object-found, AreQuiet, effects-quiet, step-agrees, next-keys, not_both}
+use Rattle.meter_theory.proofs.Rights.{client-changes, get_allowed, get_class, when, in_given}
+
+-- Sets of clients
+
+pub all_at : {A : Type 0} (test : A → Bool) (xs : List A) (x : A) → list_all test xs ≡ true → IsIn xs x → test x ≡ true
+all_at test [] x h i = absurd i
+all_at test (y ∷ xs) x h i =
+    let parts = and_parts (test y) (list_all test xs) h in
+    elim i [
+      | inl e ↦ subst (λ z. test z ≡ true) (sym e) parts.0
+      | inr j ↦ all_at test xs x parts.1 j
+    ]
+
+all_from : {A : Type 0} (test : A → Bool) (xs : List A) → ((x : A) → IsIn xs x → test x ≡ true) → list_all test xs ≡ true
+all_from test [] h = refl
+all_from test (x ∷ xs) h = and_from (test x) (list_all test xs) (h x (inl refl)) (all_from test xs (λ y i. h y (inr i)))
+
+-- a client past the sixteen places is in no set
+outside_range : (cs : ClientSet) (c : ℕ) → 16 ≤ c → has cs c ≡ false
+outside_range cs c high = none_above cs.mask c cs.in_range high
+
+pub within_has : (cs ds : ClientSet) → within cs ds ≡ true → (c : ℕ) → has cs c ≡ true → has ds c ≡ true
+unfolding within
+within_has cs ds h c i =
+    elim (nat_lt c 16) as (λ b. nat_lt c 16 ≡ b → has ds c ≡ true) [
+      | true ↦ λ low. one (all_at (λ k. not (has cs k) || has ds k) (range_with_len 0 16) c h (in_range 0 16 c (omega arith) (ltb-true c 16 low)))
+      | false ↦ λ high. not_both (has cs c) i (outside_range cs c (ltb-false c 16 high))
+    ] refl
+  where
+    one : (not (has cs c) || has ds c) ≡ true → has ds c ≡ true
+    one e =
+        elim (or_cases (not (has cs c)) (has ds c) e) [
+          | inl none ↦ not_both (has cs c) i (not-true (has cs c) none)
+          | inr there ↦ there
+        ]
+
+pub within_from : (cs ds : ClientSet) → ((c : ℕ) → has cs c ≡ true → has ds c ≡ true) → within cs ds ≡ true
+unfolding within
+within_from cs ds h = all_from (λ k. not (has cs k) || has ds k) (range_with_len 0 16) (λ c i. at c (has cs c) refl)
+  where
+    at : (c : ℕ) (b : Bool) → has cs c ≡ b → (not b || has ds c) ≡ true
+    at c true p = h c p
+    at c false p = refl
+
+pub within_trans : (a b c : ClientSet) → within a b ≡ true → within b c ≡ true → within a c ≡ true
+within_trans a b c h k = within_from a c (λ d i. within_has b c k d (within_has a b h d i))
+
+-- Cells
+
+pub is_cell_in : (P : Plan) (x : CellRef) → is_cell P x ≡ true → IsIn (cells P) x
+is_cell_in P x h =
+    let r = any_in (same_cell x) (cells P) h in
+    subst (IsIn (cells P)) (sym (same_cell-true x r.0 r.2)) r.1
+
+-- Runs that aren't in step
+
+-- Taking out steps that leave S alone leaves S.
+pub thinned-agree : (P : Plan) (S : CellRef → Bool) → IsClosed P S → (K : ℕ → Bool) →
+    ((s : State) (step : Step) → is_step_of K (client_of step) ≡ true → AreQuiet S (effects_of P s step)) →
+    (l l' : List Step) (s t : State) → keys s ≡ keys t → Agree S s t → Thinned K l l' → Agree S (run P s l) (run P t l')
+thinned-agree P S closed K quiet [] l' s t k agree th = subst (λ m. Agree S s (run P t m)) (sym th) agree
+thinned-agree P S closed K quiet (step ∷ l) l' s t k agree th =
+    elim th [
+      | inl out ↦ thinned-agree P S closed K quiet l l' (next P s step) t (next-keys P s step ∙ k)
+          (λ x i. effects-quiet P S (effects_of P s step) s (quiet s step out.0) x i ∙ agree x i) out.1
+      | inr kept ↦ subst (λ m. Agree S (run P s (step ∷ l)) (run P t m)) (sym kept.1)
+          (thinned-agree P S closed K quiet l kept.0 (next P s step) (next P t step)
+          (next-keys P s step ∙ (k ∙ sym (next-keys P t step))) (step-agrees P S closed s t k agree step) kept.2)
+    ]
+
+is_step-weaker : (K M : ℕ → Bool) → ((c : ℕ) → K c ≡ true → M c ≡ true) → (o : Option ℕ) → is_step_of K o ≡ true → is_step_of M o ≡ true
+is_step-weaker K M h None e = e
+is_step-weaker K M h (Some c) e = h c e
+
+pub Thinned-weaker : (K M : ℕ → Bool) → ((c : ℕ) → K c ≡ true → M c ≡ true) → (l l' : List Step) → Thinned K l l' → Thinned M l l'
+Thinned-weaker K M h [] l' th = th
+Thinned-weaker K M h (step ∷ l) l' th =
+    elim th [
+      | inl out ↦ inl (is_step-weaker K M h (client_of step) out.0, Thinned-weaker K M h l l' out.1)
+      | inr kept ↦ inr (kept.0, kept.1, Thinned-weaker K M h l kept.0 kept.2)
+    ]
+
+-- who it is
+client_there : (K : ℕ → Bool) (o : Option ℕ) → is_step_of K o ≡ true → (c : ℕ) × (o ≡ Some c) × (K c ≡ true)
+client_there K None h = cc
+client_there K (Some c) h = (c, refl, h)
+
+-- a cell is no logical name and no attribute of an association, so that whoever may read it has a right
+start_index : (n : LogicalName) (part : Part) (x : CellRef) (v : Tree) → IsIn (start_of n part) (x, v) → (x.index == 1) ≡ false
+start_index n (Data1 start) x v (inl e) = ap (λ z. z.0.index == 1) e
+start_index n (Data1 start) x v (inr none) = absurd none
+start_index n (Register start default scaler_unit) x v (inl e) = ap (λ z. z.0.index == 1) e
+start_index n (Register start default scaler_unit) x v (inr none) = absurd none
+start_index n (ProfileGeneric captured period entries) x v (inl e) = ap (λ z. z.0.index == 1) e
+start_index n (ProfileGeneric captured period entries) x v (inr (inl e)) = ap (λ z. z.0.index == 1) e
+start_index n (ProfileGeneric captured period entries) x v (inr (inr (inl e))) = ap (λ z. z.0.index == 1) e
+start_index n (ProfileGeneric captured period entries) x v (inr (inr (inr none))) = absurd none
+start_index n (ScriptTable scripts) x v none = absurd none
+start_index n (RegisterMonitor monitored th actions) x v (inl e) = ap (λ z. z.0.index == 1) e
+start_index n (RegisterMonitor monitored th actions) x v (inr (inl e)) = ap (λ z. z.0.index == 1) e
+start_index n (RegisterMonitor monitored th actions) x v (inr (inr none)) = absurd none
+start_index n (SingleActionSchedule script type times) x v (inl e) = ap (λ z. z.0.index == 1) e
+start_index n (SingleActionSchedule script type times) x v (inr none) = absurd none
+
+start_class : (n : LogicalName) (part : Part) (x : CellRef) (v : Tree) → IsIn (start_of n part) (x, v) → (15 == x.class_id) ≡ false
+start_class n (Data1 start) x v (inl e) = ap (λ z. 15 == z.0.class_id) e
+start_class n (Data1 start) x v (inr none) = absurd none
+start_class n (Register start default scaler_unit) x v (inl e) = ap (λ z. 15 == z.0.class_id) e
+start_class n (Register start default scaler_unit) x v (inr none) = absurd none
+start_class n (ProfileGeneric captured period entries) x v (inl e) = ap (λ z. 15 == z.0.class_id) e
+start_class n (ProfileGeneric captured period entries) x v (inr (inl e)) = ap (λ z. 15 == z.0.class_id) e
+start_class n (ProfileGeneric captured period entries) x v (inr (inr (inl e))) = ap (λ z. 15 == z.0.class_id) e
+start_class n (ProfileGeneric captured period entries) x v (inr (inr (inr none))) = absurd none
+start_class n (ScriptTable scripts) x v none = absurd none
+start_class n (RegisterMonitor monitored th actions) x v (inl e) = ap (λ z. 15 == z.0.class_id) e
+start_class n (RegisterMonitor monitored th actions) x v (inr (inl e)) = ap (λ z. 15 == z.0.class_id) e
+start_class n (RegisterMonitor monitored th actions) x v (inr (inr none)) = absurd none
+start_class n (SingleActionSchedule script type times) x v (inl e) = ap (λ z. 15 == z.0.class_id) e
+start_class n (SingleActionSchedule script type times) x v (inr none) = absurd none
+
+-- what is asked of an entry of an object's start holds of each cell
+of_each_cell : (P : Plan) (test : CellRef → Bool) → ((n : LogicalName) (part : Part) (x : CellRef) (v : Tree) → IsIn (start_of n part) (x, v) → test x ≡ false) →
+    (x : CellRef) → IsIn (cells P) x → test x ≡ false
+of_each_cell P test each x i =
+    let entry = from_map (λ z. z.0) (start P) x i in
+    let at = from_flat_map (λ o. start_of o.name o.part) P.objects entry.0 entry.1 in
+    each at.0.name at.0.part x entry.0.1 (subst (λ z. IsIn (start_of at.0.name at.0.part) (z, entry.0.1)) (sym entry.2) at.2)
+
+cell_read : (P : Plan) (c : ℕ) (x : CellRef) → IsIn (cells P) x → class_is x.class_id (interface_at P x.name) ≡ true → may_read P c x ≡ true → may_get P c x ≡ true
+cell_read P c x i class may = at (same_name x.name association_name) class may
+  where
+    at : (b : Bool) → class_is x.class_id (cond b (Some association) (option_map (λ o. interface_of o.part) (object_at P x.name))) ≡ true →
+        cond b (lists readable_of_association x.index) ((x.index == 1) || may_get P c x) ≡ true → may_get P c x ≡ true
+    at true of_association read = not_both (15 == x.class_id) of_association (of_each_cell P (λ z. 15 == z.class_id) start_class x i)
+    at false of_object read =
+        elim (or_cases (x.index == 1) (may_get P c x) read) [
+          | inl e ↦ not_both (x.index == 1) e (of_each_cell P (λ z. z.index == 1) start_index x i)
+          | inr e ↦ e
+        ]
+
+-- What c can't tell apart, for one set S of cells
+
+-- the reply to a step of c
+pub reply-same : (P : Plan) (S : CellRef → Bool) (c : ℕ) → ((x : CellRef) → IsIn (cells P) x → may_get P c x ≡ true → S x ≡ true) →
+    (s t : State) → Agree S s t → (step : Step) → is_step_of_client c (client_of step) ≡ true → reply_to P s step ≡ reply_to P t step
+reply-same P S c reads s t agree (Set d y selector v) h = refl
+reply-same P S c reads s t agree (Act d y argument) h = refl
+reply-same P S c reads s t agree (Input x v) h = refl
+reply-same P S c reads s t agree (CaptureAt n moment) h = refl
+reply-same P S c reads s t agree (Evaluate n) h = refl
+reply-same P S c reads s t agree (ScheduleAt n moment) h = refl
+reply-same P S c reads s t agree (Get d y selection) h =
+    where_allowed (is_success (get_answer P d y selection)) refl
+  where
+    same : c ≡ d
+    same = eqb-true c d h
+
+    x : CellRef
+    x = cell_of y
+
+    here : class_is y.class_id (interface_at P y.name) ≡ true → may_read P d x ≡ true → (b : Bool) → is_cell P x ≡ b →
+        Value (selected selection (cond b (value s x) (fixed P d x))) ≡ Value (selected selection (cond b (value t x) (fixed P d x)))
+    here class may true p = ap (λ v. Value (selected selection v)) (agree x (reads x (is_cell_in P x p) (subst (λ k. may_get P k x ≡ true) (sym same) (cell_read P d x (is_cell_in P x p) class may))))
+    here class may false p = refl
+
+    where_allowed : (b : Bool) → is_success (get_answer P d y selection) ≡ b →
+        cond b (Value (selected selection (attribute P s d x))) (Code (get_answer P d y selection))
+        ≡ cond b (Value (selected selection (attribute P t d x))) (Code (get_answer P d y selection))
+    where_allowed true p = here (get_class P d y selection p) (get_allowed P d y selection p) (is_cell P x) refl
+    where_allowed false p = refl
+
+-- what two steps are that differ in what is hidden
+pub record AreHidden (P : Plan) (S : CellRef → Bool) (c : ℕ) (step step' : Step) : Type 0 where
+  pub other : is_step_of_client c (client_of step) ≡ false
+  pub other' : is_step_of_client c (client_of step') ≡ false
+  pub quiet : (s : State) → AreQuiet S (effects_of P s step)
+  pub quiet' : (s : State) → AreQuiet S (effects_of P s step')
+
+hidden-replies : (P : Plan) (Q : Labelling) (S : CellRef → Bool) (c : ℕ) → IsClosed P S →
+    ((x : CellRef) → IsIn (cells P) x → may_get P c x ≡ true → S x ≡ true) →
+    ((step step' : Step) → DifferHidden P Q c step step' → AreHidden P S c step step') →
+    (l l' : List Step) (s t : State) → keys s ≡ keys t → Agree S s t → Alike P Q c l l' → replies_of c l (replies P s l) ≡ replies_of c l' (replies P t l')
+hidden-replies P Q S c closed reads hidden [] [] s t k agree a = refl
+hidden-replies P Q S c closed reads hidden [] (step' ∷ l') s t k agree a = absurd a
+hidden-replies P Q S c closed reads hidden (step ∷ l) [] s t k agree a = absurd a
+hidden-replies P Q S c closed reads hidden (step ∷ l) (step' ∷ l') s t k agree a =
+    elim a.0 [
+      | inl same ↦ subst (λ z. replies_of c (step ∷ l) (replies P s (step ∷ l)) ≡ replies_of c (z ∷ l') (replies P t (z ∷ l'))) same
+          (equal_heads (is_step_of_client c (client_of step)) refl
+          (hidden-replies P Q S c closed reads hidden l l' (next P s step) (next P t step)
+          (next-keys P s step ∙ (k ∙ sym (next-keys P t step))) (step-agrees P S closed s t k agree step) a.1))
+      | inr differ ↦
+          let h = hidden step step' differ in
+          cond-false _ _ _ h.other
+          ∙ (hidden-replies P Q S c closed reads hidden l l' (next P s step) (next P t step')
+          (next-keys P s step ∙ (k ∙ sym (next-keys P t step')))
+          (λ x i. effects-quiet P S (effects_of P s step) s (h.quiet s) x i ∙ (agree x i ∙ sym (effects-quiet P S (effects_of P t step') t (h.quiet' t) x i))) a.1
+          ∙ sym (cond-false _ _ _ h.other'))
+    ]
+  where
+    equal_heads : (b : Bool) → is_step_of_client c (client_of step) ≡ b →
+        replies_of c l (replies P (next P s step) l) ≡ replies_of c l' (replies P (next P t step) l') →
+        cond b (reply_to P s step ∷ replies_of c l (replies P (next P s step) l)) (replies_of c l (replies P (next P s step) l))
+        ≡ cond b (reply_to P t step ∷ replies_of c l' (replies P (next P t step) l')) (replies_of c l' (replies P (next P t step) l'))
+    equal_heads true p rest = ap₂ (λ r rs. r ∷ rs) (reply-same P S c reads s t agree step p) rest
+    equal_heads false p rest = rest
+
+-- hidden steps touch nothing that c may learn
+pub are_hidden : (P : Plan) (Q : Labelling) (c : ℕ) (step step' : Step) → DifferHidden P Q c step step' → AreHidden P (λ x. has (Q x).learn c) c step step'
+are_hidden P Q c (Set d x selector v) (Set e y chosen w) h = record {
+  other = ne_eqb c d (λ q. h.1 (sym q));
+  other' = ne_eqb c e (λ q. h.1 (h.0 ∙ sym q));
+  quiet = λ s z i. when (is_success (set_answer P d x selector v)) (given_value (cell_of x) v) z (λ ok j. subst (λ u. has (Q u).learn c ≡ false) (sym (in_given (cell_of x) v z j)) h.5) i;
+  quiet' = λ s z i. when (is_success (set_answer P e y chosen w)) (given_value (cell_of y) w) z (λ ok j. subst (λ u. has (Q u).learn c ≡ false) (ap cell_of h.2 ∙ sym (in_given (cell_of y) w z j)) h.5) i;
+}
+are_hidden P Q c (Input x v) (Input y w) h = record {
+  other = refl;
+  other' = refl;
+  quiet = λ s. input_quiet x v h.2;
+  quiet' = λ s. input_quiet y w (subst (λ u. has (Q u).learn c ≡ false) h.0 h.2);
+}
+  where
+    input_quiet : (u : CellRef) (value : Tree) → has (Q u).learn c ≡ false → AreQuiet (λ z. has (Q z).learn c) (cond (is_fed P u && meets_some (rule_of P u) value) (Put u value ∷ []) [])
+    input_quiet u value hidden z i = when (is_fed P u && meets_some (rule_of P u) value) (Put u value ∷ []) z (λ ok j. elim j [ inl e ↦ subst (λ q. has (Q q).learn c ≡ false) (sym e) hidden | inr none ↦ absurd none ]) i
+are_hidden P Q c _ _ h = absurd h
+
+module _ (P : Plan) (policy : Labelling) (labels : Labels) (a : Admits P policy labels) where
+  abbrev Q : Labelling
+  Q = labelling_of labels
+
+  -- the cells whose influence set lies within that of x
+  abbrev below : CellRef → CellRef → Bool
+  below x y = within (Q y).influence (Q x).influence
+
+  below_closed : (x : CellRef) → IsClosed P (below x)
+  below_closed x e is h = within_trans (Q e.source).influence (Q e.target).influence (Q x).influence (a.influence_flows e is) h
+
+  outside_quiet : (x : CellRef) (s : State) (step : Step) → is_step_of (outside Q x) (client_of step) ≡ true → AreQuiet (below x) (effects_of P s step)
+  outside_quiet x s step out y i =
+      let who = client_there (outside Q x) (client_of step) out in
+      false_from_ne_true (below x y) (λ h.
+      let may : has (Q y).influence who.0 ≡ true = a.changers who.0 y (client-changes P s step who.0 who.1 y i) in
+      let inside : has (Q x).influence who.0 ≡ true = within_has (Q y).influence (Q x).influence h who.0 may in
+      not_both (has (Q x).influence who.0) inside (not-true (has (Q x).influence who.0) who.2))
+
+  below_itself : (x : CellRef) → below x x ≡ true
+  below_itself x = within_from (Q x).influence (Q x).influence (λ c i. i)
+
+  pub influence-labels : Influence P Q
+  influence-labels = record {
+    thinned = λ s x l l' is i th. thinned-agree P (below x) (below_closed x) (outside Q x) (outside_quiet x) l l' s s refl (λ y h. refl) th x (below_itself x);
+    changed = λ s x step is i differs. false_from_ne_true _ (λ out.
+        differs (effects-quiet P (below x) (effects_of P s step) s (outside_quiet x s step out) x (below_itself x)));
+  }
+
+  -- a client outside the policy's set is outside the labels' set
+  outside_both : (x : CellRef) → IsIn (cells P) x → (c : ℕ) → outside policy x c ≡ true → outside Q x c ≡ true
+  outside_both x i c h =
+      ap not (false_from_ne_true (has (Q x).influence c) (λ k.
+      not_both (has (policy x).influence c) (within_has (Q x).influence (policy x).influence (a.influence_within x i) c k) (not-true (has (policy x).influence c) h)))
+
+  pub influence-policy : Influence P policy
+  influence-policy = record {
+    thinned = λ s x l l' is i th. influence-labels.thinned s x l l' is i (Thinned-weaker (outside policy x) (outside Q x) (outside_both x i) l l' th);
+    changed = λ s x step is i differs. false_from_ne_true _ (λ out.
+        not_both (is_step_of (outside Q x) (client_of step)) (is_step-weaker (outside policy x) (outside Q x) (outside_both x i) (client_of step) out) (influence-labels.changed s x step is i differs));
+  }
+
+  -- the cells that c may learn
+  pub learnable_closed : (c : ℕ) → IsClosed P (λ x. has (Q x).learn c)
+  learnable_closed c e is h = within_has (Q e.target).learn (Q e.source).learn (a.learn_flows e is) c h
+
+  pub secrecy-labels : Secrecy P Q
+  secrecy-labels = record {
+    same_replies = λ c s s' l l' is is' look alike.
+        hidden-replies P Q (λ x. has (Q x).learn c) c (learnable_closed c) (λ x i may. a.readers c x i may) (are_hidden P Q c) l l' s s' (is ∙ sym is') look alike;
+  }
+
+  pub learn_more : (c : ℕ) (x : CellRef) → IsIn (cells P) x → has (Q x).learn c ≡ true → has (policy x).learn c ≡ true
+  learn_more c x i h = within_has (Q x).learn (policy x).learn (a.learn_within x i) c h
+
+  -- states that look alike by the policy look alike by the labels
+  pub look_there : (c : ℕ) (s s' : State) → HasCells P s → HasCells P s' → LookAlike policy c s s' → LookAlike Q c s s'
+  look_there c s s' is is' look x h =
+      elim (is_touched (cells P) x) [
+        | inl i ↦ look x (learn_more c x i h)
+        | inr none ↦ value_missing s x (λ i. none (subst (λ ks. IsIn ks x) is i)) ∙ sym (value_missing s' x (λ i. none (subst (λ ks. IsIn ks x) is' i)))
+      ]
+
+  less : (c : ℕ) (x : CellRef) → IsIn (cells P) x → has (policy x).learn c ≡ false → has (Q x).learn c ≡ false
+  less c x i h = false_from_ne_true (has (Q x).learn c) (λ k. not_both (has (policy x).learn c) (learn_more c x i k) h)
+
+  -- what the policy hides the labels hide
+  pub hidden_there : (c : ℕ) (step step' : Step) → DifferHidden P policy c step step' → DifferHidden P Q c step step'
+  hidden_there c (Set d x selector v) (Set e y chosen w) h = (h.0, h.1, h.2, h.3, h.4, less c (cell_of x) h.4 h.5)
+  hidden_there c (Input x v) (Input y w) h = (h.0, h.1, less c x h.1 h.2)
+  hidden_there c _ _ h = absurd h
+
+  alike_there : (c : ℕ) (l l' : List Step) → Alike P policy c l l' → Alike P Q c l l'
+  alike_there c [] [] h = tt
+  alike_there c [] (step' ∷ l') h = absurd h
+  alike_there c (step ∷ l) [] h = absurd h
+  alike_there c (step ∷ l) (step' ∷ l') h = (elim h.0 [ inl e ↦ inl e | inr d ↦ inr (hidden_there c step step' d) ], alike_there c l l' h.1)
+
+  pub secrecy-policy : Secrecy P policy
+  secrecy-policy = record {
+    same_replies = λ c s s' l l' is is' look alike. secrecy-labels.same_replies c s s' l l' is is' (look_there c s s' is is' look) (alike_there c l l' alike);
+  }

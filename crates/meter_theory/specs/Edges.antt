@@ -1,0 +1,108 @@
+-- From which cell to which a value may flow: the edges of a plan.
+use Rattle.std.specs.Prelude.{◌≡◌, Bool, true, false, ◌&&◌, cond, filter, List, [], ◌∷◌, ◌++◌, map, flat_map}
+use Rattle.std.specs.List.{list_any}
+use Rattle.meter_theory.specs.Lists.{IsIn}
+use Rattle.cosem_data.specs.declared.name.LogicalName.{LogicalName}
+use Rattle.cosem_data.specs.declared.cell.CellRef.{CellRef}
+use Rattle.cosem_data.specs.Cells.{same_cell}
+use Rattle.meter_theory.specs.State.{State, value}
+use Rattle.meter_theory.specs.Plan.{Plan, Object, ScriptRef, UpDown, Part, ProfileGeneric, RegisterMonitor, SingleActionSchedule, buffer, capture_period, entries_in_use, thresholds, seen, execution_time, cells}
+use Rattle.meter_theory.specs.Steps.{changed, effects_of_script}
+
+-- the cells that a script changes
+abbrev pub script_changes : Plan → ScriptRef → List CellRef
+script_changes P r = changed (effects_of_script P r)
+
+-- the scripts of a monitor
+abbrev pub scripts_named : List UpDown → List ScriptRef
+scripts_named actions = flat_map (λ a. a.up ∷ a.down ∷ []) actions
+
+-- the cells that a monitor's scripts change
+abbrev pub monitor_changes : Plan → List UpDown → List CellRef
+monitor_changes P actions = flat_map (script_changes P) (scripts_named actions)
+
+-- why there is an edge
+pub data Cause : Type 0 where
+  Monitored : Cause
+  Monitor : Cause
+  Captured : Cause
+  Period : Cause
+  Schedule : Cause
+
+-- from a cell to one that its value may reach or decide
+pub record Edge : Type 0 where
+  pub source : CellRef
+  pub target : CellRef
+  pub cause : Cause
+
+-- An edge from x to y for this cause, which an object of this name makes.
+abbrev pub EdgeIn : Plan → LogicalName → Part → Cause → CellRef → CellRef → Type 0
+EdgeIn P n (RegisterMonitor monitored th actions) Monitored x y = (x ≡ monitored) × (y ≡ seen n)
+EdgeIn P n (RegisterMonitor monitored th actions) Monitor x y =
+    IsIn (monitored ∷ thresholds n ∷ seen n ∷ []) x × IsIn (monitor_changes P actions) y
+EdgeIn P n (ProfileGeneric captured period entries) Captured x y = IsIn captured x × (y ≡ buffer n)
+EdgeIn P n (ProfileGeneric captured period entries) Period x y =
+    (x ≡ capture_period n) × IsIn (buffer n ∷ entries_in_use n ∷ []) y
+EdgeIn P n (SingleActionSchedule script type times) Schedule x y =
+    (x ≡ execution_time n) × IsIn (script_changes P script) y
+EdgeIn P n _ _ x y = ⊥
+
+-- An edge of the plan.
+abbrev pub IsEdge : Plan → Edge → Type 0
+IsEdge P e = (o : Object) × IsIn P.objects o × EdgeIn P o.name o.part e.cause e.source e.target
+
+-- A set of cells is closed: an edge into it comes from it.
+abbrev pub IsClosed : Plan → (CellRef → Bool) → Type 0
+IsClosed P S = (e : Edge) → IsEdge P e → S e.target ≡ true → S e.source ≡ true
+
+-- The states agree on S.
+abbrev pub Agree : (CellRef → Bool) → State → State → Type 0
+Agree S s t = (x : CellRef) → S x ≡ true → value s x ≡ value t x
+
+-- The list of all edges
+
+-- an edge from its parts
+abbrev pub edge : Cause → CellRef → CellRef → Edge
+edge cause x y = record { source = x; target = y; cause = cause }
+
+-- the cell is one of these
+abbrev pub among : List CellRef → CellRef → Bool
+among xs x = list_any (same_cell x) xs
+
+-- those cells of the plan, in plan order
+abbrev pub in_plan_order : Plan → List CellRef → List CellRef
+in_plan_order P xs = filter (among xs) (cells P)
+
+-- the edges that an object of this name makes, in order
+abbrev pub edges_in : Plan → LogicalName → Part → List Edge
+edges_in P n (RegisterMonitor monitored th actions) =
+    edge Monitored monitored (seen n)
+    ∷ flat_map (λ y. edge Monitor monitored y ∷ edge Monitor (thresholds n) y ∷ edge Monitor (seen n) y ∷ [])
+    (in_plan_order P (monitor_changes P actions))
+edges_in P n (ProfileGeneric captured period entries) =
+    map (λ x. edge Captured x (buffer n)) captured
+    ++ edge Period (capture_period n) (buffer n) ∷ edge Period (capture_period n) (entries_in_use n) ∷ []
+edges_in P n (SingleActionSchedule script type times) =
+    map (λ y. edge Schedule (execution_time n) y) (in_plan_order P (script_changes P script))
+edges_in P n _ = []
+
+abbrev pub same_cause : Cause → Cause → Bool
+same_cause Monitored Monitored = true
+same_cause Monitor Monitor = true
+same_cause Captured Captured = true
+same_cause Period Period = true
+same_cause Schedule Schedule = true
+same_cause _ _ = false
+
+abbrev pub same_edge : Edge → Edge → Bool
+same_edge e f = same_cause e.cause f.cause && (same_cell e.source f.source && same_cell e.target f.target)
+
+-- the first of each, of those that aren't among the earlier ones
+abbrev pub first_of_each : List Edge → List Edge → List Edge
+first_of_each earlier [] = []
+first_of_each earlier (e ∷ es) =
+    cond (list_any (same_edge e) earlier) (first_of_each earlier es) (e ∷ first_of_each (e ∷ earlier) es)
+
+-- all edges, each once, object by object in plan order
+abbrev pub edges : Plan → List Edge
+edges P = first_of_each [] (flat_map (λ o. edges_in P o.name o.part) P.objects)

@@ -1,0 +1,96 @@
+-- Labels of cells, and what makes a plan and its labels admissible.
+use Rattle.std.specs.Prelude.{◌≡◌, ◌⊎◌, ℕ, ◌==◌, Bool, true, not, ◌||◌, cond, List, [], ◌∷◌, Option, Some, None, flat_map}
+use Rattle.std.specs.List.{list_all, range_with_len}
+use Rattle.std.proofs.Common.{lit<}
+use Rattle.cosem_data.specs.declared.clients.ClientSet.{ClientSet}
+use Rattle.cosem_data.specs.Clients.{has_client}
+use Rattle.meter_theory.specs.Lists.{IsIn, for_some}
+use Rattle.cosem_data.specs.declared.cell.CellRef.{CellRef}
+use Rattle.cosem_data.specs.Cells.{same_cell}
+use Rattle.meter_theory.specs.Plan.{Plan, Object, Script, Part, ScriptTable, RegisterMonitor, object_at, cells}
+use Rattle.cosem_data.specs.declared.cell.MethodRef.{MethodRef}
+use Rattle.meter_theory.specs.Rights.{may_get, may_set, may_act}
+use Rattle.meter_theory.specs.Steps.{changed, actions_effects, plain_method, Effect}
+use Rattle.meter_theory.specs.Edges.{Edge, IsEdge}
+
+-- the client is in the set
+abbrev pub has : ClientSet → ℕ → Bool
+has cs c = has_client cs c
+
+-- each client of the one set is in the other
+unfoldable pub within : ClientSet → ClientSet → Bool
+within cs ds = list_all (λ c. not (has cs c) || has ds c) (range_with_len 0 16)
+
+abbrev pub nobody : ClientSet
+nobody = record { mask = 0; in_range = lit< tt }
+
+-- who may influence a cell, and who may learn it
+pub record Label : Type 0 where
+  pub influence : ClientSet
+  pub learn : ClientSet
+
+-- a certificate: a label for each cell of a list of cells, in its order
+abbrev pub Labels : Type 0
+Labels = List (CellRef × Label)
+
+abbrev pub label_at : Labels → CellRef → Option Label
+label_at [] x = None
+label_at (l ∷ ls) x = cond (same_cell l.0 x) (Some l.1) (label_at ls x)
+
+-- a label for every cell there is
+abbrev pub Labelling : Type 0
+Labelling = CellRef → Label
+
+abbrev pub or_else : Label → Option Label → Label
+or_else default None = default
+or_else default (Some l) = l
+
+-- a policy: a table of labels, and the one of all other cells
+pub record Policy : Type 0 where
+  pub table : Labels
+  pub default : Label
+
+abbrev pub monitored_or : CellRef → Part → CellRef
+monitored_or x (RegisterMonitor monitored th actions) = monitored
+monitored_or x _ = x
+
+abbrev pub monitored_of : CellRef → Option Object → CellRef
+monitored_of x None = x
+monitored_of x (Some o) = monitored_or x o.part
+
+-- the cell whose label the policy takes for x: for seen that is the monitored cell
+abbrev pub policy_source : Plan → CellRef → CellRef
+policy_source P x = cond (x.index == 0) (monitored_of x (object_at P x.name)) x
+
+abbrev pub labelling_of_policy : Plan → Policy → Labelling
+labelling_of_policy P policy x = or_else policy.default (label_at policy.table (policy_source P x))
+
+-- a cell that the labels lack is influenced and learned by nobody
+abbrev pub labelling_of : Labels → Labelling
+labelling_of labels x = or_else (record { influence = nobody; learn = nobody }) (label_at labels x)
+
+-- the effects of each script of a table
+abbrev pub all_scripts : Plan → List Script → List Effect
+all_scripts P scripts = flat_map (λ s. actions_effects P s.actions) scripts
+
+-- the cells that a method changes; execute changes all that a script of its table changes
+abbrev pub method_changes : Plan → MethodRef → Part → List CellRef
+method_changes P m (ScriptTable scripts) = changed (all_scripts P scripts)
+method_changes P m part = changed (plain_method m.name part m.index)
+
+abbrev pub method_changes_of : Plan → MethodRef → List CellRef
+method_changes_of P m = for_some (object_at P m.name) (λ o. method_changes P m o.part)
+
+-- The client has a right that changes the cell.
+abbrev pub MayChange : Plan → ℕ → CellRef → Type 0
+MayChange P c x = (IsIn (cells P) x × (may_set P c x ≡ true)) ⊎ ((m : MethodRef) × (may_act P c m ≡ true) × IsIn (method_changes_of P m) x)
+
+-- An admissible labelling of a plan, within a policy.
+pub record Admits (P : Plan) (policy : Labelling) (labels : Labels) : Type 0 where
+  pub labelled : (x : CellRef) → IsIn (cells P) x → (l : Label) × (label_at labels x ≡ Some l)
+  pub influence_within : (x : CellRef) → IsIn (cells P) x → within (labelling_of labels x).influence (policy x).influence ≡ true
+  pub learn_within : (x : CellRef) → IsIn (cells P) x → within (labelling_of labels x).learn (policy x).learn ≡ true
+  pub changers : (c : ℕ) (x : CellRef) → MayChange P c x → has (labelling_of labels x).influence c ≡ true
+  pub readers : (c : ℕ) (x : CellRef) → IsIn (cells P) x → may_get P c x ≡ true → has (labelling_of labels x).learn c ≡ true
+  pub influence_flows : (e : Edge) → IsEdge P e → within (labelling_of labels e.source).influence (labelling_of labels e.target).influence ≡ true
+  pub learn_flows : (e : Edge) → IsEdge P e → within (labelling_of labels e.target).learn (labelling_of labels e.source).learn ≡ true

@@ -1,0 +1,173 @@
+-- A plan: the clients, the objects with what is fixed of each, and the rights of the clients.
+use Rattle.std.specs.Prelude.{ℕ, ℤ, ◌==◌, Bool, cond, List, [], ◌∷◌, Option, Some, None, find, flat_map, length, option_map, option_and_then}
+use Rattle.std.specs.List.{list_any}
+use Rattle.cosem_data.specs.Tree.{Tree, null_data, array, no_trees}
+use Rattle.cosem_data.specs.Kinds.{kind_of}
+use Rattle.cosem_data.specs.Cells.{same_name, cell, same_cell}
+use Rattle.cosem_data.specs.declared.kind.Kind.TheVariants.{DoubleLongUnsigned}
+use Rattle.cosem_data.specs.declared.name.LogicalName.{LogicalName}
+use Rattle.cosem_data.specs.declared.cell.CellRef.{CellRef}
+use Rattle.cosem_data.specs.declared.cell.MethodRef.{MethodRef}
+use Rattle.meter_theory.specs.Value.{counter, Rule, OfKind, Thresholds, ExecutionTimes}
+use Rattle.meter_theory.specs.State.{State, value, keys}
+
+-- a client: its name, its service access point and its password
+pub record Client : Type 0 where
+  pub name : List ℕ
+  pub sap : ℕ
+  pub password : Option (List ℕ)
+
+-- a script of a table; number 0 is the null script
+pub record ScriptRef : Type 0 where
+  pub table : LogicalName
+  pub script : ℕ
+
+-- one action of a script (Script table, action_specification); the parameter of a method is null-data where there is none
+pub data Action : Type 0 where
+  Write : CellRef → Tree → Action
+  Invoke : MethodRef → (parameter : Tree) → Action
+
+pub record Script : Type 0 where
+  pub id : ℕ
+  pub actions : List Action
+
+-- what a register monitor does at one threshold (action_set)
+pub record UpDown : Type 0 where
+  pub up : ScriptRef
+  pub down : ScriptRef
+
+-- scal_unit_type of a register
+pub record ScalerUnit : Type 0 where
+  pub scaler : ℤ
+  pub unit : ℕ
+
+-- What is fixed of an object, and the start values of its cells.
+pub data Part : Type 0 where
+  Data1 : (start : Tree) → Part
+  Register : (start default : Tree) → ScalerUnit → Part
+  ProfileGeneric : (captured : List CellRef) → (period entries : ℕ) → Part
+  ScriptTable : List Script → Part
+  RegisterMonitor : (monitored : CellRef) → (thresholds : Tree) → List UpDown → Part
+  SingleActionSchedule : ScriptRef → (type : ℕ) → (times : Tree) → Part
+
+-- an object; inputs from outside go to the value of one that is fed
+pub record Object : Type 0 where
+  pub name : LogicalName
+  pub fed : Bool
+  pub part : Part
+
+-- what a client may do with an object
+pub record Right : Type 0 where
+  pub client : ℕ
+  pub object : LogicalName
+  pub gets : List ℕ
+  pub sets : List ℕ
+  pub acts : List ℕ
+
+pub record Plan : Type 0 where
+  -- clients are named by their places, from 0
+  pub clients : List Client
+  pub objects : List Object
+  pub rights : List Right
+
+-- Interface classes (IEC 62056-6-2)
+
+-- an interface class: its identifier and version, its highest attribute and its highest method
+pub record Interface : Type 0 where
+  pub class_id : ℕ
+  pub version : ℕ
+  pub attributes : ℕ
+  pub methods : ℕ
+
+abbrev pub class_of : Part → ℕ
+class_of (Data1 start) = 1
+class_of (Register start default scaler_unit) = 3
+class_of (ProfileGeneric captured period entries) = 7
+class_of (ScriptTable scripts) = 9
+class_of (RegisterMonitor monitored thresholds actions) = 21
+class_of (SingleActionSchedule script type times) = 22
+
+abbrev pub interface_of : Part → Interface
+interface_of (Data1 start) = record { class_id = 1; version = 0; attributes = 2; methods = 0 }
+interface_of (Register start default scaler_unit) = record { class_id = 3; version = 0; attributes = 3; methods = 1 }
+interface_of (ProfileGeneric captured period entries) = record { class_id = 7; version = 1; attributes = 8; methods = 2 }
+interface_of (ScriptTable scripts) = record { class_id = 9; version = 0; attributes = 2; methods = 1 }
+interface_of (RegisterMonitor monitored thresholds actions) = record { class_id = 21; version = 0; attributes = 4; methods = 0 }
+interface_of (SingleActionSchedule script type times) = record { class_id = 22; version = 0; attributes = 4; methods = 0 }
+
+-- Association LN, version 0
+abbrev pub association : Interface
+association = record { class_id = 15; version = 0; attributes = 8; methods = 4 }
+
+-- the current association, 0.0.40.0.0.255
+abbrev pub association_name : LogicalName
+association_name = record { 0 = 0 ∷ 0 ∷ 40 ∷ 0 ∷ 0 ∷ 255 ∷ [] }
+
+-- the object with this name
+abbrev pub object_at : Plan → LogicalName → Option Object
+object_at P n = find (λ o. same_name o.name n) P.objects
+
+-- the interface class of what stands at this name: the current association, or an object of the plan
+abbrev pub interface_at : Plan → LogicalName → Option Interface
+interface_at P n = cond (same_name n association_name) (Some association) (option_map (λ o. interface_of o.part) (object_at P n))
+
+-- Cells: the attributes that can change
+
+abbrev pub data_value : LogicalName → CellRef
+data_value n = cell 1 n 2
+
+abbrev pub register_value : LogicalName → CellRef
+register_value n = cell 3 n 2
+
+abbrev pub buffer : LogicalName → CellRef
+buffer n = cell 7 n 2
+
+abbrev pub capture_period : LogicalName → CellRef
+capture_period n = cell 7 n 4
+
+abbrev pub entries_in_use : LogicalName → CellRef
+entries_in_use n = cell 7 n 7
+
+abbrev pub thresholds : LogicalName → CellRef
+thresholds n = cell 21 n 2
+
+-- the inner cell of a register monitor: the monitored value at its last evaluation (own profile)
+abbrev pub seen : LogicalName → CellRef
+seen n = cell 21 n 0
+
+abbrev pub execution_time : LogicalName → CellRef
+execution_time n = cell 22 n 4
+
+-- the cells of an object, with their start values
+abbrev pub start_of : LogicalName → Part → State
+start_of n (Data1 start) = (data_value n, start) ∷ []
+start_of n (Register start default scaler_unit) = (register_value n, start) ∷ []
+start_of n (ProfileGeneric captured period entries) =
+    (buffer n, array no_trees) ∷ (capture_period n, counter period) ∷ (entries_in_use n, counter 0) ∷ []
+start_of n (ScriptTable scripts) = []
+start_of n (RegisterMonitor monitored th actions) = (thresholds n, th) ∷ (seen n, null_data) ∷ []
+start_of n (SingleActionSchedule script type times) = (execution_time n, times) ∷ []
+
+-- The configured values, seen null-data, the buffers empty.
+abbrev pub start : Plan → State
+start P = flat_map (λ o. start_of o.name o.part) P.objects
+
+-- the cells of the plan, in plan order
+abbrev pub cells : Plan → List CellRef
+cells P = keys (start P)
+
+abbrev pub is_cell : Plan → CellRef → Bool
+is_cell P x = list_any (same_cell x) (cells P)
+
+-- what a settable cell may hold; none for what isn't settable
+abbrev pub rule_in : Plan → Part → ℕ → Option Rule
+rule_in P (Data1 start) index = cond (index == 2) (Some (OfKind (kind_of start))) None
+rule_in P (Register start default scaler_unit) index = cond (index == 2) (Some (OfKind (kind_of start))) None
+rule_in P (ProfileGeneric captured period entries) index = cond (index == 4) (Some (OfKind DoubleLongUnsigned)) None
+rule_in P (ScriptTable scripts) index = None
+rule_in P (RegisterMonitor monitored th actions) index =
+    cond (index == 2) (Some (Thresholds (length actions) (kind_of (value (start P) monitored)))) None
+rule_in P (SingleActionSchedule script type times) index = cond (index == 4) (Some (ExecutionTimes type)) None
+
+abbrev pub rule_of : Plan → CellRef → Option Rule
+rule_of P x = option_and_then (λ o. cond (class_of o.part == x.class_id) (rule_in P o.part x.index) None) (object_at P x.name)

@@ -1,0 +1,62 @@
+-- What an admitted plan promises, over all runs.
+use Rattle.std.specs.Prelude.{◌≡◌, ◌≢◌, ◌⊎◌, ℕ, Bool, true, false, not, List, [], ◌∷◌, Option, Some, None}
+use Rattle.meter_theory.specs.Lists.{IsIn}
+use Rattle.cosem_data.specs.declared.cell.CellRef.{CellRef}
+use Rattle.meter_theory.specs.State.{State, keys, value}
+use Rattle.meter_theory.specs.Plan.{Plan, cells}
+use Rattle.meter_theory.specs.Rights.{cell_of}
+use Rattle.meter_theory.specs.Steps.{Step, Set, Input, client_of, next}
+use Rattle.meter_theory.specs.Replies.{run, replies, replies_of}
+use Rattle.meter_theory.specs.Labels.{Labelling, has}
+
+-- The state has the plan's cells. What the values are isn't asked: the promises hold from any values.
+abbrev pub HasCells : Plan → State → Type 0
+HasCells P s = keys s ≡ cells P
+
+-- the step is a client's that passes the test
+abbrev pub is_step_of : (ℕ → Bool) → Option ℕ → Bool
+is_step_of K None = false
+is_step_of K (Some c) = K c
+
+-- The second list is the first with any of the steps of clients in K taken out.
+abbrev pub Thinned : (ℕ → Bool) → List Step → List Step → Type 0
+Thinned K [] l' = l' ≡ []
+Thinned K (step ∷ l) l' =
+    ((is_step_of K (client_of step) ≡ true) × Thinned K l l')
+    ⊎ ((rest : List Step) × (l' ≡ step ∷ rest) × Thinned K l rest)
+
+-- The steps are a Set by one client other than c to one cell, or an Input to one cell, that c may not learn.
+-- Only their values differ.
+abbrev pub DifferHidden : Plan → Labelling → ℕ → Step → Step → Type 0
+DifferHidden P Q c (Set d x selected v) (Set e y chosen w) =
+    (d ≡ e) × (d ≢ c) × (x ≡ y) × (selected ≡ chosen) × IsIn (cells P) (cell_of x) × (has (Q (cell_of x)).learn c ≡ false)
+DifferHidden P Q c (Input x v) (Input y w) = (x ≡ y) × IsIn (cells P) x × (has (Q x).learn c ≡ false)
+DifferHidden P Q c _ _ = ⊥
+
+-- The lists are alike to c: place by place the steps are equal, or differ only in what is hidden from c.
+abbrev pub Alike : Plan → Labelling → ℕ → List Step → List Step → Type 0
+Alike P Q c [] [] = Unit {0}
+Alike P Q c [] (step' ∷ l') = ⊥
+Alike P Q c (step ∷ l) [] = ⊥
+Alike P Q c (step ∷ l) (step' ∷ l') = ((step ≡ step') ⊎ DifferHidden P Q c step step') × Alike P Q c l l'
+
+-- the clients that may not influence x
+abbrev pub outside : Labelling → CellRef → ℕ → Bool
+outside Q x c = not (has (Q x).influence c)
+
+-- The states agree on all that c may learn.
+abbrev pub LookAlike : Labelling → ℕ → State → State → Type 0
+LookAlike Q c s s' = (x : CellRef) → has (Q x).learn c ≡ true → value s x ≡ value s' x
+
+-- Taking out steps of clients that may not influence a cell leaves its value, and only the meter and the
+-- clients that may influence it change it.
+pub record Influence (P : Plan) (Q : Labelling) : Type 0 where
+  pub thinned : (s : State) (x : CellRef) (l l' : List Step) → HasCells P s → IsIn (cells P) x →
+      Thinned (outside Q x) l l' → value (run P s l) x ≡ value (run P s l') x
+  pub changed : (s : State) (x : CellRef) (step : Step) → HasCells P s → IsIn (cells P) x →
+      value (next P s step) x ≢ value s x → is_step_of (outside Q x) (client_of step) ≡ false
+
+-- What a client may not learn has no influence on its replies.
+pub record Secrecy (P : Plan) (Q : Labelling) : Type 0 where
+  pub same_replies : (c : ℕ) (s s' : State) (l l' : List Step) → HasCells P s → HasCells P s' →
+      LookAlike Q c s s' → Alike P Q c l l' → replies_of c l (replies P s l) ≡ replies_of c l' (replies P s' l')

@@ -1,0 +1,138 @@
+-- A plan without the faults of a configuration, as far as the promises, the edges and the checker need it.
+use Rattle.std.specs.Prelude.{ℕ, Bool, true, false, not, ◌&&◌, ◌||◌, nat_lt, nat_le, List, [], ◌∷◌, length, Option, None, Some, is_some, ◌==◌, ◌≡◌, ◌⊎◌, ◌<◌, ◌≤◌}
+use Rattle.std.specs.List.{list_any, list_all}
+use Rattle.cosem_data.specs.Tree.{Tree}
+use Rattle.cosem_data.specs.Kinds.{kind_of, same_kind}
+use Rattle.cosem_data.specs.Cells.{same_name, same_cell}
+use Rattle.cosem_data.specs.declared.kind.Kind.{Kind}
+use Rattle.cosem_data.specs.declared.name.LogicalName.{LogicalName}
+use Rattle.cosem_data.specs.declared.cell.CellRef.{CellRef}
+use Rattle.meter_theory.specs.Lists.{IsIn}
+use Rattle.meter_theory.specs.Value.{Rule, OfKind, meets, is_within_limits}
+use Rattle.meter_theory.specs.State.{value}
+use Rattle.meter_theory.specs.Plan.{Plan, Object, Right, Script, Action, Write, Invoke, Part, Data1, Register, ProfileGeneric, ScriptTable, RegisterMonitor, SingleActionSchedule, association_name, cells, start, rule_of, entries_in_use}
+use Rattle.meter_theory.specs.Steps.{scripts_of, Captures, captures_in}
+
+-- the cell may be written, and the value meets its rule
+pub record IsWrite (P : Plan) (x : CellRef) (v : Tree) : Type 0 where
+  pub cell : IsIn (cells P) x
+  pub rule : Rule
+  pub settable : rule_of P x ≡ Some rule
+  pub fits : meets rule v ≡ true
+
+-- what a capture can find: a settable cell, or a profile's entries in use
+abbrev pub IsCapturable : Plan → CellRef → Type 0
+IsCapturable P x =
+    ((rule : Rule) × (rule_of P x ≡ Some rule))
+    ⊎ ((o : Object) × IsIn P.objects o × (c : Captures) × (captures_in o.part ≡ Some c) × (x ≡ entries_in_use o.name))
+
+-- what is asked of one object: a register's default may stand in its value, and a monitored value keeps its kind
+abbrev pub IsSoundPart : Plan → Part → Type 0
+IsSoundPart P (Register first default scaler_unit) = meets (OfKind (kind_of first)) default ≡ true
+IsSoundPart P (RegisterMonitor monitored th actions) =
+    IsIn (cells P) monitored × (rule_of P monitored ≡ Some (OfKind (kind_of (value (start P) monitored))))
+IsSoundPart P _ = Unit {0}
+
+-- a logical name has six bytes
+abbrev pub is_name : LogicalName → Bool
+is_name n = length n.0 == 6
+
+abbrev pub has_action_sizes : Action → Bool
+has_action_sizes (Write x v) = is_name x.name && is_within_limits v
+has_action_sizes (Invoke m parameter) = is_name m.name && is_within_limits parameter
+
+abbrev pub has_script_sizes : Script → Bool
+has_script_sizes s = nat_le (length s.actions) 32 && list_all has_action_sizes s.actions
+
+-- as many parts as the limits allow (own profile), and names of six bytes
+abbrev pub has_part_sizes : Part → Bool
+has_part_sizes (ProfileGeneric captured period entries) =
+    nat_le (length captured) 32 && (list_all (λ x. is_name x.name) captured && (nat_le 1 entries && nat_le entries 1000))
+has_part_sizes (ScriptTable scripts) = nat_le (length scripts) 64 && list_all has_script_sizes scripts
+has_part_sizes (RegisterMonitor monitored th actions) =
+    is_name monitored.name
+    && (nat_le (length actions) 16 && list_all (λ a. is_name a.up.table && is_name a.down.table) actions)
+has_part_sizes (SingleActionSchedule script type times) = is_name script.table
+has_part_sizes _ = true
+
+abbrev pub has_sizes : Object → Bool
+has_sizes o = is_name o.name && has_part_sizes o.part
+
+-- the value may stand in a cell with this rule, where there is one
+abbrev pub fits_some : Option Rule → Tree → Bool
+fits_some None v = true
+fits_some (Some rule) v = meets rule v
+
+pub record IsSound (P : Plan) : Type 0 where
+  -- no two objects have one name
+  pub names : (o p : Object) → IsIn P.objects o → IsIn P.objects p → o.name ≡ p.name → o ≡ p
+  -- and none has that of the current association
+  pub apart : (o : Object) → IsIn P.objects o → same_name o.name association_name ≡ false
+  -- the limits on numbers of clients, objects and parts
+  pub few_clients : length P.clients ≤ 16
+  pub few_objects : length P.objects ≤ 512
+  pub sizes : (o : Object) → IsIn P.objects o → has_sizes o ≡ true
+  -- each right is a client's of the plan
+  pub clients : (r : Right) → IsIn P.rights r → r.client < length P.clients
+  -- each settable cell starts with a value that meets its rule
+  pub starts : (x : CellRef) → IsIn (cells P) x → fits_some (rule_of P x) (value (start P) x) ≡ true
+  -- scripts write settable cells, with values that meet their rules
+  pub writes : (o : Object) → IsIn P.objects o → (script : Script) → IsIn (scripts_of o.part) script →
+      (x : CellRef) (v : Tree) → IsIn script.actions (Write x v) → IsWrite P x v
+  -- profiles capture cells of the plan, and no buffer
+  pub captures : (o : Object) → IsIn P.objects o → (c : Captures) → captures_in o.part ≡ Some c →
+      (x : CellRef) → IsIn c.captured x → IsIn (cells P) x × IsCapturable P x
+  pub parts : (o : Object) → IsIn P.objects o → IsSoundPart P o.part
+
+-- The same as a test
+
+abbrev pub distinct_names : List Object → Bool
+distinct_names [] = true
+distinct_names (o ∷ os) = not (list_any (λ p. same_name p.name o.name) os) && distinct_names os
+
+abbrev pub writes_some : Option Rule → Tree → Bool
+writes_some None v = false
+writes_some (Some rule) v = meets rule v
+
+abbrev pub is_write : Plan → Action → Bool
+is_write P (Write x v) = list_any (same_cell x) (cells P) && writes_some (rule_of P x) v
+is_write P (Invoke m parameter) = true
+
+abbrev pub captured_in : Option Captures → List CellRef
+captured_in None = []
+captured_in (Some c) = c.captured
+
+abbrev pub is_capturable : Plan → CellRef → Bool
+is_capturable P x =
+    is_some (rule_of P x) || list_any (λ o. is_some (captures_in o.part) && same_cell x (entries_in_use o.name)) P.objects
+
+abbrev pub is_kind_rule : Option Rule → Kind → Bool
+is_kind_rule (Some (OfKind allowed)) kind = same_kind allowed kind
+is_kind_rule _ kind = false
+
+abbrev pub is_sound_part : Plan → Part → Bool
+is_sound_part P (Register first default scaler_unit) = meets (OfKind (kind_of first)) default
+is_sound_part P (RegisterMonitor monitored th actions) =
+    list_any (same_cell monitored) (cells P) && is_kind_rule (rule_of P monitored) (kind_of (value (start P) monitored))
+is_sound_part P _ = true
+
+-- the limits, and that no object is named as the current association
+abbrev pub is_sized : Plan → Bool
+is_sized P =
+    nat_le (length P.clients) 16
+    && (nat_le (length P.objects) 512
+    && (list_all has_sizes P.objects
+    && list_all (λ o. not (same_name o.name association_name)) P.objects))
+
+abbrev pub is_started : Plan → Bool
+is_started P = list_all (λ x. fits_some (rule_of P x) (value (start P) x)) (cells P)
+
+abbrev pub is_sound : Plan → Bool
+is_sound P =
+    is_sized P
+    && (is_started P
+    && (distinct_names P.objects
+    && (list_all (λ r. nat_lt r.client (length P.clients)) P.rights
+    && (list_all (λ o. list_all (λ s. list_all (is_write P) s.actions) (scripts_of o.part)) P.objects
+    && (list_all (λ o. list_all (λ x. list_any (same_cell x) (cells P) && is_capturable P x) (captured_in (captures_in o.part))) P.objects
+    && list_all (λ o. is_sound_part P o.part) P.objects)))))

@@ -1,0 +1,57 @@
+-- The parts of values that the definitions look at, and what may stand in a settable cell.
+use Rattle.std.specs.Prelude.{ℕ, ◌==◌, nat_le, Bool, true, false, ◌&&◌, List, [], ◌∷◌, length, get_or, Option, Some, None}
+use Rattle.std.specs.List.{list_all}
+use Rattle.cosem_data.specs.Tree.{Tree, null_data, array, structure, double_long_unsigned, long_unsigned, octet_string, no_trees, trees, parts, depth}
+use Rattle.cosem_data.specs.Kinds.{kind_of, same_kind}
+use Rattle.cosem_data.specs.declared.kind.Kind.{Kind}
+use Rattle.cosem_data.specs.declared.kind.Kind.TheVariants.{Array}
+use Rattle.cosem_axdr.specs.Canonical.{canonical}
+use Rattle.meter_theory.specs.Times.{are_execution_times}
+
+abbrev pub array_of : List Tree → Tree
+array_of vs = array (trees vs)
+
+abbrev pub structure_of : List Tree → Tree
+structure_of vs = structure (trees vs)
+
+-- the elements of an array
+abbrev pub elements : Tree → List Tree
+elements (array vs) = parts vs
+elements _ = []
+
+-- the number of a double-long-unsigned
+abbrev pub count_of : Tree → ℕ
+count_of (double_long_unsigned n) = n
+count_of _ = 0
+
+abbrev pub counter : ℕ → Tree
+counter n = double_long_unsigned n
+
+-- At most 1,024 bytes when encoded, nested at most 14 deep (own profile).
+abbrev pub is_within_limits : Tree → Bool
+is_within_limits v = nat_le (length (canonical v)) 1024 && nat_le (depth v) 14
+
+-- What may stand in a settable cell.
+pub data Rule : Type 0 where
+  -- a value of this kind (value of Data and of Register, capture_period)
+  OfKind : Kind → Rule
+  -- an array of so many values of this kind (thresholds of a register monitor)
+  Thresholds : (number : ℕ) → Kind → Rule
+  -- an array of times and dates that fits this type (execution_time of a single action schedule)
+  ExecutionTimes : (type : ℕ) → Rule
+
+-- the value has the tag that the rule asks for
+abbrev pub right_tag : Rule → Tree → Bool
+right_tag (OfKind kind) v = same_kind (kind_of v) kind
+right_tag (Thresholds number kind) v = same_kind (kind_of v) Array
+right_tag (ExecutionTimes type) v = same_kind (kind_of v) Array
+
+-- the elements are what the rule asks for
+abbrev pub right_elements : Rule → List Tree → Bool
+right_elements (OfKind kind) vs = true
+right_elements (Thresholds number kind) vs = (length vs == number) && list_all (λ v. same_kind (kind_of v) kind) vs
+right_elements (ExecutionTimes type) vs = are_execution_times type vs
+
+-- The value may stand in a cell with this rule.
+abbrev pub meets : Rule → Tree → Bool
+meets rule v = right_tag rule v && (is_within_limits v && right_elements rule (elements v))
