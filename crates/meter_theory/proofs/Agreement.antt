@@ -11,7 +11,9 @@ use Rattle.cosem_data.specs.declared.name.LogicalName.{LogicalName}
 use Rattle.cosem_data.specs.declared.cell.CellRef.{CellRef}
 use Rattle.cosem_data.specs.Cells.{same_name, cell, same_cell}
 use Rattle.meter_theory.specs.State.{State, keys, value, put}
-use Rattle.meter_theory.specs.Plan.{Plan, Object, Part, Data1, Register, ProfileGeneric, ScriptTable, RegisterMonitor, SingleActionSchedule, ScriptRef, UpDown, buffer, capture_period, entries_in_use, thresholds, seen, execution_time, object_at}
+use Rattle.meter_theory.specs.declared.refs.ScriptRef.{ScriptRef}
+use Rattle.meter_theory.specs.declared.refs.UpDown.{UpDown}
+use Rattle.meter_theory.specs.Plan.{Plan, Object, Part, Data1, Register, ProfileGeneric, ScriptTable, RegisterMonitor, SingleActionSchedule, buffer, capture_period, entries_in_use, thresholds, seen, execution_time, object_at}
 use Rattle.meter_theory.specs.Steps.{Effect, Put, Capture, Clear, Captures, captures_in, captures_of, capture, clear, effect, effects, changed_by, changed, effects_of_script, due_scripts, due_at, Step, Get, Set, Act, Input, CaptureAt, Evaluate, ScheduleAt, captured_at, evaluated, scheduled_at, effects_of, next}
 use Rattle.meter_theory.specs.Edges.{Agree, IsClosed, edge, Cause, Monitored, Monitor, Captured, Period, Schedule, IsEdge, EdgeIn, script_changes, scripts_named, monitor_changes}
 use Rattle.meter_theory.specs.Classes.{WriteTo, InvokeMethod, write_after, profile_after, profile_touched, profile_sources, profile_row_cells}

@@ -9,7 +9,9 @@ use Rattle.cosem_data.specs.Tree.{array, no_trees}
 use Rattle.cosem_data.specs.declared.name.LogicalName.{LogicalName}
 use Rattle.cosem_data.specs.declared.cell.CellRef.{CellRef}
 use Rattle.cosem_data.specs.Cells.{same_cell}
-use Rattle.meter_theory.specs.Plan.{Plan, Object, Script, ScriptRef, UpDown, Action, Write, Invoke, Part, Data1, Register, ProfileGeneric, ScriptTable, RegisterMonitor, SingleActionSchedule, cells, start, start_of, buffer, capture_period, entries_in_use, thresholds, seen, execution_time, object_at}
+use Rattle.meter_theory.specs.declared.refs.ScriptRef.{ScriptRef}
+use Rattle.meter_theory.specs.declared.refs.UpDown.{UpDown}
+use Rattle.meter_theory.specs.Plan.{Plan, Object, Script, Action, Write, Invoke, Part, Data1, Register, ProfileGeneric, ScriptTable, RegisterMonitor, SingleActionSchedule, cells, start, start_of, buffer, capture_period, entries_in_use, thresholds, seen, execution_time, object_at}
 use Rattle.cosem_data.specs.declared.cell.MethodRef.{MethodRef}
 use Rattle.meter_theory.specs.Steps.{Effect, Put, Capture, Clear, changed_by, changed, plain_method, plain_method_of, action_effects, actions_effects, script_in, scripts_of}
 use Rattle.meter_theory.specs.Edges.{Cause, Monitored, Monitor, Captured, Period, Schedule, Edge, edge, EdgeIn, IsEdge, script_changes, scripts_named, monitor_changes, among, in_plan_order, edges_in, same_cause, same_edge, first_of_each, edges}

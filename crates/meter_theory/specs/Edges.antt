@@ -6,7 +6,9 @@ use Rattle.cosem_data.specs.declared.name.LogicalName.{LogicalName}
 use Rattle.cosem_data.specs.declared.cell.CellRef.{CellRef}
 use Rattle.cosem_data.specs.Cells.{same_cell}
 use Rattle.meter_theory.specs.State.{State, value}
-use Rattle.meter_theory.specs.Plan.{Plan, Object, ScriptRef, UpDown, Part, ProfileGeneric, RegisterMonitor, SingleActionSchedule, buffer, capture_period, entries_in_use, thresholds, seen, execution_time, cells}
+use Rattle.meter_theory.specs.declared.refs.ScriptRef.{ScriptRef}
+use Rattle.meter_theory.specs.declared.refs.UpDown.{UpDown}
+use Rattle.meter_theory.specs.Plan.{Plan, Object, Part, ProfileGeneric, RegisterMonitor, SingleActionSchedule, buffer, capture_period, entries_in_use, thresholds, seen, execution_time, cells}
 use Rattle.meter_theory.specs.Steps.{changed, effects_of_script}
 
 -- the cells that a script changes

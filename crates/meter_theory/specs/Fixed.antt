@@ -6,7 +6,10 @@ use Rattle.cosem_data.specs.Cells.{same_name, cell}
 use Rattle.cosem_data.specs.declared.name.LogicalName.{LogicalName}
 use Rattle.cosem_data.specs.declared.cell.CellRef.{CellRef}
 use Rattle.meter_theory.specs.Value.{array_of, structure_of, counter}
-use Rattle.meter_theory.specs.Plan.{Plan, Client, ScriptRef, Action, Write, Invoke, Script, UpDown, ScalerUnit, Part, Data1, Register, ProfileGeneric, ScriptTable, RegisterMonitor, SingleActionSchedule, Object, Interface, interface_of, association, association_name, object_at}
+use Rattle.meter_theory.specs.declared.refs.ScriptRef.{ScriptRef}
+use Rattle.meter_theory.specs.declared.refs.UpDown.{UpDown}
+use Rattle.meter_theory.specs.declared.refs.ScalerUnit.{ScalerUnit}
+use Rattle.meter_theory.specs.Plan.{Plan, Client, Action, Write, Invoke, Script, Part, Data1, Register, ProfileGeneric, ScriptTable, RegisterMonitor, SingleActionSchedule, Object, Interface, interface_of, association, association_name, object_at}
 use Rattle.meter_theory.specs.Rights.{may_get, may_set, may_act, may_read, has_right}
 
 abbrev pub name_value : LogicalName → Tree

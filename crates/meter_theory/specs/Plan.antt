@@ -1,5 +1,5 @@
 -- A plan: the clients, the objects with what is fixed of each, and the rights of the clients.
-use Rattle.std.specs.Prelude.{ℕ, ℤ, ◌==◌, Bool, cond, List, [], ◌∷◌, Option, Some, None, find, flat_map, length, option_map, option_and_then}
+use Rattle.std.specs.Prelude.{ℕ, ◌==◌, Bool, cond, List, [], ◌∷◌, Option, Some, None, find, flat_map, length, option_map, option_and_then}
 use Rattle.std.specs.List.{list_any}
 use Rattle.cosem_data.specs.Tree.{Tree, null_data, array, no_trees}
 use Rattle.cosem_data.specs.Kinds.{kind_of}
@@ -8,6 +8,9 @@ use Rattle.cosem_data.specs.declared.kind.Kind.TheVariants.{DoubleLongUnsigned}
 use Rattle.cosem_data.specs.declared.name.LogicalName.{LogicalName}
 use Rattle.cosem_data.specs.declared.cell.CellRef.{CellRef}
 use Rattle.cosem_data.specs.declared.cell.MethodRef.{MethodRef}
+use Rattle.meter_theory.specs.declared.refs.ScalerUnit.{ScalerUnit}
+use Rattle.meter_theory.specs.declared.refs.ScriptRef.{ScriptRef}
+use Rattle.meter_theory.specs.declared.refs.UpDown.{UpDown}
 use Rattle.meter_theory.specs.Value.{counter, Rule, OfKind, Thresholds, ExecutionTimes}
 use Rattle.meter_theory.specs.State.{State, value, keys}
 
@@ -17,11 +20,6 @@ pub record Client : Type 0 where
   pub sap : ℕ
   pub password : Option (List ℕ)
 
--- a script of a table; number 0 is the null script
-pub record ScriptRef : Type 0 where
-  pub table : LogicalName
-  pub script : ℕ
-
 -- one action of a script (Script table, action_specification); the parameter of a method is null-data where there is none
 pub data Action : Type 0 where
   Write : CellRef → Tree → Action
@@ -30,16 +28,6 @@ pub data Action : Type 0 where
 pub record Script : Type 0 where
   pub id : ℕ
   pub actions : List Action
-
--- what a register monitor does at one threshold (action_set)
-pub record UpDown : Type 0 where
-  pub up : ScriptRef
-  pub down : ScriptRef
-
--- scal_unit_type of a register
-pub record ScalerUnit : Type 0 where
-  pub scaler : ℤ
-  pub unit : ℕ
 
 -- What is fixed of an object, and the start values of its cells.
 pub data Part : Type 0 where

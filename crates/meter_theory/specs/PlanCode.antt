@@ -8,7 +8,10 @@ use Rattle.cosem_data.specs.declared.name.LogicalName.{LogicalName}
 use Rattle.cosem_data.specs.declared.cell.CellRef.{CellRef}
 use Rattle.cosem_data.specs.declared.cell.MethodRef.{MethodRef}
 use Rattle.meter_theory.specs.State.{State}
-use Rattle.meter_theory.specs.Plan.{Client, ScriptRef, ScalerUnit, Action, Write, Invoke, Script, UpDown, Part, Data1, Register, ProfileGeneric, ScriptTable, RegisterMonitor, SingleActionSchedule, Object, Right, Plan}
+use Rattle.meter_theory.specs.declared.refs.ScriptRef.{ScriptRef}
+use Rattle.meter_theory.specs.declared.refs.ScalerUnit.{ScalerUnit}
+use Rattle.meter_theory.specs.declared.refs.UpDown.{UpDown}
+use Rattle.meter_theory.specs.Plan.{Client, Action, Write, Invoke, Script, Part, Data1, Register, ProfileGeneric, ScriptTable, RegisterMonitor, SingleActionSchedule, Object, Right, Plan}
 
 abbrev pub name_code : Coded LogicalName
 name_code = code_by (List ℕ) (coded_list coded_ℕ) (λ n. n.0) (λ bytes. record { 0 = bytes }) (λ _. refl)

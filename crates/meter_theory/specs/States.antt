@@ -60,10 +60,14 @@ abbrev pub IsRemembered : Plan → LogicalName → Part → CellRef → Tree →
 IsRemembered P n (RegisterMonitor monitored th actions) x v = (x ≡ seen n) × IsSeen P monitored v
 IsRemembered P n _ x v = ⊥
 
+-- the value may stand in the cell, which is settable
+abbrev pub MayStand : Plan → CellRef → Tree → Type 0
+MayStand P x v = (rule : Rule) × (rule_of P x ≡ Some rule) × (meets rule v ≡ true)
+
 -- The effect keeps the kinds.
 abbrev pub Fits : Plan → Effect → Type 0
 Fits P (Put x v) =
-    ((rule : Rule) × (rule_of P x ≡ Some rule) × (meets rule v ≡ true))
+    MayStand P x v
     ⊎ ((o : Object) × IsIn P.objects o × IsRemembered P o.name o.part x v)
 Fits P (Capture n) = Unit {0}
 Fits P (Clear n) = Unit {0}

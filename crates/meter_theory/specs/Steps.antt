@@ -9,7 +9,9 @@ use Rattle.meter_theory.specs.Lists.{keep_last, for_some}
 use Rattle.meter_theory.specs.Value.{array_of, structure_of, elements, counter, count_of, Rule, meets}
 use Rattle.meter_theory.specs.Times.{Moment, is_capture_due, is_schedule_due}
 use Rattle.meter_theory.specs.State.{State, value, put}
-use Rattle.meter_theory.specs.Plan.{Plan, Object, Part, Data1, Register, ProfileGeneric, ScriptTable, RegisterMonitor, SingleActionSchedule, Script, ScriptRef, Action, Write, Invoke, UpDown, class_of, object_at, rule_of, register_value, buffer, capture_period, entries_in_use, thresholds, seen, execution_time}
+use Rattle.meter_theory.specs.declared.refs.ScriptRef.{ScriptRef}
+use Rattle.meter_theory.specs.declared.refs.UpDown.{UpDown}
+use Rattle.meter_theory.specs.Plan.{Plan, Object, Part, Data1, Register, ProfileGeneric, ScriptTable, RegisterMonitor, SingleActionSchedule, Script, Action, Write, Invoke, class_of, object_at, rule_of, register_value, buffer, capture_period, entries_in_use, thresholds, seen, execution_time}
 use Rattle.meter_theory.specs.Access.{is_success}
 use Rattle.meter_theory.specs.Rights.{Argument, Absent, Given, Unreadable, Descriptor, cell_of, method_of, Selection, set_answer, act_answer, script_number}
 

@@ -1,0 +1,153 @@
+//! What an interface class promises of its objects.
+ghost use Rattle.std.specs.Prelude.{◌≡◌, ℕ, Bool, List, Option, Result, OnOk, OnErr, Err, []};
+ghost use Rattle.cosem_data.specs.Tree.{Tree};
+ghost use Rattle.cosem_data.specs.View.{tree};
+ghost use Rattle.cosem_class.specs.CellSets.{has};
+ghost use Rattle.cosem_class.specs.Objects.{Cells, AnswersAs, RefusedAs, cells_after, DependsOnlyOnSources, WritesItsValue, KeepsRules};
+ghost use Rattle.cosem_class.specs.declared.class.Op.{Op};
+ghost use Rattle.cosem_class.specs.declared.class.Op.TheVariants as ops;
+ghost use Rattle.cosem_class.specs.declared.class.ClassFault.{ClassFault};
+
+use crate::cell_set::CellSet;
+use cosem_data::data::{Data, Items};
+use cosem_data::memory::Memory;
+use std::alloc::Global;
+
+/// The captured values that a capture is given, one for each captured cell, in order.
+pub type Row = Items;
+
+/// What may be done to an object.
+#[derive(Clone, Copy, Debug, PartialEq, Eq)]
+pub enum Op {
+    /// A write of the attribute with this index.
+    Write(u8),
+    /// A call of the method with this index.
+    Invoke(u8),
+    /// A register monitor remembers the monitored value (own profile).
+    Remember,
+}
+
+/// Why a class refuses an operation. The object is then unchanged.
+#[derive(Clone, Copy, Debug, PartialEq, Eq)]
+pub enum ClassFault {
+    /// The class has no such attribute or method, or the attribute has no value.
+    NoIndex,
+    /// The attribute is fixed.
+    NotSettable,
+    /// The value has another tag than the cell asks for.
+    Kind,
+    /// The value has the right tag and is otherwise against the cell's rule.
+    Rule,
+    /// No script has this number.
+    UnknownScript,
+    /// Memory was refused.
+    Memory,
+}
+
+impl From<Memory> for ClassFault {
+    ghost use Rattle.std.specs.Prelude.{◌≡◌};
+    ghost use Rattle.cosem_class.specs.declared.class.ClassFault.TheVariants as faults;
+
+    ghost from_gives = { λ _ fault. fault ≡ faults.Memory };
+
+    fn from(_: Memory) -> ClassFault {
+        ClassFault::Memory
+    }
+}
+
+/// An interface class, by what its objects are: cells beside a fixed part. Five laws hold of each class:
+///
+/// - a reading depends on its cell alone, or on the fixed part (the type of `reading` says so);
+/// - an operation changes only the cells that it touches (the form of `ok` says so);
+/// - a touched cell's new value depends on nothing but the fixed part, the argument, its sources and perhaps the row;
+/// - a refusal other than for memory depends on the fixed part and the argument, never on a cell (the type of `refusal`);
+/// - cells that meet their rules meet them afterwards.
+///
+/// And a write that is not refused puts its value.
+pub trait InterfaceClass {
+    /// class_id of IEC 62056-6-2.
+    const CLASS_ID: u16;
+
+    /// The version of the class.
+    const VERSION: u8;
+
+    /// The highest attribute.
+    const ATTRIBUTES: u8;
+
+    /// The highest method.
+    const METHODS: u8;
+
+    // What no operation changes.
+    ghost Fixed: { Type 0 };
+
+    ghost fixed: { Self → Fixed };
+
+    // What changes: a value at each index that has a cell.
+    ghost cells: { Self → Cells };
+
+    // The answer of a reading, by the fixed part and the cell at the index alone.
+    ghost reading: { Fixed → ℕ → Option Tree → Result Tree ClassFault };
+
+    // Why an operation is refused, by the fixed part and the argument, and no cell.
+    ghost refusal: { Fixed → Op → Tree → Option ClassFault };
+
+    // The new value of a touched cell, if the operation is not refused. Each other cell stays.
+    ghost new_value: { Fixed → Op → Tree → List Tree → Cells → ℕ → Option Tree };
+
+    // The rule that a cell's value meets: kind and limits.
+    ghost MeetsRule: { Fixed → ℕ → Option Tree → Type 0 };
+
+    // The rows that an operation may be given.
+    ghost IsRow: { Fixed → Op → List Tree → Type 0 };
+
+    ghost touched: { Op → ℕ → Bool };
+
+    ghost own_sources: { Op → ℕ → ℕ → Bool };
+
+    ghost row_cells: { Op → ℕ → Bool };
+
+    /// The value of an attribute, a copy.
+    fn read(&self, alloc: Global, index: u8) -> Result<Data, ClassFault>
+        ensures { AnswersAs result (reading (fixed self.now) index (cells self.now index)) };
+
+    /// Sets the value of an attribute. It takes no memory.
+    fn write(&mut self, index: u8, value: Data) -> Result<(), ClassFault>
+        ensures refused { RefusedAs result (refusal (fixed self.old) (ops.Write index) (tree value)) }
+        ensures fixed { fixed self.new ≡ fixed self.old }
+        ensures ok { OnOk result ((i : ℕ) → cells self.new i ≡ cells_after (touched (ops.Write index)) (new_value (fixed self.old) (ops.Write index) (tree value) []) (cells self.old) i) }
+        ensures err { OnErr result (self.new ≡ self.old) }
+        ensures no_memory { result ≡ Err ClassFault.Memory → ⊥ };
+
+    /// Calls a method. A capture is given its row.
+    fn invoke(&mut self, alloc: Global, method: u8, argument: &Data, row: Row) -> Result<(), ClassFault>
+        requires { IsRow (fixed self.old) (ops.Invoke method) row }
+        ensures refused { RefusedAs result (refusal (fixed self.old) (ops.Invoke method) (tree argument.now)) }
+        ensures fixed { fixed self.new ≡ fixed self.old }
+        ensures ok { OnOk result ((i : ℕ) → cells self.new i ≡ cells_after (touched (ops.Invoke method)) (new_value (fixed self.old) (ops.Invoke method) (tree argument.now) row) (cells self.old) i) }
+        ensures err { OnErr result (self.new ≡ self.old) };
+
+    /// Each cell meets its rule: what the type keeps, for generic callers.
+    fn known(&self)
+        ensures { (i : ℕ) → MeetsRule (fixed self.now) i (cells self.now i) };
+
+    /// The cells that an operation may change.
+    fn touched(op: Op) -> CellSet
+        ensures { (i : ℕ) → has result i ≡ touched op i };
+
+    /// The object's own cells on which a touched cell's new value may depend.
+    fn own_sources(op: Op, cell: u8) -> CellSet
+        ensures { (i : ℕ) → has result i ≡ own_sources op cell i };
+
+    /// The touched cells whose new value may depend on the row.
+    fn row_cells(op: Op) -> CellSet
+        ensures { (i : ℕ) → has result i ≡ row_cells op i };
+
+    // A touched cell's new value depends on nothing but the fixed part, the argument, its sources and perhaps the row.
+    ghost depends_only_on_sources: { DependsOnlyOnSources touched own_sources row_cells new_value };
+
+    // A write that is not refused puts its value, and nothing else changes.
+    ghost writes_its_value: { WritesItsValue refusal touched new_value };
+
+    // What met its rule meets it afterwards.
+    ghost keeps_rules: { KeepsRules refusal IsRow MeetsRule touched new_value };
+}

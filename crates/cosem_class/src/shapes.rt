@@ -1,0 +1,36 @@
+ghost use Rattle.std.specs.Prelude.{◌≡◌, map, IfOk};
+ghost use Rattle.cosem_data.specs.View.{tree};
+ghost use Rattle.meter_theory.specs.Value.{structure_of, array_of};
+ghost use Rattle.meter_theory.specs.Fixed.{scaler_unit_value};
+
+use cosem_data::data::{Data, Items};
+use cosem_data::memory::Memory;
+use meter_theory::refs::ScalerUnit;
+use std::alloc::Global;
+
+/// A structure of these parts.
+pub fn structure<const N: usize>(alloc: Global, parts: [Data; N]) -> Result<Data, Memory>
+    ensures { IfOk result (λ value. tree value ≡ structure_of (map tree parts.entry)) }
+{
+    Ok(Data::Structure(Items::new(Vec::from_array(alloc, parts)?)))
+}
+
+/// An array of these elements.
+pub fn array<const N: usize>(alloc: Global, elements: [Data; N]) -> Result<Data, Memory>
+    ensures { IfOk result (λ value. tree value ≡ array_of (map tree elements.entry)) }
+{
+    Ok(Data::Array(Items::new(Vec::from_array(alloc, elements)?)))
+}
+
+/// scal_unit_type of a register: a structure of scaler and unit (IEC 62056-6-2, Register).
+pub fn scaler_unit_data(alloc: Global, scaler_unit: ScalerUnit) -> Result<Data, Memory>
+    ensures { IfOk result (λ value. tree value ≡ scaler_unit_value scaler_unit) }
+{
+    structure(
+        alloc,
+        [
+            Data::Integer(scaler_unit.scaler),
+            Data::Enumerated(scaler_unit.unit),
+        ],
+    )
+}
