@@ -6,6 +6,8 @@ use Rattle.cosem_data.specs.Tree.{Tree}
 use Rattle.meter_theory.specs.Value.{Rule, right_tag, right_elements, is_within_limits, meets, elements}
 use Rattle.cosem_class.specs.declared.class.ClassFault.{ClassFault}
 use Rattle.cosem_class.specs.declared.class.ClassFault.TheVariants as faults
+use Rattle.meter_theory.specs.declared.access.AccessCode.{AccessCode}
+use Rattle.meter_theory.specs.declared.access.AccessCode.TheVariants as codes
 
 -- Another tag is a fault of the kind, and the right tag with anything else against the rule is one of the rule.
 abbrev pub judged : Rule → Tree → Option ClassFault
@@ -51,3 +53,31 @@ pub fault_of_accepted : (settable named : Bool) (fault : Option ClassFault) → 
 fault_of_accepted true named fault accepted = accepted
 fault_of_accepted false true fault accepted = cc
 fault_of_accepted false false fault accepted = cc
+
+-- The code of a value that is put where this rule holds: another tag, and a place without a rule, is type-unmatched, and
+-- the right tag against the rest of the rule is other-reason (own profile).
+abbrev pub rule_answer : Option Rule → Tree → Result (Unit {0}) AccessCode
+rule_answer None value = Err codes.TypeUnmatched
+rule_answer (Some rule) value =
+    if right_tag rule value then (if meets rule value then Ok tt else Err codes.OtherReason) else Err codes.TypeUnmatched
+
+-- the code that tells of a class's fault (IEC 62056-5-3, Data-Access-Result)
+abbrev pub access_of : ClassFault → AccessCode
+access_of faults.Rule = codes.OtherReason
+access_of faults.UnknownScript = codes.OtherReason
+access_of faults.Memory = codes.TemporaryFailure
+access_of _ = codes.TypeUnmatched
+
+-- the answer with a fault's code
+abbrev pub coded_answer : Result (Unit {0}) ClassFault → Result (Unit {0}) AccessCode
+coded_answer (Ok unit) = Ok tt
+coded_answer (Err fault) = Err (access_of fault)
+
+pub coded_answer-judged : (rule : Rule) (value : Tree) → coded_answer (answer_of (judged rule value)) ≡ rule_answer (Some rule) value
+coded_answer-judged rule value = at (right_tag rule value) (meets rule value)
+  where
+    at : (tag fits : Bool) → coded_answer (answer_of (if tag then (if fits then None else Some faults.Rule) else Some faults.Kind))
+        ≡ (if tag then (if fits then Ok tt else Err codes.OtherReason) else Err codes.TypeUnmatched)
+    at true true = refl
+    at true false = refl
+    at false fits = refl

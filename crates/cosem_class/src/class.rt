@@ -11,6 +11,7 @@ ghost use Rattle.cosem_class.specs.declared.class.ClassFault.{ClassFault};
 use crate::cell_set::CellSet;
 use cosem_data::data::{Data, Items};
 use cosem_data::memory::Memory;
+use meter_theory::access::AccessCode;
 use std::alloc::Global;
 
 /// The captured values that a capture is given, one for each captured cell, in order.
@@ -52,6 +53,23 @@ impl From<Memory> for ClassFault {
 
     fn from(_: Memory) -> ClassFault {
         ClassFault::Memory
+    }
+}
+
+impl From<ClassFault> for AccessCode {
+    ghost use Rattle.std.specs.Prelude.{◌≡◌};
+    ghost use Rattle.cosem_class.specs.Judged.{access_of};
+
+    ghost from_gives = { λ fault code. code ≡ access_of fault };
+
+    fn from(fault: ClassFault) -> AccessCode {
+        match fault {
+            ClassFault::Rule | ClassFault::UnknownScript => AccessCode::OtherReason,
+            ClassFault::Memory => AccessCode::TemporaryFailure,
+            ClassFault::NoIndex | ClassFault::NotSettable | ClassFault::Kind => {
+                AccessCode::TypeUnmatched
+            }
+        }
     }
 }
 

@@ -22,7 +22,8 @@ use Rattle.meter_theory.specs.Selection.{EntryDescriptor, places_between, column
 use Rattle.meter_theory.specs.State.{State, value}
 use Rattle.meter_theory.specs.declared.refs.UpDown.{UpDown}
 use Rattle.meter_theory.specs.declared.refs.ScriptRef.{ScriptRef}
-use Rattle.meter_theory.specs.Plan.{Plan, Client, Object, Part, Data1, Register, ProfileGeneric, ScriptTable, RegisterMonitor, SingleActionSchedule, Script, Action, Write, Invoke, Interface, association, association_name, interface_of, interface_at, object_at, class_of, cells, start, start_of, is_cell, rule_in, rule_of, data_value, register_value, buffer, capture_period, entries_in_use, thresholds, seen, execution_time}
+use Rattle.meter_theory.specs.declared.refs.Interface.{Interface}
+use Rattle.meter_theory.specs.Plan.{Plan, Client, Object, Part, Data1, Register, ProfileGeneric, ScriptTable, RegisterMonitor, SingleActionSchedule, Script, Action, Write, Invoke, association, association_name, interface_of, interface_at, object_at, class_of, cells, start, start_of, is_cell, rule_in, rule_of, data_value, register_value, buffer, capture_period, entries_in_use, thresholds, seen, execution_time}
 use Rattle.meter_theory.specs.Rights.{Descriptor, cell_of, Selection, class_is, descriptor_in, get_answer, has_right, may_read}
 use Rattle.meter_theory.specs.Fixed.{name_value, capture_object, action_value, script_value, up_down_value, fixed_in, fixed_of, attribute_access, method_access, access_selectors, access_rights, listed_object, objects_of, object_list, partners, mechanism_of, of_client, association_attribute, fixed}
 use Rattle.meter_theory.specs.Access.{is_success}

@@ -9,7 +9,8 @@ use Rattle.meter_theory.specs.Value.{array_of, structure_of, counter}
 use Rattle.meter_theory.specs.declared.refs.ScriptRef.{ScriptRef}
 use Rattle.meter_theory.specs.declared.refs.UpDown.{UpDown}
 use Rattle.meter_theory.specs.declared.refs.ScalerUnit.{ScalerUnit}
-use Rattle.meter_theory.specs.Plan.{Plan, Client, Action, Write, Invoke, Script, Part, Data1, Register, ProfileGeneric, ScriptTable, RegisterMonitor, SingleActionSchedule, Object, Interface, interface_of, association, association_name, object_at}
+use Rattle.meter_theory.specs.declared.refs.Interface.{Interface}
+use Rattle.meter_theory.specs.Plan.{Plan, Client, Action, Write, Invoke, Script, Part, Data1, Register, ProfileGeneric, ScriptTable, RegisterMonitor, SingleActionSchedule, Object, interface_of, association, association_name, object_at}
 use Rattle.meter_theory.specs.Rights.{may_get, may_set, may_act, may_read, has_right}
 
 abbrev pub name_value : LogicalName → Tree

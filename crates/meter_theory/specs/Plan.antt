@@ -1,6 +1,7 @@
 -- A plan: the clients, the objects with what is fixed of each, and the rights of the clients.
 use Rattle.std.specs.Prelude.{ℕ, ◌==◌, Bool, cond, List, [], ◌∷◌, Option, Some, None, find, flat_map, length, option_map, option_and_then}
-use Rattle.std.specs.List.{list_any}
+use Rattle.std.specs.List.{list_any, position_from}
+use Rattle.std.specs.Str.{bytes_eq}
 use Rattle.cosem_data.specs.Tree.{Tree, null_data, array, no_trees}
 use Rattle.cosem_data.specs.Kinds.{kind_of}
 use Rattle.cosem_data.specs.Cells.{same_name, cell, same_cell}
@@ -8,6 +9,7 @@ use Rattle.cosem_data.specs.declared.kind.Kind.TheVariants.{DoubleLongUnsigned}
 use Rattle.cosem_data.specs.declared.name.LogicalName.{LogicalName}
 use Rattle.cosem_data.specs.declared.cell.CellRef.{CellRef}
 use Rattle.cosem_data.specs.declared.cell.MethodRef.{MethodRef}
+use Rattle.meter_theory.specs.declared.refs.Interface.{Interface}
 use Rattle.meter_theory.specs.declared.refs.ScalerUnit.{ScalerUnit}
 use Rattle.meter_theory.specs.declared.refs.ScriptRef.{ScriptRef}
 use Rattle.meter_theory.specs.declared.refs.UpDown.{UpDown}
@@ -58,14 +60,11 @@ pub record Plan : Type 0 where
   pub objects : List Object
   pub rights : List Right
 
--- Interface classes (IEC 62056-6-2)
+-- the place of the client with this name
+abbrev pub client_named : Plan → List ℕ → Option ℕ
+client_named P name = position_from (λ c. bytes_eq c.name name) 0 P.clients
 
--- an interface class: its identifier and version, its highest attribute and its highest method
-pub record Interface : Type 0 where
-  pub class_id : ℕ
-  pub version : ℕ
-  pub attributes : ℕ
-  pub methods : ℕ
+-- Interface classes (IEC 62056-6-2)
 
 abbrev pub class_of : Part → ℕ
 class_of (Data1 start) = 1

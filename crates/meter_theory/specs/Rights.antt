@@ -11,7 +11,8 @@ use Rattle.meter_theory.specs.declared.access.AccessCode.{AccessCode}
 use Rattle.meter_theory.specs.declared.access.AccessCode.TheVariants.{Success, ReadWriteDenied, ObjectUndefined, ObjectClassInconsistent, TypeUnmatched, ScopeOfAccessViolated, OtherReason}
 use Rattle.meter_theory.specs.Value.{Rule, right_tag, meets}
 use Rattle.meter_theory.specs.Selection.{EntryDescriptor, descriptor_of, as_long_unsigned}
-use Rattle.meter_theory.specs.Plan.{Plan, Object, Right, Script, Part, ScriptTable, Interface, class_of, association_name, interface_at, object_at, rule_of}
+use Rattle.meter_theory.specs.declared.refs.Interface.{Interface}
+use Rattle.meter_theory.specs.Plan.{Plan, Object, Right, Script, Part, ScriptTable, class_of, association_name, interface_at, object_at, rule_of}
 
 -- a value or a parameter that a request brings along
 pub data Argument : Type 0 where

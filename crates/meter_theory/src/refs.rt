@@ -22,3 +22,12 @@ pub struct UpDown {
     pub up: ScriptRef,
     pub down: ScriptRef,
 }
+
+/// An interface class: its identifier and version, its highest attribute and its highest method (IEC 62056-6-2).
+#[derive(Clone, Copy, Debug, PartialEq, Eq, Drop)]
+pub struct Interface {
+    pub class_id: u16,
+    pub version: u8,
+    pub attributes: u8,
+    pub methods: u8,
+}

@@ -1,0 +1,5 @@
+pub mod ArgumentView
+pub mod MeterView
+pub mod PartView
+pub mod PlanView
+pub mod EffectView

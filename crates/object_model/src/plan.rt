@@ -1,0 +1,213 @@
+ghost use Rattle.std.specs.Prelude.{◌≡◌, ℕ, option_map, map, flat_map, IfOk, slice_get};
+ghost use Rattle.std.specs.List.{list_any, position_from};
+ghost use Rattle.std.specs.Str.{bytes_eq};
+ghost use Rattle.cosem_data.specs.View.{tree};
+ghost use Rattle.cosem_data.specs.Cells.{same_cell};
+ghost use Rattle.cosem_class.specs.Judged.{rule_answer};
+ghost use Rattle.meter_theory.specs.Plan.{cells, client_named, interface_at, is_cell, object_at, rule_of, start, start_of};
+ghost use Rattle.meter_theory.specs.State.{keys};
+ghost use Rattle.meter_theory.specs.Fixed.{fixed_of};
+ghost use Rattle.meter_theory.specs.Sound.{IsSound};
+ghost use Rattle.object_model.specs.MeterView.{entry_of};
+ghost use Rattle.object_model.specs.PlanView.{plan_of};
+
+use crate::client::Client;
+use crate::meter::Meter;
+use crate::object::Object;
+use crate::right::Right;
+use cosem_data::cell::CellRef;
+use cosem_data::data::Data;
+use cosem_data::memory::Memory;
+use cosem_data::name::LogicalName;
+use meter_theory::access::AccessCode;
+use meter_theory::refs::Interface;
+use std::alloc::Global;
+use std::marker::Model;
+
+/// The name of the current association, 0.0.40.0.0.255 (IEC 62056-6-2, Association LN).
+pub const ASSOCIATION: LogicalName = LogicalName([0, 0, 40, 0, 0, 255]);
+
+/// The lists that make a plan.
+#[derive(Drop)]
+pub struct PlanParts {
+    pub clients: Vec<Client>,
+    pub objects: Vec<Object>,
+    pub rights: Vec<Right>,
+}
+
+/// The clients and objects of a meter and the rights of its clients, without the faults of a configuration.
+#[derive(Drop)]
+pub struct Plan {
+    clients: Vec<Client>,
+    objects: Vec<Object>,
+    rights: Vec<Right>,
+}
+
+impl Model for Plan {
+    ghost use Rattle.meter_theory.specs.Plan as theory;
+    ghost use Rattle.meter_theory.specs.PlanCode.{plan_code};
+    ghost use Rattle.meter_theory.specs.Sound.{IsSound};
+
+    ghost Value = { theory.Plan };
+
+    ghost coded = { plan_code };
+
+    ghost view = { λ p. record { clients = p.clients.items; objects = p.objects.items; rights = p.rights.items } };
+
+    ghost invariant = { λ p. IsSound (record { clients = p.clients.items; objects = p.objects.items; rights = p.rights.items }) };
+}
+
+impl Plan {
+    /// The plan of these parts, which have none of the faults of a configuration.
+    pub fn new(parts: PlanParts) -> Result<Plan, Memory>
+        requires { IsSound (plan_of parts) }
+        ensures { IfOk result (λ plan. plan ≡ plan_of parts) }
+    {
+        let PlanParts {
+            clients,
+            objects,
+            rights,
+        } = parts;
+        Ok(Plan {
+            clients,
+            objects,
+            rights,
+        })
+    }
+
+    /// A plan has none of the faults of a configuration: what the type keeps, for callers.
+    pub fn known(&self)
+        ensures { IsSound self.now }
+    {
+        let _clients = &self.clients;
+    }
+
+    /// The client at this place, or None past the last. It takes no memory.
+    pub fn client(&self, client: u8) -> Option<&Client>
+        ensures { option_map (λ c. c.now) result ≡ slice_get self.now.clients client }
+    {
+        self.clients.get(usize::from(client))
+    }
+
+    /// The object at this place in plan order, or None past the last. It takes no memory.
+    pub fn object(&self, object: u16) -> Option<&Object>
+        ensures { option_map (λ o. o.now) result ≡ slice_get self.now.objects object }
+    {
+        self.objects.get(usize::from(object))
+    }
+
+    /// The place of the client with this name. It takes no memory.
+    pub fn client_named(&self, name: &[u8]) -> Option<u8>
+        ensures { result ≡ client_named self.now name.now }
+    {
+        let place = place_named(&self.clients, name)?;
+        Some(place as u8)
+    }
+
+    /// The object with this name. It takes no memory.
+    pub fn object_at(&self, name: &LogicalName) -> Option<&Object>
+        ensures { option_map (λ o. o.now) result ≡ object_at self.now name.now }
+    {
+        self.objects.iter().find(|object| object.name() == *name)
+    }
+
+    /// The objects, in plan order.
+    pub fn objects(&self) -> &[Object]
+        ensures { result.now ≡ self.now.objects }
+    {
+        &self.objects
+    }
+
+    /// The rights.
+    pub fn rights(&self) -> &[Right]
+        ensures { result.now ≡ self.now.rights }
+    {
+        &self.rights
+    }
+
+    /// The interface class of what stands at this name: the current association, or an object. It takes no memory.
+    pub fn interface_at(&self, name: &LogicalName) -> Option<Interface>
+        ensures { result ≡ interface_at self.now name.now }
+    {
+        if *name == ASSOCIATION {
+            return Some(Interface {
+                class_id: 15,
+                version: 0,
+                attributes: 8,
+                methods: 4,
+            });
+        }
+        self.object_at(name).map(|object| object.part().interface())
+    }
+
+    /// Whether the value may be put into the cell: `TypeUnmatched` for another tag and where no settable cell is,
+    /// `OtherReason` for the right tag against the rest of the cell's rule. It takes no memory.
+    pub fn rule(&self, cell: &CellRef, value: &Data) -> Result<(), AccessCode>
+        ensures { result ≡ rule_answer (rule_of self.now cell.now) (tree value.now) }
+    {
+        let Some(object) = self.object_at(&cell.name) else {
+            return Err(AccessCode::TypeUnmatched);
+        };
+        let part = object.part();
+        if part.class_id() != cell.class_id {
+            return Err(AccessCode::TypeUnmatched);
+        }
+        part.judge(cell.index, value)
+    }
+
+    /// A copy of a fixed attribute of an object, other than its logical name; null-data where there is none.
+    pub fn fixed(&self, alloc: Global, cell: &CellRef) -> Result<Data, Memory>
+        ensures { IfOk result (λ value. tree value ≡ fixed_of (object_at self.now cell.now.name) cell.now.index) }
+    {
+        match self.object_at(&cell.name) {
+            Some(object) => object.part().fixed(alloc, cell.index),
+            None => Ok(Data::NullData),
+        }
+    }
+
+    /// A meter of this plan, with the start values.
+    pub fn start(&self, alloc: Global) -> Result<Meter, Memory>
+        ensures { IfOk result (λ meter. meter ≡ start self.now) }
+    {
+        Ok(Meter::new(start_pairs(alloc, &self.objects)?))
+    }
+
+    /// The cells, in plan order.
+    pub fn cells(&self, alloc: Global) -> Result<Vec<CellRef>, Memory>
+        ensures { IfOk result (λ list. list.items ≡ cells self.now) }
+    {
+        self.start(alloc)?.into_cells(alloc)
+    }
+
+    /// Whether it is a cell of this plan. It takes no memory.
+    pub fn is_cell(&self, cell: &CellRef) -> bool
+        ensures { result ≡ is_cell self.now cell.now }
+    {
+        has_cell(&self.objects, cell)
+    }
+}
+
+/// Where the first client with this name stands.
+fn place_named(clients: &[Client], name: &[u8]) -> Option<usize>
+    ensures { result ≡ position_from (λ c. bytes_eq c.name name.now) 0 clients.now }
+{
+    clients.iter().position(|client| client.name() == name)
+}
+
+fn has_cell(objects: &[Object], cell: &CellRef) -> bool
+    ensures { result ≡ list_any (λ o. list_any (same_cell cell.now) (keys (start_of o.name o.part))) objects.now }
+{
+    objects
+        .iter()
+        .any(|object| object.part().has_cell(object.name(), cell))
+}
+
+fn start_pairs(alloc: Global, objects: &[Object]) -> Result<Vec<(CellRef, Data)>, Memory>
+    ensures { IfOk result (λ pairs. map entry_of pairs.items ≡ flat_map (λ o. start_of o.name o.part) objects.now) }
+{
+    let mut pairs = Vec::new(alloc);
+    for object in objects {
+        object.part().push_start(alloc, object.name(), &mut pairs)?;
+    }
+    Ok(pairs)
+}
