@@ -1,12 +1,12 @@
 -- The first bad byte decides the fault, and where there is none, more bytes make a value.
-use Rattle.std.proofs.Common.{◌≡◌, ◌≢◌, ℕ, List, [], ◌++◌, ◌<◌, ◌≤◌, length, All, Result, Ok, Err, inl, inr, arith}
+use Rattle.std.proofs.Common.{ℕ, List, [], ◌++◌, ◌<◌, length, inl, inr, arith}
 use Rattle.std.proofs.lemmas.Bool.{cases_lt}
 use Rattle.std.proofs.lemmas.List.{get_or_past}
 use Rattle.std.proofs.lemmas.List.Elements.{All-append, All-get_or}
 use Rattle.cosem_axdr.specs.declared.fault.ReadFault.{ReadFault}
 use Rattle.cosem_axdr.specs.declared.fault.ReadFault.TheVariants.{Short, UnknownTag, TooDeep, Length, Memory}
 use Rattle.cosem_axdr.specs.Reading.{Fails, data_at}
-use Rattle.cosem_axdr.specs.Laws.{StandsAtFirstBadByte, IsFrontOfValue, FirstFaultDecides, ShortIsFront, IsFirstFault}
+use Rattle.cosem_axdr.specs.Laws.{FirstFaultDecides, ShortIsFront, IsFirstFault}
 use Rattle.cosem_axdr.proofs.Numbers.{IsBytes}
 use Rattle.cosem_axdr.proofs.Values.{begins_from_data}
 use Rattle.cosem_axdr.proofs.Steady.{AreBytes, data_steady}

@@ -7,8 +7,8 @@ use Rattle.std.proofs.lemmas.List.{take_at, drop_at, take-append-drop, length-ap
 use Rattle.std.proofs.lemmas.Nat.{be_bytes_2, be_bytes_4, be_bytes_8, from_be_bytes-to_be_bytes_2, from_be_bytes-to_be_bytes_4, from_be_bytes-to_be_bytes_8}
 use Rattle.std.proofs.lemmas.Int.{ints, of_z-to_z, to_z-of_z}
 use Rattle.cosem_axdr.specs.declared.fault.ReadFault.{ReadFault}
-use Rattle.cosem_axdr.specs.declared.fault.ReadFault.TheVariants.{Short, Length}
-use Rattle.cosem_axdr.specs.Grammar.{Form, itself, one, two, three, four, limit_of, length_in, IsLength, IsUnsigned, IsSigned, IsString}
+use Rattle.cosem_axdr.specs.declared.fault.ReadFault.TheVariants.{Short}
+use Rattle.cosem_axdr.specs.Grammar.{Form, itself, one, two, three, four, limit_of, length_in, IsLength, IsSigned, IsString}
 use Rattle.cosem_axdr.specs.Reading.{◌>>=◌, unsigned_at, signed_at, three_at, length_at, string_at}
 
 abbrev pub IsBytes : List ℕ → Type 0

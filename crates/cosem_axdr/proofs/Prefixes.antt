@@ -1,15 +1,13 @@
 -- The laws of the grammar, by way of the reader.
-use Rattle.std.proofs.Common.{◌≡◌, ℕ, zero, suc, max, ◌+◌, ◌^◌, ◌<◌, ◌≤◌, ◌%◌, Bool, true, false, not, cond, ltb, eqb, List, [], ◌∷◌, ◌++◌, length, Result, Ok, Err, refl, sym, ap, subst, ◌∙◌, append_assoc, arith, inl, inr}
-use Rattle.std.specs.Int.{w8}
+use Rattle.std.proofs.Common.{◌≡◌, ℕ, max, ◌^◌, ◌<◌, true, false, List, ◌++◌, length, Ok, refl, sym, ap, ◌∙◌, arith, inl, inr}
 use Rattle.std.proofs.lemmas.Bool.{cases_lt, lt-ltb, le-ltb}
 use Rattle.std.proofs.lemmas.List.{append_cancel_right}
 use Rattle.cosem_data.specs.Tree.{Tree, Trees, null_data, array, structure, boolean, double_long, double_long_unsigned, octet_string, visible_string, integer, long, unsigned, long_unsigned, long64, long64_unsigned, enumerated, no_trees, more_trees, parts, depth}
-use Rattle.cosem_data.specs.Kinds.{kind_of, tag_of}
-use Rattle.cosem_axdr.specs.Grammar.{Form, itself, one, two, three, four, limit_of, length_in, IsLength, IsContent, AreEncodings, IsEncoding}
+use Rattle.cosem_axdr.specs.Grammar.{limit_of, IsLength, IsContent, AreEncodings}
 use Rattle.cosem_axdr.specs.Canonical.{shortest_form, shortest, content, all, canonical, HasLengths, HaveLengths}
 use Rattle.cosem_axdr.specs.Reading.{data_at}
 use Rattle.cosem_axdr.specs.Laws.{NoEncodingBeginsAnother, HasRanges, HaveRanges, CanonicalIsEncoding, WrittenIsRead}
-use Rattle.cosem_axdr.proofs.Numbers.{done, ok_is}
+use Rattle.cosem_axdr.proofs.Numbers.{ok_is}
 use Rattle.cosem_axdr.proofs.Values.{data_again}
 
 -- what is cut off at the end leaves the same front

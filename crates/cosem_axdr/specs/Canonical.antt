@@ -1,7 +1,6 @@
 -- The canonical encoding of a value, which the writer gives: each length in its shortest form, and 01 for true (own profile).
-use Rattle.std.specs.Prelude.{◌≡◌, ℕ, ℤ, ◌<◌, ◌^◌, nat_lt, Bool, true, false, List, [], ◌∷◌, ◌++◌, length, if◌then◌else◌, ◌+◌, Option, MatchOption}
-use Rattle.std.specs.Int.{Width, w8, w16, w32, w64, to_be_bytes, bytes_high_first, cast_unsigned}
-use Rattle.std.specs.List.{AllByRecursion}
+use Rattle.std.specs.Prelude.{◌≡◌, ℕ, ◌<◌, ◌^◌, nat_lt, List, [], ◌∷◌, ◌++◌, length, if◌then◌else◌, ◌+◌, Option, MatchOption}
+use Rattle.std.specs.Int.{w8, w16, w32, w64, to_be_bytes, cast_unsigned}
 use Rattle.cosem_data.specs.Tree.{Tree, Trees, null_data, array, structure, boolean, double_long, double_long_unsigned, octet_string, visible_string, integer, long, unsigned, long_unsigned, long64, long64_unsigned, enumerated, no_trees, more_trees, parts}
 use Rattle.cosem_data.specs.Kinds.{kind_of, tag_of}
 use Rattle.cosem_axdr.specs.Grammar.{Form, itself, one, two, three, four, length_in}

@@ -2,7 +2,7 @@
 use Rattle.std.specs.Prelude.{◌≡◌, ◌≢◌, ◌≤◌, ◌<◌, ◌^◌, ℕ, List, [], ◌∷◌, ◌++◌, length, All, FitsSigned, ◌⊎◌, None, Ok, Err}
 use Rattle.std.specs.List.{AllByRecursion}
 use Rattle.std.specs.Int.{w8, w16, w32, w64, byte_len}
-use Rattle.cosem_data.specs.Tree.{Tree, Trees, depth, null_data, array, structure, boolean, double_long, double_long_unsigned, octet_string, visible_string, integer, long, unsigned, long_unsigned, long64, long64_unsigned, enumerated, no_trees, more_trees}
+use Rattle.cosem_data.specs.Tree.{Tree, Trees, depth, array, structure, double_long, double_long_unsigned, octet_string, visible_string, integer, long, unsigned, long_unsigned, long64, long64_unsigned, enumerated, no_trees, more_trees}
 use Rattle.cosem_data.specs.Kinds.{tag_of}
 use Rattle.cosem_data.specs.declared.kind.Kind.TheVariants.{Array, Structure}
 use Rattle.cosem_axdr.specs.declared.fault.ReadFault.{ReadFault}

@@ -14,6 +14,9 @@ use cosem_data::data::{Data, Items};
 use cosem_data::kind::Kind;
 use std::alloc::Global;
 
+/// How deep a value may be nested (own profile).
+const DEEPEST: u8 = 16;
+
 fn u8_at(bytes: &[u8]) -> Result<(u8, &[u8]), ReadFault>
     ensures { Gives (λ x. (x.0, x.1.now)) result (unsigned_at w8 bytes.now) }
 {
@@ -256,7 +259,7 @@ fn front_of(alloc: Global, bytes: &[u8]) -> Result<(Data, &[u8]), ReadFault>
         MatchResult result (λ x. (tree x.0 ≡ t) × (x.1.now ≡ rest)) (λ e. e ≡ ReadFault.Memory) }
     ensures exact { Gives (λ x. (tree x.0, x.1.now)) result (data_at 16 bytes.now) }
 {
-    data_of(alloc, 16, bytes)
+    data_of(alloc, DEEPEST, bytes)
 }
 
 /// Reads the value in front of the bytes (IEC 62056-5-3, type `Data` in A-XDR), nested at most 16, and tells how many bytes it takes.

@@ -13,7 +13,7 @@ use Rattle.cosem_data.specs.Cells.{same_name, same_cell}
 use Rattle.meter_theory.specs.State.{value}
 use Rattle.meter_theory.specs.Plan.{Plan, Object, Write, Part, Data1, Register, ProfileGeneric, ScriptTable, RegisterMonitor, SingleActionSchedule, association_name, cells, start, rule_of, entries_in_use}
 use Rattle.meter_theory.specs.Steps.{scripts_of, Captures, captures_in}
-use Rattle.meter_theory.specs.Sound.{IsWrite, IsCapturable, IsSoundPart, IsSound, distinct_names, writes_some, is_write, captured_in, is_capturable, is_kind_rule, is_sound_part, has_sizes, fits_some, is_sized, is_started, is_sound}
+use Rattle.meter_theory.specs.Sound.{IsWrite, IsCapturable, IsSoundPart, IsSound, distinct_names, writes_some, is_write, captured_in, is_capturable, is_kind_rule, is_sound_part, has_sizes, has_sap, fits_some, is_sized, is_started, is_sound}
 use Rattle.meter_theory.proofs.Lists.{any_in, in_any}
 
 use Rattle.meter_theory.proofs.Agreement.{not_both}
@@ -87,19 +87,21 @@ sound_from P h =
     let b = and_parts clients (writes && (captures && parts)) a.1 in
     let c = and_parts writes (captures && parts) b.1 in
     let d = and_parts captures parts c.1 in
-    let e = and_parts (nat_le (length P.clients) 16) (nat_le (length P.objects) 512 && (list_all has_sizes P.objects && list_all is_apart P.objects)) sized_rest.0 in
-    let f = and_parts (nat_le (length P.objects) 512) (list_all has_sizes P.objects && list_all is_apart P.objects) e.1 in
-    let g = and_parts (list_all has_sizes P.objects) (list_all is_apart P.objects) f.1 in
+    let e = and_parts (nat_le (length P.clients) 16) (nat_le (length P.objects) 512 && (list_all has_sizes P.objects && (list_all has_sap P.clients && list_all is_apart P.objects))) sized_rest.0 in
+    let f = and_parts (nat_le (length P.objects) 512) (list_all has_sizes P.objects && (list_all has_sap P.clients && list_all is_apart P.objects)) e.1 in
+    let g = and_parts (list_all has_sizes P.objects) (list_all has_sap P.clients && list_all is_apart P.objects) f.1 in
+    let k = and_parts (list_all has_sap P.clients) (list_all is_apart P.objects) g.1 in
     record {
       names = names_from P.objects a.0;
-      apart = λ o i. not-true (same_name o.name association_name) (all_at is_apart P.objects o g.1 i);
+      apart = λ o i. not-true (same_name o.name association_name) (all_at is_apart P.objects o k.1 i);
       few_clients = leb-true (length P.clients) 16 e.0;
       few_objects = leb-true (length P.objects) 512 f.0;
       sizes = λ o i. all_at has_sizes P.objects o g.0 i;
+      saps = λ client i. all_at has_sap P.clients client k.0 i;
       clients = λ r i. ltb-true r.client (length P.clients) (all_at (λ z. nat_lt z.client (length P.clients)) P.rights r b.0 i);
       starts = λ x i. all_at (λ z. fits_some (rule_of P z) (value (start P) z)) (cells P) x started_rest.0 i;
-      writes = λ o i s j x v k. write_from P x v (all_at (is_write P) s.actions (Write x v)
-          (all_at (λ z. list_all (is_write P) z.actions) (scripts_of o.part) s (all_at (λ z. list_all (λ y. list_all (is_write P) y.actions) (scripts_of z.part)) P.objects o c.0 i) j) k);
+      writes = λ o i s j x v m. write_from P x v (all_at (is_write P) s.actions (Write x v)
+          (all_at (λ z. list_all (is_write P) z.actions) (scripts_of o.part) s (all_at (λ z. list_all (λ y. list_all (is_write P) y.actions) (scripts_of z.part)) P.objects o c.0 i) j) m);
       captures = λ o i m is x j.
           let each = all_at (λ z. list_any (same_cell z) (cells P) && is_capturable P z) (captured_in (captures_in o.part)) x
           (all_at (λ z. list_all (λ y. list_any (same_cell y) (cells P) && is_capturable P y) (captured_in (captures_in z.part))) P.objects o d.0 i)

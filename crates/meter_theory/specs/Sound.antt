@@ -10,7 +10,7 @@ use Rattle.cosem_data.specs.declared.cell.CellRef.{CellRef}
 use Rattle.meter_theory.specs.Lists.{IsIn}
 use Rattle.meter_theory.specs.Value.{Rule, OfKind, meets, is_within_limits}
 use Rattle.meter_theory.specs.State.{value}
-use Rattle.meter_theory.specs.Plan.{Plan, Object, Right, Script, Action, Write, Invoke, Part, Data1, Register, ProfileGeneric, ScriptTable, RegisterMonitor, SingleActionSchedule, association_name, cells, start, rule_of, entries_in_use}
+use Rattle.meter_theory.specs.Plan.{Plan, Client, Object, Right, Script, Action, Write, Invoke, Part, Data1, Register, ProfileGeneric, ScriptTable, RegisterMonitor, SingleActionSchedule, association_name, cells, start, rule_of, entries_in_use}
 use Rattle.meter_theory.specs.Steps.{scripts_of, Captures, captures_in}
 
 -- the cell may be written, and the value meets its rule
@@ -58,6 +58,10 @@ has_part_sizes _ = true
 abbrev pub has_sizes : Object → Bool
 has_sizes o = is_name o.name && has_part_sizes o.part
 
+-- a service access point is 1 to 127 (client_SAP, an integer)
+abbrev pub has_sap : Client → Bool
+has_sap client = nat_le 1 client.sap && nat_le client.sap 127
+
 -- the value may stand in a cell with this rule, where there is one
 abbrev pub fits_some : Option Rule → Tree → Bool
 fits_some None v = true
@@ -72,6 +76,7 @@ pub record IsSound (P : Plan) : Type 0 where
   pub few_clients : length P.clients ≤ 16
   pub few_objects : length P.objects ≤ 512
   pub sizes : (o : Object) → IsIn P.objects o → has_sizes o ≡ true
+  pub saps : (client : Client) → IsIn P.clients client → has_sap client ≡ true
   -- each right is a client's of the plan
   pub clients : (r : Right) → IsIn P.rights r → r.client < length P.clients
   -- each settable cell starts with a value that meets its rule
@@ -122,7 +127,8 @@ is_sized P =
     nat_le (length P.clients) 16
     && (nat_le (length P.objects) 512
     && (list_all has_sizes P.objects
-    && list_all (λ o. not (same_name o.name association_name)) P.objects))
+    && (list_all has_sap P.clients
+    && list_all (λ o. not (same_name o.name association_name)) P.objects)))
 
 abbrev pub is_started : Plan → Bool
 is_started P = list_all (λ x. fits_some (rule_of P x) (value (start P) x)) (cells P)

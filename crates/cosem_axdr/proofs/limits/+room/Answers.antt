@@ -1,4 +1,4 @@
-use Rattle.std.proofs.Common.{◌+◌, ◌<◌, ◌≤◌, ◌++◌, length, map, ap, arith}
+use Rattle.std.proofs.Common.{◌+◌, ◌<◌, ◌++◌, length, map, arith}
 use Rattle.cosem_data.specs.Tree.{trees}
 use Rattle.cosem_data.specs.View.{tree}
 use Rattle.cosem_axdr.specs.Canonical.{all, content, shortest, IsRoomAfter}

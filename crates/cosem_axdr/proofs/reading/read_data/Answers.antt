@@ -1,6 +1,4 @@
-use Rattle.std.proofs.Common.{ap, arith}
 use Rattle.std.proofs.lemmas.Result.{err_from_is_err_and}
-use Rattle.std.proofs.lemmas.List.{length-append}
 use Rattle.cosem_axdr.proofs.Fronts.{begins, begins_with_none, length_behind}
 use Rattle.cosem_axdr.proofs.FirstFaults.{is_first_fault}
 use Rattle.cosem_axdr.proofs.reading.read_data.Goals as goal

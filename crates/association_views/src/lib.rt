@@ -1,0 +1,5 @@
+//! What a client sees of a meter: the permits of its requests, and the attributes of its association.
+#![tactic(auto)]
+
+pub mod permits;
+pub mod selection;
