@@ -1,5 +1,6 @@
 //! What a client sees of a meter: the permits of its requests, and the attributes of its association.
 #![tactic(auto)]
 
+pub mod association;
 pub mod permits;
 pub mod selection;
