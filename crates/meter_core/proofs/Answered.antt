@@ -1,0 +1,96 @@
+-- What the permits say of a reply and of the state after it.
+use Rattle.std.specs.Prelude.{◌≡◌, Bool, true, false, not, cond, ℕ, List, [], ◌∷◌, Option, Some, None, Result, Ok, Err}
+use Rattle.std.proofs.Common.{refl, sym, ap, subst, ◌∙◌, inl, inr}
+use Rattle.cosem_data.specs.Tree.{Tree}
+use Rattle.cosem_data.specs.declared.cell.CellRef.{CellRef}
+use Rattle.meter_theory.specs.declared.access.AccessCode.{AccessCode}
+use Rattle.meter_theory.specs.declared.access.AccessCode.TheVariants as codes
+use Rattle.meter_theory.specs.Access.{is_success}
+use Rattle.meter_theory.specs.State.{State}
+use Rattle.meter_theory.specs.Plan.{Plan, rule_of}
+use Rattle.meter_theory.specs.Value.{Rule}
+use Rattle.meter_theory.specs.Rights.{Argument, Given, Descriptor, Selection, cell_of, get_answer, set_answer, set_places, meets_rule}
+use Rattle.meter_theory.specs.Steps.{Step, Get, Set, effects, given_value, next}
+use Rattle.meter_theory.specs.Replies.{Reply, Value, Code, attribute, selected, reply_to}
+use Rattle.meter_theory.specs.States.{MayStand}
+use Rattle.meter_theory.proofs.Rights.{place_passed}
+use Rattle.cosem_data.specs.declared.data.Data.{Data}
+use Rattle.object_model.specs.declared.argument.Argument as code
+use Rattle.object_model.specs.declared.argument.Argument.TheVariants as arguments
+use Rattle.object_model.specs.ArgumentView.{argument_of}
+use Rattle.association_views.specs.Permits.{permitted}
+
+granted : (code : AccessCode) (unit : Unit {0}) → Ok unit ≡ permitted code → code ≡ codes.Success
+granted codes.Success unit h = refl
+granted codes.TemporaryFailure unit h = cc
+granted codes.ReadWriteDenied unit h = cc
+granted codes.ObjectUndefined unit h = cc
+granted codes.ObjectClassInconsistent unit h = cc
+granted codes.TypeUnmatched unit h = cc
+granted codes.ScopeOfAccessViolated unit h = cc
+granted codes.OtherReason unit h = cc
+
+refused : (code given : AccessCode) → Err given ≡ permitted code → (given ≡ code) × (is_success code ≡ false)
+refused codes.Success given h = cc
+refused codes.TemporaryFailure given h = (cc, refl)
+refused codes.ReadWriteDenied given h = (cc, refl)
+refused codes.ObjectUndefined given h = (cc, refl)
+refused codes.ObjectClassInconsistent given h = (cc, refl)
+refused codes.TypeUnmatched given h = (cc, refl)
+refused codes.ScopeOfAccessViolated given h = (cc, refl)
+refused codes.OtherReason given h = (cc, refl)
+
+-- GET
+
+pub refused_get : (P : Plan) (s : State) (c : ℕ) (d : Descriptor) (selection : Option Selection) (code : AccessCode) → Err code ≡ permitted (get_answer P c d selection)
+    → Code code ≡ reply_to P s (Get c d selection)
+refused_get P s c d selection code h =
+    let r = refused (get_answer P c d selection) code h in
+    ap Code r.0 ∙ ap (λ b. cond b (Value (selected selection (attribute P s c (cell_of d)))) (Code (get_answer P c d selection))) (sym r.1)
+
+pub granted_get : (P : Plan) (s : State) (c : ℕ) (d : Descriptor) (selection : Option Selection) (v : Tree) (unit : Unit {0}) → Ok unit ≡ permitted (get_answer P c d selection)
+    → v ≡ selected selection (attribute P s c (cell_of d)) → Value v ≡ reply_to P s (Get c d selection)
+granted_get P s c d selection v unit h is =
+    ap Value is
+      ∙ ap (λ code. cond (is_success code) (Value (selected selection (attribute P s c (cell_of d)))) (Code code)) (sym (granted (get_answer P c d selection) unit h))
+
+-- SET
+
+pub refused_set : (P : Plan) (s : State) (c : ℕ) (d : Descriptor) (chosen : Bool) (v : Argument) (code : AccessCode) → Err code ≡ permitted (set_answer P c d chosen v)
+    → Code code ≡ reply_to P s (Set c d chosen v)
+refused_set P s c d chosen v code h = ap Code (refused (set_answer P c d chosen v) code h).0
+
+pub refused_set_stays : (P : Plan) (s : State) (c : ℕ) (d : Descriptor) (chosen : Bool) (v : Argument) (code : AccessCode) → Err code ≡ permitted (set_answer P c d chosen v)
+    → s ≡ next P s (Set c d chosen v)
+refused_set_stays P s c d chosen v code h =
+    ap (λ b. effects P s (cond b (given_value (cell_of d) v) [])) (sym (refused (set_answer P c d chosen v) code h).1)
+
+pub granted_set : (P : Plan) (s : State) (c : ℕ) (d : Descriptor) (chosen : Bool) (v : Argument) (unit : Unit {0}) → Ok unit ≡ permitted (set_answer P c d chosen v)
+    → Code codes.Success ≡ reply_to P s (Set c d chosen v)
+granted_set P s c d chosen v unit h = ap Code (sym (granted (set_answer P c d chosen v) unit h))
+
+pub granted_set_puts : (P : Plan) (s : State) (c : ℕ) (d : Descriptor) (chosen : Bool) (v : Argument) (unit : Unit {0}) → Ok unit ≡ permitted (set_answer P c d chosen v)
+    → effects P s (given_value (cell_of d) v) ≡ next P s (Set c d chosen v)
+granted_set_puts P s c d chosen v unit h =
+    ap (λ code. effects P s (cond (is_success code) (given_value (cell_of d) v) [])) (sym (granted (set_answer P c d chosen v) unit h))
+
+not-false : (b : Bool) → not b ≡ false → b ≡ true
+not-false true h = refl
+not-false false h = cc
+
+stands : (P : Plan) (x : CellRef) (v : Tree) (r : Option Rule) → rule_of P x ≡ r → meets_rule r (Given v) ≡ true → MayStand P x v
+stands P x v None is h = cc
+stands P x v (Some rule) is h = (rule, is, h)
+
+pub granted_fits : (P : Plan) (c : ℕ) (d : Descriptor) (chosen : Bool) (v : Tree) (unit : Unit {0}) → Ok unit ≡ permitted (set_answer P c d chosen (Given v)) → MayStand P (cell_of d) v
+granted_fits P c d chosen v unit h =
+    stands P (cell_of d) v (rule_of P (cell_of d)) refl
+      (not-false (meets_rule (rule_of P (cell_of d)) (Given v))
+        (place_passed (set_places P c d chosen (Given v)) (not (meets_rule (rule_of P (cell_of d)) (Given v)), codes.OtherReason)
+          (inr (inr (inr (inr (inr (inr (inl refl))))))) refl (ap is_success (granted (set_answer P c d chosen (Given v)) unit h))))
+
+-- nothing is put where no value was given
+pub nothing_given : (P : Plan) (s : State) (x : CellRef) (v : code.Argument) → ((value : Data) → v ≡ arguments.Value value → ⊥) → s ≡ effects P s (given_value x (argument_of v))
+nothing_given P s x arguments.Absent h = refl
+nothing_given P s x (arguments.Value value) h = absurd (h value refl)
+nothing_given P s x arguments.Unreadable h = refl

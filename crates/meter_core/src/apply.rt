@@ -1,0 +1,131 @@
+//! One step of a meter.
+ghost use Rattle.std.specs.Prelude.{◌≡◌, OnOk, OnErr, IfOk};
+ghost use Rattle.cosem_data.specs.View.{tree};
+ghost use Rattle.cosem_data.specs.declared.cell.CellRef.{CellRef};
+ghost use Rattle.meter_theory.specs.Steps as steps;
+ghost use Rattle.meter_theory.specs.Steps.{next};
+ghost use Rattle.meter_theory.specs.Replies.{attribute, reply_to};
+ghost use Rattle.meter_theory.specs.States.{IsState};
+ghost use Rattle.meter_core.specs.StepView.{argument_of, reply_of, selection_of, step_of};
+
+use crate::reply::Reply;
+use crate::step::Step;
+use association_views::association::fixed_attribute;
+use association_views::permits::{attribute_cell, permit_get, permit_set};
+use association_views::selection::select;
+use cosem_data::cell::CellRef;
+use cosem_data::data::Data;
+use cosem_data::memory::Memory;
+use cosem_data::name::LogicalName;
+use meter_theory::access::AccessCode;
+use object_model::argument::Argument;
+use object_model::effect::Effect;
+use object_model::meter::Meter;
+use object_model::plan::Plan;
+use std::alloc::Global;
+
+/// Takes one step, and answers it. The only error is that memory was refused, and then the meter is as it was.
+pub fn apply(
+    alloc: Global,
+    plan: &Plan,
+    meter: &mut Meter,
+    step: &Step,
+) -> Result<Reply, Memory>
+    requires { IsState plan.now meter.old }
+    ensures state { IsState plan.now meter.new }
+    ensures ok { OnOk result (meter.new ≡ next plan.now meter.old (step_of step.now)) }
+    ensures reply { IfOk result (λ reply. reply_of reply ≡ reply_to plan.now meter.old (step_of step.now)) }
+    ensures err { OnErr result (meter.new ≡ meter.old) }
+{
+    match step {
+        Step::Get {
+            client,
+            class_id,
+            name,
+            index,
+            selection,
+        } => get(
+            alloc, plan, meter, *client, *class_id, name, *index, selection,
+        ),
+        Step::Set {
+            client,
+            class_id,
+            name,
+            index,
+            selected,
+            value,
+        } => set(
+            alloc, plan, meter, *client, *class_id, name, *index, *selected, value,
+        ),
+    }
+}
+
+/// The answer to a GET (IEC 62056-5-3): the value that the selection leaves, or why there is none.
+fn get(
+    alloc: Global,
+    plan: &Plan,
+    meter: &Meter,
+    client: u8,
+    class_id: u16,
+    name: &LogicalName,
+    index: i8,
+    selection: &Option<(u8, Argument)>,
+) -> Result<Reply, Memory>
+    requires { IsState plan.now meter.now }
+    ensures { IfOk result (λ reply. reply_of reply ≡ reply_to plan.now meter.now (steps.Get client (record { class_id = class_id; name = name.now; index = index }) (selection_of selection.now))) }
+{
+    if let Err(code) = permit_get(plan, client, class_id, name, index, selection) {
+        return Ok(Reply::Code(code));
+    }
+    let cell = attribute_cell(class_id, name, index);
+    let value = attribute(alloc, plan, meter, client, &cell)?;
+    Ok(Reply::Value(select(alloc, selection, value)?))
+}
+
+/// The value of an attribute as the client reads it: that of a cell, or a fixed one.
+fn attribute(
+    alloc: Global,
+    plan: &Plan,
+    meter: &Meter,
+    client: u8,
+    cell: &CellRef,
+) -> Result<Data, Memory>
+    requires { IsState plan.now meter.now }
+    ensures { IfOk result (λ value. tree value ≡ attribute plan.now meter.now client cell.now) }
+{
+    if plan.is_cell(cell) {
+        meter.value(alloc, plan, cell)
+    } else {
+        fixed_attribute(alloc, plan, client, cell)
+    }
+}
+
+/// The answer to a SET (IEC 62056-5-3), and the value in its cell where the answer is success.
+fn set(
+    alloc: Global,
+    plan: &Plan,
+    meter: &mut Meter,
+    client: u8,
+    class_id: u16,
+    name: &LogicalName,
+    index: i8,
+    selected: bool,
+    value: &Argument,
+) -> Result<Reply, Memory>
+    requires { IsState plan.now meter.old }
+    ensures state { IsState plan.now meter.new }
+    ensures ok { OnOk result (meter.new ≡ next plan.now meter.old (steps.Set client (record { class_id = class_id; name = name.now; index = index }) selected (argument_of value.now))) }
+    ensures reply { IfOk result (λ reply. reply_of reply ≡ reply_to plan.now meter.old (steps.Set client (record { class_id = class_id; name = name.now; index = index }) selected (argument_of value.now))) }
+    ensures err { OnErr result (meter.new ≡ meter.old) }
+{
+    plan.known();
+    if let Err(code) = permit_set(plan, client, class_id, name, index, selected, value) {
+        return Ok(Reply::Code(code));
+    }
+    if let Argument::Value(value) = value {
+        let cell = attribute_cell(class_id, name, index);
+        let given = value.try_clone(alloc)?;
+        meter.take(plan, Effect::Put(cell, given))?;
+    }
+    Ok(Reply::Code(AccessCode::Success))
+}

@@ -1,0 +1,6 @@
+//! What a meter does at a step, and what it answers.
+#![tactic(auto)]
+
+pub mod apply;
+pub mod reply;
+pub mod step;

@@ -1,0 +1,20 @@
+//! Laws of the forms, over all requests, replies and bytes.
+ghost use Rattle.xdlms_services.specs.Grammar.{OneRequest};
+ghost use Rattle.xdlms_services.specs.Reading.{ReadingIsGrammar};
+ghost use Rattle.xdlms_services.specs.Replies.{OneReply};
+
+/// A byte list is a form of one request at most.
+pub fn one_request()
+    ensures { OneRequest }
+{}
+
+/// Reading from left to right gives a request exactly where the bytes are a form of it.
+pub fn reading_is_grammar()
+    ensures { ReadingIsGrammar }
+{}
+
+/// A byte list is a form of one reply at most: it determines the service, the invoke byte and the
+/// reply.
+pub fn one_reply()
+    ensures { OneReply }
+{}

@@ -1,0 +1,14 @@
+//! The services of IEC 62056-5-3 with logical names: what clients ask of the meter, and what it
+//! replies, as APDUs.
+#![tactic(auto)]
+
+pub mod laws;
+pub mod reading;
+pub mod request;
+#[cfg(test)]
+mod tests;
+pub mod writing;
+
+pub use reading::{ApduFault, read_apdu};
+pub use request::Request;
+pub use writing::{Service, write_reply};

@@ -1,0 +1,257 @@
+use crate::reading::{ApduFault, read_apdu};
+use crate::request::Request;
+use crate::writing::{Service, write_reply};
+use cosem_data::bytes::Bytes;
+use cosem_data::data::{Data, Items};
+use cosem_data::name::LogicalName;
+use meter_core::reply::Reply;
+use meter_theory::access::AccessCode;
+use object_model::argument::Argument;
+use std::alloc::Global;
+use std::test::Fail;
+
+/// GET of attribute 2 of the register 1.0.1.8.0.255.
+const GET_REGISTER: [u8; 13] = [0xC0, 1, 0xC1, 0, 3, 1, 0, 1, 8, 0, 0xFF, 2, 0];
+
+/// SET of attribute 2 of the data object 0.0.96.11.0.255 to the unsigned 1.
+const SET_ALARM: [u8; 15] = [
+    0xC1, 1, 0xC1, 0, 1, 0, 0, 0x60, 0x0B, 0, 0xFF, 2, 0, 0x11, 1,
+];
+
+/// What each request says before its flag.
+#[derive(Clone, Copy, Debug, PartialEq, Eq)]
+struct Head {
+    invoke: u8,
+    class_id: u16,
+    name: LogicalName,
+    index: i8,
+}
+
+/// A GET's head and selection.
+fn read_get(alloc: Global, bytes: &[u8]) -> Result<(Head, Option<(u8, Argument)>), Fail> {
+    match read_apdu(alloc, bytes)? {
+        Request::Get {
+            invoke,
+            class_id,
+            name,
+            index,
+            selection,
+        } => {
+            let head = Head {
+                invoke,
+                class_id,
+                name,
+                index,
+            };
+            Ok((head, selection))
+        }
+        Request::Set { .. } => Err("a SET".into()),
+    }
+}
+
+/// A SET's head, whether it has a selection, and its value.
+fn read_set(alloc: Global, bytes: &[u8]) -> Result<(Head, bool, Argument), Fail> {
+    match read_apdu(alloc, bytes)? {
+        Request::Set {
+            invoke,
+            class_id,
+            name,
+            index,
+            selected,
+            value,
+        } => {
+            let head = Head {
+                invoke,
+                class_id,
+                name,
+                index,
+            };
+            Ok((head, selected, value))
+        }
+        Request::Get { .. } => Err("a GET".into()),
+    }
+}
+
+/// What a SET of the alarm has with these bytes behind its index.
+fn set_alarm(alloc: Global, rest: &[u8]) -> Result<(bool, Argument), Fail> {
+    let mut bytes = Vec::from_slice(alloc, &SET_ALARM[..12])?;
+    bytes.extend_from_slice(rest)?;
+    let (_, selected, value) = read_set(alloc, &bytes)?;
+    Ok((selected, value))
+}
+
+fn is_value(argument: &Argument, value: &Data) -> bool {
+    match argument {
+        Argument::Value(held) => held.same(value),
+        _ => false,
+    }
+}
+
+fn is_unreadable(argument: &Argument) -> bool {
+    matches!(argument, Argument::Unreadable)
+}
+
+fn is_absent(argument: &Argument) -> bool {
+    matches!(argument, Argument::Absent)
+}
+
+/// Whether the bytes are a request.
+fn is_read(alloc: Global, bytes: &[u8]) -> Result<bool, ApduFault> {
+    match read_apdu(alloc, bytes) {
+        Ok(_) => Ok(true),
+        Err(ApduFault::Unreadable) => Ok(false),
+        Err(ApduFault::Memory) => Err(ApduFault::Memory),
+    }
+}
+
+#[test]
+fn reads_a_get(rt: HostRuntime) -> Result<(), Fail> {
+    let (head, selection) = read_get(rt.alloc(), &GET_REGISTER)?;
+    let register = Head {
+        invoke: 0xC1,
+        class_id: 3,
+        name: LogicalName([1, 0, 1, 8, 0, 0xFF]),
+        index: 2,
+    };
+    assert_eq!(rt; head, register);
+    assert!(rt; selection.is_none());
+    let negative = [0xC0, 1, 0x40, 1, 2, 1, 0, 1, 8, 0, 0xFF, 0xFF, 0];
+    let (head, selection) = read_get(rt.alloc(), &negative)?;
+    assert_eq!(rt; head.invoke, 0x40);
+    assert_eq!(rt; head.class_id, 0x0102);
+    assert_eq!(rt; head.index, -1);
+    assert!(rt; selection.is_none());
+    Ok(())
+}
+
+#[test]
+fn reads_a_selection(rt: HostRuntime) -> Result<(), Fail> {
+    let entries = [
+        0xC0, 1, 0xC1, 0, 7, 1, 0, 0x63, 1, 0, 0xFF, 2, 1, 2, 2, 4, 6, 0, 0, 0, 1, 6, 0, 0, 0, 1,
+        0x12, 0, 1, 0x12, 0, 1,
+    ];
+    let descriptor = vec![in rt.alloc();
+        Data::DoubleLongUnsigned(1),
+        Data::DoubleLongUnsigned(1),
+        Data::LongUnsigned(1),
+        Data::LongUnsigned(1),
+    ]?;
+    let descriptor = Data::Structure(Items::new(descriptor));
+    let (head, selection) = read_get(rt.alloc(), &entries)?;
+    assert_eq!(rt; head.class_id, 7);
+    let (selector, parameter) = selection.ok_or("no selection")?;
+    assert_eq!(rt; selector, 2);
+    assert!(rt; is_value(&parameter, &descriptor));
+    for end in [14, 31] {
+        let (_, selection) = read_get(rt.alloc(), &entries[..end])?;
+        let (selector, parameter) = selection.ok_or("no selection")?;
+        assert_eq!(rt; selector, 2);
+        assert!(rt; is_unreadable(&parameter), "the first {end} bytes");
+    }
+    assert!(rt; !is_read(rt.alloc(), &entries[..13])?);
+    Ok(())
+}
+
+#[test]
+fn reads_a_set(rt: HostRuntime) -> Result<(), Fail> {
+    let (head, selected, value) = read_set(rt.alloc(), &SET_ALARM)?;
+    let alarm = Head {
+        invoke: 0xC1,
+        class_id: 1,
+        name: LogicalName([0, 0, 0x60, 0x0B, 0, 0xFF]),
+        index: 2,
+    };
+    assert_eq!(rt; head, alarm);
+    assert!(rt; !selected);
+    assert!(rt; is_value(&value, &Data::Unsigned(1)));
+    let (selected, value) = set_alarm(rt.alloc(), &[0, 6, 1, 2, 3, 4])?;
+    assert!(rt; !selected);
+    assert!(rt; is_value(&value, &Data::DoubleLongUnsigned(0x0102_0304)));
+    Ok(())
+}
+
+#[test]
+fn reads_a_set_of_no_value(rt: HostRuntime) -> Result<(), Fail> {
+    let float = [0, 0x17, 0, 0, 0, 0];
+    let byte_behind = [0, 0x11, 1, 0];
+    for rest in [float.as_slice(), byte_behind.as_slice(), &[0]] {
+        let (selected, value) = set_alarm(rt.alloc(), rest)?;
+        assert!(rt; !selected);
+        assert!(rt; is_unreadable(&value), "{rest:?}");
+    }
+    let selection = [1, 2, 0, 0x11, 1];
+    for rest in [&selection[..1], &selection] {
+        let (selected, value) = set_alarm(rt.alloc(), rest)?;
+        assert!(rt; selected);
+        assert!(rt; is_absent(&value), "{rest:?}");
+    }
+    Ok(())
+}
+
+#[test]
+fn refuses_other_forms(rt: HostRuntime) -> Result<(), Fail> {
+    for end in 0..13 {
+        assert!(rt;
+            !is_read(rt.alloc(), &GET_REGISTER[..end])?,
+            "the first {end} bytes of a GET"
+        );
+        assert!(rt;
+            !is_read(rt.alloc(), &SET_ALARM[..end])?,
+            "the first {end} bytes of a SET"
+        );
+    }
+    let does_not_end = [0xC0, 1, 0xC1, 0, 3, 1, 0, 1, 8, 0, 0xFF, 2, 0, 0];
+    let no_selector = [0xC0, 1, 0xC1, 0, 3, 1, 0, 1, 8, 0, 0xFF, 2, 1];
+    let get_flag = [0xC0, 1, 0xC1, 0, 3, 1, 0, 1, 8, 0, 0xFF, 2, 2];
+    let set_flag = [
+        0xC1, 1, 0xC1, 0, 1, 0, 0, 0x60, 0x0B, 0, 0xFF, 2, 2, 0x11, 1,
+    ];
+    let next_block = [0xC0, 2, 0xC1, 0, 0, 0, 1];
+    let get_list = [0xC0, 3, 0xC1, 1, 0, 3, 1, 0, 1, 8, 0, 0xFF, 2, 0];
+    let action = [
+        0xC3, 1, 0xC1, 0, 9, 0, 0, 0x0A, 0, 0x64, 0xFF, 1, 1, 0x12, 0, 3,
+    ];
+    let reply = [0xC4, 1, 0xC1, 0, 9, 6, 1, 0, 1, 8, 0, 0xFF, 0, 0];
+    assert!(rt; !is_read(rt.alloc(), &does_not_end)?);
+    assert!(rt; !is_read(rt.alloc(), &no_selector)?);
+    assert!(rt; !is_read(rt.alloc(), &get_flag)?);
+    assert!(rt; !is_read(rt.alloc(), &set_flag)?);
+    assert!(rt; !is_read(rt.alloc(), &next_block)?);
+    assert!(rt; !is_read(rt.alloc(), &get_list)?);
+    assert!(rt; !is_read(rt.alloc(), &action)?);
+    assert!(rt; !is_read(rt.alloc(), &reply)?);
+    assert!(rt; is_read(rt.alloc(), &GET_REGISTER)?);
+    Ok(())
+}
+
+#[test]
+fn writes_a_value(rt: HostRuntime) -> Result<(), Fail> {
+    let energy = Reply::Value(Data::DoubleLongUnsigned(123_456));
+    let reply = write_reply(rt.alloc(), 0xC1, &energy, Service::Get)?;
+    assert_eq!(rt;
+        reply.as_slice(),
+        [0xC4, 1, 0xC1, 0, 6, 0, 1, 0xE2, 0x40].as_slice()
+    );
+    let name = Vec::from_slice(rt.alloc(), &[1, 0, 1, 8, 0, 0xFF])?;
+    let name = Reply::Value(Data::OctetString(Bytes::new(name)));
+    let reply = write_reply(rt.alloc(), 0xC1, &name, Service::Get)?;
+    assert_eq!(rt;
+        reply.as_slice(),
+        [0xC4, 1, 0xC1, 0, 9, 6, 1, 0, 1, 8, 0, 0xFF].as_slice()
+    );
+    Ok(())
+}
+
+#[test]
+fn writes_a_code(rt: HostRuntime) -> Result<(), Fail> {
+    let denied = Reply::Code(AccessCode::ReadWriteDenied);
+    let reply = write_reply(rt.alloc(), 0xC1, &denied, Service::Get)?;
+    assert_eq!(rt; reply.as_slice(), [0xC4, 1, 0xC1, 1, 3].as_slice());
+    let success = Reply::Code(AccessCode::Success);
+    let reply = write_reply(rt.alloc(), 0xC1, &success, Service::Set)?;
+    assert_eq!(rt; reply.as_slice(), [0xC5, 1, 0xC1, 0].as_slice());
+    let other = Reply::Code(AccessCode::OtherReason);
+    let reply = write_reply(rt.alloc(), 0x42, &other, Service::Act)?;
+    assert_eq!(rt; reply.as_slice(), [0xC7, 1, 0x42, 0xFA, 0].as_slice());
+    Ok(())
+}
