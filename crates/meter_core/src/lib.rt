@@ -3,4 +3,5 @@
 
 pub mod apply;
 pub mod reply;
+pub mod run;
 pub mod step;
