@@ -1,5 +1,5 @@
 -- What the shapes of fixed attributes stand on: interface classes and service access points are small.
-use Rattle.std.specs.Prelude.{◌≡◌, ℕ, zero, suc, ◌+◌, ◌<◌, ◌≤◌, nat_le, List, [], ◌∷◌, ◌++◌, map, filter, get_or, cond, take, length, Option, Some, slice_get, pos, Bool, true, false}
+use Rattle.std.specs.Prelude.{◌≡◌, ℕ, zero, suc, ◌+◌, ◌<◌, ◌≤◌, nat_le, List, [], ◌∷◌, ◌++◌, map, filter, get_or, cond, take, length, Some, slice_get, Bool, true, false}
 use Rattle.std.specs.List.{range_with_len}
 use Rattle.std.proofs.Common.{refl, sym, ap, ◌∙◌, append_assoc, arith, inl, inr}
 use Rattle.std.proofs.lemmas.Bool.{and_parts, leb-true}
@@ -50,9 +50,9 @@ pub listed_more : {X Y : Type 0} (f : X → Y) (test : X → Bool) (xs : List X)
     → after ≡ front ++ map f (filter test (take (i + 1) xs))
 listed_more f test xs i x front list after lt is before step =
     step
-      ∙ (ap (λ ys. ys ++ cond (test x) (f x ∷ []) []) before
-      ∙ (append_assoc front (map f (filter test (take i xs))) (cond (test x) (f x ∷ []) [])
-      ∙ ap (λ ys. front ++ ys)
-          (ap (λ ys. map f (filter test (take i xs)) ++ ys) (sym (map-cond f (test x) x))
-          ∙ (sym (map-append f (filter test (take i xs)) (cond (test x) (x ∷ []) []))
-          ∙ ap (map f) (sym (filter_more test xs i x lt ∙ ap (λ y. filter test (take i xs) ++ cond (test y) (y ∷ []) []) (sym is)))))))
+    ∙ (ap (λ ys. ys ++ cond (test x) (f x ∷ []) []) before
+    ∙ (append_assoc front (map f (filter test (take i xs))) (cond (test x) (f x ∷ []) [])
+    ∙ ap (λ ys. front ++ ys)
+    (ap (λ ys. map f (filter test (take i xs)) ++ ys) (sym (map-cond f (test x) x))
+    ∙ (sym (map-append f (filter test (take i xs)) (cond (test x) (x ∷ []) []))
+    ∙ ap (map f) (sym (filter_more test xs i x lt ∙ ap (λ y. filter test (take i xs) ++ cond (test y) (y ∷ []) []) (sym is)))))))

@@ -205,12 +205,7 @@ fn method_accesses(
     Ok(all)
 }
 
-fn attribute_access(
-    alloc: Global,
-    plan: &Plan,
-    client: u8,
-    cell: &CellRef,
-) -> Result<Data, Memory>
+fn attribute_access(alloc: Global, plan: &Plan, client: u8, cell: &CellRef) -> Result<Data, Memory>
     requires { cell.now.index < 128 }
     ensures { IfOk result (λ value. tree value ≡ shapes.attribute_access plan.now client cell.now) }
 {
@@ -236,12 +231,7 @@ fn access_mode(plan: &Plan, client: u8, cell: &CellRef) -> u8
     }
 }
 
-fn access_selectors(
-    alloc: Global,
-    plan: &Plan,
-    client: u8,
-    cell: &CellRef,
-) -> Result<Data, Memory>
+fn access_selectors(alloc: Global, plan: &Plan, client: u8, cell: &CellRef) -> Result<Data, Memory>
     ensures { IfOk result (λ value. tree value ≡ shapes.access_selectors plan.now client cell.now) }
 {
     if cell.class_id == 7 && cell.index == 2 && plan.may_read(client, cell) {
@@ -251,12 +241,7 @@ fn access_selectors(
     }
 }
 
-fn method_access(
-    alloc: Global,
-    plan: &Plan,
-    client: u8,
-    method: &MethodRef,
-) -> Result<Data, Memory>
+fn method_access(alloc: Global, plan: &Plan, client: u8, method: &MethodRef) -> Result<Data, Memory>
     requires { method.now.index < 128 }
     ensures { IfOk result (λ value. tree value ≡ shapes.method_access plan.now client (cell method.now.class_id method.now.name method.now.index)) }
 {

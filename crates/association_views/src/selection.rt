@@ -79,11 +79,19 @@ pub fn select(
 pub fn entries(alloc: Global, descriptor: &EntryDescriptor, buffer: &Data) -> Result<Data, Memory>
     ensures { IfOk result (λ left. tree left ≡ entries_of (descriptor_view descriptor.now) (tree buffer.now)) }
 {
-    let rows = places_between(descriptor.from_entry, descriptor.to_entry, elements_of(buffer));
+    let rows = places_between(
+        descriptor.from_entry,
+        descriptor.to_entry,
+        elements_of(buffer),
+    );
     Ok(Data::Array(Items::new(columns_of_all(alloc, descriptor, rows)?)))
 }
 
-fn columns_of_all(alloc: Global, descriptor: &EntryDescriptor, rows: &[Data]) -> Result<Vec<Data>, Memory>
+fn columns_of_all(
+    alloc: Global,
+    descriptor: &EntryDescriptor,
+    rows: &[Data],
+) -> Result<Vec<Data>, Memory>
     ensures { IfOk result (λ all. map tree all.items ≡ map (columns_of (descriptor_view descriptor.now)) (map tree rows.now)) }
 {
     let mut all = Vec::new(alloc);

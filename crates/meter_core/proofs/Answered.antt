@@ -1,6 +1,6 @@
 -- What the permits say of a reply and of the state after it.
-use Rattle.std.specs.Prelude.{◌≡◌, Bool, true, false, not, cond, ℕ, List, [], ◌∷◌, Option, Some, None, Result, Ok, Err}
-use Rattle.std.proofs.Common.{refl, sym, ap, subst, ◌∙◌, inl, inr}
+use Rattle.std.specs.Prelude.{◌≡◌, Bool, true, false, not, cond, ℕ, [], Option, Some, None, Ok, Err}
+use Rattle.std.proofs.Common.{refl, sym, ap, ◌∙◌, inl, inr}
 use Rattle.cosem_data.specs.Tree.{Tree}
 use Rattle.cosem_data.specs.declared.cell.CellRef.{CellRef}
 use Rattle.meter_theory.specs.declared.access.AccessCode.{AccessCode}
@@ -10,8 +10,8 @@ use Rattle.meter_theory.specs.State.{State}
 use Rattle.meter_theory.specs.Plan.{Plan, rule_of}
 use Rattle.meter_theory.specs.Value.{Rule}
 use Rattle.meter_theory.specs.Rights.{Argument, Given, Descriptor, Selection, cell_of, get_answer, set_answer, set_places, meets_rule}
-use Rattle.meter_theory.specs.Steps.{Step, Get, Set, effects, given_value, next}
-use Rattle.meter_theory.specs.Replies.{Reply, Value, Code, attribute, selected, reply_to}
+use Rattle.meter_theory.specs.Steps.{Get, Set, effects, given_value, next}
+use Rattle.meter_theory.specs.Replies.{Value, Code, attribute, selected, reply_to}
 use Rattle.meter_theory.specs.States.{MayStand}
 use Rattle.meter_theory.proofs.Rights.{place_passed}
 use Rattle.cosem_data.specs.declared.data.Data.{Data}
@@ -52,7 +52,7 @@ pub granted_get : (P : Plan) (s : State) (c : ℕ) (d : Descriptor) (selection :
     → v ≡ selected selection (attribute P s c (cell_of d)) → Value v ≡ reply_to P s (Get c d selection)
 granted_get P s c d selection v unit h is =
     ap Value is
-      ∙ ap (λ code. cond (is_success code) (Value (selected selection (attribute P s c (cell_of d)))) (Code code)) (sym (granted (get_answer P c d selection) unit h))
+    ∙ ap (λ code. cond (is_success code) (Value (selected selection (attribute P s c (cell_of d)))) (Code code)) (sym (granted (get_answer P c d selection) unit h))
 
 -- SET
 
@@ -85,9 +85,9 @@ stands P x v (Some rule) is h = (rule, is, h)
 pub granted_fits : (P : Plan) (c : ℕ) (d : Descriptor) (chosen : Bool) (v : Tree) (unit : Unit {0}) → Ok unit ≡ permitted (set_answer P c d chosen (Given v)) → MayStand P (cell_of d) v
 granted_fits P c d chosen v unit h =
     stands P (cell_of d) v (rule_of P (cell_of d)) refl
-      (not-false (meets_rule (rule_of P (cell_of d)) (Given v))
-        (place_passed (set_places P c d chosen (Given v)) (not (meets_rule (rule_of P (cell_of d)) (Given v)), codes.OtherReason)
-          (inr (inr (inr (inr (inr (inr (inl refl))))))) refl (ap is_success (granted (set_answer P c d chosen (Given v)) unit h))))
+    (not-false (meets_rule (rule_of P (cell_of d)) (Given v))
+    (place_passed (set_places P c d chosen (Given v)) (not (meets_rule (rule_of P (cell_of d)) (Given v)), codes.OtherReason)
+    (inr (inr (inr (inr (inr (inr (inl refl))))))) refl (ap is_success (granted (set_answer P c d chosen (Given v)) unit h))))
 
 -- nothing is put where no value was given
 pub nothing_given : (P : Plan) (s : State) (x : CellRef) (v : code.Argument) → ((value : Data) → v ≡ arguments.Value value → ⊥) → s ≡ effects P s (given_value x (argument_of v))

@@ -25,12 +25,7 @@ use object_model::plan::Plan;
 use std::alloc::Global;
 
 /// Takes one step, and answers it. The only error is that memory was refused, and then the meter is as it was.
-pub fn apply(
-    alloc: Global,
-    plan: &Plan,
-    meter: &mut Meter,
-    step: &Step,
-) -> Result<Reply, Memory>
+pub fn apply(alloc: Global, plan: &Plan, meter: &mut Meter, step: &Step) -> Result<Reply, Memory>
     requires { IsState plan.now meter.old }
     ensures state { IsState plan.now meter.new }
     ensures ok { OnOk result (meter.new ≡ next plan.now meter.old (step_of step.now)) }

@@ -1,4 +1,4 @@
-use Rattle.std.proofs.Common.{◌≡◌, ◌∙◌, ap, sym}
+use Rattle.std.proofs.Common.{◌∙◌, ap, sym}
 use Rattle.cosem_data.specs.View.{tree}
 use Rattle.cosem_data.specs.TreeCode.{parts-trees}
 use Rattle.meter_theory.specs.Value.{elements}

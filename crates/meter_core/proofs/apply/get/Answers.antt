@@ -21,7 +21,7 @@ pub returns : goal.returns
 returns c = granted_get c.args.plan.now c.args.meter.now c.args.client (named c.args.index) (selection_of c.args.selection.now) (tree c.in_ok-select.field-0) c.in_default.field-0
     (subst (λ i. Ok c.in_default.field-0 ≡ permitted (get_answer c.args.plan.now c.args.client (named i) (selection_of c.args.selection.now))) (to_z-of_z w8 c.args.index c.ranges.index) c.in_default.ensures)
     (c.in_ok-select.ensures ∙ ap (selected (selection_of c.args.selection.now)) (c.in_ok-value.ensures ∙ ap (attribute c.args.plan.now c.args.meter.now c.args.client)
-      (c.attribute_cell-cell.ensures ∙ ap (λ i. cell_of (named i)) (to_z-of_z w8 c.args.index c.ranges.index))))
+    (c.attribute_cell-cell.ensures ∙ ap (λ i. cell_of (named i)) (to_z-of_z w8 c.args.index c.ranges.index))))
   where
     named : ℤ → Descriptor
     named i = record { class_id = c.args.class_id; name = c.args.name.now; index = i }

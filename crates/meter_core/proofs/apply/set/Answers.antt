@@ -31,10 +31,10 @@ returns-in-Err-clause-reply c = refused_set c.args.plan.now c.args.meter.now c.a
 pub take-requires-clause-fits : goal.take-requires-clause-fits
 take-requires-clause-fits c =
     subst (λ x. MayStand c.args.plan.now x (tree c.in_ok-given.given)) (sym (c.attribute_cell-cell.ensures ∙ ap (λ i. cell_of (named i)) (to_z-of_z w8 c.args.index c.ranges.index)))
-      (subst (λ v. MayStand c.args.plan.now (cell_of (named c.args.index)) (tree v)) (sym c.in_ok-given.ensures)
-        (granted_fits c.args.plan.now c.args.client (named c.args.index) c.args.selected (tree c.in-Value.value) c.in_default.field-0
-          (subst (λ v. Ok c.in_default.field-0 ≡ permitted (set_answer c.args.plan.now c.args.client (named c.args.index) c.args.selected (argument_of v))) c.in-Value.is
-            (subst (λ i. Ok c.in_default.field-0 ≡ permitted (set_answer c.args.plan.now c.args.client (named i) c.args.selected (argument_of c.args.value.now))) (to_z-of_z w8 c.args.index c.ranges.index) c.in_default.ensures))))
+    (subst (λ v. MayStand c.args.plan.now (cell_of (named c.args.index)) (tree v)) (sym c.in_ok-given.ensures)
+    (granted_fits c.args.plan.now c.args.client (named c.args.index) c.args.selected (tree c.in-Value.value) c.in_default.field-0
+    (subst (λ v. Ok c.in_default.field-0 ≡ permitted (set_answer c.args.plan.now c.args.client (named c.args.index) c.args.selected (argument_of v))) c.in-Value.is
+    (subst (λ i. Ok c.in_default.field-0 ≡ permitted (set_answer c.args.plan.now c.args.client (named i) c.args.selected (argument_of c.args.value.now))) (to_z-of_z w8 c.args.index c.ranges.index) c.in_default.ensures))))
   where
     named : ℤ → Descriptor
     named i = record { class_id = c.args.class_id; name = c.args.name.now; index = i }
@@ -49,13 +49,14 @@ returns-clause-reply c = granted_set c.args.plan.now c.args.meter.now c.args.cli
 pub returns-clause-ok : goal.returns-clause-ok
 returns-clause-ok c =
     (elim c.match-value.branch [
-        in-Value+in_ok-given+in_ok-take w ↦ w.meter-is ∙ (w.in_ok-take.ensures.ok
+      | in-Value+in_ok-given+in_ok-take w ↦ w.meter-is ∙ (w.in_ok-take.ensures.ok
           ∙ (ap (λ x. put c.args.meter.now x (tree w.in_ok-given.given)) (w.attribute_cell-cell.ensures ∙ ap (λ i. cell_of (named i)) (to_z-of_z w8 c.args.index c.ranges.index))
           ∙ (ap (λ v. put c.args.meter.now (cell_of (named c.args.index)) (tree v)) w.in_ok-given.ensures
           ∙ ap (λ v. effects c.args.plan.now c.args.meter.now (given_value (cell_of (named c.args.index)) (argument_of v))) (sym w.in-Value.is))))
-      | in_default-value w ↦ w.meter-is ∙ nothing_given c.args.plan.now c.args.meter.now (cell_of (named c.args.index)) c.args.value.now w.in_default-value.not-Value ])
+      | in_default-value w ↦ w.meter-is ∙ nothing_given c.args.plan.now c.args.meter.now (cell_of (named c.args.index)) c.args.value.now w.in_default-value.not-Value
+    ])
     ∙ granted_set_puts c.args.plan.now c.args.meter.now c.args.client (named c.args.index) c.args.selected (argument_of c.args.value.now) c.in_default.field-0
-      (subst (λ i. Ok c.in_default.field-0 ≡ permitted (set_answer c.args.plan.now c.args.client (named i) c.args.selected (argument_of c.args.value.now))) (to_z-of_z w8 c.args.index c.ranges.index) c.in_default.ensures)
+    (subst (λ i. Ok c.in_default.field-0 ≡ permitted (set_answer c.args.plan.now c.args.client (named i) c.args.selected (argument_of c.args.value.now))) (to_z-of_z w8 c.args.index c.ranges.index) c.in_default.ensures)
   where
     named : ℤ → Descriptor
     named i = record { class_id = c.args.class_id; name = c.args.name.now; index = i }
@@ -63,4 +64,4 @@ returns-clause-ok c =
 pub returns-clause-state : goal.returns-clause-state
 returns-clause-state c = subst (IsState c.args.plan.now) (sym (returns-clause-ok c))
     (step-keeps c.args.plan.now c.known.ensures c.args.meter.now
-      (Set c.args.client (record { class_id = c.args.class_id; name = c.args.name.now; index = c.args.index }) c.args.selected (argument_of c.args.value.now)) c.requires)
+    (Set c.args.client (record { class_id = c.args.class_id; name = c.args.name.now; index = c.args.index }) c.args.selected (argument_of c.args.value.now)) c.requires)
