@@ -9,7 +9,8 @@ use Rattle.cosem_class.specs.declared.class.ClassFault.TheVariants as faults
 use Rattle.meter_theory.specs.declared.access.AccessCode.{AccessCode}
 use Rattle.meter_theory.specs.declared.access.AccessCode.TheVariants as codes
 
--- Another tag is a fault of the kind, and the right tag with anything else against the rule is one of the rule.
+-- Another tag is a fault of the kind, and the right tag with anything else against the rule is one of the rule (own
+-- profile).
 abbrev pub judged : Rule → Tree → Option ClassFault
 judged rule value =
     if right_tag rule value then (if meets rule value then None else Some faults.Rule) else Some faults.Kind
@@ -73,6 +74,7 @@ abbrev pub coded_answer : Result (Unit {0}) ClassFault → Result (Unit {0}) Acc
 coded_answer (Ok unit) = Ok tt
 coded_answer (Err fault) = Err (access_of fault)
 
+-- a value that is judged has the code of its rule
 pub coded_answer-judged : (rule : Rule) (value : Tree) → coded_answer (answer_of (judged rule value)) ≡ rule_answer (Some rule) value
 coded_answer-judged rule value = at (right_tag rule value) (meets rule value)
   where

@@ -46,6 +46,7 @@ cells_after touched new_value cells index = if touched index then new_value cell
 abbrev pub put_at : ℕ → Tree → Cells → Cells
 put_at index value cells i = if i == index then Some value else cells i
 
+-- no cell at any index
 abbrev pub no_cells : Cells
 no_cells i = None
 

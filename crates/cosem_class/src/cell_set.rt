@@ -3,7 +3,7 @@ ghost use Rattle.cosem_class.specs.CellSets.{has};
 
 use std::marker::Model;
 
-/// A set of attribute indexes from 0 to 15. It takes no memory.
+/// A set of attribute indexes from 0 to 15, as large as any class here needs (own profile). It takes no memory.
 #[derive(Clone, Copy, Debug, PartialEq, Eq)]
 pub struct CellSet {
     mask: u16,
@@ -29,7 +29,7 @@ impl CellSet {
         CellSet { mask: 0 }
     }
 
-    /// The set with one more member.
+    /// The set with one more member, an index below 16.
     pub fn with(self, cell: u8) -> CellSet
         requires { cell < 16 }
         ensures { (i : ℕ) → has result i ≡ (i == cell || has self i) }

@@ -28,20 +28,21 @@ pub enum Op {
     Remember,
 }
 
-/// Why a class refuses an operation. The object is then unchanged.
+/// Why a class refuses a reading or an operation. The object is then unchanged. `AccessCode::from` tells the result of
+/// the service (IEC 62056-5-3, Data-Access-Result).
 #[derive(Clone, Copy, Debug, PartialEq, Eq)]
 pub enum ClassFault {
     /// The class has no such attribute or method, or the attribute has no value.
     NoIndex,
     /// The attribute is fixed.
     NotSettable,
-    /// The value has another tag than the cell asks for.
+    /// The value has another tag than the cell asks for: type-unmatched.
     Kind,
-    /// The value has the right tag and is otherwise against the cell's rule.
+    /// The value has the right tag and is otherwise against the cell's rule: other-reason (own profile).
     Rule,
-    /// No script has this number.
+    /// No script has this number: other-reason (own profile).
     UnknownScript,
-    /// Memory was refused.
+    /// Memory was refused: temporary-failure (own profile).
     Memory,
 }
 
@@ -86,13 +87,13 @@ pub trait InterfaceClass {
     /// class_id of IEC 62056-6-2.
     const CLASS_ID: u16;
 
-    /// The version of the class.
+    /// The version of the class (IEC 62056-6-2).
     const VERSION: u8;
 
-    /// The highest attribute.
+    /// The highest attribute index. Attribute 1 is logical_name.
     const ATTRIBUTES: u8;
 
-    /// The highest method.
+    /// The highest method index, 0 for a class without methods.
     const METHODS: u8;
 
     // What no operation changes.
@@ -124,11 +125,13 @@ pub trait InterfaceClass {
 
     ghost row_cells: { Op → ℕ → Bool };
 
-    /// The value of an attribute, a copy.
+    /// The value of an attribute, a copy, as the service GET gives it. `NoIndex` where the attribute is none of the class or
+    /// has no value, `Memory` where the copy gets none.
     fn read(&self, alloc: Global, index: u8) -> Result<Data, ClassFault>
         ensures { AnswersAs result (reading (fixed self.now) index (cells self.now index)) };
 
-    /// Sets the value of an attribute. It takes no memory.
+    /// Sets the value of an attribute, as the service SET does. `NoIndex` and `NotSettable` tell of the index, `Kind` and
+    /// `Rule` of the value. It takes no memory.
     fn write(&mut self, index: u8, value: Data) -> Result<(), ClassFault>
         ensures refused { RefusedAs result (refusal (fixed self.old) (ops.Write index) (tree value)) }
         ensures fixed { fixed self.new ≡ fixed self.old }
@@ -136,7 +139,8 @@ pub trait InterfaceClass {
         ensures err { OnErr result (self.new ≡ self.old) }
         ensures no_memory { result ≡ Err ClassFault.Memory → ⊥ };
 
-    /// Calls a method. A capture is given its row.
+    /// Calls a method, as the service ACTION does. A capture is given its row, and no other method looks at it. `NoIndex`
+    /// where the class has no such method, `Memory` where a new value gets none.
     fn invoke(&mut self, alloc: Global, method: u8, argument: &Data, row: Row) -> Result<(), ClassFault>
         requires { IsRow (fixed self.old) (ops.Invoke method) row }
         ensures refused { RefusedAs result (refusal (fixed self.old) (ops.Invoke method) (tree argument.now)) }

@@ -15,9 +15,13 @@ use std::alloc::Global;
 /// An object of class 1, Data: a value whose kind is kept (IEC 62056-6-2, Data, version 0).
 #[derive(Drop)]
 pub struct Data1 {
+    /// Attribute 1, logical_name, which is fixed.
     pub name: LogicalName,
+    /// The kind of the value, which no write changes (own profile).
     pub kind: Kind,
+    /// Attribute 2, value, the one cell.
     pub value: Data,
+    // The value is of the kind, within the limits of a cell.
     pub ghost fits: { meets (OfKind kind) (tree value) ≡ true },
 }
 

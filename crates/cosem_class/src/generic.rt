@@ -7,7 +7,8 @@ ghost use Rattle.cosem_class.specs.declared.class.Op.TheVariants as ops;
 use crate::class::{ClassFault, InterfaceClass};
 use cosem_data::data::Data;
 
-/// Puts a value that the class does not refuse into an attribute. It takes no memory.
+/// Puts a value that the class does not refuse into an attribute, and changes nothing else. It takes no memory, and there
+/// is no error.
 pub fn put_into<C: InterfaceClass>(object: &mut C, index: u8, value: Data) -> Result<(), ClassFault>
     requires { C.refusal (C.fixed object.old) (ops.Write index) (tree value) ≡ None }
     ensures succeeds { IsOk result }

@@ -8,21 +8,22 @@ use cosem_axdr::limits::is_encoded_within;
 use cosem_data::data::Data;
 use cosem_data::kind::Kind;
 
-/// The most bytes of an encoded value that a cell may hold (own profile).
+/// The most bytes that a value in a cell may take when encoded, its tag included (own profile).
 pub const MOST_BYTES: usize = 1024;
 
 /// How deep a value that a cell may hold is nested at most (own profile).
 pub const MOST_LEVELS: u8 = 14;
 
-/// Whether a value keeps within the limits of a cell. It takes no memory.
+/// Whether a value keeps within the limits of a cell: `MOST_BYTES` when encoded, `MOST_LEVELS` of nesting (own profile).
+/// It takes no memory.
 pub fn keeps_limits(value: &Data) -> bool
     ensures { result ≡ is_within_limits (tree value.now) }
 {
     is_encoded_within(value, MOST_BYTES) && value.is_nested_within(MOST_LEVELS)
 }
 
-/// Whether a value may stand in a cell whose kind is kept. Another tag is `Kind`, a value past the limits `Rule`. It
-/// takes no memory.
+/// Whether a value may stand in a cell whose kind is kept (own profile). Another tag is `Kind`, and the right tag past the
+/// limits `Rule`. It takes no memory.
 pub fn judge_kind(kind: Kind, value: &Data) -> Result<(), ClassFault>
     ensures { result ≡ answer_of (judged (OfKind kind) (tree value.now)) }
 {

@@ -16,13 +16,14 @@ use cosem_data::name::LogicalName;
 use meter_theory::refs::ScalerUnit;
 use std::alloc::Global;
 
-/// What a plan fixes of a register, and the start of its value.
+/// What a plan fixes of a register, and the start of its value (IEC 62056-6-2, Register).
 #[derive(Drop)]
 pub struct RegisterPart {
     /// The start value, a number, whose kind is kept.
     pub start: Data,
     /// What a reset puts.
     pub default: Data,
+    /// Attribute 3, scaler_unit, which is fixed.
     pub scaler_unit: ScalerUnit,
 }
 
@@ -30,10 +31,15 @@ pub struct RegisterPart {
 /// version 0).
 #[derive(Drop)]
 pub struct Register<'a> {
+    /// Attribute 1, logical_name, which is fixed.
     pub name: LogicalName,
+    /// What the plan fixes.
     pub part: &'a RegisterPart,
+    /// Attribute 2, value, the one cell: a number in the scale and unit of the part.
     pub value: Data,
+    // The default is of the kind of the start, within the limits of a cell.
     pub ghost default_fits: { meets (OfKind (kind_of (tree part.now.start))) (tree part.now.default) ≡ true },
+    // So is the value.
     pub ghost fits: { meets (OfKind (kind_of (tree part.now.start))) (tree value) ≡ true },
 }
 

@@ -1,5 +1,5 @@
 -- What a put leaves, in an object and in a state.
-use Rattle.std.proofs.Common.{◌≡◌, ◌==◌, ℕ, ◌≤◌, ◌<◌, ◌+◌, suc, cond, Bool, true, false, List, [], ◌∷◌, length, refl, sym, ap, subst, ◌∙◌, Option, Some, None, option_and_then, arith, eqb-true}
+use Rattle.std.proofs.Common.{◌≡◌, ◌==◌, ℕ, ◌<◌, ◌+◌, suc, cond, Bool, true, false, List, [], ◌∷◌, length, refl, sym, ap, subst, ◌∙◌, Some, None, option_and_then, arith, eqb-true}
 use Rattle.std.specs.List.{position_from}
 use Rattle.std.specs.Prelude.{◌&&◌}
 use Rattle.std.proofs.lemmas.Bool.{and_parts}
@@ -7,10 +7,9 @@ use Rattle.cosem_data.specs.Tree.{Tree}
 use Rattle.cosem_data.specs.View.{tree}
 use Rattle.cosem_data.specs.Kinds.{kind_of}
 use Rattle.cosem_data.specs.declared.cell.CellRef.{CellRef}
-use Rattle.cosem_data.specs.declared.name.LogicalName.{LogicalName}
 use Rattle.cosem_class.specs.Objects.{Cells, put_at}
 use Rattle.meter_theory.specs.Lists.{IsIn}
-use Rattle.meter_theory.specs.Value.{Rule, OfKind, right_tag, right_elements, is_within_limits, meets, elements}
+use Rattle.meter_theory.specs.Value.{OfKind, right_tag, right_elements, is_within_limits, meets, elements}
 use Rattle.meter_theory.specs.State.{State, keys, value}
 use Rattle.meter_theory.specs.Plan as theory
 use Rattle.meter_theory.specs.Plan.{object_at, class_of, rule_in, rule_of, cells}

@@ -4,7 +4,7 @@ ghost use Rattle.std.specs.String.{string_bytes};
 use std::marker::Model;
 
 /// A client of the meter: its name in configurations and step lines, its service access point (IEC 62056-4-7, source
-/// wPort) and the password of low level security, if it has one.
+/// wPort) and the password of low level security, if it has one (IEC 62056-5-3, authentication).
 #[derive(Drop)]
 pub struct Client {
     name: String,
@@ -26,7 +26,7 @@ impl Model for Client {
 }
 
 impl Client {
-    /// A client with this name, service access point and password.
+    /// A client with this name, service access point and password. It takes no memory.
     pub fn new(name: String, sap: u8, password: Option<String>) -> Self
         ensures { result ≡ record { name = string_bytes name; sap = sap; password = option_map string_bytes password } }
     {
@@ -37,21 +37,22 @@ impl Client {
         }
     }
 
-    /// The bytes of its name.
+    /// The bytes of its name, by which configurations and step lines call it (own profile).
     pub fn name(&self) -> &[u8]
         ensures { result.now ≡ self.now.name }
     {
         self.name.as_bytes()
     }
 
-    /// Its service access point, 1 to 127.
+    /// Its service access point (IEC 62056-4-7, source wPort).
     pub fn sap(&self) -> u8
         ensures { result ≡ self.now.sap }
     {
         self.sap
     }
 
-    /// The bytes of its password.
+    /// The bytes of its password, or None for a client without one: low level security asks for it, lowest level does not
+    /// (IEC 62056-5-3, authentication).
     pub fn password(&self) -> Option<&[u8]>
         ensures { option_map (λ p. p.now) result ≡ self.now.password }
     {

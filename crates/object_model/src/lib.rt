@@ -9,3 +9,5 @@ pub mod object;
 pub mod plan;
 pub mod right;
 pub mod rights;
+#[cfg(test)]
+mod tests;

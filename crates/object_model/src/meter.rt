@@ -17,7 +17,7 @@ use std::alloc::Global;
 use std::marker::Model;
 use std::mem;
 
-/// A value for each cell of a plan. Contracts see a finite map, in plan order.
+/// A value for each cell of a plan: for each attribute that can change. Contracts see a finite map, in plan order.
 #[derive(Drop)]
 pub struct Meter {
     pairs: Vec<(CellRef, Data)>,
@@ -52,7 +52,8 @@ impl Meter {
         Ok(cells_of(alloc, &self.pairs)?)
     }
 
-    /// A copy of the value in a cell of its plan; null-data where the plan has no such cell.
+    /// A copy of the value in a cell of its plan; null-data where the plan has no such cell. The error is that memory was
+    /// refused.
     pub fn value(&self, alloc: Global, _plan: &Plan, cell: &CellRef) -> Result<Data, Memory>
         requires { IsState _plan.now self.now }
         ensures { IfOk result (λ v. tree v ≡ value self.now cell.now) }
@@ -73,7 +74,7 @@ impl Meter {
         Ok(())
     }
 
-    /// A copy, which equals the original.
+    /// A copy, which equals the original. The error is that memory was refused.
     pub fn try_clone(&self, alloc: Global) -> Result<Meter, Memory>
         ensures { IfOk result (λ copy. copy ≡ self.now) }
     {

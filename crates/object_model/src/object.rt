@@ -28,17 +28,18 @@ use meter_theory::refs::Interface;
 use std::alloc::Global;
 use std::marker::Model;
 
-/// What a plan fixes of an object, by its class, and the start values of its cells.
+/// What a plan fixes of an object, by its class, and the start values of its cells: the attributes that can change
+/// (IEC 62056-6-2, interface classes).
 #[derive(Drop)]
 pub enum Part {
-    /// Class 1, Data.
+    /// Class 1, Data: the start of its value, whose kind is kept (own profile).
     Data { start: Data },
-    /// Class 3, Register.
+    /// Class 3, Register: the start of its value, what a reset puts, and scaler and unit.
     Register(RegisterPart),
 }
 
 impl Part {
-    /// Its interface class.
+    /// Its interface class, with the highest attribute and method (IEC 62056-6-2). It takes no memory.
     pub fn interface(&self) -> Interface
         ensures { result ≡ interface_of (part_of self.now) }
     {
@@ -58,7 +59,7 @@ impl Part {
         }
     }
 
-    /// The class_id of its interface class.
+    /// The class_id of its interface class (IEC 62056-6-2). It takes no memory.
     pub fn class_id(&self) -> u16
         ensures { result ≡ class_of (part_of self.now) }
     {
@@ -68,7 +69,8 @@ impl Part {
         }
     }
 
-    /// A copy of a fixed attribute other than the logical name, null-data at any other index.
+    /// A copy of a fixed attribute other than the logical name, null-data at any other index: of a register attribute 3,
+    /// scaler_unit (IEC 62056-6-2, Register). The error is that memory was refused.
     #[tactic(auto, unfolding(meter_theory::specs::Fixed::fixed_in))]
     pub fn fixed(&self, alloc: Global, index: u8) -> Result<Data, Memory>
         ensures { IfOk result (λ value. tree value ≡ fixed_in (part_of self.now) index) }
@@ -79,7 +81,7 @@ impl Part {
         }
     }
 
-    /// Whether it is a cell of an object with this part and name.
+    /// Whether it is a cell of an object with this part and name: its attribute 2, value. It takes no memory.
     pub fn has_cell(&self, name: LogicalName, cell: &CellRef) -> bool
         ensures { result ≡ list_any (same_cell cell.now) (keys (start_of name (part_of self.now))) }
     {
@@ -89,7 +91,8 @@ impl Part {
         }
     }
 
-    /// Adds the cells of an object with this part and name, with their start values.
+    /// Adds the cells of an object with this part and name, with their start values, behind the pairs. The error is that
+    /// memory was refused.
     pub fn push_start(
         &self,
         alloc: Global,
@@ -107,7 +110,8 @@ impl Part {
     }
 
     /// Whether a value may be put at this index: `TypeUnmatched` for another tag and for an index without a settable
-    /// cell, `OtherReason` for the right tag against the rest of the cell's rule. It takes no memory.
+    /// cell, `OtherReason` for the right tag against the rest of the cell's rule (own profile; the codes are those of
+    /// IEC 62056-5-3, Data-Access-Result). It takes no memory.
     pub fn judge(&self, index: u8, value: &Data) -> Result<(), AccessCode>
         ensures { (P : theory.Plan) → result ≡ rule_answer (rule_in P (part_of self.now) index) (tree value.now) }
     {
@@ -162,13 +166,7 @@ fn put_data(name: LogicalName, start: &Data, index: u8, held: Data, given: Data)
     value
 }
 
-fn put_register(
-    name: LogicalName,
-    part: &RegisterPart,
-    index: u8,
-    held: Data,
-    given: Data,
-) -> Data
+fn put_register(name: LogicalName, part: &RegisterPart, index: u8, held: Data, given: Data) -> Data
     requires index { index ≡ 2 }
     requires holds { meets (OfKind (kind_of (tree part.now.start))) (tree held) ≡ true }
     requires fits { meets (OfKind (kind_of (tree part.now.start))) (tree given) ≡ true }
@@ -185,7 +183,8 @@ fn put_register(
     value
 }
 
-/// An object of a plan.
+/// An object of a plan: its logical name, whether inputs from outside go to its value, and what is fixed of it
+/// (IEC 62056-6-2, COSEM interface objects; fed is own profile).
 #[derive(Drop)]
 pub struct Object {
     name: LogicalName,
@@ -207,21 +206,21 @@ impl Model for Object {
 }
 
 impl Object {
-    /// An object with this name. Inputs from outside go to the value of a fed one.
+    /// An object with this name and part. Inputs from outside go to the value of a fed one. It takes no memory.
     pub fn new(name: LogicalName, fed: bool, part: Part) -> Self
         ensures { result ≡ record { name = name; fed = fed; part = part_of part } }
     {
         Object { name, fed, part }
     }
 
-    /// Its logical name.
+    /// Its logical name, attribute 1 (IEC 62056-6-2).
     pub fn name(&self) -> LogicalName
         ensures { result ≡ self.now.name }
     {
         self.name
     }
 
-    /// Whether inputs from outside go to its value.
+    /// Whether inputs from outside go to its value (own profile).
     pub fn is_fed(&self) -> bool
         ensures { result ≡ self.now.fed }
     {

@@ -30,8 +30,11 @@ pub const ASSOCIATION: LogicalName = LogicalName([0, 0, 40, 0, 0, 255]);
 /// The lists that make a plan.
 #[derive(Drop)]
 pub struct PlanParts {
+    /// The clients: a client is named by its place here, from 0.
     pub clients: Vec<Client>,
+    /// The objects, in plan order.
     pub objects: Vec<Object>,
+    /// The rights: a client may have several on one object, and none.
     pub rights: Vec<Right>,
 }
 
@@ -58,7 +61,8 @@ impl Model for Plan {
 }
 
 impl Plan {
-    /// The plan of these parts, which have none of the faults of a configuration.
+    /// The plan of these parts, which have none of the faults of a configuration (own profile). It takes no memory, and
+    /// gives no error yet.
     pub fn new(parts: PlanParts) -> Result<Plan, Memory>
         requires { IsSound (plan_of parts) }
         ensures { IfOk result (λ plan. plan ≡ plan_of parts) }
@@ -82,21 +86,21 @@ impl Plan {
         let _clients = &self.clients;
     }
 
-    /// The client at this place, or None past the last. It takes no memory.
+    /// The client at this place, counted from 0, or None past the last. It takes no memory.
     pub fn client(&self, client: u8) -> Option<&Client>
         ensures { option_map (λ c. c.now) result ≡ slice_get self.now.clients client }
     {
         self.clients.get(usize::from(client))
     }
 
-    /// The object at this place in plan order, or None past the last. It takes no memory.
+    /// The object at this place in plan order, counted from 0, or None past the last. It takes no memory.
     pub fn object(&self, object: u16) -> Option<&Object>
         ensures { option_map (λ o. o.now) result ≡ slice_get self.now.objects object }
     {
         self.objects.get(usize::from(object))
     }
 
-    /// The place of the client with this name. It takes no memory.
+    /// The place of the first client with this name, or None where there is none. It takes no memory.
     pub fn client_named(&self, name: &[u8]) -> Option<u8>
         ensures { result ≡ client_named self.now name.now }
     {
@@ -104,28 +108,29 @@ impl Plan {
         Some(place as u8)
     }
 
-    /// The object with this name. It takes no memory.
+    /// The object with this logical name, or None where there is none. It takes no memory.
     pub fn object_at(&self, name: &LogicalName) -> Option<&Object>
         ensures { option_map (λ o. o.now) result ≡ object_at self.now name.now }
     {
         self.objects.iter().find(|object| object.name() == *name)
     }
 
-    /// The objects, in plan order.
+    /// The objects, in plan order. It takes no memory.
     pub fn objects(&self) -> &[Object]
         ensures { result.now ≡ self.now.objects }
     {
         &self.objects
     }
 
-    /// The rights.
+    /// The rights, in the order of the configuration. It takes no memory.
     pub fn rights(&self) -> &[Right]
         ensures { result.now ≡ self.now.rights }
     {
         &self.rights
     }
 
-    /// The interface class of what stands at this name: the current association, or an object. It takes no memory.
+    /// The interface class of what stands at this name: the current association (IEC 62056-6-2, Association LN, version 0),
+    /// or an object; None where nothing stands. It takes no memory.
     pub fn interface_at(&self, name: &LogicalName) -> Option<Interface>
         ensures { result ≡ interface_at self.now name.now }
     {
@@ -141,7 +146,8 @@ impl Plan {
     }
 
     /// Whether the value may be put into the cell: `TypeUnmatched` for another tag and where no settable cell is,
-    /// `OtherReason` for the right tag against the rest of the cell's rule. It takes no memory.
+    /// `OtherReason` for the right tag against the rest of the cell's rule (own profile; the codes are those of
+    /// IEC 62056-5-3, Data-Access-Result). It takes no memory.
     pub fn rule(&self, cell: &CellRef, value: &Data) -> Result<(), AccessCode>
         ensures { result ≡ rule_answer (rule_of self.now cell.now) (tree value.now) }
     {
@@ -155,7 +161,8 @@ impl Plan {
         part.judge(cell.index, value)
     }
 
-    /// A copy of a fixed attribute of an object, other than its logical name; null-data where there is none.
+    /// A copy of a fixed attribute of an object, other than its logical name; null-data where there is none. The class of the
+    /// cell is not looked at. The error is that memory was refused.
     pub fn fixed(&self, alloc: Global, cell: &CellRef) -> Result<Data, Memory>
         ensures { IfOk result (λ value. tree value ≡ fixed_of (object_at self.now cell.now.name) cell.now.index) }
     {
@@ -165,14 +172,14 @@ impl Plan {
         }
     }
 
-    /// A meter of this plan, with the start values.
+    /// A meter of this plan, with the start values. The error is that memory was refused.
     pub fn start(&self, alloc: Global) -> Result<Meter, Memory>
         ensures { IfOk result (λ meter. meter ≡ start self.now) }
     {
         Ok(Meter::new(start_pairs(alloc, &self.objects)?))
     }
 
-    /// The cells, in plan order.
+    /// The cells, the attributes that can change, in plan order. The error is that memory was refused.
     pub fn cells(&self, alloc: Global) -> Result<Vec<CellRef>, Memory>
         ensures { IfOk result (λ list. list.items ≡ cells self.now) }
     {

@@ -28,14 +28,9 @@ impl Model for Right {
 }
 
 impl Right {
-    /// A right of the client at this place on the object with this name.
-    pub fn new(
-        client: u8,
-        object: LogicalName,
-        gets: Vec<u8>,
-        sets: Vec<u8>,
-        acts: Vec<u8>,
-    ) -> Self
+    /// A right of the client at this place, counted from 0, on the object with this name: the attributes of `gets` may be
+    /// read, those of `sets` written, and the methods of `acts` called. It takes no memory.
+    pub fn new(client: u8, object: LogicalName, gets: Vec<u8>, sets: Vec<u8>, acts: Vec<u8>) -> Self
         ensures { result ≡ record { client = client; object = object; gets = gets.items; sets = sets.items; acts = acts.items } }
     {
         Right {
@@ -47,28 +42,28 @@ impl Right {
         }
     }
 
-    /// Whether it is a right of this client on this object.
+    /// Whether it is a right of this client on this object. It takes no memory.
     pub fn is_for(&self, client: u8, object: &LogicalName) -> bool
         ensures { result ≡ ((self.now.client == client) && same_name self.now.object object.now) }
     {
         self.client == client && self.object == *object
     }
 
-    /// Whether it allows a GET of this attribute.
+    /// Whether it allows a GET of this attribute (IEC 62056-6-2, access mode read_only). It takes no memory.
     pub fn may_get(&self, index: u8) -> bool
         ensures { result ≡ lists self.now.gets index }
     {
         self.gets.iter().any(|i| *i == index)
     }
 
-    /// Whether it allows a SET of this attribute.
+    /// Whether it allows a SET of this attribute (IEC 62056-6-2, access mode write_only). It takes no memory.
     pub fn may_set(&self, index: u8) -> bool
         ensures { result ≡ lists self.now.sets index }
     {
         self.sets.iter().any(|i| *i == index)
     }
 
-    /// Whether it allows an ACTION of this method.
+    /// Whether it allows an ACTION of this method (IEC 62056-6-2, method access modes). It takes no memory.
     pub fn may_act(&self, index: u8) -> bool
         ensures { result ≡ lists self.now.acts index }
     {

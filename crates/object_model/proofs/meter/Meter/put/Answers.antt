@@ -1,10 +1,10 @@
-use Rattle.std.proofs.Common.{◌≡◌, ◌∙◌, ap, subst, sym}
+use Rattle.std.proofs.Common.{◌∙◌, ap, subst, sym}
 use Rattle.cosem_data.specs.Tree.{null_data}
 use Rattle.cosem_data.specs.View.{tree}
 use Rattle.meter_theory.specs.State.{put}
 use Rattle.meter_theory.proofs.State.{put-twice}
 use Rattle.object_model.specs.PartView.{MayReplace}
-use Rattle.object_model.proofs.Puts.{put-may-replace, no-object}
+use Rattle.object_model.proofs.Puts.{put-may-replace}
 use Rattle.object_model.proofs.meter.Meter.put.Goals as goal
 
 pub put-value-requires : goal.put-value-requires

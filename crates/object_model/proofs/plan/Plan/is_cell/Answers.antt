@@ -1,4 +1,4 @@
-use Rattle.std.proofs.Common.{◌≡◌, ◌∙◌, ap}
+use Rattle.std.proofs.Common.{◌∙◌, ap}
 use Rattle.meter_theory.specs.Plan.{is_cell}
 use Rattle.object_model.proofs.Cells.{cells-by-object}
 use Rattle.object_model.proofs.plan.Plan.is_cell.Goals as goal

@@ -1,0 +1,3 @@
+pub mod Replying
+pub mod Hearing
+pub mod Exact

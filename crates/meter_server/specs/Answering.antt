@@ -1,0 +1,92 @@
+-- What the meter replies to an APDU, and what it becomes.
+use Rattle.std.specs.Prelude.{ℕ, List, [], ◌∷◌, Option, Some, None, option_map}
+use Rattle.std.specs.List.{filter_map}
+use Rattle.cosem_axdr.specs.Canonical.{canonical}
+use Rattle.meter_theory.specs.Access.{code_of}
+use Rattle.meter_theory.specs.Plan.{Plan}
+use Rattle.meter_theory.specs.State.{State}
+use Rattle.meter_theory.specs.Steps as steps
+use Rattle.meter_theory.specs.Steps.{Step, next}
+use Rattle.meter_theory.specs.Replies.{Reply, Value, Code, reply_to}
+use Rattle.object_model.specs.ArgumentView.{argument_of}
+use Rattle.meter_core.specs.StepView.{selection_of}
+use Rattle.xdlms_services.specs.declared.request.Request.{Request}
+use Rattle.xdlms_services.specs.declared.request.Request.TheVariants as requests
+use Rattle.xdlms_services.specs.declared.writing.Service.{Service}
+use Rattle.xdlms_services.specs.declared.writing.Service.TheVariants as services
+use Rattle.xdlms_services.specs.Reading.{request_at}
+use Rattle.meter_server.specs.declared.answering.Ask.{Ask}
+
+-- the service that a request asks for (IEC 62056-5-3, GET and SET)
+abbrev pub service_of : Request → Service
+service_of (requests.Get invoke class_id name index selection) = services.Get
+service_of (requests.Set invoke class_id name index selected value) = services.Set
+
+-- the Invoke-Id-And-Priority of a request, which its reply brings back (IEC 62056-5-3)
+abbrev pub invoke_of : Request → ℕ
+invoke_of (requests.Get invoke class_id name index selection) = invoke
+invoke_of (requests.Set invoke class_id name index selected value) = invoke
+
+-- the step of the meter that a client's request is (IEC 62056-5-3, GET and SET)
+abbrev pub step_of_request : ℕ → Request → Step
+step_of_request client (requests.Get invoke class_id name index selection) =
+    steps.Get client (record { class_id = class_id; name = name; index = index }) (selection_of selection)
+step_of_request client (requests.Set invoke class_id name index selected value) =
+    steps.Set client (record { class_id = class_id; name = name; index = index }) selected (argument_of value)
+
+-- the APDU of a reply: Get-Response-Normal with a value in its shortest encoding or with a result, Set-Response-Normal, Action-Response-Normal (IEC 62056-5-3)
+abbrev pub reply_bytes : Service → ℕ → Reply → List ℕ
+reply_bytes services.Get invoke (Value value) = 0xC4 ∷ 1 ∷ invoke ∷ 0 ∷ canonical value
+reply_bytes services.Get invoke (Code code) = 0xC4 ∷ 1 ∷ invoke ∷ 1 ∷ code_of code ∷ []
+reply_bytes services.Set invoke (Code code) = 0xC5 ∷ 1 ∷ invoke ∷ code_of code ∷ []
+reply_bytes services.Act invoke (Code code) = 0xC7 ∷ 1 ∷ invoke ∷ code_of code ∷ 0 ∷ []
+reply_bytes _ invoke _ = []
+
+-- the APDU of the reply to a request
+abbrev pub replied_with : Request → Reply → List ℕ
+replied_with request reply = reply_bytes (service_of request) (invoke_of request) reply
+
+-- the reply to what is no request: Exception-Response with service-unknown and service-not-supported (IEC 62056-5-3; that it answers unreadable bytes too is own profile)
+abbrev pub exception : List ℕ
+exception = 0xD8 ∷ 2 ∷ 2 ∷ []
+
+-- One APDU
+
+-- what the meter becomes by a request, where there is one
+abbrev pub next_by : Plan → State → ℕ → Option Request → State
+next_by P s client None = s
+next_by P s client (Some request) = next P s (step_of_request client request)
+
+-- the APDU that a request is replied, where there is one
+abbrev pub reply_by : Plan → State → ℕ → Option Request → List ℕ
+reply_by P s client None = exception
+reply_by P s client (Some request) = replied_with request (reply_to P s (step_of_request client request))
+
+-- what the meter becomes when this is asked
+unfoldable pub next_of : Plan → State → Ask → State
+next_of P s ask = next_by P s ask.client (request_at ask.apdu)
+
+-- the APDU that is replied to what is asked
+unfoldable pub reply_of_ask : Plan → State → Ask → List ℕ
+reply_of_ask P s ask = reply_by P s ask.client (request_at ask.apdu)
+
+-- Many APDUs
+
+-- the step that is asked for, where an APDU is a request
+abbrev pub step_in : Ask → Option Step
+step_in ask = option_map (step_of_request ask.client) (request_at ask.apdu)
+
+-- the steps that are asked for, in order
+abbrev pub steps_of : List Ask → List Step
+steps_of asks = filter_map step_in asks
+
+-- the APDU for the next of the replies, or the exception where there is no request, and then the others
+abbrev pub apdus_from : Option Request → List Reply → (List Reply → List (List ℕ)) → List (List ℕ)
+apdus_from None replies others = exception ∷ others replies
+apdus_from (Some request) [] others = []
+apdus_from (Some request) (reply ∷ replies) others = replied_with request reply ∷ others replies
+
+-- the APDUs that bring the meter's replies to those who asked, in order
+abbrev pub apdus_of : List Ask → List Reply → List (List ℕ)
+apdus_of [] replies = []
+apdus_of (ask ∷ asks) replies = apdus_from (request_at ask.apdu) replies (apdus_of asks)

@@ -1,0 +1,5 @@
+pub mod Answering
+pub mod Spelling
+pub mod Running
+pub mod Pieces
+pub mod BuiltIn

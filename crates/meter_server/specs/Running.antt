@@ -1,0 +1,119 @@
+-- What is written for the lines that are read. Lines of hex are own profile throughout; what they ask and what is replied is not.
+use Rattle.std.specs.Prelude.{◌≡◌, ◌≢◌, ℕ, ◌+◌, ◌^◌, ◌<◌, ◌≤◌, List, [], ◌∷◌, ◌++◌, length, Option, Some, None, ◌⊎◌, All, Result, Ok, Err}
+use Rattle.std.specs.List.{flat_map, filter_map}
+use Rattle.std.specs.Io.KnownBytes.{Consumes, Appends, IsAtEnd}
+use Rattle.meter_theory.specs.Plan.{Plan, start}
+use Rattle.meter_theory.specs.Replies.{replies}
+use Rattle.meter_server.specs.declared.answering.Ask.{Ask as AskValue}
+use Rattle.meter_server.specs.Answering.{steps_of, apdus_of}
+use Rattle.meter_server.specs.declared.line.Line.{Line as LineValue}
+use Rattle.meter_server.specs.declared.line.Line.TheVariants.{Skipped, Ask, Unreadable}
+use Rattle.meter_server.specs.declared.running.LineFault.{LineFault}
+use Rattle.meter_server.specs.declared.running.LineFault.TheVariants.{Read, Write, Line, Memory}
+use Rattle.meter_server.specs.Spelling.{line_of, reply_text, unreadable_text}
+
+-- Lines
+
+-- a line holds no newline (own profile)
+abbrev pub IsLine : List ℕ → Type 0
+IsLine line = All (λ b. b ≢ 10) line
+
+-- a line with its end, a newline (own profile)
+abbrev pub ended : List ℕ → List ℕ
+ended line = line ++ 10 ∷ []
+
+-- the text of lines, each with its end (own profile)
+abbrev pub text_of_lines : List (List ℕ) → List ℕ
+text_of_lines lines = flat_map ended lines
+
+-- the lines with one more that the input ends, if it has a byte (own profile)
+abbrev pub with_last : List (List ℕ) → List ℕ → List (List ℕ)
+with_last lines [] = lines
+with_last lines (b ∷ bs) = lines ++ (b ∷ bs) ∷ []
+
+-- the line is skipped or asks something (own profile)
+abbrev pub IsReadable : Plan → List ℕ → Type 0
+IsReadable plan line = line_of plan line ≢ Unreadable
+
+-- A run
+
+-- what a line asks, if it does (own profile)
+abbrev pub ask_in : LineValue → Option AskValue
+ask_in Skipped = None
+ask_in (Ask ask) = Some ask
+ask_in Unreadable = None
+
+-- what the lines ask, in order (own profile)
+abbrev pub asks_of : Plan → List (List ℕ) → List AskValue
+asks_of plan lines = filter_map (λ line. ask_in (line_of plan line)) lines
+
+-- what is written for the lines: the meter's replies along the run of the steps that they spell, from its start, each as an APDU in a line of its own (own profile)
+abbrev pub printed : Plan → List (List ℕ) → List ℕ
+printed plan lines = flat_map reply_text (apdus_of (asks_of plan lines) (replies plan (start plan) (steps_of (asks_of plan lines))))
+
+-- The promise
+
+-- what a reader has left and what a writer holds, where that is known (own profile)
+pub record Moment : Type 0 where
+  pub unread : Option (List ℕ)
+  pub written : Option (List ℕ)
+
+-- these lines, each with its end, and the rest were read; all of the lines are readable, and this text was written (own profile)
+pub record Heard (plan : Plan) (before after : Moment) (lines : List (List ℕ)) (rest text : List ℕ) : Type 0 where
+  pub each : All IsLine lines
+  pub readable : All (IsReadable plan) lines
+  pub read : Consumes before.unread after.unread (text_of_lines lines ++ rest)
+  pub wrote : Appends before.written after.written text
+
+-- the line stands whole at the front of the rest: its end follows it, or the input ends (own profile)
+abbrev pub StandsWhole : Option (List ℕ) → List ℕ → List ℕ → Type 0
+StandsWhole unread line rest = IsLine line × (((more : List ℕ) × (rest ≡ ended line ++ more)) ⊎ ((rest ≡ line) × (0 < length line) × IsAtEnd unread))
+
+-- what a fault says of what was read and written (own profile)
+abbrev pub Stops : Plan → Moment → Moment → LineFault → Type 0
+-- all whole lines were answered, and one more has begun at most, unless the count of bytes came to its end
+Stops plan before after Read =
+    (lines : List (List ℕ)) × (rest : List ℕ) × Heard plan before after lines rest (printed plan lines) × (IsLine rest ⊎ (2 ^ 64 ≤ length (text_of_lines lines ++ rest)))
+-- a writer that failed holds what it may
+Stops plan before after Write = Unit {0}
+-- the lines before the first unreadable one were answered, and its number from 1 was told
+Stops plan before after (Line number) =
+    (lines : List (List ℕ)) × (rest : List ℕ) × (line : List ℕ) × Heard plan before after lines rest (printed plan lines ++ unreadable_text number)
+    × StandsWhole after.unread line rest × (line_of plan line ≡ Unreadable) × (number ≡ length lines + 1)
+-- some lines were answered, and nothing else was written
+Stops plan before after Memory =
+    (lines : List (List ℕ)) × (rest : List ℕ) × Heard plan before after lines rest (printed plan lines)
+
+-- how a run of lines ends: all of the input was read and answered, and this is the number of its lines; or a fault stopped it (own profile)
+abbrev pub RunsLines : Plan → Moment → Moment → Result ℕ LineFault → Type 0
+RunsLines plan before after (Ok count) =
+    (lines : List (List ℕ)) × (last : List ℕ) × Heard plan before after lines last (printed plan (with_last lines last))
+    × IsLine last × IsReadable plan last × IsAtEnd after.unread × (count ≡ length (with_last lines last))
+RunsLines plan before after (Err fault) = Stops plan before after fault
+
+-- The input decides the answer
+
+-- a fault that may come anywhere, whatever the input (own profile)
+abbrev pub IsOther : Result ℕ LineFault → Type 0
+IsOther (Ok count) = ⊥
+IsOther (Err Read) = Unit {0}
+IsOther (Err Write) = Unit {0}
+IsOther (Err (Line number)) = ⊥
+IsOther (Err Memory) = Unit {0}
+
+-- the input is these lines, each with its end, and one more that may end with the input, and all of them are readable (own profile)
+pub record IsAllReadable (plan : Plan) (input : List ℕ) (lines : List (List ℕ)) (last : List ℕ) : Type 0 where
+  pub whole : input ≡ text_of_lines lines ++ last
+  pub each : All IsLine lines
+  pub readable : All (IsReadable plan) lines
+  pub last_is : IsLine last
+  pub last_readable : IsReadable plan last
+
+-- behind these readable lines an unreadable one stands, with its end or at the end of the input (own profile)
+pub record IsFirstBad (plan : Plan) (input : List ℕ) (lines : List (List ℕ)) (line rest : List ℕ) : Type 0 where
+  pub whole : input ≡ text_of_lines lines ++ rest
+  pub each : All IsLine lines
+  pub readable : All (IsReadable plan) lines
+  pub line_is : IsLine line
+  pub unreadable : line_of plan line ≡ Unreadable
+  pub stands : ((more : List ℕ) × (rest ≡ ended line ++ more)) ⊎ (rest ≡ line)

@@ -1,0 +1,14 @@
+//! A meter server over lines of text: the APDUs of its clients in hex come in, the replies in hex go
+//! out.
+#![tactic(auto)]
+
+mod answering;
+pub mod demo;
+mod line;
+pub mod running;
+#[cfg(test)]
+mod tests;
+mod text;
+mod writing;
+
+pub use running::{LineFault, run_lines};
