@@ -22,11 +22,13 @@ register_writes_its_value fixed index value cells i accepted =
 
 -- what is written meets the rule where it is not refused, and what a reset puts meets it always
 pub register_keeps_rules : KeepsRules register_refusal (λ _ _ _. Unit {0}) RegisterMeetsRule register_touched register_new_value
-register_keeps_rules fixed (Write index) argument row cells i accepted is_row meets_all inside =
-    ((meets_all i).0,
-    is_cell_where (i == 2) (meets (register_rule fixed)) argument (and_parts (index == 2) (i == 2) inside).1
-    (meets_of_judged (register_rule fixed) argument (fault_of_accepted (index == 2) ((index == 1) || (index == 3)) (judged (register_rule fixed) argument) accepted)))
-register_keeps_rules fixed (Invoke method) argument row cells i accepted is_row meets_all inside =
-    ((meets_all i).0,
-    is_cell_where (i == 2) (meets (register_rule fixed)) fixed.default (and_parts (method == 1) (i == 2) inside).1 (meets_all i).0)
+register_keeps_rules fixed (Write index) argument row cells i accepted is_row meets_all inside = (
+  (meets_all i).0,
+  is_cell_where (i == 2) (meets (register_rule fixed)) argument (and_parts (index == 2) (i == 2) inside).1
+      (meets_of_judged (register_rule fixed) argument (fault_of_accepted (index == 2) ((index == 1) || (index == 3)) (judged (register_rule fixed) argument) accepted)),
+)
+register_keeps_rules fixed (Invoke method) argument row cells i accepted is_row meets_all inside = (
+  (meets_all i).0,
+  is_cell_where (i == 2) (meets (register_rule fixed)) fixed.default (and_parts (method == 1) (i == 2) inside).1 (meets_all i).0,
+)
 register_keeps_rules fixed Remember argument row cells i accepted is_row meets_all inside = cc

@@ -141,7 +141,13 @@ pub trait InterfaceClass {
 
     /// Calls a method, as the service ACTION does. A capture is given its row, and no other method looks at it. `NoIndex`
     /// where the class has no such method, `Memory` where a new value gets none.
-    fn invoke(&mut self, alloc: Global, method: u8, argument: &Data, row: Row) -> Result<(), ClassFault>
+    fn invoke(
+        &mut self,
+        alloc: Global,
+        method: u8,
+        argument: &Data,
+        row: Row,
+    ) -> Result<(), ClassFault>
         requires { IsRow (fixed self.old) (ops.Invoke method) row }
         ensures refused { RefusedAs result (refusal (fixed self.old) (ops.Invoke method) (tree argument.now)) }
         ensures fixed { fixed self.new ≡ fixed self.old }

@@ -82,7 +82,13 @@ impl InterfaceClass for Data1 {
         }
     }
 
-    fn invoke(&mut self, _alloc: Global, _method: u8, _argument: &Data, _row: Row) -> Result<(), ClassFault> {
+    fn invoke(
+        &mut self,
+        _alloc: Global,
+        _method: u8,
+        _argument: &Data,
+        _row: Row,
+    ) -> Result<(), ClassFault> {
         Err(ClassFault::NoIndex)
     }
 

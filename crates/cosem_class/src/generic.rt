@@ -23,5 +23,4 @@ pub fn put_into<C: InterfaceClass>(object: &mut C, index: u8, value: Data) -> Re
 pub fn laws_of_a_class<C: InterfaceClass>()
     ensures changes_only_touched { ChangesOnlyTouched C.touched C.new_value }
     ensures keeps_agreement { KeepsAgreement C.touched C.own_sources C.row_cells C.new_value }
-{
-}
+{}

@@ -9,6 +9,5 @@ pub mod generic;
 pub mod judge;
 pub mod register;
 pub mod shapes;
-
 #[cfg(test)]
 mod tests;

@@ -101,7 +101,13 @@ impl<'a> InterfaceClass for Register<'a> {
         }
     }
 
-    fn invoke(&mut self, alloc: Global, method: u8, _argument: &Data, _row: Row) -> Result<(), ClassFault> {
+    fn invoke(
+        &mut self,
+        alloc: Global,
+        method: u8,
+        _argument: &Data,
+        _row: Row,
+    ) -> Result<(), ClassFault> {
         if method != 1 {
             return Err(ClassFault::NoIndex);
         }

@@ -28,9 +28,7 @@ const ENERGY: LogicalName = LogicalName([1, 0, 1, 8, 0, 255]);
 fn octets(alloc: Global, bytes: &[u8]) -> Result<Data, Fail>
     ensures { IfOk result (λ value. tree value ≡ octet_string bytes.now) }
 {
-    Ok(Data::OctetString(Bytes::new(Vec::from_slice(
-        alloc, bytes,
-    )?)))
+    Ok(Data::OctetString(Bytes::new(Vec::from_slice(alloc, bytes)?)))
 }
 
 /// An octet-string of so many zeros.
@@ -86,10 +84,7 @@ fn limits_are_met_exactly(rt: HostRuntime) -> Result<(), Fail> {
     assert_eq!(rt; judge_kind(Kind::Array, &deepest), Ok(()));
     let deeper = Data::Array(Items::new(vec![in a; deepest]?));
     assert!(rt; !keeps_limits(&deeper));
-    assert_eq!(rt;
-        judge_kind(Kind::Array, &deeper),
-        Err(ClassFault::Rule)
-    );
+    assert_eq!(rt; judge_kind(Kind::Array, &deeper), Err(ClassFault::Rule));
     Ok(())
 }
 

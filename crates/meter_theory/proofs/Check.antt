@@ -17,7 +17,6 @@ use Rattle.meter_theory.specs.Steps.{Effect, Put, Capture, Clear, changed_by, ch
 use Rattle.meter_theory.specs.Edges.{Cause, Monitored, Monitor, Captured, Period, Schedule, Edge, edge, EdgeIn, IsEdge, script_changes, scripts_named, monitor_changes, among, in_plan_order, edges_in, same_cause, same_edge, first_of_each, edges}
 use Rattle.meter_theory.specs.Sound.{IsSound}
 use Rattle.meter_theory.proofs.Lists.{any_in, in_any, found, in_append_left, in_append_right, in_append_cases, in_flat_map, from_flat_map, in_map, from_map, in_filter, from_filter}
-
 use Rattle.meter_theory.proofs.Agreement.{object-found}
 use Rattle.meter_theory.proofs.Rights.{cell_of_found}
 

@@ -130,13 +130,13 @@ denied index = structure_of (integer (pos index) ∷ boolean false ∷ [])
 
 list_row : replies demo (start demo) (get public (at 15 association_name 2) ∷ [])
     ≡ Value (array_of (
-        structure_of (long_unsigned 15 ∷ unsigned 0 ∷ octet_string (0 ∷ 0 ∷ 40 ∷ 0 ∷ 0 ∷ 255 ∷ [])
-            ∷ structure_of (
-                array_of (mode 1 1 ∷ mode 2 1 ∷ mode 3 1 ∷ mode 4 1 ∷ mode 5 0 ∷ mode 6 1 ∷ mode 7 0 ∷ mode 8 1 ∷ [])
-                ∷ array_of (denied 1 ∷ denied 2 ∷ denied 3 ∷ denied 4 ∷ []) ∷ []) ∷ [])
-        ∷ structure_of (long_unsigned 3 ∷ unsigned 0 ∷ octet_string (1 ∷ 0 ∷ 1 ∷ 8 ∷ 0 ∷ 255 ∷ [])
-            ∷ structure_of (array_of (mode 1 1 ∷ mode 2 0 ∷ mode 3 0 ∷ []) ∷ array_of (denied 1 ∷ []) ∷ []) ∷ [])
-        ∷ [])) ∷ []
+    structure_of (long_unsigned 15 ∷ unsigned 0 ∷ octet_string (0 ∷ 0 ∷ 40 ∷ 0 ∷ 0 ∷ 255 ∷ [])
+    ∷ structure_of (
+    array_of (mode 1 1 ∷ mode 2 1 ∷ mode 3 1 ∷ mode 4 1 ∷ mode 5 0 ∷ mode 6 1 ∷ mode 7 0 ∷ mode 8 1 ∷ [])
+    ∷ array_of (denied 1 ∷ denied 2 ∷ denied 3 ∷ denied 4 ∷ []) ∷ []) ∷ [])
+    ∷ structure_of (long_unsigned 3 ∷ unsigned 0 ∷ octet_string (1 ∷ 0 ∷ 1 ∷ 8 ∷ 0 ∷ 255 ∷ [])
+    ∷ structure_of (array_of (mode 1 1 ∷ mode 2 0 ∷ mode 3 0 ∷ []) ∷ array_of (denied 1 ∷ []) ∷ []) ∷ [])
+    ∷ [])) ∷ []
 unfolding mode denied fixed association_attribute object_list access_rights
 list_row = refl
 
@@ -155,8 +155,8 @@ association_row = refl
 -- fixed attributes of the profile
 profile_row : replies demo (start demo) (get reader (at 7 profile 3) ∷ get reader (at 7 profile 8) ∷ get reader (at 7 profile 5) ∷ [])
     ≡ Value (array_of (
-        structure_of (long_unsigned 3 ∷ octet_string (1 ∷ 0 ∷ 1 ∷ 8 ∷ 0 ∷ 255 ∷ []) ∷ integer (pos 2) ∷ long_unsigned 0 ∷ [])
-        ∷ structure_of (long_unsigned 1 ∷ octet_string (0 ∷ 0 ∷ 96 ∷ 11 ∷ 0 ∷ 255 ∷ []) ∷ integer (pos 2) ∷ long_unsigned 0 ∷ []) ∷ []))
+    structure_of (long_unsigned 3 ∷ octet_string (1 ∷ 0 ∷ 1 ∷ 8 ∷ 0 ∷ 255 ∷ []) ∷ integer (pos 2) ∷ long_unsigned 0 ∷ [])
+    ∷ structure_of (long_unsigned 1 ∷ octet_string (0 ∷ 0 ∷ 96 ∷ 11 ∷ 0 ∷ 255 ∷ []) ∷ integer (pos 2) ∷ long_unsigned 0 ∷ []) ∷ []))
     ∷ Value (counter 2) ∷ Code ReadWriteDenied ∷ []
 unfolding fixed fixed_in
 profile_row = refl

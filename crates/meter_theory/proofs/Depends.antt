@@ -9,7 +9,6 @@ use Rattle.meter_theory.specs.State.{State, keys, value}
 use Rattle.meter_theory.specs.Edges.{Agree}
 use Rattle.meter_theory.proofs.Lists.{any_in, none_in}
 
-
 -- The change touches only these cells, and the new value of one is decided by its sources.
 pub record Depends (touched : List CellRef) (sources : CellRef → List CellRef) (change : State → State) : Type 0 where
   pub cells : (s : State) → keys (change s) ≡ keys s

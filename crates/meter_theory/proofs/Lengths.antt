@@ -138,12 +138,18 @@ selectors_writable P c x =
 
 rights_writable : (P : Plan) (c : ℕ) (n : LogicalName) (i : Interface) → i.attributes ≤ 8 → i.methods ≤ 8 → HasLengths (access_rights P c n i)
 unfolding access_rights
-rights_writable P c n i few fewer =
-    (lit< tt, (
+rights_writable P c n i few fewer = (
+  lit< tt,
+  (
     map_writable (λ k. attribute_access P c (cell i.class_id n k)) (range_with_len 1 i.attributes) 8 (let e = length-range_with_len 1 i.attributes in omega (arith, e)) (lit< tt)
-    (λ k m. (lit< tt, (tt, (tt, (selectors_writable P c (cell i.class_id n k), tt))))), (
-    map_writable (λ k. method_access P c (cell i.class_id n k)) (range_with_len 1 i.methods) 8 (let e = length-range_with_len 1 i.methods in omega (arith, e)) (lit< tt)
-    (λ k m. (lit< tt, (tt, (tt, tt)))), tt)))
+        (λ k m. (lit< tt, (tt, (tt, (selectors_writable P c (cell i.class_id n k), tt))))),
+    (
+      map_writable (λ k. method_access P c (cell i.class_id n k)) (range_with_len 1 i.methods) 8 (let e = length-range_with_len 1 i.methods in omega (arith, e)) (lit< tt)
+          (λ k m. (lit< tt, (tt, (tt, tt)))),
+      tt,
+    ),
+  ),
+)
 
 listed_writable : (P : Plan) (c : ℕ) (n : LogicalName) (i : Interface) → is_name n ≡ true → i.attributes ≤ 8 → i.methods ≤ 8 → HasLengths (listed_object P c n i)
 listed_writable P c n i h few fewer = (lit< tt, (tt, (tt, (name_writable n h, (rights_writable P c n i few fewer, tt)))))

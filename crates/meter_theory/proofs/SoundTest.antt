@@ -15,7 +15,6 @@ use Rattle.meter_theory.specs.Plan.{Plan, Object, Write, Part, Data1, Register, 
 use Rattle.meter_theory.specs.Steps.{scripts_of, Captures, captures_in}
 use Rattle.meter_theory.specs.Sound.{IsWrite, IsCapturable, IsSoundPart, IsSound, distinct_names, writes_some, is_write, captured_in, is_capturable, is_kind_rule, is_sound_part, has_sizes, has_sap, fits_some, is_sized, is_started, is_sound}
 use Rattle.meter_theory.proofs.Lists.{any_in, in_any}
-
 use Rattle.meter_theory.proofs.Agreement.{not_both}
 use Rattle.meter_theory.proofs.Theorem.{all_at, is_cell_in}
 

@@ -97,9 +97,9 @@ method_access P c x =
 unfoldable pub access_rights : Plan → ℕ → LogicalName → Interface → Tree
 access_rights P c n i =
     structure_of (
-        array_of (map (λ k. attribute_access P c (cell i.class_id n k)) (range_with_len 1 i.attributes))
-        ∷ array_of (map (λ k. method_access P c (cell i.class_id n k)) (range_with_len 1 i.methods))
-        ∷ [])
+    array_of (map (λ k. attribute_access P c (cell i.class_id n k)) (range_with_len 1 i.attributes))
+    ∷ array_of (map (λ k. method_access P c (cell i.class_id n k)) (range_with_len 1 i.methods))
+    ∷ [])
 
 -- object_list_element
 abbrev pub listed_object : Plan → ℕ → LogicalName → Interface → Tree

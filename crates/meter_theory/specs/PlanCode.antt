@@ -40,7 +40,7 @@ script_ref_code = code_by (LogicalName × ℕ) (coded× name_code coded_ℕ) (λ
 abbrev pub client_code : Coded Client
 client_code =
     code_by (List ℕ × (ℕ × Option (List ℕ))) (coded× (coded_list coded_ℕ) (coded× coded_ℕ (coded_option (coded_list coded_ℕ))))
-        (λ c. (c.name, (c.sap, c.password))) (λ p. record { name = p.0; sap = p.1.0; password = p.1.1 }) (λ _. refl)
+    (λ c. (c.name, (c.sap, c.password))) (λ p. record { name = p.0; sap = p.1.0; password = p.1.1 }) (λ _. refl)
 
 abbrev pub scaler_unit_code : Coded ScalerUnit
 scaler_unit_code = code_by (ℤ × ℕ) (coded× coded_ℤ coded_ℕ) (λ u. (u.scaler, u.unit)) (λ p. record { scaler = p.0; unit = p.1 }) (λ _. refl)
@@ -100,8 +100,8 @@ to_part-from (SingleActionSchedule script type times) = refl
 abbrev pub part_code : Coded Part
 part_code =
     code_by PartParts (coded⊎ tree_code (coded⊎ (coded× tree_code (coded× tree_code scaler_unit_code))
-        (coded⊎ (coded× (coded_list cell_code) (coded× coded_ℕ coded_ℕ)) (coded⊎ (coded_list script_code)
-            (coded⊎ (coded× cell_code (coded× tree_code (coded_list up_down_code))) (coded× script_ref_code (coded× coded_ℕ tree_code))))))) from_part to_part to_part-from
+    (coded⊎ (coded× (coded_list cell_code) (coded× coded_ℕ coded_ℕ)) (coded⊎ (coded_list script_code)
+    (coded⊎ (coded× cell_code (coded× tree_code (coded_list up_down_code))) (coded× script_ref_code (coded× coded_ℕ tree_code))))))) from_part to_part to_part-from
 
 abbrev pub object_code : Coded Object
 object_code =
@@ -110,9 +110,9 @@ object_code =
 abbrev pub right_code : Coded Right
 right_code =
     code_by (ℕ × (LogicalName × (List ℕ × (List ℕ × List ℕ)))) (coded× coded_ℕ (coded× name_code (coded× (coded_list coded_ℕ) (coded× (coded_list coded_ℕ) (coded_list coded_ℕ)))))
-        (λ r. (r.client, (r.object, (r.gets, (r.sets, r.acts))))) (λ p. record { client = p.0; object = p.1.0; gets = p.1.1.0; sets = p.1.1.1.0; acts = p.1.1.1.1 }) (λ _. refl)
+    (λ r. (r.client, (r.object, (r.gets, (r.sets, r.acts))))) (λ p. record { client = p.0; object = p.1.0; gets = p.1.1.0; sets = p.1.1.1.0; acts = p.1.1.1.1 }) (λ _. refl)
 
 abbrev pub plan_code : Coded Plan
 plan_code =
     code_by (List Client × (List Object × List Right)) (coded× (coded_list client_code) (coded× (coded_list object_code) (coded_list right_code)))
-        (λ p. (p.clients, (p.objects, p.rights))) (λ p. record { clients = p.0; objects = p.1.0; rights = p.1.1 }) (λ _. refl)
+    (λ p. (p.clients, (p.objects, p.rights))) (λ p. record { clients = p.0; objects = p.1.0; rights = p.1.1 }) (λ _. refl)

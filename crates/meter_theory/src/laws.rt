@@ -21,43 +21,37 @@ ghost use Rattle.meter_theory.specs.Unequal.{UnequalSecrecy};
 pub fn admitted_is_influence_safe()
     ensures policy { (P : Plan) (policy : Labelling) (labels : Labels) → Admits P policy labels → Influence P policy }
     ensures labels { (P : Plan) (policy : Labelling) (labels : Labels) → Admits P policy labels → Influence P (labelling_of labels) }
-{
-}
+{}
 
 /// An admitted plan keeps from each client what its policy, and what its labels, hide from it.
 pub fn admitted_is_secret()
     ensures policy { (P : Plan) (policy : Labelling) (labels : Labels) → Admits P policy labels → Secrecy P policy }
     ensures labels { (P : Plan) (policy : Labelling) (labels : Labels) → Admits P policy labels → Secrecy P (labelling_of labels) }
-{
-}
+{}
 
 /// The same over schedules that differ by steps which the client can't notice.
 pub fn admitted_is_secret_but_for_quiet_steps()
     ensures policy { (P : Plan) (policy : Labelling) (labels : Labels) → Admits P policy labels → UnequalSecrecy P policy }
     ensures labels { (P : Plan) (policy : Labelling) (labels : Labels) → Admits P policy labels → UnequalSecrecy P (labelling_of labels) }
-{
-}
+{}
 
 /// States that agree on a closed set of cells agree on it after each effect, and after each step.
 pub fn closed_sets_keep_agreement()
     ensures effect { (P : Plan) (S : CellRef → Bool) → IsClosed P S → (e : Effect) (s t : State) → keys s ≡ keys t → Agree S s t → Agree S (effect P s e) (effect P t e) }
     ensures step { (P : Plan) (S : CellRef → Bool) → IsClosed P S → (step : Step) (s t : State) → keys s ≡ keys t → Agree S s t → Agree S (next P s step) (next P t step) }
-{
-}
+{}
 
 /// The list of edges has each edge of a sound plan, and no other.
 pub fn edges_are_listed()
     ensures { (P : Plan) (e : Edge) → IsSound P → (IsEdge P e ↔ IsIn (edges P) e) }
-{
-}
+{}
 
 /// The six tests decide admission; what a refusal names isn't admitted, and there is one refusal at most.
 pub fn tests_decide_admission()
     ensures decided { (P : Plan) (policy : Labelling) (labels : Labels) → IsSound P → (AllPass P policy labels ↔ Admits P policy labels) }
     ensures refused { (P : Plan) (policy : Labelling) (labels : Labels) (r : Refusal) → IsSound P → Refuses P policy labels r → Admits P policy labels → ⊥ }
     ensures unique { (P : Plan) (policy : Labelling) (labels : Labels) (r q : Refusal) → Refuses P policy labels r → Refuses P policy labels q → r ≡ q }
-{
-}
+{}
 
 /// A state is a map with fixed cells.
 pub fn states_are_maps()
@@ -65,19 +59,16 @@ pub fn states_are_maps()
     ensures twice { (s : State) (x : CellRef) (v w : Tree) → put (put s x v) x w ≡ put s x w }
     ensures swap { (s : State) (x y : CellRef) (v w : Tree) → same_cell x y ≡ false → put (put s x v) y w ≡ put (put s y w) x v }
     ensures cells { (s : State) (x : CellRef) (v : Tree) → keys (put s x v) ≡ keys s }
-{
-}
+{}
 
 /// A sound plan's cells start with values of the declared kinds, and each step and each run keeps them.
 pub fn states_are_kept()
     ensures start { (P : Plan) → IsSound P → IsState P (start P) }
     ensures step { (P : Plan) (s : State) (step : Step) → IsSound P → IsState P s → IsState P (next P s step) }
     ensures run { (P : Plan) (s : State) (l : List Step) → IsSound P → IsState P s → IsState P (run P s l) }
-{
-}
+{}
 
 /// Every value that a sound plan's meter answers can be written: its lengths and counts fit four bytes.
 pub fn replies_can_be_written()
     ensures { (P : Plan) (s : State) (step : Step) (v : Tree) → IsSound P → IsState P s → reply_to P s step ≡ Value v → HasLengths v }
-{
-}
+{}

@@ -9,3 +9,5 @@
 pub mod access;
 pub mod laws;
 pub mod refs;
+#[cfg(test)]
+mod tests;
