@@ -1,5 +1,5 @@
 -- Class 1, Data, version 0 (IEC 62056-6-2): one cell, the value at 2, whose kind is kept.
-use Rattle.std.specs.Prelude.{◌≡◌, ℕ, List, Option, Result, Ok, Some, None, Bool, true, false, ◌==◌, ◌&&◌, if◌then◌else◌}
+use Rattle.std.specs.Prelude.{ℕ, List, Option, Result, Ok, Some, Bool, false, ◌==◌, ◌&&◌, if◌then◌else◌}
 use Rattle.cosem_data.specs.Tree.{Tree}
 use Rattle.cosem_data.specs.declared.kind.Kind as kinds
 use Rattle.cosem_data.specs.declared.name.LogicalName.{LogicalName}

@@ -1,5 +1,5 @@
 -- The laws of class 1.
-use Rattle.std.proofs.Common.{◌≡◌, refl, Bool, true, false, List, Option, Some, ℕ}
+use Rattle.std.proofs.Common.{◌≡◌, refl, Bool, true, false, Some}
 use Rattle.std.specs.Prelude.{◌==◌}
 use Rattle.std.proofs.lemmas.Bool.{and_parts}
 use Rattle.cosem_data.specs.Tree.{Tree}
@@ -7,7 +7,7 @@ use Rattle.meter_theory.specs.Value.{OfKind, meets}
 use Rattle.cosem_class.specs.declared.class.Op.TheVariants.{Write, Invoke, Remember}
 use Rattle.cosem_class.specs.Objects.{DependsOnlyOnSources, KeepsRules, WritesItsValue, writes_one, IsCellWhere}
 use Rattle.cosem_class.specs.Judged.{judged, meets_of_judged, settable_of_accepted, fault_of_accepted}
-use Rattle.cosem_class.specs.DataClass.{DataFixed, data_refusal, data_touched, data_new_value, DataMeetsRule}
+use Rattle.cosem_class.specs.DataClass.{data_refusal, data_touched, data_new_value, DataMeetsRule}
 
 -- a new value is the argument, and no cell is its source
 pub data_depends_only_on_sources : DependsOnlyOnSources data_touched (λ _ _ _. false) (λ _ _. false) data_new_value

@@ -1,6 +1,5 @@
 -- Whether a value may stand in a cell, and why not.
 use Rattle.std.specs.Prelude.{◌≡◌, Bool, true, false, ◌&&◌, Option, Some, None, Result, Ok, Err, if◌then◌else◌}
-use Rattle.std.proofs.lemmas.Bool.{and_from}
 use Rattle.std.proofs.Common.{refl}
 use Rattle.cosem_data.specs.Tree.{Tree}
 use Rattle.meter_theory.specs.Value.{Rule, right_tag, right_elements, is_within_limits, meets, elements}

@@ -1,5 +1,5 @@
 -- The laws of class 3.
-use Rattle.std.proofs.Common.{◌≡◌, refl, false, true, Bool}
+use Rattle.std.proofs.Common.{refl, false}
 use Rattle.std.specs.Prelude.{◌==◌, ◌||◌}
 use Rattle.std.proofs.lemmas.Bool.{and_parts}
 use Rattle.meter_theory.specs.Value.{meets}
@@ -7,7 +7,7 @@ use Rattle.cosem_class.specs.declared.class.Op.TheVariants.{Write, Invoke, Remem
 use Rattle.cosem_class.specs.Objects.{DependsOnlyOnSources, KeepsRules, WritesItsValue, writes_one}
 use Rattle.cosem_class.specs.Judged.{judged, meets_of_judged, settable_of_accepted, fault_of_accepted}
 use Rattle.cosem_class.specs.DataLaws.{is_cell_where}
-use Rattle.cosem_class.specs.RegisterClass.{RegisterFixed, register_rule, register_refusal, register_touched, register_new_value, RegisterMeetsRule}
+use Rattle.cosem_class.specs.RegisterClass.{register_rule, register_refusal, register_touched, register_new_value, RegisterMeetsRule}
 
 -- a new value is the argument or the default, and no cell is its source
 pub register_depends_only_on_sources : DependsOnlyOnSources register_touched (λ _ _ _. false) (λ _ _. false) register_new_value
