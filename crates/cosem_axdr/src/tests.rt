@@ -43,7 +43,7 @@ fn agree(rt: &impl Abort, alloc: Global, value: &Data, bytes: &[u8]) -> Result<(
     assert_eq!(rt; out.as_slice(), bytes);
     let (read, used) = read_data(alloc, bytes)?;
     assert_eq!(rt; used, bytes.len());
-    assert!(rt; read.same(value), "reading {bytes:?}");
+    assert!(rt; read == *value, "reading {bytes:?}");
     assert!(rt; is_encoded_within(value, bytes.len()), "at {bytes:?}");
     assert!(rt; !bytes.is_empty());
     assert!(rt;
@@ -161,11 +161,11 @@ fn reads_every_form(rt: HostRuntime) -> Result<(), Fail> {
     for (bytes, want) in forms {
         let (value, used) = read_data(a, bytes)?;
         assert_eq!(rt; used, want);
-        assert!(rt; value.same(&letter), "reading {bytes:?}");
+        assert!(rt; value == letter, "reading {bytes:?}");
     }
     let (truth, used) = read_data(a, &[3, 0x80, 9])?;
     assert_eq!(rt; used, 2);
-    assert!(rt; truth.same(&Data::Boolean(true)));
+    assert!(rt; truth == Data::Boolean(true));
     Ok(())
 }
 
@@ -191,7 +191,7 @@ fn writes_the_shortest_length(rt: HostRuntime) -> Result<(), Fail> {
         );
         let (read, used) = read_data(a, &out)?;
         assert_eq!(rt; used, out.len(), "at {count}");
-        assert!(rt; read.same(&value), "at {count}");
+        assert!(rt; read == value, "at {count}");
         assert!(rt; is_encoded_within(&value, used), "at {count}");
         assert!(rt;
             !is_encoded_within(&value, used.saturating_sub(1)),

@@ -82,7 +82,7 @@ fn set_alarm(alloc: Global, rest: &[u8]) -> Result<(bool, Argument), Fail> {
 
 fn is_value(argument: &Argument, value: &Data) -> bool {
     match argument {
-        Argument::Value(held) => held.same(value),
+        Argument::Value(held) => *held == *value,
         _ => false,
     }
 }
