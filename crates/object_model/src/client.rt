@@ -51,8 +51,8 @@ impl Client {
         self.sap
     }
 
-    /// The bytes of its password, or None for a client without one: low level security asks for it, lowest level does not
-    /// (IEC 62056-5-3, authentication).
+    /// The bytes of its password, or None for a client without one: low level security asks for it, lowest level does
+    /// not (IEC 62056-5-3, authentication).
     pub fn password(&self) -> Option<&[u8]>
         ensures { option_map (λ p. p.now) result ≡ self.now.password }
     {

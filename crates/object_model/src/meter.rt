@@ -52,8 +52,8 @@ impl Meter {
         Ok(cells_of(alloc, &self.pairs)?)
     }
 
-    /// A copy of the value in a cell of its plan; null-data where the plan has no such cell. The error is that memory was
-    /// refused.
+    /// A copy of the value in a cell of its plan; null-data where the plan has no such cell. The error is that memory
+    /// was refused.
     pub fn value(&self, alloc: Global, _plan: &Plan, cell: &CellRef) -> Result<Data, Memory>
         requires { IsState _plan.now self.now }
         ensures { IfOk result (λ v. tree v ≡ value self.now cell.now) }

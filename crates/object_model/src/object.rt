@@ -69,8 +69,8 @@ impl Part {
         }
     }
 
-    /// A copy of a fixed attribute other than the logical name, null-data at any other index: of a register attribute 3,
-    /// scaler_unit (IEC 62056-6-2, Register). The error is that memory was refused.
+    /// A copy of a fixed attribute other than the logical name, null-data at any other index: of a register attribute
+    /// 3, scaler_unit (IEC 62056-6-2, Register). The error is that memory was refused.
     #[tactic(auto, unfolding(meter_theory::specs::Fixed::fixed_in))]
     pub fn fixed(&self, alloc: Global, index: u8) -> Result<Data, Memory>
         ensures { IfOk result (λ value. tree value ≡ fixed_in (part_of self.now) index) }
@@ -91,8 +91,8 @@ impl Part {
         }
     }
 
-    /// Adds the cells of an object with this part and name, with their start values, behind the pairs. The error is that
-    /// memory was refused.
+    /// Adds the cells of an object with this part and name, with their start values, behind the pairs. The error is
+    /// that memory was refused.
     pub fn push_start(
         &self,
         alloc: Global,

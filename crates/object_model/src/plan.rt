@@ -129,8 +129,8 @@ impl Plan {
         &self.rights
     }
 
-    /// The interface class of what stands at this name: the current association (IEC 62056-6-2, Association LN, version 0),
-    /// or an object; None where nothing stands. It takes no memory.
+    /// The interface class of what stands at this name: the current association (IEC 62056-6-2, Association LN,
+    /// version 0), or an object; None where nothing stands. It takes no memory.
     pub fn interface_at(&self, name: &LogicalName) -> Option<Interface>
         ensures { result ≡ interface_at self.now name.now }
     {
@@ -161,8 +161,8 @@ impl Plan {
         part.judge(cell.index, value)
     }
 
-    /// A copy of a fixed attribute of an object, other than its logical name; null-data where there is none. The class of the
-    /// cell is not looked at. The error is that memory was refused.
+    /// A copy of a fixed attribute of an object, other than its logical name; null-data where there is none. The
+    /// class of the cell is not looked at. The error is that memory was refused.
     pub fn fixed(&self, alloc: Global, cell: &CellRef) -> Result<Data, Memory>
         ensures { IfOk result (λ value. tree value ≡ fixed_of (object_at self.now cell.now.name) cell.now.index) }
     {

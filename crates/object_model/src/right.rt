@@ -28,8 +28,8 @@ impl Model for Right {
 }
 
 impl Right {
-    /// A right of the client at this place, counted from 0, on the object with this name: the attributes of `gets` may be
-    /// read, those of `sets` written, and the methods of `acts` called. It takes no memory.
+    /// A right of the client at this place, counted from 0, on the object with this name: the attributes of `gets`
+    /// may be read, those of `sets` written, and the methods of `acts` called. It takes no memory.
     pub fn new(client: u8, object: LogicalName, gets: Vec<u8>, sets: Vec<u8>, acts: Vec<u8>) -> Self
         ensures { result ≡ record { client = client; object = object; gets = gets.items; sets = sets.items; acts = acts.items } }
     {

@@ -14,8 +14,8 @@ impl Plan {
         self.client(client).is_some()
     }
 
-    /// Whether the client's view has this name: the current association, or an object on which it has a right. The view of
-    /// a client that the plan lacks is empty (IEC 62056-6-2, object_list).
+    /// Whether the client's view has this name: the current association, or an object on which it has a right. The
+    /// view of a client that the plan lacks is empty (IEC 62056-6-2, object_list).
     pub fn in_view(&self, client: u8, name: &LogicalName) -> bool
         ensures { result ≡ in_view self.now client name.now }
     {
