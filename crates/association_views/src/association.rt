@@ -17,16 +17,8 @@ use cosem_data::memory::Memory;
 use cosem_data::name::LogicalName;
 use meter_theory::refs::Interface;
 use object_model::object::Object;
-use object_model::plan::{ASSOCIATION, Plan};
+use object_model::plan::{ASSOCIATION, ASSOCIATION_LN, Plan};
 use std::alloc::Global;
-
-/// The interface class of the current association, Association LN.
-const ASSOCIATION_LN: Interface = Interface {
-    class_id: 15,
-    version: 0,
-    attributes: 8,
-    methods: 4,
-};
 
 /// A fixed attribute of what stands at the cell's name, as the client at this place reads it: the logical name, an
 /// attribute of the current association, or one of an object; null-data where there is none.

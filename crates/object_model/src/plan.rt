@@ -27,6 +27,14 @@ use std::marker::Model;
 /// The name of the current association, 0.0.40.0.0.255 (IEC 62056-6-2, Association LN).
 pub const ASSOCIATION: LogicalName = LogicalName([0, 0, 40, 0, 0, 255]);
 
+/// The interface class of the current association: Association LN, version 0 (IEC 62056-6-2).
+pub const ASSOCIATION_LN: Interface = Interface {
+    class_id: 15,
+    version: 0,
+    attributes: 8,
+    methods: 4,
+};
+
 /// The lists that make a plan.
 #[derive(Drop)]
 pub struct PlanParts {
@@ -135,12 +143,7 @@ impl Plan {
         ensures { result ≡ interface_at self.now name.now }
     {
         if *name == ASSOCIATION {
-            return Some(Interface {
-                class_id: 15,
-                version: 0,
-                attributes: 8,
-                methods: 4,
-            });
+            return Some(ASSOCIATION_LN);
         }
         self.object_at(name).map(|object| object.part().interface())
     }
