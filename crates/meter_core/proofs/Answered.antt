@@ -19,6 +19,7 @@ use Rattle.object_model.specs.declared.argument.Argument as code
 use Rattle.object_model.specs.declared.argument.Argument.TheVariants as arguments
 use Rattle.object_model.specs.ArgumentView.{argument_of}
 use Rattle.association_views.specs.Permits.{permitted}
+use Rattle.meter_core.specs.Memory.{needs_no_memory}
 
 granted : (code : AccessCode) (unit : Unit {0}) → Ok unit ≡ permitted code → code ≡ codes.Success
 granted codes.Success unit h = refl
@@ -40,7 +41,22 @@ refused codes.TypeUnmatched given h = (cc, refl)
 refused codes.ScopeOfAccessViolated given h = (cc, refl)
 refused codes.OtherReason given h = (cc, refl)
 
+-- what is granted isn't refused
+not_refused : {b : Bool} (code : AccessCode) (unit : Unit {0}) → Ok unit ≡ permitted code → not (is_success code) ≡ true → b ≡ true
+not_refused codes.Success unit h n = cc
+not_refused codes.TemporaryFailure unit h n = cc
+not_refused codes.ReadWriteDenied unit h n = cc
+not_refused codes.ObjectUndefined unit h n = cc
+not_refused codes.ObjectClassInconsistent unit h n = cc
+not_refused codes.TypeUnmatched unit h n = cc
+not_refused codes.ScopeOfAccessViolated unit h n = cc
+not_refused codes.OtherReason unit h n = cc
+
 -- GET
+
+pub granted_get_takes_memory : {b : Bool} (P : Plan) (c : ℕ) (d : Descriptor) (selection : Option Selection) (unit : Unit {0}) → Ok unit ≡ permitted (get_answer P c d selection)
+    → needs_no_memory P (Get c d selection) ≡ true → b ≡ true
+granted_get_takes_memory P c d selection unit h = not_refused (get_answer P c d selection) unit h
 
 pub refused_get : (P : Plan) (s : State) (c : ℕ) (d : Descriptor) (selection : Option Selection) (code : AccessCode) → Err code ≡ permitted (get_answer P c d selection)
     → Code code ≡ reply_to P s (Get c d selection)
@@ -55,6 +71,10 @@ granted_get P s c d selection v unit h is =
     ∙ ap (λ code. cond (is_success code) (Value (selected selection (attribute P s c (cell_of d)))) (Code code)) (sym (granted (get_answer P c d selection) unit h))
 
 -- SET
+
+pub granted_set_takes_memory : {b : Bool} (P : Plan) (c : ℕ) (d : Descriptor) (chosen : Bool) (v : Argument) (unit : Unit {0}) → Ok unit ≡ permitted (set_answer P c d chosen v)
+    → needs_no_memory P (Set c d chosen v) ≡ true → b ≡ true
+granted_set_takes_memory P c d chosen v unit h = not_refused (set_answer P c d chosen v) unit h
 
 pub refused_set : (P : Plan) (s : State) (c : ℕ) (d : Descriptor) (chosen : Bool) (v : Argument) (code : AccessCode) → Err code ≡ permitted (set_answer P c d chosen v)
     → Code code ≡ reply_to P s (Set c d chosen v)

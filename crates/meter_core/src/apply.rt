@@ -1,11 +1,12 @@
 //! One step of a meter.
-ghost use Rattle.std.specs.Prelude.{◌≡◌, OnOk, OnErr, IfOk};
+ghost use Rattle.std.specs.Prelude.{◌≡◌, true, OnOk, OnErr, IfOk, IsOk};
 ghost use Rattle.cosem_data.specs.View.{tree};
 ghost use Rattle.cosem_data.specs.declared.cell.CellRef.{CellRef};
 ghost use Rattle.meter_theory.specs.Steps as steps;
 ghost use Rattle.meter_theory.specs.Steps.{next};
 ghost use Rattle.meter_theory.specs.Replies.{attribute, reply_to};
 ghost use Rattle.meter_theory.specs.States.{IsState};
+ghost use Rattle.meter_core.specs.Memory.{needs_no_memory};
 ghost use Rattle.meter_core.specs.StepView.{argument_of, reply_of, selection_of, step_of};
 
 use crate::reply::Reply;
@@ -24,13 +25,15 @@ use object_model::meter::Meter;
 use object_model::plan::Plan;
 use std::alloc::Global;
 
-/// Takes one step, and answers it. The only error is that memory was refused, and then the meter is as it was.
+/// Takes one step, and answers it. The only error is that memory was refused, and then the meter is as it was; a request
+/// that the plan denies is answered without memory.
 pub fn apply(alloc: Global, plan: &Plan, meter: &mut Meter, step: &Step) -> Result<Reply, Memory>
     requires { IsState plan.now meter.old }
     ensures state { IsState plan.now meter.new }
     ensures ok { OnOk result (meter.new ≡ next plan.now meter.old (step_of step.now)) }
     ensures reply { IfOk result (λ reply. reply_of reply ≡ reply_to plan.now meter.old (step_of step.now)) }
     ensures err { OnErr result (meter.new ≡ meter.old) }
+    ensures denied { needs_no_memory plan.now (step_of step.now) ≡ true → IsOk result }
 {
     match step {
         Step::Get {
@@ -67,7 +70,8 @@ fn get(
     selection: &Option<(u8, Argument)>,
 ) -> Result<Reply, Memory>
     requires { IsState plan.now meter.now }
-    ensures { IfOk result (λ reply. reply_of reply ≡ reply_to plan.now meter.now (steps.Get client (record { class_id = class_id; name = name.now; index = index }) (selection_of selection.now))) }
+    ensures reply { IfOk result (λ reply. reply_of reply ≡ reply_to plan.now meter.now (steps.Get client (record { class_id = class_id; name = name.now; index = index }) (selection_of selection.now))) }
+    ensures denied { needs_no_memory plan.now (steps.Get client (record { class_id = class_id; name = name.now; index = index }) (selection_of selection.now)) ≡ true → IsOk result }
 {
     if let Err(code) = permit_get(plan, client, class_id, name, index, selection) {
         return Ok(Reply::Code(code));
@@ -112,6 +116,7 @@ fn set(
     ensures ok { OnOk result (meter.new ≡ next plan.now meter.old (steps.Set client (record { class_id = class_id; name = name.now; index = index }) selected (argument_of value.now))) }
     ensures reply { IfOk result (λ reply. reply_of reply ≡ reply_to plan.now meter.old (steps.Set client (record { class_id = class_id; name = name.now; index = index }) selected (argument_of value.now))) }
     ensures err { OnErr result (meter.new ≡ meter.old) }
+    ensures denied { needs_no_memory plan.now (steps.Set client (record { class_id = class_id; name = name.now; index = index }) selected (argument_of value.now)) ≡ true → IsOk result }
 {
     plan.known();
     if let Err(code) = permit_set(plan, client, class_id, name, index, selected, value) {

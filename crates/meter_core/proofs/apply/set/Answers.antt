@@ -10,7 +10,7 @@ use Rattle.meter_theory.specs.Steps.{Set, effects, given_value}
 use Rattle.meter_theory.proofs.KeepSteps.{step-keeps}
 use Rattle.association_views.specs.Permits.{permitted}
 use Rattle.object_model.specs.ArgumentView.{argument_of}
-use Rattle.meter_core.proofs.Answered.{refused_set, refused_set_stays, granted_set, granted_set_puts, granted_fits, nothing_given}
+use Rattle.meter_core.proofs.Answered.{refused_set, refused_set_stays, granted_set, granted_set_puts, granted_fits, granted_set_takes_memory, nothing_given}
 use Rattle.meter_core.proofs.apply.set.Goals as goal
 use Rattle.meter_core.proofs.apply.set.Goals.{in-Value+in_ok-given+in_ok-take, in_default-value}
 
@@ -65,3 +65,17 @@ pub returns-clause-state : goal.returns-clause-state
 returns-clause-state c = subst (IsState c.args.plan.now) (sym (returns-clause-ok c))
     (step-keeps c.args.plan.now c.known.ensures c.args.meter.now
     (Set c.args.client (record { class_id = c.args.class_id; name = c.args.name.now; index = c.args.index }) c.args.selected (argument_of c.args.value.now)) c.requires)
+
+pub returns-in_err-given-clause-denied : goal.returns-in_err-given-clause-denied
+returns-in_err-given-clause-denied c = granted_set_takes_memory c.args.plan.now c.args.client (named c.args.index) c.args.selected (argument_of c.args.value.now) c.in_default.field-0
+    (subst (λ i. Ok c.in_default.field-0 ≡ permitted (set_answer c.args.plan.now c.args.client (named i) c.args.selected (argument_of c.args.value.now))) (to_z-of_z w8 c.args.index c.ranges.index) c.in_default.ensures)
+  where
+    named : ℤ → Descriptor
+    named i = record { class_id = c.args.class_id; name = c.args.name.now; index = i }
+
+pub returns-in_err-take-clause-denied : goal.returns-in_err-take-clause-denied
+returns-in_err-take-clause-denied c = granted_set_takes_memory c.args.plan.now c.args.client (named c.args.index) c.args.selected (argument_of c.args.value.now) c.in_default.field-0
+    (subst (λ i. Ok c.in_default.field-0 ≡ permitted (set_answer c.args.plan.now c.args.client (named i) c.args.selected (argument_of c.args.value.now))) (to_z-of_z w8 c.args.index c.ranges.index) c.in_default.ensures)
+  where
+    named : ℤ → Descriptor
+    named i = record { class_id = c.args.class_id; name = c.args.name.now; index = i }
