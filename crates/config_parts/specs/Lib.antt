@@ -1,0 +1,3 @@
+pub mod BodyView
+pub mod Fault
+pub mod Parts

@@ -1,0 +1,9 @@
+pub mod Cells
+pub mod DemoText
+pub mod Fits
+pub mod Monitored
+pub mod Named
+pub mod Passed
+pub mod Sound
+pub mod Started
+pub mod Starts

@@ -1,0 +1,6 @@
+pub mod Names
+pub mod Passes
+pub mod PlanOf
+pub mod Read
+pub mod Values
+pub mod Walks
