@@ -4,3 +4,6 @@
 pub mod fault;
 pub mod parts;
 pub mod service;
+
+#[cfg(test)]
+mod tests;

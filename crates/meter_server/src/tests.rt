@@ -1,5 +1,11 @@
 ghost use Rattle.std.specs.Prelude.{◌≡◌, ◌≤◌, Some, IfOk, length};
 
+mod permits;
+mod samples;
+mod selections;
+mod steps;
+mod views;
+
 use crate::demo::built_in;
 use crate::running::{LineFault, run_lines};
 use cosem_data::data::Data;
@@ -12,7 +18,7 @@ use std::io::{ErrorKind, Read, Write};
 use std::process::Abort;
 use std::test::Fail;
 
-/// A reader that moves one byte a call and fails at one call, counted from 1.
+// A reader that moves one byte a call and fails at one call, counted from 1.
 #[derive(Drop)]
 struct SlowReader<'a> {
     bytes: &'a [u8],
@@ -42,7 +48,7 @@ impl<'a> Read for SlowReader<'a> {
     }
 }
 
-/// A writer that takes one byte a call and fails at one call, counted from 1.
+// A writer that takes one byte a call and fails at one call, counted from 1.
 #[derive(Drop)]
 struct SlowWriter {
     held: Vec<u8>,
@@ -74,8 +80,8 @@ impl Write for SlowWriter {
     }
 }
 
-/// What a run over the built-in plan answers and writes, its reader and writer failing at these calls (0 for
-/// none). Want of memory, of which the run itself tells, is an error here.
+// What a run over the built-in plan answers and writes, its reader and writer failing at these calls (0 for
+// none). Want of memory, of which the run itself tells, is an error here.
 fn run_failing(
     alloc: Global,
     input: &[u8],
@@ -89,7 +95,7 @@ fn run_failing(
         fails_at: fails_read,
     };
     let mut writer = SlowWriter {
-        held: Vec::with_capacity(alloc, 128)?,
+        held: Vec::with_capacity(alloc, 512)?,
         calls: 0,
         fails_at: fails_write,
     };
@@ -99,7 +105,7 @@ fn run_failing(
     }
 }
 
-/// What a run that fails writes is a beginning of what it writes else.
+// What a run that fails writes is a beginning of what it writes else.
 fn fails(
     rt: &impl Abort,
     alloc: Global,
@@ -115,7 +121,7 @@ fn fails(
     Ok((answer, count))
 }
 
-/// A comment, an empty line, digits in either case, and a last line without its end.
+// A comment, an empty line, digits in either case, and a last line without its end.
 const LINES: &[u8] = b"# a comment\n\
     reader C001C100030100010800FF0200\n\
     \n\
@@ -125,9 +131,9 @@ const LINES: &[u8] = b"# a comment\n\
 
 const REPLIES: &[u8] = b"C401C100060001E240\nC401C10103\nC501C100\nC401C1001101\n";
 
-/// The register as class 1; the alarm, which the public doesn't see; the register's name; a double-long-unsigned, a
-/// float and seventeen nested arrays for the alarm; the alarm by a client without the right; the register by entry;
-/// the alarm by a selection.
+// The register as class 1; the alarm, which the public doesn't see; the register's name; a double-long-unsigned, a
+// float and seventeen nested arrays for the alarm; the alarm by a client without the right; the register by entry;
+// the alarm by a selection.
 const REFUSED: &[u8] = b"reader C001C100010100010800FF0200\n\
     public C001C100010000600B00FF0200\n\
     public C001C100030100010800FF0100\n\
@@ -148,8 +154,8 @@ const CODES: &[u8] = b"C401C10109\n\
     C401C1010D\n\
     C501C10D\n";
 
-/// The manager sets the alarm, a SET by the reader is refused, and one of the wrong kind; the reader reads the alarm
-/// after each. Each request has an invoke byte of its own.
+// The manager sets the alarm, a SET by the reader is refused, and one of the wrong kind; the reader reads the alarm
+// after each. Each request has an invoke byte of its own.
 const SETTINGS: &[u8] = b"manager C1014200010000600B00FF02001107\n\
     reader C0014300010000600B00FF0200\n\
     reader C1014400010000600B00FF02001108\n\
@@ -164,7 +170,7 @@ const READ_BACK: &[u8] = b"C5014200\n\
     C501C60C\n\
     C401C7001107\n";
 
-/// Lines without a request, the last without its end.
+// Lines without a request, the last without its end.
 const NO_REQUESTS: &[u8] = b"reader C001C1\n\
     #\n\
     manager C001c100030100010800FF020000\n\
@@ -225,7 +231,7 @@ fn other_lines_are_answered(rt: HostRuntime) -> Result<(), Fail> {
     Ok(())
 }
 
-/// Each reading of a byte fails once: the lines before it are answered.
+// Each reading of a byte fails once: the lines before it are answered.
 #[test]
 fn readings_fail(rt: HostRuntime) -> Result<(), Fail> {
     for (call, count) in [(1, 0), (14, 0), (15, 7), (53, 7), (54, 14), (63, 14)] {
@@ -235,7 +241,7 @@ fn readings_fail(rt: HostRuntime) -> Result<(), Fail> {
     Ok(())
 }
 
-/// Each writing of a byte fails once: nothing is written behind it.
+// Each writing of a byte fails once: nothing is written behind it.
 #[test]
 fn writings_fail(rt: HostRuntime) -> Result<(), Fail> {
     for call in 1..22u64 {
@@ -249,7 +255,7 @@ fn writings_fail(rt: HostRuntime) -> Result<(), Fail> {
     Ok(())
 }
 
-/// The same between answers that requests get.
+// The same between answers that requests get.
 #[test]
 fn runs_fail_between_answers(rt: HostRuntime) -> Result<(), Fail> {
     for (call, count) in [(46, 0), (47, 19), (121, 39), (154, 39)] {
