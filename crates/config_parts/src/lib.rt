@@ -4,6 +4,5 @@
 pub mod fault;
 pub mod parts;
 pub mod service;
-
 #[cfg(test)]
 mod tests;
