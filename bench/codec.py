@@ -6,9 +6,9 @@
 The array holds arrays of structures of mixed kinds, nested up to 16 deep, in A-XDR, each length in its shortest form. BYTES
 is at most 4 million. The same seed gives the same array. The loop pushes one byte after the other into a vector that has
 the room; reading a value also drops it. Each figure is from the processor time of many passes in one process less that of
-one, the best of several runs, so that the start and the reading of the input don't count. Runs over twice and four times
-the bytes show that the time of a pass grows in proportion. Run `rt run -- copy 1 < stdin` in crates/codec_bench first,
-which builds the program.
+one, the best of several rounds, so that the start and the reading of the input don't count. Runs over twice and four times
+the bytes show how the time of a pass grows; on a machine that does other work, these figures vary from run to run. Run
+`rt run -- copy 1 < stdin` in crates/codec_bench first, which builds the program.
 """
 import os
 import random
@@ -22,8 +22,9 @@ DEEPEST = 16
 # The tags of the kinds of a fixed width, and how many bytes stand behind each.
 FIXED = [(0, 0), (5, 4), (6, 4), (15, 1), (16, 2), (17, 1), (18, 2), (20, 8), (21, 8), (22, 1)]
 ARRAY, STRUCTURE, BOOLEAN, OCTET_STRING, VISIBLE_STRING = 1, 2, 3, 9, 10
-ENOUGH_SECONDS = 0.5
-REPEATS = 5
+COMMANDS = ("copy", "read", "write")
+ENOUGH_SECONDS = 0.3
+ROUNDS = 9
 
 
 def headed(tag, count):
@@ -98,39 +99,52 @@ def seconds_of(command, times, path, size):
     return usage.ru_utime + usage.ru_stime
 
 
-def seconds_of_pass(command, path, size):
-    """The processor time of one pass: the best of some runs of many passes, less a run of one."""
-    more = 8
-    while seconds_of(command, more, path, size) < ENOUGH_SECONDS:
-        more *= 2
-    one = min(seconds_of(command, 1, path, size) for _ in range(REPEATS))
-    many = min(seconds_of(command, 1 + more, path, size) for _ in range(REPEATS))
-    return (many - one) / more
+def passes_enough(command, path, size):
+    """How many passes take long enough to be measured."""
+    times = 8
+    while seconds_of(command, times, path, size) < ENOUGH_SECONDS:
+        times *= 2
+    return times
 
 
-def compare(path, size):
-    """Prints the figures of an array of this size, and gives the seconds of each kind of pass."""
-    seconds = {command: seconds_of_pass(command, path, size) for command in ("copy", "read", "write")}
-    for command, taken in seconds.items():
-        print(f"  {command:5} {size / taken / 1e6:7.1f} MB/s, {taken / seconds['copy']:4.1f} times a copy")
-    return seconds
+def seconds_of_passes(arrays):
+    """The processor time of one pass of each command over each array, given as paths and sizes.
+
+    All are measured in turn, round after round, so that what else the machine does meets them alike.
+    """
+    cases = [(command, path, size) for path, size in arrays for command in COMMANDS]
+    more = {case: passes_enough(*case) for case in cases}
+    one = {case: [] for case in cases}
+    many = {case: [] for case in cases}
+    for _ in range(ROUNDS):
+        for case in cases:
+            command, path, size = case
+            one[case].append(seconds_of(command, 1, path, size))
+            many[case].append(seconds_of(command, 1 + more[case], path, size))
+    return {case: (min(many[case]) - min(one[case])) / more[case] for case in cases}
 
 
 def main():
     size = int(sys.argv[1]) if len(sys.argv) > 1 else 1_000_000
     seed = int(sys.argv[2]) if len(sys.argv) > 2 else 1
-    first = None
+    arrays = []
     with tempfile.TemporaryDirectory() as folder:
-        path = os.path.join(folder, "value")
         for factor in (1, 2, 4):
+            path = os.path.join(folder, str(factor))
             text = nested_array(factor * size, seed)
             with open(path, "wb") as out:
                 out.write(text)
-            print(f"{len(text)} bytes")
-            seconds = compare(path, len(text))
-            first = first or (len(text), seconds)
-            grown = ", ".join(f"{command} {taken / first[1][command]:.2f}" for command, taken in seconds.items())
-            print(f"  {len(text) / first[0]:.2f} times the bytes; times as long: {grown}")
+            arrays.append((path, len(text)))
+        seconds = seconds_of_passes(arrays)
+    first = arrays[0]
+    for path, length in arrays:
+        print(f"{length} bytes, {length / first[1]:.2f} times as many")
+        for command in COMMANDS:
+            taken = seconds[command, path, length]
+            print(
+                f"  {command:5} {length / taken / 1e6:7.1f} MB/s, {taken / seconds['copy', path, length]:4.1f} times a copy, "
+                f"{taken / seconds[(command, *first)]:.2f} times as long"
+            )
 
 
 if __name__ == "__main__":
