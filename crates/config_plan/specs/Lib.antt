@@ -1,3 +1,4 @@
+pub mod Faultless
 pub mod Names
 pub mod Passes
 pub mod PlanOf

@@ -1,0 +1,50 @@
+-- What no pass finds a fault in: the plans and the policies of configurations.
+use Rattle.std.specs.Prelude.{◌≡◌, ℕ, Result, Ok, Err, List, [], ◌∷◌, ⊤, ◌==◌}
+use Rattle.std.specs.List.{list_any}
+use Rattle.cosem_data.specs.Clients.{has_client}
+use Rattle.cosem_data.specs.declared.clients.ClientSet.{ClientSet}
+use Rattle.meter_theory.specs.Labels.{Label, Labels, Policy}
+use Rattle.meter_theory.specs.Plan.{Plan}
+use Rattle.config_parts.specs.Parts.{Text, SetsText, LabelText, ConfigText}
+use Rattle.config_plan.specs.Passes.{judged}
+use Rattle.config_plan.specs.PlanOf.{plan_of, cell_named, client_place}
+use Rattle.config_plan.specs.Read.{IsRead}
+
+-- the set has the clients with these names, and no others
+abbrev pub HasNamed : ConfigText → List Text → ClientSet → Type 0
+HasNamed c names set = (client : ℕ) → has_client set client ≡ list_any (λ name. client == client_place c name) names
+
+-- who may influence a cell, and who may learn it
+pub record IsLabelOf (c : ConfigText) (s : SetsText) (l : Label) : Type 0 where
+  pub influence : HasNamed c s.influence l.influence
+  pub learn : HasNamed c s.learn l.learn
+
+-- a label for each cell that the configuration labels, in its order
+abbrev pub AreLabelsOf : ConfigText → List LabelText → Labels → Type 0
+AreLabelsOf c [] [] = Unit {0}
+AreLabelsOf c [] (e ∷ table) = ⊥
+AreLabelsOf c (l ∷ ls) [] = ⊥
+AreLabelsOf c (l ∷ ls) (e ∷ table) = (e.0 ≡ cell_named c l.target) × IsLabelOf c l.sets e.1 × AreLabelsOf c ls table
+
+-- The policy of a configuration: its labels, and that of each other cell.
+pub record IsPolicyOf (c : ConfigText) (policy : Policy) : Type 0 where
+  pub table : AreLabelsOf c c.labels policy.table
+  pub default : IsLabelOf c c.policy policy.default
+
+-- A configuration that could be read, and in which no pass finds a fault.
+pub record IsFaultless (c : ConfigText) : Type 0 where
+  pub read : IsRead c
+  pub judged : judged c ≡ Ok tt
+
+-- A plan of such a configuration.
+pub record IsFaultlessPlan (P : Plan) : Type 0 where
+  pub config : ConfigText
+  pub faultless : IsFaultless config
+  pub plan : P ≡ plan_of config
+
+-- A policy of such a configuration, and its plan.
+pub record IsFaultlessPolicy (P : Plan) (policy : Policy) : Type 0 where
+  pub config : ConfigText
+  pub faultless : IsFaultless config
+  pub plan : P ≡ plan_of config
+  pub labels : IsPolicyOf config policy
