@@ -125,7 +125,7 @@ fn set(
     if let Argument::Value(value) = value {
         let cell = attribute_cell(class_id, name, index);
         let given = value.try_clone(alloc)?;
-        meter.take(plan, Effect::Put(cell, given))?;
+        meter.take(alloc, plan, Effect::Put(cell, given))?;
     }
     Ok(Reply::Code(AccessCode::Success))
 }

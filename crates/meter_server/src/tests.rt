@@ -11,7 +11,7 @@ use crate::running::{LineFault, run_lines};
 use cosem_data::data::Data;
 use cosem_data::memory::Memory;
 use cosem_data::name::LogicalName;
-use object_model::object::Part;
+use object_model::part::Part;
 use std::alloc::Global;
 use std::io;
 use std::io::{ErrorKind, Read, Write};
@@ -288,7 +288,7 @@ fn built_in_plan_is_made(rt: HostRuntime) -> Result<(), Fail> {
             assert!(rt; part.default == Data::DoubleLongUnsigned(0));
             assert_eq!(rt; part.scaler_unit.unit, 30);
         }
-        Part::Data { .. } => return Err("no register".into()),
+        _ => return Err("no register".into()),
     }
     assert_eq!(rt; plan.objects().len(), 2);
     assert_eq!(rt; plan.rights().len(), 5);

@@ -1,22 +1,60 @@
 -- What a part of the code stands for.
-use Rattle.std.specs.Prelude.{◌≡◌, ℕ, true}
+use Rattle.std.specs.Prelude.{◌≡◌, ◌==◌, ℕ, cond, true, length, Option, Some, None}
 use Rattle.cosem_data.specs.View.{tree}
 use Rattle.cosem_data.specs.Tree.{Tree}
 use Rattle.cosem_data.specs.Kinds.{kind_of}
-use Rattle.meter_theory.specs.Value.{OfKind, meets}
+use Rattle.cosem_data.specs.declared.cell.CellRef.{CellRef}
+use Rattle.cosem_data.specs.declared.kind.Kind.{Kind}
+use Rattle.cosem_data.specs.declared.kind.Kind.TheVariants.{NullData}
+use Rattle.meter_theory.specs.Value.{Rule, OfKind, Thresholds, ExecutionTimes, meets}
+use Rattle.meter_theory.specs.State.{value}
 use Rattle.meter_theory.specs.Plan as theory
-use Rattle.object_model.specs.declared.object.Part.{Part}
-use Rattle.object_model.specs.declared.object.Part.TheVariants as parts
+use Rattle.meter_theory.specs.Plan.{start}
+use Rattle.class_profile.specs.ProfileClass.{period_rule}
+use Rattle.class_control.specs.PartView.{script_table_part_of, monitor_part_of, schedule_part_of}
+use Rattle.object_model.specs.declared.part.Part.{Part}
+use Rattle.object_model.specs.declared.part.Part.TheVariants as parts
 
--- what is fixed of an object by its class, with the trees of its values: IEC 62056-6-2, Data and Register
+-- what is fixed of an object by its class, with the trees of its values: IEC 62056-6-2, interface classes
 abbrev pub part_of : Part → theory.Part
-part_of (parts.Data start) = theory.Data1 (tree start)
+part_of (parts.Data first) = theory.Data1 (tree first)
 part_of (parts.Register part) = theory.Register (tree part.start) (tree part.default) part.scaler_unit
+part_of (parts.ProfileGeneric part) = theory.ProfileGeneric part.captured.items part.capture_period part.profile_entries
+part_of (parts.ScriptTable part) = script_table_part_of part
+part_of (parts.RegisterMonitor part) = monitor_part_of part
+part_of (parts.SingleActionSchedule part) = schedule_part_of part
 
--- the cell at this index, attribute 2, holds the one value and may hold the other, and a register its default: own profile
-abbrev pub MayReplace : Part → ℕ → Tree → Tree → Type 0
-MayReplace (parts.Data start) index held given =
-    (index ≡ 2) × (meets (OfKind (kind_of (tree start))) held ≡ true) × (meets (OfKind (kind_of (tree start))) given ≡ true)
-MayReplace (parts.Register part) index held given =
-    (index ≡ 2) × (meets (OfKind (kind_of (tree part.start))) held ≡ true) × (meets (OfKind (kind_of (tree part.start))) given ≡ true)
-    × (meets (OfKind (kind_of (tree part.start))) (tree part.default) ≡ true)
+-- the attribute that a register monitor watches: IEC 62056-6-2, Register monitor, monitored_value
+abbrev pub monitored_in : theory.Part → Option CellRef
+monitored_in (theory.RegisterMonitor monitored thresholds actions) = Some monitored
+monitored_in _ = None
+
+-- the kind of the value that it watches, that of null-data where there is none: own profile
+abbrev pub monitored_kind : theory.Plan → theory.Part → Kind
+monitored_kind P (theory.RegisterMonitor monitored thresholds actions) = kind_of (value (start P) monitored)
+monitored_kind P _ = NullData
+
+-- what a settable cell may hold, where a register monitor watches a value of this kind: own profile
+abbrev pub rule_watching : Kind → theory.Part → ℕ → Option Rule
+rule_watching monitored (theory.Data1 first) index = cond (index == 2) (Some (OfKind (kind_of first))) None
+rule_watching monitored (theory.Register first default scaler_unit) index = cond (index == 2) (Some (OfKind (kind_of first))) None
+rule_watching monitored (theory.ProfileGeneric captured period entries) index = cond (index == 4) (Some period_rule) None
+rule_watching monitored (theory.ScriptTable scripts) index = None
+rule_watching monitored (theory.RegisterMonitor source thresholds actions) index =
+    cond (index == 2) (Some (Thresholds (length actions) monitored)) None
+rule_watching monitored (theory.SingleActionSchedule script type times) index = cond (index == 4) (Some (ExecutionTimes type)) None
+
+-- the settable cell has this index, holds the one value and may hold the other: own profile
+abbrev pub Replaces : Rule → ℕ → ℕ → Tree → Tree → Type 0
+Replaces rule settable index held given = (index ≡ settable) × (meets rule held ≡ true) × (meets rule given ≡ true)
+
+-- the value at this index may be replaced by the other, where a register monitor watches this kind, and a register's value
+-- by its default: own profile
+abbrev pub MayReplace : Part → Kind → ℕ → Tree → Tree → Type 0
+MayReplace (parts.Data first) monitored index held given = Replaces (OfKind (kind_of (tree first))) 2 index held given
+MayReplace (parts.Register part) monitored index held given =
+    (meets (OfKind (kind_of (tree part.start))) (tree part.default) ≡ true) × Replaces (OfKind (kind_of (tree part.start))) 2 index held given
+MayReplace (parts.ProfileGeneric part) monitored index held given = Replaces period_rule 4 index held given
+MayReplace (parts.ScriptTable part) monitored index held given = ⊥
+MayReplace (parts.RegisterMonitor part) monitored index held given = Replaces (Thresholds (length part.actions.items) monitored) 2 index held given
+MayReplace (parts.SingleActionSchedule part) monitored index held given = Replaces (ExecutionTimes part.execution_type) 4 index held given

@@ -1,4 +1,4 @@
-//! The plan of a meter, and the meter: a value for each of its cells. Here for objects of classes 1 and 3.
+//! The plan of a meter, and the meter: a value for each of its cells.
 #![tactic(auto)]
 
 pub mod argument;
@@ -6,7 +6,9 @@ pub mod client;
 pub mod effect;
 pub mod meter;
 pub mod object;
+pub mod part;
 pub mod plan;
+mod put;
 pub mod right;
 pub mod rights;
 #[cfg(test)]

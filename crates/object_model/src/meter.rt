@@ -62,14 +62,14 @@ impl Meter {
     }
 
     /// Takes an effect of a step of its plan, each put by the class of its object. Want of memory leaves it as it was.
-    pub fn take(&mut self, plan: &Plan, effect: Effect) -> Result<(), Memory>
+    pub fn take(&mut self, alloc: Global, plan: &Plan, effect: Effect) -> Result<(), Memory>
         requires of_plan { IsState plan.now self.old }
         requires fits { MayTake plan.now effect }
         ensures ok { OnOk result (self.new ≡ theory.effect plan.now self.old (effect_of effect)) }
         ensures err { OnErr result (self.new ≡ self.old) }
     {
         match effect {
-            Effect::Put(cell, value) => self.put(plan, &cell, value),
+            Effect::Put(cell, value) => self.put(alloc, plan, &cell, value),
         }
         Ok(())
     }
@@ -84,7 +84,7 @@ impl Meter {
     }
 
     /// Puts a value that may stand in the cell, by the class of its object.
-    fn put(&mut self, plan: &Plan, cell: &CellRef, given: Data)
+    fn put(&mut self, alloc: Global, plan: &Plan, cell: &CellRef, given: Data)
         requires of_plan { IsState plan.now self.old }
         requires fits { MayStand plan.now cell.now (tree given) }
         ensures { self.new ≡ put self.old cell.now (tree given) }
@@ -92,7 +92,9 @@ impl Meter {
         plan.known();
         if let Some(object) = plan.object_at(&cell.name) {
             let held = self.replace(cell, Data::NullData);
-            let value = object.part().put(cell.name, cell.index, held, given);
+            let part = object.part();
+            let monitored = plan.monitored_kind(part);
+            let value = part.put(alloc, cell.name, monitored, cell.index, held, given);
             self.set(cell, value);
         }
     }

@@ -1,22 +1,26 @@
-ghost use Rattle.std.specs.Prelude.{◌≡◌, ℕ, option_map, map, flat_map, IfOk, slice_get};
+ghost use Rattle.std.specs.Prelude.{◌≡◌, ℕ, option_map, map, find, flat_map, IfOk, slice_get};
 ghost use Rattle.std.specs.List.{list_any, position_from};
 ghost use Rattle.std.specs.Str.{bytes_eq};
 ghost use Rattle.cosem_data.specs.View.{tree};
 ghost use Rattle.cosem_data.specs.Cells.{same_cell};
+ghost use Rattle.cosem_data.specs.Kinds.{kind_of};
 ghost use Rattle.cosem_class.specs.Judged.{rule_answer};
 ghost use Rattle.meter_theory.specs.Plan.{cells, client_named, interface_at, is_cell, object_at, rule_of, start, start_of};
-ghost use Rattle.meter_theory.specs.State.{keys};
+ghost use Rattle.meter_theory.specs.State.{keys, value};
 ghost use Rattle.meter_theory.specs.Fixed.{fixed_of};
 ghost use Rattle.meter_theory.specs.Sound.{IsSound};
 ghost use Rattle.object_model.specs.MeterView.{entry_of};
+ghost use Rattle.object_model.specs.PartView.{part_of, monitored_kind};
 ghost use Rattle.object_model.specs.PlanView.{plan_of};
 
 use crate::client::Client;
 use crate::meter::Meter;
 use crate::object::Object;
+use crate::part::Part;
 use crate::right::Right;
 use cosem_data::cell::CellRef;
 use cosem_data::data::Data;
+use cosem_data::kind::Kind;
 use cosem_data::memory::Memory;
 use cosem_data::name::LogicalName;
 use meter_theory::access::AccessCode;
@@ -161,7 +165,25 @@ impl Plan {
         if part.class_id() != cell.class_id {
             return Err(AccessCode::TypeUnmatched);
         }
-        part.judge(cell.index, value)
+        part.judge(self.monitored_kind(part), cell.index, value)
+    }
+
+    /// The kind of the value that a register monitor watches, which is kept; that of null-data for any other object. It
+    /// takes no memory.
+    pub fn monitored_kind(&self, part: &Part) -> Kind
+        ensures { result ≡ monitored_kind self.now (part_of part.now) }
+    {
+        match part.monitored() {
+            Some(cell) => self.start_kind(&cell),
+            None => Kind::NullData,
+        }
+    }
+
+    /// The kind of the value with which a cell starts; that of null-data for what is no cell. It takes no memory.
+    pub fn start_kind(&self, cell: &CellRef) -> Kind
+        ensures { result ≡ kind_of (value (start self.now) cell.now) }
+    {
+        start_kind_in(&self.objects, cell)
     }
 
     /// A copy of a fixed attribute of an object, other than its logical name; null-data where there is none. The
@@ -202,6 +224,24 @@ fn place_named(clients: &[Client], name: &[u8]) -> Option<usize>
     ensures { result ≡ position_from (λ c. bytes_eq c.name name.now) 0 clients.now }
 {
     clients.iter().position(|client| client.name() == name)
+}
+
+/// The first object with this cell.
+fn object_with<'a>(objects: &'a [Object], cell: &CellRef) -> Option<&'a Object>
+    ensures { option_map (λ o. o.now) result ≡ find (λ o. list_any (same_cell cell.now) (keys (start_of o.name o.part))) objects.now }
+{
+    objects
+        .iter()
+        .find(|object| object.part().has_cell(object.name(), cell))
+}
+
+fn start_kind_in(objects: &[Object], cell: &CellRef) -> Kind
+    ensures { result ≡ kind_of (value (flat_map (λ o. start_of o.name o.part) objects.now) cell.now) }
+{
+    match object_with(objects, cell) {
+        Some(object) => object.part().start_kind(object.name(), cell),
+        None => Kind::NullData,
+    }
 }
 
 fn has_cell(objects: &[Object], cell: &CellRef) -> bool

@@ -8,10 +8,13 @@ ghost use Rattle.meter_theory.specs.States.{IsState};
 ghost use Rattle.meter_theory.specs.Demo.{energy, alarm, off};
 ghost use Rattle.object_model.specs.PartView.{part_of};
 
+mod parts;
+
 use crate::client::Client;
 use crate::effect::Effect;
 use crate::meter::Meter;
-use crate::object::{Object, Part};
+use crate::object::Object;
+use crate::part::Part;
 use crate::plan::{ASSOCIATION, Plan, PlanParts};
 use crate::right::Right;
 use cosem_class::register::RegisterPart;
@@ -158,13 +161,19 @@ fn started(plan: &Plan, alloc: Global) -> Result<Meter, Memory>
 }
 
 /// Whether the value goes into the cell by its rule; it is put where it does.
-fn offer(plan: &Plan, meter: &mut Meter, cell: CellRef, given: Data) -> Result<bool, Memory>
+fn offer(
+    alloc: Global,
+    plan: &Plan,
+    meter: &mut Meter,
+    cell: CellRef,
+    given: Data,
+) -> Result<bool, Memory>
     requires { IsState plan.now meter.old }
     ensures { IsState plan.now meter.new }
 {
     let fits = plan.rule(&cell, &given).is_ok();
     if fits {
-        meter.take(plan, Effect::Put(cell, given))?;
+        meter.take(alloc, plan, Effect::Put(cell, given))?;
     }
     Ok(fits)
 }
@@ -356,11 +365,27 @@ fn what_is_put_is_read(rt: HostRuntime) -> Result<(), Fail> {
     let plan = plan(rt.alloc())?;
     let mut meter = started(&plan, rt.alloc())?;
     let (alarm, energy) = (cell(1, ALARM, 2), cell(3, ENERGY, 2));
-    assert!(rt; offer(&plan, &mut meter, alarm, Data::Unsigned(7))?);
+    assert!(rt; offer(rt.alloc(), &plan, &mut meter, alarm, Data::Unsigned(7))?);
     assert_eq!(rt; meter.value(rt.alloc(), &plan, &alarm)?, Data::Unsigned(7));
-    assert!(rt; !offer(&plan, &mut meter, alarm, Data::DoubleLongUnsigned(9))?);
+    assert!(rt;
+        !offer(
+            rt.alloc(),
+            &plan,
+            &mut meter,
+            alarm,
+            Data::DoubleLongUnsigned(9)
+        )?
+    );
     assert_eq!(rt; meter.value(rt.alloc(), &plan, &alarm)?, Data::Unsigned(7));
-    assert!(rt; offer(&plan, &mut meter, energy, Data::DoubleLongUnsigned(0))?);
+    assert!(rt;
+        offer(
+            rt.alloc(),
+            &plan,
+            &mut meter,
+            energy,
+            Data::DoubleLongUnsigned(0)
+        )?
+    );
     assert_eq!(rt;
         meter.value(rt.alloc(), &plan, &energy)?,
         Data::DoubleLongUnsigned(0)

@@ -1,0 +1,4 @@
+mod FirstTimes
+mod Refused
+mod AnyOfMapped
+mod DueMore

@@ -1,0 +1,10 @@
+pub mod ActionView
+pub mod ScriptView
+pub mod PartView
+pub mod ScriptTableClass
+pub mod ScriptTableLaws
+pub mod MonitorClass
+pub mod MonitorLaws
+pub mod DueScript
+pub mod ScheduleClass
+pub mod ScheduleLaws

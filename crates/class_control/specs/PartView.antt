@@ -1,0 +1,20 @@
+-- What the fixed parts of the code stand for.
+use Rattle.std.specs.Prelude.{map}
+use Rattle.cosem_data.specs.View.{tree}
+use Rattle.meter_theory.specs.Plan as theory
+use Rattle.class_control.specs.ScriptView.{script_of}
+use Rattle.class_control.specs.declared.parts.ScriptTablePart.{ScriptTablePart}
+use Rattle.class_control.specs.declared.parts.MonitorPart.{MonitorPart}
+use Rattle.class_control.specs.declared.parts.SchedulePart.{SchedulePart}
+
+-- the scripts of a table: IEC 62056-6-2, Script table
+abbrev pub script_table_part_of : ScriptTablePart → theory.Part
+script_table_part_of part = theory.ScriptTable (map script_of part.scripts.items)
+
+-- what a register monitor watches, its thresholds at the start and its actions: IEC 62056-6-2, Register monitor
+abbrev pub monitor_part_of : MonitorPart → theory.Part
+monitor_part_of part = theory.RegisterMonitor part.monitored_value (tree part.start) part.actions.items
+
+-- the script of a schedule, its type and its times at the start: IEC 62056-6-2, Single action schedule
+abbrev pub schedule_part_of : SchedulePart → theory.Part
+schedule_part_of part = theory.SingleActionSchedule part.executed_script part.execution_type (tree part.start)

@@ -1,0 +1,16 @@
+//! Interface classes that control (IEC 62056-6-2): class 9 Script table, class 21 Register monitor and class 22 Single
+//! action schedule, each over what its plan lends, with the laws of `cosem_class::class::InterfaceClass`.
+#![tactic(auto)]
+
+pub mod action;
+mod due;
+pub mod judge;
+pub mod monitor;
+pub mod parts;
+pub mod schedule;
+pub mod script;
+pub mod script_table;
+pub mod shapes;
+#[cfg(test)]
+mod tests;
+pub mod times;

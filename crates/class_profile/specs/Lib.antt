@@ -1,0 +1,4 @@
+pub mod Fifo
+pub mod ProfileClass
+pub mod ProfileLaws
+pub mod ProfileStates

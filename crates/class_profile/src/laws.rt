@@ -1,0 +1,13 @@
+//! What holds of profiles beside the laws of their class.
+ghost use Rattle.std.specs.Prelude.{◌≡◌, ℕ, List, length, true};
+ghost use Rattle.cosem_data.specs.Tree.{Tree};
+ghost use Rattle.cosem_data.specs.declared.cell.CellRef.{CellRef};
+ghost use Rattle.meter_theory.specs.Plan.{Plan};
+ghost use Rattle.meter_theory.specs.States.{IsBuffer, IsCount};
+ghost use Rattle.class_profile.specs.ProfileClass.{is_buffer, is_count};
+
+/// What a state of a plan holds of a profile may stand in an object of class 7: its buffer, and its entries in use.
+pub fn states_hold_profiles()
+    ensures buffer { (P : Plan) (captured : List CellRef) (entries : ℕ) (buffer : Tree) → IsBuffer P captured entries buffer → is_buffer (length captured) entries buffer ≡ true }
+    ensures count { (entries : ℕ) (count : Tree) → IsCount entries count → is_count entries count ≡ true }
+{}

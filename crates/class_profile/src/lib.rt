@@ -1,0 +1,10 @@
+//! Interface class 7, Profile generic, version 1 (IEC 62056-6-2), over what its plan lends: the laws of
+//! `cosem_class::class::InterfaceClass`, and the fixed attributes as values.
+#![tactic(auto)]
+
+mod fifo;
+pub mod laws;
+pub mod profile;
+pub mod shapes;
+#[cfg(test)]
+mod tests;

@@ -1,0 +1,201 @@
+//! What an object refers to: the objects of targets, and scripts.
+
+ghost use Rattle.std.specs.Prelude.{◌++◌, codes};
+ghost use Rattle.config_parts.specs.BodyView.{body_text};
+ghost use Rattle.config_parts.specs.Fault.{Gives};
+ghost use Rattle.config_plan.specs.Walks as spec;
+
+use crate::walk::{Judge, each};
+use config_parts::fault::ConfigFault;
+use config_parts::parts::{
+    ActionParts, BodyParts, CaptureParts, ScriptParts, ScriptRefParts, TargetParts, UpDownParts,
+};
+use std::alloc::Global;
+
+/// The actions of a script, each judged.
+#[derive(Drop)]
+struct ScriptActions<'a, J> {
+    judge: &'a J,
+}
+
+impl<'a, J: Judge<Part = ActionParts>> Judge for ScriptActions<'a, J> {
+    ghost use Rattle.config_plan.specs.Walks.{script_actions};
+
+    type Part = ScriptParts;
+
+    ghost judges = { λ all. script_actions (J.judges all.judge.now) };
+
+    fn judge(&self, alloc: Global, at: &str, script: &ScriptParts) -> Result<(), ConfigFault> {
+        let name = format!(in alloc; "{at}.action")?;
+        each(alloc, self.judge, name.as_str(), script.actions.as_slice())
+    }
+}
+
+/// Judges each action of each script.
+///
+/// # Errors
+/// The fault of the first action that has one.
+pub fn each_action<J: Judge<Part = ActionParts>>(
+    alloc: Global,
+    judge: &J,
+    at: &str,
+    scripts: &[ScriptParts],
+) -> Result<(), ConfigFault>
+    ensures { Gives (λ u. u) result (spec.each_action (J.judges judge.now) at.now scripts.now) }
+{
+    let name = format!(in alloc; "{at}.script")?;
+    each(alloc, &ScriptActions { judge }, name.as_str(), scripts)
+}
+
+/// What is judged of an object's references.
+pub trait JudgeReferences {
+    ghost use Rattle.std.specs.Prelude.{Result, ⊤};
+    ghost use Rattle.config_parts.specs.Fault.{Fault, Gives};
+    ghost use Rattle.config_parts.specs.Parts.{Text, TargetText, ScriptRefText};
+
+    /// Nothing found, or the first fault of the attribute or method at the place.
+    ghost targets: { Self → Text → TargetText → Result ⊤ Fault };
+
+    /// Nothing found, or the first fault of the reference to a script at the place.
+    ghost scripts: { Self → Text → ScriptRefText → Result ⊤ Fault };
+
+    /// Judges an attribute or method that is named at a place.
+    ///
+    /// # Errors
+    /// The first fault of it.
+    fn judge_target(&self, alloc: Global, at: &str, target: &TargetParts) -> Result<(), ConfigFault>
+        ensures { Gives (λ u. u) result (targets self.now at.now target.now) };
+
+    /// Judges a reference to a script at a place.
+    ///
+    /// # Errors
+    /// The first fault of it.
+    fn judge_script(
+        &self,
+        alloc: Global,
+        at: &str,
+        script: &ScriptRefParts,
+    ) -> Result<(), ConfigFault>
+        ensures { Gives (λ u. u) result (scripts self.now at.now script.now) };
+}
+
+/// What a profile captures, each judged.
+#[derive(Drop)]
+struct Captures<'a, J> {
+    judge: &'a J,
+}
+
+impl<'a, J: JudgeReferences> Judge for Captures<'a, J> {
+    type Part = CaptureParts;
+
+    ghost judges = { λ all at capture. J.targets all.judge.now at capture.target };
+
+    fn judge(&self, alloc: Global, at: &str, capture: &CaptureParts) -> Result<(), ConfigFault> {
+        self.judge.judge_target(alloc, at, &capture.target)
+    }
+}
+
+/// The targets of actions, each judged.
+#[derive(Drop)]
+struct ActionTargets<'a, J> {
+    judge: &'a J,
+}
+
+impl<'a, J: JudgeReferences> Judge for ActionTargets<'a, J> {
+    type Part = ActionParts;
+
+    ghost judges = { λ all at action. J.targets all.judge.now at action.target };
+
+    fn judge(&self, alloc: Global, at: &str, action: &ActionParts) -> Result<(), ConfigFault> {
+        self.judge.judge_target(alloc, at, &action.target)
+    }
+}
+
+/// The scripts of thresholds, each judged.
+#[derive(Drop)]
+struct ThresholdScripts<'a, J> {
+    judge: &'a J,
+}
+
+impl<'a, J: JudgeReferences> Judge for ThresholdScripts<'a, J> {
+    ghost use Rattle.config_plan.specs.Walks.{both_scripts};
+
+    type Part = UpDownParts;
+
+    ghost judges = { λ all. both_scripts (J.scripts all.judge.now) };
+
+    fn judge(&self, alloc: Global, at: &str, scripts: &UpDownParts) -> Result<(), ConfigFault> {
+        let up = format!(in alloc; "{at}.up")?;
+        self.judge.judge_script(alloc, up.as_str(), &scripts.up)?;
+        let down = format!(in alloc; "{at}.down")?;
+        self.judge.judge_script(alloc, down.as_str(), &scripts.down)
+    }
+}
+
+/// Judges the scripts of each threshold.
+fn each_threshold<J: JudgeReferences>(
+    alloc: Global,
+    judge: &J,
+    at: &str,
+    actions: &[UpDownParts],
+) -> Result<(), ConfigFault>
+    ensures { Gives (λ u. u) result (spec.each (spec.both_scripts (J.scripts judge.now)) (at.now ++ codes ".action") actions.now) }
+{
+    let name = format!(in alloc; "{at}.action")?;
+    each(alloc, &ThresholdScripts { judge }, name.as_str(), actions)
+}
+
+/// Judges what is monitored.
+fn monitored_target<J: JudgeReferences>(
+    alloc: Global,
+    judge: &J,
+    at: &str,
+    monitored: &TargetParts,
+) -> Result<(), ConfigFault>
+    ensures { Gives (λ u. u) result (J.targets judge.now (at.now ++ codes ".monitored") monitored.now) }
+{
+    let place = format!(in alloc; "{at}.monitored")?;
+    judge.judge_target(alloc, place.as_str(), monitored)
+}
+
+/// Judges whatever an object refers to.
+///
+/// # Errors
+/// The fault of the first reference that has one.
+#[tactic(auto, unfolding(config_plan::specs::Walks::references))]
+pub fn references<J: JudgeReferences>(
+    alloc: Global,
+    judge: &J,
+    at: &str,
+    body: &BodyParts,
+) -> Result<(), ConfigFault>
+    ensures { Gives (λ u. u) result (spec.references (J.targets judge.now) (J.scripts judge.now) at.now (body_text body.now)) }
+{
+    match body {
+        BodyParts::ProfileGeneric { capture, .. } => {
+            let name = format!(in alloc; "{at}.capture")?;
+            each(
+                alloc,
+                &Captures { judge },
+                name.as_str(),
+                capture.as_slice(),
+            )
+        }
+        BodyParts::ScriptTable { scripts } => {
+            each_action(alloc, &ActionTargets { judge }, at, scripts.as_slice())
+        }
+        BodyParts::RegisterMonitor {
+            monitored,
+            actions,
+            ..
+        } => {
+            monitored_target(alloc, judge, at, monitored)?;
+            each_threshold(alloc, judge, at, actions.as_slice())
+        }
+        BodyParts::SingleActionSchedule { script, .. } => {
+            let place = format!(in alloc; "{at}.script")?;
+            judge.judge_script(alloc, place.as_str(), script)
+        }
+        BodyParts::Data { .. } | BodyParts::Register { .. } | BodyParts::Unknown => Ok(()),
+    }
+}
