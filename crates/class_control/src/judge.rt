@@ -13,7 +13,7 @@ use cosem_data::data::Data;
 use cosem_data::kind::Kind;
 
 /// The elements of an array, none of any other value. It takes no memory.
-pub(crate) fn elements_of(value: &Data) -> &[Data]
+pub fn elements_of(value: &Data) -> &[Data]
     ensures { map tree result.now ≡ elements (tree value.now) }
 {
     match value {

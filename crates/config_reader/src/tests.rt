@@ -1,9 +1,8 @@
 mod demo;
+mod values;
 
-use config_names::judge_names;
+use crate::read_parts;
 use config_parts::fault::{Code, ConfigFault};
-use config_tables::read_tables;
-use config_walks::directory::Directory;
 use demo::DEMO;
 use std::alloc::Global;
 use std::process::Abort;
@@ -13,13 +12,6 @@ use std::test::Fail;
 fn edited(alloc: Global, old: &str, new: &str) -> Result<String, Fail> {
     let (before, after) = DEMO.split_once(old).ok_or("no such words")?;
     Ok(format!(in alloc; "{before}{new}{after}")?)
-}
-
-/// The judgement of a text's names and indexes.
-fn judge(alloc: Global, text: &str) -> Result<(), ConfigFault> {
-    let config = read_tables(alloc, text)?;
-    let directory = Directory::new(alloc, &config)?;
-    judge_names(alloc, &directory)
 }
 
 /// The configuration with these words in place of the others has this fault.
@@ -32,8 +24,8 @@ fn refused(
     place: &str,
 ) -> Result<(), Fail> {
     let text = edited(alloc, old, new)?;
-    match judge(alloc, text.as_str()) {
-        Ok(()) => Err("nothing found".into()),
+    match read_parts(alloc, text.as_str()) {
+        Ok(_) => Err("nothing found".into()),
         Err(ConfigFault::Memory) => Err("memory".into()),
         Err(
             ConfigFault::Found {
@@ -51,7 +43,7 @@ fn refused(
 /// The configuration with these words in place of the others has no fault.
 fn taken(alloc: Global, old: &str, new: &str) -> Result<(), Fail> {
     let text = edited(alloc, old, new)?;
-    judge(alloc, text.as_str())?;
+    let _config = read_parts(alloc, text.as_str())?;
     Ok(())
 }
 
@@ -62,7 +54,7 @@ const REGISTER_ACTION: &str =
 
 #[test]
 fn the_demo_has_no_fault(rt: HostRuntime) -> Result<(), Fail> {
-    judge(rt.alloc(), DEMO)?;
+    let _config = read_parts(rt.alloc(), DEMO)?;
     Ok(())
 }
 

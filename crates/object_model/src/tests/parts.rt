@@ -84,9 +84,9 @@ fn at(class_id: u16, index: u8) -> CellRef {
     }
 }
 
-/// The cells of an object with this part are those at these indexes.
-fn has_cells(rt: &impl Abort, part: &Part, indexes: &[u8]) {
-    let class_id = part.class_id();
+/// An object with this part is of this class, and its cells are those at these indexes.
+fn has_cells(rt: &impl Abort, part: &Part, class_id: u16, indexes: &[u8]) {
+    assert!(rt; part.class_id() == class_id);
     for index in 0..=8 {
         let is_cell = indexes.iter().any(|i| *i == index);
         assert!(rt; part.has_cell(NAME, &at(class_id, index)) == is_cell);
@@ -95,20 +95,25 @@ fn has_cells(rt: &impl Abort, part: &Part, indexes: &[u8]) {
 }
 
 #[test]
-fn each_part_has_the_cells_of_its_class(rt: HostRuntime) -> Result<(), Fail> {
-    let a = rt.alloc();
-    let profile = profile(a)?;
-    assert_eq!(rt; profile.class_id(), 7);
-    has_cells(&rt, &profile, &[2, 4, 7]);
-    let table = table(a);
-    assert_eq!(rt; table.class_id(), 9);
-    has_cells(&rt, &table, &[]);
-    let monitor = monitor(a)?;
-    assert_eq!(rt; monitor.class_id(), 21);
-    has_cells(&rt, &monitor, &[SEEN, 2]);
-    let schedule = schedule(a)?;
-    assert_eq!(rt; schedule.class_id(), 22);
-    has_cells(&rt, &schedule, &[4]);
+fn a_profile_has_three_cells(rt: HostRuntime) -> Result<(), Fail> {
+    has_cells(&rt, &profile(rt.alloc())?, 7, &[2, 4, 7]);
+    Ok(())
+}
+
+#[test]
+fn a_script_table_has_no_cell(rt: HostRuntime) {
+    has_cells(&rt, &table(rt.alloc()), 9, &[]);
+}
+
+#[test]
+fn a_monitor_has_thresholds_and_what_it_saw(rt: HostRuntime) -> Result<(), Fail> {
+    has_cells(&rt, &monitor(rt.alloc())?, 21, &[SEEN, 2]);
+    Ok(())
+}
+
+#[test]
+fn a_schedule_has_one_cell(rt: HostRuntime) -> Result<(), Fail> {
+    has_cells(&rt, &schedule(rt.alloc())?, 22, &[4]);
     Ok(())
 }
 
@@ -150,17 +155,18 @@ fn a_schedule_starts_with_its_times(rt: HostRuntime) -> Result<(), Fail> {
 }
 
 #[test]
-fn the_kinds_at_the_start_are_those_of_the_cells(rt: HostRuntime) -> Result<(), Fail> {
-    let a = rt.alloc();
-    let profile = profile(a)?;
+fn a_profile_starts_with_an_array_and_numbers(rt: HostRuntime) -> Result<(), Fail> {
+    let profile = profile(rt.alloc())?;
     assert!(rt; profile.start_kind(NAME, &at(7, 2)) == Kind::Array);
     assert!(rt; profile.start_kind(NAME, &at(7, 7)) == Kind::DoubleLongUnsigned);
-    let monitor = monitor(a)?;
+    Ok(())
+}
+
+#[test]
+fn a_monitor_starts_with_an_array_and_nothing(rt: HostRuntime) -> Result<(), Fail> {
+    let monitor = monitor(rt.alloc())?;
     assert!(rt; monitor.start_kind(NAME, &at(21, 2)) == Kind::Array);
     assert!(rt; monitor.start_kind(NAME, &at(21, SEEN)) == Kind::NullData);
-    let schedule = schedule(a)?;
-    assert!(rt; schedule.start_kind(NAME, &at(22, 4)) == Kind::Array);
-    assert!(rt; schedule.start_kind(NAME, &at(22, 3)) == Kind::NullData);
     Ok(())
 }
 
@@ -190,39 +196,38 @@ fn a_period_is_a_number(rt: HostRuntime) -> Result<(), Fail> {
     Ok(())
 }
 
+/// What is judged of so many thresholds of the monitor, which has one action.
+fn judged_thresholds(alloc: Global, count: u8) -> Result<Result<(), AccessCode>, Memory> {
+    let mut thresholds = Vec::new(alloc);
+    for _ in 0..count {
+        thresholds.push(Data::DoubleLongUnsigned(7))?;
+    }
+    let value = Data::Array(Items::new(thresholds));
+    Ok(judged(&monitor(alloc)?, 2, &value))
+}
+
 #[test]
 fn thresholds_are_one_for_each_action(rt: HostRuntime) -> Result<(), Fail> {
     let a = rt.alloc();
-    let monitor = monitor(a)?;
-    let one = array(a, [Data::DoubleLongUnsigned(7)])?;
-    assert_eq!(rt; judged(&monitor, 2, &one), Ok(()));
-    assert_eq!(rt;
-        judged(&monitor, SEEN, &one),
-        Err(AccessCode::TypeUnmatched)
-    );
-    let two = array(
-        a,
-        [Data::DoubleLongUnsigned(7), Data::DoubleLongUnsigned(8)],
-    )?;
-    assert_eq!(rt; judged(&monitor, 2, &two), Err(AccessCode::OtherReason));
-    let other = array(a, [Data::LongUnsigned(7)])?;
-    assert_eq!(rt; judged(&monitor, 2, &other), Err(AccessCode::OtherReason));
-    assert_eq!(rt;
-        judged(&monitor, 2, &Data::DoubleLongUnsigned(7)),
-        Err(AccessCode::TypeUnmatched)
-    );
+    assert_eq!(rt; judged_thresholds(a, 1)?, Ok(()));
+    assert_eq!(rt; judged_thresholds(a, 2)?, Err(AccessCode::OtherReason));
     Ok(())
+}
+
+/// What is judged of so many times of the schedule, which is of type 1.
+fn judged_times(alloc: Global, count: u8) -> Result<Result<(), AccessCode>, Memory> {
+    let mut times = Vec::new(alloc);
+    for _ in 0..count {
+        times.push(month_end(alloc)?)?;
+    }
+    let value = Data::Array(Items::new(times));
+    Ok(judged(&schedule(alloc)?, 4, &value))
 }
 
 #[test]
 fn a_schedule_of_type_1_has_one_time(rt: HostRuntime) -> Result<(), Fail> {
     let a = rt.alloc();
-    let schedule = schedule(a)?;
-    let one = array(a, [month_end(a)?])?;
-    assert_eq!(rt; judged(&schedule, 4, &one), Ok(()));
-    let two = array(a, [month_end(a)?, month_end(a)?])?;
-    assert_eq!(rt; judged(&schedule, 4, &two), Err(AccessCode::OtherReason));
-    let number = array(a, [Data::DoubleLongUnsigned(7)])?;
-    assert_eq!(rt; judged(&schedule, 4, &number), Err(AccessCode::OtherReason));
+    assert_eq!(rt; judged_times(a, 1)?, Ok(()));
+    assert_eq!(rt; judged_times(a, 2)?, Err(AccessCode::OtherReason));
     Ok(())
 }
