@@ -11,7 +11,7 @@ use cosem_class::cell_set::CellSet;
 use cosem_class::class::{ClassFault, InterfaceClass, Op};
 use cosem_class::generic::laws_of_a_class;
 use cosem_class::judge::judge_kind;
-use cosem_class::shapes::structure;
+use cosem_class::shapes::{array, structure};
 use cosem_data::bytes::Bytes;
 use cosem_data::cell::{CellRef, MethodRef};
 use cosem_data::data::{Data, Items};
@@ -118,24 +118,37 @@ fn fields_keep_to_their_ranges(rt: HostRuntime) -> Result<(), Fail> {
     Ok(())
 }
 
-#[test]
-fn elements_have_their_shape(rt: HostRuntime) -> Result<(), Fail> {
-    let a = rt.alloc();
-    let short_time = element(a, &[12, 0, 0], &ONE_DAY)?;
-    assert!(rt; !is_execution_time(&short_time));
-    let long_date = element(a, &NOON, &[0x07, 0xEA, 12, 24, 0xFF, 0])?;
-    assert!(rt; !is_execution_time(&long_date));
-    let time = octets(a, &NOON)?;
-    assert!(rt; !is_execution_time(&time));
-    let alone = structure(a, [time])?;
-    assert!(rt; !is_execution_time(&alone));
-    let three = [octets(a, &NOON)?, octets(a, &ONE_DAY)?, Data::NullData];
-    let three = structure(a, three)?;
-    assert!(rt; !is_execution_time(&three));
-    let other_date = [octets(a, &NOON)?, Data::NullData];
-    let other_date = structure(a, other_date)?;
-    assert!(rt; !is_execution_time(&other_date));
+/// These are the parts of a structure that is no element of execution_time.
+fn is_no_element<const N: usize>(
+    rt: &impl Abort,
+    alloc: Global,
+    parts: [Data; N],
+) -> Result<(), Fail> {
+    let value = structure(alloc, parts)?;
+    assert!(rt; !is_execution_time(&value));
     Ok(())
+}
+
+#[test]
+fn elements_have_a_time_and_a_date(rt: HostRuntime) -> Result<(), Fail> {
+    let a = rt.alloc();
+    is_no_element(&rt, a, [octets(a, &NOON)?])?;
+    is_no_element(&rt, a, [octets(a, &NOON)?, Data::NullData])?;
+    assert!(rt; !is_execution_time(&Data::NullData));
+    Ok(())
+}
+
+#[test]
+fn elements_have_times_of_four_bytes_and_dates_of_five(rt: HostRuntime) -> Result<(), Fail> {
+    let a = rt.alloc();
+    assert!(rt; !is_execution_time(&element(a, &[12, 0, 0], &ONE_DAY)?));
+    assert!(rt; !is_execution_time(&element(a, &NOON, &[0x07, 0xEA, 12, 24, 0xFF, 0])?));
+    Ok(())
+}
+
+/// Whether so many equal elements fit a type.
+fn fit(alloc: Global, execution_type: u8, count: u8) -> Result<bool, Fail> {
+    Ok(are_execution_times(execution_type, &elements(alloc, count, &NOON, &ONE_DAY)?))
 }
 
 #[test]
@@ -143,16 +156,19 @@ fn types_allow_their_numbers(rt: HostRuntime) -> Result<(), Fail> {
     let a = rt.alloc();
     for execution_type in 1..=5 {
         let is_one = execution_type == 1;
-        let none = elements(a, 0, &NOON, &ONE_DAY)?;
-        assert_eq!(rt; are_execution_times(execution_type, &none), !is_one);
-        let one = elements(a, 1, &NOON, &ONE_DAY)?;
-        assert!(rt; are_execution_times(execution_type, &one));
-        let most = elements(a, 16, &NOON, &ONE_DAY)?;
-        assert_eq!(rt; are_execution_times(execution_type, &most), !is_one);
-        let more = elements(a, 17, &NOON, &ONE_DAY)?;
-        assert!(rt; !are_execution_times(execution_type, &more));
+        assert_eq!(rt; fit(a, execution_type, 0)?, !is_one);
+        assert!(rt; fit(a, execution_type, 1)?);
+        assert_eq!(rt; fit(a, execution_type, 16)?, !is_one);
+        assert!(rt; !fit(a, execution_type, 17)?);
     }
     Ok(())
+}
+
+/// Whether noon of one day and this time and date fit a type together.
+fn fits_beside(alloc: Global, execution_type: u8, time: &[u8], date: &[u8]) -> Result<bool, Fail> {
+    let mut values = elements(alloc, 1, &NOON, &ONE_DAY)?;
+    values.push(element(alloc, time, date)?)?;
+    Ok(are_execution_times(execution_type, &values))
 }
 
 #[test]
@@ -161,58 +177,92 @@ fn types_allow_their_times_and_dates(rt: HostRuntime) -> Result<(), Fail> {
     for execution_type in 2..=5 {
         let one_time = execution_type == 2 || execution_type == 3;
         let no_wildcard = execution_type == 2 || execution_type == 4;
-        let mut values = elements(a, 2, &NOON, &ONE_DAY)?;
-        values.push(element(a, &MIDNIGHT, &ONE_DAY)?)?;
-        assert_eq!(rt; are_execution_times(execution_type, &values), !one_time);
+        assert_eq!(rt;
+            fits_beside(a, execution_type, &MIDNIGHT, &ONE_DAY)?,
+            !one_time
+        );
         for wildcard in [
             [0xFF, 0xFF, 12, 24, 4],
             [0x07, 0xEA, 0xFF, 24, 4],
             [0x07, 0xEA, 12, 0xFF, 4],
         ] {
-            let mut values = elements(a, 1, &NOON, &ONE_DAY)?;
-            values.push(element(a, &NOON, &wildcard)?)?;
-            assert_eq!(rt; are_execution_times(execution_type, &values), !no_wildcard);
+            let fits = fits_beside(a, execution_type, &NOON, &wildcard)?;
+            assert_eq!(rt; fits, !no_wildcard);
         }
     }
     Ok(())
 }
 
+/// What is judged of an array of so many elements of this time and date.
+fn judged_times(
+    alloc: Global,
+    execution_type: u8,
+    count: u8,
+    time: &[u8],
+    date: &[u8],
+) -> Result<Result<(), ClassFault>, Fail> {
+    let value = Data::Array(Items::new(elements(alloc, count, time, date)?));
+    Ok(judge_times(execution_type, &value))
+}
+
 #[test]
 fn times_are_judged(rt: HostRuntime) -> Result<(), Fail> {
     let a = rt.alloc();
-    let one = elements(a, 1, &MIDNIGHT, &MONTH_END)?;
-    let one = Data::Array(Items::new(one));
-    assert_eq!(rt; judge_times(1, &one), Ok(()));
-    assert_eq!(rt; judge_times(2, &one), Err(ClassFault::Rule));
-    let two = elements(a, 2, &MIDNIGHT, &MONTH_END)?;
-    let two = Data::Array(Items::new(two));
-    assert_eq!(rt; judge_times(1, &two), Err(ClassFault::Rule));
-    assert_eq!(rt; judge_times(3, &two), Ok(()));
-    let late = elements(a, 1, &[24, 0, 0, 0], &ONE_DAY)?;
-    let late = Data::Array(Items::new(late));
-    assert_eq!(rt; judge_times(5, &late), Err(ClassFault::Rule));
-    // A structure of one element has another tag.
-    let other = elements(a, 1, &MIDNIGHT, &MONTH_END)?;
-    let other = Data::Structure(Items::new(other));
-    assert_eq!(rt; judge_times(1, &other), Err(ClassFault::Kind));
+    assert_eq!(rt; judged_times(a, 1, 1, &MIDNIGHT, &MONTH_END)?, Ok(()));
+    assert_eq!(rt;
+        judged_times(a, 2, 1, &MIDNIGHT, &MONTH_END)?,
+        Err(ClassFault::Rule)
+    );
+    assert_eq!(rt;
+        judged_times(a, 1, 2, &MIDNIGHT, &MONTH_END)?,
+        Err(ClassFault::Rule)
+    );
+    assert_eq!(rt; judged_times(a, 3, 2, &MIDNIGHT, &MONTH_END)?, Ok(()));
+    assert_eq!(rt;
+        judged_times(a, 5, 1, &[24, 0, 0, 0], &ONE_DAY)?,
+        Err(ClassFault::Rule)
+    );
     Ok(())
+}
+
+#[test]
+fn times_are_an_array(rt: HostRuntime) -> Result<(), Fail> {
+    let one = elements(rt.alloc(), 1, &MIDNIGHT, &MONTH_END)?;
+    let structure = Data::Structure(Items::new(one));
+    assert_eq!(rt; judge_times(1, &structure), Err(ClassFault::Kind));
+    Ok(())
+}
+
+/// What is judged of thresholds over a long, of which there are to be so many.
+fn judged_thresholds<const N: usize>(
+    alloc: Global,
+    number: usize,
+    values: [Data; N],
+) -> Result<Result<(), ClassFault>, Fail> {
+    let value = array(alloc, values)?;
+    Ok(judge_thresholds(number, Kind::Long, &value))
 }
 
 #[test]
 fn thresholds_are_judged(rt: HostRuntime) -> Result<(), Fail> {
     let a = rt.alloc();
-    let judge = |number, value: &Data| judge_thresholds(number, Kind::Long, value);
-    let pair = vec![in a; Data::Long(-5), Data::Long(5)]?;
-    let pair = Data::Array(Items::new(pair));
-    assert_eq!(rt; judge(2, &pair), Ok(()));
-    assert_eq!(rt; judge(1, &pair), Err(ClassFault::Rule));
-    assert_eq!(rt; judge(3, &pair), Err(ClassFault::Rule));
-    let none = Data::Array(Items::new(Vec::new(a)));
-    assert_eq!(rt; judge(0, &none), Ok(()));
-    let mixed = vec![in a; Data::Long(-5), Data::LongUnsigned(5)]?;
-    let mixed = Data::Array(Items::new(mixed));
-    assert_eq!(rt; judge(2, &mixed), Err(ClassFault::Rule));
-    assert_eq!(rt; judge(1, &Data::Long(5)), Err(ClassFault::Kind));
+    assert_eq!(rt; judged_thresholds(a, 1, [Data::Long(-5)])?, Ok(()));
+    assert_eq!(rt;
+        judged_thresholds(a, 2, [Data::Long(-5), Data::Long(5)])?,
+        Ok(())
+    );
+    assert_eq!(rt;
+        judged_thresholds(a, 1, [Data::Long(-5), Data::Long(5)])?,
+        Err(ClassFault::Rule)
+    );
+    assert_eq!(rt;
+        judged_thresholds(a, 1, [Data::LongUnsigned(5)])?,
+        Err(ClassFault::Rule)
+    );
+    assert_eq!(rt;
+        judge_thresholds(1, Kind::Long, &Data::Long(5)),
+        Err(ClassFault::Kind)
+    );
     Ok(())
 }
 
@@ -280,16 +330,8 @@ fn scripts(alloc: Global) -> Result<Vec<Script>, Fail> {
     Ok(vec![in alloc; on, off, row]?)
 }
 
-#[test]
-fn scripts_are_read(rt: HostRuntime) -> Result<(), Fail> {
-    let a = rt.alloc();
-    let part = ScriptTablePart {
-        scripts: scripts(a)?,
-    };
-    let object = ScriptTable {
-        name: SCRIPTS,
-        part: &part,
-    };
+/// A table of the three scripts is read as they are.
+fn reads_scripts(rt: &impl Abort, a: Global, object: &ScriptTable) -> Result<(), Fail> {
     let bytes = [
         0x01, 0x03, // an array of three scripts
         0x02, 0x02, 0x12, 0x00, 0x01, 0x01, 0x01, // script 1, an array of one action
@@ -305,13 +347,25 @@ fn scripts_are_read(rt: HostRuntime) -> Result<(), Fail> {
         0x09, 0x06, 0x01, 0x00, 0x63, 0x01, 0x00, 0xFF, 0x0F, 0x02, // the profile, method 2
         0x00, // null-data
     ];
-    shows(&rt, a, &object, 2, &bytes)?;
-    shows(&rt, a, &object, 1, &[0x09, 0x06, 0, 0, 10, 0, 100, 255])?;
+    shows(rt, a, object, 2, &bytes)?;
+    shows(rt, a, object, 1, &[0x09, 0x06, 0, 0, 10, 0, 100, 255])?;
     assert_eq!(rt; object.read(a, 0), Err(ClassFault::NoIndex));
     assert_eq!(rt; object.read(a, 3), Err(ClassFault::NoIndex));
-    assert_eq!(rt; part.fixed(a, 2)?, value_of(&rt, a, &bytes)?);
-    assert_eq!(rt; part.fixed(a, 3)?, Data::NullData);
+    assert_eq!(rt; object.part.fixed(a, 2)?, value_of(rt, a, &bytes)?);
+    assert_eq!(rt; object.part.fixed(a, 3)?, Data::NullData);
     Ok(())
+}
+
+#[test]
+fn scripts_are_read(rt: HostRuntime) -> Result<(), Fail> {
+    let part = ScriptTablePart {
+        scripts: scripts(rt.alloc())?,
+    };
+    let object = ScriptTable {
+        name: SCRIPTS,
+        part: &part,
+    };
+    reads_scripts(&rt, rt.alloc(), &object)
 }
 
 #[test]
@@ -382,26 +436,44 @@ fn monitor(part: &MonitorPart, kind: Kind, thresholds: Data) -> Result<Monitor<'
     })
 }
 
-#[test]
-fn a_monitor_is_read(rt: HostRuntime) -> Result<(), Fail> {
-    let a = rt.alloc();
-    let part = monitor_part(a)?;
-    let object = monitor(&part, WATCHED, part.start.try_clone(a)?)?;
-    shows(&rt, a, &object, 1, &[0x09, 0x06, 0, 0, 16, 1, 0, 255])?;
-    shows(&rt, a, &object, 2, &[0x01, 0x01, 0x06, 0, 0, 0, 100])?;
+/// The monitor is read as it was configured.
+fn reads_monitor(rt: &impl Abort, a: Global, object: &Monitor) -> Result<(), Fail> {
+    shows(rt, a, object, 1, &[0x09, 0x06, 0, 0, 16, 1, 0, 255])?;
+    shows(rt, a, object, 2, &[0x01, 0x01, 0x06, 0, 0, 0, 100])?;
     let monitored = [
         0x02, 0x03, 0x12, 0x00, 0x03, // class 3
         0x09, 0x06, 0x01, 0x00, 0x01, 0x08, 0x00, 0xFF, 0x0F, 0x02, // the energy, attribute 2
     ];
-    shows(&rt, a, &object, 3, &monitored)?;
+    shows(rt, a, object, 3, &monitored)?;
     let actions = [
         0x01, 0x01, 0x02, 0x02, // an array of one pair
         0x02, 0x02, 0x09, 0x06, 0x00, 0x00, 0x0A, 0x00, 0x64, 0xFF, 0x12, 0x00, 0x01, // script 1
         0x02, 0x02, 0x09, 0x06, 0x00, 0x00, 0x0A, 0x00, 0x64, 0xFF, 0x12, 0x00, 0x02, // script 2
     ];
-    shows(&rt, a, &object, 4, &actions)?;
+    shows(rt, a, object, 4, &actions)?;
     assert_eq!(rt; object.read(a, 0), Err(ClassFault::NoIndex));
     assert_eq!(rt; object.read(a, 5), Err(ClassFault::NoIndex));
+    Ok(())
+}
+
+#[test]
+fn a_monitor_is_read(rt: HostRuntime) -> Result<(), Fail> {
+    let a = rt.alloc();
+    let part = monitor_part(a)?;
+    let object = monitor(&part, WATCHED, part.start.try_clone(a)?)?;
+    reads_monitor(&rt, a, &object)
+}
+
+/// The thresholds alone are written, by their rule.
+fn writes_thresholds(rt: &impl Abort, a: Global, object: &mut Monitor) -> Result<(), Fail> {
+    refuses(rt, object, &[0, 5], ClassFault::NoIndex);
+    refuses(rt, object, &[1, 3, 4], ClassFault::NotSettable);
+    refuses(rt, object, &[2], ClassFault::Kind);
+    let two = value_of(rt, a, &[0x01, 0x02, 0x06, 0, 0, 0, 1, 0x06, 0, 0, 0, 2])?;
+    assert_eq!(rt; object.write(2, two), Err(ClassFault::Rule));
+    shows(rt, a, object, 2, &[0x01, 0x01, 0x06, 0, 0, 0, 100])?;
+    object.write(2, value_of(rt, a, &[0x01, 0x01, 0x06, 0, 0, 0, 7])?)?;
+    shows(rt, a, object, 2, &[0x01, 0x01, 0x06, 0, 0, 0, 7])?;
     Ok(())
 }
 
@@ -410,30 +482,19 @@ fn thresholds_are_written(rt: HostRuntime) -> Result<(), Fail> {
     let a = rt.alloc();
     let part = monitor_part(a)?;
     let mut object = monitor(&part, WATCHED, part.start.try_clone(a)?)?;
-    refuses(&rt, &mut object, &[0, 5], ClassFault::NoIndex);
-    refuses(&rt, &mut object, &[1, 3, 4], ClassFault::NotSettable);
-    refuses(&rt, &mut object, &[2], ClassFault::Kind);
-    let two = value_of(&rt, a, &[0x01, 0x02, 0x06, 0, 0, 0, 1, 0x06, 0, 0, 0, 2])?;
-    assert_eq!(rt; object.write(2, two), Err(ClassFault::Rule));
-    shows(&rt, a, &object, 2, &[0x01, 0x01, 0x06, 0, 0, 0, 100])?;
-    object.write(2, value_of(&rt, a, &[0x01, 0x01, 0x06, 0, 0, 0, 7])?)?;
-    shows(&rt, a, &object, 2, &[0x01, 0x01, 0x06, 0, 0, 0, 7])?;
-    Ok(())
+    writes_thresholds(&rt, a, &mut object)
+}
+
+/// The attribute is null-data in the fixed part.
+fn has_no_fixed(rt: &impl Abort, value: &Data) {
+    assert!(rt; *value == Data::NullData);
 }
 
 #[test]
-fn a_fixed_part_is_read(rt: HostRuntime) -> Result<(), Fail> {
+fn a_fixed_part_has_no_cells(rt: HostRuntime) -> Result<(), Fail> {
     let a = rt.alloc();
-    let part = monitor_part(a)?;
-    let monitored = [
-        0x02, 0x03, 0x12, 0x00, 0x03, // class 3
-        0x09, 0x06, 0x01, 0x00, 0x01, 0x08, 0x00, 0xFF, 0x0F, 0x02, // the energy, attribute 2
-    ];
-    assert_eq!(rt; part.fixed(a, 3)?, value_of(&rt, a, &monitored)?);
-    assert_eq!(rt; part.fixed(a, 2)?, Data::NullData);
-    let part = schedule_part(a)?;
-    assert_eq!(rt; part.fixed(a, 3)?, Data::Enumerated(1));
-    assert_eq!(rt; part.fixed(a, 4)?, Data::NullData);
+    has_no_fixed(&rt, &monitor_part(a)?.fixed(a, 2)?);
+    has_no_fixed(&rt, &schedule_part(a)?.fixed(a, 4)?);
     Ok(())
 }
 
@@ -444,11 +505,8 @@ fn remember(object: &mut Monitor, value: Data) -> Result<(), Fail> {
     Ok(())
 }
 
-#[test]
-fn crossed_thresholds_are_due(rt: HostRuntime) -> Result<(), Fail> {
-    let a = rt.alloc();
-    let part = monitor_part(a)?;
-    let mut object = monitor(&part, WATCHED, part.start.try_clone(a)?)?;
+/// Scripts are due as the value crosses the threshold.
+fn crosses_thresholds(rt: &impl Abort, a: Global, object: &mut Monitor) -> Result<(), Fail> {
     // Nothing was seen before the first, 100 lies on the side above, and each is remembered.
     let steps = [
         (99, None),
@@ -467,11 +525,19 @@ fn crossed_thresholds_are_due(rt: HostRuntime) -> Result<(), Fail> {
             .first()
             .map(|script| (due.len(), script.table, script.script));
         assert_eq!(rt; due, want.map(|script| (1, SCRIPTS, script)), "at {number}");
-        remember(&mut object, now)?;
+        remember(object, now)?;
         assert_eq!(rt; object.seen, Data::DoubleLongUnsigned(number));
     }
-    shows(&rt, a, &object, 2, &[0x01, 0x01, 0x06, 0, 0, 0, 100])?;
+    shows(rt, a, object, 2, &[0x01, 0x01, 0x06, 0, 0, 0, 100])?;
     Ok(())
+}
+
+#[test]
+fn crossed_thresholds_are_due(rt: HostRuntime) -> Result<(), Fail> {
+    let a = rt.alloc();
+    let part = monitor_part(a)?;
+    let mut object = monitor(&part, WATCHED, part.start.try_clone(a)?)?;
+    crosses_thresholds(&rt, a, &mut object)
 }
 
 /// The profile's capture is run at the end of each month.
@@ -497,24 +563,55 @@ fn schedule(part: &SchedulePart, times: Data) -> Result<Schedule<'_>, Fail> {
     })
 }
 
+/// The schedule is read as it was configured.
+fn reads_schedule(rt: &impl Abort, a: Global, object: &Schedule) -> Result<(), Fail> {
+    shows(rt, a, object, 1, &[0x09, 0x06, 0, 0, 15, 0, 0, 255])?;
+    let script = [
+        0x02, 0x02, 0x09, 0x06, 0x00, 0x00, 0x0A, 0x00, 0x64, 0xFF, 0x12, 0x00, 0x03,
+    ];
+    shows(rt, a, object, 2, &script)?;
+    shows(rt, a, object, 3, &[0x16, 0x01])?;
+    let times = [
+        0x01, 0x01, 0x02, 0x02, // an array of one time and date
+        0x09, 0x04, 0x00, 0x00, 0x00, 0xFF, 0x09, 0x05, 0xFF, 0xFF, 0xFF, 0xFE, 0xFF,
+    ];
+    shows(rt, a, object, 4, &times)?;
+    assert_eq!(rt; object.read(a, 0), Err(ClassFault::NoIndex));
+    assert_eq!(rt; object.read(a, 5), Err(ClassFault::NoIndex));
+    Ok(())
+}
+
 #[test]
 fn a_schedule_is_read(rt: HostRuntime) -> Result<(), Fail> {
     let a = rt.alloc();
     let part = schedule_part(a)?;
     let object = schedule(&part, part.start.try_clone(a)?)?;
-    shows(&rt, a, &object, 1, &[0x09, 0x06, 0, 0, 15, 0, 0, 255])?;
-    let script = [
-        0x02, 0x02, 0x09, 0x06, 0x00, 0x00, 0x0A, 0x00, 0x64, 0xFF, 0x12, 0x00, 0x03,
-    ];
-    shows(&rt, a, &object, 2, &script)?;
-    shows(&rt, a, &object, 3, &[0x16, 0x01])?;
-    let times = [
+    reads_schedule(&rt, a, &object)
+}
+
+/// A write of so many elements of noon at one day.
+fn write_noon(
+    alloc: Global,
+    object: &mut Schedule,
+    count: u8,
+) -> Result<Result<(), ClassFault>, Fail> {
+    let value = Data::Array(Items::new(elements(alloc, count, &NOON, &ONE_DAY)?));
+    Ok(object.write(4, value))
+}
+
+/// The times alone are written, by their rule.
+fn writes_times(rt: &impl Abort, a: Global, object: &mut Schedule) -> Result<(), Fail> {
+    refuses(rt, object, &[0, 5], ClassFault::NoIndex);
+    refuses(rt, object, &[1, 2, 3], ClassFault::NotSettable);
+    refuses(rt, object, &[4], ClassFault::Kind);
+    assert_eq!(rt; write_noon(a, object, 2)?, Err(ClassFault::Rule));
+    assert!(rt; object.times == object.part.start);
+    assert_eq!(rt; write_noon(a, object, 1)?, Ok(()));
+    let noon = [
         0x01, 0x01, 0x02, 0x02, // an array of one time and date
-        0x09, 0x04, 0x00, 0x00, 0x00, 0xFF, 0x09, 0x05, 0xFF, 0xFF, 0xFF, 0xFE, 0xFF,
+        0x09, 0x04, 12, 0, 0, 0, 0x09, 0x05, 0x07, 0xEA, 12, 24, 0xFF,
     ];
-    shows(&rt, a, &object, 4, &times)?;
-    assert_eq!(rt; object.read(a, 0), Err(ClassFault::NoIndex));
-    assert_eq!(rt; object.read(a, 5), Err(ClassFault::NoIndex));
+    shows(rt, a, object, 4, &noon)?;
     Ok(())
 }
 
@@ -523,18 +620,7 @@ fn execution_times_are_written(rt: HostRuntime) -> Result<(), Fail> {
     let a = rt.alloc();
     let part = schedule_part(a)?;
     let mut object = schedule(&part, part.start.try_clone(a)?)?;
-    refuses(&rt, &mut object, &[0, 5], ClassFault::NoIndex);
-    refuses(&rt, &mut object, &[1, 2, 3], ClassFault::NotSettable);
-    refuses(&rt, &mut object, &[4], ClassFault::Kind);
-    let two = Data::Array(Items::new(elements(a, 2, &NOON, &ONE_DAY)?));
-    assert_eq!(rt; object.write(4, two), Err(ClassFault::Rule));
-    let start = object.read(a, 4)?;
-    assert_eq!(rt; start, part.start);
-    let noon = Data::Array(Items::new(elements(a, 1, &NOON, &ONE_DAY)?));
-    object.write(4, noon.try_clone(a)?)?;
-    let left = object.read(a, 4)?;
-    assert_eq!(rt; left, noon);
-    Ok(())
+    writes_times(&rt, a, &mut object)
 }
 
 /// Whether an operation may change this cell.
