@@ -161,28 +161,43 @@ fn captured_cells_are_listed(rt: HostRuntime) -> Result<(), Fail> {
     shows(&rt, a, &at_start(a, &part), 3, &objects)
 }
 
-#[test]
-fn fixed_attributes_have_their_shapes(rt: HostRuntime) -> Result<(), Fail> {
-    let a = rt.alloc();
-    let part = two_entries(a)?;
-    let object = at_start(a, &part);
-    shows(&rt, a, &object, 1, &octets(a, &[1, 0, 99, 1, 0, 255])?)?;
-    shows(&rt, a, &object, 5, &Data::Enumerated(1))?;
-    let none = definition(a, 0, octets(a, &[0; 6])?, 0)?;
-    assert_eq!(rt; no_sort_object_data(a)?, none);
-    shows(&rt, a, &object, 6, &none)?;
-    shows(&rt, a, &object, 8, &Data::DoubleLongUnsigned(2))?;
-    for index in [1, 2, 4, 7, 9] {
-        assert_eq!(rt; part.fixed(a, index)?, Data::NullData, "at {index}");
-    }
+/// The fixed attributes of one value are read, and no index without an attribute.
+fn reads_fixed(rt: &impl Abort, a: Global, object: &Profile) -> Result<(), Fail> {
+    shows(rt, a, object, 1, &octets(a, &[1, 0, 99, 1, 0, 255])?)?;
+    shows(rt, a, object, 5, &Data::Enumerated(1))?;
+    shows(rt, a, object, 8, &Data::DoubleLongUnsigned(2))?;
     for index in [0, 9, 255] {
-        assert_eq!(rt;
-            object.read(a, index),
-            Err(ClassFault::NoIndex),
+        assert!(rt;
+            object.read(a, index) == Err(ClassFault::NoIndex),
             "at {index}"
         );
     }
     Ok(())
+}
+
+/// No object is the one by which the entries are sorted.
+fn reads_sort_object(rt: &impl Abort, a: Global, object: &Profile) -> Result<(), Fail> {
+    let none = definition(a, 0, octets(a, &[0; 6])?, 0)?;
+    assert!(rt; no_sort_object_data(a)? == none);
+    shows(rt, a, object, 6, &none)
+}
+
+/// The part has no attribute but the fixed ones.
+fn has_no_other(rt: &impl Abort, a: Global, part: &ProfilePart) -> Result<(), Fail> {
+    for index in [1, 2, 4, 7, 9] {
+        assert!(rt; part.fixed(a, index)? == Data::NullData, "at {index}");
+    }
+    Ok(())
+}
+
+#[test]
+fn fixed_attributes_have_their_shapes(rt: HostRuntime) -> Result<(), Fail> {
+    let a = rt.alloc();
+    let part = two_entries(a)?;
+    has_no_other(&rt, a, &part)?;
+    let object = at_start(a, &part);
+    reads_fixed(&rt, a, &object)?;
+    reads_sort_object(&rt, a, &object)
 }
 
 #[test]
