@@ -142,16 +142,27 @@ fn a_monitor_starts_with_its_thresholds(rt: HostRuntime) -> Result<(), Fail> {
 }
 
 #[test]
-fn a_schedule_starts_with_its_times(rt: HostRuntime) -> Result<(), Fail> {
+fn a_script_table_starts_with_nothing(rt: HostRuntime) -> Result<(), Fail> {
     let a = rt.alloc();
     let mut pairs = Vec::new(a);
     table(a).push_start(a, NAME, &mut pairs)?;
     assert_eq!(rt; pairs.len(), 0);
-    schedule(a)?.push_start(a, NAME, &mut pairs)?;
-    let times = array(a, [month_end(a)?])?;
-    assert_eq!(rt; pairs.len(), 1);
-    assert!(rt; pairs[0] == (at(22, 4), times));
     Ok(())
+}
+
+/// A schedule has these cells with their start values.
+fn starts_with_times(rt: &impl Abort, a: Global, pairs: &[(CellRef, Data)]) -> Result<(), Fail> {
+    let times = array(a, [month_end(a)?])?;
+    assert!(rt; pairs.len() == 1 && pairs[0].0 == at(22, 4) && pairs[0].1 == times);
+    Ok(())
+}
+
+#[test]
+fn a_schedule_starts_with_its_times(rt: HostRuntime) -> Result<(), Fail> {
+    let a = rt.alloc();
+    let mut pairs = Vec::new(a);
+    schedule(a)?.push_start(a, NAME, &mut pairs)?;
+    starts_with_times(&rt, a, &pairs)
 }
 
 #[test]
