@@ -13,6 +13,7 @@ ghost use Rattle.config_values.specs.Lines.{followed_by};
 
 use crate::arrays::{times_of, values_of};
 use crate::value;
+use class_control::times::MOST_TIMES;
 use config_parts::fault::{Code, ConfigFault};
 use config_parts::parts::{
     ActionParts, BodyParts, CaptureParts, ConfigParts, ObjectParts, ScriptParts, UpDownParts,
@@ -44,9 +45,6 @@ pub const MOST_ENTRIES: u64 = 1000;
 
 /// The most thresholds of a register monitor, and so the most of its actions (own profile).
 pub const MOST_THRESHOLDS: usize = 16;
-
-/// The most times of a schedule (own profile).
-pub const MOST_TIMES: usize = 16;
 
 /// A number of elements against a limit.
 fn at_most(
