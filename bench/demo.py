@@ -1,9 +1,9 @@
 #!/usr/bin/env python3
-"""Lines per second and peak memory of `cosem-flow demo`, beside a loop that only copies the same lines.
+"""Lines per second and peak memory of `cosem-flow run` by the demo configuration, beside a loop that only copies the same lines.
 
     bench/demo.py [LINES [SEED]]
 
-The lines are mixed GET and SET requests of the clients of the built-in plan, allowed and refused, with empty lines and
+The lines are mixed GET and SET requests of the clients of the demo configuration, allowed and refused, with empty lines and
 remarks between them. The same seed gives the same lines. A second run over four times the lines shows that memory
 doesn't grow with their number. Run `./cosem-flow demo < /dev/null` first, which builds the program.
 """
@@ -16,6 +16,7 @@ import time
 
 TOP = os.path.dirname(os.path.dirname(os.path.abspath(__file__)))
 PROGRAM = os.path.join(TOP, "crates", "cosem_flow", "out", "cosem_flow")
+CONFIG = os.path.join(TOP, "crates", "cosem_flow", "data", "demo.toml")
 CLIENTS = ["public", "reader", "installer", "manager"]
 ENERGY = "0100010800FF"
 ALARM = "0000600B00FF"
@@ -82,7 +83,7 @@ def main():
         for lines in (count, 4 * count):
             write_lines(path, lines, seed)
             copied, _ = measure([sys.executable, "-c", COPY], path)
-            answered, memory = measure([PROGRAM, "demo"], path)
+            answered, memory = measure([PROGRAM, "run", CONFIG], path)
             print(f"{lines} lines: {lines / answered:.0f} lines/s, {memory} kB at most, {answered / copied:.1f} times a copy")
 
 

@@ -1,2 +1,4 @@
+pub mod AssociationClass
+pub mod AssociationLaws
 pub mod Permits
 pub mod SelectionView

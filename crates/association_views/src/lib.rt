@@ -4,3 +4,4 @@
 pub mod association;
 pub mod permits;
 pub mod selection;
+pub mod view;

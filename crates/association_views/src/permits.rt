@@ -4,16 +4,21 @@ ghost use Rattle.std.specs.Prelude.{◌≡◌, ℕ, ℤ, pos, int_le, nat_le, is
 ghost use Rattle.cosem_data.specs.Cells.{cell};
 ghost use Rattle.meter_theory.specs.Access.{is_success};
 ghost use Rattle.meter_theory.specs.Rights as rights;
-ghost use Rattle.meter_theory.specs.Rights.{cell_of, is_index};
-ghost use Rattle.meter_theory.specs.Plan.{interface_at, rule_of};
+ghost use Rattle.meter_theory.specs.Rights.{cell_of, is_index, method_of};
+ghost use Rattle.meter_theory.specs.Plan.{interface_at, object_at, rule_of};
 ghost use Rattle.object_model.specs.ArgumentView.{argument_of, selection_of};
+ghost use Rattle.object_model.specs.PartView.{part_of};
 ghost use Rattle.association_views.specs.Permits.{permitted, value_code};
 
 use crate::selection::EntryDescriptor;
-use cosem_data::cell::CellRef;
+use class_control::script_table::{ScriptTable, knows_script};
+use cosem_class::class::InterfaceClass;
+use cosem_data::cell::{CellRef, MethodRef};
+use cosem_data::data::Data;
 use cosem_data::name::LogicalName;
 use meter_theory::access::AccessCode;
 use object_model::argument::Argument;
+use object_model::part::Part;
 use object_model::plan::Plan;
 
 /// The attribute that a request names; an index below 0 names what its absolute value would.
@@ -24,6 +29,18 @@ pub fn attribute_cell(class_id: u16, name: &LogicalName, index: i8) -> CellRef
         class_id,
         name: *name,
         index: index.unsigned_abs(),
+    }
+}
+
+/// The method that a request names; an index below 0 names what its absolute value would.
+pub fn called_method(class_id: u16, name: &LogicalName, index: i8) -> MethodRef
+    ensures { result ≡ method_of (record { class_id = class_id; name = name.now; index = index }) }
+{
+    let index = index.unsigned_abs();
+    MethodRef {
+        class_id,
+        name: *name,
+        index,
     }
 }
 
@@ -48,6 +65,15 @@ fn has_attribute(plan: &Plan, name: &LogicalName, index: i8) -> bool
 {
     match plan.interface_at(name) {
         Some(interface) => is_index(index, interface.attributes),
+        None => false,
+    }
+}
+
+fn has_method(plan: &Plan, name: &LogicalName, index: i8) -> bool
+    ensures { result ≡ rights.has_method index (interface_at plan.now name.now) }
+{
+    match plan.interface_at(name) {
+        Some(interface) => is_index(index, interface.methods),
         None => false,
     }
 }
@@ -146,6 +172,88 @@ fn set_answer(
     value_answer(plan, &cell, value)
 }
 
+/// The number of a script in the parameter of execute (IEC 62056-6-2, Script table, execute).
+fn script_number(argument: &Argument) -> Option<u16>
+    ensures { result ≡ rights.script_number (argument_of argument.now) }
+{
+    match argument {
+        Argument::Value(Data::LongUnsigned(id)) => Some(*id),
+        _ => None,
+    }
+}
+
+/// Whether what stands at the name is a script table, whose one method is execute.
+fn executes(plan: &Plan, name: &LogicalName) -> bool
+    ensures { result ≡ rights.executes (object_at plan.now name.now) }
+{
+    match plan.object_at(name) {
+        Some(object) => object.part().class_id() == ScriptTable::CLASS_ID,
+        None => false,
+    }
+}
+
+/// The parameter of execute is a script's number; that of reset and capture is absent or any readable value (own profile).
+fn right_parameter(plan: &Plan, name: &LogicalName, argument: &Argument) -> bool
+    ensures { result ≡ rights.right_parameter (object_at plan.now name.now) (argument_of argument.now) }
+{
+    if executes(plan, name) {
+        script_number(argument).is_some()
+    } else {
+        !matches!(argument, Argument::Unreadable)
+    }
+}
+
+fn knows(part: &Part, id: u16) -> bool
+    ensures { result ≡ rights.knows (part_of part.now) id }
+{
+    match part {
+        Part::ScriptTable(table) => knows_script(&table.scripts, id),
+        _ => true,
+    }
+}
+
+/// A number that is given to a script table is that of a script of it, or 0, that of the null script.
+fn known_script(plan: &Plan, name: &LogicalName, argument: &Argument) -> bool
+    ensures { result ≡ rights.known_script (object_at plan.now name.now) (rights.script_number (argument_of argument.now)) }
+{
+    match (plan.object_at(name), script_number(argument)) {
+        (Some(object), Some(id)) => knows(object.part(), id),
+        _ => true,
+    }
+}
+
+fn act_answer(
+    plan: &Plan,
+    client: u8,
+    class_id: u16,
+    name: &LogicalName,
+    index: i8,
+    argument: &Argument,
+) -> AccessCode
+    ensures { result ≡ rights.act_answer plan.now client (record { class_id = class_id; name = name.now; index = index }) (argument_of argument.now) }
+{
+    let method = called_method(class_id, name, index);
+    if !plan.in_view(client, name) {
+        return AccessCode::ObjectUndefined;
+    }
+    if !class_is(plan, class_id, name) {
+        return AccessCode::ObjectClassInconsistent;
+    }
+    if !has_method(plan, name, index) {
+        return AccessCode::ObjectUndefined;
+    }
+    if !plan.may_act(client, &method) {
+        return AccessCode::ReadWriteDenied;
+    }
+    if !right_parameter(plan, name, argument) {
+        return AccessCode::TypeUnmatched;
+    }
+    if !known_script(plan, name, argument) {
+        return AccessCode::OtherReason;
+    }
+    AccessCode::Success
+}
+
 fn permit_of(code: AccessCode) -> Result<(), AccessCode>
     ensures { result ≡ permitted code }
 {
@@ -187,4 +295,22 @@ pub fn permit_set(
     ensures { result ≡ permitted (rights.set_answer plan.now client (record { class_id = class_id; name = name.now; index = index }) selected (argument_of value.now)) }
 {
     permit_of(set_answer(plan, client, class_id, name, index, selected, value))
+}
+
+/// Whether the client at this place may call a method with this argument (IEC 62056-5-3, ACTION): the first place that
+/// applies gives the code. `ObjectUndefined`: the name isn't in the client's view, or the class has no such method;
+/// `ObjectClassInconsistent`: another class; `ReadWriteDenied`: no right; `TypeUnmatched`: an argument that is unreadable,
+/// and for execute of a script table any but a long-unsigned; `OtherReason`: no script has this number, and it isn't 0,
+/// that of the null script (own profile).
+pub fn permit_action(
+    plan: &Plan,
+    client: u8,
+    class_id: u16,
+    name: &LogicalName,
+    index: i8,
+    argument: &Argument,
+) -> Result<(), AccessCode>
+    ensures { result ≡ permitted (rights.act_answer plan.now client (record { class_id = class_id; name = name.now; index = index }) (argument_of argument.now)) }
+{
+    permit_of(act_answer(plan, client, class_id, name, index, argument))
 }

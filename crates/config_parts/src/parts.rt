@@ -1,4 +1,6 @@
 //! What the tables of a configuration say (own profile), before names are looked up and values are decoded.
+ghost use Rattle.std.specs.Prelude.{◌<◌};
+
 use crate::service::Service;
 use std::marker::Model;
 
@@ -29,6 +31,8 @@ pub struct TargetParts {
     pub object: String,
     /// The index of the attribute or method, 0 to 127.
     pub index: u8,
+    // An index is an integer of eight bits.
+    pub ghost index_fits: { index < 128 },
 }
 
 impl Model for TargetParts {

@@ -20,7 +20,7 @@ use Rattle.config_parts.specs.declared.fault.Code.TheVariants.{Form, ObjectTwice
 use Rattle.config_parts.specs.Fault.{Fault}
 use Rattle.config_parts.specs.Parts.{Text, ConfigText, ObjectText, TargetText, ScriptRefText, RightText}
 use Rattle.config_plan.specs.Names.{name_in, object_named}
-use Rattle.config_plan.specs.PlanOf.{name_of, or_else, object_of, plan_of}
+use Rattle.config_plan.specs.PlanOf.{name_of, no_name, or_else, object_of, plan_of}
 use Rattle.config_plan.specs.Passes as passes
 use Rattle.config_plan.specs.Walks.{Judge, each, references}
 use Rattle.config_plan.proofs.Passed.{then_ok, holds, not_faulty, each_ok, each_new_ok, each_new_in, references_ok, EachReference, AreNew, AsksNewKey}
@@ -41,7 +41,7 @@ named text h = at (name_at text) refl h
     at (Some bytes) is e = (bytes, is)
 
 pub name_of_is : (text : Text) (bytes : List ℕ) → name_at text ≡ Some bytes → name_of text ≡ record { 0 = bytes }
-name_of_is text bytes is = ap (λ r. or_else (record { 0 = [] }) (option_map (λ b. record { 0 = b }) r)) is
+name_of_is text bytes is = ap (λ r. or_else no_name (option_map (λ b. record { 0 = b }) r)) is
 
 -- one name is written in one way
 pub one_text : (a b : Text) → IsName a → IsName b → name_of a ≡ name_of b → a ≡ b

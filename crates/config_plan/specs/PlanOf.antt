@@ -1,5 +1,5 @@
 -- The plan and the policy of what the tables of a configuration say.
-use Rattle.std.specs.Prelude.{ℕ, unsigned_abs, List, [], map, Option, Some, None, option_map}
+use Rattle.std.specs.Prelude.{ℕ, ℤ, pos, int_le, unsigned_abs, cond, ◌&&◌, List, [], ◌∷◌, map, Option, Some, None, option_map}
 use Rattle.std.specs.List.{position_from}
 use Rattle.std.specs.Str.{bytes_eq}
 use Rattle.cosem_data.specs.Tree.{Tree, null_data}
@@ -24,8 +24,12 @@ abbrev pub or_else : {A : Type 0} → A → Option A → A
 or_else absent None = absent
 or_else absent (Some x) = x
 
+-- six bytes that name nothing
+abbrev pub no_name : LogicalName
+no_name = record { 0 = 0 ∷ 0 ∷ 0 ∷ 0 ∷ 0 ∷ 0 ∷ [] }
+
 abbrev pub name_of : Text → LogicalName
-name_of text = or_else (record { 0 = [] }) (name_in text)
+name_of text = or_else no_name (name_in text)
 
 abbrev pub value_of : Text → Tree
 value_of text = or_else null_data (value_in text)
@@ -46,8 +50,12 @@ cell_named c t = cell (class_named c t.object) (name_of t.object) t.index
 abbrev pub method_named : ConfigText → TargetText → MethodRef
 method_named c t = record { class_id = class_named c t.object; name = name_of t.object; index = t.index }
 
+-- a script's identifier has sixteen bits (IEC 62056-6-2, Script table, script_identifier)
+abbrev pub script_number : ℤ → ℕ
+script_number n = cond (int_le (pos 0) n && int_le n (pos 65535)) (unsigned_abs n) 0
+
 abbrev pub script_named : ScriptRefText → ScriptRef
-script_named r = record { table = name_of r.table; script = unsigned_abs r.script }
+script_named r = record { table = name_of r.table; script = script_number r.script }
 
 -- an action's value, null-data where there is none
 abbrev pub parameter_of : Option Text → Tree

@@ -1,1 +1,2 @@
 pub mod ReadTables
+pub mod Accepted

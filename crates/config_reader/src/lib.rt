@@ -1,9 +1,9 @@
 //! A configuration's text read to what it says, or its first fault.
 #![tactic(auto)]
 
-mod judged;
 pub mod laws;
+mod reading;
 #[cfg(test)]
 mod tests;
 
-pub use judged::{judge, read_parts};
+pub use reading::{judge, read_config};

@@ -1,7 +1,9 @@
 mod demo;
+mod limits;
+mod plans;
 mod values;
 
-use crate::read_parts;
+use crate::read_config;
 use config_parts::fault::{Code, ConfigFault};
 use demo::DEMO;
 use std::alloc::Global;
@@ -24,7 +26,7 @@ fn refused(
     place: &str,
 ) -> Result<(), Fail> {
     let text = edited(alloc, old, new)?;
-    match read_parts(alloc, text.as_str()) {
+    match read_config(alloc, text.as_str()) {
         Ok(_) => Err("nothing found".into()),
         Err(ConfigFault::Memory) => Err("memory".into()),
         Err(
@@ -43,7 +45,7 @@ fn refused(
 /// The configuration with these words in place of the others has no fault.
 fn taken(alloc: Global, old: &str, new: &str) -> Result<(), Fail> {
     let text = edited(alloc, old, new)?;
-    let _config = read_parts(alloc, text.as_str())?;
+    let _made = read_config(alloc, text.as_str())?;
     Ok(())
 }
 
@@ -54,7 +56,7 @@ const REGISTER_ACTION: &str =
 
 #[test]
 fn the_demo_has_no_fault(rt: HostRuntime) -> Result<(), Fail> {
-    let _config = read_parts(rt.alloc(), DEMO)?;
+    let _made = read_config(rt.alloc(), DEMO)?;
     Ok(())
 }
 

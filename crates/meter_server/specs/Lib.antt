@@ -2,4 +2,4 @@ pub mod Answering
 pub mod Spelling
 pub mod Running
 pub mod Pieces
-pub mod BuiltIn
+pub mod Verdicts

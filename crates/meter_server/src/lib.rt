@@ -3,12 +3,12 @@
 #![tactic(auto)]
 
 mod answering;
-pub mod demo;
 mod line;
 pub mod running;
 #[cfg(test)]
 mod tests;
 mod text;
+pub mod verdict;
 mod writing;
 
 pub use running::{LineFault, run_lines};

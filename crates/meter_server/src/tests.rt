@@ -6,12 +6,8 @@ mod selections;
 mod steps;
 mod views;
 
-use crate::demo::built_in;
 use crate::running::{LineFault, run_lines};
-use cosem_data::data::Data;
-use cosem_data::memory::Memory;
-use cosem_data::name::LogicalName;
-use object_model::part::Part;
+use samples::alarm_plan;
 use std::alloc::Global;
 use std::io;
 use std::io::{ErrorKind, Read, Write};
@@ -80,15 +76,15 @@ impl Write for SlowWriter {
     }
 }
 
-// What a run over the built-in plan answers and writes, its reader and writer failing at these calls (0 for
+// What a run over the plan of register and alarm answers and writes, its reader and writer failing at these calls (0 for
 // none). Want of memory, of which the run itself tells, is an error here.
 fn run_failing(
     alloc: Global,
     input: &[u8],
     fails_read: u64,
     fails_write: u64,
-) -> Result<(Result<u64, LineFault>, Vec<u8>), Memory> {
-    let plan = built_in(alloc)?;
+) -> Result<(Result<u64, LineFault>, Vec<u8>), Fail> {
+    let plan = alarm_plan(alloc)?;
     let mut reader = SlowReader {
         bytes: input,
         calls: 0,
@@ -100,7 +96,7 @@ fn run_failing(
         fails_at: fails_write,
     };
     match run_lines(alloc, &plan, &mut reader, &mut writer) {
-        Err(LineFault::Memory) => Err(Memory),
+        Err(LineFault::Memory) => Err("out of memory".into()),
         answer => Ok((answer, writer.held)),
     }
 }
@@ -113,7 +109,7 @@ fn fails(
     fails_read: u64,
     fails_write: u64,
     whole: &[u8],
-) -> Result<(Result<u64, LineFault>, usize), Memory> {
+) -> Result<(Result<u64, LineFault>, usize), Fail> {
     let (answer, written) = run_failing(alloc, input, fails_read, fails_write)?;
     let count = written.len();
     assert!(rt; count <= whole.len(), "{count} bytes");
@@ -266,31 +262,5 @@ fn runs_fail_between_answers(rt: HostRuntime) -> Result<(), Fail> {
         let found = fails(&rt, rt.alloc(), LINES, 0, call, REPLIES)?;
         assert_eq!(rt; found, (Err(LineFault::Write), (call - 1) as usize));
     }
-    Ok(())
-}
-
-#[test]
-fn built_in_plan_is_made(rt: HostRuntime) -> Result<(), Fail> {
-    let plan = built_in(rt.alloc())?;
-    assert_eq!(rt; plan.client_named(b"public"), Some(0));
-    assert_eq!(rt; plan.client_named(b"manager"), Some(3));
-    assert_eq!(rt; plan.client_named(b"nobody"), None);
-    let installer = plan.client(2).ok_or("no installer")?;
-    assert_eq!(rt; installer.sap(), 48);
-    assert!(rt; installer.password() == Some(b"87654321".as_slice()));
-    let register = plan
-        .object_at(&LogicalName([1, 0, 1, 8, 0, 255]))
-        .ok_or("no register")?;
-    assert!(rt; register.is_fed());
-    match register.part() {
-        Part::Register(part) => {
-            assert!(rt; part.start == Data::DoubleLongUnsigned(123_456));
-            assert!(rt; part.default == Data::DoubleLongUnsigned(0));
-            assert_eq!(rt; part.scaler_unit.unit, 30);
-        }
-        _ => return Err("no register".into()),
-    }
-    assert_eq!(rt; plan.objects().len(), 2);
-    assert_eq!(rt; plan.rights().len(), 5);
     Ok(())
 }

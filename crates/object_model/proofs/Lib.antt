@@ -1,4 +1,4 @@
 pub mod Pairs
 pub mod Cells
 pub mod Puts
-mod TestPlan
+mod Labels

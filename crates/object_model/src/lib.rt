@@ -8,6 +8,7 @@ pub mod meter;
 pub mod object;
 pub mod part;
 pub mod plan;
+pub mod policy;
 mod put;
 pub mod right;
 pub mod rights;

@@ -9,6 +9,7 @@ ghost use Rattle.meter_theory.specs.Plan.{cells, client_named, interface_at, is_
 ghost use Rattle.meter_theory.specs.State.{keys, value};
 ghost use Rattle.meter_theory.specs.Fixed.{fixed_of};
 ghost use Rattle.meter_theory.specs.Sound.{IsSound};
+ghost use Rattle.config_plan.specs.Faultless.{IsFaultlessPlan};
 ghost use Rattle.object_model.specs.MeterView.{entry_of};
 ghost use Rattle.object_model.specs.PartView.{part_of, monitored_kind};
 ghost use Rattle.object_model.specs.PlanView.{plan_of};
@@ -18,6 +19,7 @@ use crate::meter::Meter;
 use crate::object::Object;
 use crate::part::Part;
 use crate::right::Right;
+use config_plan::laws::faultless_configurations_are_sound;
 use cosem_data::cell::CellRef;
 use cosem_data::data::Data;
 use cosem_data::kind::Kind;
@@ -50,7 +52,8 @@ pub struct PlanParts {
     pub rights: Vec<Right>,
 }
 
-/// The clients and objects of a meter and the rights of its clients, without the faults of a configuration.
+/// The clients and objects of a meter and the rights of its clients: the plan of a configuration in which no fault is found
+/// (own profile).
 #[derive(Drop)]
 pub struct Plan {
     clients: Vec<Client>,
@@ -61,7 +64,7 @@ pub struct Plan {
 impl Model for Plan {
     ghost use Rattle.meter_theory.specs.Plan as theory;
     ghost use Rattle.meter_theory.specs.PlanCode.{plan_code};
-    ghost use Rattle.meter_theory.specs.Sound.{IsSound};
+    ghost use Rattle.config_plan.specs.Faultless.{IsFaultlessPlan};
 
     ghost Value = { theory.Plan };
 
@@ -69,14 +72,14 @@ impl Model for Plan {
 
     ghost view = { λ p. record { clients = p.clients.items; objects = p.objects.items; rights = p.rights.items } };
 
-    ghost invariant = { λ p. IsSound (record { clients = p.clients.items; objects = p.objects.items; rights = p.rights.items }) };
+    ghost invariant = { λ p. IsFaultlessPlan (record { clients = p.clients.items; objects = p.objects.items; rights = p.rights.items }) };
 }
 
 impl Plan {
-    /// The plan of these parts, which have none of the faults of a configuration (own profile). It takes no memory, and
-    /// gives no error yet.
+    /// The plan of these parts, which are those of a configuration in which no fault is found (own profile). It takes no
+    /// memory, and gives no error yet.
     pub fn new(parts: PlanParts) -> Result<Plan, Memory>
-        requires { IsSound (plan_of parts) }
+        requires { IsFaultlessPlan (plan_of parts) }
         ensures { IfOk result (λ plan. plan ≡ plan_of parts) }
     {
         let PlanParts {
@@ -91,11 +94,14 @@ impl Plan {
         })
     }
 
-    /// A plan has none of the faults of a configuration: what the type keeps, for callers.
+    /// What the type keeps, for callers: a plan is that of a configuration in which no fault is found, so that the
+    /// promises about influence and secrecy hold of it. It takes no memory.
     pub fn known(&self)
-        ensures { IsSound self.now }
+        ensures faultless { IsFaultlessPlan self.now }
+        ensures sound { IsSound self.now }
     {
         let _clients = &self.clients;
+        faultless_configurations_are_sound();
     }
 
     /// The client at this place, counted from 0, or None past the last. It takes no memory.
@@ -116,6 +122,7 @@ impl Plan {
     pub fn client_named(&self, name: &[u8]) -> Option<u8>
         ensures { result ≡ client_named self.now name.now }
     {
+        self.known();
         let place = place_named(&self.clients, name)?;
         Some(place as u8)
     }

@@ -1,7 +1,7 @@
 use super::samples::{
-    ALARM, DEVICE, ENERGY, INSTALLER, MANAGER, NOBODY, PUBLIC, READER, cell, device_plan, octets,
+    ALARM, DEVICE, ENERGY, INSTALLER, MANAGER, NOBODY, PUBLIC, READER, alarm_plan, cell,
+    device_plan, octets,
 };
-use crate::demo::built_in;
 use association_views::permits::{attribute_cell, permit_get, permit_set};
 use cosem_data::bytes::Bytes;
 use cosem_data::data::Data;
@@ -31,7 +31,7 @@ fn requests_name_attributes(rt: HostRuntime) {
 // Each request has, behind what refuses it, all that is judged later.
 #[test]
 fn the_first_place_refuses_a_get(rt: HostRuntime) -> Result<(), Fail> {
-    let plan = built_in(rt.alloc())?;
+    let plan = alarm_plan(rt.alloc())?;
     let selection = Some((1, Argument::Unreadable));
     for (client, class_id, name, index, want) in [
         (NOBODY, 1, ASSOCIATION, 9, UNDEFINED),
@@ -59,7 +59,7 @@ fn the_first_place_refuses_a_get(rt: HostRuntime) -> Result<(), Fail> {
 
 #[test]
 fn a_get_is_permitted(rt: HostRuntime) -> Result<(), Fail> {
-    let plan = built_in(rt.alloc())?;
+    let plan = alarm_plan(rt.alloc())?;
     for (client, class_id, name, index) in [
         (PUBLIC, 3, ENERGY, 1),
         (READER, 3, ENERGY, 2),
@@ -81,7 +81,7 @@ fn a_get_is_permitted(rt: HostRuntime) -> Result<(), Fail> {
 // Each request has, behind what refuses it, all that is judged later.
 #[test]
 fn the_first_place_refuses_a_set(rt: HostRuntime) -> Result<(), Fail> {
-    let plan = built_in(rt.alloc())?;
+    let plan = alarm_plan(rt.alloc())?;
     for (client, class_id, name, index, want) in [
         (NOBODY, 1, ASSOCIATION, 9, UNDEFINED),
         (PUBLIC, 3, ALARM, 9, UNDEFINED),
@@ -104,7 +104,7 @@ fn the_first_place_refuses_a_set(rt: HostRuntime) -> Result<(), Fail> {
 
 #[test]
 fn a_value_is_judged_last(rt: HostRuntime) -> Result<(), Fail> {
-    let plan = built_in(rt.alloc())?;
+    let plan = alarm_plan(rt.alloc())?;
     for (value, want) in [
         (Argument::Absent, UNMATCHED),
         (Argument::Unreadable, UNMATCHED),

@@ -1,8 +1,7 @@
-ghost use Rattle.std.specs.Prelude.{◌≡◌, ◌∷◌, [], false, None, codes, IfOk};
-ghost use Rattle.cosem_data.specs.Tree.{octet_string};
-ghost use Rattle.meter_theory.specs.Plan.{Data1};
+ghost use Rattle.std.specs.Prelude.{IfOk};
 ghost use Rattle.meter_theory.specs.States.{IsState};
 
+use config_reader::read_config;
 use cosem_axdr::limits::is_encoded_within;
 use cosem_axdr::writing::write_data;
 use cosem_data::bytes::Bytes;
@@ -10,14 +9,11 @@ use cosem_data::cell::CellRef;
 use cosem_data::data::Data;
 use cosem_data::memory::Memory;
 use cosem_data::name::LogicalName;
-use object_model::client::Client;
 use object_model::meter::Meter;
-use object_model::object::Object;
-use object_model::part::Part;
-use object_model::plan::{Plan, PlanParts};
-use object_model::right::Right;
+use object_model::plan::Plan;
 use std::alloc::Global;
 use std::process::Abort;
+use std::test::Fail;
 
 // Total active energy import, as the OBIS table of IEC 62056-6-2 has it.
 pub const ENERGY: LogicalName = LogicalName([1, 0, 1, 8, 0, 255]);
@@ -27,7 +23,7 @@ pub const ALARM: LogicalName = LogicalName([0, 0, 96, 11, 0, 255]);
 // Device ID 1, an octet-string.
 pub const DEVICE: LogicalName = LogicalName([0, 0, 96, 1, 0, 255]);
 
-// The places of the clients in the built-in plan, and one of no client.
+// The places of the clients in the plan of register and alarm, and one of no client.
 pub const PUBLIC: u8 = 0;
 
 pub const READER: u8 = 1;
@@ -85,33 +81,49 @@ pub(super) fn started(plan: &Plan, alloc: Global) -> Result<Meter, Memory>
     plan.start(alloc)
 }
 
-// A plan with a device's identifier, which starts empty, and one client, who reads and sets it.
-pub(super) fn device_plan(alloc: Global) -> Result<Plan, Memory> {
-    Plan::new(PlanParts {
-        clients: owners(alloc)?,
-        objects: devices(alloc)?,
-        rights: device_rights(alloc)?,
-    })
+// The plan of a configuration.
+fn plan_of(alloc: Global, text: &str) -> Result<Plan, Fail> {
+    let (plan, _policy) = read_config(alloc, text)?;
+    Ok(plan)
 }
 
-fn owners(alloc: Global) -> Result<Vec<Client>, Memory>
-    ensures { IfOk result (λ list. list.items ≡ record { name = codes "owner"; sap = 1; password = None } ∷ []) }
-{
-    let name = String::from_str(alloc, "owner")?;
-    Ok(vec![in alloc; Client::new(name, 1, None)]?)
+// A fed register of active energy and an alarm; the public sees the register, the reader reads both, the installer has no
+// right, and the manager also resets the register and sets the alarm.
+pub(super) fn alarm_plan(alloc: Global) -> Result<Plan, Fail> {
+    plan_of(
+        alloc,
+        r#"version = 1
+client = [
+ { name = "public", sap = 16 },
+ { name = "reader", sap = 32, password = "12345678" },
+ { name = "installer", sap = 48, password = "87654321" },
+ { name = "manager", sap = 1, password = "00000000" },
+]
+object = [
+ { class = 3, name = "1.0.1.8.0.255", fed = true, value = "060001E240", default = "0600000000", scaler = 0, unit = 30 },
+ { class = 1, name = "0.0.96.11.0.255", value = "1100" },
+]
+right = [
+ { client = "public", object = "1.0.1.8.0.255" },
+ { client = "reader", object = "1.0.1.8.0.255", get = [2, 3] },
+ { client = "reader", object = "0.0.96.11.0.255", get = [2] },
+ { client = "manager", object = "1.0.1.8.0.255", get = [2, 3], act = [1] },
+ { client = "manager", object = "0.0.96.11.0.255", get = [2], set = [2] },
+]
+policy = { influence = ["manager"], learn = ["reader", "manager"] }
+"#,
+    )
 }
 
-fn devices(alloc: Global) -> Result<Vec<Object>, Memory>
-    ensures { IfOk result (λ list. list.items ≡ record { name = record { 0 = 0 ∷ 0 ∷ 96 ∷ 1 ∷ 0 ∷ 255 ∷ [] }; fed = false; part = Data1 (octet_string []) } ∷ []) }
-{
-    let start = Data::OctetString(Bytes::new(Vec::new(alloc)));
-    Ok(vec![in alloc; Object::new(DEVICE, false, Part::Data { start })]?)
-}
-
-fn device_rights(alloc: Global) -> Result<Vec<Right>, Memory>
-    ensures { IfOk result (λ list. list.items ≡ record { client = 0; object = record { 0 = 0 ∷ 0 ∷ 96 ∷ 1 ∷ 0 ∷ 255 ∷ [] }; gets = 2 ∷ []; sets = 2 ∷ []; acts = [] } ∷ []) }
-{
-    let gets = Vec::from_slice(alloc, &[2])?;
-    let sets = Vec::from_slice(alloc, &[2])?;
-    Ok(vec![in alloc; Right::new(0, DEVICE, gets, sets, Vec::new(alloc))]?)
+// A device's identifier, which starts empty, and one client, who reads and sets it.
+pub(super) fn device_plan(alloc: Global) -> Result<Plan, Fail> {
+    plan_of(
+        alloc,
+        r#"version = 1
+client = [{ name = "owner", sap = 1 }]
+object = [{ class = 1, name = "0.0.96.1.0.255", value = "0900" }]
+right = [{ client = "owner", object = "0.0.96.1.0.255", get = [2], set = [2] }]
+policy = { influence = [], learn = [] }
+"#,
+    )
 }

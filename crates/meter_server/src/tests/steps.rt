@@ -2,10 +2,9 @@ ghost use Rattle.std.specs.Prelude.{◌≡◌};
 ghost use Rattle.meter_theory.specs.States.{IsState};
 
 use super::samples::{
-    ALARM, ASSOCIATION_LISTED, DEVICE, ENERGY, INSTALLER, MANAGER, PUBLIC, READER, cell,
-    device_plan, octets, started, written,
+    ALARM, ASSOCIATION_LISTED, DEVICE, ENERGY, INSTALLER, MANAGER, PUBLIC, READER, alarm_plan,
+    cell, device_plan, octets, started, written,
 };
-use crate::demo::built_in;
 use cosem_data::data::Data;
 use cosem_data::memory::Memory;
 use cosem_data::name::LogicalName;
@@ -84,7 +83,7 @@ fn takes(
 #[test]
 fn steps_are_applied(rt: HostRuntime) -> Result<(), Fail> {
     let a = rt.alloc();
-    let plan = built_in(a)?;
+    let plan = alarm_plan(a)?;
     let mut meter = started(&plan, a)?;
     let m = &mut meter;
     let list = format!(in a; "0101{ASSOCIATION_LISTED}")?;
@@ -174,7 +173,7 @@ const ALARMS: [u8; 9] = [0, 0, 7, 7, 7, 7, 9, 9, 9];
 // Where memory is refused, the replies are the first ones and the meter stands behind their steps.
 #[test]
 fn steps_are_run(rt: HostRuntime) -> Result<(), Fail> {
-    let plan = built_in(rt.alloc())?;
+    let plan = alarm_plan(rt.alloc())?;
     let mut meter = started(&plan, rt.alloc())?;
     let steps = listed_steps(rt.alloc())?;
     let list = format!(in rt.alloc(); "0101{ASSOCIATION_LISTED}")?;

@@ -1,8 +1,8 @@
 use super::run_failing;
 use super::samples::{
-    ALARM, ASSOCIATION_LISTED, ENERGY, INSTALLER, MANAGER, PUBLIC, READER, cell, written,
+    ALARM, ASSOCIATION_LISTED, ENERGY, INSTALLER, MANAGER, PUBLIC, READER, alarm_plan, cell,
+    written,
 };
-use crate::demo::built_in;
 use association_views::association::{association_attribute, fixed_attribute, object_list};
 use cosem_data::data::Data;
 use object_model::plan::ASSOCIATION;
@@ -49,7 +49,7 @@ const ALARM_SET: &str = "0204120001110009060000600B00FF0202\
 
 #[test]
 fn lists_have_what_clients_see(rt: HostRuntime) -> Result<(), Fail> {
-    let plan = built_in(rt.alloc())?;
+    let plan = alarm_plan(rt.alloc())?;
     for (client, count, energy, alarm) in [
         (PUBLIC, "0102", ENERGY_NAMED, ""),
         (READER, "0103", ENERGY_READ, ALARM_READ),
@@ -76,7 +76,7 @@ fn a_list_is_replied(rt: HostRuntime) -> Result<(), Fail> {
 // By the service access points 16, 32, 48 and 1, and low level security for all but the public.
 #[test]
 fn associations_have_their_attributes(rt: HostRuntime) -> Result<(), Fail> {
-    let plan = built_in(rt.alloc())?;
+    let plan = alarm_plan(rt.alloc())?;
     for (client, index, want) in [
         (PUBLIC, 3, "02020F10120001"),
         (READER, 3, "02020F20120001"),
@@ -107,7 +107,7 @@ fn associations_have_their_attributes(rt: HostRuntime) -> Result<(), Fail> {
 
 #[test]
 fn a_list_is_an_attribute(rt: HostRuntime) -> Result<(), Fail> {
-    let plan = built_in(rt.alloc())?;
+    let plan = alarm_plan(rt.alloc())?;
     let want = format!(in rt.alloc(); "0102{ASSOCIATION_LISTED}{ENERGY_NAMED}")?;
     let list = association_attribute(rt.alloc(), &plan, PUBLIC, 2)?;
     let list = written(&rt, rt.alloc(), &list)?;
@@ -121,7 +121,7 @@ fn a_list_is_an_attribute(rt: HostRuntime) -> Result<(), Fail> {
 // The names, and scaler and unit of the register: 0 and Wh.
 #[test]
 fn objects_have_fixed_attributes(rt: HostRuntime) -> Result<(), Fail> {
-    let plan = built_in(rt.alloc())?;
+    let plan = alarm_plan(rt.alloc())?;
     for (at, want) in [
         (cell(15, ASSOCIATION, 1), "09060000280000FF"),
         (cell(3, ENERGY, 1), "09060100010800FF"),

@@ -85,7 +85,7 @@ fn at(class_id: u16, index: u8) -> CellRef {
 }
 
 /// An object with this part is of this class, and its cells are those at these indexes.
-fn has_cells(rt: &impl Abort, part: &Part, class_id: u16, indexes: &[u8]) {
+fn has_cells(rt: &impl Abort, part: Part, class_id: u16, indexes: &[u8]) {
     assert!(rt; part.class_id() == class_id);
     for index in 0..=8 {
         let is_cell = indexes.iter().any(|i| *i == index);
@@ -96,125 +96,150 @@ fn has_cells(rt: &impl Abort, part: &Part, class_id: u16, indexes: &[u8]) {
 
 #[test]
 fn a_profile_has_three_cells(rt: HostRuntime) -> Result<(), Fail> {
-    has_cells(&rt, &profile(rt.alloc())?, 7, &[2, 4, 7]);
+    has_cells(&rt, profile(rt.alloc())?, 7, &[2, 4, 7]);
     Ok(())
 }
 
 #[test]
 fn a_script_table_has_no_cell(rt: HostRuntime) {
-    has_cells(&rt, &table(rt.alloc()), 9, &[]);
+    has_cells(&rt, table(rt.alloc()), 9, &[]);
 }
 
 #[test]
 fn a_monitor_has_thresholds_and_what_it_saw(rt: HostRuntime) -> Result<(), Fail> {
-    has_cells(&rt, &monitor(rt.alloc())?, 21, &[SEEN, 2]);
+    has_cells(&rt, monitor(rt.alloc())?, 21, &[SEEN, 2]);
     Ok(())
 }
 
 #[test]
 fn a_schedule_has_one_cell(rt: HostRuntime) -> Result<(), Fail> {
-    has_cells(&rt, &schedule(rt.alloc())?, 22, &[4]);
+    has_cells(&rt, schedule(rt.alloc())?, 22, &[4]);
     Ok(())
+}
+
+/// The cells of an object with this part, and their start values.
+fn started(alloc: Global, part: Part) -> Result<Vec<(CellRef, Data)>, Memory> {
+    let mut pairs = Vec::new(alloc);
+    part.push_start(alloc, NAME, &mut pairs)?;
+    Ok(pairs)
+}
+
+fn is_number(value: &Data, number: u32) -> bool {
+    matches!(value, Data::DoubleLongUnsigned(n) if *n == number)
+}
+
+/// A profile has these cells with their start values.
+fn starts_empty(rt: &impl Abort, pairs: &[(CellRef, Data)]) {
+    assert_eq!(rt; pairs.len(), 3);
+    assert!(rt; pairs[0].0 == at(7, 2));
+    assert!(rt; matches!(&pairs[0].1, Data::Array(rows) if rows.as_slice().is_empty()));
+    assert!(rt; pairs[1].0 == at(7, 4) && is_number(&pairs[1].1, 900));
+    assert!(rt; pairs[2].0 == at(7, 7) && is_number(&pairs[2].1, 0));
 }
 
 #[test]
 fn a_profile_starts_empty(rt: HostRuntime) -> Result<(), Fail> {
-    let a = rt.alloc();
-    let mut pairs = Vec::new(a);
-    profile(a)?.push_start(a, NAME, &mut pairs)?;
-    assert_eq!(rt; pairs.len(), 3);
-    assert!(rt; pairs[0] == (at(7, 2), Data::Array(Items::new(Vec::new(a)))));
-    assert!(rt; pairs[1] == (at(7, 4), Data::DoubleLongUnsigned(900)));
-    assert!(rt; pairs[2] == (at(7, 7), Data::DoubleLongUnsigned(0)));
+    let pairs = started(rt.alloc(), profile(rt.alloc())?)?;
+    starts_empty(&rt, &pairs);
     Ok(())
+}
+
+/// A monitor has these cells with their start values.
+fn starts_with_thresholds(rt: &impl Abort, pairs: &[(CellRef, Data)], thresholds: &Data) {
+    assert_eq!(rt; pairs.len(), 2);
+    assert!(rt; pairs[0].0 == at(21, 2) && pairs[0].1 == *thresholds);
+    assert!(rt; pairs[1].0 == at(21, SEEN) && matches!(pairs[1].1, Data::NullData));
 }
 
 #[test]
 fn a_monitor_starts_with_its_thresholds(rt: HostRuntime) -> Result<(), Fail> {
-    let a = rt.alloc();
-    let mut pairs = Vec::new(a);
-    monitor(a)?.push_start(a, NAME, &mut pairs)?;
-    let thresholds = array(a, [Data::DoubleLongUnsigned(100)])?;
-    assert_eq!(rt; pairs.len(), 2);
-    assert!(rt; pairs[0] == (at(21, 2), thresholds));
-    assert!(rt; pairs[1] == (at(21, SEEN), Data::NullData));
+    let pairs = started(rt.alloc(), monitor(rt.alloc())?)?;
+    let thresholds = array(rt.alloc(), [Data::DoubleLongUnsigned(100)])?;
+    starts_with_thresholds(&rt, &pairs, &thresholds);
     Ok(())
 }
 
 #[test]
 fn a_script_table_starts_with_nothing(rt: HostRuntime) -> Result<(), Fail> {
-    let a = rt.alloc();
-    let mut pairs = Vec::new(a);
-    table(a).push_start(a, NAME, &mut pairs)?;
+    let pairs = started(rt.alloc(), table(rt.alloc()))?;
     assert_eq!(rt; pairs.len(), 0);
     Ok(())
 }
 
 /// A schedule has these cells with their start values.
-fn starts_with_times(rt: &impl Abort, a: Global, pairs: &[(CellRef, Data)]) -> Result<(), Fail> {
-    let times = array(a, [month_end(a)?])?;
-    assert!(rt; pairs.len() == 1 && pairs[0].0 == at(22, 4) && pairs[0].1 == times);
-    Ok(())
+fn starts_with_times(rt: &impl Abort, pairs: &[(CellRef, Data)], times: &Data) {
+    assert!(rt; pairs.len() == 1 && pairs[0].0 == at(22, 4) && pairs[0].1 == *times);
 }
 
 #[test]
 fn a_schedule_starts_with_its_times(rt: HostRuntime) -> Result<(), Fail> {
-    let a = rt.alloc();
-    let mut pairs = Vec::new(a);
-    schedule(a)?.push_start(a, NAME, &mut pairs)?;
-    starts_with_times(&rt, a, &pairs)
+    let pairs = started(rt.alloc(), schedule(rt.alloc())?)?;
+    let times = array(rt.alloc(), [month_end(rt.alloc())?])?;
+    starts_with_times(&rt, &pairs, &times);
+    Ok(())
+}
+
+/// The kind of the value with which the cell of an object with this part starts.
+fn kind_at(part: Part, cell: CellRef) -> Kind {
+    part.start_kind(NAME, &cell)
 }
 
 #[test]
 fn a_profile_starts_with_an_array_and_numbers(rt: HostRuntime) -> Result<(), Fail> {
-    let profile = profile(rt.alloc())?;
-    assert!(rt; profile.start_kind(NAME, &at(7, 2)) == Kind::Array);
-    assert!(rt; profile.start_kind(NAME, &at(7, 7)) == Kind::DoubleLongUnsigned);
+    let a = rt.alloc();
+    assert!(rt; kind_at(profile(a)?, at(7, 2)) == Kind::Array);
+    assert!(rt; kind_at(profile(a)?, at(7, 7)) == Kind::DoubleLongUnsigned);
     Ok(())
 }
 
 #[test]
 fn a_monitor_starts_with_an_array_and_nothing(rt: HostRuntime) -> Result<(), Fail> {
-    let monitor = monitor(rt.alloc())?;
-    assert!(rt; monitor.start_kind(NAME, &at(21, 2)) == Kind::Array);
-    assert!(rt; monitor.start_kind(NAME, &at(21, SEEN)) == Kind::NullData);
+    let a = rt.alloc();
+    assert!(rt; kind_at(monitor(a)?, at(21, 2)) == Kind::Array);
+    assert!(rt; kind_at(monitor(a)?, at(21, SEEN)) == Kind::NullData);
     Ok(())
 }
 
 /// What is judged of a value where a register monitor watches a double-long-unsigned.
-fn judged(part: &Part, index: u8, value: &Data) -> Result<(), AccessCode> {
-    part.judge(Kind::DoubleLongUnsigned, index, value)
+fn judged(part: Part, index: u8, value: Data) -> Result<(), AccessCode> {
+    part.judge(Kind::DoubleLongUnsigned, index, &value)
 }
 
 #[test]
 fn a_period_is_a_number(rt: HostRuntime) -> Result<(), Fail> {
     let a = rt.alloc();
-    let profile = profile(a)?;
-    let number = Data::DoubleLongUnsigned(60);
-    assert_eq!(rt; judged(&profile, 4, &number), Ok(()));
     assert_eq!(rt;
-        judged(&profile, 4, &Data::LongUnsigned(60)),
+        judged(profile(a)?, 4, Data::DoubleLongUnsigned(60)),
+        Ok(())
+    );
+    assert_eq!(rt;
+        judged(profile(a)?, 4, Data::LongUnsigned(60)),
         Err(AccessCode::TypeUnmatched)
     );
     assert_eq!(rt;
-        judged(&profile, 7, &number),
+        judged(profile(a)?, 7, Data::DoubleLongUnsigned(60)),
         Err(AccessCode::TypeUnmatched)
     );
     assert_eq!(rt;
-        judged(&table(a), 2, &number),
+        judged(table(a), 2, Data::DoubleLongUnsigned(60)),
         Err(AccessCode::TypeUnmatched)
     );
     Ok(())
 }
 
-/// What is judged of so many thresholds of the monitor, which has one action.
-fn judged_thresholds(alloc: Global, count: u8) -> Result<Result<(), AccessCode>, Memory> {
+/// So many thresholds.
+fn thresholds(alloc: Global, count: u8) -> Result<Data, Memory> {
     let mut thresholds = Vec::new(alloc);
     for _ in 0..count {
         thresholds.push(Data::DoubleLongUnsigned(7))?;
     }
-    let value = Data::Array(Items::new(thresholds));
-    Ok(judged(&monitor(alloc)?, 2, &value))
+    Ok(Data::Array(Items::new(thresholds)))
+}
+
+/// What is judged of so many thresholds of the monitor, which has one action.
+fn judged_thresholds(alloc: Global, count: u8) -> Result<Result<(), AccessCode>, Memory> {
+    let value = thresholds(alloc, count)?;
+    Ok(judged(monitor(alloc)?, 2, value))
 }
 
 #[test]
@@ -225,14 +250,19 @@ fn thresholds_are_one_for_each_action(rt: HostRuntime) -> Result<(), Fail> {
     Ok(())
 }
 
-/// What is judged of so many times of the schedule, which is of type 1.
-fn judged_times(alloc: Global, count: u8) -> Result<Result<(), AccessCode>, Memory> {
+/// So many times.
+fn times(alloc: Global, count: u8) -> Result<Data, Memory> {
     let mut times = Vec::new(alloc);
     for _ in 0..count {
         times.push(month_end(alloc)?)?;
     }
-    let value = Data::Array(Items::new(times));
-    Ok(judged(&schedule(alloc)?, 4, &value))
+    Ok(Data::Array(Items::new(times)))
+}
+
+/// What is judged of so many times of the schedule, which is of type 1.
+fn judged_times(alloc: Global, count: u8) -> Result<Result<(), AccessCode>, Memory> {
+    let value = times(alloc, count)?;
+    Ok(judged(schedule(alloc)?, 4, value))
 }
 
 #[test]

@@ -63,7 +63,7 @@ returns-clause-ok c =
 
 pub returns-clause-state : goal.returns-clause-state
 returns-clause-state c = subst (IsState c.args.plan.now) (sym (returns-clause-ok c))
-    (step-keeps c.args.plan.now c.known.ensures c.args.meter.now
+    (step-keeps c.args.plan.now c.known.ensures.sound c.args.meter.now
     (Set c.args.client (record { class_id = c.args.class_id; name = c.args.name.now; index = c.args.index }) c.args.selected (argument_of c.args.value.now)) c.requires)
 
 pub returns-in_err-given-clause-denied : goal.returns-in_err-given-clause-denied

@@ -16,7 +16,7 @@ use Rattle.meter_server.proofs.answering.answer_request.Goals as goal
 pub write_reply-requires : goal.write_reply-requires
 write_reply-requires c =
     subst (λ (z : Service). CanWrite z c.in_ok-reply.reply) (sym c.step_asked-asked.ensures.service)
-    (CanWrite-reply c.args.plan.now c.known.ensures c.args.meter.now c.requires c.args.client c.args.request c.in_ok-reply.reply
+    (CanWrite-reply c.args.plan.now c.known.ensures.sound c.args.meter.now c.requires c.args.client c.args.request c.in_ok-reply.reply
     (c.in_ok-reply.ensures.reply ∙ ap (reply_to c.args.plan.now c.args.meter.now) c.step_asked-asked.ensures.step))
 
 written : {Z : Type 0} (P : Plan) (s : State) (client : ℕ) (request : Request) (r : Reply) (service : Service) (invoke : ℕ) (result : Result (Vec ℕ Z) Memory)

@@ -12,7 +12,7 @@ returns-in_default g c = stops-at_start c.args.plan.now (record { unread = g.R.R
 
 pub loop-init : goal.loop-init
 loop-init g c = record {
-  so_far = (_, [], [], stands-init c.args.plan.now _ (record { meter = c.in-Ok.meter; line = c.new.result; count = 0 }) c.new.ensures.items c.in-Ok.ensures refl (subst (IsState c.args.plan.now) (sym c.in-Ok.ensures) (start-is-state c.args.plan.now c.known.ensures)));
+  so_far = (_, [], [], stands-init c.args.plan.now _ (record { meter = c.in-Ok.meter; line = c.new.result; count = 0 }) c.new.ensures.items c.in-Ok.ensures refl (subst (IsState c.args.plan.now) (sym c.in-Ok.ensures) (start-is-state c.args.plan.now c.known.ensures.sound)));
   fits = lit< tt;
   room = lit< tt;
 }

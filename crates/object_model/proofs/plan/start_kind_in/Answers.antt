@@ -1,4 +1,4 @@
-use Rattle.std.proofs.Common.{◌≡◌, ◌∙◌, ap, sym, subst}
+use Rattle.std.proofs.Common.{◌∙◌, ap, sym}
 use Rattle.cosem_data.specs.Kinds.{kind_of}
 use Rattle.meter_theory.specs.State.{value}
 use Rattle.meter_theory.specs.Plan.{start_of}

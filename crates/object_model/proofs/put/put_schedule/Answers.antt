@@ -1,5 +1,4 @@
 use Rattle.cosem_data.specs.View.{tree}
-use Rattle.cosem_data.specs.declared.data.Data.TheVariants as values
 use Rattle.class_control.specs.ScheduleClass.{schedule_cells}
 use Rattle.object_model.proofs.Puts.{value_after_4}
 use Rattle.object_model.proofs.put.put_schedule.Goals as goal

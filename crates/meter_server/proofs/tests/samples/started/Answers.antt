@@ -7,4 +7,4 @@ use Rattle.meter_server.proofs.tests.samples.started.Goals as goal
 pub returns : goal.returns
 returns c =
     IfOk-weaker c.start.result _ _
-    (λ meter same. subst (IsState c.args.plan.now) (sym same) (start-is-state c.args.plan.now c.known.ensures)) c.start.ensures
+    (λ meter same. subst (IsState c.args.plan.now) (sym same) (start-is-state c.args.plan.now c.known.ensures.sound)) c.start.ensures

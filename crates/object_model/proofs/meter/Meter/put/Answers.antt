@@ -11,7 +11,7 @@ pub put-value-requires : goal.put-value-requires
 put-value-requires c =
     subst (λ held. MayReplace c.part-part.result.now c.monitored_kind-monitored.result c.args.cell.now.index held (tree c.args.given)) (sym c.replace-held.ensures.old)
     (put-may-replace c.args.plan.now c.args.self.now c.args.cell.now (tree c.args.given) c.in-Some.object.now c.part-part.result.now c.monitored_kind-monitored.result
-    c.known.ensures c.requires.of_plan c.requires.fits (sym c.in-Some.ensures) c.part-part.ensures c.monitored_kind-monitored.ensures)
+    c.known.ensures.sound c.requires.of_plan c.requires.fits (sym c.in-Some.ensures) c.part-part.ensures c.monitored_kind-monitored.ensures)
 
 pub returns-in-Some : goal.returns-in-Some
 returns-in-Some c =

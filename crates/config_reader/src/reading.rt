@@ -1,0 +1,67 @@
+//! A configuration's text read whole.
+ghost use Rattle.std.specs.Prelude.{◌≡◌, IfOk, IfErr};
+ghost use Rattle.config_parts.specs.Fault.{Gives};
+ghost use Rattle.config_parts.specs.declared.fault.ConfigFault.TheVariants as faults;
+ghost use Rattle.config_plan.specs.Faultless.{IsFaultless, IsPolicyOf};
+ghost use Rattle.config_plan.specs.Passes.{judged};
+ghost use Rattle.config_plan.specs.PlanOf as config;
+ghost use Rattle.config_reader.specs.ConfigOf.{Reads, config_of};
+
+use crate::laws::configurations_are_read;
+use config_names::judge_names;
+use config_names::laws::names_are_judged_first;
+use config_parts::fault::ConfigFault;
+use config_plans::{plan_of, policy_of};
+use config_tables::read_tables;
+use config_values::judge_values;
+use config_walks::directory::Directory;
+use object_model::plan::Plan;
+use object_model::policy::Policy;
+use std::alloc::Global;
+
+/// Judges what the tables of a configuration say.
+///
+/// # Errors
+/// The least of the codes C4 to C20 that is met, at the first place where it is; C0 where memory was refused, at any time.
+pub fn judge(alloc: Global, directory: &Directory) -> Result<(), ConfigFault>
+    ensures { Gives (λ u. u) result (judged directory.now.config.now) }
+{
+    names_are_judged_first();
+    judge_names(alloc, directory)?;
+    judge_values(alloc, directory)
+}
+
+/// The plan and the policy of a configuration without faults.
+///
+/// # Errors
+/// C0 where memory was refused, and no other.
+fn make(alloc: Global, directory: &Directory) -> Result<(Plan, Policy), ConfigFault>
+    requires { IsFaultless directory.now.config.now }
+    ensures plan { IfOk result (λ made. made.0 ≡ config.plan_of directory.now.config.now) }
+    ensures policy { IfOk result (λ made. IsPolicyOf directory.now.config.now made.1) }
+    ensures memory { IfErr result (λ e. e ≡ faults.Memory) }
+{
+    let Ok(plan) = plan_of(alloc, directory) else {
+        return Err(ConfigFault::Memory);
+    };
+    match policy_of(alloc, directory, &plan) {
+        Ok(policy) => Ok((plan, policy)),
+        Err(_) => Err(ConfigFault::Memory),
+    }
+}
+
+/// The plan and the policy of a configuration's text.
+///
+/// # Errors
+/// The least code that is met, C1 to C20, at the first place in the text where it is; C0 where memory was refused, at any
+/// time.
+#[tactic(auto, unfolding(crate::specs::ConfigOf::config_of))]
+pub fn read_config(alloc: Global, text: &str) -> Result<(Plan, Policy), ConfigFault>
+    ensures { Reads result (config_of text.now) }
+{
+    configurations_are_read();
+    let config = read_tables(alloc, text)?;
+    let directory = Directory::new(alloc, &config)?;
+    judge(alloc, &directory)?;
+    make(alloc, &directory)
+}

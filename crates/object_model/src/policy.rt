@@ -1,0 +1,98 @@
+//! The policy of a plan: who may influence and who may learn what each cell holds (own profile).
+ghost use Rattle.std.specs.Prelude.{◌≡◌, IfOk, option_map, find};
+ghost use Rattle.cosem_data.specs.Cells.{same_cell};
+ghost use Rattle.meter_theory.specs.Labels.{label_at, or_else};
+ghost use Rattle.config_plan.specs.Faultless.{IsFaultlessPolicy};
+ghost use Rattle.object_model.specs.PolicyView.{policy_of, IsSomePolicy};
+
+use crate::plan::Plan;
+use cosem_data::cell::CellRef;
+use cosem_data::clients::ClientSet;
+use cosem_data::memory::Memory;
+use std::marker::Model;
+
+/// Who may influence what a cell holds, and who may learn it: clients by their places in the plan (own profile).
+#[derive(Clone, Copy, Debug, PartialEq, Eq)]
+pub struct Label {
+    /// The clients that may influence it.
+    pub influence: ClientSet,
+    /// The clients that may learn it.
+    pub learn: ClientSet,
+}
+
+impl Model for Label {
+    ghost use Rattle.meter_theory.specs.Labels as theory;
+
+    ghost Value = { theory.Label };
+
+    ghost view = { λ l. record { influence = l.influence; learn = l.learn } };
+
+    ghost inverse = { λ l. record { influence = l.influence; learn = l.learn } };
+}
+
+/// What makes a policy.
+#[derive(Drop)]
+pub struct PolicyParts {
+    /// Cells with a label of their own, in the order of the configuration.
+    pub table: Vec<(CellRef, Label)>,
+    /// The label of each other cell.
+    pub default: Label,
+}
+
+/// A label for every cell: that of its first entry in a table, or else the default. It is the policy of a configuration
+/// in which no fault is found (own profile).
+#[derive(Drop)]
+pub struct Policy {
+    table: Vec<(CellRef, Label)>,
+    default: Label,
+}
+
+impl Model for Policy {
+    ghost use Rattle.meter_theory.specs.Labels as theory;
+    ghost use Rattle.object_model.specs.PolicyView.{IsSomePolicy};
+
+    ghost Value = { theory.Policy };
+
+    ghost view = { λ p. record { table = p.table.items; default = p.default } };
+
+    ghost invariant = { λ p. IsSomePolicy (record { table = p.table.items; default = p.default }) };
+}
+
+impl Policy {
+    /// The policy of these parts, which are those of a configuration in which no fault is found and which has this plan
+    /// (own profile). It takes no memory, and gives no error yet.
+    pub fn new(_plan: &Plan, parts: PolicyParts) -> Result<Policy, Memory>
+        requires { IsFaultlessPolicy _plan.now (policy_of parts) }
+        ensures { IfOk result (λ policy. policy ≡ policy_of parts) }
+    {
+        let PolicyParts { table, default } = parts;
+        Ok(Policy { table, default })
+    }
+
+    /// What the type keeps, for callers: a policy is that of a configuration in which no fault is found. It takes no
+    /// memory.
+    pub fn known(&self)
+        ensures { IsSomePolicy self.now }
+    {
+        let _table = &self.table;
+    }
+
+    /// The label of a cell: that of the first entry of the cell, or else the default. The inner cell of a register
+    /// monitor has no entry of its own, and is labelled by the policy as the cell that the monitor watches (own
+    /// profile): ask for that one. It takes no memory.
+    pub fn label(&self, cell: &CellRef) -> Label
+        ensures { result ≡ or_else self.now.default (label_at self.now.table cell.now) }
+    {
+        match first_entry(&self.table, cell) {
+            Some(entry) => entry.1,
+            None => self.default,
+        }
+    }
+}
+
+/// The first entry of a cell.
+fn first_entry<'a>(table: &'a [(CellRef, Label)], cell: &CellRef) -> Option<&'a (CellRef, Label)>
+    ensures { option_map (λ entry. entry.now) result ≡ find (λ entry. same_cell entry.0 cell.now) table.now }
+{
+    table.iter().find(|entry| entry.0 == *cell)
+}
