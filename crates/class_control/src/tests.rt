@@ -11,11 +11,12 @@ use cosem_class::cell_set::CellSet;
 use cosem_class::class::{ClassFault, InterfaceClass, Op};
 use cosem_class::generic::laws_of_a_class;
 use cosem_class::judge::judge_kind;
-use cosem_class::shapes::{array, structure};
+use cosem_class::shapes::structure;
 use cosem_data::bytes::Bytes;
 use cosem_data::cell::{CellRef, MethodRef};
 use cosem_data::data::{Data, Items};
 use cosem_data::kind::Kind;
+use cosem_data::memory::Memory;
 use cosem_data::name::LogicalName;
 use meter_theory::refs::{ScriptRef, UpDown};
 use std::alloc::Global;
@@ -55,11 +56,25 @@ const MONTH_END: [u8; 5] = [0xFF, 0xFF, 0xFF, 0xFE, 0xFF];
 /// 24 December 2026, weekday not specified.
 const ONE_DAY: [u8; 5] = [0x07, 0xEA, 12, 24, 0xFF];
 
+/// 24 December, each year, each month or each day.
+const WILDCARDS: [[u8; 5]; 3] = [
+    [0xFF, 0xFF, 12, 24, 4],
+    [0x07, 0xEA, 0xFF, 24, 4],
+    [0x07, 0xEA, 12, 0xFF, 4],
+];
+
 /// The value that these bytes encode, to their end.
 fn value_of(rt: &impl Abort, alloc: Global, bytes: &[u8]) -> Result<Data, Fail> {
     let (value, used) = read_data(alloc, bytes)?;
-    assert_eq!(rt; used, bytes.len());
+    assert!(rt; used == bytes.len(), "{used} of {bytes:?}");
     Ok(value)
+}
+
+/// The value is the one that these bytes encode.
+fn is_encoded(rt: &impl Abort, alloc: Global, value: &Data, bytes: &[u8]) -> Result<(), Fail> {
+    let want = value_of(rt, alloc, bytes)?;
+    assert!(rt; *value == want, "{value:?} for {bytes:?}");
+    Ok(())
 }
 
 fn octets(alloc: Global, bytes: &[u8]) -> Result<Data, Fail> {
@@ -82,9 +97,13 @@ fn elements(alloc: Global, count: u8, time: &[u8], date: &[u8]) -> Result<Vec<Da
     Ok(elements)
 }
 
+/// Whether this time and date make an element.
+fn is_element(alloc: Global, time: &[u8], date: &[u8]) -> Result<bool, Fail> {
+    Ok(is_execution_time(&element(alloc, time, date)?))
+}
+
 #[test]
 fn fields_keep_to_their_ranges(rt: HostRuntime) -> Result<(), Fail> {
-    let a = rt.alloc();
     let cases = [
         ([23, 59, 59, 0], ONE_DAY, true),
         (
@@ -111,20 +130,16 @@ fn fields_keep_to_their_ranges(rt: HostRuntime) -> Result<(), Fail> {
         (NOON, [0x07, 0xEA, 12, 1, 0], false),
         (NOON, [0x07, 0xEA, 12, 1, 8], false),
     ];
-    for (time, date, want) in cases {
-        let value = element(a, &time, &date)?;
-        assert_eq!(rt; is_execution_time(&value), want, "{value:?}");
+    for (time, date, want) in &cases {
+        let is_element = is_element(rt.alloc(), time, date)?;
+        assert!(rt; is_element == *want, "{time:?} of {date:?}");
     }
     Ok(())
 }
 
-/// These are the parts of a structure that is no element of execution_time.
-fn is_no_element<const N: usize>(
-    rt: &impl Abort,
-    alloc: Global,
-    parts: [Data; N],
-) -> Result<(), Fail> {
-    let value = structure(alloc, parts)?;
+/// The value that these bytes encode is no element of execution_time.
+fn is_no_element(rt: &impl Abort, alloc: Global, bytes: &[u8]) -> Result<(), Fail> {
+    let value = value_of(rt, alloc, bytes)?;
     assert!(rt; !is_execution_time(&value));
     Ok(())
 }
@@ -132,23 +147,32 @@ fn is_no_element<const N: usize>(
 #[test]
 fn elements_have_a_time_and_a_date(rt: HostRuntime) -> Result<(), Fail> {
     let a = rt.alloc();
-    is_no_element(&rt, a, [octets(a, &NOON)?])?;
-    is_no_element(&rt, a, [octets(a, &NOON)?, Data::NullData])?;
-    assert!(rt; !is_execution_time(&Data::NullData));
-    Ok(())
+    // A structure of noon, one of noon and null-data, and null-data.
+    is_no_element(&rt, a, &[0x02, 0x01, 0x09, 0x04, 12, 0, 0, 0])?;
+    is_no_element(&rt, a, &[0x02, 0x02, 0x09, 0x04, 12, 0, 0, 0, 0x00])?;
+    is_no_element(&rt, a, &[0x00])
 }
 
 #[test]
 fn elements_have_times_of_four_bytes_and_dates_of_five(rt: HostRuntime) -> Result<(), Fail> {
-    let a = rt.alloc();
-    assert!(rt; !is_execution_time(&element(a, &[12, 0, 0], &ONE_DAY)?));
-    assert!(rt; !is_execution_time(&element(a, &NOON, &[0x07, 0xEA, 12, 24, 0xFF, 0])?));
+    let is_short = is_element(rt.alloc(), &[12, 0, 0], &ONE_DAY)?;
+    let is_long = is_element(rt.alloc(), &NOON, &[0x07, 0xEA, 12, 24, 0xFF, 0])?;
+    assert!(rt; !is_short && !is_long);
     Ok(())
 }
 
 /// Whether so many equal elements fit a type.
-fn fit(alloc: Global, execution_type: u8, count: u8) -> Result<bool, Fail> {
-    Ok(are_execution_times(execution_type, &elements(alloc, count, &NOON, &ONE_DAY)?))
+fn fit(
+    rt: &impl Abort,
+    alloc: Global,
+    execution_type: u8,
+    count: u8,
+    want: bool,
+) -> Result<(), Fail> {
+    let values = elements(alloc, count, &NOON, &ONE_DAY)?;
+    let fit = are_execution_times(execution_type, &values);
+    assert!(rt; fit == want, "{count} of type {execution_type}");
+    Ok(())
 }
 
 #[test]
@@ -156,19 +180,27 @@ fn types_allow_their_numbers(rt: HostRuntime) -> Result<(), Fail> {
     let a = rt.alloc();
     for execution_type in 1..=5 {
         let is_one = execution_type == 1;
-        assert_eq!(rt; fit(a, execution_type, 0)?, !is_one);
-        assert!(rt; fit(a, execution_type, 1)?);
-        assert_eq!(rt; fit(a, execution_type, 16)?, !is_one);
-        assert!(rt; !fit(a, execution_type, 17)?);
+        fit(&rt, a, execution_type, 0, !is_one)?;
+        fit(&rt, a, execution_type, 1, true)?;
+        fit(&rt, a, execution_type, 16, !is_one)?;
+        fit(&rt, a, execution_type, 17, false)?;
     }
     Ok(())
 }
 
 /// Whether noon of one day and this time and date fit a type together.
-fn fits_beside(alloc: Global, execution_type: u8, time: &[u8], date: &[u8]) -> Result<bool, Fail> {
+fn fits_beside(
+    rt: &impl Abort,
+    alloc: Global,
+    execution_type: u8,
+    (time, date): (&[u8], &[u8]),
+    want: bool,
+) -> Result<(), Fail> {
     let mut values = elements(alloc, 1, &NOON, &ONE_DAY)?;
     values.push(element(alloc, time, date)?)?;
-    Ok(are_execution_times(execution_type, &values))
+    let fit = are_execution_times(execution_type, &values);
+    assert!(rt; fit == want, "{time:?} of {date:?}, type {execution_type}");
+    Ok(())
 }
 
 #[test]
@@ -177,92 +209,100 @@ fn types_allow_their_times_and_dates(rt: HostRuntime) -> Result<(), Fail> {
     for execution_type in 2..=5 {
         let one_time = execution_type == 2 || execution_type == 3;
         let no_wildcard = execution_type == 2 || execution_type == 4;
-        assert_eq!(rt;
-            fits_beside(a, execution_type, &MIDNIGHT, &ONE_DAY)?,
-            !one_time
-        );
-        for wildcard in [
-            [0xFF, 0xFF, 12, 24, 4],
-            [0x07, 0xEA, 0xFF, 24, 4],
-            [0x07, 0xEA, 12, 0xFF, 4],
-        ] {
-            let fits = fits_beside(a, execution_type, &NOON, &wildcard)?;
-            assert_eq!(rt; fits, !no_wildcard);
+        fits_beside(&rt, a, execution_type, (&MIDNIGHT, &ONE_DAY), !one_time)?;
+        for wildcard in &WILDCARDS {
+            fits_beside(&rt, a, execution_type, (&NOON, wildcard), !no_wildcard)?;
         }
     }
     Ok(())
 }
 
-/// What is judged of an array of so many elements of this time and date.
-fn judged_times(
+/// This is judged of an array of so many elements of this time and date.
+fn judges_times(
+    rt: &impl Abort,
     alloc: Global,
-    execution_type: u8,
-    count: u8,
-    time: &[u8],
-    date: &[u8],
-) -> Result<Result<(), ClassFault>, Fail> {
+    (execution_type, count): (u8, u8),
+    (time, date): (&[u8], &[u8]),
+    want: Result<(), ClassFault>,
+) -> Result<(), Fail> {
     let value = Data::Array(Items::new(elements(alloc, count, time, date)?));
-    Ok(judge_times(execution_type, &value))
+    let judged = judge_times(execution_type, &value);
+    assert!(rt;
+        judged == want,
+        "{judged:?}, {count} of type {execution_type}"
+    );
+    Ok(())
 }
 
 #[test]
 fn times_are_judged(rt: HostRuntime) -> Result<(), Fail> {
     let a = rt.alloc();
-    assert_eq!(rt; judged_times(a, 1, 1, &MIDNIGHT, &MONTH_END)?, Ok(()));
-    assert_eq!(rt;
-        judged_times(a, 2, 1, &MIDNIGHT, &MONTH_END)?,
-        Err(ClassFault::Rule)
-    );
-    assert_eq!(rt;
-        judged_times(a, 1, 2, &MIDNIGHT, &MONTH_END)?,
-        Err(ClassFault::Rule)
-    );
-    assert_eq!(rt; judged_times(a, 3, 2, &MIDNIGHT, &MONTH_END)?, Ok(()));
-    assert_eq!(rt;
-        judged_times(a, 5, 1, &[24, 0, 0, 0], &ONE_DAY)?,
-        Err(ClassFault::Rule)
-    );
-    Ok(())
+    let rule = Err(ClassFault::Rule);
+    judges_times(&rt, a, (1, 1), (&MIDNIGHT, &MONTH_END), Ok(()))?;
+    judges_times(&rt, a, (2, 1), (&MIDNIGHT, &MONTH_END), rule)?;
+    judges_times(&rt, a, (1, 2), (&MIDNIGHT, &MONTH_END), rule)?;
+    judges_times(&rt, a, (3, 2), (&MIDNIGHT, &MONTH_END), Ok(()))?;
+    judges_times(&rt, a, (5, 1), (&[24, 0, 0, 0], &ONE_DAY), rule)
 }
 
 #[test]
 fn times_are_an_array(rt: HostRuntime) -> Result<(), Fail> {
     let one = elements(rt.alloc(), 1, &MIDNIGHT, &MONTH_END)?;
-    let structure = Data::Structure(Items::new(one));
-    assert_eq!(rt; judge_times(1, &structure), Err(ClassFault::Kind));
+    let judged = judge_times(1, &Data::Structure(Items::new(one)));
+    assert!(rt; judged == Err(ClassFault::Kind), "{judged:?}");
     Ok(())
 }
 
-/// What is judged of thresholds over a long, of which there are to be so many.
-fn judged_thresholds<const N: usize>(
+/// This is judged of thresholds over a long, of which there are to be so many.
+fn judges_thresholds(
+    rt: &impl Abort,
     alloc: Global,
     number: usize,
-    values: [Data; N],
-) -> Result<Result<(), ClassFault>, Fail> {
-    let value = array(alloc, values)?;
-    Ok(judge_thresholds(number, Kind::Long, &value))
+    bytes: &[u8],
+    want: Result<(), ClassFault>,
+) -> Result<(), Fail> {
+    let value = value_of(rt, alloc, bytes)?;
+    let judged = judge_thresholds(number, Kind::Long, &value);
+    assert!(rt; judged == want, "{judged:?} for {bytes:?}");
+    Ok(())
 }
 
 #[test]
 fn thresholds_are_judged(rt: HostRuntime) -> Result<(), Fail> {
     let a = rt.alloc();
-    assert_eq!(rt; judged_thresholds(a, 1, [Data::Long(-5)])?, Ok(()));
-    assert_eq!(rt;
-        judged_thresholds(a, 2, [Data::Long(-5), Data::Long(5)])?,
-        Ok(())
-    );
-    assert_eq!(rt;
-        judged_thresholds(a, 1, [Data::Long(-5), Data::Long(5)])?,
-        Err(ClassFault::Rule)
-    );
-    assert_eq!(rt;
-        judged_thresholds(a, 1, [Data::LongUnsigned(5)])?,
-        Err(ClassFault::Rule)
-    );
-    assert_eq!(rt;
-        judge_thresholds(1, Kind::Long, &Data::Long(5)),
-        Err(ClassFault::Kind)
-    );
+    let rule = Err(ClassFault::Rule);
+    // Arrays of a long -5, of it and a long 5, of a long-unsigned 5, and a long 5.
+    let one = [0x01, 0x01, 0x10, 0xFF, 0xFB];
+    let two = [0x01, 0x02, 0x10, 0xFF, 0xFB, 0x10, 0x00, 0x05];
+    judges_thresholds(&rt, a, 1, &one, Ok(()))?;
+    judges_thresholds(&rt, a, 2, &two, Ok(()))?;
+    judges_thresholds(&rt, a, 1, &two, rule)?;
+    judges_thresholds(&rt, a, 1, &[0x01, 0x01, 0x12, 0x00, 0x05], rule)?;
+    judges_thresholds(&rt, a, 1, &[0x10, 0x00, 0x05], Err(ClassFault::Kind))
+}
+
+/// What is done to an object, or seen of it.
+#[derive(Clone, Copy)]
+enum Step<'a> {
+    /// A write of the value that these bytes encode has this result.
+    Writes(u8, &'a [u8], Result<(), ClassFault>),
+    /// The attribute is read as the value that these bytes encode.
+    Shows(u8, &'a [u8]),
+    /// There is no such attribute to read.
+    Hides(u8),
+}
+
+/// A write of the value that these bytes encode has this result.
+fn writes<C: InterfaceClass>(
+    rt: &impl Abort,
+    alloc: Global,
+    object: &mut C,
+    (index, bytes): (u8, &[u8]),
+    want: Result<(), ClassFault>,
+) -> Result<(), Fail> {
+    let value = value_of(rt, alloc, bytes)?;
+    let done = object.write(index, value);
+    assert!(rt; done == want, "{done:?} at {index}");
     Ok(())
 }
 
@@ -274,132 +314,182 @@ fn shows<C: InterfaceClass>(
     index: u8,
     bytes: &[u8],
 ) -> Result<(), Fail> {
-    let want = value_of(rt, alloc, bytes)?;
-    let value = object.read(alloc, index)?;
-    assert!(rt; value == want, "{value:?} at {index}");
+    is_encoded(rt, alloc, &object.read(alloc, index)?, bytes)
+}
+
+/// There is no such attribute to read.
+fn hides<C: InterfaceClass>(
+    rt: &impl Abort,
+    alloc: Global,
+    object: &C,
+    index: u8,
+) -> Result<(), Fail> {
+    let fault = object.read(alloc, index).err();
+    assert!(rt; fault == Some(ClassFault::NoIndex), "{fault:?} at {index}");
     Ok(())
 }
 
-/// A write of null-data is refused with this fault at each index.
-fn refuses<C: InterfaceClass>(rt: &impl Abort, object: &mut C, indexes: &[u8], fault: ClassFault) {
-    for index in indexes {
-        assert_eq!(rt;
-            object.write(*index, Data::NullData),
-            Err(fault),
-            "at {index}"
-        );
+/// Takes these steps.
+fn take<C: InterfaceClass>(
+    rt: &impl Abort,
+    a: Global,
+    object: &mut C,
+    steps: &[Step],
+) -> Result<(), Fail> {
+    for step in steps {
+        match *step {
+            Step::Writes(index, bytes, want) => writes(rt, a, object, (index, bytes), want)?,
+            Step::Shows(index, bytes) => shows(rt, a, object, index, bytes)?,
+            Step::Hides(index) => hides(rt, a, object, index)?,
+        }
     }
+    Ok(())
 }
 
-/// Three scripts: the alarm on, the alarm off, a capture of the profile.
-fn scripts(alloc: Global) -> Result<Vec<Script>, Fail> {
+/// Whether this is null-data, where a part has no fixed attribute.
+fn is_none(value: Result<Data, Memory>) -> Result<bool, Fail> {
+    Ok(value? == Data::NullData)
+}
+
+/// A script that writes this into the alarm.
+fn alarm_script(alloc: Global, id: u16, value: u8) -> Result<Script, Fail> {
     let cell = CellRef {
         class_id: 1,
         name: ALARM,
         index: 2,
     };
-    let capture = MethodRef {
+    let action = Action::Write {
+        cell,
+        value: Data::Unsigned(value),
+    };
+    Ok(Script {
+        id,
+        actions: vec![in alloc; action]?,
+    })
+}
+
+/// A script that captures the profile.
+fn capture_script(alloc: Global, id: u16) -> Result<Script, Fail> {
+    let method = MethodRef {
         class_id: 7,
         name: PROFILE,
         index: 2,
     };
-    let on = Action::Write {
-        cell,
-        value: Data::Unsigned(1),
-    };
-    let off = Action::Write {
-        cell,
-        value: Data::Unsigned(0),
-    };
-    let row = Action::Invoke {
-        method: capture,
+    let action = Action::Invoke {
+        method,
         parameter: Data::NullData,
     };
-    let on = Script {
-        id: 1,
-        actions: vec![in alloc; on]?,
-    };
-    let off = Script {
-        id: 2,
-        actions: vec![in alloc; off]?,
-    };
-    let row = Script {
-        id: 3,
-        actions: vec![in alloc; row]?,
-    };
-    Ok(vec![in alloc; on, off, row]?)
+    Ok(Script {
+        id,
+        actions: vec![in alloc; action]?,
+    })
 }
 
-/// A table of the three scripts is read as they are.
-fn reads_scripts(rt: &impl Abort, a: Global, object: &ScriptTable) -> Result<(), Fail> {
-    let bytes = [
-        0x01, 0x03, // an array of three scripts
-        0x02, 0x02, 0x12, 0x00, 0x01, 0x01, 0x01, // script 1, an array of one action
-        0x02, 0x05, 0x16, 0x01, 0x12, 0x00, 0x01, // service 1, class 1
-        0x09, 0x06, 0x00, 0x00, 0x60, 0x0B, 0x00, 0xFF, 0x0F, 0x02, // the alarm, attribute 2
-        0x11, 0x01, // an unsigned 1
-        0x02, 0x02, 0x12, 0x00, 0x02, 0x01, 0x01, // script 2
-        0x02, 0x05, 0x16, 0x01, 0x12, 0x00, 0x01, // service 1, class 1
-        0x09, 0x06, 0x00, 0x00, 0x60, 0x0B, 0x00, 0xFF, 0x0F, 0x02, // the alarm, attribute 2
-        0x11, 0x00, // an unsigned 0
-        0x02, 0x02, 0x12, 0x00, 0x03, 0x01, 0x01, // script 3
-        0x02, 0x05, 0x16, 0x02, 0x12, 0x00, 0x07, // service 2, class 7
-        0x09, 0x06, 0x01, 0x00, 0x63, 0x01, 0x00, 0xFF, 0x0F, 0x02, // the profile, method 2
-        0x00, // null-data
-    ];
-    shows(rt, a, object, 2, &bytes)?;
-    shows(rt, a, object, 1, &[0x09, 0x06, 0, 0, 10, 0, 100, 255])?;
-    assert_eq!(rt; object.read(a, 0), Err(ClassFault::NoIndex));
-    assert_eq!(rt; object.read(a, 3), Err(ClassFault::NoIndex));
-    assert_eq!(rt; object.part.fixed(a, 2)?, value_of(rt, a, &bytes)?);
-    assert_eq!(rt; object.part.fixed(a, 3)?, Data::NullData);
-    Ok(())
+/// Three scripts: the alarm on, the alarm off, a capture of the profile.
+fn scripts(alloc: Global) -> Result<ScriptTablePart, Fail> {
+    let mut scripts = Vec::new(alloc);
+    scripts.push(alarm_script(alloc, 1, 1)?)?;
+    scripts.push(alarm_script(alloc, 2, 0)?)?;
+    scripts.push(capture_script(alloc, 3)?)?;
+    Ok(ScriptTablePart { scripts })
 }
 
-#[test]
-fn scripts_are_read(rt: HostRuntime) -> Result<(), Fail> {
-    let part = ScriptTablePart {
-        scripts: scripts(rt.alloc())?,
-    };
-    let object = ScriptTable {
-        name: SCRIPTS,
-        part: &part,
-    };
-    reads_scripts(&rt, rt.alloc(), &object)
-}
+/// A table of the three scripts, as attribute 2.
+const THREE_SCRIPTS: [u8; 79] = [
+    0x01, 0x03, // an array of three scripts
+    0x02, 0x02, 0x12, 0x00, 0x01, 0x01, 0x01, // script 1, an array of one action
+    0x02, 0x05, 0x16, 0x01, 0x12, 0x00, 0x01, // service 1, class 1
+    0x09, 0x06, 0x00, 0x00, 0x60, 0x0B, 0x00, 0xFF, 0x0F, 0x02, // the alarm, attribute 2
+    0x11, 0x01, // an unsigned 1
+    0x02, 0x02, 0x12, 0x00, 0x02, 0x01, 0x01, // script 2
+    0x02, 0x05, 0x16, 0x01, 0x12, 0x00, 0x01, // service 1, class 1
+    0x09, 0x06, 0x00, 0x00, 0x60, 0x0B, 0x00, 0xFF, 0x0F, 0x02, // the alarm, attribute 2
+    0x11, 0x00, // an unsigned 0
+    0x02, 0x02, 0x12, 0x00, 0x03, 0x01, 0x01, // script 3
+    0x02, 0x05, 0x16, 0x02, 0x12, 0x00, 0x07, // service 2, class 7
+    0x09, 0x06, 0x01, 0x00, 0x63, 0x01, 0x00, 0xFF, 0x0F, 0x02, // the profile, method 2
+    0x00, // null-data
+];
 
-#[test]
-fn scripts_are_called_by_number(rt: HostRuntime) -> Result<(), Fail> {
-    let a = rt.alloc();
-    let part = ScriptTablePart {
-        scripts: scripts(a)?,
-    };
+/// Takes these steps with a table of the three scripts.
+fn takes_with_scripts(rt: &impl Abort, a: Global, steps: &[Step]) -> Result<(), Fail> {
+    let part = scripts(a)?;
     let mut object = ScriptTable {
         name: SCRIPTS,
         part: &part,
     };
-    refuses(&rt, &mut object, &[1, 2], ClassFault::NotSettable);
-    refuses(&rt, &mut object, &[0, 3], ClassFault::NoIndex);
-    for id in 0..=4 {
-        // Script 0 is the null script, and there is no script 4.
-        let is_known = id != 4;
-        assert_eq!(rt; knows_script(&part.scripts, id), is_known);
-        let no_row = Items::new(Vec::new(a));
-        let called = object.invoke(a, 1, &Data::LongUnsigned(id), no_row);
-        let want = if is_known {
-            Ok(())
-        } else {
-            Err(ClassFault::UnknownScript)
-        };
-        assert_eq!(rt; called, want);
-    }
-    let no_row = Items::new(Vec::new(a));
-    let called = object.invoke(a, 1, &Data::Unsigned(1), no_row);
-    assert_eq!(rt; called, Err(ClassFault::Kind));
-    let no_row = Items::new(Vec::new(a));
-    let called = object.invoke(a, 2, &Data::LongUnsigned(1), no_row);
-    assert_eq!(rt; called, Err(ClassFault::NoIndex));
+    take(rt, a, &mut object, steps)
+}
+
+#[test]
+fn scripts_are_read(rt: HostRuntime) -> Result<(), Fail> {
+    let steps = [
+        Step::Shows(2, &THREE_SCRIPTS),
+        Step::Shows(1, &[0x09, 0x06, 0, 0, 10, 0, 100, 255]),
+        Step::Hides(0),
+        Step::Hides(3),
+        Step::Writes(1, &[0x00], Err(ClassFault::NotSettable)),
+        Step::Writes(2, &[0x00], Err(ClassFault::NotSettable)),
+        Step::Writes(0, &[0x00], Err(ClassFault::NoIndex)),
+        Step::Writes(3, &[0x00], Err(ClassFault::NoIndex)),
+    ];
+    takes_with_scripts(&rt, rt.alloc(), &steps)
+}
+
+/// The scripts alone are fixed.
+fn fixes_scripts(rt: &impl Abort, a: Global, part: &ScriptTablePart) -> Result<(), Fail> {
+    let has_none = is_none(part.fixed(a, 3))?;
+    assert!(rt; has_none);
+    is_encoded(rt, a, &part.fixed(a, 2)?, &THREE_SCRIPTS)
+}
+
+#[test]
+fn scripts_are_fixed(rt: HostRuntime) -> Result<(), Fail> {
+    fixes_scripts(&rt, rt.alloc(), &scripts(rt.alloc())?)
+}
+
+/// A call with the argument that these bytes encode has this result.
+fn calls(
+    rt: &impl Abort,
+    a: Global,
+    object: &mut ScriptTable,
+    (method, bytes): (u8, &[u8]),
+    want: Result<(), ClassFault>,
+) -> Result<(), Fail> {
+    let argument = value_of(rt, a, bytes)?;
+    let done = object.invoke(a, method, &argument, Items::new(Vec::new(a)));
+    assert!(rt; done == want, "{done:?} of {bytes:?}");
     Ok(())
+}
+
+/// Script 0 is the null script, and there is no script 4.
+fn knows_its_scripts(rt: &impl Abort, scripts: &[Script]) {
+    for id in 0..=4 {
+        assert!(rt; knows_script(scripts, id) == (id != 4), "script {id}");
+    }
+}
+
+/// Each script is called by a long-unsigned.
+fn calls_by_number(rt: &impl Abort, a: Global, object: &mut ScriptTable) -> Result<(), Fail> {
+    knows_its_scripts(rt, &object.part.scripts);
+    let unknown = Err(ClassFault::UnknownScript);
+    calls(rt, a, object, (1, &[0x12, 0, 0]), Ok(()))?;
+    calls(rt, a, object, (1, &[0x12, 0, 1]), Ok(()))?;
+    calls(rt, a, object, (1, &[0x12, 0, 2]), Ok(()))?;
+    calls(rt, a, object, (1, &[0x12, 0, 3]), Ok(()))?;
+    calls(rt, a, object, (1, &[0x12, 0, 4]), unknown)?;
+    calls(rt, a, object, (1, &[0x11, 1]), Err(ClassFault::Kind))?;
+    calls(rt, a, object, (2, &[0x12, 0, 1]), Err(ClassFault::NoIndex))
+}
+
+#[test]
+fn scripts_are_called_by_number(rt: HostRuntime) -> Result<(), Fail> {
+    let part = scripts(rt.alloc())?;
+    let mut object = ScriptTable {
+        name: SCRIPTS,
+        part: &part,
+    };
+    calls_by_number(&rt, rt.alloc(), &mut object)
 }
 
 /// The alarm is switched on at 100 Wh and above, and off below.
@@ -436,65 +526,78 @@ fn monitor(part: &MonitorPart, kind: Kind, thresholds: Data) -> Result<Monitor<'
     })
 }
 
-/// The monitor is read as it was configured.
-fn reads_monitor(rt: &impl Abort, a: Global, object: &Monitor) -> Result<(), Fail> {
-    shows(rt, a, object, 1, &[0x09, 0x06, 0, 0, 16, 1, 0, 255])?;
-    shows(rt, a, object, 2, &[0x01, 0x01, 0x06, 0, 0, 0, 100])?;
-    let monitored = [
-        0x02, 0x03, 0x12, 0x00, 0x03, // class 3
-        0x09, 0x06, 0x01, 0x00, 0x01, 0x08, 0x00, 0xFF, 0x0F, 0x02, // the energy, attribute 2
-    ];
-    shows(rt, a, object, 3, &monitored)?;
-    let actions = [
-        0x01, 0x01, 0x02, 0x02, // an array of one pair
-        0x02, 0x02, 0x09, 0x06, 0x00, 0x00, 0x0A, 0x00, 0x64, 0xFF, 0x12, 0x00, 0x01, // script 1
-        0x02, 0x02, 0x09, 0x06, 0x00, 0x00, 0x0A, 0x00, 0x64, 0xFF, 0x12, 0x00, 0x02, // script 2
-    ];
-    shows(rt, a, object, 4, &actions)?;
-    assert_eq!(rt; object.read(a, 0), Err(ClassFault::NoIndex));
-    assert_eq!(rt; object.read(a, 5), Err(ClassFault::NoIndex));
-    Ok(())
+/// Takes these steps with a monitor of this part.
+fn takes_as_monitor(
+    rt: &impl Abort,
+    a: Global,
+    part: &MonitorPart,
+    steps: &[Step],
+) -> Result<(), Fail> {
+    let start = part.start.try_clone(a)?;
+    take(rt, a, &mut monitor(part, WATCHED, start)?, steps)
 }
+
+/// The monitored value.
+const MONITORED_VALUE: [u8; 15] = [
+    0x02, 0x03, 0x12, 0x00, 0x03, // class 3
+    0x09, 0x06, 0x01, 0x00, 0x01, 0x08, 0x00, 0xFF, 0x0F, 0x02, // the energy, attribute 2
+];
+
+/// The actions of a monitor.
+const ONE_PAIR: [u8; 30] = [
+    0x01, 0x01, 0x02, 0x02, // an array of one pair
+    0x02, 0x02, 0x09, 0x06, 0x00, 0x00, 0x0A, 0x00, 0x64, 0xFF, 0x12, 0x00, 0x01, // script 1
+    0x02, 0x02, 0x09, 0x06, 0x00, 0x00, 0x0A, 0x00, 0x64, 0xFF, 0x12, 0x00, 0x02, // script 2
+];
+
+/// Two thresholds.
+const TWO_THRESHOLDS: [u8; 12] = [0x01, 0x02, 0x06, 0, 0, 0, 1, 0x06, 0, 0, 0, 2];
 
 #[test]
 fn a_monitor_is_read(rt: HostRuntime) -> Result<(), Fail> {
-    let a = rt.alloc();
-    let part = monitor_part(a)?;
-    let object = monitor(&part, WATCHED, part.start.try_clone(a)?)?;
-    reads_monitor(&rt, a, &object)
-}
-
-/// The thresholds alone are written, by their rule.
-fn writes_thresholds(rt: &impl Abort, a: Global, object: &mut Monitor) -> Result<(), Fail> {
-    refuses(rt, object, &[0, 5], ClassFault::NoIndex);
-    refuses(rt, object, &[1, 3, 4], ClassFault::NotSettable);
-    refuses(rt, object, &[2], ClassFault::Kind);
-    let two = value_of(rt, a, &[0x01, 0x02, 0x06, 0, 0, 0, 1, 0x06, 0, 0, 0, 2])?;
-    assert_eq!(rt; object.write(2, two), Err(ClassFault::Rule));
-    shows(rt, a, object, 2, &[0x01, 0x01, 0x06, 0, 0, 0, 100])?;
-    object.write(2, value_of(rt, a, &[0x01, 0x01, 0x06, 0, 0, 0, 7])?)?;
-    shows(rt, a, object, 2, &[0x01, 0x01, 0x06, 0, 0, 0, 7])?;
-    Ok(())
+    let steps = [
+        Step::Shows(1, &[0x09, 0x06, 0, 0, 16, 1, 0, 255]),
+        Step::Shows(2, &[0x01, 0x01, 0x06, 0, 0, 0, 100]),
+        Step::Shows(3, &MONITORED_VALUE),
+        Step::Shows(4, &ONE_PAIR),
+        Step::Hides(0),
+        Step::Hides(5),
+    ];
+    takes_as_monitor(&rt, rt.alloc(), &monitor_part(rt.alloc())?, &steps)
 }
 
 #[test]
 fn thresholds_are_written(rt: HostRuntime) -> Result<(), Fail> {
-    let a = rt.alloc();
-    let part = monitor_part(a)?;
-    let mut object = monitor(&part, WATCHED, part.start.try_clone(a)?)?;
-    writes_thresholds(&rt, a, &mut object)
+    let steps = [
+        Step::Writes(0, &[0x00], Err(ClassFault::NoIndex)),
+        Step::Writes(5, &[0x00], Err(ClassFault::NoIndex)),
+        Step::Writes(1, &[0x00], Err(ClassFault::NotSettable)),
+        Step::Writes(3, &[0x00], Err(ClassFault::NotSettable)),
+        Step::Writes(4, &[0x00], Err(ClassFault::NotSettable)),
+        Step::Writes(2, &[0x00], Err(ClassFault::Kind)),
+        Step::Writes(2, &TWO_THRESHOLDS, Err(ClassFault::Rule)),
+        Step::Shows(2, &[0x01, 0x01, 0x06, 0, 0, 0, 100]),
+        Step::Writes(2, &[0x01, 0x01, 0x06, 0, 0, 0, 7], Ok(())),
+        Step::Shows(2, &[0x01, 0x01, 0x06, 0, 0, 0, 7]),
+    ];
+    takes_as_monitor(&rt, rt.alloc(), &monitor_part(rt.alloc())?, &steps)
 }
 
-/// The attribute is null-data in the fixed part.
-fn has_no_fixed(rt: &impl Abort, value: &Data) {
-    assert!(rt; *value == Data::NullData);
+/// Whether the part of the monitor has no such attribute.
+fn monitor_has_none(a: Global, index: u8) -> Result<bool, Fail> {
+    is_none(monitor_part(a)?.fixed(a, index))
+}
+
+/// Whether the part of the schedule has no such attribute.
+fn schedule_has_none(a: Global, index: u8) -> Result<bool, Fail> {
+    is_none(schedule_part(a)?.fixed(a, index))
 }
 
 #[test]
 fn a_fixed_part_has_no_cells(rt: HostRuntime) -> Result<(), Fail> {
-    let a = rt.alloc();
-    has_no_fixed(&rt, &monitor_part(a)?.fixed(a, 2)?);
-    has_no_fixed(&rt, &schedule_part(a)?.fixed(a, 4)?);
+    let has_no_thresholds = monitor_has_none(rt.alloc(), 2)?;
+    let has_no_times = schedule_has_none(rt.alloc(), 4)?;
+    assert!(rt; has_no_thresholds && has_no_times);
     Ok(())
 }
 
@@ -502,6 +605,35 @@ fn a_fixed_part_has_no_cells(rt: HostRuntime) -> Result<(), Fail> {
 fn remember(object: &mut Monitor, value: Data) -> Result<(), Fail> {
     judge_kind(object.kind, &value)?;
     object.remember(value);
+    Ok(())
+}
+
+/// Whether this script alone is due, or none.
+fn is_due(a: Global, object: &Monitor, number: u32, want: Option<u16>) -> Result<bool, Fail> {
+    let due = object.due(a, &Data::DoubleLongUnsigned(number))?;
+    Ok(match want {
+        None => due.is_empty(),
+        Some(script) => due.as_slice()
+            == [ScriptRef {
+                table: SCRIPTS,
+                script,
+            }]
+            .as_slice(),
+    })
+}
+
+/// This script alone is due at this value, or none, and the value is remembered.
+fn crosses(
+    rt: &impl Abort,
+    a: Global,
+    object: &mut Monitor,
+    number: u32,
+    want: Option<u16>,
+) -> Result<(), Fail> {
+    let is_due = is_due(a, object, number, want)?;
+    assert!(rt; is_due, "{want:?} at {number}");
+    remember(object, Data::DoubleLongUnsigned(number))?;
+    assert!(rt; object.seen == Data::DoubleLongUnsigned(number));
     Ok(())
 }
 
@@ -518,26 +650,21 @@ fn crosses_thresholds(rt: &impl Abort, a: Global, object: &mut Monitor) -> Resul
         (4_000_000_000, Some(1)),
         (0, Some(2)),
     ];
-    for (number, want) in steps {
-        let now = Data::DoubleLongUnsigned(number);
-        let due = object.due(a, &now)?;
-        let due = due
-            .first()
-            .map(|script| (due.len(), script.table, script.script));
-        assert_eq!(rt; due, want.map(|script| (1, SCRIPTS, script)), "at {number}");
-        remember(object, now)?;
-        assert_eq!(rt; object.seen, Data::DoubleLongUnsigned(number));
+    for (number, want) in &steps {
+        crosses(rt, a, object, *number, *want)?;
     }
-    shows(rt, a, object, 2, &[0x01, 0x01, 0x06, 0, 0, 0, 100])?;
-    Ok(())
+    shows(rt, a, object, 2, &[0x01, 0x01, 0x06, 0, 0, 0, 100])
+}
+
+/// A monitor of this part crosses its threshold.
+fn crosses_as_monitor(rt: &impl Abort, a: Global, part: &MonitorPart) -> Result<(), Fail> {
+    let start = part.start.try_clone(a)?;
+    crosses_thresholds(rt, a, &mut monitor(part, WATCHED, start)?)
 }
 
 #[test]
 fn crossed_thresholds_are_due(rt: HostRuntime) -> Result<(), Fail> {
-    let a = rt.alloc();
-    let part = monitor_part(a)?;
-    let mut object = monitor(&part, WATCHED, part.start.try_clone(a)?)?;
-    crosses_thresholds(&rt, a, &mut object)
+    crosses_as_monitor(&rt, rt.alloc(), &monitor_part(rt.alloc())?)
 }
 
 /// The profile's capture is run at the end of each month.
@@ -563,96 +690,106 @@ fn schedule(part: &SchedulePart, times: Data) -> Result<Schedule<'_>, Fail> {
     })
 }
 
-/// The schedule is read as it was configured.
-fn reads_schedule(rt: &impl Abort, a: Global, object: &Schedule) -> Result<(), Fail> {
-    shows(rt, a, object, 1, &[0x09, 0x06, 0, 0, 15, 0, 0, 255])?;
-    let script = [
-        0x02, 0x02, 0x09, 0x06, 0x00, 0x00, 0x0A, 0x00, 0x64, 0xFF, 0x12, 0x00, 0x03,
-    ];
-    shows(rt, a, object, 2, &script)?;
-    shows(rt, a, object, 3, &[0x16, 0x01])?;
-    let times = [
-        0x01, 0x01, 0x02, 0x02, // an array of one time and date
-        0x09, 0x04, 0x00, 0x00, 0x00, 0xFF, 0x09, 0x05, 0xFF, 0xFF, 0xFF, 0xFE, 0xFF,
-    ];
-    shows(rt, a, object, 4, &times)?;
-    assert_eq!(rt; object.read(a, 0), Err(ClassFault::NoIndex));
-    assert_eq!(rt; object.read(a, 5), Err(ClassFault::NoIndex));
-    Ok(())
+/// Takes these steps with a schedule of this part.
+fn takes_as_schedule(
+    rt: &impl Abort,
+    a: Global,
+    part: &SchedulePart,
+    steps: &[Step],
+) -> Result<(), Fail> {
+    let start = part.start.try_clone(a)?;
+    take(rt, a, &mut schedule(part, start)?, steps)
 }
+
+/// An array of midnight at each end of a month.
+const EACH_MONTH_END: [u8; 17] = [
+    0x01, 0x01, 0x02, 0x02, // an array of one time and date
+    0x09, 0x04, 0x00, 0x00, 0x00, 0xFF, 0x09, 0x05, 0xFF, 0xFF, 0xFF, 0xFE, 0xFF,
+];
+
+/// A script of the table.
+const SCRIPT_OF_TABLE: [u8; 13] = [
+    0x02, 0x02, 0x09, 0x06, 0x00, 0x00, 0x0A, 0x00, 0x64, 0xFF, 0x12, 0x00, 0x03,
+];
+
+/// An array of noon at one day.
+const ONE_NOON: [u8; 17] = [
+    0x01, 0x01, 0x02, 0x02, // an array of one time and date
+    0x09, 0x04, 12, 0, 0, 0, 0x09, 0x05, 0x07, 0xEA, 12, 24, 0xFF,
+];
+
+/// An array of noon at one day, twice.
+const TWO_NOONS: [u8; 32] = [
+    0x01, 0x02, // an array of two times and dates
+    0x02, 0x02, 0x09, 0x04, 12, 0, 0, 0, 0x09, 0x05, 0x07, 0xEA, 12, 24, 0xFF, //
+    0x02, 0x02, 0x09, 0x04, 12, 0, 0, 0, 0x09, 0x05, 0x07, 0xEA, 12, 24, 0xFF,
+];
 
 #[test]
 fn a_schedule_is_read(rt: HostRuntime) -> Result<(), Fail> {
-    let a = rt.alloc();
-    let part = schedule_part(a)?;
-    let object = schedule(&part, part.start.try_clone(a)?)?;
-    reads_schedule(&rt, a, &object)
-}
-
-/// A write of so many elements of noon at one day.
-fn write_noon(
-    alloc: Global,
-    object: &mut Schedule,
-    count: u8,
-) -> Result<Result<(), ClassFault>, Fail> {
-    let value = Data::Array(Items::new(elements(alloc, count, &NOON, &ONE_DAY)?));
-    Ok(object.write(4, value))
-}
-
-/// The times alone are written, by their rule.
-fn writes_times(rt: &impl Abort, a: Global, object: &mut Schedule) -> Result<(), Fail> {
-    refuses(rt, object, &[0, 5], ClassFault::NoIndex);
-    refuses(rt, object, &[1, 2, 3], ClassFault::NotSettable);
-    refuses(rt, object, &[4], ClassFault::Kind);
-    assert_eq!(rt; write_noon(a, object, 2)?, Err(ClassFault::Rule));
-    assert!(rt; object.times == object.part.start);
-    assert_eq!(rt; write_noon(a, object, 1)?, Ok(()));
-    let noon = [
-        0x01, 0x01, 0x02, 0x02, // an array of one time and date
-        0x09, 0x04, 12, 0, 0, 0, 0x09, 0x05, 0x07, 0xEA, 12, 24, 0xFF,
+    let steps = [
+        Step::Shows(1, &[0x09, 0x06, 0, 0, 15, 0, 0, 255]),
+        Step::Shows(2, &SCRIPT_OF_TABLE),
+        Step::Shows(3, &[0x16, 0x01]),
+        Step::Shows(4, &EACH_MONTH_END),
+        Step::Hides(0),
+        Step::Hides(5),
     ];
-    shows(rt, a, object, 4, &noon)?;
-    Ok(())
+    takes_as_schedule(&rt, rt.alloc(), &schedule_part(rt.alloc())?, &steps)
 }
 
 #[test]
 fn execution_times_are_written(rt: HostRuntime) -> Result<(), Fail> {
-    let a = rt.alloc();
-    let part = schedule_part(a)?;
-    let mut object = schedule(&part, part.start.try_clone(a)?)?;
-    writes_times(&rt, a, &mut object)
+    let steps = [
+        Step::Writes(0, &[0x00], Err(ClassFault::NoIndex)),
+        Step::Writes(5, &[0x00], Err(ClassFault::NoIndex)),
+        Step::Writes(1, &[0x00], Err(ClassFault::NotSettable)),
+        Step::Writes(2, &[0x00], Err(ClassFault::NotSettable)),
+        Step::Writes(3, &[0x00], Err(ClassFault::NotSettable)),
+        Step::Writes(4, &[0x00], Err(ClassFault::Kind)),
+        Step::Writes(4, &TWO_NOONS, Err(ClassFault::Rule)),
+        // The start is kept.
+        Step::Shows(4, &EACH_MONTH_END),
+        Step::Writes(4, &ONE_NOON, Ok(())),
+        Step::Shows(4, &ONE_NOON),
+    ];
+    takes_as_schedule(&rt, rt.alloc(), &schedule_part(rt.alloc())?, &steps)
 }
 
-/// Whether an operation may change this cell.
-fn touches<C: InterfaceClass>(op: Op, cell: u8) -> bool {
-    C::touched(op).has(cell)
+/// These are the members of a set, and no other cell to 16 is one.
+fn has_members(rt: &impl Abort, set: CellSet, members: &[u8]) {
+    for cell in 0..=16 {
+        assert_eq!(rt; set.has(cell), members.contains(&cell), "at {cell}");
+    }
+}
+
+#[test]
+fn classes_have_their_numbers(rt: HostRuntime) {
+    laws_of_a_class::<ScriptTable>();
+    laws_of_a_class::<Monitor>();
+    laws_of_a_class::<Schedule>();
+    assert!(rt; (ScriptTable::CLASS_ID, ScriptTable::VERSION) == (9, 0));
+    assert!(rt; (ScriptTable::ATTRIBUTES, ScriptTable::METHODS) == (2, 1));
+    assert!(rt; (Monitor::CLASS_ID, Monitor::VERSION) == (21, 0));
+    assert!(rt; (Monitor::ATTRIBUTES, Monitor::METHODS) == (4, 0));
+    assert!(rt; (Schedule::CLASS_ID, Schedule::VERSION) == (22, 0));
+    assert!(rt; (Schedule::ATTRIBUTES, Schedule::METHODS) == (4, 0));
 }
 
 #[test]
 fn tables_are_those_of_the_classes(rt: HostRuntime) {
-    laws_of_a_class::<ScriptTable>();
-    laws_of_a_class::<Monitor>();
-    laws_of_a_class::<Schedule>();
-    assert_eq!(rt; (ScriptTable::CLASS_ID, ScriptTable::VERSION), (9, 0));
-    assert_eq!(rt; (ScriptTable::ATTRIBUTES, ScriptTable::METHODS), (2, 1));
-    assert_eq!(rt; (Monitor::CLASS_ID, Monitor::VERSION), (21, 0));
-    assert_eq!(rt; (Monitor::ATTRIBUTES, Monitor::METHODS), (4, 0));
-    assert_eq!(rt; (Schedule::CLASS_ID, Schedule::VERSION), (22, 0));
-    assert_eq!(rt; (Schedule::ATTRIBUTES, Schedule::METHODS), (4, 0));
-    for cell in 0..=16 {
-        assert!(rt; !touches::<ScriptTable>(Op::Write(2), cell));
-        assert!(rt; !touches::<ScriptTable>(Op::Invoke(1), cell));
-        assert_eq!(rt; touches::<Monitor>(Op::Write(2), cell), cell == 2);
-        assert_eq!(rt; touches::<Monitor>(Op::Remember, cell), cell == 0);
-        assert!(rt; !touches::<Monitor>(Op::Write(0), cell));
-        assert!(rt; !touches::<Monitor>(Op::Invoke(1), cell));
-        assert_eq!(rt; touches::<Schedule>(Op::Write(4), cell), cell == 4);
-        assert!(rt; !touches::<Schedule>(Op::Write(3), cell));
-        assert!(rt; !touches::<Schedule>(Op::Remember, cell));
-        assert!(rt; !Monitor::own_sources(Op::Write(2), 2).has(cell));
-        assert!(rt; !Schedule::own_sources(Op::Write(4), 4).has(cell));
-    }
-    assert_eq!(rt; ScriptTable::row_cells(Op::Invoke(1)), CellSet::empty());
-    assert_eq!(rt; Monitor::row_cells(Op::Remember), CellSet::empty());
-    assert_eq!(rt; Schedule::row_cells(Op::Write(4)), CellSet::empty());
+    has_members(&rt, ScriptTable::touched(Op::Write(2)), &[]);
+    has_members(&rt, ScriptTable::touched(Op::Invoke(1)), &[]);
+    has_members(&rt, Monitor::touched(Op::Write(2)), &[2]);
+    has_members(&rt, Monitor::touched(Op::Remember), &[0]);
+    has_members(&rt, Monitor::touched(Op::Write(0)), &[]);
+    has_members(&rt, Monitor::touched(Op::Invoke(1)), &[]);
+    has_members(&rt, Schedule::touched(Op::Write(4)), &[4]);
+    has_members(&rt, Schedule::touched(Op::Write(3)), &[]);
+    has_members(&rt, Schedule::touched(Op::Remember), &[]);
+    has_members(&rt, Monitor::own_sources(Op::Write(2), 2), &[]);
+    has_members(&rt, Schedule::own_sources(Op::Write(4), 4), &[]);
+    assert!(rt; ScriptTable::row_cells(Op::Invoke(1)) == CellSet::empty());
+    assert!(rt; Monitor::row_cells(Op::Remember) == CellSet::empty());
+    assert!(rt; Schedule::row_cells(Op::Write(4)) == CellSet::empty());
 }

@@ -3,10 +3,10 @@ ghost use Rattle.std.specs.Prelude.{◌≡◌, length, IfOk};
 use crate::laws::states_hold_profiles;
 use crate::profile::{Profile, ProfilePart};
 use crate::shapes::{capture_object_data, capture_objects_data, no_sort_object_data};
+use cosem_axdr::reading::read_data;
 use cosem_class::cell_set::CellSet;
 use cosem_class::class::{ClassFault, InterfaceClass, Op, Row};
 use cosem_class::generic::{laws_of_a_class, put_into};
-use cosem_data::bytes::Bytes;
 use cosem_data::cell::CellRef;
 use cosem_data::data::{Data, Items};
 use cosem_data::name::LogicalName;
@@ -30,10 +30,6 @@ const DEVICE: CellRef = CellRef {
     name: LogicalName([0, 0, 96, 1, 0, 255]),
     index: 2,
 };
-
-fn octets(alloc: Global, bytes: &[u8]) -> Result<Data, Fail> {
-    Ok(Data::OctetString(Bytes::new(Vec::from_slice(alloc, bytes)?)))
-}
 
 /// A profile of two entries, each of energy and device.
 fn two_entries(alloc: Global) -> Result<ProfilePart, Fail>
@@ -70,179 +66,301 @@ fn row(alloc: Global, value: u8) -> Result<Row, Fail>
     Ok(Items::new(parts))
 }
 
-/// Captures a value of energy and one of device.
-fn capture(alloc: Global, object: &mut Profile, value: u8) -> Result<(), Fail>
-    requires { length object.old.part.now.captured.items ≡ 2 }
-    ensures { object.new.part.now.captured.items ≡ object.old.part.now.captured.items }
-{
-    let row = row(alloc, value)?;
-    match object.invoke(alloc, 2, &Data::Integer(0), row) {
-        Ok(()) => Ok(()),
-        Err(fault) => Err(Fail::from(fault)),
-    }
-}
-
-/// The attribute is read as this value.
-fn shows(
-    rt: &impl Abort,
-    alloc: Global,
-    object: &Profile,
-    index: u8,
-    want: &Data,
-) -> Result<(), Fail> {
-    let value = object.read(alloc, index)?;
-    assert!(rt; value == *want, "{value:?} at {index}");
+/// The value is the one that these bytes encode, to their end.
+fn is_encoded(rt: &impl Abort, alloc: Global, value: &Data, bytes: &[u8]) -> Result<(), Fail> {
+    let (want, used) = read_data(alloc, bytes)?;
+    let is_same = used == bytes.len() && *value == want;
+    assert!(rt; is_same, "{value:?} for {bytes:?}");
     Ok(())
 }
 
-/// The buffer has these two entries, and both are in use.
-fn shows_entries(
-    rt: &impl Abort,
-    alloc: Global,
-    object: &Profile,
-    first: u8,
-    second: u8,
-) -> Result<(), Fail> {
-    let first = Data::Structure(row(alloc, first)?);
-    let second = Data::Structure(row(alloc, second)?);
-    let rows = Data::Array(Items::new(vec![in alloc; first, second]?));
-    shows(rt, alloc, object, 2, &rows)?;
-    shows(rt, alloc, object, 7, &Data::DoubleLongUnsigned(2))
+/// What is done to a profile of energy and device, or seen of it.
+#[derive(Clone, Copy)]
+enum Step<'a> {
+    /// A capture of this value of energy and this one of device is done.
+    Captures(u8),
+    /// A call of a method other than the capture has this result.
+    Calls(u8, Result<(), ClassFault>),
+    /// The capture_period is put.
+    Puts(u32),
+    /// A write of the value that these bytes encode has this result.
+    Writes(u8, &'a [u8], Result<(), ClassFault>),
+    /// The attribute is read as the value that these bytes encode.
+    Shows(u8, &'a [u8]),
+    /// The attribute is not read.
+    Hides(u8),
 }
+
+/// Captures a value of energy and one of device.
+fn capture(rt: &impl Abort, a: Global, object: &mut Profile, value: u8) -> Result<(), Fail> {
+    assert!(rt; object.part.captured.len() == 2);
+    let row = row(a, value)?;
+    Ok(object.invoke(a, 2, &Data::Integer(0), row)?)
+}
+
+/// Calls a method without a row.
+fn call(rt: &impl Abort, a: Global, object: &mut Profile, method: u8) -> Result<(), ClassFault> {
+    assert!(rt; method != 2);
+    let no_row = Items::new(Vec::new(a));
+    object.invoke(a, method, &Data::Integer(0), no_row)
+}
+
+/// Puts this capture_period.
+fn puts(object: &mut Profile, period: u32) -> Result<(), Fail> {
+    Ok(put_into(object, 4, Data::DoubleLongUnsigned(period))?)
+}
+
+/// A call without a row has this result.
+fn calls(
+    rt: &impl Abort,
+    a: Global,
+    object: &mut Profile,
+    method: u8,
+    want: Result<(), ClassFault>,
+) -> Result<(), Fail> {
+    let done = call(rt, a, object, method);
+    assert!(rt; done == want, "{done:?} by {method}");
+    Ok(())
+}
+
+/// A write of the value that these bytes encode has this result.
+fn writes(
+    rt: &impl Abort,
+    a: Global,
+    object: &mut Profile,
+    index: u8,
+    bytes: &[u8],
+    want: Result<(), ClassFault>,
+) -> Result<(), Fail> {
+    let (value, _) = read_data(a, bytes)?;
+    let done = object.write(index, value);
+    assert!(rt; done == want, "{done:?} at {index}");
+    Ok(())
+}
+
+/// The attribute is read as the value that these bytes encode.
+fn shows(
+    rt: &impl Abort,
+    a: Global,
+    object: &Profile,
+    index: u8,
+    bytes: &[u8],
+) -> Result<(), Fail> {
+    is_encoded(rt, a, &object.read(a, index)?, bytes)
+}
+
+/// There is no such attribute to read.
+fn hides(rt: &impl Abort, a: Global, object: &Profile, index: u8) -> Result<(), Fail> {
+    let fault = object.read(a, index).err();
+    assert!(rt; fault == Some(ClassFault::NoIndex), "{fault:?} at {index}");
+    Ok(())
+}
+
+/// Takes this step.
+fn take(rt: &impl Abort, a: Global, object: &mut Profile, step: Step) -> Result<(), Fail> {
+    match step {
+        Step::Captures(value) => capture(rt, a, object, value),
+        Step::Calls(method, want) => calls(rt, a, object, method, want),
+        Step::Puts(period) => puts(object, period),
+        Step::Writes(index, bytes, want) => writes(rt, a, object, index, bytes, want),
+        Step::Shows(index, bytes) => shows(rt, a, object, index, bytes),
+        Step::Hides(index) => hides(rt, a, object, index),
+    }
+}
+
+/// Takes these steps.
+fn take_all(rt: &impl Abort, a: Global, object: &mut Profile, steps: &[Step]) -> Result<(), Fail> {
+    for step in steps {
+        take(rt, a, object, *step)?;
+    }
+    Ok(())
+}
+
+/// Takes these steps from the start.
+fn takes(rt: &impl Abort, a: Global, steps: &[Step]) -> Result<(), Fail> {
+    let part = two_entries(a)?;
+    take_all(rt, a, &mut at_start(a, &part), steps)
+}
+
+/// An array of the first two entries.
+const FIRST_ENTRIES: [u8; 20] = [
+    0x01, 0x02, // an array of two
+    0x02, 0x02, 0x06, 0, 0, 0, 1, 0x11, 1, // energy and device
+    0x02, 0x02, 0x06, 0, 0, 0, 2, 0x11, 2, // energy and device
+];
+
+/// An array of the last two of three entries.
+const LAST_ENTRIES: [u8; 20] = [
+    0x01, 0x02, // an array of two
+    0x02, 0x02, 0x06, 0, 0, 0, 2, 0x11, 2, // energy and device
+    0x02, 0x02, 0x06, 0, 0, 0, 3, 0x11, 3, // energy and device
+];
 
 #[test]
 fn the_last_entries_are_kept(rt: HostRuntime) -> Result<(), Fail> {
-    let a = rt.alloc();
-    let part = two_entries(a)?;
-    let mut object = at_start(a, &part);
-    capture(a, &mut object, 1)?;
-    shows(&rt, a, &object, 7, &Data::DoubleLongUnsigned(1))?;
-    capture(a, &mut object, 2)?;
-    shows_entries(&rt, a, &object, 1, 2)?;
-    capture(a, &mut object, 3)?;
-    shows_entries(&rt, a, &object, 2, 3)?;
-    shows(&rt, a, &object, 4, &Data::DoubleLongUnsigned(900))
+    let steps = [
+        Step::Captures(1),
+        Step::Shows(7, &[0x06, 0, 0, 0, 1]),
+        Step::Captures(2),
+        Step::Shows(2, &FIRST_ENTRIES),
+        Step::Shows(7, &[0x06, 0, 0, 0, 2]),
+        Step::Captures(3),
+        Step::Shows(2, &LAST_ENTRIES),
+        Step::Shows(7, &[0x06, 0, 0, 0, 2]),
+        // 900 seconds.
+        Step::Shows(4, &[0x06, 0, 0, 0x03, 0x84]),
+    ];
+    takes(&rt, rt.alloc(), &steps)
 }
 
 #[test]
 fn a_reset_empties_the_buffer(rt: HostRuntime) -> Result<(), Fail> {
-    let a = rt.alloc();
-    let part = two_entries(a)?;
-    let mut object = at_start(a, &part);
-    put_into(&mut object, 4, Data::DoubleLongUnsigned(60))?;
-    capture(a, &mut object, 1)?;
-    for method in [0, 3] {
-        let called = object.invoke(a, method, &Data::Integer(0), Items::new(Vec::new(a)));
-        assert_eq!(rt; called, Err(ClassFault::NoIndex), "method {method}");
-    }
-    shows(&rt, a, &object, 7, &Data::DoubleLongUnsigned(1))?;
-    object.invoke(a, 1, &Data::Integer(0), Items::new(Vec::new(a)))?;
-    shows(&rt, a, &object, 2, &Data::Array(Items::new(Vec::new(a))))?;
-    shows(&rt, a, &object, 7, &Data::DoubleLongUnsigned(0))?;
-    shows(&rt, a, &object, 4, &Data::DoubleLongUnsigned(60))
+    let steps = [
+        Step::Puts(60),
+        Step::Captures(1),
+        Step::Calls(0, Err(ClassFault::NoIndex)),
+        Step::Calls(3, Err(ClassFault::NoIndex)),
+        Step::Shows(7, &[0x06, 0, 0, 0, 1]),
+        Step::Calls(1, Ok(())),
+        Step::Shows(2, &[0x01, 0x00]),
+        Step::Shows(7, &[0x06, 0, 0, 0, 0]),
+        Step::Shows(4, &[0x06, 0, 0, 0, 60]),
+    ];
+    takes(&rt, rt.alloc(), &steps)
 }
 
-/// A capture_object_definition, of the whole of this attribute of an object.
-fn definition(alloc: Global, class_id: u16, name: Data, index: i8) -> Result<Data, Fail> {
-    let class_id = Data::LongUnsigned(class_id);
-    let parts = vec![in alloc; class_id, name, Data::Integer(index), Data::LongUnsigned(0)]?;
-    Ok(Data::Structure(Items::new(parts)))
+/// The definition of energy.
+const ENERGY_DEFINITION: [u8; 18] = [
+    0x02, 0x04, 0x12, 0x00, 0x03, // class 3
+    0x09, 0x06, 1, 0, 1, 8, 0, 255, 0x0F, 0x02, // energy, attribute 2
+    0x12, 0x00, 0x00, // the whole of it
+];
+
+/// An array of the definitions of energy and device.
+const CAPTURE_OBJECTS: [u8; 38] = [
+    0x01, 0x02, // an array of two
+    0x02, 0x04, 0x12, 0x00, 0x03, // class 3
+    0x09, 0x06, 1, 0, 1, 8, 0, 255, 0x0F, 0x02, // energy, attribute 2
+    0x12, 0x00, 0x00, // the whole of it
+    0x02, 0x04, 0x12, 0x00, 0x01, // class 1
+    0x09, 0x06, 0, 0, 96, 1, 0, 255, 0x0F, 0x02, // device, attribute 2
+    0x12, 0x00, 0x00, // the whole of it
+];
+
+/// The definition of no object, by which nothing is sorted.
+const NO_OBJECT: [u8; 18] = [
+    0x02, 0x04, 0x12, 0x00, 0x00, // class 0
+    0x09, 0x06, 0, 0, 0, 0, 0, 0, 0x0F, 0x00, // a name of zeros, index 0
+    0x12, 0x00, 0x00,
+];
+
+#[test]
+fn a_captured_cell_is_defined(rt: HostRuntime) -> Result<(), Fail> {
+    let definition = capture_object_data(rt.alloc(), &ENERGY)?;
+    is_encoded(&rt, rt.alloc(), &definition, &ENERGY_DEFINITION)
+}
+
+/// The captured cells of the part are listed.
+fn lists(rt: &impl Abort, a: Global, part: &ProfilePart) -> Result<(), Fail> {
+    let objects = capture_objects_data(a, &part.captured)?;
+    is_encoded(rt, a, &objects, &CAPTURE_OBJECTS)
 }
 
 #[test]
 fn captured_cells_are_listed(rt: HostRuntime) -> Result<(), Fail> {
-    let a = rt.alloc();
-    let part = two_entries(a)?;
-    let energy = definition(a, 3, octets(a, &[1, 0, 1, 8, 0, 255])?, 2)?;
-    assert_eq!(rt; capture_object_data(a, &ENERGY)?, energy);
-    let device = definition(a, 1, octets(a, &[0, 0, 96, 1, 0, 255])?, 2)?;
-    let objects = Data::Array(Items::new(vec![in a; energy, device]?));
-    assert_eq!(rt; capture_objects_data(a, &part.captured)?, objects);
-    shows(&rt, a, &at_start(a, &part), 3, &objects)
+    lists(&rt, rt.alloc(), &two_entries(rt.alloc())?)
 }
 
-/// The fixed attributes of one value are read, and no index without an attribute.
-fn reads_fixed(rt: &impl Abort, a: Global, object: &Profile) -> Result<(), Fail> {
-    shows(rt, a, object, 1, &octets(a, &[1, 0, 99, 1, 0, 255])?)?;
-    shows(rt, a, object, 5, &Data::Enumerated(1))?;
-    shows(rt, a, object, 8, &Data::DoubleLongUnsigned(2))?;
-    for index in [0, 9, 255] {
-        assert!(rt;
-            object.read(a, index) == Err(ClassFault::NoIndex),
-            "at {index}"
-        );
-    }
-    Ok(())
-}
-
-/// No object is the one by which the entries are sorted.
-fn reads_sort_object(rt: &impl Abort, a: Global, object: &Profile) -> Result<(), Fail> {
-    let none = definition(a, 0, octets(a, &[0; 6])?, 0)?;
-    assert!(rt; no_sort_object_data(a)? == none);
-    shows(rt, a, object, 6, &none)
-}
-
-/// The part has no attribute but the fixed ones.
-fn has_no_other(rt: &impl Abort, a: Global, part: &ProfilePart) -> Result<(), Fail> {
-    for index in [1, 2, 4, 7, 9] {
-        assert!(rt; part.fixed(a, index)? == Data::NullData, "at {index}");
-    }
-    Ok(())
+#[test]
+fn no_object_sorts(rt: HostRuntime) -> Result<(), Fail> {
+    let none = no_sort_object_data(rt.alloc())?;
+    is_encoded(&rt, rt.alloc(), &none, &NO_OBJECT)
 }
 
 #[test]
 fn fixed_attributes_have_their_shapes(rt: HostRuntime) -> Result<(), Fail> {
-    let a = rt.alloc();
-    let part = two_entries(a)?;
-    has_no_other(&rt, a, &part)?;
-    let object = at_start(a, &part);
-    reads_fixed(&rt, a, &object)?;
-    reads_sort_object(&rt, a, &object)
+    let steps = [
+        Step::Shows(1, &[0x09, 0x06, 1, 0, 99, 1, 0, 255]),
+        Step::Shows(3, &CAPTURE_OBJECTS),
+        Step::Shows(5, &[0x16, 1]),
+        Step::Shows(6, &NO_OBJECT),
+        Step::Shows(8, &[0x06, 0, 0, 0, 2]),
+        Step::Hides(0),
+        Step::Hides(9),
+        Step::Hides(255),
+    ];
+    takes(&rt, rt.alloc(), &steps)
+}
+
+/// Whether the part has no such attribute.
+fn has_none(alloc: Global, part: &ProfilePart, index: u8) -> Result<bool, Fail> {
+    Ok(part.fixed(alloc, index)? == Data::NullData)
+}
+
+/// The part has no attribute but the fixed ones.
+fn has_no_other(rt: &impl Abort, a: Global, part: &ProfilePart) -> Result<(), Fail> {
+    for index in &[1, 2, 4, 7, 9] {
+        let is_none = has_none(a, part, *index)?;
+        assert!(rt; is_none, "at {index}");
+    }
+    Ok(())
 }
 
 #[test]
-fn only_the_period_is_settable(rt: HostRuntime) -> Result<(), Fail> {
-    let a = rt.alloc();
-    let part = two_entries(a)?;
-    let mut object = at_start(a, &part);
-    for index in [1, 2, 3, 5, 6, 7, 8] {
-        let done = object.write(index, Data::DoubleLongUnsigned(1));
-        assert_eq!(rt; done, Err(ClassFault::NotSettable), "at {index}");
-    }
-    for index in [0, 9] {
-        let done = object.write(index, Data::DoubleLongUnsigned(1));
-        assert_eq!(rt; done, Err(ClassFault::NoIndex), "at {index}");
-    }
-    let done = object.write(4, Data::LongUnsigned(60));
-    assert_eq!(rt; done, Err(ClassFault::Kind));
-    shows(&rt, a, &object, 4, &Data::DoubleLongUnsigned(900))?;
-    object.write(4, Data::DoubleLongUnsigned(60))?;
-    shows(&rt, a, &object, 4, &Data::DoubleLongUnsigned(60))
+fn the_fixed_part_has_no_other(rt: HostRuntime) -> Result<(), Fail> {
+    has_no_other(&rt, rt.alloc(), &two_entries(rt.alloc())?)
 }
 
-/// Whether an operation may change this cell.
-fn touches(op: Op, cell: u8) -> bool {
-    Profile::touched(op).has(cell)
+/// A double-long-unsigned 1.
+const ONE: [u8; 5] = [0x06, 0, 0, 0, 1];
+
+#[test]
+fn only_the_period_is_settable(rt: HostRuntime) -> Result<(), Fail> {
+    let steps = [
+        Step::Writes(1, &ONE, Err(ClassFault::NotSettable)),
+        Step::Writes(2, &ONE, Err(ClassFault::NotSettable)),
+        Step::Writes(3, &ONE, Err(ClassFault::NotSettable)),
+        Step::Writes(5, &ONE, Err(ClassFault::NotSettable)),
+        Step::Writes(6, &ONE, Err(ClassFault::NotSettable)),
+        Step::Writes(7, &ONE, Err(ClassFault::NotSettable)),
+        Step::Writes(8, &ONE, Err(ClassFault::NotSettable)),
+        Step::Writes(0, &ONE, Err(ClassFault::NoIndex)),
+        Step::Writes(9, &ONE, Err(ClassFault::NoIndex)),
+        Step::Writes(4, &[0x12, 0, 60], Err(ClassFault::Kind)),
+        Step::Shows(4, &[0x06, 0, 0, 0x03, 0x84]),
+        Step::Writes(4, &[0x06, 0, 0, 0, 60], Ok(())),
+        Step::Shows(4, &[0x06, 0, 0, 0, 60]),
+    ];
+    takes(&rt, rt.alloc(), &steps)
+}
+
+/// These are the members of a set, and no other cell to 16 is one.
+fn has_members(rt: &impl Abort, set: CellSet, members: &[u8]) {
+    for cell in 0..=16 {
+        assert_eq!(rt; set.has(cell), members.contains(&cell), "at {cell}");
+    }
+}
+
+/// The operations touch these cells.
+fn touches_its_cells(rt: &impl Abort) {
+    has_members(rt, Profile::touched(Op::Write(4)), &[4]);
+    has_members(rt, Profile::touched(Op::Invoke(1)), &[2, 7]);
+    has_members(rt, Profile::touched(Op::Invoke(2)), &[2, 7]);
+    has_members(rt, Profile::touched(Op::Write(2)), &[]);
+    has_members(rt, Profile::touched(Op::Invoke(3)), &[]);
+    has_members(rt, Profile::touched(Op::Remember), &[]);
 }
 
 #[test]
 fn tables_are_those_of_the_class(rt: HostRuntime) {
     laws_of_a_class::<Profile>();
     states_hold_profiles();
-    assert_eq!(rt; (Profile::CLASS_ID, Profile::VERSION), (7, 1));
-    assert_eq!(rt; (Profile::ATTRIBUTES, Profile::METHODS), (8, 2));
-    for cell in 0..=16 {
-        let is_counted = cell == 2 || cell == 7;
-        assert_eq!(rt; touches(Op::Write(4), cell), cell == 4);
-        assert_eq!(rt; touches(Op::Invoke(1), cell), is_counted);
-        assert_eq!(rt; touches(Op::Invoke(2), cell), is_counted);
-        assert!(rt; !touches(Op::Write(2), cell));
-        assert!(rt; !touches(Op::Invoke(3), cell));
-        assert!(rt; !touches(Op::Remember, cell));
-        assert_eq!(rt; Profile::own_sources(Op::Invoke(2), 2).has(cell), cell == 2);
-        assert_eq!(rt; Profile::own_sources(Op::Invoke(2), 7).has(cell), cell == 7);
-        assert!(rt; !Profile::own_sources(Op::Invoke(1), 2).has(cell));
-        assert_eq!(rt; Profile::row_cells(Op::Invoke(2)).has(cell), cell == 2);
-    }
-    assert_eq!(rt; Profile::row_cells(Op::Invoke(1)), CellSet::empty());
+    assert!(rt; (Profile::CLASS_ID, Profile::VERSION) == (7, 1));
+    assert!(rt; (Profile::ATTRIBUTES, Profile::METHODS) == (8, 2));
+    touches_its_cells(&rt);
+    has_members(&rt, Profile::own_sources(Op::Invoke(2), 2), &[2]);
+    has_members(&rt, Profile::own_sources(Op::Invoke(2), 7), &[7]);
+    has_members(&rt, Profile::own_sources(Op::Invoke(1), 2), &[]);
+    has_members(&rt, Profile::row_cells(Op::Invoke(2)), &[2]);
+    assert!(rt; Profile::row_cells(Op::Invoke(1)) == CellSet::empty());
 }
