@@ -3,22 +3,23 @@
 
     bench/config.py [SEED]
 
-A configuration has 16 clients, and for each 4 rights an object, 512 at most. Reading is timed as a run without lines, beside
-a loop that only copies the same bytes, for 128, 256 and 512 objects: the time should double with them. Then 200,000 GETs of
-random clients at random names are answered by the largest, beside a loop that copies the same lines. The same seed gives the
-same texts. Run `./cosem-flow demo < /dev/null` first, which builds the program.
+A configuration has 16 clients, and 4 rights for each object. Reading is timed as a run without lines less a run by a
+configuration without objects, beside a loop that only copies the same lines, for 128, 256 and 512 objects: the time should
+double with them. Then 200,000 GETs of random clients at random names are answered by the largest, beside a loop that copies
+the same lines. The same seed gives the same texts. Run `./cosem-flow demo < /dev/null` first, which builds the program.
 """
 import os
 import random
 import sys
 import tempfile
+import time
 
-from demo import COPY, PROGRAM, measure
+from demo import PROGRAM, measure
 
 CLIENTS = 16
 RIGHTS_EACH = 4
 GETS = 200_000
-RUNS = 5
+RUNS = 20
 
 
 def name_of(place):
@@ -30,7 +31,7 @@ def octets_of(place):
 
 
 def config(rng, objects):
-    """A configuration of this many registers, each with rights of some clients, and scripts that set each of them."""
+    """A configuration of this many registers, each with rights of some clients."""
     lines = ["version = 1", "client = ["]
     lines += [f' {{ name = "client_{k}", sap = {k + 1} }},' for k in range(CLIENTS)]
     lines += ["]", "object = ["]
@@ -60,28 +61,41 @@ def fastest(command, path):
     return min(measure(command, path)[0] for _ in range(RUNS))
 
 
+def copied(path):
+    """Seconds of a loop that copies the lines of a file."""
+
+    def once():
+        begin = time.perf_counter()
+        with open(path, "rb") as lines, open(os.devnull, "wb") as sink:
+            for line in lines:
+                sink.write(line)
+        return time.perf_counter() - begin
+
+    return min(once() for _ in range(RUNS))
+
+
 def main():
     rng = random.Random(int(sys.argv[1]) if len(sys.argv) > 1 else 1)
-    copy = [sys.executable, "-c", COPY]
     with tempfile.TemporaryDirectory() as folder:
         text = os.path.join(folder, "config.toml")
         nothing = os.path.join(folder, "nothing")
         open(nothing, "w").close()
+        with open(text, "w") as out:
+            out.write(config(rng, 0))
+        empty = fastest([PROGRAM, "run", text], nothing)
         for objects in (128, 256, 512):
             with open(text, "w") as out:
                 out.write(config(rng, objects))
-            copied = fastest(copy, text) - fastest(copy, nothing)
-            read = fastest([PROGRAM, "run", text], nothing)
+            read = fastest([PROGRAM, "run", text], nothing) - empty
             print(
                 f"{objects} objects, {RIGHTS_EACH * objects} rights, {os.path.getsize(text)} bytes: read in {1000 * read:.1f} ms, "
-                f"a copy takes {1000 * copied:.1f} ms"
+                f"{read / copied(text):.1f} times a copy"
             )
         lines = os.path.join(folder, "lines")
         with open(lines, "w") as out:
             out.write(gets(rng, 512))
-        copied = fastest(copy, lines)
         answered = fastest([PROGRAM, "run", text], lines)
-        print(f"{GETS} GETs: {GETS / answered:.0f} lines/s, {answered / copied:.1f} times a copy")
+        print(f"{GETS} GETs: {GETS / answered:.0f} lines/s, {answered / copied(lines):.1f} times a copy")
 
 
 if __name__ == "__main__":

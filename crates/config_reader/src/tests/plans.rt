@@ -2,9 +2,11 @@
 ghost use Rattle.std.specs.Prelude.{◌≡◌, IfOk};
 ghost use Rattle.meter_theory.specs.States.{IsState};
 
+use super::demo::DEMO;
 use crate::read_config;
 use cosem_data::bytes::Bytes;
 use cosem_data::cell::{CellRef, MethodRef};
+use cosem_data::clients::ClientSet;
 use cosem_data::data::{Data, Items};
 use cosem_data::memory::Memory;
 use cosem_data::name::LogicalName;
@@ -13,6 +15,7 @@ use meter_theory::refs::Interface;
 use object_model::effect::Effect;
 use object_model::meter::Meter;
 use object_model::plan::{ASSOCIATION, Plan};
+use object_model::policy::Policy;
 use std::alloc::Global;
 use std::process::Abort;
 use std::test::Fail;
@@ -388,4 +391,40 @@ fn what_is_put_is_read(rt: HostRuntime) -> Result<(), Fail> {
     let plan = plan(rt.alloc())?;
     let mut meter = started(&plan, rt.alloc())?;
     puts_and_reads(&rt, rt.alloc(), &plan, &mut meter)
+}
+
+/// The load profile of the demo.
+const PROFILE: LogicalName = LogicalName([1, 0, 99, 1, 0, 255]);
+
+fn policy(alloc: Global) -> Result<Policy, Fail> {
+    let (_plan, policy) = read_config(alloc, DEMO)?;
+    Ok(policy)
+}
+
+/// Whether a client is in the set, for public, reader, installer and manager; no other is.
+fn has_just(set: ClientSet, members: [bool; 4]) -> bool {
+    let found = [
+        set.has(PUBLIC),
+        set.has(READER),
+        set.has(INSTALLER),
+        set.has(MANAGER),
+    ];
+    found == members && !set.has(NOBODY)
+}
+
+fn labels_cells(rt: &impl Abort, policy: &Policy) {
+    let alarm = policy.label(&cell(1, ALARM, 2));
+    assert!(rt; has_just(alarm.influence, [false, false, false, true]));
+    assert!(rt; has_just(alarm.learn, [false, true, false, true]));
+    let period = policy.label(&cell(7, PROFILE, 4));
+    assert!(rt; has_just(period.influence, [false, false, true, false]));
+    assert!(rt; has_just(period.learn, [false, true, true, true]));
+}
+
+// The demo labels the profile's period, and not the alarm.
+#[test]
+fn a_policy_labels_each_cell(rt: HostRuntime) -> Result<(), Fail> {
+    let policy = policy(rt.alloc())?;
+    labels_cells(&rt, &policy);
+    Ok(())
 }
