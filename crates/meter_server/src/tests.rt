@@ -5,8 +5,10 @@ mod samples;
 mod selections;
 mod steps;
 mod views;
+mod watched;
 
 use crate::running::{LineFault, run_lines};
+use object_model::plan::Plan;
 use samples::alarm_plan;
 use std::alloc::Global;
 use std::io;
@@ -76,15 +78,15 @@ impl Write for SlowWriter {
     }
 }
 
-// What a run over the plan of register and alarm answers and writes, its reader and writer failing at these calls (0 for
-// none). Want of memory, of which the run itself tells, is an error here.
-fn run_failing(
+// What a run over the plan answers and writes, its reader and writer failing at these calls (0 for none). Want of memory,
+// of which the run itself tells, is an error here.
+fn run_over(
     alloc: Global,
+    plan: &Plan,
     input: &[u8],
     fails_read: u64,
     fails_write: u64,
 ) -> Result<(Result<u64, LineFault>, Vec<u8>), Fail> {
-    let plan = alarm_plan(alloc)?;
     let mut reader = SlowReader {
         bytes: input,
         calls: 0,
@@ -95,10 +97,35 @@ fn run_failing(
         calls: 0,
         fails_at: fails_write,
     };
-    match run_lines(alloc, &plan, &mut reader, &mut writer) {
+    match run_lines(alloc, plan, &mut reader, &mut writer) {
         Err(LineFault::Memory) => Err("out of memory".into()),
         answer => Ok((answer, writer.held)),
     }
+}
+
+// The same over the plan of register and alarm.
+fn run_failing(
+    alloc: Global,
+    input: &[u8],
+    fails_read: u64,
+    fails_write: u64,
+) -> Result<(Result<u64, LineFault>, Vec<u8>), Fail> {
+    run_over(alloc, &alarm_plan(alloc)?, input, fails_read, fails_write)
+}
+
+// A run over the lines and the plan ends like this and writes this.
+fn is_answered(
+    rt: &impl Abort,
+    alloc: Global,
+    plan: &Plan,
+    lines: &[u8],
+    answer: Result<u64, LineFault>,
+    text: &[u8],
+) -> Result<(), Fail> {
+    let (found, written) = run_over(alloc, plan, lines, 0, 0)?;
+    assert_eq!(rt; written.as_slice(), text);
+    assert_eq!(rt; found, answer);
+    Ok(())
 }
 
 // What a run that fails writes is a beginning of what it writes else.
@@ -176,20 +203,20 @@ const EXCEPTIONS: &[u8] = b"D80202\nD80202\nD80202\n";
 
 #[test]
 fn requests_are_answered(rt: HostRuntime) -> Result<(), Fail> {
+    let plan = alarm_plan(rt.alloc())?;
     for (lines, count, replies) in [
         (LINES, 6, REPLIES),
         (REFUSED, 9, CODES),
         (SETTINGS, 6, READ_BACK),
     ] {
-        let (answer, written) = run_failing(rt.alloc(), lines, 0, 0)?;
-        assert_eq!(rt; answer, Ok(count));
-        assert_eq!(rt; written.as_slice(), replies);
+        is_answered(&rt, rt.alloc(), &plan, lines, Ok(count), replies)?;
     }
     Ok(())
 }
 
 #[test]
 fn other_lines_are_answered(rt: HostRuntime) -> Result<(), Fail> {
+    let plan = alarm_plan(rt.alloc())?;
     for (lines, answer, text) in [
         (NO_REQUESTS, Ok(4), EXCEPTIONS),
         (b"".as_slice(), Ok(0), b"".as_slice()),
@@ -220,9 +247,7 @@ fn other_lines_are_answered(rt: HostRuntime) -> Result<(), Fail> {
             b"line 1: unreadable\n".as_slice(),
         ),
     ] {
-        let (found, written) = run_failing(rt.alloc(), lines, 0, 0)?;
-        assert_eq!(rt; found, answer);
-        assert_eq!(rt; written.as_slice(), text);
+        is_answered(&rt, rt.alloc(), &plan, lines, answer, text)?;
     }
     Ok(())
 }
@@ -253,11 +278,16 @@ fn writings_fail(rt: HostRuntime) -> Result<(), Fail> {
 
 // The same between answers that requests get.
 #[test]
-fn runs_fail_between_answers(rt: HostRuntime) -> Result<(), Fail> {
+fn readings_fail_between_answers(rt: HostRuntime) -> Result<(), Fail> {
     for (call, count) in [(46, 0), (47, 19), (121, 39), (154, 39)] {
         let found = fails(&rt, rt.alloc(), LINES, call, 0, REPLIES)?;
         assert_eq!(rt; found, (Err(LineFault::Read), count), "call {call}");
     }
+    Ok(())
+}
+
+#[test]
+fn writings_fail_between_answers(rt: HostRuntime) -> Result<(), Fail> {
     for call in 1..53u64 {
         let found = fails(&rt, rt.alloc(), LINES, 0, call, REPLIES)?;
         assert_eq!(rt; found, (Err(LineFault::Write), (call - 1) as usize));

@@ -3,6 +3,7 @@ ghost use Rattle.meter_theory.specs.States.{IsState};
 
 use config_reader::read_config;
 use cosem_axdr::limits::is_encoded_within;
+use cosem_axdr::reading::read_data;
 use cosem_axdr::writing::write_data;
 use cosem_data::bytes::Bytes;
 use cosem_data::cell::CellRef;
@@ -23,7 +24,16 @@ pub const ALARM: LogicalName = LogicalName([0, 0, 96, 11, 0, 255]);
 // Device ID 1, an octet-string.
 pub const DEVICE: LogicalName = LogicalName([0, 0, 96, 1, 0, 255]);
 
-// The places of the clients in the plan of register and alarm, and one of no client.
+// Load profile 1, as the OBIS table of IEC 62056-6-2 has it.
+pub const PROFILE: LogicalName = LogicalName([1, 0, 99, 1, 0, 255]);
+
+// Tariffication script table.
+pub const TABLE: LogicalName = LogicalName([0, 0, 10, 0, 100, 255]);
+
+// Alarm monitor 0, a register monitor.
+pub const MONITOR: LogicalName = LogicalName([0, 0, 16, 1, 0, 255]);
+
+// The places of the clients in the plans of register and alarm, and one of no client.
 pub const PUBLIC: u8 = 0;
 
 pub const READER: u8 = 1;
@@ -71,6 +81,25 @@ pub(super) fn written(rt: &impl Abort, alloc: Global, value: &Data) -> Result<St
     let mut bytes = Vec::new(alloc);
     write_data(value, &mut bytes)?;
     Ok(hex::encode_upper(alloc, &bytes)?)
+}
+
+// The value that this text is the encoding of, in hex.
+pub(super) fn value_of(alloc: Global, text: &str) -> Result<Data, Fail> {
+    let bytes = hex::decode(alloc, text)?;
+    let (value, _) = read_data(alloc, &bytes)?;
+    Ok(value)
+}
+
+// The value has this encoding, in upper case hex.
+pub(super) fn is_written(
+    rt: &impl Abort,
+    alloc: Global,
+    value: Result<Data, Memory>,
+    want: &str,
+) -> Result<(), Fail> {
+    let text = written(rt, alloc, &value?)?;
+    assert_eq!(rt; text.as_str(), want);
+    Ok(())
 }
 
 // A meter of the plan at its start.
@@ -124,6 +153,57 @@ client = [{ name = "owner", sap = 1 }]
 object = [{ class = 1, name = "0.0.96.1.0.255", value = "0900" }]
 right = [{ client = "owner", object = "0.0.96.1.0.255", get = [2], set = [2] }]
 policy = { influence = [], learn = [] }
+"#,
+    )
+}
+
+// The register and the alarm, and what watches them: a table of scripts that set and clear the alarm and capture a
+// profile of both, a monitor of the register that runs the first two, and a schedule that runs the last at each end of a
+// month.
+pub(super) fn watched_plan(alloc: Global) -> Result<Plan, Fail> {
+    plan_of(
+        alloc,
+        r#"version = 1
+client = [
+ { name = "public", sap = 16 },
+ { name = "reader", sap = 32, password = "12345678" },
+ { name = "installer", sap = 48, password = "87654321" },
+ { name = "manager", sap = 1, password = "00000000" },
+]
+object = [
+ { class = 3, name = "1.0.1.8.0.255", fed = true, value = "060001E240", default = "0600000000", scaler = 0, unit = 30 },
+ { class = 1, name = "0.0.96.11.0.255", value = "1100" },
+ { class = 9, name = "0.0.10.0.100.255", script = [
+  { id = 1, action = [ { service = 1, object = "0.0.96.11.0.255", index = 2, value = "1101" } ] },
+  { id = 2, action = [ { service = 1, object = "0.0.96.11.0.255", index = 2, value = "1100" } ] },
+  { id = 3, action = [ { service = 2, object = "1.0.99.1.0.255", index = 2 } ] } ] },
+ { class = 21, name = "0.0.16.1.0.255", monitored = { object = "1.0.1.8.0.255", index = 2 }, thresholds = ["0600000064"], action = [
+  { up = { table = "0.0.10.0.100.255", script = 1 }, down = { table = "0.0.10.0.100.255", script = 2 } } ] },
+ { class = 7, name = "1.0.99.1.0.255", period = 900, entries = 2, capture = [
+  { object = "1.0.1.8.0.255", index = 2 }, { object = "0.0.96.11.0.255", index = 2 } ] },
+ { class = 22, name = "0.0.15.0.0.255", script = { table = "0.0.10.0.100.255", script = 3 }, type = 1, times = ["000000FFFFFFFFFEFF"] },
+]
+right = [
+ { client = "public", object = "1.0.1.8.0.255" },
+ { client = "reader", object = "1.0.1.8.0.255", get = [2, 3] },
+ { client = "reader", object = "0.0.96.11.0.255", get = [2] },
+ { client = "reader", object = "1.0.99.1.0.255", get = [2, 3, 4, 7, 8] },
+ { client = "installer", object = "1.0.99.1.0.255", get = [4], set = [4] },
+ { client = "installer", object = "0.0.15.0.0.255", get = [2, 3, 4], set = [4] },
+ { client = "manager", object = "1.0.1.8.0.255", get = [2, 3], act = [1] },
+ { client = "manager", object = "0.0.96.11.0.255", get = [2], set = [2] },
+ { client = "manager", object = "0.0.10.0.100.255", get = [2], act = [1] },
+ { client = "manager", object = "0.0.16.1.0.255", get = [2, 3, 4], set = [2] },
+ { client = "manager", object = "1.0.99.1.0.255", get = [2, 3, 4, 7, 8], act = [1, 2] },
+ { client = "manager", object = "0.0.15.0.0.255", get = [2, 3, 4] },
+]
+policy = { influence = ["manager"], learn = ["reader", "manager"] }
+label = [
+ { object = "1.0.99.1.0.255", index = 2, influence = ["installer", "manager"], learn = ["reader", "manager"] },
+ { object = "1.0.99.1.0.255", index = 4, influence = ["installer"], learn = ["reader", "installer", "manager"] },
+ { object = "1.0.99.1.0.255", index = 7, influence = ["installer", "manager"], learn = ["reader", "manager"] },
+ { object = "0.0.15.0.0.255", index = 4, influence = ["installer"], learn = ["reader", "installer", "manager"] },
+]
 "#,
     )
 }
