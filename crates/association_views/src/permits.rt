@@ -172,8 +172,9 @@ fn set_answer(
     value_answer(plan, &cell, value)
 }
 
-/// The number of a script in the parameter of execute (IEC 62056-6-2, Script table, execute).
-fn script_number(argument: &Argument) -> Option<u16>
+/// The number of a script in the parameter of execute, a long-unsigned; None for any other (IEC 62056-6-2, Script table,
+/// execute). It takes no memory.
+pub fn script_number(argument: &Argument) -> Option<u16>
     ensures { result ≡ rights.script_number (argument_of argument.now) }
 {
     match argument {

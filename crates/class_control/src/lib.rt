@@ -5,6 +5,7 @@
 pub mod action;
 mod due;
 pub mod judge;
+pub mod matching;
 pub mod monitor;
 pub mod parts;
 pub mod schedule;

@@ -1,13 +1,16 @@
 ghost use Rattle.std.specs.Prelude.{◌≡◌, ℕ, true, false, ⊤};
 ghost use Rattle.cosem_data.specs.View.{tree};
-ghost use Rattle.meter_theory.specs.Value.{ExecutionTimes, meets};
+ghost use Rattle.meter_theory.specs.Times.{is_schedule_due};
+ghost use Rattle.meter_theory.specs.Value.{ExecutionTimes, elements, meets};
 ghost use Rattle.cosem_class.specs.CellSets.{has};
 ghost use Rattle.class_control.specs.ScheduleClass.{ScheduleFixed, schedule_cells, schedule_reading, schedule_refusal, schedule_new_value, schedule_touched, ScheduleMeetsRule};
 ghost use Rattle.class_control.specs.ScheduleLaws.{schedule_depends_only_on_sources, schedule_writes_its_value, schedule_keeps_rules};
 
 use crate::judge::judge_times;
+use crate::matching;
 use crate::parts::SchedulePart;
 use crate::shapes::script_ref_data;
+use civil_moment::moment::Moment;
 use cosem_class::cell_set::CellSet;
 use cosem_class::class::{ClassFault, InterfaceClass, Op, Row};
 use cosem_data::data::Data;
@@ -26,6 +29,16 @@ pub struct Schedule<'a> {
     pub times: Data,
     // The times fit the type, within the limits of a cell.
     pub ghost fits: { meets (ExecutionTimes part.now.execution_type) (tree times) ≡ true },
+}
+
+impl<'a> Schedule<'a> {
+    /// Whether the script is to be run at the moment: some element of execution_time names it (IEC 62056-6-2, Single action
+    /// schedule). It takes no memory.
+    pub fn is_due(&self, moment: Moment) -> bool
+        ensures { result ≡ is_schedule_due (elements (tree self.now.times)) moment }
+    {
+        matching::is_due(&self.times, moment)
+    }
 }
 
 impl<'a> InterfaceClass for Schedule<'a> {

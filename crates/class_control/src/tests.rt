@@ -1,3 +1,5 @@
+mod matching;
+
 use crate::action::Action;
 use crate::judge::{judge_thresholds, judge_times};
 use crate::monitor::Monitor;

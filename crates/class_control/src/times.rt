@@ -12,16 +12,16 @@ use cosem_data::data::Data;
 pub const MOST_TIMES: usize = 16;
 
 /// A field of a time or a date that is not specified (IEC 62056-6-2, date and time formats).
-const ANY: u8 = 0xFF;
+pub(crate) const ANY: u8 = 0xFF;
 
 /// A year that is not specified (IEC 62056-6-2, date and time formats).
-const ANY_YEAR: u16 = 0xFFFF;
+pub(crate) const ANY_YEAR: u16 = 0xFFFF;
 
 /// The day of a date that is the last of its month (IEC 62056-6-2, date and time formats).
-const LAST_DAY: u8 = 0xFE;
+pub(crate) const LAST_DAY: u8 = 0xFE;
 
 /// The day of a date that is the second last of its month (IEC 62056-6-2, date and time formats).
-const SECOND_LAST_DAY: u8 = 0xFD;
+pub(crate) const SECOND_LAST_DAY: u8 = 0xFD;
 
 /// The parts of a structure, none of any other value.
 fn parts_of(value: &Data) -> &[Data]
@@ -44,7 +44,7 @@ fn octets_of(value: &Data) -> &[u8]
 }
 
 /// The time of an element of execution_time: hour, minute, second and hundredths. Of another value it may be empty.
-fn time_bytes(value: &Data) -> &[u8]
+pub(crate) fn time_bytes(value: &Data) -> &[u8]
     ensures { result.now ≡ theory.time_bytes (tree value.now) }
 {
     match parts_of(value) {
@@ -55,7 +55,7 @@ fn time_bytes(value: &Data) -> &[u8]
 
 /// The date of an element of execution_time: two bytes of the year, month, day and weekday. Of another value it may be
 /// empty.
-fn date_bytes(value: &Data) -> &[u8]
+pub(crate) fn date_bytes(value: &Data) -> &[u8]
     ensures { result.now ≡ theory.date_bytes (tree value.now) }
 {
     match parts_of(value) {
@@ -94,7 +94,7 @@ fn is_time(time: &[u8]) -> bool
 }
 
 /// The year of the bytes of a date, 0 where there are none.
-fn year_of(date: &[u8]) -> u16
+pub(crate) fn year_of(date: &[u8]) -> u16
     ensures { result ≡ theory.year_of date.now }
 {
     match date {
@@ -130,7 +130,7 @@ pub fn is_execution_time(value: &Data) -> bool
 }
 
 /// The month of the bytes of a date, 0 where there is none.
-fn month_of(date: &[u8]) -> u8
+pub(crate) fn month_of(date: &[u8]) -> u8
     ensures { result ≡ theory.month_of date.now }
 {
     match date {
@@ -140,7 +140,7 @@ fn month_of(date: &[u8]) -> u8
 }
 
 /// The day of the bytes of a date, 0 where there is none.
-fn day_of(date: &[u8]) -> u8
+pub(crate) fn day_of(date: &[u8]) -> u8
     ensures { result ≡ theory.day_of date.now }
 {
     match date {

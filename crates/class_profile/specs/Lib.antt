@@ -2,3 +2,4 @@ pub mod Fifo
 pub mod ProfileClass
 pub mod ProfileLaws
 pub mod ProfileStates
+pub mod Reversal

@@ -2,9 +2,11 @@
 //! `cosem_class::class::InterfaceClass`, and the fixed attributes as values.
 #![tactic(auto)]
 
+pub mod due;
 mod fifo;
 pub mod laws;
 pub mod profile;
+pub mod reversal;
 pub mod shapes;
 #[cfg(test)]
 mod tests;

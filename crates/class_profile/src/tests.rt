@@ -1,8 +1,11 @@
 ghost use Rattle.std.specs.Prelude.{◌≡◌, length, IfOk};
 
-use crate::laws::states_hold_profiles;
+use crate::due::is_due;
+use crate::laws::{captures_are_taken_back, states_hold_profiles};
 use crate::profile::{Profile, ProfilePart};
+use crate::reversal::{dropped, take_back};
 use crate::shapes::{capture_object_data, capture_objects_data, no_sort_object_data};
+use civil_moment::moment::{BadMoment, Moment};
 use cosem_axdr::reading::read_data;
 use cosem_class::cell_set::CellSet;
 use cosem_class::class::{ClassFault, InterfaceClass, Op, Row};
@@ -79,6 +82,8 @@ fn is_encoded(rt: &impl Abort, alloc: Global, value: &Data, bytes: &[u8]) -> Res
 enum Step<'a> {
     /// A capture of this value of energy and this one of device is done.
     Captures(u8),
+    /// A capture of this value is done, and taken back it leaves the buffer that these bytes encode.
+    TakesBack(u8, &'a [u8]),
     /// A call of a method other than the capture has this result.
     Calls(u8, Result<(), ClassFault>),
     /// The capture_period is put.
@@ -96,6 +101,32 @@ fn capture(rt: &impl Abort, a: Global, object: &mut Profile, value: u8) -> Resul
     assert!(rt; object.part.captured.len() == 2);
     let row = row(a, value)?;
     Ok(object.invoke(a, 2, &Data::Integer(0), row)?)
+}
+
+/// The buffer, taken back to where this row had not been dropped, is the value that these bytes encode.
+fn goes_back(
+    rt: &impl Abort,
+    a: Global,
+    object: &Profile,
+    oldest: Option<Data>,
+    bytes: &[u8],
+) -> Result<(), Fail> {
+    let back = take_back(object.read(a, 2)?, oldest);
+    is_encoded(rt, a, &back, bytes)
+}
+
+/// Captures a value of energy and one of device, and takes it back in a copy of the buffer, which then is the value that
+/// these bytes encode.
+fn takes_back(
+    rt: &impl Abort,
+    a: Global,
+    object: &mut Profile,
+    value: u8,
+    bytes: &[u8],
+) -> Result<(), Fail> {
+    let oldest = dropped(a, object.part.profile_entries, &object.buffer)?;
+    capture(rt, a, object, value)?;
+    goes_back(rt, a, object, oldest, bytes)
 }
 
 /// Calls a method without a row.
@@ -160,6 +191,7 @@ fn hides(rt: &impl Abort, a: Global, object: &Profile, index: u8) -> Result<(), 
 fn take(rt: &impl Abort, a: Global, object: &mut Profile, step: Step) -> Result<(), Fail> {
     match step {
         Step::Captures(value) => capture(rt, a, object, value),
+        Step::TakesBack(value, bytes) => takes_back(rt, a, object, value, bytes),
         Step::Calls(method, want) => calls(rt, a, object, method, want),
         Step::Puts(period) => puts(object, period),
         Step::Writes(index, bytes, want) => writes(rt, a, object, index, bytes, want),
@@ -211,6 +243,46 @@ fn the_last_entries_are_kept(rt: HostRuntime) -> Result<(), Fail> {
         Step::Shows(4, &[0x06, 0, 0, 0x03, 0x84]),
     ];
     takes(&rt, rt.alloc(), &steps)
+}
+
+/// An array of the first entry.
+const FIRST_ENTRY: [u8; 11] = [
+    0x01, 0x01, // an array of one
+    0x02, 0x02, 0x06, 0, 0, 0, 1, 0x11, 1, // energy and device
+];
+
+#[test]
+fn a_capture_is_taken_back(rt: HostRuntime) -> Result<(), Fail> {
+    let steps = [
+        Step::TakesBack(9, &[0x01, 0x00]),
+        Step::Calls(1, Ok(())),
+        Step::Captures(1),
+        Step::TakesBack(2, &FIRST_ENTRY),
+        // The buffer is full now, so the next capture drops the first entry.
+        Step::TakesBack(3, &FIRST_ENTRIES),
+        Step::Shows(2, &LAST_ENTRIES),
+    ];
+    takes(&rt, rt.alloc(), &steps)
+}
+
+/// Whether a capture with this period is due at the moment that a text is.
+fn due(period: u32, text: &str) -> Result<bool, BadMoment> {
+    Ok(is_due(&Data::DoubleLongUnsigned(period), Moment::read(text)?))
+}
+
+/// A capture with this period is due at the moment that the text is, or is not.
+fn is_due_or_not(rt: &impl Abort, period: u32, text: &str, want: bool) {
+    assert_eq!(rt; due(period, text), Ok(want), "{period} at {text}");
+}
+
+#[test]
+fn captures_are_due_each_quarter_of_an_hour(rt: HostRuntime) {
+    is_due_or_not(&rt, 900, "2000-01-01T00:00:00", true);
+    is_due_or_not(&rt, 900, "2000-01-01T00:15:00", true);
+    is_due_or_not(&rt, 900, "2000-01-01T00:15:01", false);
+    is_due_or_not(&rt, 900, "2024-02-28T00:00:01", false);
+    is_due_or_not(&rt, 900, "2024-02-29T00:00:00", true);
+    is_due_or_not(&rt, 0, "2000-01-01T00:00:00", false);
 }
 
 #[test]
@@ -355,6 +427,7 @@ fn touches_its_cells(rt: &impl Abort) {
 fn tables_are_those_of_the_class(rt: HostRuntime) {
     laws_of_a_class::<Profile>();
     states_hold_profiles();
+    captures_are_taken_back();
     assert!(rt; (Profile::CLASS_ID, Profile::VERSION) == (7, 1));
     assert!(rt; (Profile::ATTRIBUTES, Profile::METHODS) == (8, 2));
     touches_its_cells(&rt);

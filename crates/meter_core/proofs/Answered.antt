@@ -1,6 +1,7 @@
 -- What the permits say of a reply and of the state after it.
-use Rattle.std.specs.Prelude.{◌≡◌, Bool, true, false, not, cond, ℕ, [], Option, Some, None, Ok, Err}
-use Rattle.std.proofs.Common.{refl, sym, ap, ◌∙◌, inl, inr}
+use Rattle.std.specs.Prelude.{◌≡◌, Bool, true, false, not, cond, ℕ, List, [], ◌∷◌, length, ◌==◌, Option, Some, None, Ok, Err}
+use Rattle.std.proofs.lemmas.Bool.{eqb-true}
+use Rattle.std.proofs.Common.{arith, refl, sym, ap, ◌∙◌, inl, inr}
 use Rattle.cosem_data.specs.Tree.{Tree}
 use Rattle.cosem_data.specs.declared.cell.CellRef.{CellRef}
 use Rattle.meter_theory.specs.declared.access.AccessCode.{AccessCode}
@@ -9,9 +10,9 @@ use Rattle.meter_theory.specs.Access.{is_success}
 use Rattle.meter_theory.specs.State.{State}
 use Rattle.meter_theory.specs.Plan.{Plan, rule_of}
 use Rattle.meter_theory.specs.Value.{Rule}
-use Rattle.meter_theory.specs.Rights.{Argument, Given, Descriptor, Selection, cell_of, get_answer, set_answer, set_places, meets_rule}
-use Rattle.meter_theory.specs.Steps.{Get, Set, effects, given_value, next}
-use Rattle.meter_theory.specs.Replies.{Value, Code, attribute, selected, reply_to}
+use Rattle.meter_theory.specs.Rights.{Argument, Given, Descriptor, Selection, cell_of, method_of, get_answer, set_answer, act_answer, set_places, meets_rule}
+use Rattle.meter_theory.specs.Steps.{Step, Get, Set, Act, Input, CaptureAt, Evaluate, ScheduleAt, client_of, effects, effects_of, given_value, method_effects, next}
+use Rattle.meter_theory.specs.Replies.{Value, Code, Quiet, attribute, selected, reply_to}
 use Rattle.meter_theory.specs.States.{MayStand}
 use Rattle.meter_theory.proofs.Rights.{place_passed}
 use Rattle.cosem_data.specs.declared.data.Data.{Data}
@@ -54,9 +55,9 @@ not_refused codes.OtherReason unit h n = cc
 
 -- GET
 
-pub granted_get_takes_memory : {b : Bool} (P : Plan) (c : ℕ) (d : Descriptor) (selection : Option Selection) (unit : Unit {0}) → Ok unit ≡ permitted (get_answer P c d selection)
-    → needs_no_memory P (Get c d selection) ≡ true → b ≡ true
-granted_get_takes_memory P c d selection unit h = not_refused (get_answer P c d selection) unit h
+pub granted_get_takes_memory : {b : Bool} (P : Plan) (s : State) (c : ℕ) (d : Descriptor) (selection : Option Selection) (unit : Unit {0}) → Ok unit ≡ permitted (get_answer P c d selection)
+    → needs_no_memory P s (Get c d selection) ≡ true → b ≡ true
+granted_get_takes_memory P s c d selection unit h = not_refused (get_answer P c d selection) unit h
 
 pub refused_get : (P : Plan) (s : State) (c : ℕ) (d : Descriptor) (selection : Option Selection) (code : AccessCode) → Err code ≡ permitted (get_answer P c d selection)
     → Code code ≡ reply_to P s (Get c d selection)
@@ -72,9 +73,9 @@ granted_get P s c d selection v unit h is =
 
 -- SET
 
-pub granted_set_takes_memory : {b : Bool} (P : Plan) (c : ℕ) (d : Descriptor) (chosen : Bool) (v : Argument) (unit : Unit {0}) → Ok unit ≡ permitted (set_answer P c d chosen v)
-    → needs_no_memory P (Set c d chosen v) ≡ true → b ≡ true
-granted_set_takes_memory P c d chosen v unit h = not_refused (set_answer P c d chosen v) unit h
+pub granted_set_takes_memory : {b : Bool} (P : Plan) (s : State) (c : ℕ) (d : Descriptor) (chosen : Bool) (v : Argument) (unit : Unit {0}) → Ok unit ≡ permitted (set_answer P c d chosen v)
+    → needs_no_memory P s (Set c d chosen v) ≡ true → b ≡ true
+granted_set_takes_memory P s c d chosen v unit h = not_refused (set_answer P c d chosen v) unit h
 
 pub refused_set : (P : Plan) (s : State) (c : ℕ) (d : Descriptor) (chosen : Bool) (v : Argument) (code : AccessCode) → Err code ≡ permitted (set_answer P c d chosen v)
     → Code code ≡ reply_to P s (Set c d chosen v)
@@ -93,6 +94,51 @@ pub granted_set_puts : (P : Plan) (s : State) (c : ℕ) (d : Descriptor) (chosen
     → effects P s (given_value (cell_of d) v) ≡ next P s (Set c d chosen v)
 granted_set_puts P s c d chosen v unit h =
     ap (λ code. effects P s (cond (is_success code) (given_value (cell_of d) v) [])) (sym (granted (set_answer P c d chosen v) unit h))
+
+-- ACTION
+
+pub refused_act : (P : Plan) (s : State) (c : ℕ) (d : Descriptor) (argument : Argument) (code : AccessCode) → Err code ≡ permitted (act_answer P c d argument)
+    → Code code ≡ reply_to P s (Act c d argument)
+refused_act P s c d argument code h = ap Code (refused (act_answer P c d argument) code h).0
+
+pub refused_act_stays : (P : Plan) (s : State) (c : ℕ) (d : Descriptor) (argument : Argument) (code : AccessCode) → Err code ≡ permitted (act_answer P c d argument)
+    → s ≡ next P s (Act c d argument)
+refused_act_stays P s c d argument code h =
+    ap (λ b. effects P s (cond b (method_effects P (method_of d) argument) [])) (sym (refused (act_answer P c d argument) code h).1)
+
+pub granted_act : (P : Plan) (s : State) (c : ℕ) (d : Descriptor) (argument : Argument) (unit : Unit {0}) → Ok unit ≡ permitted (act_answer P c d argument)
+    → Code codes.Success ≡ reply_to P s (Act c d argument)
+granted_act P s c d argument unit h = ap Code (sym (granted (act_answer P c d argument) unit h))
+
+pub granted_act_effects : (P : Plan) (s : State) (c : ℕ) (d : Descriptor) (argument : Argument) (unit : Unit {0}) → Ok unit ≡ permitted (act_answer P c d argument)
+    → method_effects P (method_of d) argument ≡ effects_of P s (Act c d argument)
+granted_act_effects P s c d argument unit h =
+    ap (λ code. cond (is_success code) (method_effects P (method_of d) argument) []) (sym (granted (act_answer P c d argument) unit h))
+
+-- no effects are those of a list of no length
+pub no_effects : {A : Type 0} (xs : List A) → (length xs == 0) ≡ true → xs ≡ []
+no_effects [] h = refl
+no_effects (x ∷ xs) h = let e = eqb-true (length (x ∷ xs)) 0 h in absurd (omega (arith, e))
+
+-- the meter's own steps
+
+pub own_reply : (P : Plan) (s : State) (step : Step) → client_of step ≡ None → Quiet ≡ reply_to P s step
+own_reply P s (Get c d selection) own = cc
+own_reply P s (Set c d chosen v) own = cc
+own_reply P s (Act c d argument) own = cc
+own_reply P s (Input x v) own = refl
+own_reply P s (CaptureAt n t) own = refl
+own_reply P s (Evaluate n) own = refl
+own_reply P s (ScheduleAt n t) own = refl
+
+pub own_memory : (P : Plan) (s : State) (step : Step) → client_of step ≡ None → needs_no_memory P s step ≡ true → effects_of P s step ≡ []
+own_memory P s (Get c d selection) own n = cc
+own_memory P s (Set c d chosen v) own n = cc
+own_memory P s (Act c d argument) own n = cc
+own_memory P s (Input x v) own n = no_effects (effects_of P s (Input x v)) n
+own_memory P s (CaptureAt m t) own n = no_effects (effects_of P s (CaptureAt m t)) n
+own_memory P s (Evaluate m) own n = no_effects (effects_of P s (Evaluate m)) n
+own_memory P s (ScheduleAt m t) own n = no_effects (effects_of P s (ScheduleAt m t)) n
 
 not-false : (b : Bool) → not b ≡ false → b ≡ true
 not-false true h = refl

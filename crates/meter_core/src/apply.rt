@@ -1,23 +1,29 @@
 //! One step of a meter.
-ghost use Rattle.std.specs.Prelude.{◌≡◌, true, OnOk, OnErr, IfOk, IsOk};
+ghost use Rattle.std.specs.Prelude.{◌≡◌, true, [], None, OnOk, OnErr, IfOk, IsOk};
 ghost use Rattle.cosem_data.specs.View.{tree};
 ghost use Rattle.cosem_data.specs.declared.cell.CellRef.{CellRef};
 ghost use Rattle.meter_theory.specs.Steps as steps;
-ghost use Rattle.meter_theory.specs.Steps.{next};
+ghost use Rattle.meter_theory.specs.Steps.{client_of, next};
 ghost use Rattle.meter_theory.specs.Replies.{attribute, reply_to};
 ghost use Rattle.meter_theory.specs.States.{IsState};
+ghost use Rattle.meter_core.specs.Adds.{StandsFor};
 ghost use Rattle.meter_core.specs.Memory.{needs_no_memory};
 ghost use Rattle.meter_core.specs.StepView.{argument_of, reply_of, selection_of, step_of};
 
+use crate::own_steps::{capture_effects, evaluation_effects, input_effects, schedule_effects};
 use crate::reply::Reply;
+use crate::scripts::push_method;
 use crate::step::Step;
 use association_views::association::fixed_attribute;
-use association_views::permits::{attribute_cell, permit_get, permit_set};
+use association_views::permits::{
+    attribute_cell, called_method, permit_action, permit_get, permit_set,
+};
 use association_views::selection::select;
 use cosem_data::cell::CellRef;
 use cosem_data::data::Data;
 use cosem_data::memory::Memory;
 use cosem_data::name::LogicalName;
+use meter_effects::play::play;
 use meter_theory::access::AccessCode;
 use object_model::argument::Argument;
 use object_model::effect::Effect;
@@ -33,7 +39,7 @@ pub fn apply(alloc: Global, plan: &Plan, meter: &mut Meter, step: &Step) -> Resu
     ensures ok { OnOk result (meter.new ≡ next plan.now meter.old (step_of step.now)) }
     ensures reply { IfOk result (λ reply. reply_of reply ≡ reply_to plan.now meter.old (step_of step.now)) }
     ensures err { OnErr result (meter.new ≡ meter.old) }
-    ensures denied { needs_no_memory plan.now (step_of step.now) ≡ true → IsOk result }
+    ensures denied { needs_no_memory plan.now meter.old (step_of step.now) ≡ true → IsOk result }
 {
     match step {
         Step::Get {
@@ -55,6 +61,16 @@ pub fn apply(alloc: Global, plan: &Plan, meter: &mut Meter, step: &Step) -> Resu
         } => set(
             alloc, plan, meter, *client, *class_id, name, *index, *selected, value,
         ),
+        Step::Act {
+            client,
+            class_id,
+            name,
+            index,
+            argument,
+        } => act(
+            alloc, plan, meter, *client, *class_id, name, *index, argument,
+        ),
+        _ => own(alloc, plan, meter, step),
     }
 }
 
@@ -71,7 +87,7 @@ fn get(
 ) -> Result<Reply, Memory>
     requires { IsState plan.now meter.now }
     ensures reply { IfOk result (λ reply. reply_of reply ≡ reply_to plan.now meter.now (steps.Get client (record { class_id = class_id; name = name.now; index = index }) (selection_of selection.now))) }
-    ensures denied { needs_no_memory plan.now (steps.Get client (record { class_id = class_id; name = name.now; index = index }) (selection_of selection.now)) ≡ true → IsOk result }
+    ensures denied { needs_no_memory plan.now meter.now (steps.Get client (record { class_id = class_id; name = name.now; index = index }) (selection_of selection.now)) ≡ true → IsOk result }
 {
     if let Err(code) = permit_get(plan, client, class_id, name, index, selection) {
         return Ok(Reply::Code(code));
@@ -116,7 +132,7 @@ fn set(
     ensures ok { OnOk result (meter.new ≡ next plan.now meter.old (steps.Set client (record { class_id = class_id; name = name.now; index = index }) selected (argument_of value.now))) }
     ensures reply { IfOk result (λ reply. reply_of reply ≡ reply_to plan.now meter.old (steps.Set client (record { class_id = class_id; name = name.now; index = index }) selected (argument_of value.now))) }
     ensures err { OnErr result (meter.new ≡ meter.old) }
-    ensures denied { needs_no_memory plan.now (steps.Set client (record { class_id = class_id; name = name.now; index = index }) selected (argument_of value.now)) ≡ true → IsOk result }
+    ensures denied { needs_no_memory plan.now meter.old (steps.Set client (record { class_id = class_id; name = name.now; index = index }) selected (argument_of value.now)) ≡ true → IsOk result }
 {
     plan.known();
     if let Err(code) = permit_set(plan, client, class_id, name, index, selected, value) {
@@ -125,7 +141,78 @@ fn set(
     if let Argument::Value(value) = value {
         let cell = attribute_cell(class_id, name, index);
         let given = value.try_clone(alloc)?;
-        meter.take(alloc, plan, Effect::Put(cell, given))?;
+        meter.put(alloc, plan, &cell, given);
     }
     Ok(Reply::Code(AccessCode::Success))
+}
+
+/// The answer to an ACTION (IEC 62056-5-3), and what its method does where the answer is success.
+fn act(
+    alloc: Global,
+    plan: &Plan,
+    meter: &mut Meter,
+    client: u8,
+    class_id: u16,
+    name: &LogicalName,
+    index: i8,
+    argument: &Argument,
+) -> Result<Reply, Memory>
+    requires { IsState plan.now meter.old }
+    ensures state { IsState plan.now meter.new }
+    ensures ok { OnOk result (meter.new ≡ next plan.now meter.old (steps.Act client (record { class_id = class_id; name = name.now; index = index }) (argument_of argument.now))) }
+    ensures reply { IfOk result (λ reply. reply_of reply ≡ reply_to plan.now meter.old (steps.Act client (record { class_id = class_id; name = name.now; index = index }) (argument_of argument.now))) }
+    ensures err { OnErr result (meter.new ≡ meter.old) }
+    ensures denied { needs_no_memory plan.now meter.old (steps.Act client (record { class_id = class_id; name = name.now; index = index }) (argument_of argument.now)) ≡ true → IsOk result }
+{
+    plan.known();
+    if let Err(code) = permit_action(plan, client, class_id, name, index, argument) {
+        return Ok(Reply::Code(code));
+    }
+    let method = called_method(class_id, name, index);
+    let mut effects = Vec::new(alloc);
+    push_method(alloc, plan, &method, argument, &mut effects)?;
+    play(alloc, plan, meter, &effects)?;
+    Ok(Reply::Code(AccessCode::Success))
+}
+
+/// A step that the meter takes by itself, without an answer.
+fn own(alloc: Global, plan: &Plan, meter: &mut Meter, step: &Step) -> Result<Reply, Memory>
+    requires of_plan { IsState plan.now meter.old }
+    requires own { client_of (step_of step.now) ≡ None }
+    ensures state { IsState plan.now meter.new }
+    ensures ok { OnOk result (meter.new ≡ next plan.now meter.old (step_of step.now)) }
+    ensures reply { IfOk result (λ reply. reply_of reply ≡ reply_to plan.now meter.old (step_of step.now)) }
+    ensures err { OnErr result (meter.new ≡ meter.old) }
+    ensures denied { needs_no_memory plan.now meter.old (step_of step.now) ≡ true → IsOk result }
+{
+    plan.known();
+    let effects = own_effects(alloc, plan, meter, step)?;
+    play(alloc, plan, meter, &effects)?;
+    Ok(Reply::Quiet)
+}
+
+/// The effects of a step that the meter takes by itself. The only error is that memory was refused, which without effects
+/// it isn't.
+fn own_effects(
+    alloc: Global,
+    plan: &Plan,
+    meter: &Meter,
+    step: &Step,
+) -> Result<Vec<Effect>, Memory>
+    requires of_plan { IsState plan.now meter.now }
+    requires own { client_of (step_of step.now) ≡ None }
+    ensures ok { IfOk result (λ list. StandsFor plan.now (steps.effects_of plan.now meter.now (step_of step.now)) list.items) }
+    ensures none { steps.effects_of plan.now meter.now (step_of step.now) ≡ [] → IsOk result }
+{
+    match step {
+        Step::Input { cell, value } => input_effects(alloc, plan, cell, value),
+        Step::CaptureAt { profile, moment } => {
+            capture_effects(alloc, plan, meter, *profile, *moment)
+        }
+        Step::Evaluate { monitor } => evaluation_effects(alloc, plan, meter, *monitor),
+        Step::ScheduleAt { schedule, moment } => {
+            schedule_effects(alloc, plan, meter, *schedule, *moment)
+        }
+        _ => Ok(Vec::new(alloc)),
+    }
 }

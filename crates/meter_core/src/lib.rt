@@ -2,6 +2,8 @@
 #![tactic(auto)]
 
 pub mod apply;
+mod own_steps;
 pub mod reply;
 pub mod run;
+mod scripts;
 pub mod step;

@@ -16,7 +16,7 @@ use Rattle.meter_core.specs.StepView.{reply_of}
 use Rattle.meter_core.specs.declared.reply.Reply.{Reply}
 use Rattle.meter_core.specs.declared.reply.Reply.TheVariants.{Value, Code, Quiet}
 use Rattle.xdlms_services.specs.declared.request.Request.{Request}
-use Rattle.xdlms_services.specs.declared.request.Request.TheVariants.{Get, Set}
+use Rattle.xdlms_services.specs.declared.request.Request.TheVariants.{Get, Set, Act}
 use Rattle.xdlms_services.specs.declared.writing.Service.{Service}
 use Rattle.xdlms_services.specs.declared.writing.Service.TheVariants as services
 use Rattle.xdlms_services.specs.Reading.{request_at}
@@ -54,6 +54,9 @@ CanWrite-reply P sound s k client (Get invoke class_id name index selection) Qui
 CanWrite-reply P sound s k client (Set invoke class_id name index selected value) (Value v) e = cc
 CanWrite-reply P sound s k client (Set invoke class_id name index selected value) (Code c) e = tt
 CanWrite-reply P sound s k client (Set invoke class_id name index selected value) Quiet e = cc
+CanWrite-reply P sound s k client (Act invoke class_id name index argument) (Value v) e = cc
+CanWrite-reply P sound s k client (Act invoke class_id name index argument) (Code c) e = tt
+CanWrite-reply P sound s k client (Act invoke class_id name index argument) Quiet e = cc
 
 -- the bytes that are written bring the meter's reply to the request
 pub written-reply_by : (P : Plan) (s : State) (client : ℕ) (request : Request) (r : Reply) (service : Service) (invoke : ℕ) (bytes : List ℕ)

@@ -17,22 +17,26 @@ use Rattle.xdlms_services.specs.declared.writing.Service.TheVariants as services
 use Rattle.xdlms_services.specs.Reading.{request_at}
 use Rattle.meter_server.specs.declared.answering.Ask.{Ask}
 
--- the service that a request asks for (IEC 62056-5-3, GET and SET)
+-- the service that a request asks for (IEC 62056-5-3, GET, SET and ACTION)
 abbrev pub service_of : Request → Service
 service_of (requests.Get invoke class_id name index selection) = services.Get
 service_of (requests.Set invoke class_id name index selected value) = services.Set
+service_of (requests.Act invoke class_id name index argument) = services.Act
 
 -- the Invoke-Id-And-Priority of a request, which its reply brings back (IEC 62056-5-3)
 abbrev pub invoke_of : Request → ℕ
 invoke_of (requests.Get invoke class_id name index selection) = invoke
 invoke_of (requests.Set invoke class_id name index selected value) = invoke
+invoke_of (requests.Act invoke class_id name index argument) = invoke
 
--- the step of the meter that a client's request is (IEC 62056-5-3, GET and SET)
+-- the step of the meter that a client's request is (IEC 62056-5-3, GET, SET and ACTION)
 abbrev pub step_of_request : ℕ → Request → Step
 step_of_request client (requests.Get invoke class_id name index selection) =
     steps.Get client (record { class_id = class_id; name = name; index = index }) (selection_of selection)
 step_of_request client (requests.Set invoke class_id name index selected value) =
     steps.Set client (record { class_id = class_id; name = name; index = index }) selected (argument_of value)
+step_of_request client (requests.Act invoke class_id name index argument) =
+    steps.Act client (record { class_id = class_id; name = name; index = index }) (argument_of argument)
 
 -- the APDU of a reply: Get-Response-Normal with a value in its shortest encoding or with a result, Set-Response-Normal, Action-Response-Normal (IEC 62056-5-3)
 abbrev pub reply_bytes : Service → ℕ → Reply → List ℕ

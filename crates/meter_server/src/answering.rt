@@ -29,8 +29,9 @@ const EXCEPTION: [u8; 3] = [0xD8, 2, 2];
 
 /// The APDU that is replied to an APDU of a client; the meter takes the step that it asks for.
 ///
-/// What is no GET or SET of one attribute is replied an exception, and changes nothing. The only error
-/// is want of memory; the reply is then lost, and the meter has taken the whole step or nothing of it.
+/// What is no GET or SET of one attribute and no ACTION of one method is replied an exception, and changes
+/// nothing. The only error is want of memory; the reply is then lost, and the meter has taken the whole
+/// step or nothing of it.
 pub fn answer(alloc: Global, plan: &Plan, meter: &mut Meter, ask: &Ask) -> Result<Vec<u8>, Memory>
     requires { IsState plan.now meter.old }
     ensures state { IsState plan.now meter.new }
@@ -121,6 +122,23 @@ fn step_asked(client: u8, request: Request) -> StepAsked
                 index,
                 selected,
                 value,
+            },
+        },
+        Request::Act {
+            invoke,
+            class_id,
+            name,
+            index,
+            argument,
+        } => StepAsked {
+            service: Service::Act,
+            invoke,
+            step: Step::Act {
+                client,
+                class_id,
+                name,
+                index,
+                argument,
             },
         },
     }

@@ -1,5 +1,6 @@
 ghost use Rattle.std.specs.Prelude.{◌≡◌, ◌≤◌, Some, IfOk, length};
 
+mod actions;
 mod permits;
 mod samples;
 mod selections;

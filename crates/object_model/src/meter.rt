@@ -1,14 +1,12 @@
-ghost use Rattle.std.specs.Prelude.{◌≡◌, ◌<◌, IfOk, option_map, find, IfSome, IfNone, OnOk, OnErr, false, true, length, take, slice_get, slice_set, vec_len, map};
+ghost use Rattle.std.specs.Prelude.{◌≡◌, ◌<◌, IfOk, option_map, find, IfSome, IfNone, false, true, length, take, slice_get, slice_set, vec_len, map};
 ghost use Rattle.std.specs.List.{list_any};
 ghost use Rattle.cosem_data.specs.View.{tree};
+ghost use Rattle.cosem_data.specs.Tree.{null_data};
 ghost use Rattle.cosem_data.specs.Cells.{same_cell};
 ghost use Rattle.meter_theory.specs.State.{keys, put, value};
 ghost use Rattle.meter_theory.specs.States.{IsState, MayStand};
-ghost use Rattle.meter_theory.specs.Steps as theory;
 ghost use Rattle.object_model.specs.MeterView.{entry_of};
-ghost use Rattle.object_model.specs.EffectView.{effect_of, MayTake};
 
-use crate::effect::Effect;
 use crate::plan::Plan;
 use cosem_data::cell::CellRef;
 use cosem_data::data::Data;
@@ -61,17 +59,15 @@ impl Meter {
         value_in(alloc, &self.pairs, cell)
     }
 
-    /// Takes an effect of a step of its plan, each put by the class of its object. Want of memory leaves it as it was.
-    pub fn take(&mut self, alloc: Global, plan: &Plan, effect: Effect) -> Result<(), Memory>
-        requires of_plan { IsState plan.now self.old }
-        requires fits { MayTake plan.now effect }
-        ensures ok { OnOk result (self.new ≡ theory.effect plan.now self.old (effect_of effect)) }
-        ensures err { OnErr result (self.new ≡ self.old) }
+    /// The value in a cell, to read, or None where there is no such cell. It takes no memory.
+    pub fn held(&self, cell: &CellRef) -> Option<&Data>
+        ensures found { IfSome result (λ v. tree v.now ≡ value self.now cell.now) }
+        ensures none { IfNone result (value self.now cell.now ≡ null_data) }
     {
-        match effect {
-            Effect::Put(cell, value) => self.put(alloc, plan, &cell, value),
+        match pair_of(&self.pairs, cell) {
+            Some(pair) => Some(&pair.1),
+            None => None,
         }
-        Ok(())
     }
 
     /// A copy, which equals the original. The error is that memory was refused.
@@ -83,8 +79,8 @@ impl Meter {
         })
     }
 
-    /// Puts a value that may stand in the cell, by the class of its object.
-    fn put(&mut self, alloc: Global, plan: &Plan, cell: &CellRef, given: Data)
+    /// Puts a value that may stand in the cell, by the class of its object. It takes no memory.
+    pub fn put(&mut self, alloc: Global, plan: &Plan, cell: &CellRef, given: Data)
         requires of_plan { IsState plan.now self.old }
         requires fits { MayStand plan.now cell.now (tree given) }
         ensures { self.new ≡ put self.old cell.now (tree given) }
@@ -99,15 +95,17 @@ impl Meter {
         }
     }
 
-    /// Puts a value into a cell, where there is such a cell.
-    fn set(&mut self, cell: &CellRef, given: Data)
+    /// Puts a value into a cell, where there is such a cell; whether it may stand there is the caller's to know. It takes no
+    /// memory.
+    pub fn set(&mut self, cell: &CellRef, given: Data)
         ensures { self.new ≡ put self.old cell.now (tree given) }
     {
         let _held = self.replace(cell, given);
     }
 
-    /// Puts a value into a cell, and hands out the one that was there; null-data where there is no such cell.
-    fn replace(&mut self, cell: &CellRef, given: Data) -> Data
+    /// Puts a value into a cell, and hands out the one that was there; null-data where there is no such cell. Whether the
+    /// value may stand there is the caller's to know. It takes no memory.
+    pub fn replace(&mut self, cell: &CellRef, given: Data) -> Data
         ensures put { self.new ≡ put self.old cell.now (tree given) }
         ensures old { tree result ≡ value self.old cell.now }
     {

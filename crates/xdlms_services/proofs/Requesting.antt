@@ -15,12 +15,12 @@ use Rattle.cosem_axdr.proofs.Values.{data_takes, data_again}
 use Rattle.object_model.specs.declared.argument.Argument.{Argument}
 use Rattle.object_model.specs.declared.argument.Argument.TheVariants.{Absent, Value, Unreadable}
 use Rattle.xdlms_services.specs.declared.request.Request.{Request}
-use Rattle.xdlms_services.specs.declared.request.Request.TheVariants.{Get, Set}
+use Rattle.xdlms_services.specs.declared.request.Request.TheVariants.{Get, Set, Act}
 use Rattle.xdlms_services.specs.declared.reading.Front.{Front}
 use Rattle.xdlms_services.specs.declared.reading.ApduFault.{ApduFault}
 use Rattle.xdlms_services.specs.declared.reading.ApduFault.TheVariants as faults
-use Rattle.xdlms_services.specs.Grammar.{IsArgument, IsHeaded, IsRequest, IsNoRequest, OneRequest}
-use Rattle.xdlms_services.specs.Reading.{ReadingIsGrammar, Reads, argument_from, argument_at, selected_at, get_with, get_of, set_of, service_of, front_at, request_at}
+use Rattle.xdlms_services.specs.Grammar.{IsArgument, IsHeaded, IsInvocation, IsRequest, IsNoRequest, OneRequest}
+use Rattle.xdlms_services.specs.Reading.{ReadingIsGrammar, Reads, argument_from, argument_at, selected_at, get_with, get_of, set_of, act_with, act_of, service_of, front_at, request_at}
 
 -- ---- arguments
 
@@ -163,6 +163,14 @@ rest-bytes service invoke class_id name index bytes rest b h =
     let all = subst IsBytes h.whole b in
     IsBytes-behind h.index_bytes rest (IsBytes-behind name.0 (h.index_bytes ++ rest) (IsBytes-behind h.class_bytes (name.0 ++ (h.index_bytes ++ rest)) (λ k. all (suc (suc (suc k))))))
 
+-- an ACTION with a parameter is read as that ACTION
+parameter-again : (invoke class_id : ℕ) (name : LogicalName) (index : ℤ) (a : Argument) (bytes rest text : List ℕ) → IsBytes bytes → IsHeaded 195 invoke class_id name index bytes rest → IsArgument a text → rest ≡ 1 ∷ text
+    → request_at bytes ≡ Some (Act invoke class_id name index a)
+parameter-again invoke class_id name index a bytes rest text b h is e =
+    let headed = subst (IsHeaded 195 invoke class_id name index bytes) e h in
+    let text_bytes : IsBytes text = λ k. rest-bytes 195 invoke class_id name index bytes (1 ∷ text) b headed (suc k) in
+    headed-again 195 invoke class_id name index bytes 1 text headed ∙ ap (λ (x : Argument). Some (Act invoke class_id name index x)) (argument-again a text text_bytes is)
+
 -- a form of a request is read as that request
 pub request-again : (r : Request) (bytes : List ℕ) → IsBytes bytes → IsRequest r bytes → request_at bytes ≡ Some r
 request-again (Get invoke class_id name index None) bytes b h =
@@ -182,6 +190,14 @@ request-again (Set invoke class_id name index true value) bytes b h =
     let p = h.2 in
     headed-again 193 invoke class_id name index bytes 1 p.0 (subst (IsHeaded 193 invoke class_id name index bytes) p.2 h.1)
     ∙ ap (λ (a : Argument). Some (Set invoke class_id name index true a)) (sym p.1)
+request-again (Act invoke class_id name index Absent) bytes b h =
+    headed-again 195 invoke class_id name index bytes 0 [] (subst (IsHeaded 195 invoke class_id name index bytes) h.2 h.1)
+request-again (Act invoke class_id name index (Value d)) bytes b h =
+    let p = h.2 in
+    parameter-again invoke class_id name index (Value d) bytes h.0 p.0 b h.1 p.1 p.2
+request-again (Act invoke class_id name index Unreadable) bytes b h =
+    let p = h.2 in
+    parameter-again invoke class_id name index Unreadable bytes h.0 p.0 b h.1 p.1 p.2
 
 -- ---- and back
 
@@ -235,6 +251,27 @@ set-takes f bytes rest r b h e =
       ]
     ]
 
+-- an argument stands behind an ACTION's flag 01
+invocation-takes : (a : Argument) (text : List ℕ) → IsArgument a text → IsInvocation a (1 ∷ text)
+invocation-takes Absent text h = absurd h
+invocation-takes (Value d) text h = (text, h, refl)
+invocation-takes Unreadable text h = (text, h, refl)
+
+-- what is read of an ACTION has this form
+act-takes : (f : Front) (bytes rest : List ℕ) (r : Request) → IsBytes rest → Headed 195 f bytes (f.flag ∷ rest) → act_of f rest ≡ Some r → IsRequest r bytes
+act-takes f bytes rest r b h e =
+    elim (chosen (f.flag == 0) _ _ (Some r) e) [
+      | inl p ↦ elim (chosen (length rest == 0) _ _ (Some r) p.1) [
+        | inl q ↦ subst (λ (x : Request). IsRequest x bytes) (some_is (act_with f Absent) r q.1) (0 ∷ [], with_none 195 f bytes rest (with_flag 195 f bytes rest 0 h p.0) q.0, refl)
+        | inr q ↦ absurd cc
+      ]
+      | inr p ↦ elim (chosen (f.flag == 1) _ _ (Some r) p.1) [
+        | inl q ↦ subst (λ (x : Request). IsRequest x bytes) (some_is (act_with f (argument_at rest)) r q.1)
+            (1 ∷ rest, with_flag 195 f bytes rest 1 h q.0, invocation-takes (argument_at rest) rest (argument-takes rest b))
+        | inr q ↦ absurd cc
+      ]
+    ]
+
 -- what a service reads has this form
 service-takes : (f : Front) (bytes rest : List ℕ) (r : Request) → IsBytes rest → Headed f.service f bytes (f.flag ∷ rest) → service_of f rest ≡ Some r → IsRequest r bytes
 service-takes f bytes rest r b h e =
@@ -242,7 +279,10 @@ service-takes f bytes rest r b h e =
       | inl p ↦ get-takes f bytes rest r b (subst (λ (s : ℕ). Headed s f bytes (f.flag ∷ rest)) (eqb-true f.service 192 p.0) h) p.1
       | inr p ↦ elim (chosen (f.service == 193) _ _ (Some r) p.1) [
         | inl q ↦ set-takes f bytes rest r b (subst (λ (s : ℕ). Headed s f bytes (f.flag ∷ rest)) (eqb-true f.service 193 q.0) h) q.1
-        | inr q ↦ absurd cc
+        | inr q ↦ elim (chosen (f.service == 195) _ _ (Some r) q.1) [
+          | inl t ↦ act-takes f bytes rest r b (subst (λ (s : ℕ). Headed s f bytes (f.flag ∷ rest)) (eqb-true f.service 195 t.0) h) t.1
+          | inr t ↦ absurd cc
+        ]
       ]
     ]
 

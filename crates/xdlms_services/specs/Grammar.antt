@@ -8,7 +8,7 @@ use Rattle.cosem_axdr.specs.Grammar.{IsEncoding, IsUnsigned, IsSigned}
 use Rattle.object_model.specs.declared.argument.Argument.{Argument}
 use Rattle.object_model.specs.declared.argument.Argument.TheVariants.{Absent, Value, Unreadable}
 use Rattle.xdlms_services.specs.declared.request.Request.{Request}
-use Rattle.xdlms_services.specs.declared.request.Request.TheVariants.{Get, Set}
+use Rattle.xdlms_services.specs.declared.request.Request.TheVariants.{Get, Set, Act}
 
 -- the bytes are an encoding of the value (IEC 62056-5-3, Data), or of none; that values nest at most 16 deep is own profile
 abbrev pub IsArgument : Argument → List ℕ → Type 0
@@ -16,7 +16,7 @@ IsArgument Absent bytes = ⊥
 IsArgument (Value value) bytes = IsEncoding (tree value) bytes × (depth (tree value) ≤ 16)
 IsArgument Unreadable bytes = (t : Tree) → IsEncoding t bytes → depth t ≤ 16 → ⊥
 
--- the tag, 01 for the normal form, the invoke byte, and the Cosem-Attribute-Descriptor: class in two bytes, name in six, index in one; then the rest (IEC 62056-5-3, Get-Request-Normal and Set-Request-Normal)
+-- the tag, 01 for the normal form, the invoke byte, and the Cosem-Attribute-Descriptor or the Cosem-Method-Descriptor: class in two bytes, name in six, index in one; then the rest (IEC 62056-5-3, Get-Request-Normal, Set-Request-Normal and Action-Request-Normal)
 pub record IsHeaded (service invoke class_id : ℕ) (name : LogicalName) (index : ℤ) (bytes rest : List ℕ) : Type 0 where
   pub class_bytes : List ℕ
   pub class_is : IsUnsigned w16 class_id class_bytes
@@ -35,10 +35,16 @@ abbrev pub IsSetting : Bool → Argument → List ℕ → Type 0
 IsSetting false value rest = (text : List ℕ) × IsArgument value text × (rest ≡ 0 ∷ text)
 IsSetting true value rest = (text : List ℕ) × (value ≡ Absent) × (rest ≡ 1 ∷ text)
 
--- the bytes are a form of the request (IEC 62056-5-3, xDLMS-APDU: C0 is get-request, C1 is set-request)
+-- what stands behind the index of an ACTION: 00, or 01 and the parameter (IEC 62056-5-3, Action-Request-Normal)
+abbrev pub IsInvocation : Argument → List ℕ → Type 0
+IsInvocation Absent rest = rest ≡ 0 ∷ []
+IsInvocation argument rest = (text : List ℕ) × IsArgument argument text × (rest ≡ 1 ∷ text)
+
+-- the bytes are a form of the request (IEC 62056-5-3, xDLMS-APDU: C0 is get-request, C1 is set-request, C3 is action-request)
 abbrev pub IsRequest : Request → List ℕ → Type 0
 IsRequest (Get invoke class_id name index selection) bytes = (rest : List ℕ) × IsHeaded 0xC0 invoke class_id name index bytes rest × IsSelection selection rest
 IsRequest (Set invoke class_id name index selected value) bytes = (rest : List ℕ) × IsHeaded 0xC1 invoke class_id name index bytes rest × IsSetting selected value rest
+IsRequest (Act invoke class_id name index argument) bytes = (rest : List ℕ) × IsHeaded 0xC3 invoke class_id name index bytes rest × IsInvocation argument rest
 
 -- the bytes are a form of no request
 abbrev pub IsNoRequest : List ℕ → Type 0

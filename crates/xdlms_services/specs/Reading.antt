@@ -9,7 +9,7 @@ use Rattle.cosem_axdr.specs.Reading.{data_at}
 use Rattle.object_model.specs.declared.argument.Argument.{Argument}
 use Rattle.object_model.specs.declared.argument.Argument.TheVariants.{Absent, Value, Unreadable}
 use Rattle.xdlms_services.specs.declared.request.Request.{Request}
-use Rattle.xdlms_services.specs.declared.request.Request.TheVariants.{Get, Set}
+use Rattle.xdlms_services.specs.declared.request.Request.TheVariants.{Get, Set, Act}
 use Rattle.xdlms_services.specs.Grammar.{IsRequest}
 use Rattle.xdlms_services.specs.declared.reading.Front.{Front}
 use Rattle.xdlms_services.specs.declared.reading.ApduFault.{ApduFault}
@@ -54,14 +54,26 @@ set_of f rest =
     else if f.flag == 1 then Some (Set f.invoke f.class_id f.name f.index true Absent)
     else None
 
+-- the ACTION with this front and argument
+abbrev pub act_with : Front → Argument → Request
+act_with f argument = Act f.invoke f.class_id f.name f.index argument
+
+-- the rest of an ACTION (IEC 62056-5-3, Action-Request-Normal)
+abbrev pub act_of : Front → List ℕ → Option Request
+act_of f rest =
+    if f.flag == 0 then (if length rest == 0 then Some (act_with f Absent) else None)
+    else if f.flag == 1 then Some (act_with f (argument_at rest))
+    else None
+
 -- the rest of the request whose service the front names (IEC 62056-5-3, xDLMS-APDU)
 abbrev pub service_of : Front → List ℕ → Option Request
 service_of f rest =
     if f.service == 0xC0 then get_of f rest
     else if f.service == 0xC1 then set_of f rest
+    else if f.service == 0xC3 then act_of f rest
     else None
 
--- the thirteen bytes in front: service, form, Invoke-Id-And-Priority, Cosem-Attribute-Descriptor and the flag of a selection (IEC 62056-5-3)
+-- the thirteen bytes in front: service, form, Invoke-Id-And-Priority, Cosem-Attribute-Descriptor or Cosem-Method-Descriptor, and the flag of a selection or a parameter (IEC 62056-5-3)
 abbrev pub front_at : List ℕ → Front
 front_at bytes = record {
   service = slice_index bytes 0;

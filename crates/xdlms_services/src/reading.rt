@@ -1,6 +1,6 @@
 ghost use Rattle.std.specs.Prelude.{◌≡◌, ◌≤◌, length, IfOk, IsErr, IsErrOf, Err, MatchResult};
 ghost use Rattle.xdlms_services.specs.declared.request.Request.{Request as RequestValue};
-ghost use Rattle.xdlms_services.specs.Reading.{Reads, front_at, argument_at, request_at, service_of, get_of, set_of};
+ghost use Rattle.xdlms_services.specs.Reading.{Reads, front_at, argument_at, request_at, service_of, get_of, set_of, act_of};
 ghost use Rattle.xdlms_services.specs.Grammar.{IsRequest, IsNoRequest};
 
 use crate::request::Request;
@@ -36,11 +36,13 @@ const GET_REQUEST: u8 = 0xC0;
 
 const SET_REQUEST: u8 = 0xC1;
 
-/// The form for one attribute, in one APDU.
+const ACTION_REQUEST: u8 = 0xC3;
+
+/// The form for one attribute or method, in one APDU.
 const NORMAL: u8 = 1;
 
-/// The request that an APDU is to its end: Get-Request-Normal or Set-Request-Normal of
-/// IEC 62056-5-3.
+/// The request that an APDU is to its end: Get-Request-Normal, Set-Request-Normal or
+/// Action-Request-Normal of IEC 62056-5-3.
 ///
 /// A value or a parameter that can't be read is no fault of the APDU. It is `Argument::Unreadable`,
 /// and whoever answers the request says which result that has.
@@ -101,6 +103,7 @@ fn service_request(alloc: Global, front: Front, rest: &[u8]) -> Result<Request, 
     match front.service {
         GET_REQUEST => get_request(alloc, front, rest),
         SET_REQUEST => set_request(alloc, front, rest),
+        ACTION_REQUEST => act_request(alloc, front, rest),
         _ => Err(ApduFault::Unreadable),
     }
 }
@@ -139,6 +142,24 @@ fn set_request(alloc: Global, front: Front, rest: &[u8]) -> Result<Request, Apdu
         index: front.index,
         selected: front.flag == 1,
         value,
+    })
+}
+
+/// Action-Request-Normal behind its front.
+fn act_request(alloc: Global, front: Front, rest: &[u8]) -> Result<Request, ApduFault>
+    ensures { Reads result (act_of front rest.now) }
+{
+    let argument = match (front.flag, rest) {
+        (0, []) => Argument::Absent,
+        (1, parameter) => argument_of(alloc, parameter)?,
+        _ => return Err(ApduFault::Unreadable),
+    };
+    Ok(Request::Act {
+        invoke: front.invoke,
+        class_id: front.class_id,
+        name: front.name,
+        index: front.index,
+        argument,
     })
 }
 

@@ -18,6 +18,11 @@ const SET_ALARM: [u8; 15] = [
     0xC1, 1, 0xC1, 0, 1, 0, 0, 0x60, 0x0B, 0, 0xFF, 2, 0, 0x11, 1,
 ];
 
+/// ACTION of method 1 (execute) of the script table 0.0.10.0.100.255 with the long-unsigned 1.
+const EXECUTE_SCRIPT: [u8; 16] = [
+    0xC3, 1, 0xC1, 0, 9, 0, 0, 0x0A, 0, 0x64, 0xFF, 1, 1, 0x12, 0, 1,
+];
+
 /// What each request says before its flag.
 #[derive(Clone, Copy, Debug, PartialEq, Eq)]
 struct Head {
@@ -45,7 +50,7 @@ fn read_get(alloc: Global, bytes: &[u8]) -> Result<(Head, Option<(u8, Argument)>
             };
             Ok((head, selection))
         }
-        Request::Set { .. } => Err("a SET".into()),
+        _ => Err("no GET".into()),
     }
 }
 
@@ -68,7 +73,29 @@ fn read_set(alloc: Global, bytes: &[u8]) -> Result<(Head, bool, Argument), Fail>
             };
             Ok((head, selected, value))
         }
-        Request::Get { .. } => Err("a GET".into()),
+        _ => Err("no SET".into()),
+    }
+}
+
+/// An ACTION's head and argument.
+fn read_act(alloc: Global, bytes: &[u8]) -> Result<(Head, Argument), Fail> {
+    match read_apdu(alloc, bytes)? {
+        Request::Act {
+            invoke,
+            class_id,
+            name,
+            index,
+            argument,
+        } => {
+            let head = Head {
+                invoke,
+                class_id,
+                name,
+                index,
+            };
+            Ok((head, argument))
+        }
+        _ => Err("no ACTION".into()),
     }
 }
 
@@ -93,6 +120,18 @@ fn is_unreadable(argument: &Argument) -> bool {
 
 fn is_absent(argument: &Argument) -> bool {
     matches!(argument, Argument::Absent)
+}
+
+/// Whether these bytes are the reply that tells the result.
+fn is_told_by(
+    alloc: Global,
+    invoke: u8,
+    code: AccessCode,
+    service: Service,
+    bytes: &[u8],
+) -> Result<bool, Fail> {
+    let reply = write_reply(alloc, invoke, &Reply::Code(code), service)?;
+    Ok(reply.as_slice() == bytes)
 }
 
 /// Whether the bytes are a request.
@@ -189,6 +228,52 @@ fn reads_a_set_of_no_value(rt: HostRuntime) -> Result<(), Fail> {
 }
 
 #[test]
+fn reads_an_action(rt: HostRuntime) -> Result<(), Fail> {
+    let reset = [0xC3, 1, 0xC1, 0, 3, 1, 0, 1, 8, 0, 0xFF, 1, 0];
+    let (head, argument) = read_act(rt.alloc(), &reset)?;
+    let register = Head {
+        invoke: 0xC1,
+        class_id: 3,
+        name: LogicalName([1, 0, 1, 8, 0, 0xFF]),
+        index: 1,
+    };
+    assert_eq!(rt; head, register);
+    assert!(rt; is_absent(&argument));
+    Ok(())
+}
+
+#[test]
+fn reads_an_action_with_a_parameter(rt: HostRuntime) -> Result<(), Fail> {
+    let (head, argument) = read_act(rt.alloc(), &EXECUTE_SCRIPT)?;
+    let script_table = Head {
+        invoke: 0xC1,
+        class_id: 9,
+        name: LogicalName([0, 0, 0x0A, 0, 0x64, 0xFF]),
+        index: 1,
+    };
+    assert_eq!(rt; head, script_table);
+    assert!(rt; is_value(&argument, &Data::LongUnsigned(1)));
+    Ok(())
+}
+
+#[test]
+fn reads_an_action_of_no_value(rt: HostRuntime) -> Result<(), Fail> {
+    let byte_behind = [
+        0xC3, 1, 0xC1, 0, 9, 0, 0, 0x0A, 0, 0x64, 0xFF, 1, 1, 0x12, 0, 1, 0,
+    ];
+    for bytes in [
+        &EXECUTE_SCRIPT[..13],
+        &EXECUTE_SCRIPT[..15],
+        byte_behind.as_slice(),
+    ] {
+        let (head, argument) = read_act(rt.alloc(), bytes)?;
+        assert_eq!(rt; head.class_id, 9);
+        assert!(rt; is_unreadable(&argument), "{bytes:?}");
+    }
+    Ok(())
+}
+
+#[test]
 fn refuses_other_forms(rt: HostRuntime) -> Result<(), Fail> {
     for end in 0..13 {
         assert!(rt;
@@ -208,9 +293,6 @@ fn refuses_other_forms(rt: HostRuntime) -> Result<(), Fail> {
     ];
     let next_block = [0xC0, 2, 0xC1, 0, 0, 0, 1];
     let get_list = [0xC0, 3, 0xC1, 1, 0, 3, 1, 0, 1, 8, 0, 0xFF, 2, 0];
-    let action = [
-        0xC3, 1, 0xC1, 0, 9, 0, 0, 0x0A, 0, 0x64, 0xFF, 1, 1, 0x12, 0, 3,
-    ];
     let reply = [0xC4, 1, 0xC1, 0, 9, 6, 1, 0, 1, 8, 0, 0xFF, 0, 0];
     assert!(rt; !is_read(rt.alloc(), &does_not_end)?);
     assert!(rt; !is_read(rt.alloc(), &no_selector)?);
@@ -218,9 +300,36 @@ fn refuses_other_forms(rt: HostRuntime) -> Result<(), Fail> {
     assert!(rt; !is_read(rt.alloc(), &set_flag)?);
     assert!(rt; !is_read(rt.alloc(), &next_block)?);
     assert!(rt; !is_read(rt.alloc(), &get_list)?);
-    assert!(rt; !is_read(rt.alloc(), &action)?);
     assert!(rt; !is_read(rt.alloc(), &reply)?);
     assert!(rt; is_read(rt.alloc(), &GET_REGISTER)?);
+    Ok(())
+}
+
+#[test]
+fn refuses_an_action_cut_short(rt: HostRuntime) -> Result<(), Fail> {
+    for end in 0..13 {
+        assert!(rt;
+            !is_read(rt.alloc(), &EXECUTE_SCRIPT[..end])?,
+            "the first {end} bytes of an ACTION"
+        );
+    }
+    Ok(())
+}
+
+#[test]
+fn refuses_other_actions(rt: HostRuntime) -> Result<(), Fail> {
+    let does_not_end = [
+        0xC3, 1, 0xC1, 0, 9, 0, 0, 0x0A, 0, 0x64, 0xFF, 1, 0, 0x12, 0, 1,
+    ];
+    let flag = [
+        0xC3, 1, 0xC1, 0, 9, 0, 0, 0x0A, 0, 0x64, 0xFF, 1, 2, 0x12, 0, 1,
+    ];
+    let list = [
+        0xC3, 3, 0xC1, 1, 0, 9, 0, 0, 0x0A, 0, 0x64, 0xFF, 1, 1, 0x12, 0, 1,
+    ];
+    for bytes in [does_not_end.as_slice(), flag.as_slice(), list.as_slice()] {
+        assert!(rt; !is_read(rt.alloc(), bytes)?, "{bytes:?}");
+    }
     Ok(())
 }
 
@@ -244,14 +353,28 @@ fn writes_a_value(rt: HostRuntime) -> Result<(), Fail> {
 
 #[test]
 fn writes_a_code(rt: HostRuntime) -> Result<(), Fail> {
-    let denied = Reply::Code(AccessCode::ReadWriteDenied);
-    let reply = write_reply(rt.alloc(), 0xC1, &denied, Service::Get)?;
-    assert_eq!(rt; reply.as_slice(), [0xC4, 1, 0xC1, 1, 3].as_slice());
-    let success = Reply::Code(AccessCode::Success);
-    let reply = write_reply(rt.alloc(), 0xC1, &success, Service::Set)?;
-    assert_eq!(rt; reply.as_slice(), [0xC5, 1, 0xC1, 0].as_slice());
-    let other = Reply::Code(AccessCode::OtherReason);
-    let reply = write_reply(rt.alloc(), 0x42, &other, Service::Act)?;
-    assert_eq!(rt; reply.as_slice(), [0xC7, 1, 0x42, 0xFA, 0].as_slice());
+    let denied = [0xC4, 1, 0xC1, 1, 3];
+    let set = [0xC5, 1, 0xC1, 0];
+    let done = [0xC7, 1, 0xC1, 0, 0];
+    let other = [0xC7, 1, 0x42, 0xFA, 0];
+    for (invoke, code, service, bytes) in [
+        (
+            0xC1,
+            AccessCode::ReadWriteDenied,
+            Service::Get,
+            denied.as_slice(),
+        ),
+        (0xC1, AccessCode::Success, Service::Set, set.as_slice()),
+        (0xC1, AccessCode::Success, Service::Act, done.as_slice()),
+        (
+            0x42,
+            AccessCode::OtherReason,
+            Service::Act,
+            other.as_slice(),
+        ),
+    ] {
+        let told = is_told_by(rt.alloc(), invoke, code, service, bytes)?;
+        assert!(rt; told, "{bytes:?}");
+    }
     Ok(())
 }

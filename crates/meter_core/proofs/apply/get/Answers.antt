@@ -27,14 +27,14 @@ returns-clause-reply c = granted_get c.args.plan.now c.args.meter.now c.args.cli
     named i = record { class_id = c.args.class_id; name = c.args.name.now; index = i }
 
 pub returns-in_err-value-clause-denied : goal.returns-in_err-value-clause-denied
-returns-in_err-value-clause-denied c = granted_get_takes_memory c.args.plan.now c.args.client (named c.args.index) (selection_of c.args.selection.now) c.in_default.field-0
+returns-in_err-value-clause-denied c = granted_get_takes_memory c.args.plan.now c.args.meter.now c.args.client (named c.args.index) (selection_of c.args.selection.now) c.in_default.field-0
     (subst (λ i. Ok c.in_default.field-0 ≡ permitted (get_answer c.args.plan.now c.args.client (named i) (selection_of c.args.selection.now))) (to_z-of_z w8 c.args.index c.ranges.index) c.in_default.ensures)
   where
     named : ℤ → Descriptor
     named i = record { class_id = c.args.class_id; name = c.args.name.now; index = i }
 
 pub returns-in_err-select-clause-denied : goal.returns-in_err-select-clause-denied
-returns-in_err-select-clause-denied c = granted_get_takes_memory c.args.plan.now c.args.client (named c.args.index) (selection_of c.args.selection.now) c.in_default.field-0
+returns-in_err-select-clause-denied c = granted_get_takes_memory c.args.plan.now c.args.meter.now c.args.client (named c.args.index) (selection_of c.args.selection.now) c.in_default.field-0
     (subst (λ i. Ok c.in_default.field-0 ≡ permitted (get_answer c.args.plan.now c.args.client (named i) (selection_of c.args.selection.now))) (to_z-of_z w8 c.args.index c.ranges.index) c.in_default.ensures)
   where
     named : ℤ → Descriptor

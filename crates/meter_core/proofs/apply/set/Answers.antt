@@ -12,7 +12,7 @@ use Rattle.association_views.specs.Permits.{permitted}
 use Rattle.object_model.specs.ArgumentView.{argument_of}
 use Rattle.meter_core.proofs.Answered.{refused_set, refused_set_stays, granted_set, granted_set_puts, granted_fits, granted_set_takes_memory, nothing_given}
 use Rattle.meter_core.proofs.apply.set.Goals as goal
-use Rattle.meter_core.proofs.apply.set.Goals.{in-Value+in_ok-given+in_ok-take, in_default-value}
+use Rattle.meter_core.proofs.apply.set.Goals.{in-Value+in_ok-given, in_default-value}
 
 pub returns-in-Err-clause-ok : goal.returns-in-Err-clause-ok
 returns-in-Err-clause-ok c = refused_set_stays c.args.plan.now c.args.meter.now c.args.client (named c.args.index) c.args.selected (argument_of c.args.value.now) c.in-Err.code
@@ -28,8 +28,8 @@ returns-in-Err-clause-reply c = refused_set c.args.plan.now c.args.meter.now c.a
     named : ℤ → Descriptor
     named i = record { class_id = c.args.class_id; name = c.args.name.now; index = i }
 
-pub take-requires-clause-fits : goal.take-requires-clause-fits
-take-requires-clause-fits c =
+pub put-requires-clause-fits : goal.put-requires-clause-fits
+put-requires-clause-fits c =
     subst (λ x. MayStand c.args.plan.now x (tree c.in_ok-given.given)) (sym (c.attribute_cell-cell.ensures ∙ ap (λ i. cell_of (named i)) (to_z-of_z w8 c.args.index c.ranges.index)))
     (subst (λ v. MayStand c.args.plan.now (cell_of (named c.args.index)) (tree v)) (sym c.in_ok-given.ensures)
     (granted_fits c.args.plan.now c.args.client (named c.args.index) c.args.selected (tree c.in-Value.value) c.in_default.field-0
@@ -49,7 +49,7 @@ returns-clause-reply c = granted_set c.args.plan.now c.args.meter.now c.args.cli
 pub returns-clause-ok : goal.returns-clause-ok
 returns-clause-ok c =
     (elim c.match-value.branch [
-      | in-Value+in_ok-given+in_ok-take w ↦ w.meter-is ∙ (w.in_ok-take.ensures.ok
+      | in-Value+in_ok-given w ↦ w.meter-is ∙ (w.put.ensures
           ∙ (ap (λ x. put c.args.meter.now x (tree w.in_ok-given.given)) (w.attribute_cell-cell.ensures ∙ ap (λ i. cell_of (named i)) (to_z-of_z w8 c.args.index c.ranges.index))
           ∙ (ap (λ v. put c.args.meter.now (cell_of (named c.args.index)) (tree v)) w.in_ok-given.ensures
           ∙ ap (λ v. effects c.args.plan.now c.args.meter.now (given_value (cell_of (named c.args.index)) (argument_of v))) (sym w.in-Value.is))))
@@ -67,14 +67,7 @@ returns-clause-state c = subst (IsState c.args.plan.now) (sym (returns-clause-ok
     (Set c.args.client (record { class_id = c.args.class_id; name = c.args.name.now; index = c.args.index }) c.args.selected (argument_of c.args.value.now)) c.requires)
 
 pub returns-in_err-given-clause-denied : goal.returns-in_err-given-clause-denied
-returns-in_err-given-clause-denied c = granted_set_takes_memory c.args.plan.now c.args.client (named c.args.index) c.args.selected (argument_of c.args.value.now) c.in_default.field-0
-    (subst (λ i. Ok c.in_default.field-0 ≡ permitted (set_answer c.args.plan.now c.args.client (named i) c.args.selected (argument_of c.args.value.now))) (to_z-of_z w8 c.args.index c.ranges.index) c.in_default.ensures)
-  where
-    named : ℤ → Descriptor
-    named i = record { class_id = c.args.class_id; name = c.args.name.now; index = i }
-
-pub returns-in_err-take-clause-denied : goal.returns-in_err-take-clause-denied
-returns-in_err-take-clause-denied c = granted_set_takes_memory c.args.plan.now c.args.client (named c.args.index) c.args.selected (argument_of c.args.value.now) c.in_default.field-0
+returns-in_err-given-clause-denied c = granted_set_takes_memory c.args.plan.now c.args.meter.now c.args.client (named c.args.index) c.args.selected (argument_of c.args.value.now) c.in_default.field-0
     (subst (λ i. Ok c.in_default.field-0 ≡ permitted (set_answer c.args.plan.now c.args.client (named i) c.args.selected (argument_of c.args.value.now))) (to_z-of_z w8 c.args.index c.ranges.index) c.in_default.ensures)
   where
     named : ℤ → Descriptor

@@ -9,8 +9,8 @@ use Rattle.class_profile.specs.ProfileClass.{is_buffer}
 use Rattle.class_profile.specs.ProfileLaws.{room_in_buffer}
 use Rattle.class_profile.proofs.profile.ProfilePart.push_row.Goals as goal
 
-pub push_last-requires : goal.push_last-requires
-push_last-requires c =
+pub push_last-requires-clause-fits : goal.push_last-requires-clause-fits
+push_last-requires-clause-fits c =
     let columns = length c.args.self.now.captured.items in
     let entries = c.args.self.now.profile_entries in
     room_in_buffer columns entries c.in-Array.rows (ap (λ buffer. is_buffer columns entries (tree buffer)) (sym c.in-Array.is) ∙ c.requires)

@@ -1,0 +1,35 @@
+use Rattle.std.proofs.Common.{◌≡◌, ap, sym, subst, ◌∙◌, map}
+use Rattle.meter_theory.specs.States.{IsState}
+use Rattle.meter_theory.specs.Steps.{effects}
+use Rattle.meter_theory.proofs.KeepSteps.{step-keeps}
+use Rattle.object_model.specs.EffectView.{effect_of, MayTakeAll}
+use Rattle.meter_core.specs.StepView.{step_of}
+use Rattle.meter_core.proofs.Added.{none_stands}
+use Rattle.meter_core.proofs.Answered.{own_reply, own_memory}
+use Rattle.meter_core.proofs.apply.own.Goals as goal
+
+pub play-requires-clause-fits : goal.play-requires-clause-fits
+play-requires-clause-fits c = subst (MayTakeAll c.args.plan.now) (sym c.deref.ensures.value) c.in_ok-effects.ensures.ok.fits
+
+pub returns-clause-ok : goal.returns-clause-ok
+returns-clause-ok c =
+    c.in_ok-play.ensures.ok
+    ∙ ap (effects c.args.plan.now c.args.meter.now) (ap (map effect_of) c.deref.ensures.value ∙ c.in_ok-effects.ensures.ok.effects)
+
+pub returns-clause-state : goal.returns-clause-state
+returns-clause-state c =
+    subst (IsState c.args.plan.now) (sym (returns-clause-ok c)) (step-keeps c.args.plan.now c.known.ensures.sound c.args.meter.now (step_of c.args.step.now) c.requires.of_plan)
+
+pub returns-clause-reply : goal.returns-clause-reply
+returns-clause-reply c = own_reply c.args.plan.now c.args.meter.now (step_of c.args.step.now) c.requires.own
+
+pub returns-in_err-effects-clause-denied : goal.returns-in_err-effects-clause-denied
+returns-in_err-effects-clause-denied c = λ needs.
+    let is_ok = c.in_err-effects.ensures.none (own_memory c.args.plan.now c.args.meter.now (step_of c.args.step.now) c.requires.own needs) in cc
+
+pub returns-in_err-play-clause-denied : goal.returns-in_err-play-clause-denied
+returns-in_err-play-clause-denied c = λ needs.
+    let is_ok = c.in_err-play.ensures.none
+        (c.deref.ensures.value
+        ∙ none_stands c.in_ok-effects.effects.items
+        (c.in_ok-effects.ensures.ok.effects ∙ own_memory c.args.plan.now c.args.meter.now (step_of c.args.step.now) c.requires.own needs)) in cc
