@@ -5,7 +5,7 @@ ghost use Rattle.config_parts.specs.BodyView.{body_text};
 ghost use Rattle.config_parts.specs.Fault.{Gives};
 ghost use Rattle.config_plan.specs.Walks as spec;
 
-use crate::walk::{Judge, each};
+use crate::walk::{Judge, each_below};
 use config_parts::fault::ConfigFault;
 use config_parts::parts::{
     ActionParts, BodyParts, CaptureParts, ScriptParts, ScriptRefParts, TargetParts, UpDownParts,
@@ -26,8 +26,7 @@ impl<'a, J: Judge<Part = ActionParts>> Judge for ScriptActions<'a, J> {
     ghost judges = { λ all. script_actions (J.judges all.judge.now) };
 
     fn judge(&self, alloc: Global, at: &str, script: &ScriptParts) -> Result<(), ConfigFault> {
-        let name = format!(in alloc; "{at}.action")?;
-        each(alloc, self.judge, name.as_str(), script.actions.as_slice())
+        each_below(alloc, self.judge, at, ".action", script.actions.as_slice())
     }
 }
 
@@ -43,8 +42,7 @@ pub fn each_action<J: Judge<Part = ActionParts>>(
 ) -> Result<(), ConfigFault>
     ensures { Gives (λ u. u) result (spec.each_action (J.judges judge.now) at.now scripts.now) }
 {
-    let name = format!(in alloc; "{at}.script")?;
-    each(alloc, &ScriptActions { judge }, name.as_str(), scripts)
+    each_below(alloc, &ScriptActions { judge }, at, ".script", scripts)
 }
 
 /// What is judged of an object's references.
@@ -111,6 +109,20 @@ impl<'a, J: JudgeReferences> Judge for ActionTargets<'a, J> {
     }
 }
 
+/// Judges the reference to a script at a key below a place.
+fn script_below<J: JudgeReferences>(
+    alloc: Global,
+    judge: &J,
+    at: &str,
+    key: &str,
+    script: &ScriptRefParts,
+) -> Result<(), ConfigFault>
+    ensures { Gives (λ u. u) result (J.scripts judge.now (at.now ++ key.now) script.now) }
+{
+    let place = format!(in alloc; "{at}{key}")?;
+    judge.judge_script(alloc, place.as_str(), script)
+}
+
 /// The scripts of thresholds, each judged.
 #[derive(Drop)]
 struct ThresholdScripts<'a, J> {
@@ -125,24 +137,9 @@ impl<'a, J: JudgeReferences> Judge for ThresholdScripts<'a, J> {
     ghost judges = { λ all. both_scripts (J.scripts all.judge.now) };
 
     fn judge(&self, alloc: Global, at: &str, scripts: &UpDownParts) -> Result<(), ConfigFault> {
-        let up = format!(in alloc; "{at}.up")?;
-        self.judge.judge_script(alloc, up.as_str(), &scripts.up)?;
-        let down = format!(in alloc; "{at}.down")?;
-        self.judge.judge_script(alloc, down.as_str(), &scripts.down)
+        script_below(alloc, self.judge, at, ".up", &scripts.up)?;
+        script_below(alloc, self.judge, at, ".down", &scripts.down)
     }
-}
-
-/// Judges the scripts of each threshold.
-fn each_threshold<J: JudgeReferences>(
-    alloc: Global,
-    judge: &J,
-    at: &str,
-    actions: &[UpDownParts],
-) -> Result<(), ConfigFault>
-    ensures { Gives (λ u. u) result (spec.each (spec.both_scripts (J.scripts judge.now)) (at.now ++ codes ".action") actions.now) }
-{
-    let name = format!(in alloc; "{at}.action")?;
-    each(alloc, &ThresholdScripts { judge }, name.as_str(), actions)
 }
 
 /// Judges what is monitored.
@@ -173,11 +170,11 @@ pub fn references<J: JudgeReferences>(
 {
     match body {
         BodyParts::ProfileGeneric { capture, .. } => {
-            let name = format!(in alloc; "{at}.capture")?;
-            each(
+            each_below(
                 alloc,
                 &Captures { judge },
-                name.as_str(),
+                at,
+                ".capture",
                 capture.as_slice(),
             )
         }
@@ -190,11 +187,16 @@ pub fn references<J: JudgeReferences>(
             ..
         } => {
             monitored_target(alloc, judge, at, monitored)?;
-            each_threshold(alloc, judge, at, actions.as_slice())
+            each_below(
+                alloc,
+                &ThresholdScripts { judge },
+                at,
+                ".action",
+                actions.as_slice(),
+            )
         }
         BodyParts::SingleActionSchedule { script, .. } => {
-            let place = format!(in alloc; "{at}.script")?;
-            judge.judge_script(alloc, place.as_str(), script)
+            script_below(alloc, judge, at, ".script", script)
         }
         BodyParts::Data { .. } | BodyParts::Register { .. } | BodyParts::Unknown => Ok(()),
     }

@@ -1,6 +1,6 @@
 //! Walks over the elements of an array, each at its place, as `object[6]`.
 
-ghost use Rattle.std.specs.Prelude.{map, length, string_bytes};
+ghost use Rattle.std.specs.Prelude.{◌++◌, map, length, string_bytes};
 ghost use Rattle.config_parts.specs.Fault.{Gives};
 ghost use Rattle.config_plan.specs.Passes.{both_sets};
 ghost use Rattle.config_plan.specs.Walks as spec;
@@ -105,6 +105,20 @@ pub fn each<J: Judge>(
     Ok(())
 }
 
+/// Judges each part of the array at a key below a place.
+pub(crate) fn each_below<J: Judge>(
+    alloc: Global,
+    judge: &J,
+    at: &str,
+    key: &str,
+    parts: &[J::Part],
+) -> Result<(), ConfigFault>
+    ensures { Gives (λ u. u) result (spec.each (J.judges judge.now) (at.now ++ key.now) parts.now) }
+{
+    let name = format!(in alloc; "{at}{key}")?;
+    each(alloc, judge, name.as_str(), parts)
+}
+
 /// Judges an element of an array, which stands behind the earlier ones.
 fn judge_new_element<J: JudgeNew>(
     alloc: Global,
@@ -172,6 +186,20 @@ pub fn each_text<J: JudgeText>(
     Ok(())
 }
 
+/// Judges each text of the array at a key below a place.
+fn each_text_below<J: JudgeText>(
+    alloc: Global,
+    judge: &J,
+    at: &str,
+    key: &str,
+    texts: &[String],
+) -> Result<(), ConfigFault>
+    ensures { Gives (λ u. u) result (spec.each (J.judges judge.now) (at.now ++ key.now) (map string_bytes texts.now)) }
+{
+    let name = format!(in alloc; "{at}{key}")?;
+    each_text(alloc, judge, name.as_str(), texts)
+}
+
 /// Judges each client of the sets that stand at a place.
 ///
 /// # Errors
@@ -184,8 +212,6 @@ pub fn both_sets<J: JudgeText>(
 ) -> Result<(), ConfigFault>
     ensures { Gives (λ u. u) result (both_sets (J.judges judge.now) at.now sets.now) }
 {
-    let influence = format!(in alloc; "{at}.influence")?;
-    each_text(alloc, judge, influence.as_str(), sets.influence.as_slice())?;
-    let learn = format!(in alloc; "{at}.learn")?;
-    each_text(alloc, judge, learn.as_str(), sets.learn.as_slice())
+    each_text_below(alloc, judge, at, ".influence", sets.influence.as_slice())?;
+    each_text_below(alloc, judge, at, ".learn", sets.learn.as_slice())
 }

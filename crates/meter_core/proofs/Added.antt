@@ -1,5 +1,5 @@
 -- What is added to effects, and which effects methods, scripts and a meter's own steps have.
-use Rattle.std.specs.Prelude.{◌≡◌, ℕ, ◌+◌, ◌<◌, ◌==◌, Bool, true, false, ◌&&◌, cond, List, [], ◌∷◌, ◌++◌, map, flat_map, find, take, length, get_or, Option, Some, None, option_map, option_and_then, Result, Ok, Err, is_ok, is_some, if◌then◌else◌}
+use Rattle.std.specs.Prelude.{◌≡◌, ℕ, ◌+◌, ◌<◌, ◌==◌, Bool, true, false, ◌&&◌, cond, List, [], ◌∷◌, ◌++◌, map, flat_map, find, take, length, get_or, Option, Some, None, option_map, option_and_then, Ok, Err, is_ok, is_some, if◌then◌else◌}
 use Rattle.std.proofs.Common.{refl, sym, ap, ap₂, subst, ◌∙◌, zero, suc, arith, inl, inr, Bor}
 use Rattle.std.proofs.lemmas.Bool.{and_parts, or_right, cond-true, cond-false}
 use Rattle.std.proofs.lemmas.List.{map_more, map_push, append_assoc}
@@ -11,7 +11,6 @@ use Rattle.cosem_data.specs.declared.data.Data.{Data}
 use Rattle.cosem_data.specs.declared.cell.CellRef.{CellRef}
 use Rattle.cosem_data.specs.declared.cell.MethodRef.{MethodRef}
 use Rattle.cosem_data.specs.declared.name.LogicalName.{LogicalName}
-use Rattle.cosem_data.specs.declared.memory.Memory.{Memory}
 use Rattle.cosem_class.specs.Judged.{rule_answer}
 use Rattle.meter_theory.specs.Lists.{IsIn, for_some}
 use Rattle.meter_theory.specs.declared.refs.ScriptRef.{ScriptRef}
@@ -22,7 +21,7 @@ use Rattle.meter_theory.proofs.Rights.{ruled-cell}
 use Rattle.class_control.specs.MonitorClass.{may_be_seen}
 use Rattle.meter_theory.specs.declared.access.AccessCode.{AccessCode}
 use Rattle.meter_theory.specs.declared.access.AccessCode.TheVariants as codes
-use Rattle.meter_theory.specs.Plan.{Plan, Object, Script, Action, Part, Data1, Register, ProfileGeneric, ScriptTable, RegisterMonitor, SingleActionSchedule, class_of, object_at, rule_in, rule_of, register_value, capture_period, start, thresholds, seen}
+use Rattle.meter_theory.specs.Plan.{Plan, Object, Script, Part, Data1, Register, ProfileGeneric, ScriptTable, RegisterMonitor, SingleActionSchedule, class_of, object_at, rule_in, rule_of, register_value, capture_period, start, thresholds, seen}
 use Rattle.meter_theory.specs.Sound.{IsSound, IsSoundPart}
 use Rattle.meter_theory.specs.State.{State, keys, value}
 use Rattle.meter_theory.specs.States.{IsState, IsSeen, IsRemembered, Holds, Fits, MayStand}

@@ -1,5 +1,7 @@
 use cosem_data::data::Data;
+use cosem_data::memory::Memory;
 use meter_theory::access::AccessCode;
+use std::alloc::Global;
 
 /// What the meter answers to a step.
 #[derive(Drop)]
@@ -10,4 +12,19 @@ pub enum Reply {
     Code(AccessCode),
     /// To a step of the meter itself.
     Quiet,
+}
+
+impl Reply {
+    ghost use Rattle.std.specs.Prelude.{◌≡◌, IfOk};
+
+    /// A copy, which equals the original. The only error is that memory was refused.
+    pub fn try_clone(&self, alloc: Global) -> Result<Reply, Memory>
+        ensures { IfOk result (λ copy. copy ≡ self.now) }
+    {
+        Ok(match self {
+            Reply::Value(value) => Reply::Value(value.try_clone(alloc)?),
+            Reply::Code(code) => Reply::Code(*code),
+            Reply::Quiet => Reply::Quiet,
+        })
+    }
 }

@@ -1,8 +1,12 @@
+ghost use Rattle.std.specs.Prelude.{◌≡◌, IfOk};
+
 use civil_moment::moment::Moment;
 use cosem_data::cell::CellRef;
 use cosem_data::data::Data;
+use cosem_data::memory::Memory;
 use cosem_data::name::LogicalName;
 use object_model::argument::Argument;
+use std::alloc::Global;
 
 /// What happens to a meter.
 #[derive(Drop)]
@@ -55,4 +59,83 @@ pub enum Step {
         schedule: LogicalName,
         moment: Moment,
     },
+}
+
+impl Step {
+    ghost use Rattle.std.specs.Prelude.{◌≡◌, IfOk};
+
+    /// A copy, which equals the original. The only error is that memory was refused.
+    pub fn try_clone(&self, alloc: Global) -> Result<Step, Memory>
+        ensures { IfOk result (λ copy. copy ≡ self.now) }
+    {
+        Ok(match self {
+            Step::Get {
+                client,
+                class_id,
+                name,
+                index,
+                selection,
+            } => Step::Get {
+                client: *client,
+                class_id: *class_id,
+                name: *name,
+                index: *index,
+                selection: selection_copy(alloc, selection)?,
+            },
+            Step::Set {
+                client,
+                class_id,
+                name,
+                index,
+                selected,
+                value,
+            } => Step::Set {
+                client: *client,
+                class_id: *class_id,
+                name: *name,
+                index: *index,
+                selected: *selected,
+                value: value.try_clone(alloc)?,
+            },
+            Step::Act {
+                client,
+                class_id,
+                name,
+                index,
+                argument,
+            } => Step::Act {
+                client: *client,
+                class_id: *class_id,
+                name: *name,
+                index: *index,
+                argument: argument.try_clone(alloc)?,
+            },
+            Step::Input { cell, value } => Step::Input {
+                cell: *cell,
+                value: value.try_clone(alloc)?,
+            },
+            Step::CaptureAt { profile, moment } => Step::CaptureAt {
+                profile: *profile,
+                moment: *moment,
+            },
+            Step::Evaluate { monitor } => Step::Evaluate { monitor: *monitor },
+            Step::ScheduleAt { schedule, moment } => Step::ScheduleAt {
+                schedule: *schedule,
+                moment: *moment,
+            },
+        })
+    }
+}
+
+/// A copy of a selector and its parameter.
+fn selection_copy(
+    alloc: Global,
+    selection: &Option<(u8, Argument)>,
+) -> Result<Option<(u8, Argument)>, Memory>
+    ensures { IfOk result (λ copy. copy ≡ selection.now) }
+{
+    match selection {
+        Some((selector, parameter)) => Ok(Some((*selector, parameter.try_clone(alloc)?))),
+        None => Ok(None),
+    }
 }

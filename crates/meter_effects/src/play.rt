@@ -14,12 +14,7 @@ use std::alloc::Global;
 
 /// Takes the effects of a step in their order, all or none: where memory is refused, those that were taken are taken back,
 /// and the meter is as it was. Without effects it takes no memory.
-pub fn play(
-    alloc: Global,
-    plan: &Plan,
-    meter: &mut Meter,
-    effects: &[Effect],
-) -> Result<(), Memory>
+pub fn play(alloc: Global, plan: &Plan, meter: &mut Meter, effects: &[Effect]) -> Result<(), Memory>
     requires of_plan { IsState plan.now meter.old }
     requires fits { MayTakeAll plan.now effects.now }
     ensures ok { OnOk result (meter.new ≡ theory.effects plan.now meter.old (map effect_of effects.now)) }

@@ -1,4 +1,6 @@
 use cosem_data::data::Data;
+use cosem_data::memory::Memory;
+use std::alloc::Global;
 
 /// A value or a parameter that a request brings along (IEC 62056-5-3, SET, ACTION and selective access).
 #[derive(Drop)]
@@ -9,4 +11,19 @@ pub enum Argument {
     Value(Data),
     /// Bytes that are no encoding of one value to their end (own profile).
     Unreadable,
+}
+
+impl Argument {
+    ghost use Rattle.std.specs.Prelude.{◌≡◌, IfOk};
+
+    /// A copy, which equals the original. The only error is that memory was refused.
+    pub fn try_clone(&self, alloc: Global) -> Result<Argument, Memory>
+        ensures { IfOk result (λ copy. copy ≡ self.now) }
+    {
+        Ok(match self {
+            Argument::Absent => Argument::Absent,
+            Argument::Value(value) => Argument::Value(value.try_clone(alloc)?),
+            Argument::Unreadable => Argument::Unreadable,
+        })
+    }
 }

@@ -39,8 +39,8 @@ returns-clause-ok c =
     let argument = argument_of c.args.argument.now in
     let meant : method_effects P c.called_method-method.result argument ≡ effects_of P s (Act c.args.client (named c.args.index) argument)
     = ap (λ m. method_effects P m argument) (c.called_method-method.ensures ∙ ap (λ i. method_of (named i)) (to_z-of_z w8 c.args.index c.ranges.index))
-      ∙ granted_act_effects P s c.args.client (named c.args.index) argument c.in_default.field-0
-      (subst (λ i. Ok c.in_default.field-0 ≡ permitted (act_answer P c.args.client (named i) argument)) (to_z-of_z w8 c.args.index c.ranges.index) c.in_default.ensures) in
+    ∙ granted_act_effects P s c.args.client (named c.args.index) argument c.in_default.field-0
+    (subst (λ i. Ok c.in_default.field-0 ≡ permitted (act_answer P c.args.client (named i) argument)) (to_z-of_z w8 c.args.index c.ranges.index) c.in_default.ensures) in
     let items : map effect_of c.push_method.new.effects.items ≡ method_effects P c.called_method-method.result argument
     = c.in_ok-push_method.ensures.ok.effects ∙ ap (λ es. map effect_of es ++ method_effects P c.called_method-method.result argument) c.new-effects.ensures.items in
     c.in_ok-play.ensures.ok ∙ ap (effects P s) (ap (map effect_of) c.deref.ensures.value ∙ (items ∙ meant))
@@ -67,8 +67,8 @@ returns-in_err-push_method-clause-denied c = λ needs.
     let argument = argument_of c.args.argument.now in
     let meant : method_effects P c.called_method-method.result argument ≡ effects_of P s (Act c.args.client (named c.args.index) argument)
     = ap (λ m. method_effects P m argument) (c.called_method-method.ensures ∙ ap (λ i. method_of (named i)) (to_z-of_z w8 c.args.index c.ranges.index))
-      ∙ granted_act_effects P s c.args.client (named c.args.index) argument c.in_default.field-0
-      (subst (λ i. Ok c.in_default.field-0 ≡ permitted (act_answer P c.args.client (named i) argument)) (to_z-of_z w8 c.args.index c.ranges.index) c.in_default.ensures) in
+    ∙ granted_act_effects P s c.args.client (named c.args.index) argument c.in_default.field-0
+    (subst (λ i. Ok c.in_default.field-0 ≡ permitted (act_answer P c.args.client (named i) argument)) (to_z-of_z w8 c.args.index c.ranges.index) c.in_default.ensures) in
     let is_ok = c.in_err-push_method.ensures.none (meant ∙ no_effects (effects_of P s (Act c.args.client (named c.args.index) argument)) needs) in cc
   where
     named : ℤ → Descriptor
@@ -81,13 +81,13 @@ returns-in_err-play-clause-denied c = λ needs.
     let argument = argument_of c.args.argument.now in
     let meant : method_effects P c.called_method-method.result argument ≡ effects_of P s (Act c.args.client (named c.args.index) argument)
     = ap (λ m. method_effects P m argument) (c.called_method-method.ensures ∙ ap (λ i. method_of (named i)) (to_z-of_z w8 c.args.index c.ranges.index))
-      ∙ granted_act_effects P s c.args.client (named c.args.index) argument c.in_default.field-0
-      (subst (λ i. Ok c.in_default.field-0 ≡ permitted (act_answer P c.args.client (named i) argument)) (to_z-of_z w8 c.args.index c.ranges.index) c.in_default.ensures) in
+    ∙ granted_act_effects P s c.args.client (named c.args.index) argument c.in_default.field-0
+    (subst (λ i. Ok c.in_default.field-0 ≡ permitted (act_answer P c.args.client (named i) argument)) (to_z-of_z w8 c.args.index c.ranges.index) c.in_default.ensures) in
     let items : map effect_of c.push_method.new.effects.items ≡ method_effects P c.called_method-method.result argument
     = c.in_ok-push_method.ensures.ok.effects ∙ ap (λ es. map effect_of es ++ method_effects P c.called_method-method.result argument) c.new-effects.ensures.items in
     let is_ok = c.in_err-play.ensures.none
-        (c.deref.ensures.value
-        ∙ none_stands c.push_method.new.effects.items (items ∙ (meant ∙ no_effects (effects_of P s (Act c.args.client (named c.args.index) argument)) needs))) in cc
+    (c.deref.ensures.value
+    ∙ none_stands c.push_method.new.effects.items (items ∙ (meant ∙ no_effects (effects_of P s (Act c.args.client (named c.args.index) argument)) needs))) in cc
   where
     named : ℤ → Descriptor
     named i = record { class_id = c.args.class_id; name = c.args.name.now; index = i }

@@ -1,4 +1,4 @@
-use Rattle.std.proofs.Common.{◌≡◌, ap, sym, subst, ◌∙◌, map}
+use Rattle.std.proofs.Common.{ap, sym, subst, ◌∙◌, map}
 use Rattle.meter_theory.specs.States.{IsState}
 use Rattle.meter_theory.specs.Steps.{effects}
 use Rattle.meter_theory.proofs.KeepSteps.{step-keeps}
@@ -30,6 +30,6 @@ returns-in_err-effects-clause-denied c = λ needs.
 pub returns-in_err-play-clause-denied : goal.returns-in_err-play-clause-denied
 returns-in_err-play-clause-denied c = λ needs.
     let is_ok = c.in_err-play.ensures.none
-        (c.deref.ensures.value
-        ∙ none_stands c.in_ok-effects.effects.items
-        (c.in_ok-effects.ensures.ok.effects ∙ own_memory c.args.plan.now c.args.meter.now (step_of c.args.step.now) c.requires.own needs)) in cc
+    (c.deref.ensures.value
+    ∙ none_stands c.in_ok-effects.effects.items
+    (c.in_ok-effects.ensures.ok.effects ∙ own_memory c.args.plan.now c.args.meter.now (step_of c.args.step.now) c.requires.own needs)) in cc

@@ -1,9 +1,7 @@
-use Rattle.std.proofs.Common.{◌≡◌, ap, ap₂, sym, subst, ◌∙◌, ◌∷◌, [], ◌++◌, flat_map, length}
+use Rattle.std.proofs.Common.{◌≡◌, ap, ap₂, sym, ◌∙◌, ◌∷◌, [], ◌++◌, flat_map, length}
 use Rattle.cosem_data.specs.View.{tree}
-use Rattle.cosem_data.specs.Tree.{Tree}
 use Rattle.cosem_data.specs.Kinds.{kind_of}
-use Rattle.cosem_data.specs.declared.kind.Kind.{Kind}
-use Rattle.meter_theory.specs.Plan.{Part, RegisterMonitor, start, seen, thresholds}
+use Rattle.meter_theory.specs.Plan.{RegisterMonitor, start, seen, thresholds}
 use Rattle.meter_theory.specs.State.{value}
 use Rattle.meter_theory.specs.States.{Fits}
 use Rattle.meter_theory.specs.Steps.{Put, due_scripts, effects_of_script}

@@ -1,4 +1,4 @@
-use Rattle.std.proofs.Common.{◌≡◌, flat_map, take}
+use Rattle.std.proofs.Common.{flat_map, take}
 use Rattle.meter_theory.specs.Steps.{effects_of_script}
 use Rattle.meter_core.specs.Adds.{Adds}
 use Rattle.meter_core.proofs.own_steps.push_scripts.Given as goal

@@ -1,4 +1,4 @@
-use Rattle.std.proofs.Common.{◌≡◌, ap, ap₂, sym, ◌∙◌}
+use Rattle.std.proofs.Common.{ap, sym, ◌∙◌}
 use Rattle.std.specs.Prelude.{◌&&◌, is_ok}
 use Rattle.cosem_data.specs.View.{tree}
 use Rattle.meter_theory.specs.Plan.{rule_of}

@@ -1,4 +1,4 @@
-use Rattle.std.proofs.Common.{◌≡◌, map, take}
+use Rattle.std.proofs.Common.{map, take}
 use Rattle.class_control.specs.ActionView.{action_of}
 use Rattle.meter_theory.specs.Steps.{actions_effects}
 use Rattle.meter_core.specs.Adds.{Adds}

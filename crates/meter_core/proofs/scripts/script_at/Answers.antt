@@ -1,4 +1,4 @@
-use Rattle.std.proofs.Common.{◌≡◌, ap, sym, ◌∙◌, find}
+use Rattle.std.proofs.Common.{ap, sym, ◌∙◌, find}
 use Rattle.std.specs.Prelude.{◌==◌, option_and_then}
 use Rattle.meter_theory.specs.Steps.{scripts_of}
 use Rattle.object_model.specs.PartView.{part_of}

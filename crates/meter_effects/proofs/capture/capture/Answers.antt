@@ -1,7 +1,6 @@
-use Rattle.std.proofs.Common.{◌≡◌, ap, ap₂, sym, ◌∙◌, length}
-use Rattle.std.specs.Prelude.{Result, Ok, Err, OnErr, IfOk}
+use Rattle.std.proofs.Common.{◌≡◌, ap, ap₂, ◌∙◌, length}
+use Rattle.std.specs.Prelude.{Result, Ok, Err, OnErr}
 use Rattle.cosem_data.specs.View.{tree}
-use Rattle.cosem_data.specs.Tree.{Tree}
 use Rattle.cosem_data.specs.declared.name.LogicalName.{LogicalName}
 use Rattle.cosem_data.specs.declared.memory.Memory.{Memory}
 use Rattle.class_profile.specs.ProfileStates.{is_buffer-of_state, is_count-of_state}

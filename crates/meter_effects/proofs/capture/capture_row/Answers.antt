@@ -18,6 +18,6 @@ returns-clause-before c = λ s is.
     let row = option_map tree c.in_ok-dropped.dropped in
     let before : buffer_before row (value s (buffer old.name)) ≡ tree old.buffer
     = ap₂ buffer_before c.in_ok-dropped.ensures (is ∙ returns-clause-rows c)
-      ∙ c.captures_are_taken_back.ensures (length old.part.now.captured.items) old.part.now.profile_entries (tree old.buffer) (structure_of c.args.row) old.part.now.has_entries old.buffer_fits in
+    ∙ c.captures_are_taken_back.ensures (length old.part.now.captured.items) old.part.now.profile_entries (tree old.buffer) (structure_of c.args.row) old.part.now.has_entries old.buffer_fits in
     ap (λ n. put (put s (buffer n) (buffer_before row (value s (buffer n)))) (entries_in_use n) (tree c.in_ok-in_use.in_use)) (ap (λ f. f.name) c.invoke.ensures.fixed)
     ∙ ap₂ (λ b u. put (put s (buffer old.name) b) (entries_in_use old.name) (tree u)) before c.in_ok-in_use.ensures

@@ -1,5 +1,4 @@
-use Rattle.std.proofs.Common.{◌≡◌, ap, refl, length, ◌∙◌}
-use Rattle.cosem_data.specs.View.{tree}
+use Rattle.std.proofs.Common.{ap, refl, length, ◌∙◌}
 use Rattle.cosem_data.specs.Tree.{null_data}
 use Rattle.class_profile.specs.ProfileClass.{is_buffer, is_count}
 use Rattle.meter_theory.specs.Plan.{buffer, entries_in_use}
