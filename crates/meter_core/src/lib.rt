@@ -7,3 +7,5 @@ pub mod reply;
 pub mod run;
 mod scripts;
 pub mod step;
+#[cfg(test)]
+mod tests;

@@ -1,44 +1,45 @@
 -- Lines, one after another.
 use Rattle.std.proofs.Common.{◌≡◌, ◌≢◌, ℕ, ◌+◌, ◌^◌, ◌≤◌, List, [], ◌∷◌, ◌++◌, length, Option, Result, Ok, Err, refl, sym, ap, subst, ◌∙◌, append_assoc, append-nil, inl, inr, arith, length-append}
 use Rattle.std.proofs.lemmas.List.Concat.{flat_map-append}
-use Rattle.std.proofs.lemmas.List.Elements.{All-append, All-push, All-cons, All-nil, filter_map-append}
+use Rattle.std.proofs.lemmas.List.Elements.{All-append, All-push, All-cons, All-nil}
 use Rattle.std.proofs.KnownBytes.{Appends-trans, Appends-nil, Consumes-trans, Consumes-nil, Consumes-kept}
 use Rattle.std.specs.Io.KnownBytes.{Consumes, Appends, IsAtEnd, Keeps}
 use Rattle.std.specs.List.{flat_map}
 use Rattle.meter_theory.specs.Plan.{Plan, start}
 use Rattle.meter_theory.specs.State.{State}
 use Rattle.meter_theory.specs.States.{IsState}
-use Rattle.meter_server.specs.declared.answering.Ask.{Ask as AskValue}
-use Rattle.meter_server.specs.Answering.{next_of, reply_of_ask}
+use Rattle.meter_theory.specs.Steps.{next}
+use Rattle.meter_server.specs.Answering.{Task, Answer, Take, next_of, reply_of_ask}
 use Rattle.meter_server.proofs.Replying.{printed_from-start}
 use Rattle.meter_server.specs.declared.running.LineFault.{LineFault}
 use Rattle.meter_server.specs.declared.running.LineFault.TheVariants.{Read, Write, Line, Memory}
 use Rattle.meter_server.specs.declared.running.Run.{Run}
 use Rattle.meter_server.specs.Spelling.{line_of, reply_text, unreadable_text}
-use Rattle.meter_server.specs.Running.{IsLine, ended, text_of_lines, with_last, IsReadable, ask_in, asks_of, printed, Moment, Heard, Stops, RunsLines}
-use Rattle.meter_server.specs.Pieces.{meter_after, replies_to, printed_from, AnswersLine, Hears, Advances, TakesPiece, EndsRun}
+use Rattle.meter_server.specs.Running.{IsLine, ended, text_of_lines, with_last, IsReadable, tasks_in, tasks_of, printed, Moment, Heard, Stops, RunsLines}
+use Rattle.meter_server.specs.Pieces.{next_by_task, meter_after, replies_to, printed_from, AnswersLine, Hears, Advances, TakesPiece, EndsRun}
 
--- ---- what is asked and printed
+-- ---- what is done and printed
 
-meter_after-append : (plan : Plan) (m : State) (xs ys : List AskValue) → meter_after plan m (xs ++ ys) ≡ meter_after plan (meter_after plan m xs) ys
+meter_after-append : (plan : Plan) (m : State) (xs ys : List Task) → meter_after plan m (xs ++ ys) ≡ meter_after plan (meter_after plan m xs) ys
 meter_after-append plan m [] ys = refl
-meter_after-append plan m (x ∷ xs) ys = meter_after-append plan (next_of plan m x) xs ys
+meter_after-append plan m (x ∷ xs) ys = meter_after-append plan (next_by_task plan m x) xs ys
 
-replies_to-append : (plan : Plan) (m : State) (xs ys : List AskValue) → replies_to plan m (xs ++ ys) ≡ replies_to plan m xs ++ replies_to plan (meter_after plan m xs) ys
+replies_to-append : (plan : Plan) (m : State) (xs ys : List Task) → replies_to plan m (xs ++ ys) ≡ replies_to plan m xs ++ replies_to plan (meter_after plan m xs) ys
 replies_to-append plan m [] ys = refl
-replies_to-append plan m (x ∷ xs) ys = ap (λ (t : List (List ℕ)). reply_of_ask plan m x ∷ t) (replies_to-append plan (next_of plan m x) xs ys)
+replies_to-append plan m (Answer ask ∷ xs) ys = ap (λ (t : List (List ℕ)). reply_of_ask plan m ask ∷ t) (replies_to-append plan (next_of plan m ask) xs ys)
+replies_to-append plan m (Take step ∷ xs) ys = replies_to-append plan (next plan m step) xs ys
 
-asks_of-append : (plan : Plan) (ls ms : List (List ℕ)) → asks_of plan (ls ++ ms) ≡ asks_of plan ls ++ asks_of plan ms
-asks_of-append plan ls ms = filter_map-append (λ (line : List ℕ). ask_in (line_of plan line)) ls ms
+tasks_of-append : (plan : Plan) (ls ms : List (List ℕ)) → tasks_of plan (ls ++ ms) ≡ tasks_of plan ls ++ tasks_of plan ms
+tasks_of-append plan ls ms = flat_map-append (λ (line : List ℕ). tasks_in plan (line_of plan line)) ls ms
 
-pub after-append : (plan : Plan) (m : State) (ls ms : List (List ℕ)) → meter_after plan m (asks_of plan (ls ++ ms)) ≡ meter_after plan (meter_after plan m (asks_of plan ls)) (asks_of plan ms)
-after-append plan m ls ms = ap (meter_after plan m) (asks_of-append plan ls ms) ∙ meter_after-append plan m (asks_of plan ls) (asks_of plan ms)
+pub after-append : (plan : Plan) (m : State) (ls ms : List (List ℕ)) → meter_after plan m (tasks_of plan (ls ++ ms)) ≡ meter_after plan (meter_after plan m (tasks_of plan ls)) (tasks_of plan ms)
+after-append plan m ls ms = ap (meter_after plan m) (tasks_of-append plan ls ms) ∙ meter_after-append plan m (tasks_of plan ls) (tasks_of plan ms)
 
-pub printed_from-append : (plan : Plan) (m : State) (ls ms : List (List ℕ)) → printed_from plan m (ls ++ ms) ≡ printed_from plan m ls ++ printed_from plan (meter_after plan m (asks_of plan ls)) ms
+pub printed_from-append : (plan : Plan) (m : State) (ls ms : List (List ℕ)) → printed_from plan m (ls ++ ms) ≡ printed_from plan m ls ++ printed_from plan (meter_after plan m (tasks_of plan ls)) ms
 printed_from-append plan m ls ms =
-    ap (λ (xs : List AskValue). flat_map reply_text (replies_to plan m xs)) (asks_of-append plan ls ms)
-    ∙ ap (flat_map reply_text) (replies_to-append plan m (asks_of plan ls) (asks_of plan ms))
-    ∙ flat_map-append reply_text (replies_to plan m (asks_of plan ls)) (replies_to plan (meter_after plan m (asks_of plan ls)) (asks_of plan ms))
+    ap (λ (xs : List Task). flat_map reply_text (replies_to plan m xs)) (tasks_of-append plan ls ms)
+    ∙ ap (flat_map reply_text) (replies_to-append plan m (tasks_of plan ls) (tasks_of plan ms))
+    ∙ flat_map-append reply_text (replies_to plan m (tasks_of plan ls)) (replies_to plan (meter_after plan m (tasks_of plan ls)) (tasks_of plan ms))
 
 -- ---- one after another
 
@@ -53,14 +54,14 @@ Hears-then plan old mid a b w0 w1 w2 ls ms rest text p q = record {
 }
 
 -- the same, where what was written later is what those lines print
-joined : (plan : Plan) (old mid : Run) (ls ms : List (List ℕ)) (text : List ℕ) → mid.meter ≡ meter_after plan old.meter (asks_of plan ls)
+joined : (plan : Plan) (old mid : Run) (ls ms : List (List ℕ)) (text : List ℕ) → mid.meter ≡ meter_after plan old.meter (tasks_of plan ls)
     → printed_from plan old.meter ls ++ (printed_from plan mid.meter ms ++ text) ≡ printed_from plan old.meter (ls ++ ms) ++ text
 joined plan old mid ls ms text e =
     ap (λ (m : State). printed_from plan old.meter ls ++ (printed_from plan m ms ++ text)) e
-    ∙ sym (append_assoc (printed_from plan old.meter ls) (printed_from plan (meter_after plan old.meter (asks_of plan ls)) ms) text)
+    ∙ sym (append_assoc (printed_from plan old.meter ls) (printed_from plan (meter_after plan old.meter (tasks_of plan ls)) ms) text)
     ∙ ap (λ (t : List ℕ). t ++ text) (sym (printed_from-append plan old.meter ls ms))
 
-joined_all : (plan : Plan) (old mid : Run) (ls ms : List (List ℕ)) → mid.meter ≡ meter_after plan old.meter (asks_of plan ls)
+joined_all : (plan : Plan) (old mid : Run) (ls ms : List (List ℕ)) → mid.meter ≡ meter_after plan old.meter (tasks_of plan ls)
     → printed_from plan old.meter ls ++ printed_from plan mid.meter ms ≡ printed_from plan old.meter (ls ++ ms)
 joined_all plan old mid ls ms e =
     ap (λ (m : State). printed_from plan old.meter ls ++ printed_from plan m ms) e ∙ sym (printed_from-append plan old.meter ls ms)
@@ -71,7 +72,7 @@ Advances-then plan old mid new a b w0 w1 w2 ls ms p q = record {
   heard = subst (λ (t : List ℕ). Hears plan old (a ++ b) w0 w2 (ls ++ ms) new.line.items t) (joined_all plan old mid ls ms p.meter)
       (Hears-then plan old mid a b w0 w1 w2 ls ms new.line.items (printed_from plan mid.meter ms) p q.heard);
   held = q.held;
-  meter = q.meter ∙ ap (λ (m : State). meter_after plan m (asks_of plan ms)) p.meter ∙ sym (after-append plan old.meter ls ms);
+  meter = q.meter ∙ ap (λ (m : State). meter_after plan m (tasks_of plan ms)) p.meter ∙ sym (after-append plan old.meter ls ms);
   count = omega (arith, p.count, q.count, length-append ls ms);
   state = q.state;
 }

@@ -9,6 +9,7 @@ use Rattle.meter_theory.specs.Plan.{Plan, start}
 use Rattle.meter_theory.specs.State.{State}
 use Rattle.meter_theory.specs.Sound.{IsSound}
 use Rattle.meter_theory.specs.States.{IsState}
+use Rattle.meter_theory.specs.Steps.{next}
 use Rattle.meter_theory.specs.Replies as theory
 use Rattle.meter_theory.specs.Replies.{reply_to, replies}
 use Rattle.meter_theory.proofs.Lengths.{reply-writable}
@@ -22,9 +23,9 @@ use Rattle.xdlms_services.specs.declared.writing.Service.TheVariants as services
 use Rattle.xdlms_services.specs.Reading.{request_at}
 use Rattle.xdlms_services.specs.Replies.{CanWrite, canonical_reply}
 use Rattle.meter_server.specs.declared.answering.Ask.{Ask}
-use Rattle.meter_server.specs.Answering.{service_of, invoke_of, step_of_request, reply_bytes, replied_with, next_by, reply_by, next_of, reply_of_ask, exception, steps_of, apdus_from, apdus_of}
+use Rattle.meter_server.specs.Answering.{service_of, invoke_of, step_of_request, reply_bytes, replied_with, next_by, reply_by, next_of, reply_of_ask, exception, Task, Answer, Take, steps_of, apdus_from, apdus_of}
 use Rattle.meter_server.specs.Spelling.{reply_text}
-use Rattle.meter_server.specs.Running.{asks_of, printed}
+use Rattle.meter_server.specs.Running.{tasks_of, printed}
 use Rattle.meter_server.specs.Pieces.{replies_to, printed_from}
 
 -- the APDU that is written brings the reply
@@ -77,20 +78,21 @@ pub next_of-at : (P : Plan) (s : State) (ask : Ask) (read : Option Request) → 
 unfolding next_of
 next_of-at P s ask read e = ap (next_by P s ask.client) (sym e)
 
--- ---- many asks
+-- ---- many tasks
 
 -- the APDUs in order bring the replies of the run of the steps
-pub replies_to-apdus_of : (P : Plan) (s : State) (asks : List Ask) → replies_to P s asks ≡ apdus_of asks (replies P s (steps_of asks))
+pub replies_to-apdus_of : (P : Plan) (s : State) (tasks : List Task) → replies_to P s tasks ≡ apdus_of tasks (replies P s (steps_of tasks))
 unfolding next_of reply_of_ask
 replies_to-apdus_of P s [] = refl
-replies_to-apdus_of P s (ask ∷ asks) =
-    elim (request_at ask.apdu) as (λ read. reply_by P s ask.client read ∷ replies_to P (next_by P s ask.client read) asks
-    ≡ apdus_from read (replies P s (cons_option (option_map (step_of_request ask.client) read) (steps_of asks))) (apdus_of asks)) [
-      | None ↦ ap (λ (t : List (List ℕ)). exception ∷ t) (replies_to-apdus_of P s asks)
+replies_to-apdus_of P s (Answer ask ∷ tasks) =
+    elim (request_at ask.apdu) as (λ read. reply_by P s ask.client read ∷ replies_to P (next_by P s ask.client read) tasks
+    ≡ apdus_from read (replies P s (cons_option (option_map (step_of_request ask.client) read) (steps_of tasks))) (apdus_of tasks)) [
+      | None ↦ ap (λ (t : List (List ℕ)). exception ∷ t) (replies_to-apdus_of P s tasks)
       | Some request ↦ ap (λ (t : List (List ℕ)). reply_by P s ask.client (Some request) ∷ t)
-          (replies_to-apdus_of P (next_by P s ask.client (Some request)) asks)
+          (replies_to-apdus_of P (next_by P s ask.client (Some request)) tasks)
     ]
+replies_to-apdus_of P s (Take step ∷ tasks) = replies_to-apdus_of P (next P s step) tasks
 
 -- from the start on, one line after another is the run
 pub printed_from-start : (P : Plan) (lines : List (List ℕ)) → printed_from P (start P) lines ≡ printed P lines
-printed_from-start P lines = ap (flat_map reply_text) (replies_to-apdus_of P (start P) (asks_of P lines))
+printed_from-start P lines = ap (flat_map reply_text) (replies_to-apdus_of P (start P) (tasks_of P lines))

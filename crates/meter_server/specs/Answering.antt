@@ -1,5 +1,5 @@
 -- What the meter replies to an APDU, and what it becomes.
-use Rattle.std.specs.Prelude.{ℕ, List, [], ◌∷◌, Option, Some, None, option_map}
+use Rattle.std.specs.Prelude.{ℕ, List, [], ◌∷◌, drop, Option, Some, None, option_map}
 use Rattle.std.specs.List.{filter_map}
 use Rattle.cosem_axdr.specs.Canonical.{canonical}
 use Rattle.meter_theory.specs.Access.{code_of}
@@ -74,15 +74,21 @@ next_of P s ask = next_by P s ask.client (request_at ask.apdu)
 unfoldable pub reply_of_ask : Plan → State → Ask → List ℕ
 reply_of_ask P s ask = reply_by P s ask.client (request_at ask.apdu)
 
--- Many APDUs
+-- Many tasks
 
--- the step that is asked for, where an APDU is a request
-abbrev pub step_in : Ask → Option Step
-step_in ask = option_map (step_of_request ask.client) (request_at ask.apdu)
+-- what a line gives the meter to do: to answer an APDU, or to take a step of its own, of which nothing is told (own profile)
+pub data Task : Type 0 where
+  Answer : Ask → Task
+  Take : Step → Task
 
--- the steps that are asked for, in order
-abbrev pub steps_of : List Ask → List Step
-steps_of asks = filter_map step_in asks
+-- the step of a task; of an APDU, where it is a request
+abbrev pub step_in : Task → Option Step
+step_in (Answer ask) = option_map (step_of_request ask.client) (request_at ask.apdu)
+step_in (Take step) = Some step
+
+-- the steps of the tasks, in order
+abbrev pub steps_of : List Task → List Step
+steps_of tasks = filter_map step_in tasks
 
 -- the APDU for the next of the replies, or the exception where there is no request, and then the others
 abbrev pub apdus_from : Option Request → List Reply → (List Reply → List (List ℕ)) → List (List ℕ)
@@ -91,6 +97,7 @@ apdus_from (Some request) [] others = []
 apdus_from (Some request) (reply ∷ replies) others = replied_with request reply ∷ others replies
 
 -- the APDUs that bring the meter's replies to those who asked, in order
-abbrev pub apdus_of : List Ask → List Reply → List (List ℕ)
+abbrev pub apdus_of : List Task → List Reply → List (List ℕ)
 apdus_of [] replies = []
-apdus_of (ask ∷ asks) replies = apdus_from (request_at ask.apdu) replies (apdus_of asks)
+apdus_of (Answer ask ∷ tasks) replies = apdus_from (request_at ask.apdu) replies (apdus_of tasks)
+apdus_of (Take step ∷ tasks) replies = apdus_of tasks (drop 1 replies)

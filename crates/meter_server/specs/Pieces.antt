@@ -5,33 +5,39 @@ use Rattle.std.specs.Io.KnownBytes.{Appends}
 use Rattle.meter_theory.specs.Plan.{Plan}
 use Rattle.meter_theory.specs.State.{State}
 use Rattle.meter_theory.specs.States.{IsState}
-use Rattle.meter_server.specs.declared.answering.Ask.{Ask}
-use Rattle.meter_server.specs.Answering.{next_of, reply_of_ask}
+use Rattle.meter_theory.specs.Steps.{next}
+use Rattle.meter_server.specs.Answering.{Task, Answer, Take, next_of, reply_of_ask}
 use Rattle.meter_server.specs.declared.line.Line.TheVariants.{Unreadable}
 use Rattle.meter_server.specs.declared.running.LineFault.{LineFault}
 use Rattle.meter_server.specs.declared.running.LineFault.TheVariants.{Read, Write, Line, Memory}
 use Rattle.meter_server.specs.declared.running.Run.{Run}
 use Rattle.meter_server.specs.Spelling.{line_of, reply_text, unreadable_text}
-use Rattle.meter_server.specs.Running.{IsLine, ended, text_of_lines, with_last, IsReadable, asks_of}
+use Rattle.meter_server.specs.Running.{IsLine, ended, text_of_lines, with_last, IsReadable, tasks_of}
 
--- the meter after all of this was asked (own profile)
-abbrev pub meter_after : Plan → State → List Ask → State
+-- the meter after a task (own profile)
+abbrev pub next_by_task : Plan → State → Task → State
+next_by_task plan meter (Answer ask) = next_of plan meter ask
+next_by_task plan meter (Take step) = next plan meter step
+
+-- the meter after all of these tasks (own profile)
+abbrev pub meter_after : Plan → State → List Task → State
 meter_after plan meter [] = meter
-meter_after plan meter (ask ∷ asks) = meter_after plan (next_of plan meter ask) asks
+meter_after plan meter (task ∷ tasks) = meter_after plan (next_by_task plan meter task) tasks
 
 -- the APDUs that are replied, one after another (own profile)
-abbrev pub replies_to : Plan → State → List Ask → List (List ℕ)
+abbrev pub replies_to : Plan → State → List Task → List (List ℕ)
 replies_to plan meter [] = []
-replies_to plan meter (ask ∷ asks) = reply_of_ask plan meter ask ∷ replies_to plan (next_of plan meter ask) asks
+replies_to plan meter (Answer ask ∷ tasks) = reply_of_ask plan meter ask ∷ replies_to plan (next_of plan meter ask) tasks
+replies_to plan meter (Take step ∷ tasks) = replies_to plan (next plan meter step) tasks
 
 -- what is written for the lines, from this meter on (own profile)
 abbrev pub printed_from : Plan → State → List (List ℕ) → List ℕ
-printed_from plan meter lines = flat_map reply_text (replies_to plan meter (asks_of plan lines))
+printed_from plan meter lines = flat_map reply_text (replies_to plan meter (tasks_of plan lines))
 
 -- one line with this number was answered (own profile)
 abbrev pub AnswersLine : Plan → State → State → ℕ → List ℕ → Option (List ℕ) → Option (List ℕ) → Result (Unit {0}) LineFault → Type 0
 AnswersLine plan old new number line before after (Ok u) =
-    IsReadable plan line × (new ≡ meter_after plan old (asks_of plan (line ∷ []))) × Appends before after (printed_from plan old (line ∷ [])) × IsState plan new
+    IsReadable plan line × (new ≡ meter_after plan old (tasks_of plan (line ∷ []))) × Appends before after (printed_from plan old (line ∷ [])) × IsState plan new
 AnswersLine plan old new number line before after (Err Read) = ⊥
 AnswersLine plan old new number line before after (Err Write) = Unit {0}
 AnswersLine plan old new number line before after (Err (Line n)) =
@@ -49,7 +55,7 @@ pub record Hears (plan : Plan) (old : Run) (bytes : List ℕ) (before after : Op
 pub record Advances (plan : Plan) (old new : Run) (bytes : List ℕ) (before after : Option (List ℕ)) (lines : List (List ℕ)) : Type 0 where
   pub heard : Hears plan old bytes before after lines new.line.items (printed_from plan old.meter lines)
   pub held : IsLine new.line.items
-  pub meter : new.meter ≡ meter_after plan old.meter (asks_of plan lines)
+  pub meter : new.meter ≡ meter_after plan old.meter (tasks_of plan lines)
   pub count : new.count ≡ old.count + length lines
   pub state : IsState plan new.meter
 

@@ -1,13 +1,15 @@
 -- What is written for the lines that are read. Lines of hex are own profile throughout; what they ask and what is replied is not.
-use Rattle.std.specs.Prelude.{◌≡◌, ◌≢◌, ℕ, ◌+◌, ◌^◌, ◌<◌, ◌≤◌, List, [], ◌∷◌, ◌++◌, length, Option, Some, None, ◌⊎◌, All, Result, Ok, Err}
-use Rattle.std.specs.List.{flat_map, filter_map}
+use Rattle.std.specs.Prelude.{◌≡◌, ◌≢◌, ℕ, ◌+◌, ◌^◌, ◌<◌, ◌≤◌, List, [], ◌∷◌, ◌++◌, length, map, Option, Some, None, ◌⊎◌, All, Result, Ok, Err}
+use Rattle.std.specs.List.{flat_map}
 use Rattle.std.specs.Io.KnownBytes.{Consumes, Appends, IsAtEnd}
 use Rattle.meter_theory.specs.Plan.{Plan, start}
 use Rattle.meter_theory.specs.Replies.{replies}
-use Rattle.meter_server.specs.declared.answering.Ask.{Ask as AskValue}
-use Rattle.meter_server.specs.Answering.{steps_of, apdus_of}
+use Rattle.meter_theory.specs.Steps as steps
+use Rattle.cosem_data.specs.View.{tree}
+use Rattle.meter_server.specs.Answering.{Task, Answer, Take, steps_of, apdus_of}
+use Rattle.meter_server.specs.Driving.{moment_steps}
 use Rattle.meter_server.specs.declared.line.Line.{Line as LineValue}
-use Rattle.meter_server.specs.declared.line.Line.TheVariants.{Skipped, Ask, Unreadable}
+use Rattle.meter_server.specs.declared.line.Line.TheVariants.{Skipped, Ask, Input, Evaluate, At, Unreadable}
 use Rattle.meter_server.specs.declared.running.LineFault.{LineFault}
 use Rattle.meter_server.specs.declared.running.LineFault.TheVariants.{Read, Write, Line, Memory}
 use Rattle.meter_server.specs.Spelling.{line_of, reply_text, unreadable_text}
@@ -31,25 +33,28 @@ abbrev pub with_last : List (List ℕ) → List ℕ → List (List ℕ)
 with_last lines [] = lines
 with_last lines (b ∷ bs) = lines ++ (b ∷ bs) ∷ []
 
--- the line is skipped or asks something (own profile)
+-- the line is skipped or gives the meter something to do (own profile)
 abbrev pub IsReadable : Plan → List ℕ → Type 0
 IsReadable plan line = line_of plan line ≢ Unreadable
 
 -- A run
 
--- what a line asks, if it does (own profile)
-abbrev pub ask_in : LineValue → Option AskValue
-ask_in Skipped = None
-ask_in (Ask ask) = Some ask
-ask_in Unreadable = None
+-- what a line gives the meter to do, in order: an APDU is answered; an input, an evaluation and what a moment offers are steps of the meter's own (own profile)
+abbrev pub tasks_in : Plan → LineValue → List Task
+tasks_in plan Skipped = []
+tasks_in plan (Ask ask) = Answer ask ∷ []
+tasks_in plan (Input cell value) = Take (steps.Input cell (tree value)) ∷ []
+tasks_in plan (Evaluate monitor) = Take (steps.Evaluate monitor) ∷ []
+tasks_in plan (At moment) = map Take (moment_steps plan moment)
+tasks_in plan Unreadable = []
 
--- what the lines ask, in order (own profile)
-abbrev pub asks_of : Plan → List (List ℕ) → List AskValue
-asks_of plan lines = filter_map (λ line. ask_in (line_of plan line)) lines
+-- what the lines give it to do, in order (own profile)
+abbrev pub tasks_of : Plan → List (List ℕ) → List Task
+tasks_of plan lines = flat_map (λ line. tasks_in plan (line_of plan line)) lines
 
--- what is written for the lines: the meter's replies along the run of the steps that they spell, from its start, each as an APDU in a line of its own (own profile)
+-- what is written for the lines: the meter's replies along the run of the steps that they spell, from its start, each reply to an APDU in a line of its own, and nothing of its own steps (own profile)
 abbrev pub printed : Plan → List (List ℕ) → List ℕ
-printed plan lines = flat_map reply_text (apdus_of (asks_of plan lines) (replies plan (start plan) (steps_of (asks_of plan lines))))
+printed plan lines = flat_map reply_text (apdus_of (tasks_of plan lines) (replies plan (start plan) (steps_of (tasks_of plan lines))))
 
 -- The promise
 

@@ -2,10 +2,49 @@
 use Rattle.std.specs.Prelude.{ℕ, ◌+◌, ◌==◌, List, [], ◌∷◌, ◌++◌, take, drop, codes, position, Option, Some, None, if◌then◌else◌}
 use Rattle.std.specs.Fmt.{decimal}
 use Rattle.std.specs.Result.{result_ok}
+use Rattle.std.specs.Str.{bytes_eq}
 use Rattle.hex.specs.Hex.{decode_of, encode_upper}
-use Rattle.meter_theory.specs.Plan.{Plan, client_named}
+use Rattle.cosem_data.specs.Tree.{Tree}
+use Rattle.cosem_data.specs.View.{data_of}
+use Rattle.cosem_data.specs.Cells.{cell}
+use Rattle.cosem_data.specs.declared.name.LogicalName.{LogicalName}
+use Rattle.cosem_data.specs.declared.cell.CellRef.{CellRef}
+use Rattle.meter_theory.specs.Plan.{Plan, Object, class_of, client_named, object_at}
+use Rattle.meter_theory.specs.Times.{Moment}
+use Rattle.config_plan.specs.Names.{name_in}
+use Rattle.config_plan.specs.Values.{value_in}
+use Rattle.meter_server.specs.Words.{moment_in}
 use Rattle.meter_server.specs.declared.line.Line.{Line}
-use Rattle.meter_server.specs.declared.line.Line.TheVariants.{Skipped, Ask, Unreadable}
+use Rattle.meter_server.specs.declared.line.Line.TheVariants.{Skipped, Ask, Input, Evaluate, At, Unreadable}
+
+-- the class of the object that an input goes to; where there is none it may be any, here 1, for then nothing changes (own profile)
+abbrev pub class_at : Option Object → ℕ
+class_at None = 1
+class_at (Some o) = class_of o.part
+
+-- the cell that an input to the object with this name goes to: its attribute 2 (own profile)
+abbrev pub input_cell : Plan → LogicalName → CellRef
+input_cell plan name = cell (class_at (object_at plan name)) name 2
+
+-- what follows `in`: a logical name, and a value in hex with nothing behind it (own profile)
+abbrev pub input_of : Plan → Option LogicalName → Option Tree → Line
+input_of plan (Some name) (Some value) = Input (input_cell plan name) (data_of value)
+input_of plan _ _ = Unreadable
+
+-- the same, with the space between the two at this place
+abbrev pub input_at : Plan → List ℕ → Option ℕ → Line
+input_at plan text None = Unreadable
+input_at plan text (Some space) = input_of plan (name_in (take space text)) (value_in (drop (space + 1) text))
+
+-- what follows `eval`: the logical name of a register monitor (own profile)
+abbrev pub evaluation_of : Option LogicalName → Line
+evaluation_of None = Unreadable
+evaluation_of (Some name) = Evaluate name
+
+-- what follows `at`: a moment (own profile)
+abbrev pub moment_of : Option Moment → Line
+moment_of None = Unreadable
+moment_of (Some moment) = At moment
 
 -- the APDU of a client, which has at least one byte (own profile)
 abbrev pub ask_of : ℕ → Option (List ℕ) → Line
@@ -18,15 +57,27 @@ abbrev pub asked_by : Option ℕ → List ℕ → Line
 asked_by None text = Unreadable
 asked_by (Some client) text = ask_of client (result_ok (decode_of text))
 
--- the client's name, the space at this place, and the APDU in hex (own profile)
-abbrev pub asked_at : Plan → List ℕ → Option ℕ → Line
-asked_at plan line None = Unreadable
-asked_at plan line (Some space) = asked_by (client_named plan (take space line)) (drop (space + 1) line)
+-- the place of the first space
+abbrev pub first_space : List ℕ → Option ℕ
+first_space text = position (λ c. c == 32) text
 
--- what a line says: nothing where it is empty or begins with `#`, else `CLIENT HEX` (own profile)
+-- the first word and what follows it: `in NAME HEX`, `eval NAME`, `at MOMENT`, else `CLIENT HEX` (own profile)
+abbrev pub said_by : Plan → List ℕ → List ℕ → Line
+said_by plan word text =
+    if bytes_eq word (codes "in") then input_at plan text (first_space text)
+    else if bytes_eq word (codes "eval") then evaluation_of (name_in text)
+    else if bytes_eq word (codes "at") then moment_of (moment_in text)
+    else asked_by (client_named plan word) text
+
+-- the first word, the space at this place, and what follows (own profile)
+abbrev pub said_at : Plan → List ℕ → Option ℕ → Line
+said_at plan line None = Unreadable
+said_at plan line (Some space) = said_by plan (take space line) (drop (space + 1) line)
+
+-- what a line says: nothing where it is empty or begins with `#`, else what its words do (own profile)
 abbrev pub line_of : Plan → List ℕ → Line
 line_of plan [] = Skipped
-line_of plan (b ∷ bs) = if b == 35 then Skipped else asked_at plan (b ∷ bs) (position (λ c. c == 32) (b ∷ bs))
+line_of plan (b ∷ bs) = if b == 35 then Skipped else said_at plan (b ∷ bs) (first_space (b ∷ bs))
 
 -- the APDU of a reply in upper case hex, a line of its own (own profile)
 abbrev pub reply_text : List ℕ → List ℕ

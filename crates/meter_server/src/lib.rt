@@ -1,14 +1,16 @@
-//! A meter server over lines of text: the APDUs of its clients in hex come in, the replies in hex go
-//! out.
+//! A meter server over lines of text: the APDUs of its clients in hex and the meter's own steps come in, the
+//! replies in hex go out.
 #![tactic(auto)]
 
 mod answering;
+mod driving;
 mod line;
 pub mod running;
 #[cfg(test)]
 mod tests;
 mod text;
 pub mod verdict;
+mod words;
 mod writing;
 
 pub use running::{LineFault, run_lines};

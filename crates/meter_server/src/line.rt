@@ -1,10 +1,17 @@
-ghost use Rattle.std.specs.Prelude.{◌≡◌, ◌<◌, ◌==◌, position, IfOk, IfSome, Some, length};
+ghost use Rattle.std.specs.Prelude.{◌≡◌, ◌<◌, IfOk, IfSome, Some, length, option_map};
+ghost use Rattle.cosem_data.specs.View.{tree};
+ghost use Rattle.meter_theory.specs.Plan.{object_at};
 ghost use Rattle.meter_server.specs.Spelling as spec;
 ghost use Rattle.meter_server.specs.Spelling.{line_of};
 
 use crate::answering::Ask;
+use crate::words::{moment_in, name_in, value_in};
+use civil_moment::moment::Moment;
 use cosem_data::bytes::Bytes;
+use cosem_data::cell::CellRef;
+use cosem_data::data::Data;
 use cosem_data::memory::Memory;
+use cosem_data::name::LogicalName;
 use hex::FromHexError;
 use object_model::plan::Plan;
 use std::alloc::Global;
@@ -16,6 +23,12 @@ pub enum Line {
     Skipped,
     /// `CLIENT HEX`: the client with this name sends this APDU, of at least one byte.
     Ask(Ask),
+    /// `in NAME HEX`: this value comes from outside into this cell, attribute 2 of the object with this name.
+    Input { cell: CellRef, value: Data },
+    /// `eval NAME`: the register monitor with this name is evaluated.
+    Evaluate(LogicalName),
+    /// `at MOMENT`: the moment is offered to each object.
+    At(Moment),
     /// Anything else.
     Unreadable,
 }
@@ -23,6 +36,13 @@ pub enum Line {
 const HASH: u8 = b'#';
 
 const SPACE: u8 = b' ';
+
+/// The words that begin a step of the meter itself. No client has such a name.
+const INPUT: &[u8] = b"in";
+
+const EVALUATE: &[u8] = b"eval";
+
+const AT: &[u8] = b"at";
 
 /// What a line says; the byte that ends it is no part of it. The only error is want of memory.
 pub fn read_line(alloc: Global, plan: &Plan, line: &[u8]) -> Result<Line, Memory>
@@ -34,26 +54,103 @@ pub fn read_line(alloc: Global, plan: &Plan, line: &[u8]) -> Result<Line, Memory
     if *first == HASH {
         return Ok(Line::Skipped);
     }
-    asked_at(alloc, plan, line, first_space(line))
+    said_at(alloc, plan, line, first_space(line))
 }
 
 /// The place of the first space.
-fn first_space(line: &[u8]) -> Option<usize>
-    ensures first { result ≡ position (λ b. b == 32) line.now }
-    ensures within { IfSome result (λ k. k < length line.now) }
+fn first_space(text: &[u8]) -> Option<usize>
+    ensures first { result ≡ spec.first_space text.now }
+    ensures within { IfSome result (λ k. k < length text.now) }
 {
-    line.iter().position(|b| *b == SPACE)
+    text.iter().position(|b| *b == SPACE)
 }
 
 /// What a line says that has its first space at this place.
-fn asked_at(alloc: Global, plan: &Plan, line: &[u8], space: Option<usize>) -> Result<Line, Memory>
+fn said_at(alloc: Global, plan: &Plan, line: &[u8], space: Option<usize>) -> Result<Line, Memory>
     requires { IfSome space (λ k. k < length line.now) }
-    ensures { IfOk result (λ x. x ≡ spec.asked_at plan.now line.now space) }
+    ensures { IfOk result (λ x. x ≡ spec.said_at plan.now line.now space) }
 {
     let Some(space) = space else {
         return Ok(Line::Unreadable);
     };
-    asked_by(alloc, plan.client_named(&line[..space]), &line[space + 1..])
+    said_by(alloc, plan, &line[..space], &line[space + 1..])
+}
+
+/// What a line says by its first word and what follows the space.
+fn said_by(alloc: Global, plan: &Plan, word: &[u8], text: &[u8]) -> Result<Line, Memory>
+    ensures { IfOk result (λ x. x ≡ spec.said_by plan.now word.now text.now) }
+{
+    if word == INPUT {
+        input_at(alloc, plan, text, first_space(text))
+    } else if word == EVALUATE {
+        Ok(evaluation_of(name_in(text)))
+    } else if word == AT {
+        Ok(moment_of(moment_in(text)))
+    } else {
+        asked_by(alloc, plan.client_named(word), text)
+    }
+}
+
+/// What follows `in`, with its first space at this place.
+fn input_at(alloc: Global, plan: &Plan, text: &[u8], space: Option<usize>) -> Result<Line, Memory>
+    requires { IfSome space (λ k. k < length text.now) }
+    ensures { IfOk result (λ x. x ≡ spec.input_at plan.now text.now space) }
+{
+    let Some(space) = space else {
+        return Ok(Line::Unreadable);
+    };
+    let name = name_in(&text[..space]);
+    let value = value_in(alloc, &text[space + 1..])?;
+    Ok(input_of(plan, name, value))
+}
+
+/// What is said by the name and the value of an input, if they are there.
+fn input_of(plan: &Plan, name: Option<LogicalName>, value: Option<Data>) -> Line
+    ensures { result ≡ spec.input_of plan.now name (option_map tree value) }
+{
+    match (name, value) {
+        (Some(name), Some(value)) => Line::Input {
+            cell: input_cell(plan, name),
+            value,
+        },
+        _ => Line::Unreadable,
+    }
+}
+
+/// The cell that an input goes to: attribute 2 of the object with this name. Where there is none it may be that of any
+/// class, for the input then changes nothing.
+fn input_cell(plan: &Plan, name: LogicalName) -> CellRef
+    ensures { result ≡ spec.input_cell plan.now name }
+{
+    let class_id = match plan.object_at(&name) {
+        Some(object) => object.part().class_id(),
+        None => 1,
+    };
+    CellRef {
+        class_id,
+        name,
+        index: 2,
+    }
+}
+
+/// What is said by the name of an evaluation, if it is there.
+fn evaluation_of(name: Option<LogicalName>) -> Line
+    ensures { result ≡ spec.evaluation_of name }
+{
+    match name {
+        Some(name) => Line::Evaluate(name),
+        None => Line::Unreadable,
+    }
+}
+
+/// What is said by a moment, if it is there.
+fn moment_of(moment: Option<Moment>) -> Line
+    ensures { result ≡ spec.moment_of moment }
+{
+    match moment {
+        Some(moment) => Line::At(moment),
+        None => Line::Unreadable,
+    }
 }
 
 /// What a line says by its client, if the plan knows it, and the hex digits behind the space.

@@ -4,10 +4,12 @@ ghost use Rattle.meter_server.specs.Running.{Moment, RunsLines, IsLine, IsFirstB
 ghost use Rattle.meter_server.specs.Pieces.{AnswersLine, TakesPiece, EndsRun};
 
 use crate::answering::answer;
+use crate::driving::{take_moment, take_step};
 use crate::line::{Line, read_line};
 use crate::text::{reply_line, unreadable_line};
 use crate::writing::{WriteFailed, write_whole};
 use cosem_data::memory::Memory;
+use meter_core::step::Step;
 use object_model::meter::Meter;
 use object_model::plan::Plan;
 use std::alloc::Global;
@@ -67,9 +69,11 @@ const END: u8 = b'\n';
 /// how many lines there were.
 ///
 /// A line ends with a newline, and the last one may end with the input. `CLIENT HEX` is an APDU of the
-/// client with this name; what the meter replies is written as upper case hex in a line of its own. An
-/// empty line and one that begins with `#` are skipped. Any other line is told by `line N: unreadable`,
-/// and ends the run with `LineFault::Line`.
+/// client with this name; what the meter replies is written as upper case hex in a line of its own.
+/// `in NAME HEX` is a value that comes from outside to the object with this name, `eval NAME` the
+/// evaluation of a register monitor, and `at MOMENT` a moment, which is offered to each object in plan
+/// order; nothing is written of these. An empty line and one that begins with `#` are skipped. Any
+/// other line is told by `line N: unreadable`, and ends the run with `LineFault::Line`.
 ///
 /// One line and one reply are in memory at a time. After a fault other than `Write` the lines before it
 /// are answered, and nothing else was written.
@@ -217,6 +221,11 @@ fn answer_line<W: Write>(
             let text = reply_line(alloc, &reply)?;
             write_whole(writer, text.as_bytes())?;
         }
+        Line::Input { cell, value } => {
+            take_step(alloc, plan, meter, &Step::Input { cell, value })?;
+        }
+        Line::Evaluate(monitor) => take_step(alloc, plan, meter, &Step::Evaluate { monitor })?,
+        Line::At(moment) => take_moment(alloc, plan, meter, moment)?,
         Line::Unreadable => {
             let text = unreadable_line(alloc, number)?;
             write_whole(writer, text.as_bytes())?;

@@ -1,6 +1,7 @@
 ghost use Rattle.std.specs.Prelude.{◌≡◌, ◌≤◌, Some, IfOk, length};
 
 mod actions;
+mod driven;
 mod permits;
 mod samples;
 mod selections;

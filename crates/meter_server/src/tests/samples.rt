@@ -207,3 +207,30 @@ label = [
 "#,
     )
 }
+
+// The register and the alarm, and a monitor with two thresholds: upwards the first one runs a script that puts 0 into the
+// register, and downwards none; the second one runs scripts that set the alarm to 5 and to 9.
+pub(super) fn cascade_plan(alloc: Global) -> Result<Plan, Fail> {
+    plan_of(
+        alloc,
+        r#"version = 1
+client = [{ name = "reader", sap = 32 }]
+object = [
+ { class = 3, name = "1.0.1.8.0.255", fed = true, value = "060001E240", default = "0600000000", scaler = 0, unit = 30 },
+ { class = 1, name = "0.0.96.11.0.255", value = "1100" },
+ { class = 9, name = "0.0.10.0.100.255", script = [
+  { id = 1, action = [ { service = 1, object = "1.0.1.8.0.255", index = 2, value = "0600000000" } ] },
+  { id = 2, action = [ { service = 1, object = "0.0.96.11.0.255", index = 2, value = "1105" } ] },
+  { id = 4, action = [ { service = 1, object = "0.0.96.11.0.255", index = 2, value = "1109" } ] } ] },
+ { class = 21, name = "0.0.16.1.0.255", monitored = { object = "1.0.1.8.0.255", index = 2 }, thresholds = ["0600000064", "06000000C8"], action = [
+  { up = { table = "0.0.10.0.100.255", script = 1 }, down = { table = "0.0.10.0.100.255", script = 0 } },
+  { up = { table = "0.0.10.0.100.255", script = 2 }, down = { table = "0.0.10.0.100.255", script = 4 } } ] },
+]
+right = [
+ { client = "reader", object = "1.0.1.8.0.255", get = [2] },
+ { client = "reader", object = "0.0.96.11.0.255", get = [2] },
+]
+policy = { influence = [], learn = ["reader"] }
+"#,
+    )
+}
