@@ -12,7 +12,6 @@ use cosem_data::memory::Memory;
 use cosem_data::name::LogicalName;
 use meter_theory::access::AccessCode;
 use meter_theory::refs::Interface;
-use object_model::effect::Effect;
 use object_model::meter::Meter;
 use object_model::plan::{ASSOCIATION, Plan};
 use object_model::policy::Policy;
@@ -350,21 +349,16 @@ fn a_meter_starts_as_configured(rt: HostRuntime) -> Result<(), Fail> {
 }
 
 /// Whether the value goes into the cell by its rule; it is put where it does.
-fn offer(
-    alloc: Global,
-    plan: &Plan,
-    meter: &mut Meter,
-    at: CellRef,
-    given: Data,
-) -> Result<bool, Memory>
+fn offer(alloc: Global, plan: &Plan, meter: &mut Meter, at: CellRef, given: Data) -> bool
     requires { IsState plan.now meter.old }
     ensures { IsState plan.now meter.new }
 {
-    let fits = plan.rule(&at, &given).is_ok();
-    if fits {
-        meter.take(alloc, plan, Effect::Put(at, given))?;
+    if plan.rule(&at, &given).is_ok() {
+        meter.put(alloc, plan, &at, given);
+        true
+    } else {
+        false
     }
-    Ok(fits)
 }
 
 fn puts_and_reads(
@@ -376,11 +370,11 @@ fn puts_and_reads(
     requires { IsState plan.now meter.old }
 {
     let (alarm, energy) = (cell(1, ALARM, 2), cell(3, ENERGY, 2));
-    assert!(rt; offer(alloc, plan, meter, alarm, Data::Unsigned(7))?);
+    assert!(rt; offer(alloc, plan, meter, alarm, Data::Unsigned(7)));
     assert!(rt; holds(alloc, plan, meter, &alarm, Data::Unsigned(7))?);
-    assert!(rt; !offer(alloc, plan, meter, alarm, Data::DoubleLongUnsigned(9))?);
+    assert!(rt; !offer(alloc, plan, meter, alarm, Data::DoubleLongUnsigned(9)));
     assert!(rt; holds(alloc, plan, meter, &alarm, Data::Unsigned(7))?);
-    assert!(rt; offer(alloc, plan, meter, energy, Data::DoubleLongUnsigned(0))?);
+    assert!(rt; offer(alloc, plan, meter, energy, Data::DoubleLongUnsigned(0)));
     assert!(rt; holds(alloc, plan, meter, &energy, Data::DoubleLongUnsigned(0))?);
     assert!(rt; holds(alloc, plan, meter, &alarm, Data::Unsigned(7))?);
     Ok(())
