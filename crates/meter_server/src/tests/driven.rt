@@ -25,6 +25,42 @@ const CROSSED: &[u8] = b"C401C1001100\n\
     C401C1001107\n\
     C401C1001100\n";
 
+// The same steps with the installer's in front, whom the alarm's label doesn't admit: the replies about the alarm stay.
+const CROSSINGS_AND_A_PERIOD: &[u8] = b"installer C101C100070100630100FF04000600000E10\n\
+    in 1.0.1.8.0.255 060000005A\n\
+    eval 0.0.16.1.0.255\n\
+    reader C001C100010000600B00FF0200\n\
+    in 1.0.1.8.0.255 0600000064\n\
+    eval 0.0.16.1.0.255\n\
+    reader C001C100010000600B00FF0200\n\
+    manager C101C100010000600B00FF02001107\n\
+    in 1.0.1.8.0.255 0600000064\n\
+    eval 0.0.16.1.0.255\n\
+    reader C001C100010000600B00FF0200\n\
+    in 1.0.1.8.0.255 0600000063\n\
+    eval 0.0.16.1.0.255\n\
+    reader C001C100010000600B00FF0200\n";
+
+const CROSSED_ALIKE: &[u8] = b"C501C100\n\
+    C401C1001100\n\
+    C401C1001101\n\
+    C501C100\n\
+    C401C1001107\n\
+    C401C1001100\n";
+
+// Two values of the register, which its label hides from the public client: it is replied the same.
+const ONE: &[u8] = b"in 1.0.1.8.0.255 0600000001\n\
+    at 2024-02-29T00:00:00\n\
+    public C001C100030100010800FF0100\n\
+    public C001C100030100010800FF0200\n";
+
+const TWO: &[u8] = b"in 1.0.1.8.0.255 0600000002\n\
+    at 2024-02-29T00:00:00\n\
+    public C001C100030100010800FF0100\n\
+    public C001C100030100010800FF0200\n";
+
+const ALIKE: &[u8] = b"C401C10009060100010800FF\nC401C10103\n";
+
 // Three captures into two rows: the second row, and the second column of the first one.
 const INPUTS: &[u8] = b"in 1.0.1.8.0.255 0600000001\n\
     manager C301C100070100630100FF0200\n\
@@ -89,6 +125,9 @@ fn the_meter_takes_its_own_steps(rt: HostRuntime) -> Result<(), Fail> {
     let plan = watched_plan(rt.alloc())?;
     for (lines, count, text) in [
         (CROSSINGS, 13, CROSSED),
+        (CROSSINGS_AND_A_PERIOD, 14, CROSSED_ALIKE),
+        (ONE, 4, ALIKE),
+        (TWO, 4, ALIKE),
         (INPUTS, 8, ROWS),
         (LAST_DAYS, 9, COUNTS),
         (MOMENTS, 7, OFFERED),
