@@ -3,8 +3,8 @@
 
     bench/demo.py [LINES [SEED]]
 
-The lines are mixed GET and SET requests of the clients of the demo configuration, allowed and refused, with empty lines and
-remarks between them. The same seed gives the same lines. A second run over four times the lines shows that memory
+The lines are mixed GET, SET and ACTION requests of the clients of the demo configuration, allowed and refused, and inputs
+and evaluations of the meter, with empty lines and remarks between them. The same seed gives the same lines. A second run over four times the lines shows that memory
 doesn't grow with their number. Run `./cosem-flow demo < /dev/null` first, which builds the program.
 """
 import os
@@ -20,11 +20,17 @@ CONFIG = os.path.join(TOP, "crates", "cosem_flow", "data", "demo.toml")
 CLIENTS = ["public", "reader", "installer", "manager"]
 ENERGY = "0100010800FF"
 ALARM = "0000600B00FF"
+PROFILE = "0100630100FF"
+TABLE = "00000A0064FF"
+# The actions of the demo's clients, which the manager alone may ask for: a register's reset, a profile's reset and
+# capture, and scripts of which one captures, one sets the alarm, one is null and one is unknown.
+ACTIONS = [f"0003{ENERGY}0100", f"0007{PROFILE}0100", f"0007{PROFILE}0200"]
+ACTIONS += [f"0009{TABLE}010112{script:04X}" for script in (0, 1, 3, 9)]
 COPY = "import sys\nfor line in sys.stdin.buffer:\n    sys.stdout.buffer.write(line)\n"
 
 
 def request(rng):
-    """One line: a client, and a GET or SET request in hex."""
+    """One line: a remark or nothing, a step of the meter, or a client and a GET, SET or ACTION request in hex."""
     client = rng.choice(CLIENTS)
     invoke = f"{rng.randrange(256):02X}"
     kind = rng.random()
@@ -32,9 +38,17 @@ def request(rng):
         return "# a remark"
     if kind < 0.08:
         return ""
-    if kind < 0.5:
+    if kind < 0.2:
+        return f"in 1.0.1.8.0.255 06{rng.randrange(200):08X}"
+    if kind < 0.3:
+        return "eval 0.0.16.1.0.255"
+    if kind < 0.45:
+        return f"{client} C301{invoke}{rng.choice(ACTIONS)}"
+    if kind < 0.65:
         return f"{client} C001{invoke}0003{ENERGY}{rng.choice(['01', '02', '03'])}00"
-    if kind < 0.75:
+    if kind < 0.7:
+        return f"{client} C001{invoke}0007{PROFILE}{rng.choice(['02', '07'])}00"
+    if kind < 0.8:
         return f"{client} C001{invoke}0001{ALARM}{rng.choice(['01', '02'])}00"
     if kind < 0.95:
         return f"{client} C101{invoke}0001{ALARM}020011{rng.randrange(256):02X}"

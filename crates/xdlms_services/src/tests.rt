@@ -23,6 +23,42 @@ const EXECUTE_SCRIPT: [u8; 16] = [
     0xC3, 1, 0xC1, 0, 9, 0, 0, 0x0A, 0, 0x64, 0xFF, 1, 1, 0x12, 0, 1,
 ];
 
+/// GET of the first entry's first column: attribute 2 of the profile 1.0.99.1.0.255, by entry.
+const GET_FIRST_ENTRY: [u8; 32] = [
+    0xC0, 1, 0xC1, 0, 7, 1, 0, 0x63, 1, 0, 0xFF, 2, 1, 2, 2, 4, 6, 0, 0, 0, 1, 6, 0, 0, 0, 1, 0x12,
+    0, 1, 0x12, 0, 1,
+];
+
+/// What is no request here: a GET that doesn't end, one without its selector and one with another flag; a SET with another
+/// flag; a GET of the next block and one of a list; a reply; an ACTION that doesn't end, one with another flag, and one of
+/// a list.
+const OTHER_FORMS: [&[u8]; 10] = [
+    &[0xC0, 1, 0xC1, 0, 3, 1, 0, 1, 8, 0, 0xFF, 2, 0, 0],
+    &[0xC0, 1, 0xC1, 0, 3, 1, 0, 1, 8, 0, 0xFF, 2, 1],
+    &[0xC0, 1, 0xC1, 0, 3, 1, 0, 1, 8, 0, 0xFF, 2, 2],
+    &[
+        0xC1, 1, 0xC1, 0, 1, 0, 0, 0x60, 0x0B, 0, 0xFF, 2, 2, 0x11, 1,
+    ],
+    &[0xC0, 2, 0xC1, 0, 0, 0, 1],
+    &[0xC0, 3, 0xC1, 1, 0, 3, 1, 0, 1, 8, 0, 0xFF, 2, 0],
+    &[0xC4, 1, 0xC1, 0, 9, 6, 1, 0, 1, 8, 0, 0xFF, 0, 0],
+    &[
+        0xC3, 1, 0xC1, 0, 9, 0, 0, 0x0A, 0, 0x64, 0xFF, 1, 0, 0x12, 0, 1,
+    ],
+    &[
+        0xC3, 1, 0xC1, 0, 9, 0, 0, 0x0A, 0, 0x64, 0xFF, 1, 2, 0x12, 0, 1,
+    ],
+    &[
+        0xC3, 3, 0xC1, 1, 0, 9, 0, 0, 0x0A, 0, 0x64, 0xFF, 1, 1, 0x12, 0, 1,
+    ],
+];
+
+/// The reply to a GET with the double-long-unsigned 123456.
+const ENERGY_TOLD: &[u8] = &[0xC4, 1, 0xC1, 0, 6, 0, 1, 0xE2, 0x40];
+
+/// The reply to a GET with the logical name 1.0.1.8.0.255.
+const NAME_TOLD: &[u8] = &[0xC4, 1, 0xC1, 0, 9, 6, 1, 0, 1, 8, 0, 0xFF];
+
 /// What each request says before its flag.
 #[derive(Clone, Copy, Debug, PartialEq, Eq)]
 struct Head {
@@ -51,6 +87,15 @@ fn read_get(alloc: Global, bytes: &[u8]) -> Result<(Head, Option<(u8, Argument)>
             Ok((head, selection))
         }
         _ => Err("no GET".into()),
+    }
+}
+
+/// The parameter of a GET by entry.
+fn entry_descriptor(alloc: Global, bytes: &[u8]) -> Result<Argument, Fail> {
+    let (head, selection) = read_get(alloc, bytes)?;
+    match selection {
+        Some((2, parameter)) if head.class_id == 7 => Ok(parameter),
+        _ => Err("no selection by entry".into()),
     }
 }
 
@@ -165,10 +210,6 @@ fn reads_a_get(rt: HostRuntime) -> Result<(), Fail> {
 
 #[test]
 fn reads_a_selection(rt: HostRuntime) -> Result<(), Fail> {
-    let entries = [
-        0xC0, 1, 0xC1, 0, 7, 1, 0, 0x63, 1, 0, 0xFF, 2, 1, 2, 2, 4, 6, 0, 0, 0, 1, 6, 0, 0, 0, 1,
-        0x12, 0, 1, 0x12, 0, 1,
-    ];
     let descriptor = vec![in rt.alloc();
         Data::DoubleLongUnsigned(1),
         Data::DoubleLongUnsigned(1),
@@ -176,18 +217,18 @@ fn reads_a_selection(rt: HostRuntime) -> Result<(), Fail> {
         Data::LongUnsigned(1),
     ]?;
     let descriptor = Data::Structure(Items::new(descriptor));
-    let (head, selection) = read_get(rt.alloc(), &entries)?;
-    assert_eq!(rt; head.class_id, 7);
-    let (selector, parameter) = selection.ok_or("no selection")?;
-    assert_eq!(rt; selector, 2);
+    let parameter = entry_descriptor(rt.alloc(), &GET_FIRST_ENTRY)?;
     assert!(rt; is_value(&parameter, &descriptor));
+    Ok(())
+}
+
+#[test]
+fn reads_a_selection_cut_short(rt: HostRuntime) -> Result<(), Fail> {
     for end in [14, 31] {
-        let (_, selection) = read_get(rt.alloc(), &entries[..end])?;
-        let (selector, parameter) = selection.ok_or("no selection")?;
-        assert_eq!(rt; selector, 2);
+        let parameter = entry_descriptor(rt.alloc(), &GET_FIRST_ENTRY[..end])?;
         assert!(rt; is_unreadable(&parameter), "the first {end} bytes");
     }
-    assert!(rt; !is_read(rt.alloc(), &entries[..13])?);
+    assert!(rt; !is_read(rt.alloc(), &GET_FIRST_ENTRY[..13])?);
     Ok(())
 }
 
@@ -274,60 +315,20 @@ fn reads_an_action_of_no_value(rt: HostRuntime) -> Result<(), Fail> {
 }
 
 #[test]
-fn refuses_other_forms(rt: HostRuntime) -> Result<(), Fail> {
+fn refuses_a_request_cut_short(rt: HostRuntime) -> Result<(), Fail> {
     for end in 0..13 {
-        assert!(rt;
-            !is_read(rt.alloc(), &GET_REGISTER[..end])?,
-            "the first {end} bytes of a GET"
-        );
-        assert!(rt;
-            !is_read(rt.alloc(), &SET_ALARM[..end])?,
-            "the first {end} bytes of a SET"
-        );
+        for request in [GET_REGISTER.as_slice(), &SET_ALARM, &EXECUTE_SCRIPT] {
+            let is_taken = is_read(rt.alloc(), &request[..end])?;
+            assert!(rt; !is_taken, "the first {end} bytes of {request:?}");
+        }
     }
-    let does_not_end = [0xC0, 1, 0xC1, 0, 3, 1, 0, 1, 8, 0, 0xFF, 2, 0, 0];
-    let no_selector = [0xC0, 1, 0xC1, 0, 3, 1, 0, 1, 8, 0, 0xFF, 2, 1];
-    let get_flag = [0xC0, 1, 0xC1, 0, 3, 1, 0, 1, 8, 0, 0xFF, 2, 2];
-    let set_flag = [
-        0xC1, 1, 0xC1, 0, 1, 0, 0, 0x60, 0x0B, 0, 0xFF, 2, 2, 0x11, 1,
-    ];
-    let next_block = [0xC0, 2, 0xC1, 0, 0, 0, 1];
-    let get_list = [0xC0, 3, 0xC1, 1, 0, 3, 1, 0, 1, 8, 0, 0xFF, 2, 0];
-    let reply = [0xC4, 1, 0xC1, 0, 9, 6, 1, 0, 1, 8, 0, 0xFF, 0, 0];
-    assert!(rt; !is_read(rt.alloc(), &does_not_end)?);
-    assert!(rt; !is_read(rt.alloc(), &no_selector)?);
-    assert!(rt; !is_read(rt.alloc(), &get_flag)?);
-    assert!(rt; !is_read(rt.alloc(), &set_flag)?);
-    assert!(rt; !is_read(rt.alloc(), &next_block)?);
-    assert!(rt; !is_read(rt.alloc(), &get_list)?);
-    assert!(rt; !is_read(rt.alloc(), &reply)?);
     assert!(rt; is_read(rt.alloc(), &GET_REGISTER)?);
     Ok(())
 }
 
 #[test]
-fn refuses_an_action_cut_short(rt: HostRuntime) -> Result<(), Fail> {
-    for end in 0..13 {
-        assert!(rt;
-            !is_read(rt.alloc(), &EXECUTE_SCRIPT[..end])?,
-            "the first {end} bytes of an ACTION"
-        );
-    }
-    Ok(())
-}
-
-#[test]
-fn refuses_other_actions(rt: HostRuntime) -> Result<(), Fail> {
-    let does_not_end = [
-        0xC3, 1, 0xC1, 0, 9, 0, 0, 0x0A, 0, 0x64, 0xFF, 1, 0, 0x12, 0, 1,
-    ];
-    let flag = [
-        0xC3, 1, 0xC1, 0, 9, 0, 0, 0x0A, 0, 0x64, 0xFF, 1, 2, 0x12, 0, 1,
-    ];
-    let list = [
-        0xC3, 3, 0xC1, 1, 0, 9, 0, 0, 0x0A, 0, 0x64, 0xFF, 1, 1, 0x12, 0, 1,
-    ];
-    for bytes in [does_not_end.as_slice(), flag.as_slice(), list.as_slice()] {
+fn refuses_other_forms(rt: HostRuntime) -> Result<(), Fail> {
+    for bytes in OTHER_FORMS {
         assert!(rt; !is_read(rt.alloc(), bytes)?, "{bytes:?}");
     }
     Ok(())
@@ -337,17 +338,16 @@ fn refuses_other_actions(rt: HostRuntime) -> Result<(), Fail> {
 fn writes_a_value(rt: HostRuntime) -> Result<(), Fail> {
     let energy = Reply::Value(Data::DoubleLongUnsigned(123_456));
     let reply = write_reply(rt.alloc(), 0xC1, &energy, Service::Get)?;
-    assert_eq!(rt;
-        reply.as_slice(),
-        [0xC4, 1, 0xC1, 0, 6, 0, 1, 0xE2, 0x40].as_slice()
-    );
+    assert!(rt; reply.as_slice() == ENERGY_TOLD);
+    Ok(())
+}
+
+#[test]
+fn writes_a_name(rt: HostRuntime) -> Result<(), Fail> {
     let name = Vec::from_slice(rt.alloc(), &[1, 0, 1, 8, 0, 0xFF])?;
     let name = Reply::Value(Data::OctetString(Bytes::new(name)));
     let reply = write_reply(rt.alloc(), 0xC1, &name, Service::Get)?;
-    assert_eq!(rt;
-        reply.as_slice(),
-        [0xC4, 1, 0xC1, 0, 9, 6, 1, 0, 1, 8, 0, 0xFF].as_slice()
-    );
+    assert!(rt; reply.as_slice() == NAME_TOLD);
     Ok(())
 }
 
