@@ -1,1 +1,5 @@
 pub mod Restored
+pub mod Agreement
+pub mod Changes
+pub mod Accepted
+pub mod ClosedSets

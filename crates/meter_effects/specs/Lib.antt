@@ -1,1 +1,3 @@
 pub mod Formerly
+pub mod Operations
+pub mod PlanOperations

@@ -4,5 +4,6 @@
 pub mod capture;
 pub mod cells;
 pub mod former;
+pub mod laws;
 pub mod play;
 pub mod take;
