@@ -2,7 +2,7 @@
 use Rattle.std.specs.Prelude.{◌≡◌, ℕ, ◌+◌, ◌<◌, ◌==◌, Bool, true, false, ◌&&◌, cond, List, [], ◌∷◌, ◌++◌, map, flat_map, find, take, length, get_or, Option, Some, None, option_map, option_and_then, Ok, Err, is_ok, is_some, if◌then◌else◌}
 use Rattle.std.proofs.Common.{refl, sym, ap, ap₂, subst, ◌∙◌, zero, suc, arith, inl, inr, Bor}
 use Rattle.std.proofs.lemmas.Bool.{and_parts, or_right, cond-true, cond-false}
-use Rattle.std.proofs.lemmas.List.{map_more, map_push, append_assoc}
+use Rattle.std.proofs.lemmas.List.{map_more, map_push, append_assoc, append-nil, flat_map_more}
 use Rattle.cosem_data.specs.Tree.{Tree, array, no_trees}
 use Rattle.cosem_data.specs.declared.kind.Kind.TheVariants.{NullData}
 use Rattle.cosem_data.specs.Kinds.{kind_of, same_kind}
@@ -57,10 +57,6 @@ adds_one P before after e is may = record {
 
 pub adds_none : (P : Plan) (es : List Effect) → Adds P [] es es
 adds_none P es = record { effects = sym (append-nil (map effect_of es)); fits = λ all. all }
-  where
-    append-nil : {A : Type 0} (xs : List A) → xs ++ [] ≡ xs
-    append-nil [] = refl
-    append-nil (x ∷ xs) = ap (λ ys. x ∷ ys) (append-nil xs)
 
 -- what was added to no effects
 pub stands_for : (P : Plan) (added meant : List theory.Effect) (before list : List Effect) → before ≡ [] → added ≡ meant → Adds P added before list → StandsFor P meant list
@@ -83,30 +79,18 @@ pub flat_map-more : {A B E : Type 0} (f : B → List E) (g : A → B) (xs : List
     flat_map f (map g (take i xs)) ++ f (g x) ≡ flat_map f (map g (take (i + 1) xs))
 flat_map-more f g xs i x within is =
     ap (λ y. flat_map f (map g (take i xs)) ++ f (g y)) is
-    ∙ (sym (flat_map-push f (map g (take i xs)) (g (get_or xs i x)))
+    ∙ (flat_map_more f [] (map g (take i xs)) (g (get_or xs i x))
     ∙ ap (flat_map f) (sym (map_more g xs i x within)))
-  where
-    append-nil : {C : Type 0} (zs : List C) → zs ++ [] ≡ zs
-    append-nil [] = refl
-    append-nil (z ∷ zs) = ap (λ ys. z ∷ ys) (append-nil zs)
 
-    flat_map-push : {C D : Type 0} (h : C → List D) (zs : List C) (z : C) → flat_map h (zs ++ z ∷ []) ≡ flat_map h zs ++ h z
-    flat_map-push h [] z = append-nil (h z)
-    flat_map-push h (w ∷ zs) z = ap (λ ys. h w ++ ys) (flat_map-push h zs z) ∙ sym (append_assoc (h w) (flat_map h zs) (h z))
+append-empty : {A : Type 0} (xs ys : List A) → xs ++ ys ≡ [] → (xs ≡ []) × (ys ≡ [])
+append-empty [] ys h = (refl, h)
+append-empty (x ∷ xs) ys h = cc
 
 -- where a list has no effects, none of its elements has one
 pub nothing_at : {A B E : Type 0} (f : B → List E) (g : A → B) (xs : List A) (i : ℕ) (x : A) → i < length xs → x ≡ get_or xs i x → flat_map f (map g xs) ≡ [] → f (g x) ≡ []
 nothing_at f g [] i x within is none = absurd (omega arith)
 nothing_at f g (y ∷ xs) zero x within is none = ap (λ z. f (g z)) is ∙ (append-empty (f (g y)) (flat_map f (map g xs)) none).0
-  where
-    append-empty : {C : Type 0} (cs ds : List C) → cs ++ ds ≡ [] → (cs ≡ []) × (ds ≡ [])
-    append-empty [] ds h = (refl, h)
-    append-empty (a ∷ cs) ds h = cc
 nothing_at f g (y ∷ xs) (suc i) x within is none = nothing_at f g xs i x (omega arith) is (append-empty (f (g y)) (flat_map f (map g xs)) none).1
-  where
-    append-empty : {C : Type 0} (cs ds : List C) → cs ++ ds ≡ [] → (cs ≡ []) × (ds ≡ [])
-    append-empty [] ds h = (refl, h)
-    append-empty (a ∷ cs) ds h = cc
 
 -- Methods
 

@@ -1,9 +1,12 @@
 -- What the permits say of a reply and of the state after it.
-use Rattle.std.specs.Prelude.{◌≡◌, Bool, true, false, not, cond, ℕ, List, [], ◌∷◌, length, ◌==◌, Option, Some, None, Ok, Err}
+use Rattle.std.specs.Prelude.{◌≡◌, Bool, true, false, not, cond, ℕ, ℤ, List, [], length, ◌==◌, Option, Some, None, Ok, Err}
 use Rattle.std.proofs.lemmas.Bool.{eqb-true}
-use Rattle.std.proofs.Common.{arith, refl, sym, ap, ◌∙◌, inl, inr}
+use Rattle.std.proofs.lemmas.List.{nil_from_length}
+use Rattle.std.proofs.Common.{refl, sym, ap, ◌∙◌, inl, inr}
 use Rattle.cosem_data.specs.Tree.{Tree}
 use Rattle.cosem_data.specs.declared.cell.CellRef.{CellRef}
+use Rattle.cosem_data.specs.declared.cell.MethodRef.{MethodRef}
+use Rattle.cosem_data.specs.declared.name.LogicalName.{LogicalName}
 use Rattle.meter_theory.specs.declared.access.AccessCode.{AccessCode}
 use Rattle.meter_theory.specs.declared.access.AccessCode.TheVariants as codes
 use Rattle.meter_theory.specs.Access.{is_success}
@@ -21,6 +24,14 @@ use Rattle.object_model.specs.declared.argument.Argument.TheVariants as argument
 use Rattle.object_model.specs.ArgumentView.{argument_of}
 use Rattle.association_views.specs.Permits.{permitted}
 use Rattle.meter_core.specs.Memory.{needs_no_memory}
+
+-- a descriptor by its parts
+abbrev pub named : ℕ → LogicalName → ℤ → Descriptor
+named class_id name index = record { class_id = class_id; name = name; index = index }
+
+-- no effects are those of a list of no length
+no_effects : {A : Type 0} (xs : List A) → (length xs == 0) ≡ true → xs ≡ []
+no_effects xs h = nil_from_length xs (eqb-true (length xs) 0 h)
 
 granted : (code : AccessCode) (unit : Unit {0}) → Ok unit ≡ permitted code → code ≡ codes.Success
 granted codes.Success unit h = refl
@@ -110,15 +121,16 @@ pub granted_act : (P : Plan) (s : State) (c : ℕ) (d : Descriptor) (argument : 
     → Code codes.Success ≡ reply_to P s (Act c d argument)
 granted_act P s c d argument unit h = ap Code (sym (granted (act_answer P c d argument) unit h))
 
-pub granted_act_effects : (P : Plan) (s : State) (c : ℕ) (d : Descriptor) (argument : Argument) (unit : Unit {0}) → Ok unit ≡ permitted (act_answer P c d argument)
-    → method_effects P (method_of d) argument ≡ effects_of P s (Act c d argument)
-granted_act_effects P s c d argument unit h =
-    ap (λ code. cond (is_success code) (method_effects P (method_of d) argument) []) (sym (granted (act_answer P c d argument) unit h))
+-- the effects of the method that is called
+pub called_effects : (P : Plan) (s : State) (c : ℕ) (d : Descriptor) (argument : Argument) (method : MethodRef) (unit : Unit {0}) → method ≡ method_of d →
+    Ok unit ≡ permitted (act_answer P c d argument) → method_effects P method argument ≡ effects_of P s (Act c d argument)
+called_effects P s c d argument method unit is h =
+    ap (λ m. method_effects P m argument) is
+    ∙ ap (λ code. cond (is_success code) (method_effects P (method_of d) argument) []) (sym (granted (act_answer P c d argument) unit h))
 
--- no effects are those of a list of no length
-pub no_effects : {A : Type 0} (xs : List A) → (length xs == 0) ≡ true → xs ≡ []
-no_effects [] h = refl
-no_effects (x ∷ xs) h = let e = eqb-true (length (x ∷ xs)) 0 h in absurd (omega (arith, e))
+pub called_none : (P : Plan) (s : State) (c : ℕ) (d : Descriptor) (argument : Argument) (method : MethodRef) (unit : Unit {0}) → method ≡ method_of d →
+    Ok unit ≡ permitted (act_answer P c d argument) → needs_no_memory P s (Act c d argument) ≡ true → method_effects P method argument ≡ []
+called_none P s c d argument method unit is h needs = called_effects P s c d argument method unit is h ∙ no_effects (effects_of P s (Act c d argument)) needs
 
 -- the meter's own steps
 

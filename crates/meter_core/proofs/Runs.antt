@@ -1,6 +1,6 @@
 -- Runs of steps, one after another.
-use Rattle.std.specs.Prelude.{◌≡◌, ℕ, ◌+◌, ◌<◌, List, [], ◌∷◌, ◌++◌, map, take, length, get_or, Result, Ok, Err, is_ok, if◌then◌else◌}
-use Rattle.std.proofs.Common.{refl, sym, ap, ap₂, ◌∙◌}
+use Rattle.std.specs.Prelude.{◌≡◌, ℕ, ◌+◌, ◌<◌, List, [], ◌∷◌, ◌++◌, map, take, length, get_or}
+use Rattle.std.proofs.Common.{refl, sym, subst, ap, ap₂, ◌∙◌}
 use Rattle.std.proofs.lemmas.List.{length-map, map_more, map_push, take-map}
 use Rattle.meter_theory.specs.State.{State}
 use Rattle.meter_theory.specs.Plan.{Plan}
@@ -39,17 +39,16 @@ replies_more P s now steps i step rs r within is before answered answer =
     ∙ ap (replies P s) (sym (map_more step_of steps i step within))))
 
 -- where a run stops
-pub stopped : (P : Plan) (s now new : State) (steps : List Step) (i : ℕ) (rs : List Reply) → length rs ≡ i → now ≡ run P s (map step_of (take i steps)) →
+pub stopped : (P : Plan) (s now new : State) (steps : List Step) (i : ℕ) (rs : List Reply) → i < length steps → length rs ≡ i → now ≡ run P s (map step_of (take i steps)) →
     map reply_of rs ≡ replies P s (map step_of (take i steps)) → new ≡ now → IsStopped P s new (map step_of steps) (map reply_of rs)
-stopped P s now new steps i rs count before answered stays = record {
+stopped P s now new steps i rs within count before answered stays = record {
+  left = subst (λ n. n < length (map step_of steps)) (sym told) (subst (λ n. i < n) (sym (length-map steps step_of)) within);
   replies = answered ∙ ap (λ l. replies P s l) front;
   meter = stays ∙ (before ∙ ap (run P s) front);
 }
   where
-    front : map step_of (take i steps) ≡ take (length (map reply_of rs)) (map step_of steps)
-    front = sym (take-map step_of i steps) ∙ ap (λ n. take n (map step_of steps)) (sym (length-map rs reply_of ∙ count))
+    told : length (map reply_of rs) ≡ i
+    told = length-map rs reply_of ∙ count
 
--- a push that succeeds
-pub pushed : {A U E : Type 0} (r : Result U E) (u : U) (new before after : List A) → r ≡ Ok u → new ≡ (if is_ok r then after else before) → new ≡ after
-pushed (Ok x) u new before after is h = h
-pushed (Err e) u new before after is h = cc
+    front : map step_of (take i steps) ≡ take (length (map reply_of rs)) (map step_of steps)
+    front = sym (take-map step_of i steps) ∙ ap (λ n. take n (map step_of steps)) (sym told)

@@ -15,11 +15,13 @@ pub enum Reply {
 }
 
 impl Reply {
-    ghost use Rattle.std.specs.Prelude.{◌≡◌, IfOk};
+    ghost use Rattle.std.specs.Prelude.{◌≡◌, false, IfOk, IsOk};
+    ghost use Rattle.meter_core.specs.Copies.{has_value};
 
-    /// A copy, which equals the original. The only error is that memory was refused.
+    /// A copy, which equals the original. The only error is that memory was refused; a reply without a value takes none.
     pub fn try_clone(&self, alloc: Global) -> Result<Reply, Memory>
-        ensures { IfOk result (λ copy. copy ≡ self.now) }
+        ensures equal { IfOk result (λ copy. copy ≡ self.now) }
+        ensures bare { has_value self.now ≡ false → IsOk result }
     {
         Ok(match self {
             Reply::Value(value) => Reply::Value(value.try_clone(alloc)?),

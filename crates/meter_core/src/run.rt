@@ -19,7 +19,7 @@ pub struct Stopped {
     pub replies: Vec<Reply>,
 }
 
-/// Takes steps one after another, and answers each. The only error is that memory was refused.
+/// Takes steps one after another, and answers each. The only error is that memory was refused, and then a step is left.
 pub fn run(
     alloc: Global,
     plan: &Plan,
@@ -32,6 +32,9 @@ pub fn run(
     ensures replies { IfOk result (λ all. map reply_of all.items ≡ replies plan.now meter.old (map step_of steps.now)) }
     ensures stopped { IfErr result (λ stopped. IsStopped plan.now meter.old meter.new (map step_of steps.now) (map reply_of stopped.replies.items)) }
 {
+    if steps.is_empty() {
+        return Ok(Vec::new(alloc));
+    }
     let Ok(mut replies) = Vec::with_capacity(alloc, steps.len()) else {
         return Err(Stopped {
             replies: Vec::new(alloc),

@@ -1,4 +1,4 @@
-ghost use Rattle.std.specs.Prelude.{◌≡◌, IfOk};
+ghost use Rattle.std.specs.Prelude.{◌≡◌, false, is_some, IfOk, IsOk};
 
 use civil_moment::moment::Moment;
 use cosem_data::cell::CellRef;
@@ -62,11 +62,13 @@ pub enum Step {
 }
 
 impl Step {
-    ghost use Rattle.std.specs.Prelude.{◌≡◌, IfOk};
+    ghost use Rattle.std.specs.Prelude.{◌≡◌, false, IfOk, IsOk};
+    ghost use Rattle.meter_core.specs.Copies.{brings_value};
 
-    /// A copy, which equals the original. The only error is that memory was refused.
+    /// A copy, which equals the original. The only error is that memory was refused; a step that brings no value takes none.
     pub fn try_clone(&self, alloc: Global) -> Result<Step, Memory>
-        ensures { IfOk result (λ copy. copy ≡ self.now) }
+        ensures equal { IfOk result (λ copy. copy ≡ self.now) }
+        ensures bare { brings_value self.now ≡ false → IsOk result }
     {
         Ok(match self {
             Step::Get {
@@ -132,7 +134,8 @@ fn selection_copy(
     alloc: Global,
     selection: &Option<(u8, Argument)>,
 ) -> Result<Option<(u8, Argument)>, Memory>
-    ensures { IfOk result (λ copy. copy ≡ selection.now) }
+    ensures equal { IfOk result (λ copy. copy ≡ selection.now) }
+    ensures none { is_some selection.now ≡ false → IsOk result }
 {
     match selection {
         Some((selector, parameter)) => Ok(Some((*selector, parameter.try_clone(alloc)?))),

@@ -48,14 +48,15 @@ const VALUES: &[u8] = b"C401C1000100\n\
     C401C1001601\n\
     C401C100010102020904000000FF0905FFFFFFFEFF\n";
 
-// Two thresholds for one action, and one; a period; a selection without a descriptor; no time for a schedule of type 1,
-// and one, midnight on each first of a month. What was set is read back.
+// Two thresholds for one action, and one; a period; a selection without a descriptor, and one of a register; no time for a
+// schedule of type 1, and one, midnight on each first of a month. What was set is read back.
 const CHANGES: &[u8] = b"manager C101C100150000100100FF0200010206000000010600000002\n\
     manager C101C100150000100100FF020001010600000001\n\
     manager C001C100150000100100FF0200\n\
     installer C101C100070100630100FF04000600000E10\n\
     reader C001C100070100630100FF0400\n\
     reader C001C100070100630100FF02010200\n\
+    reader C001C100030100010800FF02010200\n\
     installer C101C1001600000F0000FF04000100\n\
     installer C101C1001600000F0000FF0400010102020904000000000905FFFFFF01FF\n\
     manager C001C1001600000F0000FF0400\n";
@@ -66,6 +67,7 @@ const CHANGED: &[u8] = b"C501C1FA\n\
     C501C100\n\
     C401C1000600000E10\n\
     C401C1010C\n\
+    C401C1010D\n\
     C501C1FA\n\
     C501C100\n\
     C401C100010102020904000000000905FFFFFF01FF\n";
@@ -79,7 +81,7 @@ fn a_meter_starts_as_configured(rt: HostRuntime) -> Result<(), Fail> {
 #[test]
 fn a_meter_is_changed_by_its_rules(rt: HostRuntime) -> Result<(), Fail> {
     let plan = watched_plan(rt.alloc())?;
-    is_answered(&rt, rt.alloc(), &plan, CHANGES, Ok(9), CHANGED)
+    is_answered(&rt, rt.alloc(), &plan, CHANGES, Ok(10), CHANGED)
 }
 
 // The verdict on this fault is told so.
