@@ -2,7 +2,10 @@ ghost use Rattle.std.specs.Prelude.{◌≡◌, ◌≤◌, Some, IfOk, length};
 
 mod actions;
 mod driven;
+mod events;
 mod permits;
+mod refusals;
+mod runs;
 mod samples;
 mod selections;
 mod steps;

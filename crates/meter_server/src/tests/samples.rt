@@ -33,6 +33,9 @@ pub const TABLE: LogicalName = LogicalName([0, 0, 10, 0, 100, 255]);
 // Alarm monitor 0, a register monitor.
 pub const MONITOR: LogicalName = LogicalName([0, 0, 16, 1, 0, 255]);
 
+// The schedule of the third script.
+pub const SCHEDULE: LogicalName = LogicalName([0, 0, 15, 0, 0, 255]);
+
 // The places of the clients in the plans of register and alarm, and one of no client.
 pub const PUBLIC: u8 = 0;
 
@@ -74,12 +77,17 @@ pub(super) fn octets(alloc: Global, bytes: &[u8]) -> Result<Data, Memory> {
     Ok(Data::OctetString(Bytes::new(Vec::from_slice(alloc, bytes)?)))
 }
 
-// The encoding of a value, in upper case hex.
-pub(super) fn written(rt: &impl Abort, alloc: Global, value: &Data) -> Result<String, Memory> {
+// The encoding of a value goes behind the bytes.
+pub(super) fn encode(rt: &impl Abort, value: &Data, bytes: &mut Vec<u8>) -> Result<(), Memory> {
     let is_small = is_encoded_within(value, 70_000);
     assert!(rt; is_small);
+    write_data(value, bytes)
+}
+
+// The encoding of a value, in upper case hex.
+pub(super) fn written(rt: &impl Abort, alloc: Global, value: &Data) -> Result<String, Memory> {
     let mut bytes = Vec::new(alloc);
-    write_data(value, &mut bytes)?;
+    encode(rt, value, &mut bytes)?;
     Ok(hex::encode_upper(alloc, &bytes)?)
 }
 
@@ -231,6 +239,46 @@ right = [
  { client = "reader", object = "0.0.96.11.0.255", get = [2] },
 ]
 policy = { influence = [], learn = ["reader"] }
+"#,
+    )
+}
+
+// One object of each class and a manager, who reads the profile, calls all methods, and reads and sets the alarm, which is an
+// octet-string, so that its values take memory. The first script sets it and captures a row; the second one captures a row and
+// clears the profile between two settings, resets the register and captures again.
+pub(super) fn octets_plan(alloc: Global) -> Result<Plan, Fail> {
+    plan_of(
+        alloc,
+        r#"version = 1
+client = [{ name = "manager", sap = 1 }]
+object = [
+ { class = 3, name = "1.0.1.8.0.255", fed = true, value = "0600000005", default = "0600000000", scaler = 0, unit = 30 },
+ { class = 1, name = "0.0.96.11.0.255", value = "0900" },
+ { class = 9, name = "0.0.10.0.100.255", script = [
+  { id = 1, action = [
+   { service = 1, object = "0.0.96.11.0.255", index = 2, value = "090143" },
+   { service = 2, object = "1.0.99.1.0.255", index = 2 } ] },
+  { id = 2, action = [
+   { service = 2, object = "1.0.99.1.0.255", index = 2 },
+   { service = 1, object = "0.0.96.11.0.255", index = 2, value = "090144" },
+   { service = 2, object = "1.0.99.1.0.255", index = 1 },
+   { service = 2, object = "1.0.99.1.0.255", index = 2 },
+   { service = 1, object = "0.0.96.11.0.255", index = 2, value = "09024546" },
+   { service = 2, object = "1.0.1.8.0.255", index = 1 },
+   { service = 2, object = "1.0.99.1.0.255", index = 2 } ] } ] },
+ { class = 21, name = "0.0.16.1.0.255", monitored = { object = "1.0.1.8.0.255", index = 2 }, thresholds = ["0600000064"], action = [
+  { up = { table = "0.0.10.0.100.255", script = 1 }, down = { table = "0.0.10.0.100.255", script = 0 } } ] },
+ { class = 7, name = "1.0.99.1.0.255", period = 900, entries = 2, capture = [
+  { object = "1.0.1.8.0.255", index = 2 }, { object = "0.0.96.11.0.255", index = 2 } ] },
+ { class = 22, name = "0.0.15.0.0.255", script = { table = "0.0.10.0.100.255", script = 2 }, type = 1, times = ["000000FFFFFFFFFEFF"] },
+]
+right = [
+ { client = "manager", object = "1.0.1.8.0.255", act = [1] },
+ { client = "manager", object = "0.0.96.11.0.255", get = [2], set = [2] },
+ { client = "manager", object = "0.0.10.0.100.255", act = [1] },
+ { client = "manager", object = "1.0.99.1.0.255", get = [2], act = [1, 2] },
+]
+policy = { influence = ["manager"], learn = ["manager"] }
 "#,
     )
 }

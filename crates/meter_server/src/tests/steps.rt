@@ -76,7 +76,13 @@ fn is_told(
     is_this(rt, alloc, &reply?, want)
 }
 
-fn is_this(rt: &impl Abort, alloc: Global, reply: &Reply, want: &str) -> Result<(), Fail> {
+// The reply is told so.
+pub(super) fn is_this(
+    rt: &impl Abort,
+    alloc: Global,
+    reply: &Reply,
+    want: &str,
+) -> Result<(), Fail> {
     let text = told(rt, alloc, reply)?;
     assert_eq!(rt; text.as_str(), want);
     Ok(())

@@ -1,7 +1,7 @@
 use Rattle.std.proofs.Common.{◌≡◌, true, ◌∙◌, sym, leb-true, lit<, rules}
 use Rattle.cosem_data.specs.View.{tree}
 use Rattle.cosem_axdr.proofs.Room.{small_has_lengths}
-use Rattle.meter_server.proofs.tests.samples.written.Goals as goal
+use Rattle.meter_server.proofs.tests.samples.encode.Goals as goal
 
 pub write_data-requires : goal.write_data-requires
 write_data-requires g c =
