@@ -53,40 +53,37 @@ fn agree(rt: &impl Abort, alloc: Global, value: &Data, bytes: &[u8]) -> Result<(
     Ok(())
 }
 
-#[test]
-fn numbers_agree(rt: HostRuntime) -> Result<(), Fail> {
-    let a = rt.alloc();
-    agree(&rt, a, &Data::NullData, &[0])?;
-    agree(&rt, a, &Data::Boolean(true), &[3, 1])?;
-    agree(&rt, a, &Data::Boolean(false), &[3, 0])?;
-    agree(&rt, a, &Data::DoubleLong(-2), &[5, 0xFF, 0xFF, 0xFF, 0xFE])?;
-    agree(
-        &rt,
-        a,
-        &Data::DoubleLongUnsigned(3600),
-        &[6, 0, 0, 0x0E, 0x10],
-    )?;
-    agree(&rt, a, &Data::Integer(-1), &[0x0F, 0xFF])?;
-    agree(&rt, a, &Data::Long(-32_768), &[0x10, 0x80, 0])?;
-    agree(&rt, a, &Data::Unsigned(255), &[0x11, 0xFF])?;
-    agree(&rt, a, &Data::LongUnsigned(4059), &[0x12, 0x0F, 0xDB])?;
-    agree(&rt, a, &Data::Enumerated(30), &[0x16, 0x1E])?;
+/// Each value is written as its bytes, and these are read as it.
+fn all_agree(rt: &impl Abort, alloc: Global, pairs: &[(Data, &[u8])]) -> Result<(), Fail> {
+    for (value, bytes) in pairs {
+        agree(rt, alloc, value, bytes)?;
+    }
     Ok(())
 }
 
 #[test]
-fn long_numbers_agree(rt: HostRuntime) -> Result<(), Fail> {
-    let a = rt.alloc();
-    let least = [0x14, 0x80, 0, 0, 0, 0, 0, 0, 0];
-    agree(&rt, a, &Data::Long64(-9_223_372_036_854_775_808), &least)?;
-    let counted = [0x15, 1, 2, 3, 4, 5, 6, 7, 8];
-    agree(
-        &rt,
-        a,
-        &Data::Long64Unsigned(0x0102_0304_0506_0708),
-        &counted,
-    )?;
-    Ok(())
+fn numbers_agree(rt: HostRuntime) -> Result<(), Fail> {
+    let numbers: [(Data, &[u8]); 12] = [
+        (Data::NullData, &[0]),
+        (Data::Boolean(true), &[3, 1]),
+        (Data::Boolean(false), &[3, 0]),
+        (Data::DoubleLong(-2), &[5, 0xFF, 0xFF, 0xFF, 0xFE]),
+        (Data::DoubleLongUnsigned(3600), &[6, 0, 0, 0x0E, 0x10]),
+        (Data::Integer(-1), &[0x0F, 0xFF]),
+        (Data::Long(-32_768), &[0x10, 0x80, 0]),
+        (Data::Unsigned(255), &[0x11, 0xFF]),
+        (Data::LongUnsigned(4059), &[0x12, 0x0F, 0xDB]),
+        (
+            Data::Long64(-9_223_372_036_854_775_808),
+            &[0x14, 0x80, 0, 0, 0, 0, 0, 0, 0],
+        ),
+        (
+            Data::Long64Unsigned(0x0102_0304_0506_0708),
+            &[0x15, 1, 2, 3, 4, 5, 6, 7, 8],
+        ),
+        (Data::Enumerated(30), &[0x16, 0x1E]),
+    ];
+    all_agree(&rt, rt.alloc(), &numbers)
 }
 
 #[test]
@@ -108,43 +105,44 @@ fn strings_and_parts_agree(rt: HostRuntime) -> Result<(), Fail> {
     Ok(())
 }
 
+/// What can't be read, and the first fault in it.
+const FAULTS: [(&[u8], ReadFault); 8] = [
+    (&[], ReadFault::Short),
+    (&[9, 0x84, 0xFF, 0xFF, 0xFF, 0xFF], ReadFault::Short),
+    (&[1, 0x84, 0x0F, 0xFF, 0xFF, 0xFF], ReadFault::Short),
+    (&[0x0B], ReadFault::UnknownTag),
+    (&[1, 2, 0, 23], ReadFault::UnknownTag),
+    (&[9, 0x80], ReadFault::Length),
+    (&[9, 0x85], ReadFault::Length),
+    (&[2, 2, 0x0B, 9, 0x80], ReadFault::UnknownTag),
+];
+
 #[test]
 fn tells_the_first_fault(rt: HostRuntime) -> Result<(), Fail> {
-    let a = rt.alloc();
-    assert_eq!(rt; fault(a, &[])?, Some(ReadFault::Short));
-    assert_eq!(rt;
-        fault(a, &[9, 0x84, 0xFF, 0xFF, 0xFF, 0xFF])?,
-        Some(ReadFault::Short)
-    );
-    assert_eq!(rt;
-        fault(a, &[1, 0x84, 0x0F, 0xFF, 0xFF, 0xFF])?,
-        Some(ReadFault::Short)
-    );
-    assert_eq!(rt; fault(a, &[0x0B])?, Some(ReadFault::UnknownTag));
-    assert_eq!(rt; fault(a, &[1, 2, 0, 23])?, Some(ReadFault::UnknownTag));
-    assert_eq!(rt; fault(a, &[9, 0x80])?, Some(ReadFault::Length));
-    assert_eq!(rt; fault(a, &[9, 0x85])?, Some(ReadFault::Length));
-    assert_eq!(rt;
-        fault(a, &[2, 2, 0x0B, 9, 0x80])?,
-        Some(ReadFault::UnknownTag)
-    );
+    for (bytes, want) in FAULTS {
+        assert_eq!(rt; fault(rt.alloc(), bytes)?, Some(want), "in {bytes:?}");
+    }
     Ok(())
 }
 
 #[test]
 fn reads_sixteen_levels(rt: HostRuntime) -> Result<(), Fail> {
-    let a = rt.alloc();
-    let deep = [
-        1, 1, 1, 1, 1, 1, 1, 1, 1, 1, 1, 1, 1, 1, 1, 1, 1, 1, 1, 1, 1, 1, 1, 1, 1, 1, 1, 1, 1, 1,
-        1, 1, 1, 1,
-    ];
-    assert_eq!(rt; fault(a, &deep)?, Some(ReadFault::TooDeep));
-    // The fault stands at the seventeenth tag, also where the input ends there.
-    assert_eq!(rt; fault(a, &deep[..33])?, Some(ReadFault::TooDeep));
-    assert_eq!(rt; fault(a, &deep[..32])?, Some(ReadFault::Short));
+    // Arrays of one array. The fault stands at the seventeenth tag, also where the input ends there.
+    let deep = [1u8; 34];
+    for (end, want) in [
+        (34, ReadFault::TooDeep),
+        (33, ReadFault::TooDeep),
+        (32, ReadFault::Short),
+    ] {
+        assert_eq!(rt;
+            fault(rt.alloc(), &deep[..end])?,
+            Some(want),
+            "of {end} bytes"
+        );
+    }
     let mut sixteen = deep;
     sixteen[32] = 0;
-    assert_eq!(rt; fault(a, &sixteen)?, None);
+    assert!(rt; fault(rt.alloc(), &sixteen)?.is_none());
     Ok(())
 }
 
