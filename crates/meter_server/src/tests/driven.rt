@@ -61,7 +61,7 @@ const TWO: &[u8] = b"in 1.0.1.8.0.255 0600000002\n\
 
 const ALIKE: &[u8] = b"C401C10009060100010800FF\nC401C10103\n";
 
-// Three captures into two rows: the second row, and the second column of the first one.
+// Three captures into two rows: the second row, and the second column of the first one. A reset leaves no row in use.
 const INPUTS: &[u8] = b"in 1.0.1.8.0.255 0600000001\n\
     manager C301C100070100630100FF0200\n\
     in 1.0.1.8.0.255 0600000002\n\
@@ -69,13 +69,17 @@ const INPUTS: &[u8] = b"in 1.0.1.8.0.255 0600000001\n\
     in 1.0.1.8.0.255 0600000003\n\
     manager C301C100070100630100FF0200\n\
     reader C001C100070100630100FF020102020406000000020600000000120001120000\n\
-    reader C001C100070100630100FF020102020406000000010600000001120002120002\n";
+    reader C001C100070100630100FF020102020406000000010600000001120002120002\n\
+    manager C301C100070100630100FF0100\n\
+    reader C001C100070100630100FF0700\n";
 
 const ROWS: &[u8] = b"C701C10000\n\
     C701C10000\n\
     C701C10000\n\
     C401C1000101020206000000031100\n\
-    C401C100010102011100\n";
+    C401C100010102011100\n\
+    C701C10000\n\
+    C401C1000600000000\n";
 
 // The schedule runs at midnight on the last day of a month. Without a period it alone captures.
 const LAST_DAYS: &[u8] = b"installer C101C100070100630100FF04000600000000\n\
@@ -128,7 +132,7 @@ fn the_meter_takes_its_own_steps(rt: HostRuntime) -> Result<(), Fail> {
         (CROSSINGS_AND_A_PERIOD, 14, CROSSED_ALIKE),
         (ONE, 4, ALIKE),
         (TWO, 4, ALIKE),
-        (INPUTS, 8, ROWS),
+        (INPUTS, 10, ROWS),
         (LAST_DAYS, 9, COUNTS),
         (MOMENTS, 7, OFFERED),
         (IN_VAIN, 7, UNCHANGED),
