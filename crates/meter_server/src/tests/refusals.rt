@@ -221,7 +221,39 @@ fn wanted(alloc: Global, held: Held) -> Result<String, Memory> {
     )?)
 }
 
-// Takes a step. Where memory is refused, the cells hold what they held, and the step is taken once more.
+// The cells hold this, as encodings in hex.
+fn hold(
+    rt: &impl Abort,
+    alloc: Global,
+    cells: &[CellRef],
+    meter: &Meter,
+    want: &str,
+) -> Result<(), Memory> {
+    let found = all_held(rt, alloc, cells, meter)?;
+    assert!(rt; found.as_str() == want, "{found} for {want}");
+    Ok(())
+}
+
+// Takes a step that was refused memory. The cells hold what they held, and now it is taken.
+fn taken_again(
+    rt: &impl Abort,
+    alloc: Global,
+    plan: &Plan,
+    cells: &[CellRef],
+    before: &str,
+    meter: &mut Meter,
+    step: &Step,
+) -> Result<Reply, Memory>
+    requires { IsState plan.now meter.old }
+    ensures { IsState plan.now meter.new }
+{
+    hold(rt, alloc, cells, meter, before)?;
+    let again = apply(alloc, plan, meter, step);
+    assert!(rt; again.is_ok(), "refused once more");
+    again
+}
+
+// Takes a step, once more where memory is refused.
 fn taken(
     rt: &impl Abort,
     alloc: Global,
@@ -229,19 +261,15 @@ fn taken(
     cells: &[CellRef],
     meter: &mut Meter,
     step: &Step,
-) -> Result<Reply, Fail>
+) -> Result<Reply, Memory>
     requires { IsState plan.now meter.old }
     ensures { IsState plan.now meter.new }
 {
     let before = all_held(rt, alloc, cells, meter)?;
-    if let Ok(reply) = apply(alloc, plan, meter, step) {
-        return Ok(reply);
+    match apply(alloc, plan, meter, step) {
+        Ok(reply) => Ok(reply),
+        Err(_) => taken_again(rt, alloc, plan, cells, before.as_str(), meter, step),
     }
-    let after = all_held(rt, alloc, cells, meter)?;
-    assert_eq!(rt; after.as_str(), before.as_str());
-    let again = apply(alloc, plan, meter, step);
-    assert!(rt; again.is_ok(), "refused once more");
-    Ok(again?)
 }
 
 // The step of a row has its reply and leaves in the cells what the row says, also where memory is refused once.
@@ -257,10 +285,10 @@ fn survives(
     ensures { IsState plan.now meter.new }
 {
     let (event, want, held) = row;
-    let reply = taken(rt, alloc, plan, cells, meter, &step(alloc, event)?)?;
+    let step = step(alloc, event)?;
+    let reply = taken(rt, alloc, plan, cells, meter, &step)?;
     is_this(rt, alloc, &reply, want)?;
-    let found = all_held(rt, alloc, cells, meter)?;
-    assert_eq!(rt; found.as_str(), wanted(alloc, held)?.as_str());
+    hold(rt, alloc, cells, meter, wanted(alloc, held)?.as_str())?;
     Ok(())
 }
 
@@ -281,12 +309,38 @@ fn survives_all(
     Ok(())
 }
 
+fn survives_requests(
+    rt: &impl Abort,
+    alloc: Global,
+    plan: &Plan,
+    cells: &[CellRef],
+    meter: &mut Meter,
+) -> Result<(), Fail>
+    requires { IsState plan.now meter.old }
+    ensures { IsState plan.now meter.new }
+{
+    survives_all(rt, alloc, plan, cells, meter, &REQUESTS)
+}
+
+fn survives_own_steps(
+    rt: &impl Abort,
+    alloc: Global,
+    plan: &Plan,
+    cells: &[CellRef],
+    meter: &mut Meter,
+) -> Result<(), Fail>
+    requires { IsState plan.now meter.old }
+    ensures { IsState plan.now meter.new }
+{
+    survives_all(rt, alloc, plan, cells, meter, &OWN_STEPS)
+}
+
 // Whichever growth of a step is refused, the meter is as it was, and takes the step next.
 #[test]
 fn a_refused_growth_leaves_the_meter(rt: HostRuntime) -> Result<(), Fail> {
     let plan = octets_plan(rt.alloc())?;
     let mut meter = started(&plan, rt.alloc())?;
     let cells = plan.cells(rt.alloc())?;
-    survives_all(&rt, rt.alloc(), &plan, &cells, &mut meter, &REQUESTS)?;
-    survives_all(&rt, rt.alloc(), &plan, &cells, &mut meter, &OWN_STEPS)
+    survives_requests(&rt, rt.alloc(), &plan, &cells, &mut meter)?;
+    survives_own_steps(&rt, rt.alloc(), &plan, &cells, &mut meter)
 }
