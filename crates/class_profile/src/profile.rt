@@ -1,7 +1,7 @@
-ghost use Rattle.std.specs.Prelude.{◌≡◌, ◌≤◌, ℕ, length, true, IfOk, OnOk, OnErr};
+ghost use Rattle.std.specs.Prelude.{◌≡◌, ◌≤◌, ℕ, length, true, IfOk, IsOk, OnOk, OnErr};
 ghost use Rattle.cosem_data.specs.View.{tree};
-ghost use Rattle.meter_theory.specs.Value.{meets, structure_of};
-ghost use Rattle.meter_theory.specs.Steps.{buffer_after};
+ghost use Rattle.meter_theory.specs.Value.{elements, meets, structure_of};
+ghost use Rattle.meter_theory.specs.Steps.{buffer_after, in_use_after};
 ghost use Rattle.meter_theory.specs.Plan.{ProfileGeneric};
 ghost use Rattle.meter_theory.specs.Fixed.{fixed_in};
 ghost use Rattle.cosem_class.specs.CellSets.{has};
@@ -54,12 +54,13 @@ impl ProfilePart {
         }
     }
 
-    /// Puts a row behind a buffer, of which the oldest entry goes where there is no room. The only error is that memory was
-    /// refused, and the buffer has not changed then.
+    /// Puts a row behind a buffer, of which the oldest entry goes where there is no room, and then it takes no memory. The
+    /// only error is that memory was refused, and the buffer has not changed then.
     fn push_row(&self, alloc: Global, buffer: &mut Data, row: Row) -> Result<(), Memory>
         requires { is_buffer (length self.now.captured.items) self.now.profile_entries (tree buffer.old) ≡ true }
         ensures ok { OnOk result (tree buffer.new ≡ buffer_after self.now.profile_entries (tree buffer.old) (structure_of row)) }
         ensures err { OnErr result (buffer.new ≡ buffer.old) }
+        ensures full { length (elements (tree buffer.old)) ≡ self.now.profile_entries → IsOk result }
     {
         match buffer {
             Data::Array(rows) => {
@@ -90,6 +91,25 @@ pub struct Profile<'a> {
     pub ghost period_fits: { meets period_rule (tree capture_period) ≡ true },
     // At most profile_entries entries are in use.
     pub ghost in_use_fits: { is_count part.now.profile_entries (tree entries_in_use) ≡ true },
+}
+
+impl<'a> Profile<'a> {
+    /// Method 2, capture: the row goes behind the buffer, of which the oldest entry goes where there is no room, and then it
+    /// takes no memory. The only error is that memory was refused, and the object has not changed then (IEC 62056-6-2,
+    /// Profile generic).
+    pub fn capture(&mut self, alloc: Global, row: Row) -> Result<(), Memory>
+        requires { length row ≡ length self.old.part.now.captured.items }
+        ensures same { (self.new.name ≡ self.old.name) × (self.new.part.now ≡ self.old.part.now) × (tree self.new.capture_period ≡ tree self.old.capture_period) }
+        ensures rows { OnOk result (tree self.new.buffer ≡ buffer_after self.old.part.now.profile_entries (tree self.old.buffer) (structure_of row)) }
+        ensures count { OnOk result (tree self.new.entries_in_use ≡ in_use_after self.old.part.now.profile_entries (tree self.old.entries_in_use)) }
+        ensures err { OnErr result (self.new ≡ self.old) }
+        ensures full { length (elements (tree self.old.buffer)) ≡ self.old.part.now.profile_entries → IsOk result }
+    {
+        let part = self.part;
+        part.push_row(alloc, &mut self.buffer, row)?;
+        self.entries_in_use = one_more(&self.entries_in_use, part.profile_entries);
+        Ok(())
+    }
 }
 
 impl<'a> InterfaceClass for Profile<'a> {
@@ -165,12 +185,7 @@ impl<'a> InterfaceClass for Profile<'a> {
                 self.entries_in_use = Data::DoubleLongUnsigned(0);
                 Ok(())
             }
-            2 => {
-                let part = self.part;
-                part.push_row(alloc, &mut self.buffer, row)?;
-                self.entries_in_use = one_more(&self.entries_in_use, part.profile_entries);
-                Ok(())
-            }
+            2 => Ok(self.capture(alloc, row)?),
             _ => Err(ClassFault::NoIndex),
         }
     }

@@ -7,7 +7,7 @@ use Rattle.meter_theory.specs.Value.{meets}
 use Rattle.class_profile.specs.ProfileClass.{is_buffer, is_count, period_rule}
 use Rattle.class_profile.specs.ProfileLaws.{is_buffer-after, is_count-after}
 use Rattle.class_profile.specs.declared.profile.Profile.{Profile}
-use Rattle.class_profile.proofs.profile.ProfileInterfaceClass.invoke.Goals as goal
+use Rattle.class_profile.proofs.profile.Profile.capture.Goals as goal
 
 -- the buffer may stand in the profile, its period is one, and so is its number of entries in use
 abbrev IsBufferOf : Profile → Data → Type 0
@@ -43,19 +43,19 @@ same_profile p buffer fits period count e =
         ∙ ap (λ (g : HasPeriod p). with_buffer p p.buffer p.buffer_fits g count) (Bool-set _ _ period p.period_fits)
         ∙ ap (λ (g : HasCount p). with_buffer p p.buffer p.buffer_fits p.period_fits g) (Bool-set _ _ count p.in_use_fits)
 
-pub returns-in_err-push_row-in-2-clause-err : goal.returns-in_err-push_row-in-2-clause-err
-returns-in_err-push_row-in-2-clause-err c =
+pub returns-in_err-push_row-clause-err : goal.returns-in_err-push_row-clause-err
+returns-in_err-push_row-clause-err c =
     let p = err_from_is_err_and c.from_residual.result c.from_residual.ensures.1 in
-    rw p.1 (same_profile c.args.self.now c.push_row.new.buffer _ _ _ c.in_err-push_row-in-2.ensures.err)
+    rw p.1 (same_profile c.args.self.now c.push_row.new.buffer _ _ _ c.in_err-push_row.ensures.err)
 
-pub invariant_of-self-in-2 : goal.invariant_of-self-in-2
-invariant_of-self-in-2 c =
+pub invariant_of-self-2 : goal.invariant_of-self-2
+invariant_of-self-2 c =
     let old = c.args.self.now in
     let part = old.part.now in
     record {
       buffer_fits =
-          ap (is_buffer (length part.captured.items) part.profile_entries) c.in_ok-push_row-in-2.ensures.ok
-          ∙ is_buffer-after (length part.captured.items) part.profile_entries (tree old.buffer) c.args.row old.buffer_fits (c.requires c.in-2.is);
+          ap (is_buffer (length part.captured.items) part.profile_entries) c.in_ok-push_row.ensures.ok
+          ∙ is_buffer-after (length part.captured.items) part.profile_entries (tree old.buffer) c.args.row old.buffer_fits c.requires;
       period_fits = old.period_fits;
       in_use_fits = ap (is_count part.profile_entries) c.one_more.ensures ∙ is_count-after part.profile_entries (tree old.entries_in_use);
     }
