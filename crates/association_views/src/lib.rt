@@ -2,6 +2,7 @@
 #![tactic(auto)]
 
 pub mod association;
+pub mod laws;
 pub mod permits;
 pub mod selection;
 pub mod view;

@@ -18,7 +18,7 @@ use crate::former::Former;
 use class_profile::laws::captures_are_taken_back;
 use class_profile::profile::{Profile, ProfilePart};
 use class_profile::reversal::dropped;
-use cosem_class::class::{InterfaceClass, Row};
+use cosem_class::class::Row;
 use cosem_data::cell::CellRef;
 use cosem_data::data::{Data, Items};
 use cosem_data::memory::Memory;
@@ -121,9 +121,7 @@ fn capture_row(alloc: Global, profile: &mut Profile, row: Row) -> Result<Former,
     let entries = profile.part.profile_entries;
     let in_use = profile.entries_in_use.try_clone(alloc)?;
     let dropped = dropped(alloc, entries, &profile.buffer)?;
-    let Ok(()) = profile.invoke(alloc, 2, &Data::NullData, row) else {
-        return Err(Memory);
-    };
+    profile.capture(alloc, row)?;
     Ok(Former::Captured {
         profile: profile.name,
         dropped,

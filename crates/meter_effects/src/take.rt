@@ -1,6 +1,7 @@
 //! One effect of a step.
-ghost use Rattle.std.specs.Prelude.{◌≡◌, OnOk, OnErr, IfOk};
+ghost use Rattle.std.specs.Prelude.{◌≡◌, OnOk, OnErr, IfOk, IsOk};
 ghost use Rattle.cosem_data.specs.View.{tree};
+ghost use Rattle.cosem_data.specs.declared.name.LogicalName.{LogicalName as NameValue};
 ghost use Rattle.meter_theory.specs.Plan.{seen};
 ghost use Rattle.meter_theory.specs.State as state;
 ghost use Rattle.meter_theory.specs.States.{IsState, MayStand};
@@ -21,7 +22,7 @@ use object_model::plan::Plan;
 use std::alloc::Global;
 
 /// Takes an effect of a step of the meter's plan, and hands out what stood there before. The only error is that memory was
-/// refused, and the meter is as it was then.
+/// refused, and the meter is as it was then; a profile is emptied without memory.
 pub fn take(
     alloc: Global,
     plan: &Plan,
@@ -33,6 +34,8 @@ pub fn take(
     ensures ok { OnOk result (meter.new ≡ theory.effect plan.now meter.old (effect_of effect.now)) }
     ensures before { IfOk result (λ former. restored former meter.new ≡ meter.old) }
     ensures err { OnErr result (meter.new ≡ meter.old) }
+    // A reset of a profile takes no memory.
+    ensures clear { (profile : NameValue) → effect.now ≡ Effect.Clear profile → IsOk result }
 {
     match effect {
         Effect::Put(cell, given) => put(alloc, plan, meter, *cell, given.try_clone(alloc)?),

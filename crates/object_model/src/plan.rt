@@ -1,4 +1,4 @@
-ghost use Rattle.std.specs.Prelude.{◌≡◌, ℕ, option_map, map, find, flat_map, IfOk, slice_get};
+ghost use Rattle.std.specs.Prelude.{◌≡◌, ℕ, option_map, map, find, flat_map, IfOk, IsOk, slice_get};
 ghost use Rattle.std.specs.List.{list_any, position_from};
 ghost use Rattle.std.specs.Str.{bytes_eq};
 ghost use Rattle.cosem_data.specs.View.{tree};
@@ -77,10 +77,11 @@ impl Model for Plan {
 
 impl Plan {
     /// The plan of these parts, which are those of a configuration in which no fault is found (own profile). It takes no
-    /// memory, and gives no error yet.
+    /// memory, and gives no error.
     pub fn new(parts: PlanParts) -> Result<Plan, Memory>
         requires { IsFaultlessPlan (plan_of parts) }
-        ensures { IfOk result (λ plan. plan ≡ plan_of parts) }
+        ensures plan { IfOk result (λ plan. plan ≡ plan_of parts) }
+        ensures good { IsOk result }
     {
         let PlanParts {
             clients,

@@ -1,5 +1,5 @@
 //! The policy of a plan: who may influence and who may learn what each cell holds (own profile).
-ghost use Rattle.std.specs.Prelude.{◌≡◌, IfOk, option_map, find};
+ghost use Rattle.std.specs.Prelude.{◌≡◌, IfOk, IsOk, option_map, find};
 ghost use Rattle.cosem_data.specs.Cells.{same_cell};
 ghost use Rattle.meter_theory.specs.Labels.{label_at, or_else};
 ghost use Rattle.config_plan.specs.Faultless.{IsFaultlessPolicy};
@@ -60,10 +60,11 @@ impl Model for Policy {
 
 impl Policy {
     /// The policy of these parts, which are those of a configuration in which no fault is found and which has this plan
-    /// (own profile). It takes no memory, and gives no error yet.
+    /// (own profile). It takes no memory, and gives no error.
     pub fn new(_plan: &Plan, parts: PolicyParts) -> Result<Policy, Memory>
         requires { IsFaultlessPolicy _plan.now (policy_of parts) }
-        ensures { IfOk result (λ policy. policy ≡ policy_of parts) }
+        ensures policy { IfOk result (λ policy. policy ≡ policy_of parts) }
+        ensures good { IsOk result }
     {
         let PolicyParts { table, default } = parts;
         Ok(Policy { table, default })
