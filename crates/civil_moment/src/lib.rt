@@ -4,5 +4,3 @@
 
 mod days;
 pub mod moment;
-#[cfg(test)]
-mod tests;

@@ -12,6 +12,4 @@ pub mod schedule;
 pub mod script;
 pub mod script_table;
 pub mod shapes;
-#[cfg(test)]
-mod tests;
 pub mod times;

@@ -8,5 +8,3 @@ pub mod laws;
 pub mod profile;
 pub mod reversal;
 pub mod shapes;
-#[cfg(test)]
-mod tests;

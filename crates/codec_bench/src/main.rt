@@ -10,8 +10,6 @@ mod command;
 mod fault;
 mod input;
 mod passes;
-#[cfg(test)]
-mod tests;
 
 use command::{Command, Outcome};
 use fault::Fault;

@@ -1,9 +1,7 @@
 pub mod Cells
-pub mod DemoText
 pub mod Fits
 pub mod Monitored
 pub mod Named
 pub mod Passed
 pub mod Sound
-pub mod Started
 pub mod Starts

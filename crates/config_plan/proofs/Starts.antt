@@ -21,7 +21,7 @@ use Rattle.config_plan.specs.Walks.{each}
 use Rattle.config_plan.proofs.Passed.{then_ok, holds, each_ok}
 use Rattle.config_plan.proofs.Named.{plan_names}
 use Rattle.config_plan.proofs.Cells.{IsRight, target_itself}
-use Rattle.config_plan.proofs.Started.{started}
+use Rattle.meter_theory.proofs.Start.{started}
 
 -- a value that is there and keeps within the limits
 pub value_there : (text : Text) → is_some (value_in text) ≡ true → (v : Tree) × (value_in text ≡ Some v) × (value_of text ≡ v)

@@ -11,6 +11,4 @@ pub mod laws;
 pub mod limits;
 pub mod reading;
 mod tag;
-#[cfg(test)]
-mod tests;
 pub mod writing;

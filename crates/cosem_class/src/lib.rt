@@ -9,5 +9,3 @@ pub mod generic;
 pub mod judge;
 pub mod register;
 pub mod shapes;
-#[cfg(test)]
-mod tests;

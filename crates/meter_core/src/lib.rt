@@ -7,5 +7,3 @@ pub mod reply;
 pub mod run;
 mod scripts;
 pub mod step;
-#[cfg(test)]
-mod tests;

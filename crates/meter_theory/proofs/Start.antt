@@ -15,6 +15,10 @@ use Rattle.meter_theory.specs.States.{IsBuffer, IsCount, IsSeen, Holds, IsState}
 use Rattle.meter_theory.proofs.Lists.{in_flat_map, from_flat_map}
 use Rattle.meter_theory.proofs.Agreement.{not_both}
 
+-- no two objects of the plan have one name
+abbrev pub AreNamed : Plan → Type 0
+AreNamed P = (o p : Object) → IsIn P.objects o → IsIn P.objects p → o.name ≡ p.name → o ≡ p
+
 -- a value that is the only one of its cell
 value_alone : (s : State) (x : CellRef) (v : Tree) → IsIn s (x, v) → ((w : Tree) → IsIn s (x, w) → w ≡ v) → value s x ≡ v
 value_alone [] x v i alone = absurd i
@@ -50,13 +54,13 @@ start_name n (SingleActionSchedule script type times) x v (inl e) = ap (λ z. z.
 start_name n (SingleActionSchedule script type times) x v (inr none) = absurd none
 
 -- the start value of a cell that stands once among its object's
-started : (P : Plan) → IsSound P → (o : Object) → IsIn P.objects o → (x : CellRef) (v : Tree) → IsIn (start_of o.name o.part) (x, v) →
+pub started : (P : Plan) → AreNamed P → (o : Object) → IsIn P.objects o → (x : CellRef) (v : Tree) → IsIn (start_of o.name o.part) (x, v) →
     ((w : Tree) → IsIn (start_of o.name o.part) (x, w) → w ≡ v) → value (start P) x ≡ v
-started P sound o there x v i alone =
+started P names o there x v i alone =
     value_alone (start P) x v (in_flat_map (λ z. start_of z.name z.part) P.objects o (x, v) there i) (λ w j.
     let p = from_flat_map (λ z. start_of z.name z.part) P.objects (x, w) j in
     let named : o.name ≡ p.0.name = sym (start_name o.name o.part x v i) ∙ start_name p.0.name p.0.part x w p.2 in
-    let same : p.0 ≡ o = sym (sound.names o p.0 there p.1 named) in
+    let same : p.0 ≡ o = sym (names o p.0 there p.1 named) in
     alone w (subst (λ z. IsIn (start_of z.name z.part) (x, w)) same p.2))
 
 -- cells of two indexes are two
@@ -71,7 +75,7 @@ holds_start P sound o there (Register first default scaler_unit) h = tt
 holds_start P sound o there (ScriptTable scripts) h = tt
 holds_start P sound o there (SingleActionSchedule script type times) h = tt
 holds_start P sound o there (RegisterMonitor monitored th actions) h =
-    inl (started P sound o there (seen o.name) null_data
+    inl (started P sound.names o there (seen o.name) null_data
     (subst (λ q. IsIn (start_of o.name q) (seen o.name, null_data)) (sym h) (inr (inl refl)))
     (λ w j. one w (subst (λ q. IsIn (start_of o.name q) (seen o.name, w)) h j)))
   where
@@ -83,7 +87,7 @@ holds_start P sound o there (ProfileGeneric captured period entries) h =
     (([], of_buffer, omega arith, tt), (0, of_count, omega arith))
   where
     of_buffer : value (start P) (buffer o.name) ≡ array_of []
-    of_buffer = started P sound o there (buffer o.name) (array no_trees)
+    of_buffer = started P sound.names o there (buffer o.name) (array no_trees)
         (subst (λ q. IsIn (start_of o.name q) (buffer o.name, array no_trees)) (sym h) (inl refl))
         (λ w j. one w (subst (λ q. IsIn (start_of o.name q) (buffer o.name, w)) h j))
       where
@@ -94,7 +98,7 @@ holds_start P sound o there (ProfileGeneric captured period entries) h =
         one w (inr (inr (inr none))) = absurd none
 
     of_count : value (start P) (entries_in_use o.name) ≡ counter 0
-    of_count = started P sound o there (entries_in_use o.name) (counter 0)
+    of_count = started P sound.names o there (entries_in_use o.name) (counter 0)
         (subst (λ q. IsIn (start_of o.name q) (entries_in_use o.name, counter 0)) (sym h) (inr (inr (inl refl))))
         (λ w j. one w (subst (λ q. IsIn (start_of o.name q) (entries_in_use o.name, w)) h j))
       where

@@ -9,5 +9,3 @@
 pub mod access;
 pub mod laws;
 pub mod refs;
-#[cfg(test)]
-mod tests;

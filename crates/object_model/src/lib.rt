@@ -12,5 +12,3 @@ pub mod policy;
 mod put;
 pub mod right;
 pub mod rights;
-#[cfg(test)]
-mod tests;

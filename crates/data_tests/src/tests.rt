@@ -1,0 +1,4 @@
+mod codes;
+mod data;
+mod encoding;
+mod moments;

@@ -1,0 +1,10 @@
+mod attributes;
+mod classes;
+mod copies;
+mod monitors;
+mod parts;
+mod profiles;
+mod schedules;
+mod scripts;
+mod tables;
+mod times;

@@ -1,0 +1,60 @@
+//! Attributes of an object, told by the bytes that encode their values.
+use cosem_axdr::reading::read_data;
+use cosem_class::class::{ClassFault, InterfaceClass};
+use cosem_data::data::Data;
+use std::alloc::Global;
+use std::process::Abort;
+use std::test::Fail;
+
+/// The value that these bytes encode, to their end.
+pub(crate) fn value_of(rt: &impl Abort, alloc: Global, bytes: &[u8]) -> Result<Data, Fail> {
+    let (value, used) = read_data(alloc, bytes)?;
+    assert!(rt; used == bytes.len(), "{used} of {bytes:?}");
+    Ok(value)
+}
+
+/// The value is the one that these bytes encode.
+pub(crate) fn is_encoded(
+    rt: &impl Abort,
+    alloc: Global,
+    value: &Data,
+    bytes: &[u8],
+) -> Result<(), Fail> {
+    let want = value_of(rt, alloc, bytes)?;
+    assert!(rt; *value == want, "{value:?} for {bytes:?}");
+    Ok(())
+}
+
+/// What is done to an attribute, or seen of it.
+#[derive(Clone, Copy)]
+pub(crate) enum Step<'a> {
+    /// A write of the value that these bytes encode has this result.
+    Writes(u8, &'a [u8], Result<(), ClassFault>),
+    /// The attribute is read as the value that these bytes encode.
+    Shows(u8, &'a [u8]),
+    /// There is no such attribute to read.
+    Hides(u8),
+}
+
+/// Takes these steps.
+pub(crate) fn take<C: InterfaceClass>(
+    rt: &impl Abort,
+    a: Global,
+    object: &mut C,
+    steps: &[Step],
+) -> Result<(), Fail> {
+    for step in steps {
+        match *step {
+            Step::Writes(index, bytes, want) => {
+                let done = object.write(index, value_of(rt, a, bytes)?);
+                assert!(rt; done == want, "{done:?} at {index}");
+            }
+            Step::Shows(index, bytes) => is_encoded(rt, a, &object.read(a, index)?, bytes)?,
+            Step::Hides(index) => {
+                let fault = object.read(a, index).err();
+                assert!(rt; fault == Some(ClassFault::NoIndex), "{fault:?} at {index}");
+            }
+        }
+    }
+    Ok(())
+}

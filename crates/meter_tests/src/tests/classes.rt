@@ -1,0 +1,131 @@
+use super::attributes::{Step, take};
+use cosem_class::class::{ClassFault, InterfaceClass};
+use cosem_class::data1::Data1;
+use cosem_class::judge::judge_kind;
+use cosem_class::register::{Register, RegisterPart};
+use cosem_data::bytes::Bytes;
+use cosem_data::data::{Data, Items};
+use cosem_data::kind::Kind;
+use cosem_data::name::LogicalName;
+use meter_theory::access::AccessCode;
+use meter_theory::refs::ScalerUnit;
+use std::alloc::Global;
+use std::process::Abort;
+use std::test::Fail;
+
+/// Device ID 1, as the OBIS table of IEC 62056-6-1 has it.
+const DEVICE: LogicalName = LogicalName([0, 0, 96, 1, 0, 255]);
+
+/// Total active energy import, as the OBIS table of IEC 62056-6-1 has it.
+const ENERGY: LogicalName = LogicalName([1, 0, 1, 8, 0, 255]);
+
+/// An octet-string of so many zeros.
+fn zeros(alloc: Global, count: usize) -> Result<Data, Fail> {
+    Ok(Data::OctetString(Bytes::new(vec![in alloc; 0; count]?)))
+}
+
+/// So many arrays in one another, with null-data inside.
+fn nested(alloc: Global, depth: u8) -> Result<Data, Fail> {
+    let mut value = Data::NullData;
+    for _ in 0..depth {
+        value = Data::Array(Items::new(vec![in alloc; value]?));
+    }
+    Ok(value)
+}
+
+/// This is judged of a value by the kind of its cell.
+fn judges(rt: &impl Abort, kind: Kind, value: &Data, want: Result<(), ClassFault>) {
+    assert_eq!(rt; judge_kind(kind, value), want, "as {kind:?}");
+}
+
+#[test]
+fn limits_are_met_exactly(rt: HostRuntime) -> Result<(), Fail> {
+    let a = rt.alloc();
+    let rule = Err(ClassFault::Rule);
+    // One byte of tag and three of length, 82 03 FC.
+    judges(&rt, Kind::OctetString, &zeros(a, 1020)?, Ok(()));
+    judges(&rt, Kind::OctetString, &zeros(a, 1021)?, rule);
+    judges(&rt, Kind::Array, &nested(a, 14)?, Ok(()));
+    judges(&rt, Kind::Array, &nested(a, 15)?, rule);
+    // The tag is judged first.
+    judges(
+        &rt,
+        Kind::VisibleString,
+        &zeros(a, 1021)?,
+        Err(ClassFault::Kind),
+    );
+    Ok(())
+}
+
+#[test]
+fn data_is_read_and_written(rt: HostRuntime) -> Result<(), Fail> {
+    let mut object = Data1 {
+        name: DEVICE,
+        kind: Kind::LongUnsigned,
+        value: Data::LongUnsigned(1),
+    };
+    let steps = [
+        Step::Shows(1, &[0x09, 0x06, 0, 0, 96, 1, 0, 255]),
+        Step::Hides(0),
+        Step::Hides(3),
+        Step::Writes(1, &[0x12, 0, 2], Err(ClassFault::NotSettable)),
+        Step::Writes(3, &[0x12, 0, 2], Err(ClassFault::NoIndex)),
+        Step::Writes(2, &[0x11, 2], Err(ClassFault::Kind)),
+        Step::Shows(2, &[0x12, 0, 1]),
+        Step::Writes(2, &[0x12, 0, 2], Ok(())),
+        Step::Shows(2, &[0x12, 0, 2]),
+    ];
+    take(&rt, rt.alloc(), &mut object, &steps)
+}
+
+/// Writes a register, and calls its methods: a reset puts the default.
+fn writes_and_resets(rt: &impl Abort, a: Global, object: &mut Register) -> Result<(), Fail> {
+    let writes = [
+        Step::Shows(1, &[0x09, 0x06, 1, 0, 1, 8, 0, 255]),
+        Step::Shows(3, &[0x02, 0x02, 0x0F, 0xFD, 0x16, 30]),
+        Step::Hides(4),
+        Step::Writes(1, &[0x06, 0, 0, 0, 8], Err(ClassFault::NotSettable)),
+        Step::Writes(3, &[0x06, 0, 0, 0, 8], Err(ClassFault::NotSettable)),
+        Step::Writes(2, &[0x05, 0, 0, 0, 8], Err(ClassFault::Kind)),
+        // 123,457 is 0x1E241.
+        Step::Shows(2, &[0x06, 0x00, 0x01, 0xE2, 0x41]),
+        Step::Writes(2, &[0x06, 0, 0, 0, 8], Ok(())),
+    ];
+    take(rt, a, object, &writes)?;
+    let other = object.invoke(a, 2, &Data::Integer(0), Items::new(Vec::new(a)));
+    assert!(rt; other == Err(ClassFault::NoIndex), "{other:?}");
+    take(rt, a, object, &[Step::Shows(2, &[0x06, 0, 0, 0, 8])])?;
+    object.invoke(a, 1, &Data::Integer(0), Items::new(Vec::new(a)))?;
+    take(rt, a, object, &[Step::Shows(2, &[0x06, 0, 0, 0, 7])])
+}
+
+#[test]
+fn register_is_read_written_and_reset(rt: HostRuntime) -> Result<(), Fail> {
+    let part = RegisterPart {
+        start: Data::DoubleLongUnsigned(123_456),
+        default: Data::DoubleLongUnsigned(7),
+        scaler_unit: ScalerUnit {
+            scaler: -3,
+            unit: 30,
+        },
+    };
+    let mut object = Register {
+        name: ENERGY,
+        part: &part,
+        value: Data::DoubleLongUnsigned(123_457),
+    };
+    writes_and_resets(&rt, rt.alloc(), &mut object)
+}
+
+#[test]
+fn faults_have_their_codes(rt: HostRuntime) {
+    let codes = [
+        (ClassFault::Kind, 12),
+        (ClassFault::Rule, 250),
+        (ClassFault::UnknownScript, 250),
+        (ClassFault::Memory, 2),
+    ];
+    for (fault, code) in codes {
+        assert_eq!(rt; AccessCode::from(fault).code(), code);
+    }
+}

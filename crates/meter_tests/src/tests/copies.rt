@@ -1,0 +1,82 @@
+use cosem_data::bytes::Bytes;
+use cosem_data::data::Data;
+use cosem_data::memory::Memory;
+use cosem_data::name::LogicalName;
+use meter_core::reply::Reply;
+use meter_core::step::Step;
+use object_model::argument::Argument;
+use std::alloc::Global;
+use std::test::Fail;
+
+/// Device ID 1, as the OBIS table of IEC 62056-6-1 has it.
+const DEVICE: LogicalName = LogicalName([0, 0, 96, 1, 0, 255]);
+
+fn text(alloc: Global) -> Result<Data, Memory> {
+    let bytes = Vec::from_slice(alloc, b"meter")?;
+    Ok(Data::OctetString(Bytes::new(bytes)))
+}
+
+fn is_text(value: &Data) -> bool {
+    match value {
+        Data::OctetString(bytes) => bytes.as_slice() == b"meter".as_slice(),
+        _ => false,
+    }
+}
+
+fn copied_set(alloc: Global) -> Result<Step, Memory> {
+    let step = Step::Set {
+        client: 3,
+        class_id: 1,
+        name: DEVICE,
+        index: 2,
+        selected: false,
+        value: Argument::Value(text(alloc)?),
+    };
+    step.try_clone(alloc)
+}
+
+fn is_the_set(step: &Step) -> bool {
+    match step {
+        Step::Set {
+            client: 3,
+            class_id: 1,
+            name,
+            index: 2,
+            selected: false,
+            value: Argument::Value(value),
+        } => *name == DEVICE && is_text(value),
+        _ => false,
+    }
+}
+
+fn copied_get(alloc: Global) -> Result<Step, Memory> {
+    let step = Step::Get {
+        client: 1,
+        class_id: 7,
+        name: DEVICE,
+        index: 2,
+        selection: Some((2, Argument::Value(text(alloc)?))),
+    };
+    step.try_clone(alloc)
+}
+
+/// A GET of an attribute with this index by selector 2 and the text.
+fn is_the_get(step: &Step) -> bool {
+    match step {
+        Step::Get {
+            index: 2,
+            selection: Some((2, Argument::Value(parameter))),
+            ..
+        } => is_text(parameter),
+        _ => false,
+    }
+}
+
+#[test]
+fn copies_equal_their_originals(rt: HostRuntime) -> Result<(), Fail> {
+    assert!(rt; is_the_set(&copied_set(rt.alloc())?));
+    assert!(rt; is_the_get(&copied_get(rt.alloc())?));
+    let reply = Reply::Value(text(rt.alloc())?).try_clone(rt.alloc())?;
+    assert!(rt; matches!(&reply, Reply::Value(value) if is_text(value)));
+    Ok(())
+}

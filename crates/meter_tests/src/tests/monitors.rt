@@ -1,0 +1,151 @@
+use super::attributes::{Step, take};
+use super::scripts::SCRIPTS;
+use class_control::judge::judge_thresholds;
+use class_control::monitor::Monitor;
+use class_control::parts::MonitorPart;
+use cosem_class::class::ClassFault;
+use cosem_class::judge::judge_kind;
+use cosem_class::shapes::array;
+use cosem_data::cell::CellRef;
+use cosem_data::data::Data;
+use cosem_data::kind::Kind;
+use cosem_data::name::LogicalName;
+use meter_theory::refs::{ScriptRef, UpDown};
+use std::alloc::Global;
+use std::process::Abort;
+use std::test::Fail;
+
+/// A register monitor.
+const MONITOR: LogicalName = LogicalName([0, 0, 16, 1, 0, 255]);
+
+/// The value of total active energy import, as the OBIS table of IEC 62056-6-1 has it.
+const ENERGY: CellRef = CellRef {
+    class_id: 3,
+    name: LogicalName([1, 0, 1, 8, 0, 255]),
+    index: 2,
+};
+
+/// A script of the table.
+pub(crate) fn script(script: u16) -> ScriptRef {
+    ScriptRef {
+        table: SCRIPTS,
+        script,
+    }
+}
+
+/// Script 1 is run at 100 Wh and above, and script 2 below.
+pub(crate) fn monitor_part(alloc: Global) -> Result<MonitorPart, Fail> {
+    let action = UpDown {
+        up: script(1),
+        down: script(2),
+    };
+    Ok(MonitorPart {
+        monitored_value: ENERGY,
+        start: array(alloc, [Data::DoubleLongUnsigned(100)])?,
+        actions: vec![in alloc; action]?,
+    })
+}
+
+/// A monitor of this part over a double-long-unsigned, with these thresholds, before its first evaluation.
+fn monitor(part: &MonitorPart, thresholds: Data) -> Result<Monitor<'_>, Fail> {
+    let kind = Kind::DoubleLongUnsigned;
+    judge_thresholds(part.actions.len(), kind, &thresholds)?;
+    Ok(Monitor {
+        name: MONITOR,
+        part,
+        kind,
+        thresholds,
+        seen: Data::NullData,
+    })
+}
+
+/// The threshold at the start.
+pub(crate) const ONE_THRESHOLD: [u8; 7] = [0x01, 0x01, 0x06, 0, 0, 0, 100];
+
+/// Two thresholds.
+pub(crate) const TWO_THRESHOLDS: [u8; 12] = [0x01, 0x02, 0x06, 0, 0, 0, 1, 0x06, 0, 0, 0, 2];
+
+/// The monitored value.
+pub(crate) const MONITORED_VALUE: [u8; 15] = [
+    0x02, 0x03, 0x12, 0x00, 0x03, // class 3
+    0x09, 0x06, 0x01, 0x00, 0x01, 0x08, 0x00, 0xFF, 0x0F, 0x02, // the energy, attribute 2
+];
+
+/// The actions of a monitor.
+pub(crate) const ONE_PAIR: [u8; 30] = [
+    0x01, 0x01, 0x02, 0x02, // an array of one pair
+    0x02, 0x02, 0x09, 0x06, 0x00, 0x00, 0x0A, 0x00, 0x64, 0xFF, 0x12, 0x00, 0x01, // script 1
+    0x02, 0x02, 0x09, 0x06, 0x00, 0x00, 0x0A, 0x00, 0x64, 0xFF, 0x12, 0x00, 0x02, // script 2
+];
+
+#[test]
+fn a_monitor_is_read_and_its_thresholds_written(rt: HostRuntime) -> Result<(), Fail> {
+    let steps = [
+        Step::Shows(1, &[0x09, 0x06, 0, 0, 16, 1, 0, 255]),
+        Step::Shows(3, &MONITORED_VALUE),
+        Step::Shows(4, &ONE_PAIR),
+        Step::Hides(0),
+        Step::Hides(5),
+        Step::Writes(0, &[0x00], Err(ClassFault::NoIndex)),
+        Step::Writes(5, &[0x00], Err(ClassFault::NoIndex)),
+        Step::Writes(1, &[0x00], Err(ClassFault::NotSettable)),
+        Step::Writes(3, &[0x00], Err(ClassFault::NotSettable)),
+        Step::Writes(4, &[0x00], Err(ClassFault::NotSettable)),
+        Step::Writes(2, &[0x00], Err(ClassFault::Kind)),
+        Step::Writes(2, &TWO_THRESHOLDS, Err(ClassFault::Rule)),
+        Step::Shows(2, &ONE_THRESHOLD),
+        Step::Writes(2, &[0x01, 0x01, 0x06, 0, 0, 0, 7], Ok(())),
+        Step::Shows(2, &[0x01, 0x01, 0x06, 0, 0, 0, 7]),
+    ];
+    let part = monitor_part(rt.alloc())?;
+    let start = part.start.try_clone(rt.alloc())?;
+    take(&rt, rt.alloc(), &mut monitor(&part, start)?, &steps)
+}
+
+/// Remembers a value that is of the monitored kind.
+fn remember(object: &mut Monitor, value: Data) -> Result<(), Fail> {
+    judge_kind(object.kind, &value)?;
+    object.remember(value);
+    Ok(())
+}
+
+/// This script alone is due at this value, or none, and the value is remembered.
+fn crosses(
+    rt: &impl Abort,
+    a: Global,
+    object: &mut Monitor,
+    number: u32,
+    want: Option<ScriptRef>,
+) -> Result<(), Fail> {
+    let due = object.due(a, &Data::DoubleLongUnsigned(number))?;
+    assert!(rt;
+        due.len() <= 1 && due.first().copied() == want,
+        "{due:?} at {number}"
+    );
+    remember(object, Data::DoubleLongUnsigned(number))
+}
+
+/// Scripts are due as the value crosses the threshold.
+fn crosses_the_threshold(rt: &impl Abort, a: Global, object: &mut Monitor) -> Result<(), Fail> {
+    // Nothing was seen before the first, 100 lies on the side above, and each is remembered.
+    for (number, want) in [
+        (99, None),
+        (99, None),
+        (100, Some(script(1))),
+        (101, None),
+        (100, None),
+        (99, Some(script(2))),
+        (4_000_000_000, Some(script(1))),
+        (0, Some(script(2))),
+    ] {
+        crosses(rt, a, object, number, want)?;
+    }
+    take(rt, a, object, &[Step::Shows(2, &ONE_THRESHOLD)])
+}
+
+#[test]
+fn crossed_thresholds_are_due(rt: HostRuntime) -> Result<(), Fail> {
+    let part = monitor_part(rt.alloc())?;
+    let start = part.start.try_clone(rt.alloc())?;
+    crosses_the_threshold(&rt, rt.alloc(), &mut monitor(&part, start)?)
+}

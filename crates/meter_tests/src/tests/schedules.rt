@@ -1,0 +1,83 @@
+use super::attributes::{Step, take};
+use super::monitors::script;
+use super::times::{MIDNIGHT, MONTH_END, element};
+use class_control::judge::judge_times;
+use class_control::parts::SchedulePart;
+use class_control::schedule::Schedule;
+use cosem_class::class::ClassFault;
+use cosem_class::shapes::array;
+use cosem_data::data::Data;
+use cosem_data::name::LogicalName;
+use std::alloc::Global;
+use std::test::Fail;
+
+/// A single action schedule.
+const SCHEDULE: LogicalName = LogicalName([0, 0, 15, 0, 0, 255]);
+
+/// Script 3 is run at the end of each month: of type 1, one time, with wildcards.
+pub(crate) fn schedule_part(alloc: Global) -> Result<SchedulePart, Fail> {
+    Ok(SchedulePart {
+        executed_script: script(3),
+        execution_type: 1,
+        start: array(alloc, [element(alloc, &MIDNIGHT, &MONTH_END)?])?,
+    })
+}
+
+/// A schedule of this part with these times.
+fn schedule(part: &SchedulePart, times: Data) -> Result<Schedule<'_>, Fail> {
+    judge_times(part.execution_type, &times)?;
+    Ok(Schedule {
+        name: SCHEDULE,
+        part,
+        times,
+    })
+}
+
+/// A script of the table.
+pub(crate) const SCRIPT_OF_TABLE: [u8; 13] = [
+    0x02, 0x02, 0x09, 0x06, 0x00, 0x00, 0x0A, 0x00, 0x64, 0xFF, 0x12, 0x00, 0x03,
+];
+
+/// An array of midnight at each end of a month.
+pub(crate) const EACH_MONTH_END: [u8; 17] = [
+    0x01, 0x01, 0x02, 0x02, // an array of one time and date
+    0x09, 0x04, 0x00, 0x00, 0x00, 0xFF, 0x09, 0x05, 0xFF, 0xFF, 0xFF, 0xFE, 0xFF,
+];
+
+/// An array of noon at one day.
+const ONE_NOON: [u8; 17] = [
+    0x01, 0x01, 0x02, 0x02, // an array of one time and date
+    0x09, 0x04, 12, 0, 0, 0, 0x09, 0x05, 0x07, 0xEA, 12, 24, 0xFF,
+];
+
+/// An array of noon at one day, twice.
+pub(crate) const TWO_NOONS: [u8; 32] = [
+    0x01, 0x02, // an array of two times and dates
+    0x02, 0x02, 0x09, 0x04, 12, 0, 0, 0, 0x09, 0x05, 0x07, 0xEA, 12, 24, 0xFF, //
+    0x02, 0x02, 0x09, 0x04, 12, 0, 0, 0, 0x09, 0x05, 0x07, 0xEA, 12, 24, 0xFF,
+];
+
+#[test]
+fn a_schedule_is_read_and_its_times_written(rt: HostRuntime) -> Result<(), Fail> {
+    let steps = [
+        Step::Shows(1, &[0x09, 0x06, 0, 0, 15, 0, 0, 255]),
+        Step::Shows(2, &SCRIPT_OF_TABLE),
+        Step::Shows(3, &[0x16, 0x01]),
+        Step::Hides(0),
+        Step::Hides(5),
+        Step::Writes(0, &[0x00], Err(ClassFault::NoIndex)),
+        Step::Writes(5, &[0x00], Err(ClassFault::NoIndex)),
+        Step::Writes(1, &[0x00], Err(ClassFault::NotSettable)),
+        Step::Writes(2, &[0x00], Err(ClassFault::NotSettable)),
+        Step::Writes(3, &[0x00], Err(ClassFault::NotSettable)),
+        Step::Writes(4, &[0x00], Err(ClassFault::Kind)),
+        Step::Writes(4, &TWO_NOONS, Err(ClassFault::Rule)),
+        // The start is kept.
+        Step::Shows(4, &EACH_MONTH_END),
+        Step::Writes(4, &ONE_NOON, Ok(())),
+        Step::Shows(4, &ONE_NOON),
+    ];
+    let part = schedule_part(rt.alloc())?;
+    let start = part.start.try_clone(rt.alloc())?;
+    take(&rt, rt.alloc(), &mut schedule(&part, start)?, &steps)
+}

@@ -1,0 +1,121 @@
+use super::attributes::{Step, take, value_of};
+use class_control::action::Action;
+use class_control::parts::ScriptTablePart;
+use class_control::script::Script;
+use class_control::script_table::ScriptTable;
+use cosem_class::class::{ClassFault, InterfaceClass};
+use cosem_data::cell::{CellRef, MethodRef};
+use cosem_data::data::{Data, Items};
+use cosem_data::name::LogicalName;
+use std::alloc::Global;
+use std::process::Abort;
+use std::test::Fail;
+
+/// An alarm register, as the OBIS table of IEC 62056-6-1 has it, here an object of class 1.
+const ALARM: LogicalName = LogicalName([0, 0, 96, 11, 0, 255]);
+
+/// A load profile.
+const PROFILE: LogicalName = LogicalName([1, 0, 99, 1, 0, 255]);
+
+/// A script table.
+pub(crate) const SCRIPTS: LogicalName = LogicalName([0, 0, 10, 0, 100, 255]);
+
+/// A script that switches the alarm on.
+fn alarm_script(alloc: Global) -> Result<Script, Fail> {
+    let cell = CellRef {
+        class_id: 1,
+        name: ALARM,
+        index: 2,
+    };
+    let action = Action::Write {
+        cell,
+        value: Data::Unsigned(1),
+    };
+    Ok(Script {
+        id: 1,
+        actions: vec![in alloc; action]?,
+    })
+}
+
+/// A script that captures the profile.
+fn capture_script(alloc: Global) -> Result<Script, Fail> {
+    let method = MethodRef {
+        class_id: 7,
+        name: PROFILE,
+        index: 2,
+    };
+    let action = Action::Invoke {
+        method,
+        parameter: Data::NullData,
+    };
+    Ok(Script {
+        id: 3,
+        actions: vec![in alloc; action]?,
+    })
+}
+
+/// Two scripts: the alarm on, a capture of the profile.
+pub(crate) fn scripts(alloc: Global) -> Result<ScriptTablePart, Fail> {
+    let mut scripts = Vec::new(alloc);
+    scripts.push(alarm_script(alloc)?)?;
+    scripts.push(capture_script(alloc)?)?;
+    Ok(ScriptTablePart { scripts })
+}
+
+/// The two scripts, as attribute 2.
+pub(crate) const TWO_SCRIPTS: [u8; 53] = [
+    0x01, 0x02, // an array of two scripts
+    0x02, 0x02, 0x12, 0x00, 0x01, 0x01, 0x01, // script 1, an array of one action
+    0x02, 0x05, 0x16, 0x01, 0x12, 0x00, 0x01, // service 1, class 1
+    0x09, 0x06, 0x00, 0x00, 0x60, 0x0B, 0x00, 0xFF, 0x0F, 0x02, // the alarm, attribute 2
+    0x11, 0x01, // an unsigned 1
+    0x02, 0x02, 0x12, 0x00, 0x03, 0x01, 0x01, // script 3
+    0x02, 0x05, 0x16, 0x02, 0x12, 0x00, 0x07, // service 2, class 7
+    0x09, 0x06, 0x01, 0x00, 0x63, 0x01, 0x00, 0xFF, 0x0F, 0x02, // the profile, method 2
+    0x00, // null-data
+];
+
+/// A call with the argument that these bytes encode has this result.
+fn calls(
+    rt: &impl Abort,
+    a: Global,
+    object: &mut ScriptTable,
+    (method, bytes): (u8, &[u8]),
+    want: Result<(), ClassFault>,
+) -> Result<(), Fail> {
+    let argument = value_of(rt, a, bytes)?;
+    let done = object.invoke(a, method, &argument, Items::new(Vec::new(a)));
+    assert!(rt; done == want, "{done:?} of {bytes:?}");
+    Ok(())
+}
+
+/// Shows its scripts, which a long-unsigned calls. Script 0 is the null script.
+fn is_read_and_called(rt: &impl Abort, a: Global, object: &mut ScriptTable) -> Result<(), Fail> {
+    let steps = [
+        Step::Shows(1, &[0x09, 0x06, 0, 0, 10, 0, 100, 255]),
+        Step::Shows(2, &TWO_SCRIPTS),
+        Step::Hides(0),
+        Step::Hides(3),
+        Step::Writes(1, &[0x00], Err(ClassFault::NotSettable)),
+        Step::Writes(2, &[0x00], Err(ClassFault::NotSettable)),
+        Step::Writes(3, &[0x00], Err(ClassFault::NoIndex)),
+    ];
+    take(rt, a, object, &steps)?;
+    let unknown = Err(ClassFault::UnknownScript);
+    calls(rt, a, object, (1, &[0x12, 0, 0]), Ok(()))?;
+    calls(rt, a, object, (1, &[0x12, 0, 1]), Ok(()))?;
+    calls(rt, a, object, (1, &[0x12, 0, 3]), Ok(()))?;
+    calls(rt, a, object, (1, &[0x12, 0, 4]), unknown)?;
+    calls(rt, a, object, (1, &[0x11, 1]), Err(ClassFault::Kind))?;
+    calls(rt, a, object, (2, &[0x12, 0, 1]), Err(ClassFault::NoIndex))
+}
+
+#[test]
+fn a_script_table_is_read_and_called(rt: HostRuntime) -> Result<(), Fail> {
+    let part = scripts(rt.alloc())?;
+    let mut object = ScriptTable {
+        name: SCRIPTS,
+        part: &part,
+    };
+    is_read_and_called(&rt, rt.alloc(), &mut object)
+}

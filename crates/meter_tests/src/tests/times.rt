@@ -1,0 +1,123 @@
+use super::attributes::value_of;
+use class_control::times::{are_execution_times, is_execution_time};
+use cosem_class::shapes::structure;
+use cosem_data::bytes::Bytes;
+use cosem_data::data::Data;
+use cosem_data::memory::Memory;
+use std::alloc::Global;
+use std::process::Abort;
+use std::test::Fail;
+
+/// Midnight, hundredths not specified.
+pub(crate) const MIDNIGHT: [u8; 4] = [0, 0, 0, 0xFF];
+
+/// Noon.
+const NOON: [u8; 4] = [12, 0, 0, 0];
+
+/// The last day of each month.
+pub(crate) const MONTH_END: [u8; 5] = [0xFF, 0xFF, 0xFF, 0xFE, 0xFF];
+
+/// 24 December 2026, weekday not specified.
+const ONE_DAY: [u8; 5] = [0x07, 0xEA, 12, 24, 0xFF];
+
+/// An element of execution_time.
+pub(crate) fn element(alloc: Global, time: &[u8], date: &[u8]) -> Result<Data, Memory> {
+    let time = Data::OctetString(Bytes::new(Vec::from_slice(alloc, time)?));
+    let date = Data::OctetString(Bytes::new(Vec::from_slice(alloc, date)?));
+    structure(alloc, [time, date])
+}
+
+#[test]
+fn fields_keep_to_their_ranges(rt: HostRuntime) -> Result<(), Fail> {
+    let cases = [
+        ([23, 59, 59, 0], ONE_DAY, true),
+        ([0xFF; 4], [0xFF; 5], true),
+        ([24, 0, 0, 0], ONE_DAY, false),
+        ([0, 60, 0, 0], ONE_DAY, false),
+        ([0, 0, 60, 0], ONE_DAY, false),
+        ([0, 0, 0, 1], ONE_DAY, false),
+        // The years 9999 and 10000.
+        (NOON, [0x27, 0x0F, 1, 1, 1], true),
+        (NOON, [0x27, 0x10, 1, 1, 1], false),
+        (NOON, [0x07, 0xEA, 0, 1, 1], false),
+        (NOON, [0x07, 0xEA, 13, 1, 1], false),
+        (NOON, [0x07, 0xEA, 0xFD, 1, 1], false),
+        (NOON, [0x07, 0xEA, 12, 0, 1], false),
+        (NOON, [0x07, 0xEA, 12, 31, 7], true),
+        (NOON, [0x07, 0xEA, 12, 32, 1], false),
+        (NOON, [0x07, 0xEA, 12, 0xFC, 1], false),
+        (NOON, [0x07, 0xEA, 12, 0xFD, 1], true),
+        (NOON, [0x07, 0xEA, 12, 0xFE, 1], true),
+        (NOON, [0x07, 0xEA, 12, 1, 0], false),
+        (NOON, [0x07, 0xEA, 12, 1, 8], false),
+    ];
+    for (time, date, want) in &cases {
+        let is_element = is_execution_time(&element(rt.alloc(), time, date)?);
+        assert!(rt; is_element == *want, "{time:?} of {date:?}");
+    }
+    Ok(())
+}
+
+#[test]
+fn elements_have_a_time_and_a_date(rt: HostRuntime) -> Result<(), Fail> {
+    let others: [&[u8]; 5] = [
+        // A structure of noon, one of noon and null-data, and null-data.
+        &[0x02, 0x01, 0x09, 0x04, 12, 0, 0, 0],
+        &[0x02, 0x02, 0x09, 0x04, 12, 0, 0, 0, 0x00],
+        &[0x00],
+        // A time of three bytes, and a date of six.
+        &[
+            0x02, 0x02, 0x09, 3, 12, 0, 0, 0x09, 5, 0x07, 0xEA, 12, 24, 0xFF,
+        ],
+        &[
+            0x02, 0x02, 0x09, 4, 12, 0, 0, 0, 0x09, 6, 0x07, 0xEA, 12, 24, 0xFF, 0,
+        ],
+    ];
+    for bytes in others {
+        let value = value_of(&rt, rt.alloc(), bytes)?;
+        assert!(rt; !is_execution_time(&value), "{bytes:?}");
+    }
+    Ok(())
+}
+
+/// So many elements of noon of one day.
+fn noons(alloc: Global, count: u8) -> Result<Vec<Data>, Memory> {
+    let mut values = Vec::new(alloc);
+    for _ in 0..count {
+        values.push(element(alloc, &NOON, &ONE_DAY)?)?;
+    }
+    Ok(values)
+}
+
+#[test]
+fn types_allow_their_numbers(rt: HostRuntime) -> Result<(), Fail> {
+    for kind in 1..=5 {
+        for (count, want) in [(0, kind != 1), (1, true), (16, kind != 1), (17, false)] {
+            let fit = are_execution_times(kind, &noons(rt.alloc(), count)?);
+            assert!(rt; fit == want, "{count} of type {kind}");
+        }
+    }
+    Ok(())
+}
+
+#[test]
+fn types_allow_their_times_and_dates(rt: HostRuntime) -> Result<(), Fail> {
+    for kind in 2..=5 {
+        let has_times = kind == 4 || kind == 5;
+        let has_wildcards = kind == 3 || kind == 5;
+        let others = [
+            (MIDNIGHT, ONE_DAY, has_times),
+            // 24 December, each year, each month or each day.
+            (NOON, [0xFF, 0xFF, 12, 24, 4], has_wildcards),
+            (NOON, [0x07, 0xEA, 0xFF, 24, 4], has_wildcards),
+            (NOON, [0x07, 0xEA, 12, 0xFF, 4], has_wildcards),
+        ];
+        for (time, date, want) in &others {
+            let mut values = noons(rt.alloc(), 1)?;
+            values.push(element(rt.alloc(), time, date)?)?;
+            let fit = are_execution_times(kind, &values);
+            assert!(rt; fit == *want, "{time:?} of {date:?}, type {kind}");
+        }
+    }
+    Ok(())
+}
