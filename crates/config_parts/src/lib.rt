@@ -4,5 +4,3 @@
 pub mod fault;
 pub mod parts;
 pub mod service;
-#[cfg(test)]
-mod tests;

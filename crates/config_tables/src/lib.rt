@@ -14,6 +14,3 @@ mod script;
 mod target;
 
 pub use read::read_tables;
-
-#[cfg(test)]
-mod tests;

@@ -7,6 +7,4 @@ pub mod directory;
 pub mod judged;
 mod places;
 pub mod references;
-#[cfg(test)]
-mod tests;
 pub mod walk;

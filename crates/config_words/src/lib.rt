@@ -6,6 +6,4 @@ pub mod keys;
 pub mod lists;
 mod lookup;
 pub mod tables;
-#[cfg(test)]
-mod tests;
 pub mod values;

@@ -1,0 +1,184 @@
+//! One case, or a table of them, against what it must give.
+use crate::command::is_done;
+use crate::copies::{with_copies, with_ends};
+use config_reader::read_config;
+use meter_server::running::run_lines;
+use meter_server::verdict::{Verdict, verdict_text};
+use object_model::plan::Plan;
+use std::alloc::Global;
+use std::fs;
+
+/// What the rows of a table are.
+#[derive(Clone, Copy)]
+enum Table {
+    /// Edits of the configuration, and their verdicts.
+    Edits,
+    /// Lines that are not readable.
+    Unreadable,
+}
+
+impl Table {
+    /// The kind of table that a word of the list names.
+    fn read(word: &str) -> Option<Table> {
+        match word {
+            "edits" => Some(Table::Edits),
+            "unreadable" => Some(Table::Unreadable),
+            _ => None,
+        }
+    }
+
+    /// The folder with the tables of this kind.
+    fn folder(self) -> &'static str {
+        match self {
+            Table::Edits => "edits",
+            Table::Unreadable => "unreadable",
+        }
+    }
+
+    /// Whether a row is as expected over the configuration.
+    fn is_well(self, alloc: Global, text: &str, row: &str) -> Option<bool> {
+        match self {
+            Table::Edits => is_judged(alloc, text, row),
+            Table::Unreadable => is_unreadable(alloc, text, row),
+        }
+    }
+}
+
+/// How many cases were as expected, and how many fell short.
+#[derive(Drop)]
+pub(crate) struct Tally {
+    pub(crate) count: u64,
+    pub(crate) failed: u64,
+}
+
+impl Tally {
+    /// No case yet.
+    pub(crate) fn new() -> Self {
+        Tally {
+            count: 0,
+            failed: 0,
+        }
+    }
+
+    /// Tries the case, or the table of cases, of a line of the list.
+    pub(crate) fn count(&mut self, rt: &HostRuntime, line: &str) {
+        let mut words = line.split(' ');
+        match (words.next(), words.next(), words.next(), words.next()) {
+            (Some("lines"), Some(configuration), Some(name), None) => {
+                let is_well = is_answered(rt, configuration, name) == Some(true);
+                self.tell(rt, is_well, line);
+            }
+            (Some("command"), Some(name), Some(status), None) => {
+                let is_well = is_done(rt, name, status) == Some(true);
+                self.tell(rt, is_well, line);
+            }
+            (Some(kind), Some(configuration), Some(name), None) => {
+                let table = Table::read(kind);
+                if self.count_rows(rt, table, configuration, name).is_none() {
+                    self.tell(rt, false, line);
+                }
+            }
+            _ => self.tell(rt, false, line),
+        }
+    }
+
+    /// Counts a case, and tells one that fell short.
+    fn tell(&mut self, rt: &HostRuntime, is_well: bool, case: &str) {
+        if is_well {
+            self.count = self.count.saturating_add(1);
+        } else {
+            self.failed = self.failed.saturating_add(1);
+            let _ = println!(rt; "not as expected: {case}");
+        }
+    }
+
+    /// Tries each row of a table over a configuration.
+    fn count_rows(
+        &mut self,
+        rt: &HostRuntime,
+        table: Option<Table>,
+        configuration: &str,
+        name: &str,
+    ) -> Option<()> {
+        let table = table?;
+        let text = read_configuration(rt, configuration)?;
+        let folder = table.folder();
+        let path = format!(in rt.alloc(); "{folder}/{name}").ok()?;
+        let rows = fs::read_to_string(rt, path.as_str()).ok()?;
+        for row in rows.as_str().split('\n') {
+            if !row.is_empty() && !row.starts_with('#') {
+                let is_well = table.is_well(rt.alloc(), text.as_str(), row) == Some(true);
+                self.tell(rt, is_well, row);
+            }
+        }
+        Some(())
+    }
+}
+
+/// The text of a configuration of the cases.
+fn read_configuration(rt: &HostRuntime, name: &str) -> Option<String> {
+    let path = format!(in rt.alloc(); "configurations/{name}.toml").ok()?;
+    fs::read_to_string(rt, path.as_str()).ok()
+}
+
+/// Whether the configuration has the verdict of the row with the row's edit.
+fn is_judged(alloc: Global, text: &str, row: &str) -> Option<bool> {
+    let mut parts = row.split(" => ");
+    let old = with_ends(alloc, parts.next()?)?;
+    let new = with_copies(alloc, with_ends(alloc, parts.next()?)?.as_str())?;
+    let wanted = parts.next()?;
+    if parts.next().is_some() {
+        return None;
+    }
+    let (before, after) = text.split_once(old.as_str())?;
+    if after.contains(old.as_str()) {
+        return None;
+    }
+    let edited = format!(in alloc; "{before}{new}{after}").ok()?;
+    Some(verdict_of(alloc, edited.as_str())?.as_str() == wanted)
+}
+
+/// The verdict on a configuration in words, or `no fault`.
+fn verdict_of(alloc: Global, text: &str) -> Option<String> {
+    match read_config(alloc, text) {
+        Ok(_) => String::from_str(alloc, "no fault").ok(),
+        Err(fault) => {
+            let line = verdict_text(alloc, &Verdict::Config(fault)).ok()?;
+            String::from_str(alloc, line.as_str().trim_end()).ok()
+        }
+    }
+}
+
+/// Whether the line alone is told as unreadable, and ends the run.
+fn is_unreadable(alloc: Global, text: &str, line: &str) -> Option<bool> {
+    let (plan, _policy) = read_config(alloc, text).ok()?;
+    let found = answers(alloc, &plan, line.as_bytes())?;
+    Some(found.as_slice() == b"line 1: unreadable\nline 1: unreadable\n".as_slice())
+}
+
+/// Whether the lines of the case give what they must.
+fn is_answered(rt: &HostRuntime, configuration: &str, name: &str) -> Option<bool> {
+    let alloc = rt.alloc();
+    let text = read_configuration(rt, configuration)?;
+    let lines = fs::read_to_string(rt, format!(in alloc; "lines/{name}.in").ok()?.as_str()).ok()?;
+    let wanted = fs::read_to_string(rt, format!(in alloc; "lines/{name}.out").ok()?.as_str()).ok()?;
+    let lines = with_copies(alloc, lines.as_str())?;
+    let found = match read_config(alloc, text.as_str()) {
+        Ok((plan, _policy)) => answers(alloc, &plan, lines.as_bytes())?,
+        Err(fault) => verdict_text(alloc, &Verdict::Config(fault))
+            .ok()?
+            .into_bytes(),
+    };
+    Some(found.as_slice() == wanted.as_bytes())
+}
+
+/// What a run of the lines over the plan writes, and then how it ends, in a line.
+fn answers(alloc: Global, plan: &Plan, lines: &[u8]) -> Option<Vec<u8>> {
+    let mut written = Vec::new(alloc);
+    let end = match run_lines(alloc, plan, &mut &*lines, &mut written) {
+        Ok(count) => format!(in alloc; "{count} lines\n").ok()?,
+        Err(fault) => format!(in alloc; "{fault}\n").ok()?,
+    };
+    written.extend_from_slice(end.as_bytes()).ok()?;
+    Some(written)
+}

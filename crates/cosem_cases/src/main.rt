@@ -1,0 +1,57 @@
+//! The program `cosem_cases`: stored cases of whole texts, each against what it must give.
+//!
+//! The file `cases` lists them, in the order in which they are tried. Empty lines and lines that begin with `#` are passed
+//! over; any other line is one of these:
+//!
+//! - `lines CONFIGURATION NAME`: the lines of `lines/NAME.in` over the configuration `configurations/CONFIGURATION.toml`
+//!   give what `lines/NAME.out` has: what is written, and then how the run ended, as `6 lines` or the fault in words; or
+//!   the configuration's verdict.
+//! - `edits CONFIGURATION NAME`: each row `OLD => NEW => VERDICT` of `edits/NAME` is a case. With NEW in place of OLD, which
+//!   it has once, the configuration has this verdict, or `no fault`.
+//! - `unreadable CONFIGURATION NAME`: each row of `unreadable/NAME` is a case: the line, alone, is told by
+//!   `line 1: unreadable` and ends the run.
+//! - `command NAME STATUS`: the program with the words of `commands/NAME.words`, one a line, and the input `NAME.in` ends
+//!   with this status and writes `NAME.out` on standard output and `NAME.err` on standard error; a file that isn't there is
+//!   empty.
+//!
+//! Each case goes through the calls that the commands of `cosem-flow` make. In lines and in NEW `<<N*TEXT>>` stands for N
+//! copies of the text, with numbers in place of `&$` (`copies`); in OLD and NEW `\n` stands for the end of a line.
+//!
+//! Each case that falls short is told by its name. Exit status: 0 where all cases are as expected, else 1.
+#![tactic(auto)]
+
+mod case;
+mod command;
+mod copies;
+
+use case::Tally;
+use std::fs;
+use std::process::ExitCode;
+
+/// The file that lists the cases, in the current folder.
+const CASES: &str = "cases";
+
+fn main(rt: HostRuntime) -> ExitCode {
+    match run_cases(&rt) {
+        Some(true) => ExitCode::SUCCESS,
+        Some(false) => ExitCode::FAILURE,
+        None => {
+            let _ = rt.eprintln("cosem_cases: the file cases can't be read");
+            ExitCode::FAILURE
+        }
+    }
+}
+
+/// Tries each case that is listed, and says whether all came out as they must.
+fn run_cases(rt: &HostRuntime) -> Option<bool> {
+    let list = fs::read_to_string(rt, CASES).ok()?;
+    let mut tally = Tally::new();
+    for line in list.as_str().lines() {
+        if !line.is_empty() && !line.starts_with('#') {
+            tally.count(rt, line);
+        }
+    }
+    let (count, failed) = (tally.count, tally.failed);
+    let is_told = println!(rt; "{count} cases as expected").is_ok();
+    Some(failed == 0 && is_told)
+}
