@@ -1,6 +1,6 @@
 -- Reading an APDU and its forms are one.
 use Rattle.std.proofs.Common.{◌≡◌, ℕ, ℤ, zero, suc, ◌<◌, ◌≤◌, ◌==◌, true, false, List, [], ◌∷◌, ◌++◌, length, drop, get_or, Option, Some, None, Result, Ok, Err, refl, sym, ap, subst, ◌∙◌, append-nil, arith, inl, inr, IfOk}
-use Rattle.std.specs.Prelude.{nat_lt, slice_index, MatchResult, IsErr, IsErrOf}
+use Rattle.std.specs.Prelude.{nat_lt, slice_index, MatchResult, IsSome, IsErrOf}
 use Rattle.std.specs.Option.{option_map}
 use Rattle.std.specs.Int.{w8, w16, from_be_bytes, to_be_bytes, cast_signed, cast_unsigned}
 use Rattle.std.proofs.lemmas.Bool.{ltb-false, le-ltb, eqb-true}
@@ -317,10 +317,16 @@ is_unreadable bytes (Ok x) b h u request is = absurd cc
 is_unreadable bytes (Err faults.Unreadable) b h u request is = let e : ◌≡◌ {A = Option Request} None (Some request) = sym h ∙ request-again request bytes b is in absurd cc
 is_unreadable bytes (Err faults.Memory) b h u request is = absurd cc
 
--- bytes that are no form are not read
-pub is_refused : (bytes : List ℕ) (r : Result Request ApduFault) → IsBytes bytes → Reads r (request_at bytes) → IsNoRequest bytes → IsErr r
+-- there is no request where none has a form
+no_request : (bytes : List ℕ) (read : Option Request) → IsBytes bytes → request_at bytes ≡ read → IsNoRequest bytes → IsSome read → ⊥
+no_request bytes None b e none some = absurd cc
+no_request bytes (Some x) b e none some = none x (request-takes bytes x b e)
+
+-- bytes that are no form are unreadable
+pub is_refused : (bytes : List ℕ) (r : Result Request ApduFault) → IsBytes bytes → Reads r (request_at bytes) → IsNoRequest bytes → IsErrOf r faults.Unreadable
 is_refused bytes (Ok x) b h none = absurd (none x (request-takes bytes x b h))
-is_refused bytes (Err e) b h none = refl
+is_refused bytes (Err faults.Unreadable) b h none = refl
+is_refused bytes (Err faults.Memory) b h none = absurd (no_request bytes (request_at bytes) b refl none h)
 
 pub one_request_lem : OneRequest
 one_request_lem r q bytes b h k = some_is r q (sym (request-again r bytes b h) ∙ request-again q bytes b k)

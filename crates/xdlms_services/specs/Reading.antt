@@ -1,5 +1,5 @@
 -- Reading an APDU from left to right.
-use Rattle.std.specs.Prelude.{◌≡◌, ◌<◌, ◌↔◌, ℕ, ◌==◌, nat_lt, List, [], ◌∷◌, length, drop, slice_index, Option, Some, None, Result, Ok, Err, if◌then◌else◌, true, false}
+use Rattle.std.specs.Prelude.{◌≡◌, ◌<◌, ◌↔◌, ℕ, ◌==◌, nat_lt, List, [], ◌∷◌, length, drop, slice_index, Option, Some, None, IsSome, Result, Ok, Err, if◌then◌else◌, true, false}
 use Rattle.std.specs.Option.{option_map}
 use Rattle.std.specs.Int.{w8, w16, from_be_bytes, cast_signed}
 use Rattle.cosem_data.specs.Tree.{Tree}
@@ -15,11 +15,11 @@ use Rattle.xdlms_services.specs.declared.reading.Front.{Front}
 use Rattle.xdlms_services.specs.declared.reading.ApduFault.{ApduFault}
 use Rattle.xdlms_services.specs.declared.reading.ApduFault.TheVariants as faults
 
--- what a function returned is what reading gives, unless memory ran out
+-- what a function returned is what reading gives, unless memory ran out for what is there to be read
 abbrev pub Reads : {A : Type 0} → Result A ApduFault → Option A → Type 0
 Reads (Ok x) read = read ≡ Some x
 Reads (Err faults.Unreadable) read = read ≡ None
-Reads (Err faults.Memory) read = Unit {0}
+Reads (Err faults.Memory) read = IsSome read
 
 -- the value that was read, where nothing is left behind it
 abbrev pub argument_from : Result (Tree × List ℕ) ReadFault → Argument

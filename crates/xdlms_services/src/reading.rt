@@ -1,4 +1,4 @@
-ghost use Rattle.std.specs.Prelude.{◌≡◌, ◌≤◌, length, IfOk, IsErr, IsErrOf, Err, MatchResult};
+ghost use Rattle.std.specs.Prelude.{◌≡◌, ◌≤◌, length, IfOk, IsErrOf, Err, MatchResult};
 ghost use Rattle.xdlms_services.specs.declared.request.Request.{Request as RequestValue};
 ghost use Rattle.xdlms_services.specs.Reading.{Reads, front_at, argument_at, request_at, service_of, get_of, set_of, act_of};
 ghost use Rattle.xdlms_services.specs.Grammar.{IsRequest, IsNoRequest};
@@ -15,7 +15,7 @@ use std::alloc::Global;
 pub enum ApduFault {
     /// The bytes are no form of a request.
     Unreadable,
-    /// Memory was refused.
+    /// Memory was refused for a request.
     Memory,
 }
 
@@ -53,9 +53,9 @@ pub fn read_apdu(alloc: Global, bytes: &[u8]) -> Result<Request, ApduFault>
     ensures only { (request : RequestValue) → IsRequest request bytes.now →
         MatchResult result (λ read. read ≡ request) (λ fault. fault ≡ ApduFault.Memory) }
 
-    // Unreadable are only bytes that are no form of any request, and these are never read.
+    // Unreadable are the bytes that are no form of any request, and no others; memory runs out only for a request.
     ensures unreadable { IsErrOf result ApduFault.Unreadable → IsNoRequest bytes.now }
-    ensures refused { IsNoRequest bytes.now → IsErr result }
+    ensures refused { IsNoRequest bytes.now → IsErrOf result ApduFault.Unreadable }
 
     // The same as a function of the bytes.
     ensures exact { Reads result (request_at bytes.now) }
