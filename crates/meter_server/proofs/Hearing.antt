@@ -15,8 +15,8 @@ use Rattle.meter_server.specs.declared.running.LineFault.{LineFault}
 use Rattle.meter_server.specs.declared.running.LineFault.TheVariants.{Read, Write, Line, Memory}
 use Rattle.meter_server.specs.declared.running.Run.{Run}
 use Rattle.meter_server.specs.Spelling.{line_of, reply_text, unreadable_text}
-use Rattle.meter_server.specs.Running.{IsLine, ended, text_of_lines, with_last, IsReadable, tasks_in, tasks_of, printed, Moment, Heard, Stops, RunsLines}
-use Rattle.meter_server.specs.Pieces.{next_by_task, meter_after, replies_to, printed_from, AnswersLine, Hears, Advances, TakesPiece, EndsRun}
+use Rattle.meter_server.specs.Running.{IsLine, ended, text_of_lines, with_last, IsReadable, tasks_in, tasks_of, printed, Moment, IsTextFor, Heard, Stops, RunsLines}
+use Rattle.meter_server.specs.Pieces.{next_by_task, meter_after, replies_to, printed_from, IsTextOfLine, IsCutShort, AnswersLine, Hears, Advances, TakesPiece, EndsRun}
 
 -- ---- what is done and printed
 
@@ -77,10 +77,25 @@ Advances-then plan old mid new a b w0 w1 w2 ls ms p q = record {
   state = q.state;
 }
 
+-- what was cut short at one meter and number is so at the same ones
+cut-along : (plan : Plan) (m k : State) (n i : ℕ) (line front : List ℕ) → m ≡ k → n ≡ i → IsCutShort plan m n line front → IsCutShort plan k i line front
+cut-along plan m k n i line front e f c =
+    subst (λ (number : ℕ). IsCutShort plan k number line front) f (subst (λ (meter : State). IsCutShort plan meter n line front) e c)
+
 pub Takes-then : (plan : Plan) (old mid new : Run) (a b : List ℕ) (w0 w1 w2 : Option (List ℕ)) (ls : List (List ℕ)) (e : LineFault)
     → Advances plan old mid a w0 w1 ls → TakesPiece plan mid new b w1 w2 (Err e) → TakesPiece plan old new (a ++ b) w0 w2 (Err e)
 Takes-then plan old mid new a b w0 w1 w2 ls Read p q = absurd q
-Takes-then plan old mid new a b w0 w1 w2 ls Write p q = tt
+Takes-then plan old mid new a b w0 w1 w2 ls Write p q = (
+  ls ++ q.0,
+  q.1,
+  q.2,
+  q.3,
+  subst (Hears plan old (a ++ b) w0 w2 (ls ++ q.0) (ended q.1 ++ q.2)) (joined plan old mid ls q.0 q.3 p.meter)
+      (Hears-then plan old mid a b w0 w1 w2 ls q.0 (ended q.1 ++ q.2) (printed_from plan mid.meter q.0 ++ q.3) p q.4),
+  q.5,
+  cut-along plan (meter_after plan mid.meter (tasks_of plan q.0)) (meter_after plan old.meter (tasks_of plan (ls ++ q.0))) (mid.count + length q.0 + 1) (old.count + length (ls ++ q.0) + 1) q.1 q.3
+      (ap (λ (m : State). meter_after plan m (tasks_of plan q.0)) p.meter ∙ sym (after-append plan old.meter ls q.0)) (omega (arith, p.count, length-append ls q.0)) q.6,
+)
 Takes-then plan old mid new a b w0 w1 w2 ls (Line n) p q = (
   ls ++ q.0,
   q.1,
@@ -111,7 +126,16 @@ Hears-more plan old bytes more w0 w1 ls rest text h = record {
 pub Takes-more : (plan : Plan) (old new : Run) (bytes more : List ℕ) (w0 w1 : Option (List ℕ)) (e : LineFault)
     → TakesPiece plan old new bytes w0 w1 (Err e) → TakesPiece plan old new (bytes ++ more) w0 w1 (Err e)
 Takes-more plan old new bytes more w0 w1 Read h = absurd h
-Takes-more plan old new bytes more w0 w1 Write h = tt
+Takes-more plan old new bytes more w0 w1 Write h = (
+  h.0,
+  h.1,
+  h.2 ++ more,
+  h.3,
+  subst (λ (t : List ℕ). Hears plan old (bytes ++ more) w0 w1 h.0 t (printed_from plan old.meter h.0 ++ h.3)) (append_assoc (ended h.1) h.2 more)
+      (Hears-more plan old bytes more w0 w1 h.0 (ended h.1 ++ h.2) (printed_from plan old.meter h.0 ++ h.3) h.4),
+  h.5,
+  h.6,
+)
 Takes-more plan old new bytes more w0 w1 (Line n) h = (
   h.0,
   h.1,
@@ -129,7 +153,15 @@ Takes-more plan old new bytes more w0 w1 Memory h = (h.0, h.1 ++ more, Hears-mor
 pub line-stops : (plan : Plan) (old new : Run) (m : State) (byte : ℕ) (w0 w1 : Option (List ℕ)) (e : LineFault) → IsLine old.line.items → byte ≡ 10
     → AnswersLine plan old.meter m (old.count + 1) old.line.items w0 w1 (Err e) → TakesPiece plan old new (byte ∷ []) w0 w1 (Err e)
 line-stops plan old new m byte w0 w1 Read l b h = absurd h
-line-stops plan old new m byte w0 w1 Write l b h = tt
+line-stops plan old new m byte w0 w1 Write l b h = (
+  [],
+  old.line.items,
+  [],
+  h.0,
+  record { whole = ap (λ (x : ℕ). old.line.items ++ x ∷ []) b ∙ sym (append-nil (ended old.line.items)); each = All-nil IsLine; readable = All-nil (IsReadable plan); wrote = h.2 },
+  l,
+  cut-along plan old.meter old.meter (old.count + 1) (old.count + 0 + 1) old.line.items h.0 refl (omega arith) h.1,
+)
 line-stops plan old new m byte w0 w1 (Line n) l b h = (
   [],
   old.line.items,
@@ -261,10 +293,30 @@ piece-stands plan before m run new total sum first bytes lines unread written pi
   },
 )
 
+-- what is written for a line behind others, from the start on
+text-behind : (plan : Plan) (first : Run) (ls : List (List ℕ)) (line text : List ℕ) (n : ℕ) → first.meter ≡ start plan → n ≡ length ls + 1
+    → IsTextOfLine plan (meter_after plan first.meter (tasks_of plan ls)) n line text → IsTextFor plan ls line text
+text-behind plan first ls line text n s e t =
+    elim t [
+      | inl w ↦ inl (sym (from_start plan first (ls ++ line ∷ []) s) ∙ printed_from-append plan first.meter ls (line ∷ [])
+          ∙ ap (λ (x : List ℕ). printed_from plan first.meter ls ++ x) w ∙ ap (λ (x : List ℕ). x ++ text) (from_start plan first ls s))
+      | inr w ↦ inr (w.0, w.1 ∙ ap unreadable_text e)
+    ]
+
 stops-told : (plan : Plan) (before : Moment) (unread written : Option (List ℕ)) (first new : Run) (bytes : List ℕ) (e : LineFault)
     → first.line.items ≡ [] → first.meter ≡ start plan → first.count ≡ 0 → Consumes before.unread unread bytes → TakesPiece plan first new bytes before.written written (Err e) → Stops plan before (moment unread written) e
 stops-told plan before unread written first new bytes Read e s n r h = absurd h
-stops-told plan before unread written first new bytes Write e s n r h = tt
+stops-told plan before unread written first new bytes Write e s n r h = (
+  h.0,
+  ended h.1 ++ h.2,
+  h.1,
+  h.3,
+  h.6.left,
+  heard_all plan before unread written first bytes h.0 (ended h.1 ++ h.2) (printed_from plan first.meter h.0 ++ h.3) (printed plan h.0 ++ h.3) e h.4 r (ap (λ (t : List ℕ). t ++ h.3) (from_start plan first h.0 s)),
+  (h.5, inl (h.2, refl)),
+  text-behind plan first h.0 h.1 (h.3 ++ h.6.left) (first.count + length h.0 + 1) s (omega (arith, n)) h.6.text,
+  h.6.some,
+)
 stops-told plan before unread written first new bytes (Line k) e s n r h = (
   h.0,
   ended h.1 ++ h.2,
@@ -309,7 +361,25 @@ run-ends plan before m run total first bytes lines unread written (Ok count) s k
       omega (arith, h.2, s.advances.count, s.none, length-append lines (with_last [] run.line.items), ap (λ (ls : List (List ℕ)). length ls) (with_last-append lines run.line.items)),
     )
 run-ends plan before m run total first bytes lines unread written (Err Read) s k end h = absurd h
-run-ends plan before m run total first bytes lines unread written (Err Write) s k end h = tt
+run-ends plan before m run total first bytes lines unread written (Err Write) s k end h =
+    let read = subst (Consumes before.unread unread) (append-nil bytes) (Consumes-trans before.unread m.unread unread bytes [] s.read k) in
+    let more : Hears plan first bytes before.written written lines run.line.items (printed_from plan first.meter lines ++ h.0) = record {
+      whole = s.advances.heard.whole;
+      each = s.advances.heard.each;
+      readable = s.advances.heard.readable;
+      wrote = Appends-trans before.written m.written written (printed_from plan first.meter lines) h.0 s.advances.heard.wrote h.2;
+    } in
+    let cut = cut-along plan run.meter (meter_after plan first.meter (tasks_of plan lines)) (run.count + 1) (length lines + 1) run.line.items h.0 s.advances.meter (omega (arith, s.advances.count, s.none)) h.1 in (
+      lines,
+      run.line.items,
+      run.line.items,
+      h.0,
+      cut.left,
+      heard_all plan before unread written first bytes lines run.line.items (printed_from plan first.meter lines ++ h.0) (printed plan lines ++ h.0) s.empty more read (ap (λ (t : List ℕ). t ++ h.0) (from_start plan first lines s.start)),
+      (s.advances.held, inr (refl, h.3, end)),
+      text-behind plan first lines run.line.items (h.0 ++ cut.left) (length lines + 1) s.start refl cut.text,
+      cut.some,
+    )
 run-ends plan before m run total first bytes lines unread written (Err (Line n)) s k end h =
     let read = subst (Consumes before.unread unread) (append-nil bytes) (Consumes-trans before.unread m.unread unread bytes [] s.read k) in
     let more : Hears plan first bytes before.written written lines run.line.items (printed_from plan first.meter lines ++ unreadable_text n) = record {

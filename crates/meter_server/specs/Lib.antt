@@ -5,3 +5,5 @@ pub mod Driving
 pub mod Running
 pub mod Pieces
 pub mod Verdicts
+pub mod Faults
+pub mod Program

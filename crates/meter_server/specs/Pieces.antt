@@ -1,5 +1,5 @@
 -- A run of lines in the order in which its bytes come: what the parts of the runner do. All of it is own profile.
-use Rattle.std.specs.Prelude.{◌≡◌, ℕ, ◌+◌, ◌<◌, List, [], ◌∷◌, ◌++◌, length, Option, All, Result, Ok, Err}
+use Rattle.std.specs.Prelude.{◌≡◌, ℕ, ◌+◌, ◌<◌, List, [], ◌∷◌, ◌++◌, length, Option, All, ◌⊎◌, Result, Ok, Err}
 use Rattle.std.specs.List.{flat_map}
 use Rattle.std.specs.Io.KnownBytes.{Appends}
 use Rattle.meter_theory.specs.Plan.{Plan}
@@ -34,12 +34,24 @@ replies_to plan meter (Take step ∷ tasks) = replies_to plan (next plan meter s
 abbrev pub printed_from : Plan → State → List (List ℕ) → List ℕ
 printed_from plan meter lines = flat_map reply_text (replies_to plan meter (tasks_of plan lines))
 
+-- what is written for a line with this number: the replies to what it asks of this meter, or that it is unreadable (own profile)
+abbrev pub IsTextOfLine : Plan → State → ℕ → List ℕ → List ℕ → Type 0
+IsTextOfLine plan meter number line text =
+    (printed_from plan meter (line ∷ []) ≡ text) ⊎ ((line_of plan line ≡ Unreadable) × (text ≡ unreadable_text number))
+
+-- this is a beginning of what is written for the line, and something is left of it (own profile)
+pub record IsCutShort (plan : Plan) (meter : State) (number : ℕ) (line front : List ℕ) : Type 0 where
+  pub left : List ℕ
+  pub some : 0 < length left
+  pub text : IsTextOfLine plan meter number line (front ++ left)
+
 -- one line with this number was answered (own profile)
 abbrev pub AnswersLine : Plan → State → State → ℕ → List ℕ → Option (List ℕ) → Option (List ℕ) → Result (Unit {0}) LineFault → Type 0
 AnswersLine plan old new number line before after (Ok u) =
     IsReadable plan line × (new ≡ meter_after plan old (tasks_of plan (line ∷ []))) × Appends before after (printed_from plan old (line ∷ [])) × IsState plan new
 AnswersLine plan old new number line before after (Err Read) = ⊥
-AnswersLine plan old new number line before after (Err Write) = Unit {0}
+AnswersLine plan old new number line before after (Err Write) =
+    (front : List ℕ) × IsCutShort plan old number line front × Appends before after front
 AnswersLine plan old new number line before after (Err (Line n)) =
     (line_of plan line ≡ Unreadable) × (n ≡ number) × Appends before after (unreadable_text n)
 AnswersLine plan old new number line before after (Err Memory) = after ≡ before
@@ -63,7 +75,10 @@ pub record Advances (plan : Plan) (old new : Run) (bytes : List ℕ) (before aft
 abbrev pub TakesPiece : Plan → Run → Run → List ℕ → Option (List ℕ) → Option (List ℕ) → Result (Unit {0}) LineFault → Type 0
 TakesPiece plan old new bytes before after (Ok u) = (lines : List (List ℕ)) × Advances plan old new bytes before after lines
 TakesPiece plan old new bytes before after (Err Read) = ⊥
-TakesPiece plan old new bytes before after (Err Write) = Unit {0}
+TakesPiece plan old new bytes before after (Err Write) =
+    (lines : List (List ℕ)) × (line : List ℕ) × (more : List ℕ) × (front : List ℕ)
+    × Hears plan old bytes before after lines (ended line ++ more) (printed_from plan old.meter lines ++ front)
+    × IsLine line × IsCutShort plan (meter_after plan old.meter (tasks_of plan lines)) (old.count + length lines + 1) line front
 TakesPiece plan old new bytes before after (Err (Line number)) =
     (lines : List (List ℕ)) × (line : List ℕ) × (more : List ℕ)
     × Hears plan old bytes before after lines (ended line ++ more) (printed_from plan old.meter lines ++ unreadable_text number)
@@ -76,7 +91,8 @@ abbrev pub EndsRun : Plan → Run → Option (List ℕ) → Option (List ℕ) �
 EndsRun plan run before after (Ok count) =
     IsReadable plan run.line.items × Appends before after (printed_from plan run.meter (with_last [] run.line.items)) × (count ≡ run.count + length (with_last [] run.line.items))
 EndsRun plan run before after (Err Read) = ⊥
-EndsRun plan run before after (Err Write) = Unit {0}
+EndsRun plan run before after (Err Write) =
+    (front : List ℕ) × IsCutShort plan run.meter (run.count + 1) run.line.items front × Appends before after front × (0 < length run.line.items)
 EndsRun plan run before after (Err (Line number)) =
     (line_of plan run.line.items ≡ Unreadable) × (number ≡ run.count + 1) × Appends before after (unreadable_text number) × (0 < length run.line.items)
 EndsRun plan run before after (Err Memory) = after ≡ before

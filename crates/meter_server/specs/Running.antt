@@ -74,13 +74,20 @@ pub record Heard (plan : Plan) (before after : Moment) (lines : List (List ℕ))
 abbrev pub StandsWhole : Option (List ℕ) → List ℕ → List ℕ → Type 0
 StandsWhole unread line rest = IsLine line × (((more : List ℕ) × (rest ≡ ended line ++ more)) ⊎ ((rest ≡ line) × (0 < length line) × IsAtEnd unread))
 
+-- what is written for a line behind these: the replies to what it asks, or that it is unreadable (own profile)
+abbrev pub IsTextFor : Plan → List (List ℕ) → List ℕ → List ℕ → Type 0
+IsTextFor plan lines line text =
+    (printed plan (lines ++ line ∷ []) ≡ printed plan lines ++ text) ⊎ ((line_of plan line ≡ Unreadable) × (text ≡ unreadable_text (length lines + 1)))
+
 -- what a fault says of what was read and written (own profile)
 abbrev pub Stops : Plan → Moment → Moment → LineFault → Type 0
 -- all whole lines were answered, and one more has begun at most, unless the count of bytes came to its end
 Stops plan before after Read =
     (lines : List (List ℕ)) × (rest : List ℕ) × Heard plan before after lines rest (printed plan lines) × (IsLine rest ⊎ (2 ^ 64 ≤ length (text_of_lines lines ++ rest)))
--- a writer that failed holds what it may
-Stops plan before after Write = Unit {0}
+-- the lines before one were answered, and of what is written for it a beginning was written and something is left
+Stops plan before after Write =
+    (lines : List (List ℕ)) × (rest : List ℕ) × (line : List ℕ) × (front : List ℕ) × (left : List ℕ) × Heard plan before after lines rest (printed plan lines ++ front)
+    × StandsWhole after.unread line rest × IsTextFor plan lines line (front ++ left) × (0 < length left)
 -- the lines before the first unreadable one were answered, and its number from 1 was told
 Stops plan before after (Line number) =
     (lines : List (List ℕ)) × (rest : List ℕ) × (line : List ℕ) × Heard plan before after lines rest (printed plan lines ++ unreadable_text number)

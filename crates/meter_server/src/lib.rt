@@ -5,6 +5,7 @@
 mod answering;
 mod driving;
 mod line;
+pub mod program;
 pub mod running;
 #[cfg(test)]
 mod tests;

@@ -13,25 +13,40 @@ use meter_core::step::Step;
 use object_model::meter::Meter;
 use object_model::plan::Plan;
 use std::alloc::Global;
+use std::error::Error;
+use std::fmt;
 use std::io::{Read, Write};
-use thiserror::Error;
 
 /// Why a run of lines ended early.
-#[derive(Clone, Copy, Debug, PartialEq, Eq, Drop, Error)]
+#[derive(Clone, Copy, Debug, PartialEq, Eq, Drop)]
 pub enum LineFault {
     /// A read failed, or more than 2^64 - 1 bytes were read.
-    #[error("the lines can't be read")]
     Read,
     /// A write failed, or took no byte.
-    #[error("the replies can't be written")]
     Write,
     /// The line with this number, from 1, is unreadable.
-    #[error("line {0}: unreadable")]
     Line(u64),
     /// Memory was refused.
-    #[error("out of memory")]
     Memory,
 }
+
+impl fmt::Display for LineFault {
+    ghost use Rattle.std.specs.Prelude.{Some};
+    ghost use Rattle.meter_server.specs.Faults.{fault_words};
+
+    ghost output = { λ fault. Some (fault_words fault) };
+
+    fn fmt<W: fmt::Write>(&self, f: &mut fmt::Formatter<W>) -> fmt::Result {
+        match self {
+            LineFault::Read => f.write_str("the lines can't be read"),
+            LineFault::Write => f.write_str("the replies can't be written"),
+            LineFault::Line(number) => write!(f, "line {number}: unreadable"),
+            LineFault::Memory => f.write_str("out of memory"),
+        }
+    }
+}
+
+impl Error for LineFault {}
 
 impl From<Memory> for LineFault {
     ghost use Rattle.std.specs.Prelude.{◌≡◌};
@@ -75,8 +90,8 @@ const END: u8 = b'\n';
 /// order; nothing is written of these. An empty line and one that begins with `#` are skipped. Any
 /// other line is told by `line N: unreadable`, and ends the run with `LineFault::Line`.
 ///
-/// One line and one reply are in memory at a time. After a fault other than `Write` the lines before it
-/// are answered, and nothing else was written.
+/// One line and one reply are in memory at a time. Where a fault ends the run, the lines before it are
+/// answered and nothing else was written, but after `Write` a beginning of what is written for the next line.
 pub fn run_lines<R: Read, W: Write>(
     alloc: Global,
     plan: &Plan,

@@ -15,7 +15,7 @@ pub enum Verdict {
 }
 
 /// The line of a configuration's fault.
-fn fault_line(alloc: Global, fault: &ConfigFault) -> Result<String, Memory>
+pub(crate) fn fault_line(alloc: Global, fault: &ConfigFault) -> Result<String, Memory>
     ensures { IfOk result (λ line. string_bytes line ≡ spec.fault_line fault.now) }
 {
     match fault {
