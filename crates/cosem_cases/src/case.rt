@@ -1,10 +1,7 @@
 //! One case, or a table of them, against what it must give.
 use crate::command::is_done;
 use crate::copies::{with_copies, with_ends};
-use config_reader::read_config;
-use meter_server::running::run_lines;
-use meter_server::verdict::{Verdict, verdict_text};
-use object_model::plan::Plan;
+use meter_server::program::{Outcome, answer_text};
 use std::alloc::Global;
 use std::fs;
 
@@ -140,10 +137,11 @@ fn is_judged(alloc: Global, text: &str, row: &str) -> Option<bool> {
 
 /// The verdict on a configuration in words, or `no fault`.
 fn verdict_of(alloc: Global, text: &str) -> Option<String> {
-    match read_config(alloc, text) {
-        Ok(_) => String::from_str(alloc, "no fault").ok(),
-        Err(fault) => {
-            let line = verdict_text(alloc, &Verdict::Config(fault)).ok()?;
+    let outcome = answer_text(alloc, text, &mut b"".as_slice(), &mut Vec::new(alloc));
+    match outcome {
+        Outcome::Done => String::from_str(alloc, "no fault").ok(),
+        _ => {
+            let line = outcome.output(alloc).ok()?;
             String::from_str(alloc, line.as_str().trim_end()).ok()
         }
     }
@@ -151,8 +149,7 @@ fn verdict_of(alloc: Global, text: &str) -> Option<String> {
 
 /// Whether the line alone is told as unreadable, and ends the run.
 fn is_unreadable(alloc: Global, text: &str, line: &str) -> Option<bool> {
-    let (plan, _policy) = read_config(alloc, text).ok()?;
-    let found = answers(alloc, &plan, line.as_bytes())?;
+    let found = answers(alloc, text, line.as_bytes())?;
     Some(found.as_slice() == b"line 1: unreadable\nline 1: unreadable\n".as_slice())
 }
 
@@ -163,21 +160,19 @@ fn is_answered(rt: &HostRuntime, configuration: &str, name: &str) -> Option<bool
     let lines = fs::read_to_string(rt, format!(in alloc; "lines/{name}.in").ok()?.as_str()).ok()?;
     let wanted = fs::read_to_string(rt, format!(in alloc; "lines/{name}.out").ok()?.as_str()).ok()?;
     let lines = with_copies(alloc, lines.as_str())?;
-    let found = match read_config(alloc, text.as_str()) {
-        Ok((plan, _policy)) => answers(alloc, &plan, lines.as_bytes())?,
-        Err(fault) => verdict_text(alloc, &Verdict::Config(fault))
-            .ok()?
-            .into_bytes(),
-    };
+    let found = answers(alloc, text.as_str(), lines.as_bytes())?;
     Some(found.as_slice() == wanted.as_bytes())
 }
 
-/// What a run of the lines over the plan writes, and then how it ends, in a line.
-fn answers(alloc: Global, plan: &Plan, lines: &[u8]) -> Option<Vec<u8>> {
+/// What a run of the lines over the configuration writes, and then how it ends, in a line: `done`, the fault in words, or
+/// the verdict on the configuration.
+fn answers(alloc: Global, text: &str, lines: &[u8]) -> Option<Vec<u8>> {
     let mut written = Vec::new(alloc);
-    let end = match run_lines(alloc, plan, &mut &*lines, &mut written) {
-        Ok(count) => format!(in alloc; "{count} lines\n").ok()?,
-        Err(fault) => format!(in alloc; "{fault}\n").ok()?,
+    let outcome = answer_text(alloc, text, &mut &*lines, &mut written);
+    let end = match &outcome {
+        Outcome::Done => String::from_str(alloc, "done\n").ok()?,
+        Outcome::Fault(fault) => format!(in alloc; "{fault}\n").ok()?,
+        other => other.output(alloc).ok()?,
     };
     written.extend_from_slice(end.as_bytes()).ok()?;
     Some(written)

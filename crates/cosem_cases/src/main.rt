@@ -4,7 +4,7 @@
 //! over; any other line is one of these:
 //!
 //! - `lines CONFIGURATION NAME`: the lines of `lines/NAME.in` over the configuration `configurations/CONFIGURATION.toml`
-//!   give what `lines/NAME.out` has: what is written, and then how the run ended, as `6 lines` or the fault in words; or
+//!   give what `lines/NAME.out` has: what is written, and then how the run ended, `done` or the fault in words; or
 //!   the configuration's verdict.
 //! - `edits CONFIGURATION NAME`: each row `OLD => NEW => VERDICT` of `edits/NAME` is a case. With NEW in place of OLD, which
 //!   it has once, the configuration has this verdict, or `no fault`.

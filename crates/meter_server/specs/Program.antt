@@ -1,6 +1,10 @@
 -- What the program does with its words, and what it tells whoever started it (own profile throughout).
-use Rattle.std.specs.Prelude.{ℕ, List, [], ◌∷◌, ◌++◌, String, string_bytes, codes, Option, Some, None, Result, Ok, Err, if◌then◌else◌}
+use Rattle.std.specs.Prelude.{◌≡◌, ℕ, List, [], ◌∷◌, ◌++◌, String, string_bytes, codes, Option, Some, None, Result, Ok, Err, if◌then◌else◌}
 use Rattle.std.specs.Str.{bytes_eq}
+use Rattle.config_parts.specs.Fault.{Fault as ConfigFault, Fails}
+use Rattle.config_parts.specs.Parts.{ConfigText}
+use Rattle.config_plan.specs.PlanOf.{plan_of}
+use Rattle.meter_server.specs.Running.{Moment, RunsLines}
 use Rattle.meter_server.specs.Verdicts.{fault_line}
 use Rattle.meter_server.specs.Faults.{fault_words}
 use Rattle.meter_server.specs.declared.running.LineFault.{LineFault}
@@ -40,3 +44,10 @@ error_of Usage = codes "usage: cosem-flow demo | cosem-flow run CONFIG\n"
 error_of (Unread file) = codes "cosem-flow: " ++ (string_bytes file ++ codes ": can't be read as UTF-8 text\n")
 error_of (Fault (Line number)) = []
 error_of (Fault fault) = codes "cosem-flow: " ++ (fault_words fault ++ codes "\n")
+
+-- how the lines of an input are answered by the configuration that a text says: its fault is told and nothing is read or written, or the lines run over its plan
+abbrev pub AnswersText : Result ConfigText ConfigFault → Moment → Moment → Outcome → Type 0
+AnswersText said before after (Refused fault) = Fails fault said × (after ≡ before)
+AnswersText said before after Done = (c : ConfigText) × (said ≡ Ok c) × (count : ℕ) × RunsLines (plan_of c) before after (Ok count)
+AnswersText said before after (Fault fault) = (c : ConfigText) × (said ≡ Ok c) × RunsLines (plan_of c) before after (Err fault)
+AnswersText said before after _ = ⊥

@@ -1,7 +1,8 @@
 //! What the program does with its words: which file it reads, what it tells and where, and its exit status (own profile).
 ghost use Rattle.std.specs.Prelude.{◌≡◌, IfOk, None, map, option_map, string_bytes};
+ghost use Rattle.config_reader.specs.ConfigOf.{config_of};
 ghost use Rattle.meter_server.specs.Program as spec;
-ghost use Rattle.meter_server.specs.Program.{error_of, file_named, output_of, status_of};
+ghost use Rattle.meter_server.specs.Program.{AnswersText, error_of, file_named, output_of, status_of};
 
 use crate::running::{LineFault, run_lines};
 use crate::verdict::{Verdict, fault_line};
@@ -125,11 +126,27 @@ fn answer_file<H: Files + AllocGlobal, I: Read, O: Write>(
     input: &mut I,
     output: &mut O,
 ) -> Outcome {
-    let Ok(text) = fs::read_to_string(rt, file) else {
-        return unread(rt.alloc(), file);
-    };
-    match read_config(rt.alloc(), text.as_str()) {
-        Ok((plan, _policy)) => outcome_of(run_lines(rt.alloc(), &plan, input, output)),
+    match fs::read_to_string(rt, file) {
+        Ok(text) => answer_text(rt.alloc(), text.as_str(), input, output),
+        Err(_) => unread(rt.alloc(), file),
+    }
+}
+
+/// Answers the lines of the input by the configuration that a text is, on the output, and says how that ended: `Done`, a
+/// fault of the run, or `Refused` where the configuration has a fault or memory was refused while it was read; then nothing
+/// was read of the input, and nothing written.
+pub fn answer_text<I: Read, O: Write>(
+    alloc: Global,
+    text: &str,
+    input: &mut I,
+    output: &mut O,
+) -> Outcome
+    ensures { AnswersText (config_of text.now)
+        (record { unread = I.remaining input.old; written = O.contents output.old })
+        (record { unread = I.remaining input.new; written = O.contents output.new }) result }
+{
+    match read_config(alloc, text) {
+        Ok((plan, _policy)) => outcome_of(run_lines(alloc, &plan, input, output)),
         Err(fault) => Outcome::Refused(fault),
     }
 }
