@@ -1,2 +1,1 @@
 pub mod ReadTables
-pub mod Accepted

@@ -3,7 +3,5 @@
 
 pub mod laws;
 mod reading;
-#[cfg(test)]
-mod tests;
 
 pub use reading::{judge, read_config};

@@ -7,8 +7,6 @@ mod driving;
 mod line;
 pub mod program;
 pub mod running;
-#[cfg(test)]
-mod tests;
 mod text;
 pub mod verdict;
 mod words;

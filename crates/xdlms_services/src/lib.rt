@@ -5,8 +5,6 @@
 pub mod laws;
 pub mod reading;
 pub mod request;
-#[cfg(test)]
-mod tests;
 pub mod writing;
 
 pub use reading::{ApduFault, read_apdu};

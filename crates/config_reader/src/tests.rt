@@ -1,2 +1,0 @@
-mod demo;
-mod plans;

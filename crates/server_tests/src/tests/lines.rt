@@ -1,0 +1,142 @@
+ghost use Rattle.std.specs.Prelude.{Some};
+
+use super::samples::{TEXT, plan_of};
+use cosem_data::memory::Memory;
+use meter_server::running::{LineFault, run_lines};
+use object_model::plan::Plan;
+use std::alloc::Global;
+use std::io;
+use std::io::{ErrorKind, Read, Write};
+use std::process::Abort;
+use std::test::Fail;
+
+/// A reader that moves one byte a call and fails at one call, counted from 1.
+#[derive(Drop)]
+struct SlowReader<'a> {
+    bytes: &'a [u8],
+    calls: u64,
+    fails_at: u64,
+}
+
+impl<'a> Read for SlowReader<'a> {
+    ghost remaining = { λ r. Some r.bytes.now };
+
+    fn read(&mut self, buf: &mut [u8]) -> io::Result<usize> {
+        self.calls = self.calls.saturating_add(1);
+        if self.calls == self.fails_at {
+            return Err(io::Error::from(ErrorKind::Other));
+        }
+        if buf.len() == 0 {
+            return Ok(0);
+        }
+        match self.bytes.split_first() {
+            None => Ok(0),
+            Some((first, rest)) => {
+                buf[0] = *first;
+                self.bytes = rest;
+                Ok(1)
+            }
+        }
+    }
+}
+
+/// A writer that takes one byte a call and fails at one call, counted from 1.
+#[derive(Drop)]
+struct SlowWriter {
+    held: Vec<u8>,
+    calls: u64,
+    fails_at: u64,
+}
+
+impl Write for SlowWriter {
+    ghost contents = { λ w. Some w.held.items };
+
+    fn write(&mut self, buf: &[u8]) -> io::Result<usize> {
+        self.calls = self.calls.saturating_add(1);
+        if self.calls == self.fails_at {
+            return Err(io::Error::from(ErrorKind::Other));
+        }
+        match buf.first() {
+            None => Ok(0),
+            Some(first) => {
+                if self.held.push(*first).is_err() {
+                    return Err(io::Error::from(ErrorKind::OutOfMemory));
+                }
+                Ok(1)
+            }
+        }
+    }
+
+    fn flush(&mut self) -> io::Result<()> {
+        Ok(())
+    }
+}
+
+/// A run over the input, its reader and writer failing at these calls (0 for none), ends so and writes so many bytes: a
+/// beginning of the whole text.
+fn ends(
+    rt: &impl Abort,
+    alloc: Global,
+    plan: &Plan,
+    (input, whole): (&[u8], &[u8]),
+    (fails_read, fails_write): (u64, u64),
+    (want, count): (Result<u64, LineFault>, usize),
+) -> Result<(), Fail> {
+    let mut reader = SlowReader {
+        bytes: input,
+        calls: 0,
+        fails_at: fails_read,
+    };
+    let mut writer = SlowWriter {
+        held: Vec::with_capacity(alloc, 512)?,
+        calls: 0,
+        fails_at: fails_write,
+    };
+    let answer = run_lines(alloc, plan, &mut reader, &mut writer);
+    if answer == Err(LineFault::Memory) {
+        return Err(Memory.into());
+    }
+    assert!(rt; count <= whole.len());
+    assert_eq!(rt; writer.held.as_slice(), &whole[..count]);
+    assert_eq!(rt; answer, want, "behind {count} bytes");
+    Ok(())
+}
+
+/// A comment, an empty line, digits in either case, and a last line without its end.
+const LINES: &[u8] = b"# a comment\n\
+    reader C001C100030100010800FF0200\n\
+    \n\
+    public c001c100030100010800ff0200\n\
+    manager C101C100010000600B00FF02001101\n\
+    reader C001C100010000600B00FF0200";
+
+const REPLIES: &[u8] = b"C401C100060001E240\nC401C10103\nC501C100\nC401C1001101\n";
+
+/// The last digit of the name is no text in UTF-8.
+const UNREADABLE: (&[u8], &[u8]) = (b"eval 0.0.16.1.0.25\xFF", b"line 1: unreadable\n");
+
+/// A reading fails in a line, between two lines and behind the last one: the lines before it are answered. A writing fails at
+/// the first byte, in a reply, at its end, behind it and at the last byte: nothing is written behind it. All bytes take 52
+/// calls.
+#[test]
+fn a_failing_call_ends_a_run(rt: HostRuntime) -> Result<(), Fail> {
+    let plan = plan_of(rt.alloc(), TEXT)?;
+    let lines = (LINES, REPLIES);
+    for (texts, fails, answer, count) in [
+        (lines, (46, 0), Err(LineFault::Read), 0),
+        (lines, (47, 0), Err(LineFault::Read), 19),
+        (lines, (121, 0), Err(LineFault::Read), 39),
+        (lines, (154, 0), Err(LineFault::Read), 39),
+        (lines, (0, 1), Err(LineFault::Write), 0),
+        (lines, (0, 5), Err(LineFault::Write), 4),
+        (lines, (0, 19), Err(LineFault::Write), 18),
+        (lines, (0, 20), Err(LineFault::Write), 19),
+        (lines, (0, 52), Err(LineFault::Write), 51),
+        (lines, (0, 53), Ok(6), 52),
+        (UNREADABLE, (0, 0), Err(LineFault::Line(1)), 19),
+        (UNREADABLE, (0, 5), Err(LineFault::Write), 4),
+    ] {
+        ends(&rt, rt.alloc(), &plan, texts, fails, (answer, count))?;
+    }
+    Ok(())
+}

@@ -1,0 +1,169 @@
+ghost use Rattle.meter_theory.specs.States.{IsState};
+
+use super::samples::{ENERGY, encode, plan_of, started};
+use super::steps::Event::{Evaluate, Input};
+use super::steps::{AB, C, Event, GET_ALARM, OCTETS_TEXT, PROFILE, SET_AB, TABLE, is_this, step};
+use cosem_data::cell::CellRef;
+use cosem_data::memory::Memory;
+use meter_core::apply::apply;
+use meter_core::reply::Reply;
+use meter_core::step::Step;
+use object_model::meter::Meter;
+use object_model::plan::Plan;
+use std::alloc::Global;
+use std::process::Abort;
+use std::test::Fail;
+
+/// A step and its reply; then what the cells hold behind it that the steps change: the values of register and alarm, what the
+/// monitor has seen, and the profile's rows and their number.
+type Row = (
+    Event,
+    &'static str,
+    u32,
+    &'static str,
+    &'static str,
+    &'static str,
+    u8,
+);
+
+const RESET: Event = Event::Act((3, ENERGY, 1), "");
+
+const CAPTURE: Event = Event::Act((7, PROFILE, 2), "");
+
+const CLEAR: Event = Event::Act((7, PROFILE, 1), "");
+
+const EXECUTE: Event = Event::Act((9, TABLE, 1), "120002");
+
+const BUFFER: Event = Event::Get((7, PROFILE, 2), "");
+
+/// The rows from the second to the second and the columns from the second to the second are one alarm.
+const ENTRY: Event = Event::Get((7, PROFILE, 2), "020406000000020600000002120002120002");
+
+const CAPTURE_AT: Event = Event::CaptureAt("2024-02-28T00:15:00");
+
+const SCHEDULE_AT: Event = Event::ScheduleAt("2024-02-29T00:00:00");
+
+/// Energies that the monitor has seen.
+const FIVE: &str = "0600000005";
+
+const HUNDRED: &str = "0600000064";
+
+const EF: &str = "09024546";
+
+/// The rows of a profile: none, 5 with AB, behind it 100 with AB, and so on.
+const NO_ROWS: &str = "0100";
+
+const ROW_5: &str = "01010202060000000509024142";
+
+const ROWS_5_100: &str = "010202020600000005090241420202060000006409024142";
+
+const ROWS_100_100: &str = "0102020206000000640902414202020600000064090143";
+
+const ROWS_100_7: &str = "010202020600000064090143\
+    02020600000007090143";
+
+const ROWS_7_8: &str = "010202020600000007090143\
+    02020600000008090143";
+
+const ROWS_9_0: &str = "010202020600000009090144\
+    0202060000000009024546";
+
+/// The schedule's times: midnight on each last day of a month.
+const TIMES: &str = "010102020904000000FF0905FFFFFFFEFF";
+
+/// Requests; evaluations, the second of which finds 100 crossed, sets the alarm and captures into a full profile; further
+/// captures into it; the longer script, by schedule; a reset, and the script again, by request.
+const ROWS: [Row; 21] = [
+    (SET_AB, "0", 5, AB, "00", NO_ROWS, 0),
+    (GET_ALARM, AB, 5, AB, "00", NO_ROWS, 0),
+    (CAPTURE, "0", 5, AB, "00", ROW_5, 1),
+    (Input(100), "quiet", 100, AB, "00", ROW_5, 1),
+    (CAPTURE, "0", 100, AB, "00", ROWS_5_100, 2),
+    (BUFFER, ROWS_5_100, 100, AB, "00", ROWS_5_100, 2),
+    (ENTRY, "0101020109024142", 100, AB, "00", ROWS_5_100, 2),
+    (RESET, "0", 0, AB, "00", ROWS_5_100, 2),
+    (Input(5), "quiet", 5, AB, "00", ROWS_5_100, 2),
+    (Evaluate, "quiet", 5, AB, FIVE, ROWS_5_100, 2),
+    (Input(100), "quiet", 100, AB, FIVE, ROWS_5_100, 2),
+    (Evaluate, "quiet", 100, C, HUNDRED, ROWS_100_100, 2),
+    (Input(7), "quiet", 7, C, HUNDRED, ROWS_100_100, 2),
+    (CAPTURE, "0", 7, C, HUNDRED, ROWS_100_7, 2),
+    (Input(8), "quiet", 8, C, HUNDRED, ROWS_100_7, 2),
+    (CAPTURE_AT, "quiet", 8, C, HUNDRED, ROWS_7_8, 2),
+    (Input(9), "quiet", 9, C, HUNDRED, ROWS_7_8, 2),
+    (SCHEDULE_AT, "quiet", 0, EF, HUNDRED, ROWS_9_0, 2),
+    (CLEAR, "0", 0, EF, HUNDRED, NO_ROWS, 0),
+    (Input(9), "quiet", 9, EF, HUNDRED, NO_ROWS, 0),
+    (EXECUTE, "0", 0, EF, HUNDRED, ROWS_9_0, 2),
+];
+
+/// What all cells of the plan hold, in plan order, as encodings in hex.
+fn all_held(
+    rt: &impl Abort,
+    alloc: Global,
+    cells: &[CellRef],
+    meter: &Meter,
+) -> Result<String, Memory> {
+    let mut bytes = Vec::with_capacity(alloc, 256)?;
+    for cell in cells {
+        if let Some(value) = meter.held(cell) {
+            encode(rt, value, &mut bytes)?;
+        }
+    }
+    Ok(hex::encode_upper(alloc, &bytes)?)
+}
+
+/// Takes a step. Where memory is refused, the cells hold what they held, and the step is taken once more.
+fn taken(
+    rt: &impl Abort,
+    alloc: Global,
+    plan: &Plan,
+    cells: &[CellRef],
+    meter: &mut Meter,
+    step: &Step,
+) -> Result<Reply, Memory>
+    requires { IsState plan.now meter.old }
+    ensures { IsState plan.now meter.new }
+{
+    let before = all_held(rt, alloc, cells, meter)?;
+    if let Ok(reply) = apply(alloc, plan, meter, step) {
+        return Ok(reply);
+    }
+    let behind = all_held(rt, alloc, cells, meter)?;
+    assert_eq!(rt; behind.as_str(), before.as_str());
+    let again = apply(alloc, plan, meter, step);
+    assert!(rt; again.is_ok(), "refused once more");
+    again
+}
+
+/// Each step has its reply and leaves in the cells what its row says, also where memory is refused once. The monitor's
+/// threshold of 100, the profile's period and the schedule's times stay.
+fn survives_all(
+    rt: &impl Abort,
+    alloc: Global,
+    plan: &Plan,
+    cells: &[CellRef],
+    meter: &mut Meter,
+) -> Result<(), Fail>
+    requires { IsState plan.now meter.old }
+{
+    for (event, want, register, alarm, seen, rows, count) in ROWS {
+        let reply = taken(rt, alloc, plan, cells, meter, &step(alloc, event)?)?;
+        is_this(rt, alloc, &reply, want)?;
+        let all = format!(in alloc;
+            "06{register:08X}{alarm}01010600000064{seen}{rows}0600000384060000000{count}{TIMES}"
+        )?;
+        let held = all_held(rt, alloc, cells, meter)?;
+        assert_eq!(rt; held.as_str(), all.as_str());
+    }
+    Ok(())
+}
+
+/// Whichever growth of a step is refused, the meter is as it was, and takes the step next.
+#[test]
+fn a_refused_growth_leaves_the_meter(rt: HostRuntime) -> Result<(), Fail> {
+    let plan = plan_of(rt.alloc(), OCTETS_TEXT)?;
+    let mut meter = started(&plan, rt.alloc())?;
+    let cells = plan.cells(rt.alloc())?;
+    survives_all(&rt, rt.alloc(), &plan, &cells, &mut meter)
+}

@@ -1,0 +1,72 @@
+ghost use Rattle.meter_theory.specs.States.{IsState};
+
+use super::samples::{ALARM, cell, is_written, plan_of, started};
+use super::steps::Event::{Evaluate, Input};
+use super::steps::{AB, C, EMPTY, Event, GET_ALARM, OCTETS_TEXT, SET_AB, is_this, step};
+use cosem_data::memory::Memory;
+use meter_core::run::{Stopped, run};
+use meter_core::step::Step;
+use object_model::meter::Meter;
+use object_model::plan::Plan;
+use std::alloc::Global;
+use std::process::Abort;
+use std::test::Fail;
+
+/// Steps, their replies, and the alarm behind each. The monitor's threshold is 100. From 90 on 100 crosses it upwards, another
+/// 100 doesn't, and 99 crosses it downwards; what the manager sets stays where nothing is crossed.
+const CROSSINGS: [(Event, &str, &str); 13] = [
+    (Input(90), "quiet", EMPTY),
+    (Evaluate, "quiet", EMPTY),
+    (GET_ALARM, EMPTY, EMPTY),
+    (Input(100), "quiet", EMPTY),
+    (Evaluate, "quiet", C),
+    (GET_ALARM, C, C),
+    (SET_AB, "0", AB),
+    (Input(100), "quiet", AB),
+    (Evaluate, "quiet", AB),
+    (GET_ALARM, AB, AB),
+    (Input(99), "quiet", AB),
+    (Evaluate, "quiet", EMPTY),
+    (GET_ALARM, EMPTY, EMPTY),
+];
+
+fn steps_of_crossings(alloc: Global) -> Result<Vec<Step>, Fail> {
+    let mut steps = Vec::new(alloc);
+    for (event, _, _) in CROSSINGS {
+        steps.push(step(alloc, event)?)?;
+    }
+    Ok(steps)
+}
+
+/// Where memory is refused, the replies are the first ones and the meter stands behind their steps.
+fn are_run(
+    rt: &impl Abort,
+    alloc: Global,
+    plan: &Plan,
+    meter: &mut Meter,
+    steps: &[Step],
+) -> Result<(), Fail>
+    requires { IsState plan.now meter.old }
+{
+    let (replies, is_whole) = match run(alloc, plan, meter, steps) {
+        Ok(replies) => (replies, true),
+        Err(Stopped { replies }) => (replies, false),
+    };
+    let held = meter.value(alloc, plan, &cell(1, ALARM, 2));
+    assert_eq!(rt; is_whole, replies.len() == CROSSINGS.len());
+    let mut alarm = EMPTY;
+    for (reply, (_, want, behind)) in replies.iter().zip(CROSSINGS) {
+        is_this(rt, alloc, reply, want)?;
+        alarm = behind;
+    }
+    is_written(rt, alloc, held, alarm)?;
+    if is_whole { Ok(()) } else { Err(Memory.into()) }
+}
+
+#[test]
+fn crossings_are_run(rt: HostRuntime) -> Result<(), Fail> {
+    let plan = plan_of(rt.alloc(), OCTETS_TEXT)?;
+    let mut meter = started(&plan, rt.alloc())?;
+    let steps = steps_of_crossings(rt.alloc())?;
+    are_run(&rt, rt.alloc(), &plan, &mut meter, &steps)
+}

@@ -1,0 +1,170 @@
+//! A meter with an object of each class, the steps that it takes, and its replies.
+
+use super::samples::{ALARM, ENERGY, cell, value_of, written};
+use civil_moment::moment::Moment;
+use cosem_data::data::Data;
+use cosem_data::name::LogicalName;
+use meter_core::reply::Reply;
+use meter_core::step::Step;
+use object_model::argument::Argument;
+use std::alloc::Global;
+use std::process::Abort;
+use std::test::Fail;
+
+/// Load profile 1, as the OBIS table of IEC 62056-6-2 has it.
+pub const PROFILE: LogicalName = LogicalName([1, 0, 99, 1, 0, 255]);
+
+/// Tariffication script table.
+pub const TABLE: LogicalName = LogicalName([0, 0, 10, 0, 100, 255]);
+
+/// Alarm monitor 0, a register monitor.
+const MONITOR: LogicalName = LogicalName([0, 0, 16, 1, 0, 255]);
+
+/// The schedule of the second script.
+const SCHEDULE: LogicalName = LogicalName([0, 0, 15, 0, 0, 255]);
+
+/// The place of the only client.
+const MANAGER: u8 = 0;
+
+/// One object of each class and a manager, who reads the profile, calls all methods, and reads and sets the alarm, which is an
+/// octet-string, so that its values take memory. The first script sets it and captures a row; the second one captures a row and
+/// clears the profile between two settings, resets the register and captures again; the third one empties the alarm.
+pub const OCTETS_TEXT: &str = r#"version = 1
+client = [{ name = "manager", sap = 1 }]
+object = [
+ { class = 3, name = "1.0.1.8.0.255", fed = true, value = "0600000005", default = "0600000000", scaler = 0, unit = 30 },
+ { class = 1, name = "0.0.96.11.0.255", value = "0900" },
+ { class = 9, name = "0.0.10.0.100.255", script = [
+  { id = 1, action = [
+   { service = 1, object = "0.0.96.11.0.255", index = 2, value = "090143" },
+   { service = 2, object = "1.0.99.1.0.255", index = 2 } ] },
+  { id = 2, action = [
+   { service = 2, object = "1.0.99.1.0.255", index = 2 },
+   { service = 1, object = "0.0.96.11.0.255", index = 2, value = "090144" },
+   { service = 2, object = "1.0.99.1.0.255", index = 1 },
+   { service = 2, object = "1.0.99.1.0.255", index = 2 },
+   { service = 1, object = "0.0.96.11.0.255", index = 2, value = "09024546" },
+   { service = 2, object = "1.0.1.8.0.255", index = 1 },
+   { service = 2, object = "1.0.99.1.0.255", index = 2 } ] },
+  { id = 3, action = [ { service = 1, object = "0.0.96.11.0.255", index = 2, value = "0900" } ] } ] },
+ { class = 21, name = "0.0.16.1.0.255", monitored = { object = "1.0.1.8.0.255", index = 2 }, thresholds = ["0600000064"], action = [
+  { up = { table = "0.0.10.0.100.255", script = 1 }, down = { table = "0.0.10.0.100.255", script = 3 } } ] },
+ { class = 7, name = "1.0.99.1.0.255", period = 900, entries = 2, capture = [
+  { object = "1.0.1.8.0.255", index = 2 }, { object = "0.0.96.11.0.255", index = 2 } ] },
+ { class = 22, name = "0.0.15.0.0.255", script = { table = "0.0.10.0.100.255", script = 2 }, type = 1, times = ["000000FFFFFFFFFEFF"] },
+]
+right = [
+ { client = "manager", object = "1.0.1.8.0.255", act = [1] },
+ { client = "manager", object = "0.0.96.11.0.255", get = [2], set = [2] },
+ { client = "manager", object = "0.0.10.0.100.255", act = [1] },
+ { client = "manager", object = "1.0.99.1.0.255", get = [2], act = [1, 2] },
+]
+policy = { influence = ["manager"], learn = ["manager"] }
+"#;
+
+/// An attribute or a method: class, name and index.
+pub(super) type Named = (u16, LogicalName, i8);
+
+/// What happens to the meter. Values and parameters are told by their encoding in hex, where there are any, and moments by
+/// their text.
+#[derive(Clone, Copy)]
+pub(super) enum Event {
+    /// The manager reads an attribute, by an entry descriptor.
+    Get(Named, &'static str),
+    /// The manager sets the alarm.
+    Set(&'static str),
+    /// The manager calls a method, with a parameter.
+    Act(Named, &'static str),
+    /// A value of the register comes in.
+    Input(u32),
+    /// The monitor is evaluated.
+    Evaluate,
+    /// A moment is offered to the profile.
+    CaptureAt(&'static str),
+    /// A moment is offered to the schedule.
+    ScheduleAt(&'static str),
+}
+
+/// Encodings of alarms of two letters, of one and of none.
+pub const AB: &str = "09024142";
+
+pub const C: &str = "090143";
+
+pub const EMPTY: &str = "0900";
+
+pub const SET_AB: Event = Event::Set(AB);
+
+pub const GET_ALARM: Event = Event::Get((1, ALARM, 2), "");
+
+/// The value with this encoding, or none where there is no text.
+fn argument(alloc: Global, text: &str) -> Result<Argument, Fail> {
+    if text.is_empty() {
+        return Ok(Argument::Absent);
+    }
+    Ok(Argument::Value(value_of(alloc, text)?))
+}
+
+/// The entry descriptor with this encoding, or none where there is no text.
+fn selection(alloc: Global, text: &str) -> Result<Option<(u8, Argument)>, Fail> {
+    if text.is_empty() {
+        return Ok(None);
+    }
+    Ok(Some((2, argument(alloc, text)?)))
+}
+
+/// The step of an event.
+pub(super) fn step(alloc: Global, event: Event) -> Result<Step, Fail> {
+    Ok(match event {
+        Event::Get((class_id, name, index), text) => Step::Get {
+            client: MANAGER,
+            class_id,
+            name,
+            index,
+            selection: selection(alloc, text)?,
+        },
+        Event::Set(text) => Step::Set {
+            client: MANAGER,
+            class_id: 1,
+            name: ALARM,
+            index: 2,
+            selected: false,
+            value: argument(alloc, text)?,
+        },
+        Event::Act((class_id, name, index), text) => Step::Act {
+            client: MANAGER,
+            class_id,
+            name,
+            index,
+            argument: argument(alloc, text)?,
+        },
+        Event::Input(energy) => Step::Input {
+            cell: cell(3, ENERGY, 2),
+            value: Data::DoubleLongUnsigned(energy),
+        },
+        Event::Evaluate => Step::Evaluate { monitor: MONITOR },
+        Event::CaptureAt(text) => Step::CaptureAt {
+            profile: PROFILE,
+            moment: Moment::read(text)?,
+        },
+        Event::ScheduleAt(text) => Step::ScheduleAt {
+            schedule: SCHEDULE,
+            moment: Moment::read(text)?,
+        },
+    })
+}
+
+/// The reply is told so: a value by its encoding in hex, a result by its number.
+pub(super) fn is_this(
+    rt: &impl Abort,
+    alloc: Global,
+    reply: &Reply,
+    want: &str,
+) -> Result<(), Fail> {
+    let text = match reply {
+        Reply::Value(value) => written(rt, alloc, value)?,
+        Reply::Code(code) => format!(in alloc; "{}", code.code())?,
+        Reply::Quiet => String::from_str(alloc, "quiet")?,
+    };
+    assert_eq!(rt; text.as_str(), want);
+    Ok(())
+}
