@@ -16,7 +16,7 @@ import time
 
 TOP = os.path.dirname(os.path.dirname(os.path.abspath(__file__)))
 PROGRAM = os.path.join(TOP, "crates", "cosem_flow", "out", "cosem_flow")
-CONFIG = os.path.join(TOP, "crates", "cosem_flow", "data", "demo.toml")
+CONFIG = os.path.join(TOP, "crates", "cosem_cases", "data", "demo.toml")
 CLIENTS = ["public", "reader", "installer", "manager"]
 ENERGY = "0100010800FF"
 ALARM = "0000600B00FF"

@@ -114,7 +114,7 @@ impl Tally {
 
 /// The text of a configuration of the cases.
 fn read_configuration(rt: &HostRuntime, name: &str) -> Option<String> {
-    let path = format!(in rt.alloc(); "configurations/{name}.toml").ok()?;
+    let path = format!(in rt.alloc(); "{name}.toml").ok()?;
     fs::read_to_string(rt, path.as_str()).ok()
 }
 

@@ -3,7 +3,7 @@
 //! The file `cases` lists them, in the order in which they are tried. Empty lines and lines that begin with `#` are passed
 //! over; any other line is one of these:
 //!
-//! - `lines CONFIGURATION NAME`: the lines of `lines/NAME.in` over the configuration `configurations/CONFIGURATION.toml`
+//! - `lines CONFIGURATION NAME`: the lines of `lines/NAME.in` over the configuration `CONFIGURATION.toml`
 //!   give what `lines/NAME.out` has: what is written, and then how the run ended, `done` or the fault in words; or
 //!   the configuration's verdict.
 //! - `edits CONFIGURATION NAME`: each row `OLD => NEW => VERDICT` of `edits/NAME` is a case. With NEW in place of OLD, which
