@@ -1,5 +1,5 @@
 -- The answer of a rule as the code of the last places of a SET.
-use Rattle.std.specs.Prelude.{◌≡◌, Bool, true, false, Option, Some, None, Ok, Err, if◌then◌else◌, not}
+use Rattle.std.specs.Prelude.{◌≡◌, Bool, true, false, cond, Option, Some, None, Ok, Err, if◌then◌else◌, not}
 use Rattle.std.proofs.Common.{refl}
 use Rattle.cosem_data.specs.Tree.{Tree}
 use Rattle.meter_theory.specs.declared.access.AccessCode.{AccessCode}
@@ -28,3 +28,8 @@ code_of_err (Some rule) value code h = at (right_tag rule value) (meets rule val
     at true true e = cc
     at true false e = cc
     at false fits e = cc
+
+-- a SET that passes the places before the value has the code of the value
+pub all_passed : {seen of_class has may selected : Bool} {code : AccessCode} → seen ≡ true → of_class ≡ true → has ≡ true → may ≡ true → selected ≡ false
+    → code ≡ cond (not seen) codes.ObjectUndefined (cond (not of_class) codes.ObjectClassInconsistent (cond (not has) codes.ObjectUndefined (cond (not may) codes.ReadWriteDenied (cond selected codes.ScopeOfAccessViolated code))))
+all_passed a b c d e = cc

@@ -12,7 +12,7 @@ association_depends_only_on_sources view op argument row other_row cells others 
 
 -- every write is refused: own profile
 pub association_writes_its_value : WritesItsValue association_refusal association_touched association_new_value
-association_writes_its_value view index value cells i accepted =
+association_writes_its_value view index value cells accepted =
     let settable : false ≡ true = settable_of_accepted false (is_association_attribute index) None accepted in
     absurd (false≢true settable)
 

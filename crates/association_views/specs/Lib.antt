@@ -1,4 +1,3 @@
 pub mod AssociationClass
 pub mod AssociationLaws
 pub mod Permits
-pub mod SelectionView

@@ -10,7 +10,7 @@ ghost use Rattle.object_model.specs.ArgumentView.{argument_of, selection_of};
 ghost use Rattle.object_model.specs.PartView.{part_of};
 ghost use Rattle.association_views.specs.Permits.{permitted, value_code};
 
-use crate::selection::EntryDescriptor;
+use crate::selection::descriptor_in;
 use class_control::script_table::{ScriptTable, knows_script};
 use cosem_class::class::InterfaceClass;
 use cosem_data::cell::{CellRef, MethodRef};
@@ -18,6 +18,7 @@ use cosem_data::data::Data;
 use cosem_data::name::LogicalName;
 use meter_theory::access::AccessCode;
 use object_model::argument::Argument;
+use object_model::instance::Instance;
 use object_model::part::Part;
 use object_model::plan::Plan;
 
@@ -51,28 +52,31 @@ fn is_index(index: i8, highest: u8) -> bool
     1 <= index && i16::from(index) <= i16::from(highest)
 }
 
-fn class_is(plan: &Plan, class_id: u16, name: &LogicalName) -> bool
-    ensures { result ≡ rights.class_is class_id (interface_at plan.now name.now) }
+/// Whether what stands at the name is of this class.
+fn class_is(instance: &Instance, class_id: u16) -> bool
+    ensures { result ≡ rights.class_is class_id (interface_at instance.now.plan instance.now.name) }
 {
-    match plan.interface_at(name) {
+    match instance.interface() {
         Some(interface) => interface.class_id == class_id,
         None => false,
     }
 }
 
-fn has_attribute(plan: &Plan, name: &LogicalName, index: i8) -> bool
-    ensures { result ≡ rights.has_attribute index (interface_at plan.now name.now) }
+/// Whether the class of what stands at the name has an attribute with this index.
+fn has_attribute(instance: &Instance, index: i8) -> bool
+    ensures { result ≡ rights.has_attribute index (interface_at instance.now.plan instance.now.name) }
 {
-    match plan.interface_at(name) {
+    match instance.interface() {
         Some(interface) => is_index(index, interface.attributes),
         None => false,
     }
 }
 
-fn has_method(plan: &Plan, name: &LogicalName, index: i8) -> bool
-    ensures { result ≡ rights.has_method index (interface_at plan.now name.now) }
+/// Whether the class of what stands at the name has a method with this index.
+fn has_method(instance: &Instance, index: i8) -> bool
+    ensures { result ≡ rights.has_method index (interface_at instance.now.plan instance.now.name) }
 {
-    match plan.interface_at(name) {
+    match instance.interface() {
         Some(interface) => is_index(index, interface.methods),
         None => false,
     }
@@ -94,31 +98,31 @@ fn right_selection(selection: &Option<(u8, Argument)>) -> bool
 {
     match selection {
         None => true,
-        Some((_, parameter)) => EntryDescriptor::of(parameter).is_some(),
+        Some((_, parameter)) => descriptor_in(parameter).is_some(),
     }
 }
 
+/// The code of a GET.
 fn get_answer(
-    plan: &Plan,
+    instance: &Instance,
     client: u8,
     class_id: u16,
-    name: &LogicalName,
     index: i8,
     selection: &Option<(u8, Argument)>,
 ) -> AccessCode
-    ensures { result ≡ rights.get_answer plan.now client (record { class_id = class_id; name = name.now; index = index }) (selection_of selection.now) }
+    ensures { result ≡ rights.get_answer instance.now.plan client (record { class_id = class_id; name = instance.now.name; index = index }) (selection_of selection.now) }
 {
-    let cell = attribute_cell(class_id, name, index);
-    if !plan.in_view(client, name) {
+    let cell = attribute_cell(class_id, &instance.name(), index);
+    if !instance.in_view(client) {
         return AccessCode::ObjectUndefined;
     }
-    if !class_is(plan, class_id, name) {
+    if !class_is(instance, class_id) {
         return AccessCode::ObjectClassInconsistent;
     }
-    if !has_attribute(plan, name, index) {
+    if !has_attribute(instance, index) {
         return AccessCode::ObjectUndefined;
     }
-    if !plan.may_read(client, &cell) {
+    if !instance.may_read(client, cell.index) {
         return AccessCode::ReadWriteDenied;
     }
     if !takes_selection(&cell, selection) {
@@ -130,11 +134,12 @@ fn get_answer(
     AccessCode::Success
 }
 
-fn value_answer(plan: &Plan, cell: &CellRef, value: &Argument) -> AccessCode
-    ensures { result ≡ value_code (rule_of plan.now cell.now) (argument_of value.now) }
+/// The code of a SET by its value alone.
+fn value_answer(instance: &Instance, class_id: u16, index: u8, value: &Argument) -> AccessCode
+    ensures { result ≡ value_code (rule_of instance.now.plan (cell class_id instance.now.name index)) (argument_of value.now) }
 {
     match value {
-        Argument::Value(value) => match plan.rule(cell, value) {
+        Argument::Value(value) => match instance.rule(class_id, index, value) {
             Ok(()) => AccessCode::Success,
             Err(code) => code,
         },
@@ -142,34 +147,34 @@ fn value_answer(plan: &Plan, cell: &CellRef, value: &Argument) -> AccessCode
     }
 }
 
+/// The code of a SET.
 fn set_answer(
-    plan: &Plan,
+    instance: &Instance,
     client: u8,
     class_id: u16,
-    name: &LogicalName,
     index: i8,
     selected: bool,
     value: &Argument,
 ) -> AccessCode
-    ensures { result ≡ rights.set_answer plan.now client (record { class_id = class_id; name = name.now; index = index }) selected (argument_of value.now) }
+    ensures { result ≡ rights.set_answer instance.now.plan client (record { class_id = class_id; name = instance.now.name; index = index }) selected (argument_of value.now) }
 {
-    let cell = attribute_cell(class_id, name, index);
-    if !plan.in_view(client, name) {
+    let attribute = index.unsigned_abs();
+    if !instance.in_view(client) {
         return AccessCode::ObjectUndefined;
     }
-    if !class_is(plan, class_id, name) {
+    if !class_is(instance, class_id) {
         return AccessCode::ObjectClassInconsistent;
     }
-    if !has_attribute(plan, name, index) {
+    if !has_attribute(instance, index) {
         return AccessCode::ObjectUndefined;
     }
-    if !plan.may_set(client, &cell) {
+    if !instance.may_set(client, attribute) {
         return AccessCode::ReadWriteDenied;
     }
     if selected {
         return AccessCode::ScopeOfAccessViolated;
     }
-    value_answer(plan, &cell, value)
+    value_answer(instance, class_id, attribute, value)
 }
 
 /// The number of a script in the parameter of execute, a long-unsigned; None for any other (IEC 62056-6-2, Script table,
@@ -184,26 +189,27 @@ pub fn script_number(argument: &Argument) -> Option<u16>
 }
 
 /// Whether what stands at the name is a script table, whose one method is execute.
-fn executes(plan: &Plan, name: &LogicalName) -> bool
-    ensures { result ≡ rights.executes (object_at plan.now name.now) }
+fn executes(instance: &Instance) -> bool
+    ensures { result ≡ rights.executes (object_at instance.now.plan instance.now.name) }
 {
-    match plan.object_at(name) {
+    match instance.object() {
         Some(object) => object.part().class_id() == ScriptTable::CLASS_ID,
         None => false,
     }
 }
 
 /// The parameter of execute is a script's number; that of reset and capture is absent or any readable value (own profile).
-fn right_parameter(plan: &Plan, name: &LogicalName, argument: &Argument) -> bool
-    ensures { result ≡ rights.right_parameter (object_at plan.now name.now) (argument_of argument.now) }
+fn right_parameter(instance: &Instance, argument: &Argument) -> bool
+    ensures { result ≡ rights.right_parameter (object_at instance.now.plan instance.now.name) (argument_of argument.now) }
 {
-    if executes(plan, name) {
+    if executes(instance) {
         script_number(argument).is_some()
     } else {
         !matches!(argument, Argument::Unreadable)
     }
 }
 
+/// Whether a script table has a script with this number, where 0 is that of the null script.
 fn knows(part: &Part, id: u16) -> bool
     ensures { result ≡ rights.knows (part_of part.now) id }
 {
@@ -214,47 +220,47 @@ fn knows(part: &Part, id: u16) -> bool
 }
 
 /// A number that is given to a script table is that of a script of it, or 0, that of the null script.
-fn known_script(plan: &Plan, name: &LogicalName, argument: &Argument) -> bool
-    ensures { result ≡ rights.known_script (object_at plan.now name.now) (rights.script_number (argument_of argument.now)) }
+fn known_script(instance: &Instance, argument: &Argument) -> bool
+    ensures { result ≡ rights.known_script (object_at instance.now.plan instance.now.name) (rights.script_number (argument_of argument.now)) }
 {
-    match (plan.object_at(name), script_number(argument)) {
+    match (instance.object(), script_number(argument)) {
         (Some(object), Some(id)) => knows(object.part(), id),
         _ => true,
     }
 }
 
+/// The code of an ACTION.
 fn act_answer(
-    plan: &Plan,
+    instance: &Instance,
     client: u8,
     class_id: u16,
-    name: &LogicalName,
     index: i8,
     argument: &Argument,
 ) -> AccessCode
-    ensures { result ≡ rights.act_answer plan.now client (record { class_id = class_id; name = name.now; index = index }) (argument_of argument.now) }
+    ensures { result ≡ rights.act_answer instance.now.plan client (record { class_id = class_id; name = instance.now.name; index = index }) (argument_of argument.now) }
 {
-    let method = called_method(class_id, name, index);
-    if !plan.in_view(client, name) {
+    if !instance.in_view(client) {
         return AccessCode::ObjectUndefined;
     }
-    if !class_is(plan, class_id, name) {
+    if !class_is(instance, class_id) {
         return AccessCode::ObjectClassInconsistent;
     }
-    if !has_method(plan, name, index) {
+    if !has_method(instance, index) {
         return AccessCode::ObjectUndefined;
     }
-    if !plan.may_act(client, &method) {
+    if !instance.may_act(client, index.unsigned_abs()) {
         return AccessCode::ReadWriteDenied;
     }
-    if !right_parameter(plan, name, argument) {
+    if !right_parameter(instance, argument) {
         return AccessCode::TypeUnmatched;
     }
-    if !known_script(plan, name, argument) {
+    if !known_script(instance, argument) {
         return AccessCode::OtherReason;
     }
     AccessCode::Success
 }
 
+/// A code as a permit.
 fn permit_of(code: AccessCode) -> Result<(), AccessCode>
     ensures { result ≡ permitted code }
 {
@@ -278,7 +284,20 @@ pub fn permit_get(
 ) -> Result<(), AccessCode>
     ensures { result ≡ permitted (rights.get_answer plan.now client (record { class_id = class_id; name = name.now; index = index }) (selection_of selection.now)) }
 {
-    permit_of(get_answer(plan, client, class_id, name, index, selection))
+    permit_get_at(&plan.instance(name), client, class_id, index, selection)
+}
+
+/// As `permit_get`, of what was looked up at the name.
+pub fn permit_get_at(
+    instance: &Instance,
+    client: u8,
+    class_id: u16,
+    index: i8,
+    selection: &Option<(u8, Argument)>,
+) -> Result<(), AccessCode>
+    ensures { result ≡ permitted (rights.get_answer instance.now.plan client (record { class_id = class_id; name = instance.now.name; index = index }) (selection_of selection.now)) }
+{
+    permit_of(get_answer(instance, client, class_id, index, selection))
 }
 
 /// Whether the client at this place may set an attribute to this value (IEC 62056-5-3, SET): as `permit_get`, but
@@ -295,7 +314,28 @@ pub fn permit_set(
 ) -> Result<(), AccessCode>
     ensures { result ≡ permitted (rights.set_answer plan.now client (record { class_id = class_id; name = name.now; index = index }) selected (argument_of value.now)) }
 {
-    permit_of(set_answer(plan, client, class_id, name, index, selected, value))
+    permit_set_at(
+        &plan.instance(name),
+        client,
+        class_id,
+        index,
+        selected,
+        value,
+    )
+}
+
+/// As `permit_set`, of what was looked up at the name.
+pub fn permit_set_at(
+    instance: &Instance,
+    client: u8,
+    class_id: u16,
+    index: i8,
+    selected: bool,
+    value: &Argument,
+) -> Result<(), AccessCode>
+    ensures { result ≡ permitted (rights.set_answer instance.now.plan client (record { class_id = class_id; name = instance.now.name; index = index }) selected (argument_of value.now)) }
+{
+    permit_of(set_answer(instance, client, class_id, index, selected, value))
 }
 
 /// Whether the client at this place may call a method with this argument (IEC 62056-5-3, ACTION): the first place that
@@ -313,5 +353,18 @@ pub fn permit_action(
 ) -> Result<(), AccessCode>
     ensures { result ≡ permitted (rights.act_answer plan.now client (record { class_id = class_id; name = name.now; index = index }) (argument_of argument.now)) }
 {
-    permit_of(act_answer(plan, client, class_id, name, index, argument))
+    permit_action_at(&plan.instance(name), client, class_id, index, argument)
+}
+
+/// As `permit_action`, of what was looked up at the name.
+pub fn permit_action_at(
+    instance: &Instance,
+    client: u8,
+    class_id: u16,
+    index: i8,
+    argument: &Argument,
+) -> Result<(), AccessCode>
+    ensures { result ≡ permitted (rights.act_answer instance.now.plan client (record { class_id = class_id; name = instance.now.name; index = index }) (argument_of argument.now)) }
+{
+    permit_of(act_answer(instance, client, class_id, index, argument))
 }

@@ -1,63 +1,32 @@
 //! Selective access to a buffer by entry (IEC 62056-6-2, Profile generic, entry_descriptor).
 ghost use Rattle.std.specs.Prelude.{◌≡◌, ◌<◌, ℕ, option_map, map, IfOk};
 ghost use Rattle.cosem_data.specs.View.{tree};
-ghost use Rattle.meter_theory.specs.Rights.{descriptor_in};
-ghost use Rattle.meter_theory.specs.Selection.{descriptor_of, descriptor_of_parts, as_double_long_unsigned, as_long_unsigned, places_between, columns_of, entries_of};
+ghost use Rattle.meter_theory.specs.Rights as rights;
+ghost use Rattle.meter_theory.specs.Selection.{places_between, columns_of, entries_of};
 ghost use Rattle.meter_theory.specs.Times.{parts_of};
 ghost use Rattle.meter_theory.specs.Value.{elements};
 ghost use Rattle.meter_theory.specs.Replies.{selected};
 ghost use Rattle.object_model.specs.ArgumentView.{argument_of, selection_of};
-ghost use Rattle.association_views.specs.SelectionView.{descriptor_view};
+ghost use Rattle.class_profile.specs.SelectionView.{descriptor_view};
 
+use class_profile::selection::EntryDescriptor;
 use cosem_data::data::{Data, Items};
 use cosem_data::memory::Memory;
 use object_model::argument::Argument;
 use std::alloc::Global;
 
-/// The rows from one place to another, and of each the columns from one place to another, counted from 1. A 0 in "from"
-/// is read as 1 (own profile), a 0 in "to" is the last, and what lies past the end is dropped.
-#[derive(Clone, Copy, Debug, PartialEq, Eq)]
-pub struct EntryDescriptor {
-    pub from_entry: u32,
-    pub to_entry: u32,
-    pub from_selected_value: u16,
-    pub to_selected_value: u16,
-}
-
-impl EntryDescriptor {
-    /// The entry descriptor that a selector's parameter is: a structure of exactly two double-long-unsigned and two
-    /// long-unsigned. It takes no memory.
-    pub fn of(parameter: &Argument) -> Option<EntryDescriptor>
-        ensures { option_map descriptor_view result ≡ descriptor_in (argument_of parameter.now) }
-    {
-        match parameter {
-            Argument::Value(Data::Structure(items)) => descriptor_of_parts(items.as_slice()),
-            _ => None,
-        }
-    }
-}
-
-fn descriptor_of_parts(parts: &[Data]) -> Option<EntryDescriptor>
-    ensures { option_map descriptor_view result ≡ descriptor_of_parts (map tree parts.now) }
+/// The entry descriptor that a selector's parameter is, or None where it is none. It takes no memory.
+pub fn descriptor_in(parameter: &Argument) -> Option<EntryDescriptor>
+    ensures { option_map descriptor_view result ≡ rights.descriptor_in (argument_of parameter.now) }
 {
-    match parts {
-        [
-            Data::DoubleLongUnsigned(from_entry),
-            Data::DoubleLongUnsigned(to_entry),
-            Data::LongUnsigned(from_selected_value),
-            Data::LongUnsigned(to_selected_value),
-        ] => Some(EntryDescriptor {
-            from_entry: *from_entry,
-            to_entry: *to_entry,
-            from_selected_value: *from_selected_value,
-            to_selected_value: *to_selected_value,
-        }),
+    match parameter {
+        Argument::Value(value) => EntryDescriptor::of(value),
         _ => None,
     }
 }
 
 /// What a selection leaves of a value: the rows and columns of its entry descriptor, and the whole value where there is
-/// none.
+/// none (IEC 62056-6-2, Profile generic, selective access by entry). The error is that memory was refused.
 pub fn select(
     alloc: Global,
     selection: &Option<(u8, Argument)>,
@@ -68,7 +37,7 @@ pub fn select(
     let Some((_, parameter)) = selection else {
         return Ok(value);
     };
-    match EntryDescriptor::of(parameter) {
+    match descriptor_in(parameter) {
         Some(descriptor) => entries(alloc, &descriptor, &value),
         None => Ok(value),
     }
@@ -76,7 +45,7 @@ pub fn select(
 
 /// The rows and columns of a buffer that an entry descriptor asks for. No rows are an empty array, no columns empty
 /// structures (own profile).
-pub fn entries(alloc: Global, descriptor: &EntryDescriptor, buffer: &Data) -> Result<Data, Memory>
+fn entries(alloc: Global, descriptor: &EntryDescriptor, buffer: &Data) -> Result<Data, Memory>
     ensures { IfOk result (λ left. tree left ≡ entries_of (descriptor_view descriptor.now) (tree buffer.now)) }
 {
     let rows = places_between(
@@ -87,6 +56,7 @@ pub fn entries(alloc: Global, descriptor: &EntryDescriptor, buffer: &Data) -> Re
     Ok(Data::Array(Items::new(columns_of_all(alloc, descriptor, rows)?)))
 }
 
+/// The columns of each row.
 fn columns_of_all(
     alloc: Global,
     descriptor: &EntryDescriptor,
@@ -101,6 +71,7 @@ fn columns_of_all(
     Ok(all)
 }
 
+/// The columns of a row; none are an empty structure (own profile).
 fn columns(alloc: Global, descriptor: &EntryDescriptor, row: &Data) -> Result<Data, Memory>
     ensures { IfOk result (λ left. tree left ≡ columns_of (descriptor_view descriptor.now) (tree row.now)) }
 {
@@ -112,6 +83,7 @@ fn columns(alloc: Global, descriptor: &EntryDescriptor, row: &Data) -> Result<Da
     Ok(Data::Structure(Items::new(copies(alloc, left)?)))
 }
 
+/// Copies of the values. The only error is that memory was refused.
 fn copies(alloc: Global, values: &[Data]) -> Result<Vec<Data>, Memory>
     ensures { IfOk result (λ all. map tree all.items ≡ map tree values.now) }
 {
@@ -122,6 +94,7 @@ fn copies(alloc: Global, values: &[Data]) -> Result<Vec<Data>, Memory>
     Ok(all)
 }
 
+/// The elements of an array, none of any other value.
 fn elements_of(value: &Data) -> &[Data]
     ensures { map tree result.now ≡ elements (tree value.now) }
 {
@@ -131,6 +104,7 @@ fn elements_of(value: &Data) -> &[Data]
     }
 }
 
+/// The parts of a structure, none of any other value.
 fn parts_of(value: &Data) -> &[Data]
     ensures { map tree result.now ≡ parts_of (tree value.now) }
 {
@@ -140,7 +114,7 @@ fn parts_of(value: &Data) -> &[Data]
     }
 }
 
-/// The values from one place to another.
+/// The values from one place to another, counted from 1. A 0 in "to" is the last, and what lies past the end is dropped.
 fn places_between(from: u32, to: u32, values: &[Data]) -> &[Data]
     ensures { map tree result.now ≡ places_between from to (map tree values.now) }
 {

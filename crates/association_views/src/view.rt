@@ -7,10 +7,9 @@ ghost use Rattle.cosem_class.specs.Objects.{no_cells};
 ghost use Rattle.association_views.specs.AssociationClass.{ClientView, AssociationMeetsRule, association_new_value, association_reading, association_refusal, association_touched, is_association_attribute};
 ghost use Rattle.association_views.specs.AssociationLaws.{association_depends_only_on_sources, association_keeps_rules, association_writes_its_value};
 
-use crate::association::{fixed_attribute, object_list};
+use crate::association::{fixed_attribute_at, object_list};
 use cosem_class::cell_set::CellSet;
 use cosem_class::class::{ClassFault, InterfaceClass, Op, Row};
-use cosem_data::cell::CellRef;
 use cosem_data::data::Data;
 use cosem_data::memory::Memory;
 use object_model::plan::{ASSOCIATION, ASSOCIATION_LN, Plan};
@@ -60,7 +59,7 @@ fn is_attribute(index: u8) -> bool
     1 <= index && index <= ASSOCIATION_LN.attributes
 }
 
-impl<'a> InterfaceClass for View<'a> {
+impl<'a> InterfaceClass<()> for View<'a> {
     const CLASS_ID: u16 = ASSOCIATION_LN.class_id;
 
     const VERSION: u8 = ASSOCIATION_LN.version;
@@ -71,7 +70,7 @@ impl<'a> InterfaceClass for View<'a> {
 
     ghost Fixed = { ClientView };
 
-    ghost fixed = { λ v. v };
+    ghost fixed = { λ v _. v };
 
     ghost cells = { λ v. no_cells };
 
@@ -98,19 +97,15 @@ impl<'a> InterfaceClass for View<'a> {
     ghost keeps_rules = { association_keeps_rules };
 
     /// As the service GET reads it: 5, user information, and 7, secret, are null-data (own profile).
-    fn read(&self, alloc: Global, index: u8) -> Result<Data, ClassFault> {
+    fn read(&self, alloc: Global, _lent: (), index: u8) -> Result<Data, ClassFault> {
         if !is_attribute(index) {
             return Err(ClassFault::NoIndex);
         }
-        let cell = CellRef {
-            class_id: ASSOCIATION_LN.class_id,
-            name: ASSOCIATION,
-            index,
-        };
-        Ok(fixed_attribute(alloc, self.plan, self.client, &cell)?)
+        let association = self.plan.instance(&ASSOCIATION);
+        Ok(fixed_attribute_at(alloc, &association, self.client, index)?)
     }
 
-    fn write(&mut self, index: u8, _value: Data) -> Result<(), ClassFault> {
+    fn write(&mut self, _lent: (), index: u8, _value: Data) -> Result<Data, ClassFault> {
         if is_attribute(index) {
             Err(ClassFault::NotSettable)
         } else {
@@ -123,14 +118,13 @@ impl<'a> InterfaceClass for View<'a> {
     fn invoke(
         &mut self,
         _alloc: Global,
+        _lent: (),
         _method: u8,
         _argument: &Data,
         _row: Row,
     ) -> Result<(), ClassFault> {
         Err(ClassFault::NoIndex)
     }
-
-    fn known(&self) {}
 
     fn touched(_op: Op) -> CellSet
         ensures { (i : ℕ) → has result i ≡ false }

@@ -13,6 +13,11 @@ pub none_from_ok : (fault : Option ClassFault) (unit : Unit {0}) → Ok unit ≡
 none_from_ok None unit e = refl
 none_from_ok (Some fault) unit e = cc
 
+-- what is judged without fault is not refused
+pub accepted_as_judged : (rule : Rule) (v : Tree) (settable named : Bool) → settable ≡ true → judged rule v ≡ None → write_fault settable named (judged rule v) ≡ None
+accepted_as_judged rule v true named is none = none
+accepted_as_judged rule v false named is none = cc
+
 -- what is judged is refused for its kind or its rule
 pub refused_as_judged : (rule : Rule) (v : Tree) (e : ClassFault) (settable named : Bool) → settable ≡ true → Err e ≡ answer_of (judged rule v) →
     FaultAs e (write_fault settable named (judged rule v))

@@ -1,6 +1,6 @@
 -- Class 21, Register monitor, version 0 (IEC 62056-6-2): the thresholds at 2 and, at 0, what was seen of the monitored
 -- value (own profile) are its cells; monitored_value at 3 and actions at 4 are fixed; no method.
-use Rattle.std.specs.Prelude.{◌≡◌, ◌⊎◌, ℕ, List, length, map, Option, Result, Ok, Err, Some, Bool, true, false, ◌==◌, ◌&&◌, ◌||◌, if◌then◌else◌}
+use Rattle.std.specs.Prelude.{ℕ, List, length, map, Option, Result, Ok, Err, Some, Bool, false, ◌==◌, ◌&&◌, ◌||◌, if◌then◌else◌}
 use Rattle.cosem_data.specs.Tree.{Tree}
 use Rattle.cosem_data.specs.Kinds.{kind_of, same_kind}
 use Rattle.cosem_data.specs.declared.cell.CellRef.{CellRef}

@@ -1,8 +1,7 @@
 -- The laws of class 21.
-use Rattle.std.proofs.Common.{◌≡◌, ℕ, refl, sym, subst, true, false, ◌⊎◌, inl, inr}
+use Rattle.std.proofs.Common.{ℕ, refl, sym, subst, false}
 use Rattle.std.specs.Prelude.{Some, ◌==◌, ◌||◌}
 use Rattle.std.proofs.lemmas.Bool.{and_parts, eqb-true, or_right}
-use Rattle.cosem_data.specs.Tree.{Tree}
 use Rattle.cosem_data.specs.Kinds.{kind_of, same_kind}
 use Rattle.cosem_data.specs.declared.kind.Kind.TheVariants.{NullData}
 use Rattle.meter_theory.specs.Value.{OfKind, meets}
@@ -17,8 +16,8 @@ monitor_depends_only_on_sources fixed op argument row other cells others i insid
 
 -- a write that is not refused is of 2, and puts its value there
 pub monitor_writes_its_value : WritesItsValue monitor_refusal monitor_touched monitor_new_value
-monitor_writes_its_value fixed index value cells i accepted =
-    writes_one index 2 i value cells
+monitor_writes_its_value fixed index value cells accepted =
+    writes_one index 2 value cells
     (settable_of_accepted (index == 2) ((index == 1) || ((index == 3) || (index == 4))) (judged (monitor_rule fixed) value) accepted)
 
 -- what is written is judged as thresholds, and what is remembered is of the monitored kind

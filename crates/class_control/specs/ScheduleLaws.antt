@@ -15,8 +15,8 @@ schedule_depends_only_on_sources fixed op argument row other cells others i insi
 
 -- a write that is not refused is of 4, and puts its value there
 pub schedule_writes_its_value : WritesItsValue schedule_refusal schedule_touched schedule_new_value
-schedule_writes_its_value fixed index value cells i accepted =
-    writes_one index 4 i value cells
+schedule_writes_its_value fixed index value cells accepted =
+    writes_one index 4 value cells
     (settable_of_accepted (index == 4) ((index == 1) || ((index == 2) || (index == 3))) (judged (schedule_rule fixed) value) accepted)
 
 -- a write that is not refused puts times that fit the type, within the limits

@@ -12,7 +12,7 @@ script_table_depends_only_on_sources fixed op argument row other cells others i 
 
 -- every write is refused
 pub script_table_writes_its_value : WritesItsValue script_table_refusal script_table_touched script_table_new_value
-script_table_writes_its_value fixed index value cells i accepted =
+script_table_writes_its_value fixed index value cells accepted =
     let settable : false ≡ true = settable_of_accepted false ((index == 1) || (index == 2)) None accepted in
     absurd (false≢true settable)
 

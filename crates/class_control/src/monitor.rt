@@ -1,11 +1,11 @@
-ghost use Rattle.std.specs.Prelude.{◌≡◌, ℕ, true, false, ⊤, [], length, IfOk};
+ghost use Rattle.std.specs.Prelude.{◌≡◌, ℕ, false, ⊤, [], IfOk};
 ghost use Rattle.cosem_data.specs.View.{tree};
-ghost use Rattle.meter_theory.specs.Value.{OfKind, Thresholds, elements, meets};
+ghost use Rattle.meter_theory.specs.Value.{elements};
 ghost use Rattle.meter_theory.specs.Steps.{due_scripts};
 ghost use Rattle.cosem_class.specs.CellSets.{has};
 ghost use Rattle.cosem_class.specs.Objects.{cells_after};
 ghost use Rattle.cosem_class.specs.declared.class.Op.TheVariants as ops;
-ghost use Rattle.class_control.specs.MonitorClass.{MonitorFixed, may_be_seen, monitor_fixed, monitor_cells, monitor_reading, monitor_refusal, monitor_new_value, monitor_touched, MonitorMeetsRule};
+ghost use Rattle.class_control.specs.MonitorClass.{MonitorFixed, monitor_fixed, monitor_cells, monitor_reading, monitor_refusal, monitor_new_value, monitor_touched, MonitorMeetsRule};
 ghost use Rattle.class_control.specs.MonitorLaws.{monitor_depends_only_on_sources, monitor_writes_its_value, monitor_keeps_rules};
 
 use crate::due::due_scripts;
@@ -18,53 +18,81 @@ use cosem_data::data::Data;
 use cosem_data::kind::Kind;
 use cosem_data::memory::Memory;
 use cosem_data::name::LogicalName;
-use meter_theory::refs::ScriptRef;
+use meter_theory::refs::{Interface, ScriptRef};
 use std::alloc::Global;
+use std::mem;
 
-/// An object of class 21, Register monitor, over what its plan lends: thresholds of a monitored value, and the scripts that
-/// are run where it crosses one (IEC 62056-6-2, Register monitor, version 0).
-#[derive(Drop)]
-pub struct Monitor<'a> {
-    /// Attribute 1, logical_name, which is fixed.
+/// What a plan lends of a register monitor for an operation.
+#[derive(Clone, Copy)]
+pub struct Watch<'a> {
+    /// Attribute 1, logical_name.
     pub name: LogicalName,
-    /// What the plan fixes.
+    /// What the plan fixes of the monitor.
     pub part: &'a MonitorPart,
     /// The kind of the monitored value, which is kept (own profile).
     pub kind: Kind,
-    /// Attribute 2, thresholds, a cell: an array of one value of the monitored kind for each action.
+}
+
+/// The cells of an object of class 21, Register monitor: thresholds of a monitored value, and what was last seen of it
+/// (IEC 62056-6-2, Register monitor, version 0).
+#[derive(Drop)]
+pub struct Monitor {
+    /// Attribute 2, thresholds: an array of one value of the monitored kind for each action.
     pub thresholds: Data,
     /// The inner cell, which no request names: the monitored value at the last evaluation, null-data before the first (own
     /// profile).
     pub seen: Data,
-    // There is one threshold of the monitored kind for each action, within the limits of a cell.
-    pub ghost thresholds_fit: { meets (Thresholds (length part.now.actions.items) kind) (tree thresholds) ≡ true },
-    // What was seen is null-data or of the monitored kind, within the limits of a cell.
-    pub ghost seen_fits: { may_be_seen kind (tree seen) ≡ true },
 }
 
-impl<'a> Monitor<'a> {
-    /// Remembers the monitored value as the one of the last evaluation (own profile). It takes no memory, and there is no
-    /// error.
-    pub fn remember(&mut self, now: Data)
-        requires { meets (OfKind self.old.kind) (tree now) ≡ true }
-        ensures fixed { monitor_fixed self.new.name self.new.kind self.new.part.now ≡ monitor_fixed self.old.name self.old.kind self.old.part.now }
-        ensures cells { (i : ℕ) → monitor_cells (tree self.new.seen) (tree self.new.thresholds) i
-            ≡ cells_after (monitor_touched ops.Remember) (monitor_new_value (monitor_fixed self.old.name self.old.kind self.old.part.now) ops.Remember (tree now) [])
+impl Monitor {
+    /// Class 21, Register monitor, version 0, with four attributes and no method (IEC 62056-6-2).
+    pub const INTERFACE: Interface = Interface {
+        class_id: 21,
+        version: 0,
+        attributes: 4,
+        methods: 0,
+    };
+
+    /// The index of the inner cell, which no request names (own profile).
+    pub const SEEN: u8 = 0;
+
+    /// The index of the thresholds.
+    pub const THRESHOLDS: u8 = 2;
+
+    /// The index of the attribute that is watched.
+    pub const MONITORED_VALUE: u8 = 3;
+
+    /// The index of the actions.
+    pub const ACTIONS: u8 = 4;
+
+    /// Remembers the monitored value as the one of the last evaluation, and returns the one before (own profile). It takes
+    /// no memory, and there is no error.
+    pub fn remember(&mut self, now: Data) -> Data
+        ensures previous { tree result ≡ tree self.old.seen }
+        ensures seen { tree self.new.seen ≡ tree now }
+        ensures thresholds { tree self.new.thresholds ≡ tree self.old.thresholds }
+        ensures cells { (fixed : MonitorFixed) (i : ℕ) → monitor_cells (tree self.new.seen) (tree self.new.thresholds) i
+            ≡ cells_after (monitor_touched ops.Remember) (monitor_new_value fixed ops.Remember (tree now) [])
             (monitor_cells (tree self.old.seen) (tree self.old.thresholds)) i }
     {
-        self.seen = now;
+        mem::replace(&mut self.seen, now)
     }
 
     /// The scripts that are due where the monitored value is this, in the order of the thresholds, all judged before any is
     /// run (own profile): action_up of a threshold where the value last seen lay below it and this one does not, action_down
     /// the other way, and none where one of them is no number, as before the first evaluation (IEC 62056-6-2, Register
     /// monitor; the side of equality is own profile). The only error is that memory was refused.
-    pub fn due(&self, alloc: Global, now: &Data) -> Result<Vec<ScriptRef>, Memory>
-        ensures { IfOk result (λ scripts. scripts.items ≡ due_scripts self.now.part.now.actions.items (elements (tree self.now.thresholds)) (tree self.now.seen) (tree now.now)) }
+    pub fn due(
+        &self,
+        alloc: Global,
+        part: &MonitorPart,
+        now: &Data,
+    ) -> Result<Vec<ScriptRef>, Memory>
+        ensures { IfOk result (λ scripts. scripts.items ≡ due_scripts part.now.actions.items (elements (tree self.now.thresholds)) (tree self.now.seen) (tree now.now)) }
     {
         due_scripts(
             alloc,
-            &self.part.actions,
+            &part.actions,
             elements_of(&self.thresholds),
             &self.seen,
             now,
@@ -72,18 +100,18 @@ impl<'a> Monitor<'a> {
     }
 }
 
-impl<'a> InterfaceClass for Monitor<'a> {
-    const CLASS_ID: u16 = 21;
+impl<'a> InterfaceClass<Watch<'a>> for Monitor {
+    const CLASS_ID: u16 = Monitor::INTERFACE.class_id;
 
-    const VERSION: u8 = 0;
+    const VERSION: u8 = Monitor::INTERFACE.version;
 
-    const ATTRIBUTES: u8 = 4;
+    const ATTRIBUTES: u8 = Monitor::INTERFACE.attributes;
 
-    const METHODS: u8 = 0;
+    const METHODS: u8 = Monitor::INTERFACE.methods;
 
     ghost Fixed = { MonitorFixed };
 
-    ghost fixed = { λ s. monitor_fixed s.name s.kind s.part.now };
+    ghost fixed = { λ _ watch. monitor_fixed watch.name watch.kind watch.part.now };
 
     ghost cells = { λ s. monitor_cells (tree s.seen) (tree s.thresholds) };
 
@@ -109,24 +137,23 @@ impl<'a> InterfaceClass for Monitor<'a> {
 
     ghost keeps_rules = { monitor_keeps_rules };
 
-    fn read(&self, alloc: Global, index: u8) -> Result<Data, ClassFault> {
+    fn read(&self, alloc: Global, watch: Watch, index: u8) -> Result<Data, ClassFault> {
         match index {
-            1 => Ok(self.name.as_octets(alloc)?),
-            2 => Ok(self.thresholds.try_clone(alloc)?),
-            3 => Ok(monitored_data(alloc, self.part)?),
-            4 => Ok(actions_data(alloc, &self.part.actions)?),
+            1 => Ok(watch.name.as_octets(alloc)?),
+            Monitor::THRESHOLDS => Ok(self.thresholds.try_clone(alloc)?),
+            Monitor::MONITORED_VALUE => Ok(monitored_data(alloc, watch.part)?),
+            Monitor::ACTIONS => Ok(actions_data(alloc, &watch.part.actions)?),
             _ => Err(ClassFault::NoIndex),
         }
     }
 
-    fn write(&mut self, index: u8, value: Data) -> Result<(), ClassFault> {
+    fn write(&mut self, watch: Watch, index: u8, value: Data) -> Result<Data, ClassFault> {
         match index {
-            2 => {
-                judge_thresholds(self.part.actions.len(), self.kind, &value)?;
-                self.thresholds = value;
-                Ok(())
+            Monitor::THRESHOLDS => {
+                judge_thresholds(watch.part.actions.len(), watch.kind, &value)?;
+                Ok(mem::replace(&mut self.thresholds, value))
             }
-            1 | 3 | 4 => Err(ClassFault::NotSettable),
+            1 | Monitor::MONITORED_VALUE | Monitor::ACTIONS => Err(ClassFault::NotSettable),
             _ => Err(ClassFault::NoIndex),
         }
     }
@@ -134,6 +161,7 @@ impl<'a> InterfaceClass for Monitor<'a> {
     fn invoke(
         &mut self,
         _alloc: Global,
+        _watch: Watch,
         _method: u8,
         _argument: &Data,
         _row: Row,
@@ -141,14 +169,12 @@ impl<'a> InterfaceClass for Monitor<'a> {
         Err(ClassFault::NoIndex)
     }
 
-    fn known(&self) {}
-
     fn touched(op: Op) -> CellSet
         ensures { (i : ℕ) → has result i ≡ monitor_touched op i }
     {
         match op {
-            Op::Write(2) => CellSet::empty().with(2),
-            Op::Remember => CellSet::empty().with(0),
+            Op::Write(Monitor::THRESHOLDS) => CellSet::empty().with(Monitor::THRESHOLDS),
+            Op::Remember => CellSet::empty().with(Monitor::SEEN),
             _ => CellSet::empty(),
         }
     }

@@ -1,7 +1,7 @@
-ghost use Rattle.std.specs.Prelude.{◌≡◌, ℕ, true, false, ⊤};
+ghost use Rattle.std.specs.Prelude.{◌≡◌, ℕ, false, ⊤};
 ghost use Rattle.cosem_data.specs.View.{tree};
 ghost use Rattle.meter_theory.specs.Times.{is_schedule_due};
-ghost use Rattle.meter_theory.specs.Value.{ExecutionTimes, elements, meets};
+ghost use Rattle.meter_theory.specs.Value.{elements};
 ghost use Rattle.cosem_class.specs.CellSets.{has};
 ghost use Rattle.class_control.specs.ScheduleClass.{ScheduleFixed, schedule_cells, schedule_reading, schedule_refusal, schedule_new_value, schedule_touched, ScheduleMeetsRule};
 ghost use Rattle.class_control.specs.ScheduleLaws.{schedule_depends_only_on_sources, schedule_writes_its_value, schedule_keeps_rules};
@@ -12,26 +12,38 @@ use crate::parts::SchedulePart;
 use crate::shapes::script_ref_data;
 use civil_moment::moment::Moment;
 use cosem_class::cell_set::CellSet;
-use cosem_class::class::{ClassFault, InterfaceClass, Op, Row};
+use cosem_class::class::{ClassFault, InterfaceClass, Lent, Op, Row};
 use cosem_data::data::Data;
-use cosem_data::name::LogicalName;
+use meter_theory::refs::Interface;
 use std::alloc::Global;
+use std::mem;
 
-/// An object of class 22, Single action schedule, over what its plan lends: a script and the times at which it is run
-/// (IEC 62056-6-2, Single action schedule, version 0).
+/// The cells of an object of class 22, Single action schedule: the times at which a script is run (IEC 62056-6-2, Single
+/// action schedule, version 0).
 #[derive(Drop)]
-pub struct Schedule<'a> {
-    /// Attribute 1, logical_name, which is fixed.
-    pub name: LogicalName,
-    /// What the plan fixes.
-    pub part: &'a SchedulePart,
+pub struct Schedule {
     /// Attribute 4, execution_time, the one cell: an array of times and dates that fits the type of the part.
     pub times: Data,
-    // The times fit the type, within the limits of a cell.
-    pub ghost fits: { meets (ExecutionTimes part.now.execution_type) (tree times) ≡ true },
 }
 
-impl<'a> Schedule<'a> {
+impl Schedule {
+    /// Class 22, Single action schedule, version 0, with four attributes and no method (IEC 62056-6-2).
+    pub const INTERFACE: Interface = Interface {
+        class_id: 22,
+        version: 0,
+        attributes: 4,
+        methods: 0,
+    };
+
+    /// The index of the script that is run.
+    pub const EXECUTED_SCRIPT: u8 = 2;
+
+    /// The index of the type.
+    pub const TYPE: u8 = 3;
+
+    /// The index of the times.
+    pub const EXECUTION_TIME: u8 = 4;
+
     /// Whether the script is to be run at the moment: some element of execution_time names it (IEC 62056-6-2, Single action
     /// schedule). It takes no memory.
     pub fn is_due(&self, moment: Moment) -> bool
@@ -41,18 +53,18 @@ impl<'a> Schedule<'a> {
     }
 }
 
-impl<'a> InterfaceClass for Schedule<'a> {
-    const CLASS_ID: u16 = 22;
+impl<'a> InterfaceClass<Lent<'a, SchedulePart>> for Schedule {
+    const CLASS_ID: u16 = Schedule::INTERFACE.class_id;
 
-    const VERSION: u8 = 0;
+    const VERSION: u8 = Schedule::INTERFACE.version;
 
-    const ATTRIBUTES: u8 = 4;
+    const ATTRIBUTES: u8 = Schedule::INTERFACE.attributes;
 
-    const METHODS: u8 = 0;
+    const METHODS: u8 = Schedule::INTERFACE.methods;
 
     ghost Fixed = { ScheduleFixed };
 
-    ghost fixed = { λ s. record { name = s.name; script = s.part.now.executed_script; type = s.part.now.execution_type } };
+    ghost fixed = { λ _ lent. record { name = lent.name; script = lent.part.now.executed_script; type = lent.part.now.execution_type } };
 
     ghost cells = { λ s. schedule_cells (tree s.times) };
 
@@ -78,24 +90,28 @@ impl<'a> InterfaceClass for Schedule<'a> {
 
     ghost keeps_rules = { schedule_keeps_rules };
 
-    fn read(&self, alloc: Global, index: u8) -> Result<Data, ClassFault> {
+    fn read(&self, alloc: Global, lent: Lent<SchedulePart>, index: u8) -> Result<Data, ClassFault> {
         match index {
-            1 => Ok(self.name.as_octets(alloc)?),
-            2 => Ok(script_ref_data(alloc, self.part.executed_script)?),
-            3 => Ok(Data::Enumerated(self.part.execution_type)),
-            4 => Ok(self.times.try_clone(alloc)?),
+            1 => Ok(lent.name.as_octets(alloc)?),
+            Schedule::EXECUTED_SCRIPT => Ok(script_ref_data(alloc, lent.part.executed_script)?),
+            Schedule::TYPE => Ok(Data::Enumerated(lent.part.execution_type)),
+            Schedule::EXECUTION_TIME => Ok(self.times.try_clone(alloc)?),
             _ => Err(ClassFault::NoIndex),
         }
     }
 
-    fn write(&mut self, index: u8, value: Data) -> Result<(), ClassFault> {
+    fn write(
+        &mut self,
+        lent: Lent<SchedulePart>,
+        index: u8,
+        value: Data,
+    ) -> Result<Data, ClassFault> {
         match index {
-            4 => {
-                judge_times(self.part.execution_type, &value)?;
-                self.times = value;
-                Ok(())
+            Schedule::EXECUTION_TIME => {
+                judge_times(lent.part.execution_type, &value)?;
+                Ok(mem::replace(&mut self.times, value))
             }
-            1 | 2 | 3 => Err(ClassFault::NotSettable),
+            1 | Schedule::EXECUTED_SCRIPT | Schedule::TYPE => Err(ClassFault::NotSettable),
             _ => Err(ClassFault::NoIndex),
         }
     }
@@ -103,6 +119,7 @@ impl<'a> InterfaceClass for Schedule<'a> {
     fn invoke(
         &mut self,
         _alloc: Global,
+        _lent: Lent<SchedulePart>,
         _method: u8,
         _argument: &Data,
         _row: Row,
@@ -110,13 +127,11 @@ impl<'a> InterfaceClass for Schedule<'a> {
         Err(ClassFault::NoIndex)
     }
 
-    fn known(&self) {}
-
     fn touched(op: Op) -> CellSet
         ensures { (i : ℕ) → has result i ≡ schedule_touched op i }
     {
         match op {
-            Op::Write(4) => CellSet::empty().with(4),
+            Op::Write(Schedule::EXECUTION_TIME) => CellSet::empty().with(Schedule::EXECUTION_TIME),
             _ => CellSet::empty(),
         }
     }

@@ -11,19 +11,30 @@ use crate::parts::ScriptTablePart;
 use crate::script::Script;
 use crate::shapes::scripts_data;
 use cosem_class::cell_set::CellSet;
-use cosem_class::class::{ClassFault, InterfaceClass, Op, Row};
+use cosem_class::class::{ClassFault, InterfaceClass, Lent, Op, Row};
 use cosem_data::data::Data;
-use cosem_data::name::LogicalName;
+use meter_theory::refs::Interface;
 use std::alloc::Global;
 
-/// An object of class 9, Script table, over what its plan lends: scripts that are run by their numbers (IEC 62056-6-2,
-/// Script table, version 0).
-#[derive(Drop)]
-pub struct ScriptTable<'a> {
-    /// Attribute 1, logical_name, which is fixed.
-    pub name: LogicalName,
-    /// What the plan fixes.
-    pub part: &'a ScriptTablePart,
+/// An object of class 9, Script table: it has no cell, all of it is fixed by the plan (IEC 62056-6-2, Script table,
+/// version 0).
+#[derive(Clone, Copy, Drop)]
+pub struct ScriptTable;
+
+impl ScriptTable {
+    /// Class 9, Script table, version 0, with two attributes and one method, execute (IEC 62056-6-2).
+    pub const INTERFACE: Interface = Interface {
+        class_id: 9,
+        version: 0,
+        attributes: 2,
+        methods: 1,
+    };
+
+    /// The index of the scripts.
+    pub const SCRIPTS: u8 = 2;
+
+    /// The method that runs a script.
+    pub const EXECUTE: u8 = 1;
 }
 
 /// Whether a number is that of a script, or 0, that of the null script (IEC 62056-6-2, Script table, execute). It takes no
@@ -41,20 +52,20 @@ fn has_script(scripts: &[Script], id: u16) -> bool
     scripts.iter().any(|script| script.id == id)
 }
 
-impl<'a> InterfaceClass for ScriptTable<'a> {
-    const CLASS_ID: u16 = 9;
+impl<'a> InterfaceClass<Lent<'a, ScriptTablePart>> for ScriptTable {
+    const CLASS_ID: u16 = ScriptTable::INTERFACE.class_id;
 
-    const VERSION: u8 = 0;
+    const VERSION: u8 = ScriptTable::INTERFACE.version;
 
-    const ATTRIBUTES: u8 = 2;
+    const ATTRIBUTES: u8 = ScriptTable::INTERFACE.attributes;
 
-    const METHODS: u8 = 1;
+    const METHODS: u8 = ScriptTable::INTERFACE.methods;
 
     ghost Fixed = { ScriptTableFixed };
 
-    ghost fixed = { λ s. record { name = s.name; scripts = map script_of s.part.now.scripts.items } };
+    ghost fixed = { λ _ lent. record { name = lent.name; scripts = map script_of lent.part.now.scripts.items } };
 
-    ghost cells = { λ s. no_cells };
+    ghost cells = { λ _. no_cells };
 
     ghost reading = { script_table_reading };
 
@@ -78,17 +89,27 @@ impl<'a> InterfaceClass for ScriptTable<'a> {
 
     ghost keeps_rules = { script_table_keeps_rules };
 
-    fn read(&self, alloc: Global, index: u8) -> Result<Data, ClassFault> {
+    fn read(
+        &self,
+        alloc: Global,
+        lent: Lent<ScriptTablePart>,
+        index: u8,
+    ) -> Result<Data, ClassFault> {
         match index {
-            1 => Ok(self.name.as_octets(alloc)?),
-            2 => Ok(scripts_data(alloc, &self.part.scripts)?),
+            1 => Ok(lent.name.as_octets(alloc)?),
+            ScriptTable::SCRIPTS => Ok(scripts_data(alloc, &lent.part.scripts)?),
             _ => Err(ClassFault::NoIndex),
         }
     }
 
-    fn write(&mut self, index: u8, _value: Data) -> Result<(), ClassFault> {
+    fn write(
+        &mut self,
+        _lent: Lent<ScriptTablePart>,
+        index: u8,
+        _value: Data,
+    ) -> Result<Data, ClassFault> {
         match index {
-            1 | 2 => Err(ClassFault::NotSettable),
+            1 | ScriptTable::SCRIPTS => Err(ClassFault::NotSettable),
             _ => Err(ClassFault::NoIndex),
         }
     }
@@ -97,23 +118,22 @@ impl<'a> InterfaceClass for ScriptTable<'a> {
     fn invoke(
         &mut self,
         _alloc: Global,
+        lent: Lent<ScriptTablePart>,
         method: u8,
         argument: &Data,
         _row: Row,
     ) -> Result<(), ClassFault> {
-        if method != 1 {
+        if method != ScriptTable::EXECUTE {
             return Err(ClassFault::NoIndex);
         }
         let Data::LongUnsigned(id) = argument else {
             return Err(ClassFault::Kind);
         };
-        if !knows_script(&self.part.scripts, *id) {
+        if !knows_script(&lent.part.scripts, *id) {
             return Err(ClassFault::UnknownScript);
         }
         Ok(())
     }
-
-    fn known(&self) {}
 
     fn touched(_op: Op) -> CellSet
         ensures { (i : ℕ) → has result i ≡ false }

@@ -1,1 +1,5 @@
 pub mod TakenBack
+mod Rings
+mod Places
+mod Selected
+mod Written

@@ -1,5 +1,9 @@
+pub mod EntriesView
 pub mod Fifo
 pub mod ProfileClass
 pub mod ProfileLaws
 pub mod ProfileStates
+pub mod ProfileView
 pub mod Reversal
+pub mod RowsView
+pub mod SelectionView

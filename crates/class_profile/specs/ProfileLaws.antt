@@ -42,8 +42,8 @@ profile_depends_only_on_sources fixed Remember argument row other cells others i
 
 -- a write that is not refused is of 4, and puts its value there
 pub profile_writes_its_value : WritesItsValue profile_refusal profile_touched profile_new_value
-profile_writes_its_value fixed index value cells i accepted =
-    writes_one index 4 i value cells (settable_of_accepted (index == 4) (is_attribute index) (judged period_rule value) accepted)
+profile_writes_its_value fixed index value cells accepted =
+    writes_one index 4 value cells (settable_of_accepted (index == 4) (is_attribute index) (judged period_rule value) accepted)
 
 -- a number is one of two, so what holds of both holds of it
 at_either : (P : ℕ → Type 0) (a b i : ℕ) → ((i == a) || (i == b)) ≡ true → P a → P b → P i

@@ -1,24 +1,27 @@
-ghost use Rattle.std.specs.Prelude.{◌≡◌, ◌≤◌, ℕ, length, true, IfOk, IsOk, OnOk, OnErr};
+ghost use Rattle.std.specs.Prelude.{◌≡◌, ◌≤◌, ℕ, [], length, min, ◌+◌, true, IfOk, IsOk, OnOk, OnErr};
 ghost use Rattle.cosem_data.specs.View.{tree};
-ghost use Rattle.meter_theory.specs.Value.{elements, meets, structure_of};
+ghost use Rattle.meter_theory.specs.Value.{array_of, structure_of, counter};
+ghost use Rattle.meter_theory.specs.Value as values;
 ghost use Rattle.meter_theory.specs.Steps.{buffer_after, in_use_after};
 ghost use Rattle.meter_theory.specs.Plan.{ProfileGeneric};
 ghost use Rattle.meter_theory.specs.Fixed.{fixed_in};
 ghost use Rattle.cosem_class.specs.CellSets.{has};
-ghost use Rattle.class_profile.specs.ProfileClass.{ProfileFixed, HaveAttributeIndexes, period_rule, is_buffer, is_count, profile_cells, profile_reading, profile_refusal, profile_new_value, profile_touched, profile_own_sources, profile_row_cells, ProfileMeetsRule, IsProfileRow};
+ghost use Rattle.class_profile.specs.ProfileClass.{ProfileFixed, HaveAttributeIndexes, is_buffer, profile_cells, profile_reading, profile_refusal, profile_new_value, profile_touched, profile_own_sources, profile_row_cells, ProfileMeetsRule, IsProfileRow};
 ghost use Rattle.class_profile.specs.ProfileLaws.{profile_depends_only_on_sources, profile_writes_its_value, profile_keeps_rules};
+ghost use Rattle.class_profile.specs.ProfileView.{before_capture, with_entries};
 
-use crate::fifo::{one_more, push_last};
+use crate::rows::Rows;
 use crate::shapes::{capture_objects_data, no_sort_object_data};
 use cosem_class::cell_set::CellSet;
-use cosem_class::class::{ClassFault, InterfaceClass, Op, Row};
+use cosem_class::class::{ClassFault, InterfaceClass, Lent, Op, Row};
 use cosem_class::judge::judge_kind;
 use cosem_data::cell::CellRef;
-use cosem_data::data::{Data, Items};
+use cosem_data::data::Data;
 use cosem_data::kind::Kind;
 use cosem_data::memory::Memory;
-use cosem_data::name::LogicalName;
+use meter_theory::refs::Interface;
 use std::alloc::Global;
+use std::mem;
 
 /// What a plan fixes of a profile, and the start of its capture_period (IEC 62056-6-2, Profile generic).
 #[derive(Drop)]
@@ -46,86 +49,166 @@ impl ProfilePart {
         ensures { IfOk result (λ value. tree value ≡ fixed_in (ProfileGeneric self.now.captured.items self.now.capture_period self.now.profile_entries) index) }
     {
         match index {
-            3 => capture_objects_data(alloc, &self.captured),
-            5 => Ok(Data::Enumerated(1)),
-            6 => no_sort_object_data(alloc),
-            8 => Ok(Data::DoubleLongUnsigned(self.profile_entries)),
+            Profile::CAPTURE_OBJECTS => capture_objects_data(alloc, &self.captured),
+            Profile::SORT_METHOD => Ok(Data::Enumerated(1)),
+            Profile::SORT_OBJECT => no_sort_object_data(alloc),
+            Profile::PROFILE_ENTRIES => Ok(Data::DoubleLongUnsigned(self.profile_entries)),
             _ => Ok(Data::NullData),
         }
     }
+}
 
-    /// Puts a row behind a buffer, of which the oldest entry goes where there is no room, and then it takes no memory. The
-    /// only error is that memory was refused, and the buffer has not changed then.
-    fn push_row(&self, alloc: Global, buffer: &mut Data, row: Row) -> Result<(), Memory>
-        requires { is_buffer (length self.now.captured.items) self.now.profile_entries (tree buffer.old) ≡ true }
-        ensures ok { OnOk result (tree buffer.new ≡ buffer_after self.now.profile_entries (tree buffer.old) (structure_of row)) }
-        ensures err { OnErr result (buffer.new ≡ buffer.old) }
-        ensures full { length (elements (tree buffer.old)) ≡ self.now.profile_entries → IsOk result }
+/// The cells of an object of class 7, Profile generic: the last entries that were captured (IEC 62056-6-2, Profile generic,
+/// version 1).
+#[derive(Drop)]
+pub struct Profile {
+    /// Attribute 2, buffer: entries, the oldest first, each a structure of the captured values.
+    pub buffer: Rows,
+    /// Attribute 4, capture_period, in seconds, which can be set.
+    pub capture_period: u32,
+    /// Attribute 7, entries_in_use.
+    pub entries_in_use: u32,
+}
+
+/// What takes a capture back.
+#[derive(Drop)]
+pub struct Captured {
+    /// The row that had to go, if one had to.
+    pub dropped: Option<Data>,
+    /// The entries in use before.
+    pub entries_in_use: u32,
+}
+
+/// What a reset moved out, and what takes it back.
+#[derive(Drop)]
+pub struct Cleared {
+    /// The rows before.
+    pub buffer: Rows,
+    /// The entries in use before.
+    pub entries_in_use: u32,
+}
+
+impl Profile {
+    /// Class 7, Profile generic, version 1, with eight attributes and two methods, reset and capture (IEC 62056-6-2).
+    pub const INTERFACE: Interface = Interface {
+        class_id: 7,
+        version: 1,
+        attributes: 8,
+        methods: 2,
+    };
+
+    /// The index of the buffer.
+    pub const BUFFER: u8 = 2;
+
+    /// The index of the captured objects.
+    pub const CAPTURE_OBJECTS: u8 = 3;
+
+    /// The index of the capture period.
+    pub const CAPTURE_PERIOD: u8 = 4;
+
+    /// The index of the sort method.
+    pub const SORT_METHOD: u8 = 5;
+
+    /// The index of the sort object.
+    pub const SORT_OBJECT: u8 = 6;
+
+    /// The index of the entries in use.
+    pub const ENTRIES_IN_USE: u8 = 7;
+
+    /// The index of the number of entries.
+    pub const PROFILE_ENTRIES: u8 = 8;
+
+    /// The method that empties the buffer.
+    pub const RESET: u8 = 1;
+
+    /// The method that captures a row.
+    pub const CAPTURE: u8 = 2;
+
+    /// Method 2, capture: the row goes behind the buffer, of which the oldest entry goes where there is no room, and then it
+    /// takes no memory. What is returned takes it back. The only error is that memory was refused, and the object has not
+    /// changed then (IEC 62056-6-2, Profile generic).
+    pub fn capture(
+        &mut self,
+        alloc: Global,
+        part: &ProfilePart,
+        row: Row,
+    ) -> Result<Captured, Memory>
+        requires { is_buffer (length part.now.captured.items) part.now.profile_entries (array_of self.old.buffer) ≡ true }
+        ensures same { self.new.capture_period ≡ self.old.capture_period }
+        ensures rows { OnOk result (array_of self.new.buffer ≡ buffer_after part.now.profile_entries (array_of self.old.buffer) (structure_of row)) }
+        ensures count { OnOk result (counter self.new.entries_in_use ≡ in_use_after part.now.profile_entries (counter self.old.entries_in_use)) }
+        ensures before { IfOk result (λ captured. before_capture captured self.new ≡ self.old) }
+        ensures err { OnErr result (self.new ≡ self.old) }
+        ensures full { length self.old.buffer ≡ part.now.profile_entries → IsOk result }
     {
-        match buffer {
-            Data::Array(rows) => {
-                push_last(alloc, rows, Data::Structure(row), self.profile_entries)
-            }
-            _ => unreachable!(),
+        let entries = part.profile_entries;
+        let dropped = self.buffer.capture(alloc, entries, Data::Structure(row))?;
+        let more = one_more(self.entries_in_use, entries);
+        Ok(Captured {
+            dropped,
+            entries_in_use: mem::replace(&mut self.entries_in_use, more),
+        })
+    }
+
+    /// Takes a capture back. It takes no memory.
+    pub fn take_back(&mut self, captured: Captured)
+        ensures { self.new ≡ before_capture captured self.old }
+    {
+        self.buffer.take_back(captured.dropped);
+        self.entries_in_use = captured.entries_in_use;
+    }
+
+    /// Method 1, reset: no entry is left (IEC 62056-6-2, Profile generic). What was there is moved out. It takes no memory.
+    pub fn clear(&mut self) -> Cleared
+        ensures cleared { (result.buffer ≡ self.old.buffer) × (result.entries_in_use ≡ self.old.entries_in_use) }
+        ensures empty { self.new ≡ with_entries [] 0 self.old }
+    {
+        Cleared {
+            buffer: self.buffer.clear(),
+            entries_in_use: mem::replace(&mut self.entries_in_use, 0),
         }
     }
-}
 
-/// An object of class 7, Profile generic, over what its plan lends: the last entries that were captured (IEC 62056-6-2,
-/// Profile generic, version 1).
-#[derive(Drop)]
-pub struct Profile<'a> {
-    /// Attribute 1, logical_name, which is fixed.
-    pub name: LogicalName,
-    /// What the plan fixes.
-    pub part: &'a ProfilePart,
-    /// Attribute 2, buffer: an array of entries, the oldest first, each a structure of the captured values.
-    pub buffer: Data,
-    /// Attribute 4, capture_period, in seconds, which can be set.
-    pub capture_period: Data,
-    /// Attribute 7, entries_in_use.
-    pub entries_in_use: Data,
-    // There are at most profile_entries entries, each with a value for each captured cell.
-    pub ghost buffer_fits: { is_buffer (length part.now.captured.items) part.now.profile_entries (tree buffer) ≡ true },
-    // The period is a double-long-unsigned.
-    pub ghost period_fits: { meets period_rule (tree capture_period) ≡ true },
-    // At most profile_entries entries are in use.
-    pub ghost in_use_fits: { is_count part.now.profile_entries (tree entries_in_use) ≡ true },
-}
-
-impl<'a> Profile<'a> {
-    /// Method 2, capture: the row goes behind the buffer, of which the oldest entry goes where there is no room, and then it
-    /// takes no memory. The only error is that memory was refused, and the object has not changed then (IEC 62056-6-2,
-    /// Profile generic).
-    pub fn capture(&mut self, alloc: Global, row: Row) -> Result<(), Memory>
-        requires { length row ≡ length self.old.part.now.captured.items }
-        ensures same { (self.new.name ≡ self.old.name) × (self.new.part.now ≡ self.old.part.now) × (tree self.new.capture_period ≡ tree self.old.capture_period) }
-        ensures rows { OnOk result (tree self.new.buffer ≡ buffer_after self.old.part.now.profile_entries (tree self.old.buffer) (structure_of row)) }
-        ensures count { OnOk result (tree self.new.entries_in_use ≡ in_use_after self.old.part.now.profile_entries (tree self.old.entries_in_use)) }
-        ensures err { OnErr result (self.new ≡ self.old) }
-        ensures full { length (elements (tree self.old.buffer)) ≡ self.old.part.now.profile_entries → IsOk result }
+    /// Takes a reset back. It takes no memory.
+    pub fn restore(&mut self, cleared: Cleared)
+        ensures { self.new ≡ with_entries cleared.buffer cleared.entries_in_use self.old }
     {
-        let part = self.part;
-        part.push_row(alloc, &mut self.buffer, row)?;
-        self.entries_in_use = one_more(&self.entries_in_use, part.profile_entries);
-        Ok(())
+        self.buffer = cleared.buffer;
+        self.entries_in_use = cleared.entries_in_use;
     }
 }
 
-impl<'a> InterfaceClass for Profile<'a> {
-    const CLASS_ID: u16 = 7;
+/// The entries in use after a capture: one more, as long as there is room.
+fn one_more(in_use: u32, entries: u32) -> u32
+    ensures { result ≡ min (in_use + 1) entries }
+{
+    in_use.saturating_add(1).min(entries)
+}
 
-    const VERSION: u8 = 1;
+/// The number of a double-long-unsigned, and 0 for any other value. It takes no memory.
+fn count_of(value: &Data) -> u32
+    ensures { result ≡ values.count_of (tree value.now) }
+{
+    match value {
+        Data::DoubleLongUnsigned(count) => *count,
+        _ => 0,
+    }
+}
 
-    const ATTRIBUTES: u8 = 8;
+impl<'a> InterfaceClass<Lent<'a, ProfilePart>> for Profile {
+    const CLASS_ID: u16 = Profile::INTERFACE.class_id;
 
-    const METHODS: u8 = 2;
+    const VERSION: u8 = Profile::INTERFACE.version;
+
+    const ATTRIBUTES: u8 = Profile::INTERFACE.attributes;
+
+    const METHODS: u8 = Profile::INTERFACE.methods;
 
     ghost Fixed = { ProfileFixed };
 
-    ghost fixed = { λ s. record { name = s.name; captured = s.part.now.captured.items; period = s.part.now.capture_period; entries = s.part.now.profile_entries } };
+    ghost fixed = { λ _ lent. record { name = lent.name; captured = lent.part.now.captured.items; period = lent.part.now.capture_period; entries = lent.part.now.profile_entries } };
 
-    ghost cells = { λ s. profile_cells (tree s.buffer) (tree s.capture_period) (tree s.entries_in_use) };
+    ghost cells = { λ s. profile_cells (array_of s.buffer) (counter s.capture_period) (counter s.entries_in_use) };
 
     ghost reading = { profile_reading };
 
@@ -149,23 +232,31 @@ impl<'a> InterfaceClass for Profile<'a> {
 
     ghost keeps_rules = { profile_keeps_rules };
 
-    fn read(&self, alloc: Global, index: u8) -> Result<Data, ClassFault> {
+    fn read(&self, alloc: Global, lent: Lent<ProfilePart>, index: u8) -> Result<Data, ClassFault> {
         match index {
-            1 => Ok(self.name.as_octets(alloc)?),
-            2 => Ok(self.buffer.try_clone(alloc)?),
-            4 => Ok(self.capture_period.try_clone(alloc)?),
-            7 => Ok(self.entries_in_use.try_clone(alloc)?),
-            3 | 5 | 6 | 8 => Ok(self.part.fixed(alloc, index)?),
+            1 => Ok(lent.name.as_octets(alloc)?),
+            Profile::BUFFER => Ok(self.buffer.to_data(alloc)?),
+            Profile::CAPTURE_PERIOD => Ok(Data::DoubleLongUnsigned(self.capture_period)),
+            Profile::ENTRIES_IN_USE => Ok(Data::DoubleLongUnsigned(self.entries_in_use)),
+            Profile::CAPTURE_OBJECTS
+            | Profile::SORT_METHOD
+            | Profile::SORT_OBJECT
+            | Profile::PROFILE_ENTRIES => Ok(lent.part.fixed(alloc, index)?),
             _ => Err(ClassFault::NoIndex),
         }
     }
 
-    fn write(&mut self, index: u8, value: Data) -> Result<(), ClassFault> {
+    fn write(
+        &mut self,
+        _lent: Lent<ProfilePart>,
+        index: u8,
+        value: Data,
+    ) -> Result<Data, ClassFault> {
         match index {
-            4 => {
+            Profile::CAPTURE_PERIOD => {
                 judge_kind(Kind::DoubleLongUnsigned, &value)?;
-                self.capture_period = value;
-                Ok(())
+                let previous = mem::replace(&mut self.capture_period, count_of(&value));
+                Ok(Data::DoubleLongUnsigned(previous))
             }
             1..=8 => Err(ClassFault::NotSettable),
             _ => Err(ClassFault::NoIndex),
@@ -175,29 +266,36 @@ impl<'a> InterfaceClass for Profile<'a> {
     fn invoke(
         &mut self,
         alloc: Global,
+        lent: Lent<ProfilePart>,
         method: u8,
         _argument: &Data,
         row: Row,
     ) -> Result<(), ClassFault> {
         match method {
-            1 => {
-                self.buffer = Data::Array(Items::new(Vec::new(alloc)));
-                self.entries_in_use = Data::DoubleLongUnsigned(0);
+            Profile::RESET => {
+                // The ring stays, for the captures to come.
+                let cleared = self.clear();
+                self.buffer.reuse(cleared.buffer);
                 Ok(())
             }
-            2 => Ok(self.capture(alloc, row)?),
+            Profile::CAPTURE => {
+                let _captured = self.capture(alloc, lent.part, row)?;
+                Ok(())
+            }
             _ => Err(ClassFault::NoIndex),
         }
     }
-
-    fn known(&self) {}
 
     fn touched(op: Op) -> CellSet
         ensures { (i : ℕ) → has result i ≡ profile_touched op i }
     {
         match op {
-            Op::Write(4) => CellSet::empty().with(4),
-            Op::Invoke(1) | Op::Invoke(2) => CellSet::empty().with(2).with(7),
+            Op::Write(Profile::CAPTURE_PERIOD) => CellSet::empty().with(Profile::CAPTURE_PERIOD),
+            Op::Invoke(Profile::RESET) | Op::Invoke(Profile::CAPTURE) => {
+                CellSet::empty()
+                    .with(Profile::BUFFER)
+                    .with(Profile::ENTRIES_IN_USE)
+            }
             _ => CellSet::empty(),
         }
     }
@@ -206,8 +304,12 @@ impl<'a> InterfaceClass for Profile<'a> {
         ensures { (i : ℕ) → has result i ≡ profile_own_sources op cell i }
     {
         match (op, cell) {
-            (Op::Invoke(2), 2) => CellSet::empty().with(2),
-            (Op::Invoke(2), 7) => CellSet::empty().with(7),
+            (Op::Invoke(Profile::CAPTURE), Profile::BUFFER) => {
+                CellSet::empty().with(Profile::BUFFER)
+            }
+            (Op::Invoke(Profile::CAPTURE), Profile::ENTRIES_IN_USE) => {
+                CellSet::empty().with(Profile::ENTRIES_IN_USE)
+            }
             _ => CellSet::empty(),
         }
     }
@@ -216,7 +318,7 @@ impl<'a> InterfaceClass for Profile<'a> {
         ensures { (i : ℕ) → has result i ≡ profile_row_cells op i }
     {
         match op {
-            Op::Invoke(2) => CellSet::empty().with(2),
+            Op::Invoke(Profile::CAPTURE) => CellSet::empty().with(Profile::BUFFER),
             _ => CellSet::empty(),
         }
     }

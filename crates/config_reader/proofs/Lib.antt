@@ -1,1 +1,3 @@
+pub mod Labels
 pub mod ReadTables
+pub mod Room

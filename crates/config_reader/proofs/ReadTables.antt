@@ -1,25 +1,25 @@
 -- What the tables of a text say was judged as it was read.
-use Rattle.std.proofs.Common.{◌≡◌, ◌⊎◌, ℕ, ◌+◌, ◌==◌, Bool, true, false, not, List, [], ◌∷◌, ◌++◌, refl, sym, ap, subst, ◌∙◌, inl, inr, Option, Some, None, Result, Ok, Err, nat_le, eqb-true, eq-eqb, ℤ, pos, negsuc}
+use Rattle.std.proofs.Common.{◌≡◌, ℕ, ◌+◌, ◌==◌, Bool, true, false, not, List, [], ◌∷◌, ◌++◌, refl, sym, ap, subst, ◌∙◌, inl, inr, Option, Some, None, Result, Ok, nat_le, eqb-true, eq-eqb, ℤ, pos, negsuc}
 use Rattle.std.proofs.lemmas.Bool.{and_parts, and_from, false≢true}
 use Rattle.std.specs.Prelude.{codes, option_and_then, ◌&&◌, if◌then◌else◌, ◌^◌, ◌-◌}
-use Rattle.toml.specs.Data.{Data, Items, Members, no_items, item, get_member, as_integer, as_array, as_table}
+use Rattle.toml.specs.Data.{Data, Items, Members, no_items, item, get_member, as_integer, as_table}
 use Rattle.meter_theory.specs.Lists.{IsIn}
-use Rattle.config_parts.specs.Fault.{Fault, found_or, ◌>>=◌}
-use Rattle.config_parts.specs.Parts.{Text, ClientText, ObjectText, ConfigText, BodyText, DataText, RegisterText, ProfileText, ScriptTableText, MonitorText, ScheduleText, UnknownText}
-use Rattle.config_parts.specs.declared.fault.Code.{Code}
-use Rattle.config_parts.specs.declared.fault.Code.TheVariants.{Kind}
-use Rattle.config_plan.proofs.Passed.{then_ok}
-use Rattle.config_plan.specs.Names.{is_known_class}
-use Rattle.config_plan.specs.Read.{IsRead, has_sap, is_body_of}
-use Rattle.config_words.specs.Lists.{each, array_at, element_place, texts_at}
-use Rattle.config_words.specs.Tables.{list_at, optional_list_at, table_at, table_of, table_or}
-use Rattle.config_words.specs.Values.{natural_at, natural_in, text_at, signed_at, optional_ascii_at, optional_integer_at}
-use Rattle.config_tables.specs.Classes.{data_of, register_of, capture_of, profile_of, script_of, script_table_of, up_down_of, monitor_of, schedule_of}
-use Rattle.config_tables.specs.Targets.{target_of, script_ref_of}
-use Rattle.config_tables.specs.Rights.{right_of, sets_of, label_of}
-use Rattle.config_tables.specs.Clients.{client_of}
-use Rattle.config_tables.specs.Objects.{object_of, body_of, fed_of}
-use Rattle.config_tables.specs.Tables.{tables_of, config_text, config_keys, document_of}
+use Rattle.config_text.specs.Fault.{Fault, found_or, ◌>>=◌}
+use Rattle.config_text.specs.Parts.{Text, ClientText, ObjectText, ConfigText, BodyText, DataText, RegisterText, ProfileText, ScriptTableText, MonitorText, ScheduleText, UnknownText}
+use Rattle.config_text.specs.declared.fault.Code.{Code}
+use Rattle.config_text.specs.declared.fault.Code.TheVariants.{Kind}
+use Rattle.config_rules.proofs.Passed.{then_ok}
+use Rattle.config_rules.specs.Names.{is_known_class}
+use Rattle.config_rules.specs.Read.{IsRead, has_sap, is_body_of}
+use Rattle.config_text.specs.Lists.{each, array_at, element_place, texts_at}
+use Rattle.config_text.specs.Tables.{list_at, optional_list_at, table_at, table_of}
+use Rattle.config_text.specs.Values.{natural_at, natural_in, text_at, signed_at, optional_ascii_at, optional_integer_at}
+use Rattle.config_text.specs.Classes.{data_of, register_of, capture_of, profile_of, script_of, script_table_of, up_down_of, monitor_of, schedule_of}
+use Rattle.config_text.specs.Targets.{target_of, script_ref_of}
+use Rattle.config_text.specs.Rights.{right_of, sets_of, label_of}
+use Rattle.config_text.specs.Clients.{client_of}
+use Rattle.config_text.specs.Objects.{object_of, body_of, fed_of}
+use Rattle.config_text.specs.Document.{tables_of, parts_of, config_keys, document_of}
 
 -- what was said last
 abbrev says_ok : {A : Type 0} → A → Result A Fault
@@ -217,8 +217,8 @@ object_has_body at t o h =
     (is_body class.0 at t body.0 body.1)
 
 -- the clients and the objects of a configuration are those of its tables
-config_is_read : (t : Members) (c : ConfigText) → config_text t ≡ Ok c → IsRead c
-unfolding config_text
+config_is_read : (t : Members) (c : ConfigText) → parts_of t ≡ Ok c → IsRead c
+unfolding parts_of
 config_is_read t c h =
     let version = then_ok (natural_at 1 1 [] (codes "version") t) (λ version. list_at client_of [] (codes "client") t >>= λ clients.
     list_at object_of [] (codes "object") t >>= λ objects. optional_list_at right_of [] (codes "right") t >>= λ rights.
@@ -251,6 +251,6 @@ config_is_read t c h =
 pub tables_are_read : (text : Text) (c : ConfigText) → tables_of text ≡ Ok c → IsRead c
 unfolding tables_of
 tables_are_read text c h =
-    let t = then_ok (document_of text) (λ t. config_keys t >>= λ keys. config_text t) c h in
-    let keys = then_ok (config_keys t.0) (λ keys. config_text t.0) c t.2 in
+    let t = then_ok (document_of text) (λ t. config_keys t >>= λ keys. parts_of t) c h in
+    let keys = then_ok (config_keys t.0) (λ keys. parts_of t.0) c t.2 in
     config_is_read t.0 c keys.2

@@ -2,13 +2,13 @@
 use Rattle.std.specs.Prelude.{◌≡◌, Result, Ok, Err}
 use Rattle.meter_theory.specs.Labels.{Policy}
 use Rattle.meter_theory.specs.Plan.{Plan}
-use Rattle.config_parts.specs.declared.fault.ConfigFault.{ConfigFault}
-use Rattle.config_parts.specs.Fault.{Fault, Fails, ◌>>=◌}
-use Rattle.config_parts.specs.Parts.{Text, ConfigText}
-use Rattle.config_plan.specs.Faultless.{IsPolicyOf}
-use Rattle.config_plan.specs.Passes.{judged}
-use Rattle.config_plan.specs.PlanOf.{plan_of}
-use Rattle.config_tables.specs.Tables.{tables_of}
+use Rattle.config_text.specs.declared.fault.ConfigFault.{ConfigFault}
+use Rattle.config_text.specs.Fault.{Fault, Fails, ◌>>=◌}
+use Rattle.config_text.specs.Parts.{Text, ConfigText}
+use Rattle.config_rules.specs.Faultless.{IsPolicyOf}
+use Rattle.config_rules.specs.Passes.{judged}
+use Rattle.config_rules.specs.PlanOf.{plan_of}
+use Rattle.config_text.specs.Document.{tables_of}
 
 -- the tables, and then the passes over what they say; the first fault ends them (own profile)
 unfoldable pub config_of : Text → Result ConfigText Fault

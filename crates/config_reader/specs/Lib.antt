@@ -1,1 +1,2 @@
 pub mod ConfigOf
+pub mod Room

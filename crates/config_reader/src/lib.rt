@@ -1,7 +1,13 @@
-//! A configuration's text read to what it says, or its first fault.
+//! A configuration's text read to its plan and its policy, or to its first fault.
 #![tactic(auto)]
 
+mod clients;
 pub mod laws;
+mod objects;
+mod plan;
+mod policy;
 mod reading;
+mod scripts;
+mod targets;
 
-pub use reading::{judge, read_config};
+pub use reading::read_config;

@@ -1,35 +1,21 @@
 //! A configuration's text read whole.
 ghost use Rattle.std.specs.Prelude.{◌≡◌, IfOk, IfErr};
-ghost use Rattle.config_parts.specs.Fault.{Gives};
-ghost use Rattle.config_parts.specs.declared.fault.ConfigFault.TheVariants as faults;
-ghost use Rattle.config_plan.specs.Faultless.{IsFaultless, IsPolicyOf};
-ghost use Rattle.config_plan.specs.Passes.{judged};
-ghost use Rattle.config_plan.specs.PlanOf as config;
+ghost use Rattle.config_text.specs.Fault.{Gives};
+ghost use Rattle.config_text.specs.declared.fault.ConfigFault.TheVariants as faults;
+ghost use Rattle.config_rules.specs.Faultless.{IsFaultless, IsPolicyOf};
+ghost use Rattle.config_rules.specs.PlanOf as config;
 ghost use Rattle.config_reader.specs.ConfigOf.{Reads, config_of};
 
 use crate::laws::configurations_are_read;
-use config_names::judge_names;
-use config_names::laws::names_are_judged_first;
-use config_parts::fault::ConfigFault;
-use config_plans::{plan_of, policy_of};
-use config_tables::read_tables;
-use config_values::judge_values;
-use config_walks::directory::Directory;
+use crate::plan::plan_of;
+use crate::policy::policy_of;
+use config_judge::directory::Directory;
+use config_judge::judge;
+use config_text::fault::ConfigFault;
+use config_text::read_tables;
 use object_model::plan::Plan;
 use object_model::policy::Policy;
 use std::alloc::Global;
-
-/// Judges what the tables of a configuration say.
-///
-/// # Errors
-/// The least of the codes C4 to C20 that is met, at the first place where it is; C0 where memory was refused, at any time.
-pub fn judge(alloc: Global, directory: &Directory) -> Result<(), ConfigFault>
-    ensures { Gives (λ u. u) result (judged directory.now.config.now) }
-{
-    names_are_judged_first();
-    judge_names(alloc, directory)?;
-    judge_values(alloc, directory)
-}
 
 /// The plan and the policy of a configuration without faults.
 ///

@@ -1,12 +1,15 @@
 //! Writing values.
 ghost use Rattle.std.specs.Prelude.{◌≡◌, ◌<◌, ◌^◌, ◌++◌, ◌∷◌, length, map, OnOk, OnErr};
 ghost use Rattle.std.specs.List.{AllByRecursion};
-ghost use Rattle.cosem_data.specs.Tree.{trees};
+ghost use Rattle.cosem_data.specs.Kinds.{tag_of};
+ghost use Rattle.cosem_data.specs.Tree.{structure, trees};
 ghost use Rattle.cosem_data.specs.View.{tree};
+ghost use Rattle.cosem_data.specs.declared.kind.Kind.TheVariants.{Array};
 ghost use Rattle.cosem_axdr.specs.Canonical.{canonical, content, all, shortest, HasLengths, HaveLengths, Extends};
 ghost use Rattle.cosem_axdr.specs.Laws.{HasRanges, HaveRanges};
 
 use cosem_data::data::Data;
+use cosem_data::kind::Kind;
 use cosem_data::memory::Memory;
 
 /// The shortest form of a length or a count behind what is there.
@@ -118,4 +121,31 @@ pub fn write_data(value: &Data, out: &mut Vec<u8>) -> Result<(), Memory>
         out.truncate(len);
     }
     written
+}
+
+/// Puts what stands in front of the elements of an array behind what is there: the tag, and the count in its shortest form
+/// (IEC 62056-5-3, type `Data` in A-XDR). With so many encodings behind it, it is the canonical encoding of the array.
+///
+/// # Errors
+/// `Memory` where memory is refused; what was put before stays then.
+pub fn put_array_front(count: u32, out: &mut Vec<u8>) -> Result<(), Memory>
+    ensures ok { OnOk result (out.new.items ≡ out.old.items ++ (tag_of Array ∷ shortest count)) }
+    ensures err { OnErr result (Extends out.old.items out.new.items) }
+{
+    out.push(Kind::Array.tag())?;
+    put_length(count, out)
+}
+
+/// Puts the canonical encoding of the structure of these parts behind what is there, as `write_data` puts that of a value.
+///
+/// # Errors
+/// `Memory` where memory is refused; what was put before stays then.
+pub fn put_structure(parts: &[Data], out: &mut Vec<u8>) -> Result<(), Memory>
+    requires { HasLengths (structure (trees (map tree parts.now))) }
+    ensures ok { OnOk result (out.new.items ≡ out.old.items ++ canonical (structure (trees (map tree parts.now)))) }
+    ensures ranges { OnOk result (HasRanges (structure (trees (map tree parts.now)))) }
+    ensures err { OnErr result (Extends out.old.items out.new.items) }
+{
+    out.push(Kind::Structure.tag())?;
+    put_parts(parts, out)
 }

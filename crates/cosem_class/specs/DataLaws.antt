@@ -20,8 +20,8 @@ is_cell_where false test value here passes = cc
 
 -- a write that is not refused is of 2, and puts its value there
 pub data_writes_its_value : WritesItsValue data_refusal data_touched data_new_value
-data_writes_its_value fixed index value cells i accepted =
-    writes_one index 2 i value cells (settable_of_accepted (index == 2) (index == 1) (judged (OfKind fixed.kind) value) accepted)
+data_writes_its_value fixed index value cells accepted =
+    writes_one index 2 value cells (settable_of_accepted (index == 2) (index == 1) (judged (OfKind fixed.kind) value) accepted)
 
 -- a write that is not refused puts a value of the kind, within the limits
 pub data_keeps_rules : KeepsRules data_refusal (λ _ _ _. Unit {0}) DataMeetsRule data_touched data_new_value

@@ -1,6 +1,5 @@
 -- Objects of interface classes: cells beside a fixed part, and the laws of a class.
-use Rattle.std.proofs.Common.{ap, sym, ◌∙◌}
-use Rattle.std.proofs.lemmas.Bool.{eqb-true}
+use Rattle.std.proofs.Common.{ap}
 use Rattle.std.specs.Prelude.{◌≡◌, ℕ, List, [], Option, Result, Ok, Err, Some, None, Bool, true, false, ◌==◌, ◌&&◌, if◌then◌else◌, IsOk}
 use Rattle.cosem_data.specs.Tree.{Tree}
 use Rattle.cosem_data.specs.View.{tree}
@@ -65,11 +64,11 @@ DependsOnlyOnSources {Fixed} touched own_sources row_cells new_value =
     (row_cells op index ≡ true → row ≡ other_row) →
     new_value fixed op argument row cells index ≡ new_value fixed op argument other_row others index
 
--- A write that is not refused puts its value at its index, and each other cell stays.
+-- A write that is not refused puts its value at its index.
 abbrev pub WritesItsValue : {Fixed : Type 0} → (Fixed → Op → Tree → Option ClassFault) → (Op → ℕ → Bool) → NewValue Fixed → Type 0
 WritesItsValue {Fixed} refusal touched new_value =
-    (fixed : Fixed) (index : ℕ) (value : Tree) (cells : Cells) (i : ℕ) → refusal fixed (Write index) value ≡ None →
-    cells_after (touched (Write index)) (new_value fixed (Write index) value []) cells i ≡ put_at index value cells i
+    (fixed : Fixed) (index : ℕ) (value : Tree) (cells : Cells) → refusal fixed (Write index) value ≡ None →
+    cells_after (touched (Write index)) (new_value fixed (Write index) value []) cells index ≡ Some value
 
 -- Cells that meet their rules meet them after an operation that is not refused.
 abbrev pub KeepsRules : {Fixed : Type 0} → (Fixed → Op → Tree → Option ClassFault) → (Fixed → Op → List Tree → Type 0) → (Fixed → ℕ → Option Tree → Type 0) → (Op → ℕ → Bool) → NewValue Fixed → Type 0
@@ -117,8 +116,6 @@ IsCellWhere false test (Some value) = ⊥
 IsCellWhere false test None = Unit {0}
 
 -- a write whose index is the one settable cell
-pub writes_one : (index settable i : ℕ) (value : Tree) (cells : Cells) → (index == settable) ≡ true →
-    (if (index == settable) && (i == settable) then Some value else cells i) ≡ put_at index value cells i
-writes_one index settable i value cells is =
-    ap (λ b. if b && (i == settable) then Some value else cells i) is
-    ∙ ap (λ k. if i == k then Some value else cells i) (sym (eqb-true index settable is))
+pub writes_one : (index settable : ℕ) (value : Tree) (cells : Cells) → (index == settable) ≡ true →
+    (if (index == settable) && (index == settable) then Some value else cells index) ≡ Some value
+writes_one index settable value cells is = ap (λ b. if b && b then Some value else cells index) is

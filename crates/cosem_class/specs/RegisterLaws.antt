@@ -17,8 +17,8 @@ register_depends_only_on_sources fixed Remember argument row other cells others 
 
 -- a write that is not refused is of 2, and puts its value there
 pub register_writes_its_value : WritesItsValue register_refusal register_touched register_new_value
-register_writes_its_value fixed index value cells i accepted =
-    writes_one index 2 i value cells (settable_of_accepted (index == 2) ((index == 1) || (index == 3)) (judged (register_rule fixed) value) accepted)
+register_writes_its_value fixed index value cells accepted =
+    writes_one index 2 value cells (settable_of_accepted (index == 2) ((index == 1) || (index == 3)) (judged (register_rule fixed) value) accepted)
 
 -- what is written meets the rule where it is not refused, and what a reset puts meets it always
 pub register_keeps_rules : KeepsRules register_refusal (λ _ _ _. Unit {0}) RegisterMeetsRule register_touched register_new_value

@@ -1,5 +1,5 @@
 //! What an interface class promises of its objects.
-ghost use Rattle.std.specs.Prelude.{◌≡◌, ℕ, Bool, List, Option, Result, OnOk, OnErr, Err, []};
+ghost use Rattle.std.specs.Prelude.{◌≡◌, ℕ, Bool, List, Option, Some, Result, IfOk, OnOk, OnErr, Err, []};
 ghost use Rattle.cosem_data.specs.Tree.{Tree};
 ghost use Rattle.cosem_data.specs.View.{tree};
 ghost use Rattle.cosem_class.specs.CellSets.{has};
@@ -11,6 +11,7 @@ ghost use Rattle.cosem_class.specs.declared.class.ClassFault.{ClassFault};
 use crate::cell_set::CellSet;
 use cosem_data::data::{Data, Items};
 use cosem_data::memory::Memory;
+use cosem_data::name::LogicalName;
 use meter_theory::access::AccessCode;
 use std::alloc::Global;
 
@@ -74,7 +75,17 @@ impl From<ClassFault> for AccessCode {
     }
 }
 
-/// An interface class, by what its objects are: cells beside a fixed part. Five laws hold of each class:
+/// What a plan lends of an object for an operation: its logical name, and what the plan fixes of it.
+#[derive(Clone, Copy)]
+pub struct Lent<'a, Part> {
+    /// Attribute 1, logical_name.
+    pub name: LogicalName,
+    /// What the plan fixes by the object's class.
+    pub part: &'a Part,
+}
+
+/// An interface class, by what its objects are: cells, to which the plan lends a fixed part at each operation. Five laws
+/// hold of each class:
 ///
 /// - a reading depends on its cell alone, or on the fixed part (the type of `reading` says so);
 /// - an operation changes only the cells that it touches (the form of `ok` says so);
@@ -82,8 +93,8 @@ impl From<ClassFault> for AccessCode {
 /// - a refusal other than for memory depends on the fixed part and the argument, never on a cell (the type of `refusal`);
 /// - cells that meet their rules meet them afterwards.
 ///
-/// And a write that is not refused puts its value.
-pub trait InterfaceClass {
+/// And a write that is not refused puts its value at its index.
+pub trait InterfaceClass<Lent> {
     /// class_id of IEC 62056-6-2.
     const CLASS_ID: u16;
 
@@ -99,7 +110,7 @@ pub trait InterfaceClass {
     // What no operation changes.
     ghost Fixed: { Type 0 };
 
-    ghost fixed: { Self → Fixed };
+    ghost fixed: { Self → Lent → Fixed };
 
     // What changes: a value at each index that has a cell.
     ghost cells: { Self → Cells };
@@ -127,36 +138,35 @@ pub trait InterfaceClass {
 
     /// The value of an attribute, a copy, as the service GET gives it. `NoIndex` where the attribute is none of the class or
     /// has no value, `Memory` where the copy gets none.
-    fn read(&self, alloc: Global, index: u8) -> Result<Data, ClassFault>
-        ensures { AnswersAs result (reading (fixed self.now) index (cells self.now index)) };
+    fn read(&self, alloc: Global, lent: Lent, index: u8) -> Result<Data, ClassFault>
+        ensures { AnswersAs result (reading (fixed self.now lent) index (cells self.now index)) };
 
-    /// Sets the value of an attribute, as the service SET does. `NoIndex` and `NotSettable` tell of the index, `Kind` and
-    /// `Rule` of the value. It takes no memory.
-    fn write(&mut self, index: u8, value: Data) -> Result<(), ClassFault>
-        ensures refused { RefusedAs result (refusal (fixed self.old) (ops.Write index) (tree value)) }
-        ensures fixed { fixed self.new ≡ fixed self.old }
-        ensures ok { OnOk result ((i : ℕ) → cells self.new i ≡ cells_after (touched (ops.Write index)) (new_value (fixed self.old) (ops.Write index) (tree value) []) (cells self.old) i) }
+    /// Sets the value of an attribute, as the service SET does, and returns the previous one. `NoIndex` and `NotSettable`
+    /// tell of the index, `Kind` and `Rule` of the value. It takes no memory.
+    fn write(&mut self, lent: Lent, index: u8, value: Data) -> Result<Data, ClassFault>
+        ensures refused { RefusedAs result (refusal (fixed self.old lent) (ops.Write index) (tree value)) }
+        ensures fixed { fixed self.new lent ≡ fixed self.old lent }
+        ensures ok { OnOk result ((i : ℕ) → cells self.new i ≡ cells_after (touched (ops.Write index)) (new_value (fixed self.old lent) (ops.Write index) (tree value) []) (cells self.old) i) }
+        ensures previous { IfOk result (λ old. cells self.old index ≡ Some (tree old)) }
         ensures err { OnErr result (self.new ≡ self.old) }
         ensures no_memory { result ≡ Err ClassFault.Memory → ⊥ };
 
-    /// Calls a method, as the service ACTION does. A capture is given its row, and no other method looks at it. `NoIndex`
-    /// where the class has no such method, `Memory` where a new value gets none.
+    /// Calls a method, as the service ACTION does, of an object whose cells meet their rules. A capture is given its row, and
+    /// no other method looks at it. `NoIndex` where the class has no such method, `Memory` where a new value gets none.
     fn invoke(
         &mut self,
         alloc: Global,
+        lent: Lent,
         method: u8,
         argument: &Data,
         row: Row,
     ) -> Result<(), ClassFault>
-        requires { IsRow (fixed self.old) (ops.Invoke method) row }
-        ensures refused { RefusedAs result (refusal (fixed self.old) (ops.Invoke method) (tree argument.now)) }
-        ensures fixed { fixed self.new ≡ fixed self.old }
-        ensures ok { OnOk result ((i : ℕ) → cells self.new i ≡ cells_after (touched (ops.Invoke method)) (new_value (fixed self.old) (ops.Invoke method) (tree argument.now) row) (cells self.old) i) }
+        requires rules { (i : ℕ) → MeetsRule (fixed self.old lent) i (cells self.old i) }
+        requires row { IsRow (fixed self.old lent) (ops.Invoke method) row }
+        ensures refused { RefusedAs result (refusal (fixed self.old lent) (ops.Invoke method) (tree argument.now)) }
+        ensures fixed { fixed self.new lent ≡ fixed self.old lent }
+        ensures ok { OnOk result ((i : ℕ) → cells self.new i ≡ cells_after (touched (ops.Invoke method)) (new_value (fixed self.old lent) (ops.Invoke method) (tree argument.now) row) (cells self.old) i) }
         ensures err { OnErr result (self.new ≡ self.old) };
-
-    /// Each cell meets its rule: what the type keeps, for generic callers.
-    fn known(&self)
-        ensures { (i : ℕ) → MeetsRule (fixed self.now) i (cells self.now i) };
 
     /// The cells that an operation may change.
     fn touched(op: Op) -> CellSet
@@ -173,7 +183,7 @@ pub trait InterfaceClass {
     // A touched cell's new value depends on nothing but the fixed part, the argument, its sources and perhaps the row.
     ghost depends_only_on_sources: { DependsOnlyOnSources touched own_sources row_cells new_value };
 
-    // A write that is not refused puts its value, and nothing else changes.
+    // A write that is not refused puts its value at its index.
     ghost writes_its_value: { WritesItsValue refusal touched new_value };
 
     // What met its rule meets it afterwards.

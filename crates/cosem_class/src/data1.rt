@@ -1,42 +1,57 @@
-ghost use Rattle.std.specs.Prelude.{◌≡◌, true, false, ⊤, []};
+ghost use Rattle.std.specs.Prelude.{◌≡◌, ℕ, false, ⊤};
+ghost use Rattle.cosem_class.specs.CellSets.{has};
 ghost use Rattle.cosem_data.specs.View.{tree};
-ghost use Rattle.meter_theory.specs.Value.{OfKind, meets};
+ghost use Rattle.cosem_data.specs.Kinds.{kind_of};
 ghost use Rattle.cosem_class.specs.DataClass.{DataFixed, value_cells, data_reading, data_refusal, data_new_value, data_touched, DataMeetsRule};
 ghost use Rattle.cosem_class.specs.DataLaws.{data_depends_only_on_sources, data_writes_its_value, data_keeps_rules};
 
 use crate::cell_set::CellSet;
-use crate::class::{ClassFault, InterfaceClass, Op, Row};
+use crate::class::{ClassFault, InterfaceClass, Lent, Op, Row};
 use crate::judge::judge_kind;
 use cosem_data::data::Data;
-use cosem_data::kind::Kind;
-use cosem_data::name::LogicalName;
+use meter_theory::refs::Interface;
 use std::alloc::Global;
+use std::mem;
 
-/// An object of class 1, Data: a value whose kind is kept (IEC 62056-6-2, Data, version 0).
+/// What a plan fixes of a data object: the start of its value, whose kind is kept (IEC 62056-6-2, Data; own profile).
 #[derive(Drop)]
-pub struct Data1 {
-    /// Attribute 1, logical_name, which is fixed.
-    pub name: LogicalName,
-    /// The kind of the value, which no write changes (own profile).
-    pub kind: Kind,
-    /// Attribute 2, value, the one cell.
-    pub value: Data,
-    // The value is of the kind, within the limits of a cell.
-    pub ghost fits: { meets (OfKind kind) (tree value) ≡ true },
+pub struct DataPart {
+    /// The start value.
+    pub start: Data,
 }
 
-impl InterfaceClass for Data1 {
-    const CLASS_ID: u16 = 1;
+/// The cells of an object of class 1, Data: a value whose kind is kept (IEC 62056-6-2, Data, version 0).
+#[derive(Drop)]
+pub struct Data1 {
+    /// Attribute 2, value, the one cell.
+    pub value: Data,
+}
 
-    const VERSION: u8 = 0;
+impl Data1 {
+    /// Class 1, Data, version 0, with two attributes and no method (IEC 62056-6-2).
+    pub const INTERFACE: Interface = Interface {
+        class_id: 1,
+        version: 0,
+        attributes: 2,
+        methods: 0,
+    };
 
-    const ATTRIBUTES: u8 = 2;
+    /// The index of the value.
+    pub const VALUE: u8 = 2;
+}
 
-    const METHODS: u8 = 0;
+impl<'a> InterfaceClass<Lent<'a, DataPart>> for Data1 {
+    const CLASS_ID: u16 = Data1::INTERFACE.class_id;
+
+    const VERSION: u8 = Data1::INTERFACE.version;
+
+    const ATTRIBUTES: u8 = Data1::INTERFACE.attributes;
+
+    const METHODS: u8 = Data1::INTERFACE.methods;
 
     ghost Fixed = { DataFixed };
 
-    ghost fixed = { λ s. record { name = s.name; kind = s.kind } };
+    ghost fixed = { λ _ lent. record { name = lent.name; kind = kind_of (tree lent.part.now.start) } };
 
     ghost cells = { λ s. value_cells (tree s.value) };
 
@@ -62,20 +77,19 @@ impl InterfaceClass for Data1 {
 
     ghost keeps_rules = { data_keeps_rules };
 
-    fn read(&self, alloc: Global, index: u8) -> Result<Data, ClassFault> {
+    fn read(&self, alloc: Global, lent: Lent<DataPart>, index: u8) -> Result<Data, ClassFault> {
         match index {
-            1 => Ok(self.name.as_octets(alloc)?),
-            2 => Ok(self.value.try_clone(alloc)?),
+            1 => Ok(lent.name.as_octets(alloc)?),
+            Data1::VALUE => Ok(self.value.try_clone(alloc)?),
             _ => Err(ClassFault::NoIndex),
         }
     }
 
-    fn write(&mut self, index: u8, value: Data) -> Result<(), ClassFault> {
+    fn write(&mut self, lent: Lent<DataPart>, index: u8, value: Data) -> Result<Data, ClassFault> {
         match index {
-            2 => {
-                judge_kind(self.kind, &value)?;
-                self.value = value;
-                Ok(())
+            Data1::VALUE => {
+                judge_kind(lent.part.start.kind(), &value)?;
+                Ok(mem::replace(&mut self.value, value))
             }
             1 => Err(ClassFault::NotSettable),
             _ => Err(ClassFault::NoIndex),
@@ -85,6 +99,7 @@ impl InterfaceClass for Data1 {
     fn invoke(
         &mut self,
         _alloc: Global,
+        _lent: Lent<DataPart>,
         _method: u8,
         _argument: &Data,
         _row: Row,
@@ -92,20 +107,24 @@ impl InterfaceClass for Data1 {
         Err(ClassFault::NoIndex)
     }
 
-    fn known(&self) {}
-
-    fn touched(op: Op) -> CellSet {
+    fn touched(op: Op) -> CellSet
+        ensures { (i : ℕ) → has result i ≡ data_touched op i }
+    {
         match op {
-            Op::Write(2) => CellSet::empty().with(2),
+            Op::Write(Data1::VALUE) => CellSet::empty().with(Data1::VALUE),
             _ => CellSet::empty(),
         }
     }
 
-    fn own_sources(_op: Op, _cell: u8) -> CellSet {
+    fn own_sources(_op: Op, _cell: u8) -> CellSet
+        ensures { (i : ℕ) → has result i ≡ false }
+    {
         CellSet::empty()
     }
 
-    fn row_cells(_op: Op) -> CellSet {
+    fn row_cells(_op: Op) -> CellSet
+        ensures { (i : ℕ) → has result i ≡ false }
+    {
         CellSet::empty()
     }
 }

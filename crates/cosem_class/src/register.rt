@@ -1,20 +1,18 @@
 ghost use Rattle.std.specs.Prelude.{◌≡◌, ℕ, true, false, ⊤};
 ghost use Rattle.cosem_data.specs.View.{tree};
-ghost use Rattle.cosem_data.specs.Kinds.{kind_of};
-ghost use Rattle.meter_theory.specs.Value.{OfKind, meets};
 ghost use Rattle.cosem_class.specs.CellSets.{has};
 ghost use Rattle.cosem_class.specs.DataClass.{value_cells};
 ghost use Rattle.cosem_class.specs.RegisterClass.{RegisterFixed, register_reading, register_refusal, register_new_value, register_touched, RegisterMeetsRule};
 ghost use Rattle.cosem_class.specs.RegisterLaws.{register_depends_only_on_sources, register_writes_its_value, register_keeps_rules};
 
 use crate::cell_set::CellSet;
-use crate::class::{ClassFault, InterfaceClass, Op, Row};
+use crate::class::{ClassFault, InterfaceClass, Lent, Op, Row};
 use crate::judge::judge_kind;
 use crate::shapes::scaler_unit_data;
 use cosem_data::data::Data;
-use cosem_data::name::LogicalName;
-use meter_theory::refs::ScalerUnit;
+use meter_theory::refs::{Interface, ScalerUnit};
 use std::alloc::Global;
+use std::mem;
 
 /// What a plan fixes of a register, and the start of its value (IEC 62056-6-2, Register).
 #[derive(Drop)]
@@ -27,34 +25,44 @@ pub struct RegisterPart {
     pub scaler_unit: ScalerUnit,
 }
 
-/// An object of class 3, Register, over what its plan lends: a number whose kind is kept (IEC 62056-6-2, Register,
-/// version 0).
+/// The cells of an object of class 3, Register: a number whose kind is kept (IEC 62056-6-2, Register, version 0).
 #[derive(Drop)]
-pub struct Register<'a> {
-    /// Attribute 1, logical_name, which is fixed.
-    pub name: LogicalName,
-    /// What the plan fixes.
-    pub part: &'a RegisterPart,
+pub struct Register {
     /// Attribute 2, value, the one cell: a number in the scale and unit of the part.
     pub value: Data,
-    // The default is of the kind of the start, within the limits of a cell.
-    pub ghost default_fits: { meets (OfKind (kind_of (tree part.now.start))) (tree part.now.default) ≡ true },
-    // So is the value.
-    pub ghost fits: { meets (OfKind (kind_of (tree part.now.start))) (tree value) ≡ true },
 }
 
-impl<'a> InterfaceClass for Register<'a> {
-    const CLASS_ID: u16 = 3;
+impl Register {
+    /// Class 3, Register, version 0, with three attributes and one method, reset (IEC 62056-6-2).
+    pub const INTERFACE: Interface = Interface {
+        class_id: 3,
+        version: 0,
+        attributes: 3,
+        methods: 1,
+    };
 
-    const VERSION: u8 = 0;
+    /// The index of the value.
+    pub const VALUE: u8 = 2;
 
-    const ATTRIBUTES: u8 = 3;
+    /// The index of scaler and unit.
+    pub const SCALER_UNIT: u8 = 3;
 
-    const METHODS: u8 = 1;
+    /// The method that puts the default.
+    pub const RESET: u8 = 1;
+}
+
+impl<'a> InterfaceClass<Lent<'a, RegisterPart>> for Register {
+    const CLASS_ID: u16 = Register::INTERFACE.class_id;
+
+    const VERSION: u8 = Register::INTERFACE.version;
+
+    const ATTRIBUTES: u8 = Register::INTERFACE.attributes;
+
+    const METHODS: u8 = Register::INTERFACE.methods;
 
     ghost Fixed = { RegisterFixed };
 
-    ghost fixed = { λ s. record { name = s.name; start = tree s.part.now.start; default = tree s.part.now.default; scaler_unit = s.part.now.scaler_unit } };
+    ghost fixed = { λ _ lent. record { name = lent.name; start = tree lent.part.now.start; default = tree lent.part.now.default; scaler_unit = lent.part.now.scaler_unit } };
 
     ghost cells = { λ s. value_cells (tree s.value) };
 
@@ -80,23 +88,27 @@ impl<'a> InterfaceClass for Register<'a> {
 
     ghost keeps_rules = { register_keeps_rules };
 
-    fn read(&self, alloc: Global, index: u8) -> Result<Data, ClassFault> {
+    fn read(&self, alloc: Global, lent: Lent<RegisterPart>, index: u8) -> Result<Data, ClassFault> {
         match index {
-            1 => Ok(self.name.as_octets(alloc)?),
-            2 => Ok(self.value.try_clone(alloc)?),
-            3 => Ok(scaler_unit_data(alloc, self.part.scaler_unit)?),
+            1 => Ok(lent.name.as_octets(alloc)?),
+            Register::VALUE => Ok(self.value.try_clone(alloc)?),
+            Register::SCALER_UNIT => Ok(scaler_unit_data(alloc, lent.part.scaler_unit)?),
             _ => Err(ClassFault::NoIndex),
         }
     }
 
-    fn write(&mut self, index: u8, value: Data) -> Result<(), ClassFault> {
+    fn write(
+        &mut self,
+        lent: Lent<RegisterPart>,
+        index: u8,
+        value: Data,
+    ) -> Result<Data, ClassFault> {
         match index {
-            2 => {
-                judge_kind(self.part.start.kind(), &value)?;
-                self.value = value;
-                Ok(())
+            Register::VALUE => {
+                judge_kind(lent.part.start.kind(), &value)?;
+                Ok(mem::replace(&mut self.value, value))
             }
-            1 | 3 => Err(ClassFault::NotSettable),
+            1 | Register::SCALER_UNIT => Err(ClassFault::NotSettable),
             _ => Err(ClassFault::NoIndex),
         }
     }
@@ -104,24 +116,25 @@ impl<'a> InterfaceClass for Register<'a> {
     fn invoke(
         &mut self,
         alloc: Global,
+        lent: Lent<RegisterPart>,
         method: u8,
         _argument: &Data,
         _row: Row,
     ) -> Result<(), ClassFault> {
-        if method != 1 {
+        if method != Register::RESET {
             return Err(ClassFault::NoIndex);
         }
-        self.value = self.part.default.try_clone(alloc)?;
+        self.value = lent.part.default.try_clone(alloc)?;
         Ok(())
     }
-
-    fn known(&self) {}
 
     fn touched(op: Op) -> CellSet
         ensures { (i : ℕ) → has result i ≡ register_touched op i }
     {
         match op {
-            Op::Write(2) | Op::Invoke(1) => CellSet::empty().with(2),
+            Op::Write(Register::VALUE) | Op::Invoke(Register::RESET) => {
+                CellSet::empty().with(Register::VALUE)
+            },
             _ => CellSet::empty(),
         }
     }

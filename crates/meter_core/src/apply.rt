@@ -5,14 +5,13 @@ ghost use Rattle.cosem_data.specs.declared.cell.CellRef.{CellRef};
 ghost use Rattle.meter_theory.specs.Steps as steps;
 ghost use Rattle.meter_theory.specs.Steps.{client_of, next};
 ghost use Rattle.meter_theory.specs.Replies.{attribute, reply_to};
-ghost use Rattle.meter_theory.specs.States.{IsState};
-ghost use Rattle.meter_core.specs.Adds.{StandsFor};
+ghost use Rattle.meter_theory.specs.State as state;
+ghost use Rattle.meter_theory.specs.States.{IsState, MayStand};
+ghost use Rattle.meter_effects.specs.Adds.{StandsFor};
 ghost use Rattle.meter_core.specs.Memory.{needs_no_memory};
 ghost use Rattle.meter_core.specs.StepView.{argument_of, reply_of, selection_of, step_of};
 
-use crate::own_steps::{capture_effects, evaluation_effects, input_effects, schedule_effects};
 use crate::reply::Reply;
-use crate::scripts::push_method;
 use crate::step::Step;
 use association_views::association::fixed_attribute;
 use association_views::permits::{
@@ -23,7 +22,11 @@ use cosem_data::cell::CellRef;
 use cosem_data::data::Data;
 use cosem_data::memory::Memory;
 use cosem_data::name::LogicalName;
-use meter_effects::play::play;
+use meter_effects::effects::apply_all;
+use meter_effects::own_steps::{
+    capture_effects, evaluation_effects, input_effects, schedule_effects,
+};
+use meter_effects::scripts::push_method;
 use meter_theory::access::AccessCode;
 use object_model::argument::Argument;
 use object_model::effect::Effect;
@@ -141,9 +144,18 @@ fn set(
     if let Argument::Value(value) = value {
         let cell = attribute_cell(class_id, name, index);
         let given = value.try_clone(alloc)?;
-        meter.put(alloc, plan, &cell, given);
+        put(alloc, plan, meter, cell, given);
     }
     Ok(Reply::Code(AccessCode::Success))
+}
+
+/// Puts a value that may stand in its cell. It takes no memory.
+fn put(alloc: Global, plan: &Plan, meter: &mut Meter, cell: CellRef, given: Data)
+    requires of_plan { IsState plan.now meter.old }
+    requires fits { MayStand plan.now cell (tree given) }
+    ensures { meter.new ≡ state.put meter.old cell (tree given) }
+{
+    let _undo = meter.take(alloc, plan, Effect::Put(cell, given)).unwrap();
 }
 
 /// The answer to an ACTION (IEC 62056-5-3), and what its method does where the answer is success.
@@ -171,7 +183,7 @@ fn act(
     let method = called_method(class_id, name, index);
     let mut effects = Vec::new(alloc);
     push_method(alloc, plan, &method, argument, &mut effects)?;
-    play(alloc, plan, meter, &effects)?;
+    apply_all(alloc, plan, meter, effects)?;
     Ok(Reply::Code(AccessCode::Success))
 }
 
@@ -187,7 +199,7 @@ fn own(alloc: Global, plan: &Plan, meter: &mut Meter, step: &Step) -> Result<Rep
 {
     plan.known();
     let effects = own_effects(alloc, plan, meter, step)?;
-    play(alloc, plan, meter, &effects)?;
+    apply_all(alloc, plan, meter, effects)?;
     Ok(Reply::Quiet)
 }
 

@@ -2,8 +2,6 @@
 #![tactic(auto)]
 
 pub mod apply;
-mod own_steps;
 pub mod reply;
 pub mod run;
-mod scripts;
 pub mod step;

@@ -24,7 +24,7 @@ use Rattle.class_control.specs.ScheduleClass.{ScheduleFixed, schedule_refusal, s
 use Rattle.object_model.specs.EffectView.{IsProfile}
 use Rattle.meter_effects.specs.Operations.{IsOperation, PutsAreWrites}
 use Rattle.meter_effects.specs.PlanOperations.{operations_in, captured_in, IsOperationOf, IsAcceptedOperation}
-use Rattle.meter_effects.proofs.Changes.{put-is_operation, capture-is_operation, clear-is_operation}
+use Rattle.meter_effects.proofs.Changes.{one-touched, put-is_operation, capture-is_operation, clear-is_operation}
 
 -- a settable index with its rule
 ruled : (settable : Bool) (own rule : Rule) → cond settable (Some own) None ≡ Some rule → (settable ≡ true) × (own ≡ rule)
@@ -51,25 +51,25 @@ module _ (P : Plan) (data_puts : PutsAreWrites data_refusal data_touched data_ne
   put_in name (Data1 first) index v rule is fits =
       let fixed : DataFixed = record { name = name; kind = kind_of first } in
       let accepted = accepted_by (index == 2) (index == 1) (OfKind (kind_of first)) rule v is fits in
-      (accepted, data_puts 1 name fixed index v accepted)
+      (accepted, data_puts 1 name fixed index v accepted (λ i. one-touched index 2 i))
   put_in name (Register first default scaler_unit) index v rule is fits =
       let fixed : RegisterFixed = record { name = name; start = first; default = default; scaler_unit = scaler_unit } in
       let accepted = accepted_by (index == 2) ((index == 1) || (index == 3)) (OfKind (kind_of first)) rule v is fits in
-      (accepted, register_puts 3 name fixed index v accepted)
+      (accepted, register_puts 3 name fixed index v accepted (λ i. one-touched index 2 i))
   put_in name (ProfileGeneric captured period entries) index v rule is fits =
       let fixed : ProfileFixed = record { name = name; captured = captured; period = period; entries = entries } in
       let accepted = accepted_by (index == 4) (is_attribute index) period_rule rule v is fits in
-      let write = profile_puts 7 name fixed index v accepted in
+      let write = profile_puts 7 name fixed index v accepted (λ i. one-touched index 4 i) in
       (accepted, record { same_cells = write.same_cells; own_cells = write.own_cells; other_cells = write.other_cells })
   put_in name (ScriptTable scripts) index v rule is fits = cc
   put_in name (RegisterMonitor monitored thresholds actions) index v rule is fits =
       let fixed : MonitorFixed = record { name = name; monitored = monitored; kind = kind_of (value (start P) monitored); actions = actions } in
       let accepted = accepted_by (index == 2) ((index == 1) || ((index == 3) || (index == 4))) _ rule v is fits in
-      (accepted, monitor_puts 21 name fixed index v accepted)
+      (accepted, monitor_puts 21 name fixed index v accepted (λ i. one-touched index 2 i))
   put_in name (SingleActionSchedule script type times) index v rule is fits =
       let fixed : ScheduleFixed = record { name = name; script = script; type = type } in
       let accepted = accepted_by (index == 4) ((index == 1) || ((index == 2) || (index == 3))) (ExecutionTimes type) rule v is fits in
-      (accepted, schedule_puts 22 name fixed index v accepted)
+      (accepted, schedule_puts 22 name fixed index v accepted (λ i. one-touched index 4 i))
 
   -- A put of a value that may stand in its cell is a write.
   pub put-accepted : (x : CellRef) (v : Tree) → MayStand P x v → IsAcceptedOperation P (Write x.index) v (λ s. effect P s (Put x v))

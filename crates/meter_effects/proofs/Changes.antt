@@ -1,7 +1,7 @@
 -- Puts, captures and clears as operations of one object.
 use Rattle.std.proofs.Common.{◌≡◌, ◌==◌, ℕ, Bool, true, false, List, map, Option, Some, refl, sym, ap, subst, ◌∙◌, eqb-true, eq-eqb}
-use Rattle.std.specs.Prelude.{◌||◌, if◌then◌else◌, option_map}
-use Rattle.std.proofs.lemmas.Bool.{false≢true, false_from_ne_true}
+use Rattle.std.specs.Prelude.{◌&&◌, ◌||◌, if◌then◌else◌, option_map}
+use Rattle.std.proofs.lemmas.Bool.{and_parts, false≢true, false_from_ne_true}
 use Rattle.cosem_data.specs.Tree.{Tree, array, no_trees}
 use Rattle.cosem_data.specs.Cells.{cell, same_cell}
 use Rattle.cosem_data.specs.declared.cell.CellRef.{CellRef}
@@ -53,6 +53,22 @@ module _ (class_id : ℕ) (name : LogicalName) (index : ℕ) (v : Tree) where
     own_cells = λ s i key. cells_in-put s i key ∙ sym (leaves s (cells_in s class_id name) i);
     other_cells = put-elsewhere;
   }
+
+-- a write that puts its value and touches no other cell
+pub puts-alone : (touched : ℕ → Bool) (new_value : Cells → ℕ → Option Tree) (cells : Cells) (index : ℕ) (v : Tree) → ((i : ℕ) → touched i ≡ true → i ≡ index) →
+    cells_after touched new_value cells index ≡ Some v → (i : ℕ) → cells_after touched new_value cells i ≡ put_at index v cells i
+puts-alone touched new_value cells index v alone here i = at (i == index) refl (touched i) refl
+  where
+    at : (b : Bool) → (i == index) ≡ b → (t : Bool) → touched i ≡ t → cells_after touched new_value cells i ≡ (if b then Some v else cells i)
+    at true e t is = ap (cells_after touched new_value cells) (eqb-true i index e) ∙ here
+    at false e true is = absurd (false≢true (sym e ∙ eq-eqb i index (alone i is)))
+    at false e false is = ap (λ t. if t then new_value cells i else cells i) is
+
+-- a write that touches its one settable cell
+pub one-touched : (index settable i : ℕ) → ((index == settable) && (i == settable)) ≡ true → i ≡ index
+one-touched index settable i h =
+    let both = and_parts (index == settable) (i == settable) h in
+    eqb-true i settable both.1 ∙ sym (eqb-true index settable both.0)
 
 -- The two cells of a profile that a capture and a clear change
 

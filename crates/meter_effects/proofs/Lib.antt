@@ -3,3 +3,4 @@ pub mod Agreement
 pub mod Changes
 pub mod Accepted
 pub mod ClosedSets
+pub mod Added

@@ -1,3 +1,4 @@
-pub mod Formerly
 pub mod Operations
 pub mod PlanOperations
+pub mod Adds
+pub mod Writes

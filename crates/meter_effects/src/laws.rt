@@ -20,25 +20,27 @@ ghost use Rattle.object_model.specs.declared.effect.Effect as model;
 ghost use Rattle.meter_effects.specs.Operations.{OperationsKeepAgreement, PutsAreWrites, KeepsAgreementOn};
 ghost use Rattle.meter_effects.specs.PlanOperations.{IsOperationOf, IsAcceptedOperation};
 
-use class_control::monitor::Monitor;
+use class_control::monitor::{Monitor, Watch};
+use class_control::parts::{SchedulePart, ScriptTablePart};
 use class_control::schedule::Schedule;
 use class_control::script_table::ScriptTable;
-use class_profile::profile::Profile;
-use cosem_class::class::InterfaceClass;
-use cosem_class::data1::Data1;
+use class_profile::profile::{Profile, ProfilePart};
+use cosem_class::class::{InterfaceClass, Lent};
+use cosem_class::data1::{Data1, DataPart};
 use cosem_class::generic::laws_of_a_class;
-use cosem_class::register::Register;
+use cosem_class::register::{Register, RegisterPart};
 
 /// Of every class: an operation of an object keeps agreement on each set of cells that has all its sources. So say the
 /// class's laws that an operation changes only what it touches, and that a new value depends only on its sources.
-pub fn operations_keep_agreement<C: InterfaceClass>()
+pub fn operations_keep_agreement<Lent, C: InterfaceClass<Lent>>()
     ensures { OperationsKeepAgreement C.touched C.own_sources C.row_cells C.new_value }
 {
-    laws_of_a_class::<C>();
+    laws_of_a_class::<Lent, C>();
 }
 
-/// Of every class: to put a value that the class does not refuse into a cell of the meter is a write of it.
-pub fn puts_are_writes<C: InterfaceClass>()
+/// Of every class: to put a value that the class does not refuse into a cell of the meter is a write of it, where the write
+/// touches that cell alone.
+pub fn puts_are_writes<Lent, C: InterfaceClass<Lent>>()
     ensures { PutsAreWrites C.refusal C.touched C.new_value }
 {}
 
@@ -53,11 +55,11 @@ pub fn effects_are_operations()
     ensures reset { (P : Plan) (o : Object) (first default argument : Tree) (unit : ScalerUnit) → o.part ≡ plans.Register first default unit →
         IsOperationOf P o (ops.Invoke 1) argument (λ s. effect P s (Put (plans.register_value o.name) default)) }
 {
-    puts_are_writes::<Data1>();
-    puts_are_writes::<Register<'static>>();
-    puts_are_writes::<Profile<'static>>();
-    puts_are_writes::<Monitor<'static>>();
-    puts_are_writes::<Schedule<'static>>();
+    puts_are_writes::<Lent<'static, DataPart>, Data1>();
+    puts_are_writes::<Lent<'static, RegisterPart>, Register>();
+    puts_are_writes::<Lent<'static, ProfilePart>, Profile>();
+    puts_are_writes::<Watch<'static>, Monitor>();
+    puts_are_writes::<Lent<'static, SchedulePart>, Schedule>();
 }
 
 /// States that agree on a closed set of cells agree on it after each operation of an object of the plan, by the object's
@@ -68,11 +70,11 @@ pub fn closed_sets_keep_agreement()
     ensures effect { (P : Plan) (S : CellRef → Bool) → IsClosed P S → (e : Effect) → Fits P e → KeepsAgreementOn S (λ s. effect P s e) }
     ensures taken { (P : Plan) (S : CellRef → Bool) → IsClosed P S → (e : model.Effect) → MayTake P e → KeepsAgreementOn S (λ s. effect P s (effect_of e)) }
 {
-    operations_keep_agreement::<Data1>();
-    operations_keep_agreement::<Register<'static>>();
-    operations_keep_agreement::<Profile<'static>>();
-    operations_keep_agreement::<ScriptTable<'static>>();
-    operations_keep_agreement::<Monitor<'static>>();
-    operations_keep_agreement::<Schedule<'static>>();
+    operations_keep_agreement::<Lent<'static, DataPart>, Data1>();
+    operations_keep_agreement::<Lent<'static, RegisterPart>, Register>();
+    operations_keep_agreement::<Lent<'static, ProfilePart>, Profile>();
+    operations_keep_agreement::<Lent<'static, ScriptTablePart>, ScriptTable>();
+    operations_keep_agreement::<Watch<'static>, Monitor>();
+    operations_keep_agreement::<Lent<'static, SchedulePart>, Schedule>();
     effects_are_operations();
 }

@@ -1,22 +1,22 @@
 -- Lines, one after another.
-use Rattle.std.proofs.Common.{◌≡◌, ◌≢◌, ℕ, ◌+◌, ◌^◌, ◌≤◌, List, [], ◌∷◌, ◌++◌, length, Option, Result, Ok, Err, refl, sym, ap, subst, ◌∙◌, append_assoc, append-nil, inl, inr, arith, length-append}
+use Rattle.std.proofs.Common.{◌≡◌, ◌≢◌, ℕ, ◌+◌, ◌<◌, ◌≤◌, List, [], ◌∷◌, ◌++◌, length, Option, Ok, Err, refl, sym, ap, subst, ◌∙◌, append_assoc, append-nil, arith, length-append}
 use Rattle.std.proofs.lemmas.List.Concat.{flat_map-append}
-use Rattle.std.proofs.lemmas.List.Elements.{All-append, All-push, All-cons, All-nil}
-use Rattle.std.proofs.KnownBytes.{Appends-trans, Appends-nil, Consumes-trans, Consumes-nil, Consumes-kept}
-use Rattle.std.specs.Io.KnownBytes.{Consumes, Appends, IsAtEnd, Keeps}
+use Rattle.std.proofs.lemmas.List.Elements.{All-append, All-push, All-nil}
+use Rattle.std.proofs.KnownBytes.{Appends-trans, Appends-nil}
+use Rattle.std.specs.Io.KnownBytes.{Appends}
 use Rattle.std.specs.List.{flat_map}
-use Rattle.meter_theory.specs.Plan.{Plan, start}
+use Rattle.meter_theory.specs.Plan.{Plan}
 use Rattle.meter_theory.specs.State.{State}
 use Rattle.meter_theory.specs.States.{IsState}
 use Rattle.meter_theory.specs.Steps.{next}
 use Rattle.meter_server.specs.Answering.{Task, Answer, Take, next_of, reply_of_ask}
-use Rattle.meter_server.proofs.Replying.{printed_from-start}
 use Rattle.meter_server.specs.declared.running.LineFault.{LineFault}
 use Rattle.meter_server.specs.declared.running.LineFault.TheVariants.{Read, Write, Line, Memory}
 use Rattle.meter_server.specs.declared.running.Run.{Run}
 use Rattle.meter_server.specs.Spelling.{line_of, reply_text, unreadable_text}
-use Rattle.meter_server.specs.Running.{IsLine, ended, text_of_lines, with_last, IsReadable, tasks_in, tasks_of, printed, Moment, IsTextFor, Heard, Stops, RunsLines}
-use Rattle.meter_server.specs.Pieces.{next_by_task, meter_after, replies_to, printed_from, IsTextOfLine, IsCutShort, AnswersLine, Hears, Advances, TakesPiece, EndsRun}
+use Rattle.meter_server.specs.Running.{IsLine, ended, text_of_lines, IsReadable, tasks_in, tasks_of}
+use Rattle.meter_server.specs.Feeding.{IsSplit}
+use Rattle.meter_server.specs.Pieces.{next_by_task, meter_after, replies_to, printed_from, AnswersLine, Stage, Passes, Hears, Advances, TakesPiece}
 
 -- ---- what is done and printed
 
@@ -41,165 +41,209 @@ printed_from-append plan m ls ms =
     ∙ ap (flat_map reply_text) (replies_to-append plan m (tasks_of plan ls) (tasks_of plan ms))
     ∙ flat_map-append reply_text (replies_to plan m (tasks_of plan ls)) (replies_to plan (meter_after plan m (tasks_of plan ls)) (tasks_of plan ms))
 
+-- ---- texts that wait
+
+pub Passes-none : (w : Option (List ℕ)) (waiting : List ℕ) → Passes w waiting w waiting []
+Passes-none w waiting = ([], Appends-nil w, append-nil waiting)
+
+pub Passes-then : (w0 w1 w2 : Option (List ℕ)) (v0 v1 v2 t u : List ℕ) → Passes w0 v0 w1 v1 t → Passes w1 v1 w2 v2 u → Passes w0 v0 w2 v2 (t ++ u)
+Passes-then w0 w1 w2 v0 v1 v2 t u p q = (
+  p.0 ++ q.0,
+  Appends-trans w0 w1 w2 p.0 q.0 p.1 q.1,
+  sym (append_assoc v0 t u) ∙ ap (λ (x : List ℕ). x ++ u) p.2 ∙ append_assoc p.0 v1 u ∙ ap (λ (x : List ℕ). p.0 ++ x) q.2 ∙ sym (append_assoc p.0 q.0 v2),
+)
+
+-- a text is put behind those that wait
+pub Passes-put : (w : Option (List ℕ)) (v0 v1 t : List ℕ) → v1 ≡ v0 ++ t → Passes w v0 w v1 t
+Passes-put w v0 v1 t e = ([], Appends-nil w, sym e)
+
+-- a front of what waits is written
+pub Passes-written : (w0 w1 w2 : Option (List ℕ)) (v0 v1 t front left : List ℕ) → Passes w0 v0 w1 v1 t → v1 ≡ front ++ left → Appends w1 w2 front → Passes w0 v0 w2 left t
+Passes-written w0 w1 w2 v0 v1 t front left p e a =
+    subst (Passes w0 v0 w2 left) (append-nil t) (Passes-then w0 w1 w2 v0 v1 left t [] p (front, a, append-nil v1 ∙ e))
+
 -- ---- one after another
 
-pub Hears-then : (plan : Plan) (old mid : Run) (a b : List ℕ) (w0 w1 w2 : Option (List ℕ)) (ls ms : List (List ℕ)) (rest text : List ℕ)
-    → Advances plan old mid a w0 w1 ls → Hears plan mid b w1 w2 ms rest text → Hears plan old (a ++ b) w0 w2 (ls ++ ms) rest (printed_from plan old.meter ls ++ text)
-Hears-then plan old mid a b w0 w1 w2 ls ms rest text p q = record {
-  whole = sym (append_assoc old.line.items a b) ∙ ap (λ (t : List ℕ). t ++ b) p.heard.whole ∙ append_assoc (text_of_lines ls) mid.line.items b
-      ∙ ap (λ (t : List ℕ). text_of_lines ls ++ t) q.whole ∙ sym (append_assoc (text_of_lines ls) (text_of_lines ms) rest) ∙ ap (λ (t : List ℕ). t ++ rest) (sym (flat_map-append ended ls ms));
-  each = All-append IsLine ls ms p.heard.each q.each;
-  readable = All-append (IsReadable plan) ls ms p.heard.readable q.readable;
-  wrote = Appends-trans w0 w1 w2 (printed_from plan old.meter ls) text p.heard.wrote q.wrote;
-}
+-- where those bytes end, no more than what is held is left
+pub held-alone : (plan : Plan) (old new : Stage) (bytes : List ℕ) (ls : List (List ℕ)) → Advances plan old new bytes [] ls
+    → Hears plan old bytes new.written new.run.waiting.items ls new.held (printed_from plan old.run.meter ls)
+held-alone plan old new bytes ls p =
+    subst (λ (t : List ℕ). Hears plan old bytes new.written new.run.waiting.items ls t (printed_from plan old.run.meter ls)) (append-nil new.held) p.heard
 
--- the same, where what was written later is what those lines print
-joined : (plan : Plan) (old mid : Run) (ls ms : List (List ℕ)) (text : List ℕ) → mid.meter ≡ meter_after plan old.meter (tasks_of plan ls)
-    → printed_from plan old.meter ls ++ (printed_from plan mid.meter ms ++ text) ≡ printed_from plan old.meter (ls ++ ms) ++ text
+pub Hears-then : (plan : Plan) (old mid : Stage) (a b : List ℕ) (after : Option (List ℕ)) (left : List ℕ) (ls ms : List (List ℕ)) (rest text : List ℕ)
+    → Advances plan old mid a [] ls → Hears plan mid b after left ms rest text → Hears plan old (a ++ b) after left (ls ++ ms) rest (printed_from plan old.run.meter ls ++ text)
+Hears-then plan old mid a b after left ls ms rest text p q =
+    let h = held-alone plan old mid a ls p in record {
+      whole = sym (append_assoc old.held a b) ∙ ap (λ (t : List ℕ). t ++ b) h.whole ∙ append_assoc (text_of_lines ls) mid.held b
+          ∙ ap (λ (t : List ℕ). text_of_lines ls ++ t) q.whole ∙ sym (append_assoc (text_of_lines ls) (text_of_lines ms) rest) ∙ ap (λ (t : List ℕ). t ++ rest) (sym (flat_map-append ended ls ms));
+      each = All-append IsLine ls ms h.each q.each;
+      readable = All-append (IsReadable plan) ls ms h.readable q.readable;
+      passes = Passes-then old.written mid.written after old.run.waiting.items mid.run.waiting.items left (printed_from plan old.run.meter ls) text h.passes q.passes;
+    }
+
+-- the same, where what was printed later is what those lines print
+joined : (plan : Plan) (old mid : State) (ls ms : List (List ℕ)) (text : List ℕ) → mid ≡ meter_after plan old (tasks_of plan ls)
+    → printed_from plan old ls ++ (printed_from plan mid ms ++ text) ≡ printed_from plan old (ls ++ ms) ++ text
 joined plan old mid ls ms text e =
-    ap (λ (m : State). printed_from plan old.meter ls ++ (printed_from plan m ms ++ text)) e
-    ∙ sym (append_assoc (printed_from plan old.meter ls) (printed_from plan (meter_after plan old.meter (tasks_of plan ls)) ms) text)
-    ∙ ap (λ (t : List ℕ). t ++ text) (sym (printed_from-append plan old.meter ls ms))
+    ap (λ (m : State). printed_from plan old ls ++ (printed_from plan m ms ++ text)) e
+    ∙ sym (append_assoc (printed_from plan old ls) (printed_from plan (meter_after plan old (tasks_of plan ls)) ms) text)
+    ∙ ap (λ (t : List ℕ). t ++ text) (sym (printed_from-append plan old ls ms))
 
-joined_all : (plan : Plan) (old mid : Run) (ls ms : List (List ℕ)) → mid.meter ≡ meter_after plan old.meter (tasks_of plan ls)
-    → printed_from plan old.meter ls ++ printed_from plan mid.meter ms ≡ printed_from plan old.meter (ls ++ ms)
+pub joined_all : (plan : Plan) (old mid : State) (ls ms : List (List ℕ)) → mid ≡ meter_after plan old (tasks_of plan ls)
+    → printed_from plan old ls ++ printed_from plan mid ms ≡ printed_from plan old (ls ++ ms)
 joined_all plan old mid ls ms e =
-    ap (λ (m : State). printed_from plan old.meter ls ++ printed_from plan m ms) e ∙ sym (printed_from-append plan old.meter ls ms)
+    ap (λ (m : State). printed_from plan old ls ++ printed_from plan m ms) e ∙ sym (printed_from-append plan old ls ms)
 
-pub Advances-then : (plan : Plan) (old mid new : Run) (a b : List ℕ) (w0 w1 w2 : Option (List ℕ)) (ls ms : List (List ℕ))
-    → Advances plan old mid a w0 w1 ls → Advances plan mid new b w1 w2 ms → Advances plan old new (a ++ b) w0 w2 (ls ++ ms)
-Advances-then plan old mid new a b w0 w1 w2 ls ms p q = record {
-  heard = subst (λ (t : List ℕ). Hears plan old (a ++ b) w0 w2 (ls ++ ms) new.line.items t) (joined_all plan old mid ls ms p.meter)
-      (Hears-then plan old mid a b w0 w1 w2 ls ms new.line.items (printed_from plan mid.meter ms) p q.heard);
+pub Advances-then : (plan : Plan) (old mid new : Stage) (a b : List ℕ) (ls ms : List (List ℕ))
+    → Advances plan old mid a [] ls → Advances plan mid new b [] ms → Advances plan old new (a ++ b) [] (ls ++ ms)
+Advances-then plan old mid new a b ls ms p q = record {
+  heard = subst (Hears plan old (a ++ b) new.written new.run.waiting.items (ls ++ ms) (new.held ++ [])) (joined_all plan old.run.meter mid.run.meter ls ms p.meter)
+      (Hears-then plan old mid a b new.written new.run.waiting.items ls ms (new.held ++ []) (printed_from plan mid.run.meter ms) p q.heard);
   held = q.held;
-  meter = q.meter ∙ ap (λ (m : State). meter_after plan m (tasks_of plan ms)) p.meter ∙ sym (after-append plan old.meter ls ms);
+  meter = q.meter ∙ ap (λ (m : State). meter_after plan m (tasks_of plan ms)) p.meter ∙ sym (after-append plan old.run.meter ls ms);
   count = omega (arith, p.count, q.count, length-append ls ms);
   state = q.state;
 }
 
--- what was cut short at one meter and number is so at the same ones
-cut-along : (plan : Plan) (m k : State) (n i : ℕ) (line front : List ℕ) → m ≡ k → n ≡ i → IsCutShort plan m n line front → IsCutShort plan k i line front
-cut-along plan m k n i line front e f c =
-    subst (λ (number : ℕ). IsCutShort plan k number line front) f (subst (λ (meter : State). IsCutShort plan meter n line front) e c)
-
-pub Takes-then : (plan : Plan) (old mid new : Run) (a b : List ℕ) (w0 w1 w2 : Option (List ℕ)) (ls : List (List ℕ)) (e : LineFault)
-    → Advances plan old mid a w0 w1 ls → TakesPiece plan mid new b w1 w2 (Err e) → TakesPiece plan old new (a ++ b) w0 w2 (Err e)
-Takes-then plan old mid new a b w0 w1 w2 ls Read p q = absurd q
-Takes-then plan old mid new a b w0 w1 w2 ls Write p q = (
+pub Takes-then : (plan : Plan) (old mid new : Stage) (a b : List ℕ) (ls : List (List ℕ)) (e : LineFault)
+    → Advances plan old mid a [] ls → TakesPiece plan mid new b (Err e) → TakesPiece plan old new (a ++ b) (Err e)
+Takes-then plan old mid new a b ls Read p q = absurd q
+Takes-then plan old mid new a b ls Write p q = (
   ls ++ q.0,
   q.1,
   q.2,
-  q.3,
-  subst (Hears plan old (a ++ b) w0 w2 (ls ++ q.0) (ended q.1 ++ q.2)) (joined plan old mid ls q.0 q.3 p.meter)
-      (Hears-then plan old mid a b w0 w1 w2 ls q.0 (ended q.1 ++ q.2) (printed_from plan mid.meter q.0 ++ q.3) p q.4),
+  subst (Hears plan old (a ++ b) new.written q.2 (ls ++ q.0) q.1) (joined_all plan old.run.meter mid.run.meter ls q.0 p.meter)
+      (Hears-then plan old mid a b new.written q.2 ls q.0 q.1 (printed_from plan mid.run.meter q.0) p q.3),
+  q.4,
   q.5,
-  cut-along plan (meter_after plan mid.meter (tasks_of plan q.0)) (meter_after plan old.meter (tasks_of plan (ls ++ q.0))) (mid.count + length q.0 + 1) (old.count + length (ls ++ q.0) + 1) q.1 q.3
-      (ap (λ (m : State). meter_after plan m (tasks_of plan q.0)) p.meter ∙ sym (after-append plan old.meter ls q.0)) (omega (arith, p.count, length-append ls q.0)) q.6,
 )
-Takes-then plan old mid new a b w0 w1 w2 ls (Line n) p q = (
+Takes-then plan old mid new a b ls (Line n) p q = (
   ls ++ q.0,
   q.1,
   q.2,
-  subst (Hears plan old (a ++ b) w0 w2 (ls ++ q.0) (ended q.1 ++ q.2)) (joined plan old mid ls q.0 (unreadable_text n) p.meter)
-      (Hears-then plan old mid a b w0 w1 w2 ls q.0 (ended q.1 ++ q.2) (printed_from plan mid.meter q.0 ++ unreadable_text n) p q.3),
+  subst (Hears plan old (a ++ b) new.written new.run.waiting.items (ls ++ q.0) (ended q.1 ++ q.2)) (joined plan old.run.meter mid.run.meter ls q.0 (unreadable_text n) p.meter)
+      (Hears-then plan old mid a b new.written new.run.waiting.items ls q.0 (ended q.1 ++ q.2) (printed_from plan mid.run.meter q.0 ++ unreadable_text n) p q.3),
   q.4,
   q.5,
   omega (arith, p.count, q.6, length-append ls q.0),
 )
-Takes-then plan old mid new a b w0 w1 w2 ls Memory p q = (
+Takes-then plan old mid new a b ls Memory p q = (
   ls ++ q.0,
   q.1,
-  subst (Hears plan old (a ++ b) w0 w2 (ls ++ q.0) q.1) (joined_all plan old mid ls q.0 p.meter)
-      (Hears-then plan old mid a b w0 w1 w2 ls q.0 q.1 (printed_from plan mid.meter q.0) p q.2),
+  subst (Hears plan old (a ++ b) new.written new.run.waiting.items (ls ++ q.0) q.1) (joined_all plan old.run.meter mid.run.meter ls q.0 p.meter)
+      (Hears-then plan old mid a b new.written new.run.waiting.items ls q.0 q.1 (printed_from plan mid.run.meter q.0) p q.2),
 )
 
--- what lies behind is left
-Hears-more : (plan : Plan) (old : Run) (bytes more : List ℕ) (w0 w1 : Option (List ℕ)) (ls : List (List ℕ)) (rest text : List ℕ)
-    → Hears plan old bytes w0 w1 ls rest text → Hears plan old (bytes ++ more) w0 w1 ls (rest ++ more) text
-Hears-more plan old bytes more w0 w1 ls rest text h = record {
-  whole = sym (append_assoc old.line.items bytes more) ∙ ap (λ (t : List ℕ). t ++ more) h.whole ∙ append_assoc (text_of_lines ls) rest more;
-  each = h.each;
-  readable = h.readable;
-  wrote = h.wrote;
+-- ---- one line of a piece
+
+pub Advances-none : (plan : Plan) (now : Stage) (bytes : List ℕ) → IsLine now.held → IsState plan now.run.meter → Advances plan now now bytes bytes []
+Advances-none plan now bytes h k = record {
+  heard = record { whole = refl; each = All-nil IsLine; readable = All-nil (IsReadable plan); passes = Passes-none now.written now.run.waiting.items };
+  held = h;
+  meter = refl;
+  count = omega arith;
+  state = k;
 }
 
-pub Takes-more : (plan : Plan) (old new : Run) (bytes more : List ℕ) (w0 w1 : Option (List ℕ)) (e : LineFault)
-    → TakesPiece plan old new bytes w0 w1 (Err e) → TakesPiece plan old new (bytes ++ more) w0 w1 (Err e)
-Takes-more plan old new bytes more w0 w1 Read h = absurd h
-Takes-more plan old new bytes more w0 w1 Write h = (
-  h.0,
-  h.1,
-  h.2 ++ more,
-  h.3,
-  subst (λ (t : List ℕ). Hears plan old (bytes ++ more) w0 w1 h.0 t (printed_from plan old.meter h.0 ++ h.3)) (append_assoc (ended h.1) h.2 more)
-      (Hears-more plan old bytes more w0 w1 h.0 (ended h.1 ++ h.2) (printed_from plan old.meter h.0 ++ h.3) h.4),
-  h.5,
-  h.6,
-)
-Takes-more plan old new bytes more w0 w1 (Line n) h = (
-  h.0,
-  h.1,
-  h.2 ++ more,
-  subst (λ (t : List ℕ). Hears plan old (bytes ++ more) w0 w1 h.0 t (printed_from plan old.meter h.0 ++ unreadable_text n)) (append_assoc (ended h.1) h.2 more)
-      (Hears-more plan old bytes more w0 w1 h.0 (ended h.1 ++ h.2) (printed_from plan old.meter h.0 ++ unreadable_text n) h.3),
-  h.4,
-  h.5,
-  h.6,
-)
-Takes-more plan old new bytes more w0 w1 Memory h = (h.0, h.1 ++ more, Hears-more plan old bytes more w0 w1 h.0 h.1 (printed_from plan old.meter h.0) h.2)
+-- the bytes behind one line more
+behind-line : (ls : List (List ℕ)) (all left line behind : List ℕ) → all ≡ text_of_lines ls ++ left → left ≡ ended line ++ behind
+    → all ≡ text_of_lines (ls ++ line ∷ []) ++ behind
+behind-line ls all left line behind e f =
+    e ∙ ap (λ (t : List ℕ). text_of_lines ls ++ t) (f ∙ ap (λ (t : List ℕ). t ++ behind) (sym (append-nil (ended line))))
+    ∙ sym (append_assoc (text_of_lines ls) (ended line ++ []) behind) ∙ ap (λ (t : List ℕ). t ++ behind) (sym (flat_map-append ended ls (line ∷ [])))
 
--- ---- one byte
-
-pub line-stops : (plan : Plan) (old new : Run) (m : State) (byte : ℕ) (w0 w1 : Option (List ℕ)) (e : LineFault) → IsLine old.line.items → byte ≡ 10
-    → AnswersLine plan old.meter m (old.count + 1) old.line.items w0 w1 (Err e) → TakesPiece plan old new (byte ∷ []) w0 w1 (Err e)
-line-stops plan old new m byte w0 w1 Read l b h = absurd h
-line-stops plan old new m byte w0 w1 Write l b h = (
-  [],
-  old.line.items,
-  [],
-  h.0,
-  record { whole = ap (λ (x : ℕ). old.line.items ++ x ∷ []) b ∙ sym (append-nil (ended old.line.items)); each = All-nil IsLine; readable = All-nil (IsReadable plan); wrote = h.2 },
-  l,
-  cut-along plan old.meter old.meter (old.count + 1) (old.count + 0 + 1) old.line.items h.0 refl (omega arith) h.1,
-)
-line-stops plan old new m byte w0 w1 (Line n) l b h = (
-  [],
-  old.line.items,
-  [],
-  record { whole = ap (λ (x : ℕ). old.line.items ++ x ∷ []) b ∙ sym (append-nil (ended old.line.items)); each = All-nil IsLine; readable = All-nil (IsReadable plan); wrote = h.2 },
-  l,
-  h.0,
-  omega (arith, h.1),
-)
-line-stops plan old new m byte w0 w1 Memory l b h =
-    ([], old.line.items ++ byte ∷ [], record { whole = refl; each = All-nil IsLine; readable = All-nil (IsReadable plan); wrote = subst (λ (w : Option (List ℕ)). Appends w0 w []) (sym h) (Appends-nil w0) })
-
-pub line-ends : (plan : Plan) (old new : Run) (byte : ℕ) (w0 w1 : Option (List ℕ)) (u : Unit {0}) → IsLine old.line.items → byte ≡ 10
-    → AnswersLine plan old.meter new.meter (old.count + 1) old.line.items w0 w1 (Ok u) → new.line.items ≡ [] → new.count ≡ old.count + 1
-    → Advances plan old new (byte ∷ []) w0 w1 (old.line.items ∷ [])
-line-ends plan old new byte w0 w1 u l b h none count = record {
+-- the first line of the rest was answered
+pub line-answered : (plan : Plan) (old mid : Stage) (new : Run) (bytes rest : List ℕ) (ls : List (List ℕ)) (line behind : List ℕ) (u : Unit {0})
+    → Advances plan old mid bytes rest ls → IsSplit (mid.held ++ rest) line behind → AnswersLine plan mid.run new line (Ok u)
+    → Advances plan old (record { held = []; run = new; written = mid.written }) bytes behind (ls ++ line ∷ [])
+line-answered plan old mid new bytes rest ls line behind u p s h = record {
   heard = record {
-    whole = ap (λ (x : ℕ). old.line.items ++ x ∷ []) b ∙ sym (append-nil (ended old.line.items)) ∙ sym (append-nil (ended old.line.items ++ [])) ∙ ap (λ (t : List ℕ). (ended old.line.items ++ []) ++ t) (sym none);
-    each = All-cons IsLine old.line.items [] l (All-nil IsLine);
-    readable = All-cons (IsReadable plan) old.line.items [] h.0 (All-nil (IsReadable plan));
-    wrote = h.2;
+    whole = behind-line ls (old.held ++ bytes) (mid.held ++ rest) line behind p.heard.whole s.whole;
+    each = All-push IsLine ls line p.heard.each s.line_is;
+    readable = All-push (IsReadable plan) ls line p.heard.readable h.0;
+    passes = subst (Passes old.written old.run.waiting.items mid.written new.waiting.items) (joined_all plan old.run.meter mid.run.meter ls (line ∷ []) p.meter)
+        (Passes-then old.written mid.written mid.written old.run.waiting.items mid.run.waiting.items new.waiting.items (printed_from plan old.run.meter ls) (printed_from plan mid.run.meter (line ∷ []))
+        p.heard.passes (Passes-put mid.written mid.run.waiting.items new.waiting.items (printed_from plan mid.run.meter (line ∷ [])) h.2));
   };
-  held = subst IsLine (sym none) (All-nil (λ (x : ℕ). x ≢ 10));
-  meter = h.1;
-  count = count;
-  state = h.3;
+  held = All-nil (λ (x : ℕ). x ≢ 10);
+  meter = h.1 ∙ ap (λ (m : State). meter_after plan m (tasks_of plan (line ∷ []))) p.meter ∙ sym (after-append plan old.run.meter ls (line ∷ []));
+  count = omega (arith, p.count, h.3, length-append ls (line ∷ []));
+  state = h.4;
 }
 
--- a byte of a line is held
-pub byte-held : (plan : Plan) (old new : Run) (byte : ℕ) (w : Option (List ℕ)) → IsLine old.line.items → IsState plan old.meter → byte ≢ 10
-    → new.line.items ≡ old.line.items ++ byte ∷ [] → new.meter ≡ old.meter → new.count ≡ old.count → Advances plan old new (byte ∷ []) w w []
-byte-held plan old new byte w l k other items meter count = record {
-  heard = record { whole = sym items; each = All-nil IsLine; readable = All-nil (IsReadable plan); wrote = Appends-nil w };
-  held = subst IsLine (sym items) (All-push (λ (x : ℕ). x ≢ 10) old.line.items byte l other);
-  meter = meter;
-  count = omega (arith, count);
-  state = subst (IsState plan) (sym meter) k;
+-- what waited was written
+pub texts-written : (plan : Plan) (old mid new : Stage) (bytes rest : List ℕ) (ls : List (List ℕ)) → Advances plan old mid bytes rest ls
+    → new.held ≡ mid.held → new.run.meter ≡ mid.run.meter → new.run.count ≡ mid.run.count → new.run.waiting.items ≡ [] → Appends mid.written new.written mid.run.waiting.items
+    → Advances plan old new bytes rest ls
+texts-written plan old mid new bytes rest ls p held meter count none a = record {
+  heard = record {
+    whole = p.heard.whole ∙ ap (λ (t : List ℕ). text_of_lines ls ++ (t ++ rest)) (sym held);
+    each = p.heard.each;
+    readable = p.heard.readable;
+    passes = Passes-written old.written mid.written new.written old.run.waiting.items mid.run.waiting.items (printed_from plan old.run.meter ls) mid.run.waiting.items new.run.waiting.items
+        p.heard.passes (sym (ap (λ (t : List ℕ). mid.run.waiting.items ++ t) none ∙ append-nil mid.run.waiting.items)) a;
+  };
+  held = subst IsLine (sym held) p.held;
+  meter = meter ∙ p.meter;
+  count = omega (arith, p.count, count);
+  state = subst (IsState plan) (sym meter) p.state;
 }
+
+-- a write failed: of what waited a front was written
+pub write-stops : (plan : Plan) (old mid new : Stage) (bytes rest : List ℕ) (ls : List (List ℕ)) (front left : List ℕ) → Advances plan old mid bytes rest ls
+    → mid.run.waiting.items ≡ front ++ left → Appends mid.written new.written front → 0 < length left → new.run.waiting.items ≡ [] → TakesPiece plan old new bytes (Err Write)
+write-stops plan old mid new bytes rest ls front left p e a some none = (
+  ls,
+  mid.held ++ rest,
+  left,
+  record {
+    whole = p.heard.whole;
+    each = p.heard.each;
+    readable = p.heard.readable;
+    passes = Passes-written old.written mid.written new.written old.run.waiting.items mid.run.waiting.items (printed_from plan old.run.meter ls) front left p.heard.passes e a;
+  },
+  some,
+  none,
+)
+
+-- memory was refused, and what waits is as it was
+pub memory-stops : (plan : Plan) (old mid new : Stage) (bytes rest : List ℕ) (ls : List (List ℕ)) → Advances plan old mid bytes rest ls
+    → new.run.waiting.items ≡ mid.run.waiting.items → new.written ≡ mid.written → TakesPiece plan old new bytes (Err Memory)
+memory-stops plan old mid new bytes rest ls p waiting written = (
+  ls,
+  mid.held ++ rest,
+  record {
+    whole = p.heard.whole;
+    each = p.heard.each;
+    readable = p.heard.readable;
+    passes = subst (λ (w : Option (List ℕ)). Passes old.written old.run.waiting.items w new.run.waiting.items (printed_from plan old.run.meter ls)) (sym written)
+        (subst (λ (t : List ℕ). Passes old.written old.run.waiting.items mid.written t (printed_from plan old.run.meter ls)) (sym waiting) p.heard.passes);
+  },
+)
+
+-- the first line of the rest was not answered
+pub line-stops : (plan : Plan) (old mid new : Stage) (bytes rest : List ℕ) (ls : List (List ℕ)) (line behind : List ℕ) (e : LineFault)
+    → Advances plan old mid bytes rest ls → IsSplit (mid.held ++ rest) line behind → AnswersLine plan mid.run new.run line (Err e) → new.written ≡ mid.written
+    → TakesPiece plan old new bytes (Err e)
+line-stops plan old mid new bytes rest ls line behind Read p s h w = absurd h
+line-stops plan old mid new bytes rest ls line behind Write p s h w = absurd h
+line-stops plan old mid new bytes rest ls line behind (Line n) p s h w = (
+  ls,
+  line,
+  behind,
+  record {
+    whole = p.heard.whole ∙ ap (λ (t : List ℕ). text_of_lines ls ++ t) s.whole;
+    each = p.heard.each;
+    readable = p.heard.readable;
+    passes = subst (λ (v : Option (List ℕ)). Passes old.written old.run.waiting.items v new.run.waiting.items (printed_from plan old.run.meter ls ++ unreadable_text n)) (sym w)
+        (Passes-then old.written mid.written mid.written old.run.waiting.items mid.run.waiting.items new.run.waiting.items (printed_from plan old.run.meter ls) (unreadable_text n)
+        p.heard.passes (Passes-put mid.written mid.run.waiting.items new.run.waiting.items (unreadable_text n) h.2));
+  },
+  s.line_is,
+  h.0,
+  omega (arith, h.1, p.count),
+)
+line-stops plan old mid new bytes rest ls line behind Memory p s h w = memory-stops plan old mid new bytes rest ls p h w
 
 -- ---- counts
 
@@ -207,210 +251,12 @@ lines-short : (ls : List (List ℕ)) → length ls ≤ length (text_of_lines ls)
 lines-short [] = omega arith
 lines-short (l ∷ ls) = omega (arith, lines-short ls, length-append (ended l) (text_of_lines ls), length-append l (10 ∷ []))
 
-pub few-lines : (plan : Plan) (old new : Run) (bytes : List ℕ) (w0 w1 : Option (List ℕ)) (ls : List (List ℕ)) → Advances plan old new bytes w0 w1 ls
-    → new.count + length new.line.items ≤ old.count + length old.line.items + length bytes
-few-lines plan old new bytes w0 w1 ls p =
-    omega (arith, p.count, lines-short ls, ap (λ (t : List ℕ). length t) p.heard.whole, length-append old.line.items bytes, length-append (text_of_lines ls) new.line.items)
+pub few-lines : (plan : Plan) (old new : Stage) (bytes rest : List ℕ) (ls : List (List ℕ)) → Advances plan old new bytes rest ls
+    → new.run.count + length (new.held ++ rest) ≤ old.run.count + length old.held + length bytes
+few-lines plan old new bytes rest ls p =
+    omega (arith, p.count, lines-short ls, ap (λ (t : List ℕ). length t) p.heard.whole, length-append old.held bytes, length-append (text_of_lines ls) (new.held ++ rest))
 
-pub Advances-none : (plan : Plan) (run : Run) (w : Option (List ℕ)) → IsLine run.line.items → IsState plan run.meter → Advances plan run run [] w w []
-Advances-none plan run w h k = record {
-  heard = record { whole = append-nil run.line.items; each = All-nil IsLine; readable = All-nil (IsReadable plan); wrote = Appends-nil w };
-  held = h;
-  meter = refl;
-  count = omega arith;
-  state = k;
-}
-
--- ---- the loop of `run_lines`
-
-pub record Stands (plan : Plan) (before after : Moment) (run : Run) (total : ℕ) (first : Run) (bytes : List ℕ) (lines : List (List ℕ)) : Type 0 where
-  pub empty : first.line.items ≡ []
-  pub start : first.meter ≡ start plan
-  pub none : first.count ≡ 0
-  pub advances : Advances plan first run bytes before.written after.written lines
-  pub read : Consumes before.unread after.unread bytes
-  pub total_is : length bytes ≡ total
-
-pub stands-init : (plan : Plan) (m : Moment) (run : Run) → run.line.items ≡ [] → run.meter ≡ start plan → run.count ≡ 0 → IsState plan run.meter → Stands plan m m run 0 run [] []
-stands-init plan m run e s n k = record {
-  empty = e;
-  start = s;
-  none = n;
-  advances = Advances-none plan run m.written (subst IsLine (sym e) (All-nil (λ (x : ℕ). x ≢ 10))) k;
-  read = Consumes-nil m.unread;
-  total_is = refl;
-}
-
-abbrev pub moment : Option (List ℕ) → Option (List ℕ) → Moment
-moment unread written = record { unread = unread; written = written }
-
--- what was heard of all bytes
-heard_all : (plan : Plan) (before : Moment) (unread written : Option (List ℕ)) (first : Run) (bytes : List ℕ) (lines : List (List ℕ)) (rest text out : List ℕ)
-    → first.line.items ≡ [] → Hears plan first bytes before.written written lines rest text → Consumes before.unread unread bytes → text ≡ out → Heard plan before (moment unread written) lines rest out
-heard_all plan before unread written first bytes lines rest text out e h r same = record {
-  each = h.each;
-  readable = h.readable;
-  read = subst (Consumes before.unread unread) (ap (λ (t : List ℕ). t ++ bytes) (sym e) ∙ h.whole) r;
-  wrote = subst (Appends before.written written) same h.wrote;
-}
-
-from_start : (plan : Plan) (first : Run) (lines : List (List ℕ)) → first.meter ≡ start plan → printed_from plan first.meter lines ≡ printed plan lines
-from_start plan first lines s = ap (λ (m : State). printed_from plan m lines) s ∙ printed_from-start plan lines
-
-pub stops-reading : (plan : Plan) (before m : Moment) (run : Run) (total : ℕ) (first : Run) (bytes : List ℕ) (lines : List (List ℕ)) (unread : Option (List ℕ))
-    → Stands plan before m run total first bytes lines → Keeps m.unread unread → Stops plan before (moment unread m.written) Read
-stops-reading plan before m run total first bytes lines unread s k = (
-  lines,
-  run.line.items,
-  heard_all plan before unread m.written first bytes lines run.line.items (printed_from plan first.meter lines) (printed plan lines) s.empty s.advances.heard (Consumes-kept before.unread m.unread unread bytes s.read k) (from_start plan first lines s.start),
-  inl s.advances.held,
-)
-
-pub stops-counting : (plan : Plan) (before m : Moment) (run : Run) (total : ℕ) (first : Run) (bytes : List ℕ) (lines : List (List ℕ)) (unread : Option (List ℕ)) (piece : List ℕ)
-    → Stands plan before m run total first bytes lines → Consumes m.unread unread piece → 2 ^ 64 ≤ total + length piece → Stops plan before (moment unread m.written) Read
-stops-counting plan before m run total first bytes lines unread piece s k long =
-    let more = Hears-more plan first bytes piece before.written m.written lines run.line.items (printed_from plan first.meter lines) s.advances.heard in (
-      lines,
-      run.line.items ++ piece,
-      heard_all plan before unread m.written first (bytes ++ piece) lines (run.line.items ++ piece) (printed_from plan first.meter lines) (printed plan lines) s.empty more (Consumes-trans before.unread m.unread unread bytes piece s.read k) (from_start plan first lines s.start),
-      inr (omega (arith, s.total_is, ap (λ (t : List ℕ). length t) more.whole, ap (λ (t : List ℕ). length t) s.empty, length-append first.line.items (bytes ++ piece), length-append bytes piece)),
-    )
-
-pub piece-stands : (plan : Plan) (before m : Moment) (run new : Run) (total sum : ℕ) (first : Run) (bytes : List ℕ) (lines : List (List ℕ)) (unread written : Option (List ℕ)) (piece : List ℕ) (u : Unit {0})
-    → Stands plan before m run total first bytes lines → Consumes m.unread unread piece → TakesPiece plan run new piece m.written written (Ok u) → sum ≡ total + length piece
-    → (f : Run) × (bs : List ℕ) × (ls : List (List ℕ)) × Stands plan before (moment unread written) new sum f bs ls
-piece-stands plan before m run new total sum first bytes lines unread written piece u s k t n = (
-  first,
-  bytes ++ piece,
-  lines ++ t.0,
-  record {
-    empty = s.empty;
-    start = s.start;
-    none = s.none;
-    advances = Advances-then plan first run new bytes piece before.written m.written written lines t.0 s.advances t.1;
-    read = Consumes-trans before.unread m.unread unread bytes piece s.read k;
-    total_is = omega (arith, n, s.total_is, length-append bytes piece);
-  },
-)
-
--- what is written for a line behind others, from the start on
-text-behind : (plan : Plan) (first : Run) (ls : List (List ℕ)) (line text : List ℕ) (n : ℕ) → first.meter ≡ start plan → n ≡ length ls + 1
-    → IsTextOfLine plan (meter_after plan first.meter (tasks_of plan ls)) n line text → IsTextFor plan ls line text
-text-behind plan first ls line text n s e t =
-    elim t [
-      | inl w ↦ inl (sym (from_start plan first (ls ++ line ∷ []) s) ∙ printed_from-append plan first.meter ls (line ∷ [])
-          ∙ ap (λ (x : List ℕ). printed_from plan first.meter ls ++ x) w ∙ ap (λ (x : List ℕ). x ++ text) (from_start plan first ls s))
-      | inr w ↦ inr (w.0, w.1 ∙ ap unreadable_text e)
-    ]
-
-stops-told : (plan : Plan) (before : Moment) (unread written : Option (List ℕ)) (first new : Run) (bytes : List ℕ) (e : LineFault)
-    → first.line.items ≡ [] → first.meter ≡ start plan → first.count ≡ 0 → Consumes before.unread unread bytes → TakesPiece plan first new bytes before.written written (Err e) → Stops plan before (moment unread written) e
-stops-told plan before unread written first new bytes Read e s n r h = absurd h
-stops-told plan before unread written first new bytes Write e s n r h = (
-  h.0,
-  ended h.1 ++ h.2,
-  h.1,
-  h.3,
-  h.6.left,
-  heard_all plan before unread written first bytes h.0 (ended h.1 ++ h.2) (printed_from plan first.meter h.0 ++ h.3) (printed plan h.0 ++ h.3) e h.4 r (ap (λ (t : List ℕ). t ++ h.3) (from_start plan first h.0 s)),
-  (h.5, inl (h.2, refl)),
-  text-behind plan first h.0 h.1 (h.3 ++ h.6.left) (first.count + length h.0 + 1) s (omega (arith, n)) h.6.text,
-  h.6.some,
-)
-stops-told plan before unread written first new bytes (Line k) e s n r h = (
-  h.0,
-  ended h.1 ++ h.2,
-  h.1,
-  heard_all plan before unread written first bytes h.0 (ended h.1 ++ h.2) (printed_from plan first.meter h.0 ++ unreadable_text k) (printed plan h.0 ++ unreadable_text k) e h.3 r (ap (λ (t : List ℕ). t ++ unreadable_text k) (from_start plan first h.0 s)),
-  (h.4, inl (h.2, refl)),
-  h.5,
-  omega (arith, h.6, n),
-)
-stops-told plan before unread written first new bytes Memory e s n r h =
-    (h.0, h.1, heard_all plan before unread written first bytes h.0 h.1 (printed_from plan first.meter h.0) (printed plan h.0) e h.2 r (from_start plan first h.0 s))
-
-pub piece-stops : (plan : Plan) (before m : Moment) (run new : Run) (total : ℕ) (first : Run) (bytes : List ℕ) (lines : List (List ℕ)) (unread written : Option (List ℕ)) (piece : List ℕ) (e : LineFault)
-    → Stands plan before m run total first bytes lines → Consumes m.unread unread piece → TakesPiece plan run new piece m.written written (Err e) → Stops plan before (moment unread written) e
-piece-stops plan before m run new total first bytes lines unread written piece e s k t =
-    stops-told plan before unread written first new (bytes ++ piece) e s.empty s.start s.none (Consumes-trans before.unread m.unread unread bytes piece s.read k)
-    (Takes-then plan first run new bytes piece before.written m.written written lines e s.advances t)
-
--- ---- the end of the input
-
-with_last-append : (ls : List (List ℕ)) (last : List ℕ) → ls ++ with_last [] last ≡ with_last ls last
-with_last-append ls [] = append-nil ls
-with_last-append ls (b ∷ bs) = refl
-
-pub run-ends : (plan : Plan) (before m : Moment) (run : Run) (total : ℕ) (first : Run) (bytes : List ℕ) (lines : List (List ℕ)) (unread written : Option (List ℕ)) (r : Result ℕ LineFault)
-    → Stands plan before m run total first bytes lines → Consumes m.unread unread [] → IsAtEnd unread → EndsRun plan run m.written written r → RunsLines plan before (moment unread written) r
-run-ends plan before m run total first bytes lines unread written (Ok count) s k end h =
-    let read = subst (Consumes before.unread unread) (append-nil bytes) (Consumes-trans before.unread m.unread unread bytes [] s.read k) in
-    let more : Hears plan first bytes before.written written lines run.line.items (printed_from plan first.meter lines ++ printed_from plan run.meter (with_last [] run.line.items)) = record {
-      whole = s.advances.heard.whole;
-      each = s.advances.heard.each;
-      readable = s.advances.heard.readable;
-      wrote = Appends-trans before.written m.written written (printed_from plan first.meter lines) (printed_from plan run.meter (with_last [] run.line.items)) s.advances.heard.wrote h.1;
-    } in
-    let text = joined_all plan first run lines (with_last [] run.line.items) s.advances.meter ∙ ap (printed_from plan first.meter) (with_last-append lines run.line.items) ∙ from_start plan first (with_last lines run.line.items) s.start in (
-      lines,
-      run.line.items,
-      heard_all plan before unread written first bytes lines run.line.items (printed_from plan first.meter lines ++ printed_from plan run.meter (with_last [] run.line.items)) (printed plan (with_last lines run.line.items)) s.empty more read text,
-      s.advances.held,
-      h.0,
-      end,
-      omega (arith, h.2, s.advances.count, s.none, length-append lines (with_last [] run.line.items), ap (λ (ls : List (List ℕ)). length ls) (with_last-append lines run.line.items)),
-    )
-run-ends plan before m run total first bytes lines unread written (Err Read) s k end h = absurd h
-run-ends plan before m run total first bytes lines unread written (Err Write) s k end h =
-    let read = subst (Consumes before.unread unread) (append-nil bytes) (Consumes-trans before.unread m.unread unread bytes [] s.read k) in
-    let more : Hears plan first bytes before.written written lines run.line.items (printed_from plan first.meter lines ++ h.0) = record {
-      whole = s.advances.heard.whole;
-      each = s.advances.heard.each;
-      readable = s.advances.heard.readable;
-      wrote = Appends-trans before.written m.written written (printed_from plan first.meter lines) h.0 s.advances.heard.wrote h.2;
-    } in
-    let cut = cut-along plan run.meter (meter_after plan first.meter (tasks_of plan lines)) (run.count + 1) (length lines + 1) run.line.items h.0 s.advances.meter (omega (arith, s.advances.count, s.none)) h.1 in (
-      lines,
-      run.line.items,
-      run.line.items,
-      h.0,
-      cut.left,
-      heard_all plan before unread written first bytes lines run.line.items (printed_from plan first.meter lines ++ h.0) (printed plan lines ++ h.0) s.empty more read (ap (λ (t : List ℕ). t ++ h.0) (from_start plan first lines s.start)),
-      (s.advances.held, inr (refl, h.3, end)),
-      text-behind plan first lines run.line.items (h.0 ++ cut.left) (length lines + 1) s.start refl cut.text,
-      cut.some,
-    )
-run-ends plan before m run total first bytes lines unread written (Err (Line n)) s k end h =
-    let read = subst (Consumes before.unread unread) (append-nil bytes) (Consumes-trans before.unread m.unread unread bytes [] s.read k) in
-    let more : Hears plan first bytes before.written written lines run.line.items (printed_from plan first.meter lines ++ unreadable_text n) = record {
-      whole = s.advances.heard.whole;
-      each = s.advances.heard.each;
-      readable = s.advances.heard.readable;
-      wrote = Appends-trans before.written m.written written (printed_from plan first.meter lines) (unreadable_text n) s.advances.heard.wrote h.2;
-    } in (
-      lines,
-      run.line.items,
-      run.line.items,
-      heard_all plan before unread written first bytes lines run.line.items (printed_from plan first.meter lines ++ unreadable_text n) (printed plan lines ++ unreadable_text n) s.empty more read (ap (λ (t : List ℕ). t ++ unreadable_text n) (from_start plan first lines s.start)),
-      (s.advances.held, inr (refl, h.3, end)),
-      h.0,
-      omega (arith, h.1, s.advances.count, s.none),
-    )
-run-ends plan before m run total first bytes lines unread written (Err Memory) s k end h =
-    let read = subst (Consumes before.unread unread) (append-nil bytes) (Consumes-trans before.unread m.unread unread bytes [] s.read k) in
-    let more : Hears plan first bytes before.written written lines run.line.items (printed_from plan first.meter lines) = record {
-      whole = s.advances.heard.whole;
-      each = s.advances.heard.each;
-      readable = s.advances.heard.readable;
-      wrote = subst (λ (w : Option (List ℕ)). Appends before.written w (printed_from plan first.meter lines)) (sym h) s.advances.heard.wrote;
-    } in
-    (lines, run.line.items, heard_all plan before unread written first bytes lines run.line.items (printed_from plan first.meter lines) (printed plan lines) s.empty more read (from_start plan first lines s.start))
-
--- nothing was read
-pub stops-at_start : (plan : Plan) (m : Moment) → Stops plan m m Memory
-stops-at_start plan m = ([], [], record { each = All-nil IsLine; readable = All-nil (IsReadable plan); read = Consumes-nil m.unread; wrote = Appends-nil m.written })
-
-pub stands-few : (plan : Plan) (before m : Moment) (run : Run) (total : ℕ) (first : Run) (bytes : List ℕ) (lines : List (List ℕ))
-    → Stands plan before m run total first bytes lines → run.count + length run.line.items ≤ total
-stands-few plan before m run total first bytes lines s =
-    omega (arith, few-lines plan first run bytes before.written m.written lines s.advances, s.none, s.total_is, ap (λ (t : List ℕ). length t) s.empty)
+-- a line of the rest has a place
+pub one-fits : (bytes line behind : List ℕ) → IsSplit bytes line behind → 1 ≤ length bytes
+one-fits bytes line behind s =
+    omega (arith, ap (λ (t : List ℕ). length t) s.whole, length-append (ended line) behind, length-append line (10 ∷ []))

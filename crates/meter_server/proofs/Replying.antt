@@ -22,7 +22,7 @@ use Rattle.xdlms_services.specs.declared.writing.Service.{Service}
 use Rattle.xdlms_services.specs.declared.writing.Service.TheVariants as services
 use Rattle.xdlms_services.specs.Reading.{request_at}
 use Rattle.xdlms_services.specs.Replies.{CanWrite, canonical_reply}
-use Rattle.meter_server.specs.declared.answering.Ask.{Ask}
+use Rattle.meter_server.specs.Asking.{Ask}
 use Rattle.meter_server.specs.Answering.{service_of, invoke_of, step_of_request, reply_bytes, replied_with, next_by, reply_by, next_of, reply_of_ask, exception, Task, Answer, Take, steps_of, apdus_from, apdus_of}
 use Rattle.meter_server.specs.Spelling.{reply_text}
 use Rattle.meter_server.specs.Running.{tasks_of, printed}

@@ -15,7 +15,7 @@ use Rattle.xdlms_services.specs.declared.request.Request.TheVariants as requests
 use Rattle.xdlms_services.specs.declared.writing.Service.{Service}
 use Rattle.xdlms_services.specs.declared.writing.Service.TheVariants as services
 use Rattle.xdlms_services.specs.Reading.{request_at}
-use Rattle.meter_server.specs.declared.answering.Ask.{Ask}
+use Rattle.meter_server.specs.Asking.{Ask}
 
 -- the service that a request asks for (IEC 62056-5-3, GET, SET and ACTION)
 abbrev pub service_of : Request → Service

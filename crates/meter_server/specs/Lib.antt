@@ -1,8 +1,10 @@
+pub mod Asking
 pub mod Answering
 pub mod Words
 pub mod Spelling
 pub mod Driving
 pub mod Running
+pub mod Feeding
 pub mod Pieces
 pub mod Verdicts
 pub mod Faults

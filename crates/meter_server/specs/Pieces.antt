@@ -1,5 +1,5 @@
 -- A run of lines in the order in which its bytes come: what the parts of the runner do. All of it is own profile.
-use Rattle.std.specs.Prelude.{◌≡◌, ℕ, ◌+◌, ◌<◌, List, [], ◌∷◌, ◌++◌, length, Option, All, ◌⊎◌, Result, Ok, Err}
+use Rattle.std.specs.Prelude.{◌≡◌, ℕ, ◌+◌, ◌<◌, List, [], ◌∷◌, ◌++◌, length, Option, Some, All, Result, Ok, Err}
 use Rattle.std.specs.List.{flat_map}
 use Rattle.std.specs.Io.KnownBytes.{Appends}
 use Rattle.meter_theory.specs.Plan.{Plan}
@@ -12,7 +12,7 @@ use Rattle.meter_server.specs.declared.running.LineFault.{LineFault}
 use Rattle.meter_server.specs.declared.running.LineFault.TheVariants.{Read, Write, Line, Memory}
 use Rattle.meter_server.specs.declared.running.Run.{Run}
 use Rattle.meter_server.specs.Spelling.{line_of, reply_text, unreadable_text}
-use Rattle.meter_server.specs.Running.{IsLine, ended, text_of_lines, with_last, IsReadable, tasks_of}
+use Rattle.meter_server.specs.Running.{IsLine, ended, text_of_lines, with_last, IsReadable, tasks_of, Moment, Stops, RunsLines}
 
 -- the meter after a task (own profile)
 abbrev pub next_by_task : Plan → State → Task → State
@@ -34,65 +34,76 @@ replies_to plan meter (Take step ∷ tasks) = replies_to plan (next plan meter s
 abbrev pub printed_from : Plan → State → List (List ℕ) → List ℕ
 printed_from plan meter lines = flat_map reply_text (replies_to plan meter (tasks_of plan lines))
 
--- what is written for a line with this number: the replies to what it asks of this meter, or that it is unreadable (own profile)
-abbrev pub IsTextOfLine : Plan → State → ℕ → List ℕ → List ℕ → Type 0
-IsTextOfLine plan meter number line text =
-    (printed_from plan meter (line ∷ []) ≡ text) ⊎ ((line_of plan line ≡ Unreadable) × (text ≡ unreadable_text number))
+-- One line
 
--- this is a beginning of what is written for the line, and something is left of it (own profile)
-pub record IsCutShort (plan : Plan) (meter : State) (number : ℕ) (line front : List ℕ) : Type 0 where
-  pub left : List ℕ
-  pub some : 0 < length left
-  pub text : IsTextOfLine plan meter number line (front ++ left)
+-- one line was answered, and its text put behind those that wait (own profile)
+abbrev pub AnswersLine : Plan → Run → Run → List ℕ → Result (Unit {0}) LineFault → Type 0
+AnswersLine plan old new line (Ok u) =
+    IsReadable plan line × (new.meter ≡ meter_after plan old.meter (tasks_of plan (line ∷ [])))
+    × (new.waiting.items ≡ old.waiting.items ++ printed_from plan old.meter (line ∷ [])) × (new.count ≡ old.count + 1) × IsState plan new.meter
+AnswersLine plan old new line (Err Read) = ⊥
+AnswersLine plan old new line (Err Write) = ⊥
+AnswersLine plan old new line (Err (Line number)) =
+    (line_of plan line ≡ Unreadable) × (number ≡ old.count + 1) × (new.waiting.items ≡ old.waiting.items ++ unreadable_text number)
+AnswersLine plan old new line (Err Memory) = new.waiting.items ≡ old.waiting.items
 
--- one line with this number was answered (own profile)
-abbrev pub AnswersLine : Plan → State → State → ℕ → List ℕ → Option (List ℕ) → Option (List ℕ) → Result (Unit {0}) LineFault → Type 0
-AnswersLine plan old new number line before after (Ok u) =
-    IsReadable plan line × (new ≡ meter_after plan old (tasks_of plan (line ∷ []))) × Appends before after (printed_from plan old (line ∷ [])) × IsState plan new
-AnswersLine plan old new number line before after (Err Read) = ⊥
-AnswersLine plan old new number line before after (Err Write) =
-    (front : List ℕ) × IsCutShort plan old number line front × Appends before after front
-AnswersLine plan old new number line before after (Err (Line n)) =
-    (line_of plan line ≡ Unreadable) × (n ≡ number) × Appends before after (unreadable_text n)
-AnswersLine plan old new number line before after (Err Memory) = after ≡ before
+-- the line that the input ends was answered, if there is one, and its text put behind those that wait (own profile)
+abbrev pub EndsRun : Plan → Run → Run → List ℕ → Result ℕ LineFault → Type 0
+EndsRun plan old new last (Ok count) =
+    IsReadable plan last × (new.waiting.items ≡ old.waiting.items ++ printed_from plan old.meter (with_last [] last)) × (count ≡ old.count + length (with_last [] last))
+EndsRun plan old new last (Err Read) = ⊥
+EndsRun plan old new last (Err Write) = ⊥
+EndsRun plan old new last (Err (Line number)) =
+    (line_of plan last ≡ Unreadable) × (number ≡ old.count + 1) × (new.waiting.items ≡ old.waiting.items ++ unreadable_text number) × (0 < length last)
+EndsRun plan old new last (Err Memory) = new.waiting.items ≡ old.waiting.items
 
--- from a run and some bytes on, these lines were ended and this text was written; the rest is left (own profile)
-pub record Hears (plan : Plan) (old : Run) (bytes : List ℕ) (before after : Option (List ℕ)) (lines : List (List ℕ)) (rest text : List ℕ) : Type 0 where
-  pub whole : old.line.items ++ bytes ≡ text_of_lines lines ++ rest
+-- Many lines
+
+-- what is held of a line that has begun, the run, and what the writer holds, where that is known (own profile)
+pub record Stage : Type 0 where
+  pub held : List ℕ
+  pub run : Run
+  pub written : Option (List ℕ)
+
+-- of the texts that waited and this one behind them, a front was written and these are left (own profile)
+abbrev pub Passes : Option (List ℕ) → List ℕ → Option (List ℕ) → List ℕ → List ℕ → Type 0
+Passes before waiting after left text = (front : List ℕ) × Appends before after front × (waiting ++ text ≡ front ++ left)
+
+-- from a stage and some bytes on, these lines were ended and what is left of their text waits; the rest of the bytes is left (own profile)
+pub record Hears (plan : Plan) (old : Stage) (bytes : List ℕ) (after : Option (List ℕ)) (left : List ℕ) (lines : List (List ℕ)) (rest text : List ℕ) : Type 0 where
+  pub whole : old.held ++ bytes ≡ text_of_lines lines ++ rest
   pub each : All IsLine lines
   pub readable : All (IsReadable plan) lines
-  pub wrote : Appends before after text
+  pub passes : Passes old.written old.run.waiting.items after left text
 
--- by these bytes the run ended these lines, answered them, and holds what has begun of the next (own profile)
-pub record Advances (plan : Plan) (old new : Run) (bytes : List ℕ) (before after : Option (List ℕ)) (lines : List (List ℕ)) : Type 0 where
-  pub heard : Hears plan old bytes before after lines new.line.items (printed_from plan old.meter lines)
-  pub held : IsLine new.line.items
-  pub meter : new.meter ≡ meter_after plan old.meter (tasks_of plan lines)
-  pub count : new.count ≡ old.count + length lines
-  pub state : IsState plan new.meter
+-- of these bytes, of which the rest is left, the run ended these lines, answered them, and holds what has begun of the next (own profile)
+pub record Advances (plan : Plan) (old new : Stage) (bytes rest : List ℕ) (lines : List (List ℕ)) : Type 0 where
+  pub heard : Hears plan old bytes new.written new.run.waiting.items lines (new.held ++ rest) (printed_from plan old.run.meter lines)
+  pub held : IsLine new.held
+  pub meter : new.run.meter ≡ meter_after plan old.run.meter (tasks_of plan lines)
+  pub count : new.run.count ≡ old.run.count + length lines
+  pub state : IsState plan new.run.meter
 
 -- what a run does with some bytes (own profile)
-abbrev pub TakesPiece : Plan → Run → Run → List ℕ → Option (List ℕ) → Option (List ℕ) → Result (Unit {0}) LineFault → Type 0
-TakesPiece plan old new bytes before after (Ok u) = (lines : List (List ℕ)) × Advances plan old new bytes before after lines
-TakesPiece plan old new bytes before after (Err Read) = ⊥
-TakesPiece plan old new bytes before after (Err Write) =
-    (lines : List (List ℕ)) × (line : List ℕ) × (more : List ℕ) × (front : List ℕ)
-    × Hears plan old bytes before after lines (ended line ++ more) (printed_from plan old.meter lines ++ front)
-    × IsLine line × IsCutShort plan (meter_after plan old.meter (tasks_of plan lines)) (old.count + length lines + 1) line front
-TakesPiece plan old new bytes before after (Err (Line number)) =
+abbrev pub TakesPiece : Plan → Stage → Stage → List ℕ → Result (Unit {0}) LineFault → Type 0
+TakesPiece plan old new bytes (Ok u) = (lines : List (List ℕ)) × Advances plan old new bytes [] lines
+TakesPiece plan old new bytes (Err Read) = ⊥
+TakesPiece plan old new bytes (Err Write) =
+    (lines : List (List ℕ)) × (rest : List ℕ) × (left : List ℕ)
+    × Hears plan old bytes new.written left lines rest (printed_from plan old.run.meter lines) × (0 < length left) × (new.run.waiting.items ≡ [])
+TakesPiece plan old new bytes (Err (Line number)) =
     (lines : List (List ℕ)) × (line : List ℕ) × (more : List ℕ)
-    × Hears plan old bytes before after lines (ended line ++ more) (printed_from plan old.meter lines ++ unreadable_text number)
-    × IsLine line × (line_of plan line ≡ Unreadable) × (number ≡ old.count + length lines + 1)
-TakesPiece plan old new bytes before after (Err Memory) =
-    (lines : List (List ℕ)) × (rest : List ℕ) × Hears plan old bytes before after lines rest (printed_from plan old.meter lines)
+    × Hears plan old bytes new.written new.run.waiting.items lines (ended line ++ more) (printed_from plan old.run.meter lines ++ unreadable_text number)
+    × IsLine line × (line_of plan line ≡ Unreadable) × (number ≡ old.run.count + length lines + 1)
+TakesPiece plan old new bytes (Err Memory) =
+    (lines : List (List ℕ)) × (rest : List ℕ) × Hears plan old bytes new.written new.run.waiting.items lines rest (printed_from plan old.run.meter lines)
 
--- the line that the input ends was answered, if there is one (own profile)
-abbrev pub EndsRun : Plan → Run → Option (List ℕ) → Option (List ℕ) → Result ℕ LineFault → Type 0
-EndsRun plan run before after (Ok count) =
-    IsReadable plan run.line.items × Appends before after (printed_from plan run.meter (with_last [] run.line.items)) × (count ≡ run.count + length (with_last [] run.line.items))
-EndsRun plan run before after (Err Read) = ⊥
-EndsRun plan run before after (Err Write) =
-    (front : List ℕ) × IsCutShort plan run.meter (run.count + 1) run.line.items front × Appends before after front × (0 < length run.line.items)
-EndsRun plan run before after (Err (Line number)) =
-    (line_of plan run.line.items ≡ Unreadable) × (number ≡ run.count + 1) × Appends before after (unreadable_text number) × (0 < length run.line.items)
-EndsRun plan run before after (Err Memory) = after ≡ before
+-- the same moment, but that this is all that was written
+abbrev pub writing : Moment → List ℕ → Moment
+writing moment text = record { unread = moment.unread; written = Some text }
+
+-- the lines were answered so: of the text that a run of lines writes a front was written and the rest waits; or a write failed, and nothing waits (own profile)
+abbrev pub AnswersInput : Plan → Moment → Moment → List ℕ → Result ℕ LineFault → Type 0
+AnswersInput plan before after waiting (Err Write) = Stops plan before after Write × (waiting ≡ [])
+AnswersInput plan before after waiting ended =
+    (front : List ℕ) × Appends before.written after.written front × RunsLines plan (writing before []) (writing after (front ++ waiting)) ended

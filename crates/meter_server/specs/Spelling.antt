@@ -1,9 +1,8 @@
 -- What a line says, and what is written.
 use Rattle.std.specs.Prelude.{ℕ, ◌+◌, ◌==◌, List, [], ◌∷◌, ◌++◌, take, drop, codes, position, Option, Some, None, if◌then◌else◌}
 use Rattle.std.specs.Fmt.{decimal}
-use Rattle.std.specs.Result.{result_ok}
 use Rattle.std.specs.Str.{bytes_eq}
-use Rattle.hex.specs.Hex.{decode_of, encode_upper}
+use Rattle.hex.specs.Hex.{encode_upper}
 use Rattle.cosem_data.specs.Tree.{Tree}
 use Rattle.cosem_data.specs.View.{data_of}
 use Rattle.cosem_data.specs.Cells.{cell}
@@ -11,8 +10,7 @@ use Rattle.cosem_data.specs.declared.name.LogicalName.{LogicalName}
 use Rattle.cosem_data.specs.declared.cell.CellRef.{CellRef}
 use Rattle.meter_theory.specs.Plan.{Plan, Object, class_of, client_named, object_at}
 use Rattle.meter_theory.specs.Times.{Moment}
-use Rattle.config_plan.specs.Names.{name_in}
-use Rattle.config_plan.specs.Values.{value_in}
+use Rattle.value_text.specs.Texts.{name_in, bytes_in, value_in}
 use Rattle.meter_server.specs.Words.{moment_in}
 use Rattle.meter_server.specs.declared.line.Line.{Line}
 use Rattle.meter_server.specs.declared.line.Line.TheVariants.{Skipped, Ask, Input, Evaluate, At, Unreadable}
@@ -55,7 +53,7 @@ ask_of client (Some (b ∷ bs)) = Ask (record { client = client; apdu = b ∷ bs
 -- what follows the space: hex digits in either case, two a byte (own profile)
 abbrev pub asked_by : Option ℕ → List ℕ → Line
 asked_by None text = Unreadable
-asked_by (Some client) text = ask_of client (result_ok (decode_of text))
+asked_by (Some client) text = ask_of client (bytes_in text)
 
 -- the place of the first space
 abbrev pub first_space : List ℕ → Option ℕ

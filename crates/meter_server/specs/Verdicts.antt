@@ -1,9 +1,9 @@
 -- What is printed of a verdict.
 use Rattle.std.specs.Prelude.{◌++◌, List, ℕ, codes, string_bytes}
 use Rattle.std.specs.Fmt.{decimal}
-use Rattle.config_parts.specs.Fault.{number_of}
-use Rattle.config_parts.specs.declared.fault.ConfigFault.{ConfigFault}
-use Rattle.config_parts.specs.declared.fault.ConfigFault.TheVariants as faults
+use Rattle.config_text.specs.Fault.{number_of}
+use Rattle.config_text.specs.declared.fault.ConfigFault.{ConfigFault}
+use Rattle.config_text.specs.declared.fault.ConfigFault.TheVariants as faults
 use Rattle.meter_server.specs.declared.verdict.Verdict.{Verdict}
 use Rattle.meter_server.specs.declared.verdict.Verdict.TheVariants as verdicts
 

@@ -84,6 +84,6 @@ fn offered(object: &Object, moment: Moment) -> Option<Step>
             schedule: name,
             moment,
         }),
-        Part::Data { .. } | Part::Register(_) | Part::ScriptTable(_) => None,
+        Part::Data(_) | Part::Register(_) | Part::ScriptTable(_) => None,
     }
 }

@@ -4,6 +4,7 @@
 
 mod answering;
 mod driving;
+pub mod feeding;
 mod line;
 pub mod program;
 pub mod running;

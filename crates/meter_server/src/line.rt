@@ -1,28 +1,30 @@
-ghost use Rattle.std.specs.Prelude.{◌≡◌, ◌<◌, IfOk, IfSome, Some, length, option_map};
+ghost use Rattle.std.specs.Prelude.{◌≡◌, ◌<◌, IfOk, IfSome, None, Some, cond, length, option_map};
+ghost use Rattle.std.specs.Result.{result_ok};
+ghost use Rattle.hex.specs.Hex.{decode_of};
 ghost use Rattle.cosem_data.specs.View.{tree};
 ghost use Rattle.meter_theory.specs.Plan.{object_at};
 ghost use Rattle.meter_server.specs.Spelling as spec;
 ghost use Rattle.meter_server.specs.Spelling.{line_of};
 
 use crate::answering::Ask;
-use crate::words::{moment_in, name_in, value_in};
+use crate::words::moment_in;
 use civil_moment::moment::Moment;
-use cosem_data::bytes::Bytes;
 use cosem_data::cell::CellRef;
 use cosem_data::data::Data;
 use cosem_data::memory::Memory;
 use cosem_data::name::LogicalName;
-use hex::FromHexError;
 use object_model::plan::Plan;
 use std::alloc::Global;
+use value_text::name::name_in;
+use value_text::value::value_in;
 
 /// What a line says.
 #[derive(Debug, Drop)]
-pub enum Line {
+pub enum Line<'a> {
     /// Nothing: an empty line, or one that begins with `#`.
     Skipped,
     /// `CLIENT HEX`: the client with this name sends this APDU, of at least one byte.
-    Ask(Ask),
+    Ask(Ask<'a>),
     /// `in NAME HEX`: this value comes from outside into this cell, attribute 2 of the object with this name.
     Input { cell: CellRef, value: Data },
     /// `eval NAME`: the register monitor with this name is evaluated.
@@ -44,8 +46,14 @@ const EVALUATE: &[u8] = b"eval";
 
 const AT: &[u8] = b"at";
 
-/// What a line says; the byte that ends it is no part of it. The only error is want of memory.
-pub fn read_line(alloc: Global, plan: &Plan, line: &[u8]) -> Result<Line, Memory>
+/// What a line says; the byte that ends it is no part of it. An APDU is decoded into the room, whatever it holds. The only
+/// error is want of memory.
+pub fn read_line<'a>(
+    alloc: Global,
+    plan: &Plan,
+    line: &[u8],
+    room: &'a mut Vec<u8>,
+) -> Result<Line<'a>, Memory>
     ensures { IfOk result (λ x. x ≡ line_of plan.now line.now) }
 {
     let Some((first, _)) = line.split_first() else {
@@ -54,7 +62,7 @@ pub fn read_line(alloc: Global, plan: &Plan, line: &[u8]) -> Result<Line, Memory
     if *first == HASH {
         return Ok(Line::Skipped);
     }
-    said_at(alloc, plan, line, first_space(line))
+    said_at(alloc, plan, line, first_space(line), room)
 }
 
 /// The place of the first space.
@@ -66,18 +74,30 @@ fn first_space(text: &[u8]) -> Option<usize>
 }
 
 /// What a line says that has its first space at this place.
-fn said_at(alloc: Global, plan: &Plan, line: &[u8], space: Option<usize>) -> Result<Line, Memory>
+fn said_at<'a>(
+    alloc: Global,
+    plan: &Plan,
+    line: &[u8],
+    space: Option<usize>,
+    room: &'a mut Vec<u8>,
+) -> Result<Line<'a>, Memory>
     requires { IfSome space (λ k. k < length line.now) }
     ensures { IfOk result (λ x. x ≡ spec.said_at plan.now line.now space) }
 {
     let Some(space) = space else {
         return Ok(Line::Unreadable);
     };
-    said_by(alloc, plan, &line[..space], &line[space + 1..])
+    said_by(alloc, plan, &line[..space], &line[space + 1..], room)
 }
 
 /// What a line says by its first word and what follows the space.
-fn said_by(alloc: Global, plan: &Plan, word: &[u8], text: &[u8]) -> Result<Line, Memory>
+fn said_by<'a>(
+    alloc: Global,
+    plan: &Plan,
+    word: &[u8],
+    text: &[u8],
+    room: &'a mut Vec<u8>,
+) -> Result<Line<'a>, Memory>
     ensures { IfOk result (λ x. x ≡ spec.said_by plan.now word.now text.now) }
 {
     if word == INPUT {
@@ -87,12 +107,17 @@ fn said_by(alloc: Global, plan: &Plan, word: &[u8], text: &[u8]) -> Result<Line,
     } else if word == AT {
         Ok(moment_of(moment_in(text)))
     } else {
-        asked_by(alloc, plan.client_named(word), text)
+        asked_by(plan.client_named(word), text, room)
     }
 }
 
 /// What follows `in`, with its first space at this place.
-fn input_at(alloc: Global, plan: &Plan, text: &[u8], space: Option<usize>) -> Result<Line, Memory>
+fn input_at(
+    alloc: Global,
+    plan: &Plan,
+    text: &[u8],
+    space: Option<usize>,
+) -> Result<Line<'static>, Memory>
     requires { IfSome space (λ k. k < length text.now) }
     ensures { IfOk result (λ x. x ≡ spec.input_at plan.now text.now space) }
 {
@@ -105,7 +130,7 @@ fn input_at(alloc: Global, plan: &Plan, text: &[u8], space: Option<usize>) -> Re
 }
 
 /// What is said by the name and the value of an input, if they are there.
-fn input_of(plan: &Plan, name: Option<LogicalName>, value: Option<Data>) -> Line
+fn input_of(plan: &Plan, name: Option<LogicalName>, value: Option<Data>) -> Line<'static>
     ensures { result ≡ spec.input_of plan.now name (option_map tree value) }
 {
     match (name, value) {
@@ -134,7 +159,7 @@ fn input_cell(plan: &Plan, name: LogicalName) -> CellRef
 }
 
 /// What is said by the name of an evaluation, if it is there.
-fn evaluation_of(name: Option<LogicalName>) -> Line
+fn evaluation_of(name: Option<LogicalName>) -> Line<'static>
     ensures { result ≡ spec.evaluation_of name }
 {
     match name {
@@ -144,7 +169,7 @@ fn evaluation_of(name: Option<LogicalName>) -> Line
 }
 
 /// What is said by a moment, if it is there.
-fn moment_of(moment: Option<Moment>) -> Line
+fn moment_of(moment: Option<Moment>) -> Line<'static>
     ensures { result ≡ spec.moment_of moment }
 {
     match moment {
@@ -154,28 +179,33 @@ fn moment_of(moment: Option<Moment>) -> Line
 }
 
 /// What a line says by its client, if the plan knows it, and the hex digits behind the space.
-fn asked_by(alloc: Global, client: Option<u8>, text: &[u8]) -> Result<Line, Memory>
+fn asked_by<'a>(client: Option<u8>, text: &[u8], room: &'a mut Vec<u8>) -> Result<Line<'a>, Memory>
     ensures { IfOk result (λ x. x ≡ spec.asked_by client text.now) }
 {
     let Some(client) = client else {
         return Ok(Line::Unreadable);
     };
-    match hex::decode(alloc, text) {
-        Ok(bytes) => Ok(ask_of(client, bytes)),
-        Err(FromHexError::OutOfMemory) => Err(Memory),
-        Err(_) => Ok(Line::Unreadable),
+    if decode(text, room)? {
+        Ok(ask_of(client, room))
+    } else {
+        Ok(Line::Unreadable)
     }
 }
 
+/// Decodes hex digits in either case into the room, whatever it holds, and says whether they are that.
+fn decode(text: &[u8], room: &mut Vec<u8>) -> Result<bool, Memory>
+    ensures { IfOk result (λ read. cond read (Some room.new.items) None ≡ result_ok (decode_of text.now)) }
+{
+    room.resize(text.len() / 2, 0)?;
+    Ok(hex::decode_to_slice(text, room.as_mut_slice()).is_ok())
+}
+
 /// What a line says by its client and the bytes of its APDU.
-fn ask_of(client: u8, apdu: Vec<u8>) -> Line
-    ensures { result ≡ spec.ask_of client (Some apdu.items) }
+fn ask_of(client: u8, apdu: &[u8]) -> Line<'_>
+    ensures { result ≡ spec.ask_of client (Some apdu.now) }
 {
     if apdu.is_empty() {
         return Line::Unreadable;
     }
-    Line::Ask(Ask {
-        client,
-        apdu: Bytes::new(apdu),
-    })
+    Line::Ask(Ask::new(client, apdu))
 }

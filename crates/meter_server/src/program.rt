@@ -7,8 +7,8 @@ ghost use Rattle.meter_server.specs.Program.{AnswersText, error_of, file_named, 
 use crate::running::{LineFault, run_lines};
 use crate::verdict::{Verdict, fault_line};
 use crate::writing::write_whole;
-use config_parts::fault::ConfigFault;
 use config_reader::read_config;
+use config_text::fault::ConfigFault;
 use cosem_data::memory::Memory;
 use std::alloc::Global;
 use std::fs;

@@ -1,13 +1,15 @@
 ghost use Rattle.std.specs.Prelude.{◌≡◌, ◌+◌, ◌^◌, ◌<◌, ◌⊎◌, List, ℕ, Some, Err, length, [], ◌∷◌};
+ghost use Rattle.meter_theory.specs.Plan.{start};
 ghost use Rattle.meter_theory.specs.States.{IsState};
 ghost use Rattle.meter_server.specs.Running.{Moment, RunsLines, IsLine, IsFirstBad, IsAllReadable, IsOther, with_last};
-ghost use Rattle.meter_server.specs.Pieces.{AnswersLine, TakesPiece, EndsRun};
+ghost use Rattle.meter_server.specs.Pieces.{AnswersInput, AnswersLine, EndsRun, TakesPiece};
 
 use crate::answering::answer;
 use crate::driving::{take_moment, take_step};
+use crate::feeding::Feeder;
 use crate::line::{Line, read_line};
-use crate::text::{reply_line, unreadable_line};
-use crate::writing::{WriteFailed, write_whole};
+use crate::text::{put_reply, put_unreadable};
+use crate::writing::{WriteFailed, write_waiting};
 use cosem_data::memory::Memory;
 use meter_core::step::Step;
 use object_model::meter::Meter;
@@ -70,15 +72,22 @@ impl From<WriteFailed> for LineFault {
     }
 }
 
-/// The meter, the line that has begun, and how many lines ended before it.
+/// The meter, how many lines have ended, the texts of replies that wait to be written, and room for an APDU and its
+/// reply, which each line uses again.
 #[derive(Drop)]
 struct Run {
     meter: Meter,
-    line: Vec<u8>,
     count: u64,
+    waiting: Vec<u8>,
+    apdu: Vec<u8>,
+    reply: Vec<u8>,
 }
 
-const END: u8 = b'\n';
+/// How many bytes are read at once at most.
+const PIECE: usize = 65536;
+
+/// Where more bytes than these wait, they are written.
+const FULL: usize = 65536;
 
 /// Answers the lines that the reader gives, by a meter of the plan that begins at its start, and says
 /// how many lines there were.
@@ -90,8 +99,9 @@ const END: u8 = b'\n';
 /// order; nothing is written of these. An empty line and one that begins with `#` are skipped. Any
 /// other line is told by `line N: unreadable`, and ends the run with `LineFault::Line`.
 ///
-/// One line and one reply are in memory at a time. Where a fault ends the run, the lines before it are
-/// answered and nothing else was written, but after `Write` a beginning of what is written for the next line.
+/// One line and one reply are in memory at a time, and the texts that wait to be written: they are written before each
+/// read, at the end, and where they are more than 64 KiB. Where a fault ends the run, the lines before it are answered and
+/// nothing else was written, but after `Write` what was written breaks off in the text of one line.
 pub fn run_lines<R: Read, W: Write>(
     alloc: Global,
     plan: &Plan,
@@ -129,122 +139,116 @@ fn run_input<R: Read, W: Write>(
     };
     let mut run = Run {
         meter,
-        line: Vec::new(alloc),
         count: 0,
+        waiting: Vec::new(alloc),
+        apdu: Vec::new(alloc),
+        reply: Vec::new(alloc),
     };
+    let ended = answer_input(alloc, plan, &mut run, reader, writer);
+    write_waiting(&mut run.waiting, writer)?;
+    ended
+}
+
+/// Answers the lines that the reader gives. Before each read what waits is written.
+fn answer_input<R: Read, W: Write>(
+    alloc: Global,
+    plan: &Plan,
+    run: &mut Run,
+    reader: &mut R,
+    writer: &mut W,
+) -> Result<u64, LineFault>
+    requires start { run.old.meter ≡ start plan.now }
+    requires state { IsState plan.now run.old.meter }
+    requires count { run.old.count ≡ 0 }
+    requires waiting { run.old.waiting.items ≡ [] }
+    ensures { AnswersInput plan.now
+        (record { unread = R.remaining reader.old; written = W.contents writer.old })
+        (record { unread = R.remaining reader.new; written = W.contents writer.new }) run.new.waiting.items result }
+{
+    let mut feeder = Feeder::new(alloc);
     let mut total = 0u64;
-    let mut buffer = [0u8; 512];
+    let mut buffer = [0u8; PIECE];
     for _ in 0..u64::MAX {
+        write_waiting(&mut run.waiting, writer)?;
         let Ok(taken) = reader.read(&mut buffer) else {
             return Err(LineFault::Read);
         };
         if taken == 0 {
-            return end_run(alloc, plan, run, writer);
+            return end_run(alloc, plan, run, feeder.held());
         }
         let Some(sum) = total.checked_add(taken as u64) else {
             return Err(LineFault::Read);
         };
         total = sum;
-        take_piece(alloc, plan, &mut run, &buffer[..taken], writer)?;
+        take_piece(alloc, plan, &mut feeder, run, &buffer[..taken], writer)?;
     }
     Err(LineFault::Read)
 }
 
-/// The input has ended, and with it the line that has begun.
-fn end_run<W: Write>(alloc: Global, plan: &Plan, run: Run, writer: &mut W) -> Result<u64, LineFault>
-    requires fits { run.count + length run.line.items < 2 ^ 64 }
-    requires state { IsState plan.now run.meter }
-    ensures { EndsRun plan.now run (W.contents writer.old) (W.contents writer.new) result }
+/// The input has ended, and with it the last line, unless that has no byte. Answers how many lines there were.
+fn end_run(alloc: Global, plan: &Plan, run: &mut Run, last: &[u8]) -> Result<u64, LineFault>
+    requires fits { run.old.count + length last.now < 2 ^ 64 }
+    requires state { IsState plan.now run.old.meter }
+    ensures { EndsRun plan.now run.old run.new last.now result }
 {
-    let Run {
-        mut meter,
-        line,
-        count,
-    } = run;
-    if line.is_empty() {
-        return Ok(count);
+    if !last.is_empty() {
+        answer_line(alloc, plan, run, last)?;
     }
-    answer_line(alloc, plan, &mut meter, count + 1, &line, writer)?;
-    Ok(count + 1)
+    Ok(run.count)
 }
 
-/// Takes some bytes of the input.
+/// Takes some bytes of the input, and answers the lines that they end. A line that lies whole in them is not copied.
 fn take_piece<W: Write>(
     alloc: Global,
     plan: &Plan,
+    feeder: &mut Feeder,
     run: &mut Run,
     piece: &[u8],
     writer: &mut W,
 ) -> Result<(), LineFault>
-    requires fits { run.old.count + length run.old.line.items + length piece.now < 2 ^ 64 }
-    requires held { IsLine run.old.line.items }
+    requires fits { run.old.count + length feeder.old + length piece.now < 2 ^ 64 }
+    requires held { IsLine feeder.old }
     requires state { IsState plan.now run.old.meter }
-    ensures { TakesPiece plan.now run.old run.new piece.now (W.contents writer.old) (W.contents writer.new) result }
+    ensures { TakesPiece plan.now
+        (record { held = feeder.old; run = run.old; written = W.contents writer.old })
+        (record { held = feeder.new; run = run.new; written = W.contents writer.new }) piece.now result }
 {
-    for byte in piece {
-        take_byte(alloc, plan, run, *byte, writer)?;
+    let mut rest = piece;
+    while let Some((part, behind)) = feeder.next_line(rest)? {
+        answer_line(alloc, plan, run, feeder.line(part))?;
+        feeder.clear();
+        rest = behind;
+        if run.waiting.len() > FULL {
+            write_waiting(&mut run.waiting, writer)?;
+        }
     }
     Ok(())
 }
 
-/// Takes a byte of the input, which may end a line.
-fn take_byte<W: Write>(
-    alloc: Global,
-    plan: &Plan,
-    run: &mut Run,
-    byte: u8,
-    writer: &mut W,
-) -> Result<(), LineFault>
+/// Answers the next line, and puts its text behind those that wait.
+fn answer_line(alloc: Global, plan: &Plan, run: &mut Run, line: &[u8]) -> Result<(), LineFault>
     requires fits { run.old.count + 1 < 2 ^ 64 }
-    requires held { IsLine run.old.line.items }
     requires state { IsState plan.now run.old.meter }
-    ensures { TakesPiece plan.now run.old run.new (byte ∷ []) (W.contents writer.old) (W.contents writer.new) result }
+    ensures { AnswersLine plan.now run.old run.new line.now result }
 {
-    if byte == END {
-        answer_line(
-            alloc,
-            plan,
-            &mut run.meter,
-            run.count + 1,
-            &run.line,
-            writer,
-        )?;
-        run.line.clear();
-        run.count += 1;
-    } else if run.line.push(byte).is_err() {
-        return Err(LineFault::Memory);
-    }
-    Ok(())
-}
-
-/// Answers the line with this number.
-fn answer_line<W: Write>(
-    alloc: Global,
-    plan: &Plan,
-    meter: &mut Meter,
-    number: u64,
-    line: &[u8],
-    writer: &mut W,
-) -> Result<(), LineFault>
-    requires { IsState plan.now meter.old }
-    ensures { AnswersLine plan.now meter.old meter.new number line.now (W.contents writer.old) (W.contents writer.new) result }
-{
-    match read_line(alloc, plan, line)? {
+    run.count += 1;
+    match read_line(alloc, plan, line, &mut run.apdu)? {
         Line::Skipped => {}
         Line::Ask(ask) => {
-            let reply = answer(alloc, plan, meter, &ask)?;
-            let text = reply_line(alloc, &reply)?;
-            write_whole(writer, text.as_bytes())?;
+            run.reply.clear();
+            answer(alloc, plan, &mut run.meter, &ask, &mut run.reply)?;
+            put_reply(&run.reply, &mut run.waiting)?;
         }
         Line::Input { cell, value } => {
-            take_step(alloc, plan, meter, &Step::Input { cell, value })?;
+            take_step(alloc, plan, &mut run.meter, &Step::Input { cell, value })?;
         }
-        Line::Evaluate(monitor) => take_step(alloc, plan, meter, &Step::Evaluate { monitor })?,
-        Line::At(moment) => take_moment(alloc, plan, meter, moment)?,
+        Line::Evaluate(monitor) => {
+            take_step(alloc, plan, &mut run.meter, &Step::Evaluate { monitor })?;
+        }
+        Line::At(moment) => take_moment(alloc, plan, &mut run.meter, moment)?,
         Line::Unreadable => {
-            let text = unreadable_line(alloc, number)?;
-            write_whole(writer, text.as_bytes())?;
-            return Err(LineFault::Line(number));
+            put_unreadable(alloc, run.count, &mut run.waiting)?;
+            return Err(LineFault::Line(run.count));
         }
     }
     Ok(())

@@ -3,7 +3,7 @@ ghost use Rattle.std.specs.Prelude.{◌≡◌, IfOk, string_bytes};
 ghost use Rattle.meter_server.specs.Verdicts as spec;
 ghost use Rattle.meter_server.specs.Verdicts.{verdict_line};
 
-use config_parts::fault::ConfigFault;
+use config_text::fault::ConfigFault;
 use cosem_data::memory::Memory;
 use std::alloc::Global;
 

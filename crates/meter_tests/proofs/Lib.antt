@@ -1,1 +1,1 @@
-mod Judged
+mod Called

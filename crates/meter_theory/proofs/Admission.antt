@@ -1,7 +1,7 @@
 -- The six tests over lists decide admission, where the plan is sound.
 use Rattle.cosem_data.specs.Cells.{same_name}
 use Rattle.cosem_data.proofs.Same.{same_name-true, same_name-from}
-use Rattle.std.proofs.Common.{[], ◌++◌, ◌∙◌, ◌≡◌, ◌==◌, ◌⊎◌, ◌<◌, ◌+◌, ◌≤◌, ℕ, zero, suc, Bool, true, false, not, ◌&&◌, ◌||◌, List, ◌∷◌, map, refl, sym, ap, subst, inl, inr, Option, Some, None, is_some, eqb-true, eq-eqb, length, arith}
+use Rattle.std.proofs.Common.{[], ◌++◌, ◌∙◌, ◌≡◌, ◌==◌, ◌⊎◌, ◌<◌, ◌+◌, ◌≤◌, ℕ, zero, suc, Bool, true, false, not, ◌&&◌, ◌||◌, List, ◌∷◌, map, refl, sym, ap, subst, inl, inr, Option, Some, None, is_some, eqb-true, eq-eqb, ltb-true, nat_lt, length, arith}
 use Rattle.std.specs.List.{list_any, range_with_len}
 use Rattle.std.proofs.lemmas.Bool.{and_parts, and_from, or_cases, or_left, or_right}
 use Rattle.meter_theory.specs.Lists.{IsIn, for_some}
@@ -44,7 +44,7 @@ known_client P sound c name test h =
     let r = any_in (λ z. ((z.client == c) && same_name z.object name) && test z) P.rights h in
     let a = and_parts ((r.0.client == c) && same_name r.0.object name) (test r.0) r.2 in
     let b = and_parts (r.0.client == c) (same_name r.0.object name) a.0 in
-    subst (λ d. d < length P.clients) (eqb-true r.0.client c b.0) (sound.clients r.0 r.1)
+    subst (λ d. d < length P.clients) (eqb-true r.0.client c b.0) (ltb-true r.0.client (length P.clients) (and_parts (nat_lt r.0.client (length P.clients)) _ (sound.rights r.0 r.1)).0)
 
 changer_from : (P : Plan) (c : ℕ) (x : CellRef) → IsIn (cells P) x → may_change P c x ≡ true → MayChange P c x
 changer_from P c x there h =

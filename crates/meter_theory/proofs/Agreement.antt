@@ -15,9 +15,10 @@ use Rattle.meter_theory.specs.declared.refs.ScriptRef.{ScriptRef}
 use Rattle.meter_theory.specs.declared.refs.UpDown.{UpDown}
 use Rattle.meter_theory.specs.Plan.{Plan, Object, Part, Data1, Register, ProfileGeneric, ScriptTable, RegisterMonitor, SingleActionSchedule, buffer, capture_period, entries_in_use, thresholds, seen, execution_time, object_at}
 use Rattle.meter_theory.specs.Steps.{Effect, Put, Capture, Clear, Captures, captures_in, captures_of, capture, clear, effect, effects, changed_by, changed, effects_of_script, due_scripts, due_at, Step, Get, Set, Act, Input, CaptureAt, Evaluate, ScheduleAt, captured_at, evaluated, scheduled_at, effects_of, next}
+use Rattle.meter_theory.specs.Sound.{IsSound}
 use Rattle.meter_theory.specs.Edges.{Agree, IsClosed, edge, Cause, Monitored, Monitor, Captured, Period, Schedule, IsEdge, EdgeIn, script_changes, scripts_named, monitor_changes}
 use Rattle.meter_theory.specs.Classes.{WriteTo, InvokeMethod, write_after, profile_after, profile_touched, profile_sources, profile_row_cells}
-use Rattle.meter_theory.proofs.Lists.{any_in, none_in, found, in_append_left, in_append_right, in_append_cases, in_flat_map, from_flat_map}
+use Rattle.meter_theory.proofs.Lists.{any_in, none_in, found, one_of_key, in_append_left, in_append_right, in_append_cases, in_flat_map, from_flat_map}
 use Rattle.meter_theory.proofs.State.{value-put_other, value-put}
 use Rattle.meter_theory.proofs.Classes.{operation-depends, operation-agrees, write-laws, profile-laws, put-is, capture-is, clear-is}
 
@@ -26,6 +27,10 @@ pub object-found : (P : Plan) (n : LogicalName) (o : Object) → object_at P n �
 object-found P n o h =
     let r = found (λ z. same_name z.name n) P.objects o h in
     (r.0, same_name-true o.name n r.1)
+
+-- a sound plan's objects of one name are one
+pub one_named : (P : Plan) → IsSound P → (o p : Object) → IsIn P.objects o → IsIn P.objects p → o.name ≡ p.name → o ≡ p
+one_named P sound = one_of_key (λ o. o.name) P.objects sound.names
 
 -- a captured cell has an edge to the buffer
 captured_edge : (P : Plan) (n : LogicalName) (o : Object) → object_at P n ≡ Some o → (c : Captures) → captures_in o.part ≡ Some c → (y : CellRef) → IsIn c.captured y → IsEdge P (edge Captured y (buffer n))

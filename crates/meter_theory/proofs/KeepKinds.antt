@@ -14,7 +14,7 @@ use Rattle.meter_theory.specs.Steps.{Effect, Put, Capture, Clear, Captures, capt
 use Rattle.meter_theory.specs.Sound.{IsSound, IsCapturable}
 use Rattle.meter_theory.specs.States.{IsCaptured, AreCaptured, AreRows, IsBuffer, IsCount, IsSeen, Holds, IsState, IsRemembered, Fits}
 use Rattle.meter_theory.proofs.State.{keys-put, value-put_other, value-put_there}
-use Rattle.meter_theory.proofs.Agreement.{object-found, not_both}
+use Rattle.meter_theory.proofs.Agreement.{object-found, one_named, not_both}
 use Rattle.meter_theory.proofs.Rights.{cell_of_object}
 
 -- No rule speaks of a buffer, of entries in use and of an inner cell.
@@ -253,7 +253,7 @@ capture-keeps P sound s n k = at (object_at P n) refl
     with_captures o is (Some c) h =
         let there = object-found P n o is in
         both-keep P s n (buffer_after c.entries (value s (buffer n)) (row_of s c.captured)) (in_use_after c.entries (value s (entries_in_use n)))
-        (λ p in_plan named. own p in_plan named (sound.names o p there.0 in_plan (there.1 ∙ sym named)) p.part refl) k
+        (λ p in_plan named. own p in_plan named (one_named P sound o p there.0 in_plan (there.1 ∙ sym named)) p.part refl) k
       where
         row_fits : (p : Object) → IsIn P.objects p → (d : Captures) → captures_in p.part ≡ Some d → AreCaptured P d.captured (map (value s) d.captured)
         row_fits p in_plan d is_d = captured_now P s d.captured (λ x i. let may = sound.captures p in_plan d is_d x i in capturable_now P s k x may.0 may.1)
@@ -309,6 +309,6 @@ effect-keeps P sound s (Put x v) (inr f) k =
     let same : x ≡ seen o.name = is_seen_of P o.name o.part x v f.2 in
     subst (λ z. IsState P (put s z v)) (sym same)
     (remember-keeps P sound s o.name v
-    (λ p there named. remembered P s o.name v k.cells o f.1 refl (subst (λ z. IsRemembered P o.name o.part z v) same f.2) p (sound.names o p f.1 there (sym named))) k)
+    (λ p there named. remembered P s o.name v k.cells o f.1 refl (subst (λ z. IsRemembered P o.name o.part z v) same f.2) p (one_named P sound o p f.1 there (sym named))) k)
 effect-keeps P sound s (Capture n) f k = capture-keeps P sound s n k
 effect-keeps P sound s (Clear n) f k = clear-keeps P s n k

@@ -32,7 +32,7 @@ use Rattle.meter_theory.specs.Steps.{Step, Get, Set, Act, Input, CaptureAt, Eval
 use Rattle.meter_theory.specs.Sound.{IsSound, is_name, has_action_sizes, has_script_sizes, has_part_sizes, has_sizes}
 use Rattle.meter_theory.specs.States.{IsCaptured, AreCaptured, AreRows, IsBuffer, IsCount, IsSeen, Holds, IsState}
 use Rattle.meter_theory.proofs.Lists.{in_map, from_map, from_filter, from_flat_map, none_found}
-use Rattle.meter_theory.proofs.Agreement.{object-found, not_both}
+use Rattle.meter_theory.proofs.Agreement.{object-found, one_named, not_both}
 use Rattle.meter_theory.proofs.Rights.{get_class}
 use Rattle.meter_theory.proofs.Theorem.{all_at, is_cell_in}
 
@@ -248,7 +248,7 @@ found_by_name P sound o there = at (object_at P o.name) refl
     at None is = absurd (none_found (λ z. same_name z.name o.name) P.objects o is there (same_name-from o.name o.name refl))
     at (Some p) is =
         let q = object-found P o.name p is in
-        is ∙ ap Some (sound.names p o q.0 there q.1)
+        is ∙ ap Some (one_named P sound p o q.0 there q.1)
 
 cell_writable : (P : Plan) → IsSound P → (s : State) → IsState P s → (x : CellRef) → IsIn (cells P) x → HasLengths (value s x)
 cell_writable P sound s k x i =

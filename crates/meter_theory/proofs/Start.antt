@@ -13,7 +13,7 @@ use Rattle.meter_theory.specs.Plan.{Plan, Object, Part, Data1, Register, Profile
 use Rattle.meter_theory.specs.Sound.{IsSound, fits_some}
 use Rattle.meter_theory.specs.States.{IsBuffer, IsCount, IsSeen, Holds, IsState}
 use Rattle.meter_theory.proofs.Lists.{in_flat_map, from_flat_map}
-use Rattle.meter_theory.proofs.Agreement.{not_both}
+use Rattle.meter_theory.proofs.Agreement.{not_both, one_named}
 
 -- no two objects of the plan have one name
 abbrev pub AreNamed : Plan → Type 0
@@ -75,7 +75,7 @@ holds_start P sound o there (Register first default scaler_unit) h = tt
 holds_start P sound o there (ScriptTable scripts) h = tt
 holds_start P sound o there (SingleActionSchedule script type times) h = tt
 holds_start P sound o there (RegisterMonitor monitored th actions) h =
-    inl (started P sound.names o there (seen o.name) null_data
+    inl (started P (one_named P sound) o there (seen o.name) null_data
     (subst (λ q. IsIn (start_of o.name q) (seen o.name, null_data)) (sym h) (inr (inl refl)))
     (λ w j. one w (subst (λ q. IsIn (start_of o.name q) (seen o.name, w)) h j)))
   where
@@ -87,7 +87,7 @@ holds_start P sound o there (ProfileGeneric captured period entries) h =
     (([], of_buffer, omega arith, tt), (0, of_count, omega arith))
   where
     of_buffer : value (start P) (buffer o.name) ≡ array_of []
-    of_buffer = started P sound.names o there (buffer o.name) (array no_trees)
+    of_buffer = started P (one_named P sound) o there (buffer o.name) (array no_trees)
         (subst (λ q. IsIn (start_of o.name q) (buffer o.name, array no_trees)) (sym h) (inl refl))
         (λ w j. one w (subst (λ q. IsIn (start_of o.name q) (buffer o.name, w)) h j))
       where
@@ -98,7 +98,7 @@ holds_start P sound o there (ProfileGeneric captured period entries) h =
         one w (inr (inr (inr none))) = absurd none
 
     of_count : value (start P) (entries_in_use o.name) ≡ counter 0
-    of_count = started P sound.names o there (entries_in_use o.name) (counter 0)
+    of_count = started P (one_named P sound) o there (entries_in_use o.name) (counter 0)
         (subst (λ q. IsIn (start_of o.name q) (entries_in_use o.name, counter 0)) (sym h) (inr (inr (inl refl))))
         (λ w j. one w (subst (λ q. IsIn (start_of o.name q) (entries_in_use o.name, w)) h j))
       where

@@ -1,5 +1,6 @@
 -- Words on lists that the definitions share.
-use Rattle.std.specs.Prelude.{◌≡◌, ◌⊎◌, List, [], ◌∷◌, ℕ, ◌-◌, drop, length, Option, Some, None}
+use Rattle.std.specs.Prelude.{◌≡◌, ◌⊎◌, Bool, true, false, not, ◌&&◌, List, [], ◌∷◌, ℕ, ◌-◌, drop, length, Option, Some, None}
+use Rattle.std.specs.List.{list_any}
 
 -- x is an element of the list
 abbrev pub IsIn : {A : Type 0} → List A → A → Type 0
@@ -14,3 +15,18 @@ keep_last n xs = drop (length xs - n) xs
 abbrev pub for_some : {A B : Type 0} → Option A → (A → List B) → List B
 for_some None f = []
 for_some (Some x) f = f x
+
+-- each element differs from those behind it
+abbrev pub AreDistinct : {A : Type 0} → List A → Type 0
+AreDistinct [] = Unit {0}
+AreDistinct (x ∷ xs) = (IsIn xs x → ⊥) × AreDistinct xs
+
+-- the same as a test, by a test of two elements
+abbrev pub are_distinct : {A : Type 0} → (A → A → Bool) → List A → Bool
+are_distinct same [] = true
+are_distinct same (x ∷ xs) = not (list_any (same x) xs) && are_distinct same xs
+
+-- there is a value, and it passes the test
+abbrev pub some_passes : {A : Type 0} → (A → Bool) → Option A → Bool
+some_passes test None = false
+some_passes test (Some x) = test x

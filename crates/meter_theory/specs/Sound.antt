@@ -1,5 +1,5 @@
 -- A plan without the faults of a configuration, as far as the promises, the edges and the checker need it.
-use Rattle.std.specs.Prelude.{ℕ, Bool, true, false, not, ◌&&◌, ◌||◌, nat_lt, nat_le, List, [], ◌∷◌, length, Option, None, Some, is_some, ◌==◌, ◌≡◌, ◌⊎◌, ◌<◌, ◌≤◌}
+use Rattle.std.specs.Prelude.{ℕ, Bool, true, false, not, ◌&&◌, ◌||◌, nat_lt, nat_le, List, [], ◌∷◌, length, map, Option, None, Some, is_some, ◌==◌, ◌≡◌, ◌⊎◌, ◌<◌, ◌≤◌}
 use Rattle.std.specs.List.{list_any, list_all}
 use Rattle.cosem_data.specs.Tree.{Tree}
 use Rattle.cosem_data.specs.Kinds.{kind_of, same_kind}
@@ -7,10 +7,14 @@ use Rattle.cosem_data.specs.Cells.{same_name, same_cell}
 use Rattle.cosem_data.specs.declared.kind.Kind.{Kind}
 use Rattle.cosem_data.specs.declared.name.LogicalName.{LogicalName}
 use Rattle.cosem_data.specs.declared.cell.CellRef.{CellRef}
-use Rattle.meter_theory.specs.Lists.{IsIn}
+use Rattle.cosem_data.specs.declared.cell.MethodRef.{MethodRef}
+use Rattle.meter_theory.specs.declared.refs.ScriptRef.{ScriptRef}
+use Rattle.meter_theory.specs.Lists.{IsIn, AreDistinct, are_distinct, some_passes}
 use Rattle.meter_theory.specs.Value.{Rule, OfKind, meets, is_within_limits}
 use Rattle.meter_theory.specs.State.{value}
-use Rattle.meter_theory.specs.Plan.{Plan, Client, Object, Right, Script, Action, Write, Invoke, Part, Data1, Register, ProfileGeneric, ScriptTable, RegisterMonitor, SingleActionSchedule, association_name, cells, start, rule_of, entries_in_use}
+use Rattle.meter_theory.specs.Plan.{Plan, Client, Object, Right, Script, Action, Write, Invoke, Part, Data1, Register, ProfileGeneric, ScriptTable, RegisterMonitor, SingleActionSchedule, association_name, class_of, interface_of, object_at, cells, start, rule_of, entries_in_use}
+use Rattle.meter_theory.specs.Rights.{knows_script}
+use Rattle.meter_theory.specs.Edges.{scripts_named}
 use Rattle.meter_theory.specs.Steps.{scripts_of, Captures, captures_in}
 
 -- the cell may be written, and the value meets its rule
@@ -58,6 +62,31 @@ has_part_sizes _ = true
 abbrev pub has_sizes : Object → Bool
 has_sizes o = is_name o.name && has_part_sizes o.part
 
+-- the scripts that an object may have run: those of a monitor's actions, and that of a schedule
+abbrev pub scripts_run_by : Part → List ScriptRef
+scripts_run_by (RegisterMonitor monitored th actions) = scripts_named actions
+scripts_run_by (SingleActionSchedule script type times) = script ∷ []
+scripts_run_by _ = []
+
+-- a script table of the plan has this script; each has the null script, 0
+abbrev pub has_script : Plan → ScriptRef → Bool
+has_script P r = some_passes (λ o. (class_of o.part == 9) && knows_script (scripts_of o.part) r.script) (object_at P r.table)
+
+-- indexes from 1 to the highest of a class
+abbrev pub are_indexes : ℕ → List ℕ → Bool
+are_indexes highest indexes = list_all (λ index. nat_le 1 index && nat_le index highest) indexes
+
+-- an object of the plan has this method, and it doesn't execute scripts
+abbrev pub has_plain_method : Plan → MethodRef → Bool
+has_plain_method P m =
+    some_passes (λ o. (class_of o.part == m.class_id) && (not (m.class_id == 9) && are_indexes (interface_of o.part).methods (m.index ∷ []))) (object_at P m.name)
+
+-- a right is a client's of the plan, on an object of it, and of attributes and methods that this has
+abbrev pub is_right : Plan → Right → Bool
+is_right P r =
+    nat_lt r.client (length P.clients)
+    && some_passes (λ o. are_indexes (interface_of o.part).attributes r.gets && (are_indexes (interface_of o.part).attributes r.sets && are_indexes (interface_of o.part).methods r.acts)) (object_at P r.object)
+
 -- a service access point is 1 to 127 (client_SAP, an integer)
 abbrev pub has_sap : Client → Bool
 has_sap client = nat_le 1 client.sap && nat_le client.sap 127
@@ -68,8 +97,8 @@ fits_some None v = true
 fits_some (Some rule) v = meets rule v
 
 pub record IsSound (P : Plan) : Type 0 where
-  -- no two objects have one name
-  pub names : (o p : Object) → IsIn P.objects o → IsIn P.objects p → o.name ≡ p.name → o ≡ p
+  -- each object has a name of its own
+  pub names : AreDistinct (map (λ o. o.name) P.objects)
   -- and none has that of the current association
   pub apart : (o : Object) → IsIn P.objects o → same_name o.name association_name ≡ false
   -- the limits on numbers of clients, objects and parts
@@ -77,23 +106,26 @@ pub record IsSound (P : Plan) : Type 0 where
   pub few_objects : length P.objects ≤ 512
   pub sizes : (o : Object) → IsIn P.objects o → has_sizes o ≡ true
   pub saps : (client : Client) → IsIn P.clients client → has_sap client ≡ true
-  -- each right is a client's of the plan
-  pub clients : (r : Right) → IsIn P.rights r → r.client < length P.clients
+  -- each right is a client's of the plan, on what an object of it has
+  pub rights : (r : Right) → IsIn P.rights r → is_right P r ≡ true
   -- each settable cell starts with a value that meets its rule
   pub starts : (x : CellRef) → IsIn (cells P) x → fits_some (rule_of P x) (value (start P) x) ≡ true
   -- scripts write settable cells, with values that meet their rules
   pub writes : (o : Object) → IsIn P.objects o → (script : Script) → IsIn (scripts_of o.part) script →
       (x : CellRef) (v : Tree) → IsIn script.actions (Write x v) → IsWrite P x v
+  -- they call methods that are there, and execute no scripts
+  pub calls : (o : Object) → IsIn P.objects o → (script : Script) → IsIn (scripts_of o.part) script →
+      (m : MethodRef) (v : Tree) → IsIn script.actions (Invoke m v) → has_plain_method P m ≡ true
+  -- the scripts of a table have numbers of their own, none that of the null script
+  pub scripts : (o : Object) → IsIn P.objects o → AreDistinct (0 ∷ map (λ s. s.id) (scripts_of o.part))
+  -- what monitors and schedules have run is there
+  pub references : (o : Object) → IsIn P.objects o → (r : ScriptRef) → IsIn (scripts_run_by o.part) r → has_script P r ≡ true
   -- profiles capture cells of the plan, and no buffer
   pub captures : (o : Object) → IsIn P.objects o → (c : Captures) → captures_in o.part ≡ Some c →
       (x : CellRef) → IsIn c.captured x → IsIn (cells P) x × IsCapturable P x
   pub parts : (o : Object) → IsIn P.objects o → IsSoundPart P o.part
 
 -- The same as a test
-
-abbrev pub distinct_names : List Object → Bool
-distinct_names [] = true
-distinct_names (o ∷ os) = not (list_any (λ p. same_name p.name o.name) os) && distinct_names os
 
 abbrev pub writes_some : Option Rule → Tree → Bool
 writes_some None v = false
@@ -103,6 +135,16 @@ abbrev pub is_write : Plan → Action → Bool
 is_write P (Write x v) = list_any (same_cell x) (cells P) && writes_some (rule_of P x) v
 is_write P (Invoke m parameter) = true
 
+abbrev pub is_call : Plan → Action → Bool
+is_call P (Write x v) = true
+is_call P (Invoke m parameter) = has_plain_method P m
+
+abbrev pub all_actions : (Action → Bool) → List Object → Bool
+all_actions test objects = list_all (λ o. list_all (λ s. list_all test s.actions) (scripts_of o.part)) objects
+
+abbrev pub have_script_numbers : List Object → Bool
+have_script_numbers objects = list_all (λ o. are_distinct (λ i j. i == j) (0 ∷ map (λ s. s.id) (scripts_of o.part))) objects
+
 abbrev pub captured_in : Option Captures → List CellRef
 captured_in None = []
 captured_in (Some c) = c.captured
@@ -110,6 +152,9 @@ captured_in (Some c) = c.captured
 abbrev pub is_capturable : Plan → CellRef → Bool
 is_capturable P x =
     is_some (rule_of P x) || list_any (λ o. is_some (captures_in o.part) && same_cell x (entries_in_use o.name)) P.objects
+
+abbrev pub captures_cells : Plan → Object → Bool
+captures_cells P o = list_all (λ x. list_any (same_cell x) (cells P) && is_capturable P x) (captured_in (captures_in o.part))
 
 abbrev pub is_kind_rule : Option Rule → Kind → Bool
 is_kind_rule (Some (OfKind allowed)) kind = same_kind allowed kind
@@ -133,12 +178,20 @@ is_sized P =
 abbrev pub is_started : Plan → Bool
 is_started P = list_all (λ x. fits_some (rule_of P x) (value (start P) x)) (cells P)
 
+-- what the parts of objects refer to is there
+abbrev pub has_references : Plan → Bool
+has_references P =
+    all_actions (is_write P) P.objects
+    && (all_actions (is_call P) P.objects
+    && (have_script_numbers P.objects
+    && (list_all (λ o. list_all (has_script P) (scripts_run_by o.part)) P.objects
+    && list_all (captures_cells P) P.objects)))
+
 abbrev pub is_sound : Plan → Bool
 is_sound P =
     is_sized P
     && (is_started P
-    && (distinct_names P.objects
-    && (list_all (λ r. nat_lt r.client (length P.clients)) P.rights
-    && (list_all (λ o. list_all (λ s. list_all (is_write P) s.actions) (scripts_of o.part)) P.objects
-    && (list_all (λ o. list_all (λ x. list_any (same_cell x) (cells P) && is_capturable P x) (captured_in (captures_in o.part))) P.objects
-    && list_all (λ o. is_sound_part P o.part) P.objects)))))
+    && (are_distinct same_name (map (λ o. o.name) P.objects)
+    && (list_all (is_right P) P.rights
+    && (has_references P
+    && list_all (λ o. is_sound_part P o.part) P.objects))))

@@ -1,4 +1,11 @@
-pub mod Pairs
-pub mod Cells
+pub mod ByObject
 pub mod Puts
 mod Labels
+mod Granted
+mod Searches
+mod Places
+mod Room
+mod Stores
+mod Aligned
+mod Changed
+mod Kept

@@ -1,6 +1,11 @@
 pub mod ArgumentView
-pub mod MeterView
 pub mod PartView
 pub mod PlanView
 pub mod PolicyView
 pub mod EffectView
+pub mod Index
+pub mod Grants
+pub mod Tables
+pub mod InstanceView
+pub mod Stored
+pub mod Undone

@@ -1,12 +1,11 @@
 -- What a part of the code stands for.
-use Rattle.std.specs.Prelude.{◌≡◌, ◌==◌, ℕ, cond, true, length, Option, Some, None}
+use Rattle.std.specs.Prelude.{◌==◌, ℕ, cond, length, Option, Some, None}
 use Rattle.cosem_data.specs.View.{tree}
-use Rattle.cosem_data.specs.Tree.{Tree}
 use Rattle.cosem_data.specs.Kinds.{kind_of}
 use Rattle.cosem_data.specs.declared.cell.CellRef.{CellRef}
 use Rattle.cosem_data.specs.declared.kind.Kind.{Kind}
 use Rattle.cosem_data.specs.declared.kind.Kind.TheVariants.{NullData}
-use Rattle.meter_theory.specs.Value.{Rule, OfKind, Thresholds, ExecutionTimes, meets}
+use Rattle.meter_theory.specs.Value.{Rule, OfKind, Thresholds, ExecutionTimes}
 use Rattle.meter_theory.specs.State.{value}
 use Rattle.meter_theory.specs.Plan as theory
 use Rattle.meter_theory.specs.Plan.{start}
@@ -17,7 +16,7 @@ use Rattle.object_model.specs.declared.part.Part.TheVariants as parts
 
 -- what is fixed of an object by its class, with the trees of its values: IEC 62056-6-2, interface classes
 abbrev pub part_of : Part → theory.Part
-part_of (parts.Data first) = theory.Data1 (tree first)
+part_of (parts.Data part) = theory.Data1 (tree part.start)
 part_of (parts.Register part) = theory.Register (tree part.start) (tree part.default) part.scaler_unit
 part_of (parts.ProfileGeneric part) = theory.ProfileGeneric part.captured.items part.capture_period part.profile_entries
 part_of (parts.ScriptTable part) = script_table_part_of part
@@ -43,18 +42,3 @@ rule_watching monitored (theory.ScriptTable scripts) index = None
 rule_watching monitored (theory.RegisterMonitor source thresholds actions) index =
     cond (index == 2) (Some (Thresholds (length actions) monitored)) None
 rule_watching monitored (theory.SingleActionSchedule script type times) index = cond (index == 4) (Some (ExecutionTimes type)) None
-
--- the settable cell has this index, holds the one value and may hold the other: own profile
-abbrev pub Replaces : Rule → ℕ → ℕ → Tree → Tree → Type 0
-Replaces rule settable index held given = (index ≡ settable) × (meets rule held ≡ true) × (meets rule given ≡ true)
-
--- the value at this index may be replaced by the other, where a register monitor watches this kind, and a register's value
--- by its default: own profile
-abbrev pub MayReplace : Part → Kind → ℕ → Tree → Tree → Type 0
-MayReplace (parts.Data first) monitored index held given = Replaces (OfKind (kind_of (tree first))) 2 index held given
-MayReplace (parts.Register part) monitored index held given =
-    (meets (OfKind (kind_of (tree part.start))) (tree part.default) ≡ true) × Replaces (OfKind (kind_of (tree part.start))) 2 index held given
-MayReplace (parts.ProfileGeneric part) monitored index held given = Replaces period_rule 4 index held given
-MayReplace (parts.ScriptTable part) monitored index held given = ⊥
-MayReplace (parts.RegisterMonitor part) monitored index held given = Replaces (Thresholds (length part.actions.items) monitored) 2 index held given
-MayReplace (parts.SingleActionSchedule part) monitored index held given = Replaces (ExecutionTimes part.execution_type) 4 index held given

@@ -15,6 +15,19 @@ pub enum Argument {
 
 impl Argument {
     ghost use Rattle.std.specs.Prelude.{◌≡◌, IfOk};
+    ghost use Rattle.meter_theory.specs.Rights as rights;
+    ghost use Rattle.object_model.specs.ArgumentView.{argument_of};
+
+    /// The number of a script in the parameter of execute, a long-unsigned; None for any other (IEC 62056-6-2, Script table,
+    /// execute). It takes no memory.
+    pub fn script_number(&self) -> Option<u16>
+        ensures { result ≡ rights.script_number (argument_of self.now) }
+    {
+        match self {
+            Argument::Value(Data::LongUnsigned(id)) => Some(*id),
+            _ => None,
+        }
+    }
 
     /// A copy, which equals the original. The only error is that memory was refused.
     pub fn try_clone(&self, alloc: Global) -> Result<Argument, Memory>

@@ -2,13 +2,20 @@
 #![tactic(auto)]
 
 pub mod argument;
+pub mod cells;
 pub mod client;
 pub mod effect;
+mod grants;
+pub mod held;
+mod index;
+pub mod instance;
 pub mod meter;
 pub mod object;
 pub mod part;
+mod place;
 pub mod plan;
 pub mod policy;
-mod put;
 pub mod right;
-pub mod rights;
+mod stored;
+pub mod undo;
+mod writes;

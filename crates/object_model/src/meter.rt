@@ -1,72 +1,221 @@
-ghost use Rattle.std.specs.Prelude.{◌≡◌, ◌<◌, IfOk, option_map, find, IfSome, IfNone, false, true, length, take, slice_get, slice_set, vec_len, map};
-ghost use Rattle.std.specs.List.{list_any};
+//! A meter: a value for each cell of its plan.
+ghost use Rattle.std.specs.Prelude.{◌≡◌, flat_map, length, map, true, false, None, Some, IfOk, IfSome, IfNone, IsOk, OnOk, OnErr};
+ghost use Rattle.std.specs.List.{position_from};
 ghost use Rattle.cosem_data.specs.View.{tree};
 ghost use Rattle.cosem_data.specs.Tree.{null_data};
-ghost use Rattle.cosem_data.specs.Cells.{same_cell};
-ghost use Rattle.meter_theory.specs.State.{keys, put, value};
-ghost use Rattle.meter_theory.specs.States.{IsState, MayStand};
-ghost use Rattle.object_model.specs.MeterView.{entry_of};
+ghost use Rattle.cosem_data.specs.declared.name.LogicalName.{LogicalName as NameValue};
+ghost use Rattle.meter_theory.specs.Plan as plans;
+ghost use Rattle.meter_theory.specs.Plan.{cells, class_of, object_at};
+ghost use Rattle.meter_theory.specs.State as state;
+ghost use Rattle.meter_theory.specs.State.{keys, value};
+ghost use Rattle.meter_theory.specs.States.{IsState, MayStand, Fits};
+ghost use Rattle.meter_theory.specs.Steps as theory;
+ghost use Rattle.meter_theory.specs.Steps.{captures_of};
+ghost use Rattle.meter_theory.specs.Value.{Rule, meets};
+ghost use Rattle.class_profile.specs.ProfileClass.{is_buffer};
+ghost use Rattle.object_model.specs.EffectView.{effect_of, IsProfile, MayTake};
+ghost use Rattle.object_model.specs.PartView.{part_of, rule_watching};
+ghost use Rattle.object_model.specs.Stored.{captured, held_tree, is_rows, stored_pairs, stores};
+ghost use Rattle.object_model.specs.Undone.{changed_cell, undone};
 
+use crate::cells::{buffer, seen};
+use crate::effect::Effect;
+use crate::held::Held;
+use crate::instance::Instance;
+use crate::part::Part;
 use crate::plan::Plan;
+use crate::stored::Stored;
+use crate::undo::{Change, Undo};
+use class_profile::profile::{Cleared, ProfilePart};
+use class_profile::rows::Rows;
+use cosem_class::class::Row;
 use cosem_data::cell::CellRef;
-use cosem_data::data::Data;
+use cosem_data::data::{Data, Items};
+use cosem_data::kind::Kind;
 use cosem_data::memory::Memory;
+use cosem_data::name::LogicalName;
 use std::alloc::Global;
 use std::marker::Model;
-use std::mem;
 
-/// A value for each cell of a plan: for each attribute that can change. Contracts see a finite map, in plan order.
+/// A value for each cell of a plan: for each attribute that can change. Contracts see a finite map, in plan order; in memory
+/// it is a list of the objects that have cells, each with those of its class.
 #[derive(Drop)]
 pub struct Meter {
-    pairs: Vec<(CellRef, Data)>,
+    objects: Vec<Stored>,
 }
 
 impl Model for Meter {
-    ghost use Rattle.std.specs.Prelude.{map};
+    ghost use Rattle.std.specs.Prelude.{flat_map};
     ghost use Rattle.meter_theory.specs.State.{State};
     ghost use Rattle.meter_theory.specs.PlanCode.{state_code};
+    ghost use Rattle.object_model.specs.PartView.{part_of, rule_watching};
+    ghost use Rattle.object_model.specs.Stored.{stored_pairs};
 
     ghost Value = { State };
 
     ghost coded = { state_code };
 
-    ghost use Rattle.object_model.specs.MeterView.{entry_of};
-
-    ghost view = { λ m. map entry_of m.pairs.items };
+    ghost view = { λ m. flat_map stored_pairs m.objects.items };
 }
 
 impl Meter {
-    /// A meter of these cells and values.
-    pub(crate) fn new(pairs: Vec<(CellRef, Data)>) -> Self
-        ensures { result ≡ map entry_of pairs.items }
+    /// A meter of these objects.
+    pub(crate) fn new(objects: Vec<Stored>) -> Self
+        ensures { result ≡ flat_map stored_pairs objects.items }
     {
-        Meter { pairs }
+        Meter { objects }
     }
 
     /// Its cells.
     pub(crate) fn into_cells(self, alloc: Global) -> Result<Vec<CellRef>, Memory>
         ensures { IfOk result (λ list. list.items ≡ keys self) }
     {
-        Ok(cells_of(alloc, &self.pairs)?)
+        cells_of(alloc, &self.objects)
     }
 
     /// A copy of the value in a cell of its plan; null-data where the plan has no such cell. The error is that memory
     /// was refused.
-    pub fn value(&self, alloc: Global, _plan: &Plan, cell: &CellRef) -> Result<Data, Memory>
-        requires { IsState _plan.now self.now }
+    pub fn value(&self, alloc: Global, plan: &Plan, cell: &CellRef) -> Result<Data, Memory>
+        requires { IsState plan.now self.now }
         ensures { IfOk result (λ v. tree v ≡ value self.now cell.now) }
     {
-        value_in(alloc, &self.pairs, cell)
+        match self.held(&plan.instance(&cell.name), cell) {
+            Some(held) => held.to_data(alloc),
+            None => Ok(Data::NullData),
+        }
     }
 
-    /// The value in a cell, to read, or None where there is no such cell. It takes no memory.
-    pub fn held(&self, cell: &CellRef) -> Option<&Data>
-        ensures found { IfSome result (λ v. tree v.now ≡ value self.now cell.now) }
+    /// The value in a cell of what stands at its name in the meter's plan, or None where there is no such cell. It takes no
+    /// memory.
+    pub fn held(&self, instance: &Instance<'_>, cell: &CellRef) -> Option<Held<'_>>
+        requires of_plan { IsState instance.now.plan self.now }
+        requires named { cell.now.name ≡ instance.now.name }
+        ensures found { IfSome result (λ held. held_tree held ≡ value self.now cell.now) }
+        ensures rows { IfSome result (λ held. is_rows held ≡ true → cell.now.class_id ≡ 7) }
         ensures none { IfNone result (value self.now cell.now ≡ null_data) }
     {
-        match pair_of(&self.pairs, cell) {
-            Some(pair) => Some(&pair.1),
+        match place_of(instance, &self.objects, cell) {
+            Some(place) => Some(self.objects[place].held(cell)),
             None => None,
+        }
+    }
+
+    /// Takes an effect of a step of the meter's plan, and hands out what takes it back. The only error is that memory was
+    /// refused for what a capture captures, and the meter is as it was then.
+    pub fn take(&mut self, alloc: Global, plan: &Plan, effect: Effect) -> Result<Undo, Memory>
+        requires of_plan { IsState plan.now self.old }
+        requires fits { MayTake plan.now effect }
+        ensures ok { OnOk result (self.new ≡ theory.effect plan.now self.old (effect_of effect)) }
+        ensures before { IfOk result (λ undo. undone undo self.new ≡ self.old) }
+        ensures err { OnErr result (self.new ≡ self.old) }
+        // Only a capture takes memory.
+        ensures free { ((profile : NameValue) → effect ≡ Effect.Capture profile → ⊥) → IsOk result }
+    {
+        match effect {
+            Effect::Put(cell, given) => Ok(self.put(plan, &cell, given)),
+            Effect::Remember(monitor, now) => Ok(self.remember(plan, monitor, now)),
+            Effect::Capture(profile) => self.capture(alloc, plan, profile),
+            Effect::Clear(profile) => Ok(self.clear(plan, profile)),
+        }
+    }
+
+    /// Takes an effect on a meter of the plan back. It takes no memory.
+    pub fn undo(&mut self, plan: &Plan, undo: Undo)
+        requires { keys self.old ≡ cells plan.now }
+        ensures { self.new ≡ undone undo self.old }
+    {
+        let cell = undo.cell();
+        if let Some(place) = place_of(&plan.instance(&undo.name), &self.objects, &cell) {
+            restore_in(&mut self.objects, place, undo);
+        }
+    }
+
+    /// Puts a value that may stand in a settable cell, by the class of its object.
+    fn put(&mut self, plan: &Plan, cell: &CellRef, given: Data) -> Undo
+        requires of_plan { IsState plan.now self.old }
+        requires fits { MayStand plan.now cell.now (tree given) }
+        ensures put { self.new ≡ state.put self.old cell.now (tree given) }
+        ensures before { undone result self.new ≡ self.old }
+    {
+        plan.known();
+        let instance = plan.instance(&cell.name);
+        let Some(object) = instance.object() else {
+            unreachable!();
+        };
+        let Some(place) = place_of(&instance, &self.objects, cell) else {
+            unreachable!();
+        };
+        let part = object.part();
+        let monitored = plan.monitored_kind(part);
+        write_in(&mut self.objects, place, part, monitored, cell, given)
+    }
+
+    /// A register monitor remembers what it watches.
+    fn remember(&mut self, plan: &Plan, monitor: LogicalName, now: Data) -> Undo
+        requires of_plan { IsState plan.now self.old }
+        requires fits { Fits plan.now (theory.Put (plans.seen monitor) (tree now)) }
+        ensures put { self.new ≡ state.put self.old (plans.seen monitor) (tree now) }
+        ensures before { undone result self.new ≡ self.old }
+    {
+        let cell = seen(monitor);
+        let Some(place) = place_of(&plan.instance(&monitor), &self.objects, &cell) else {
+            unreachable!();
+        };
+        remember_in(&mut self.objects, place, monitor, now)
+    }
+
+    /// A profile captures a row of the values of its captured cells (IEC 62056-6-2, Profile generic, capture). The only error
+    /// is that memory was refused.
+    fn capture(&mut self, alloc: Global, plan: &Plan, profile: LogicalName) -> Result<Undo, Memory>
+        requires of_plan { IsState plan.now self.old }
+        requires fits { IsProfile plan.now profile }
+        ensures ok { OnOk result (self.new ≡ theory.capture self.old profile (captures_of (object_at plan.now profile))) }
+        ensures before { IfOk result (λ undo. undone undo self.new ≡ self.old) }
+        ensures err { OnErr result (self.new ≡ self.old) }
+    {
+        let instance = plan.instance(&profile);
+        let Some(part) = instance.profile() else {
+            unreachable!();
+        };
+        let row = self.captured_values(alloc, plan, &part.captured)?;
+        let Some(place) = place_of(&instance, &self.objects, &buffer(profile)) else {
+            unreachable!();
+        };
+        capture_in(alloc, &mut self.objects, place, profile, part, row)
+    }
+
+    /// A copy of the value of each captured cell, in order.
+    fn captured_values(
+        &self,
+        alloc: Global,
+        plan: &Plan,
+        captured: &[CellRef],
+    ) -> Result<Row, Memory>
+        requires { IsState plan.now self.now }
+        ensures { IfOk result (λ row. row ≡ map (value self.now) captured.now) }
+    {
+        let mut values = Vec::with_capacity(alloc, captured.len())?;
+        for cell in captured {
+            values.push(self.value(alloc, plan, cell)?)?;
+        }
+        Ok(Items::new(values))
+    }
+
+    /// Empties a profile (IEC 62056-6-2, Profile generic, reset). Where the plan has none, nothing changes.
+    fn clear(&mut self, plan: &Plan, profile: LogicalName) -> Undo
+        requires { IsState plan.now self.old }
+        ensures cleared { self.new ≡ theory.clear self.old profile }
+        ensures before { undone result self.new ≡ self.old }
+    {
+        match place_of(&plan.instance(&profile), &self.objects, &buffer(profile)) {
+            Some(place) => clear_in(&mut self.objects, place, profile),
+            None => Undo {
+                name: profile,
+                change: Change::Cleared(Cleared {
+                    buffer: Rows::none(),
+                    entries_in_use: 0,
+                }),
+            },
         }
     }
 
@@ -75,103 +224,113 @@ impl Meter {
         ensures { IfOk result (λ copy. copy ≡ self.now) }
     {
         Ok(Meter {
-            pairs: copy_of(alloc, &self.pairs)?,
+            objects: copy_of(alloc, &self.objects)?,
         })
     }
-
-    /// Puts a value that may stand in the cell, by the class of its object. It takes no memory.
-    pub fn put(&mut self, alloc: Global, plan: &Plan, cell: &CellRef, given: Data)
-        requires of_plan { IsState plan.now self.old }
-        requires fits { MayStand plan.now cell.now (tree given) }
-        ensures { self.new ≡ put self.old cell.now (tree given) }
-    {
-        plan.known();
-        if let Some(object) = plan.object_at(&cell.name) {
-            let held = self.replace(cell, Data::NullData);
-            let part = object.part();
-            let monitored = plan.monitored_kind(part);
-            let value = part.put(alloc, cell.name, monitored, cell.index, held, given);
-            self.set(cell, value);
-        }
-    }
-
-    /// Puts a value into a cell, where there is such a cell; whether it may stand there is the caller's to know. It takes no
-    /// memory.
-    pub fn set(&mut self, cell: &CellRef, given: Data)
-        ensures { self.new ≡ put self.old cell.now (tree given) }
-    {
-        let _held = self.replace(cell, given);
-    }
-
-    /// Puts a value into a cell, and hands out the one that was there; null-data where there is no such cell. Whether the
-    /// value may stand there is the caller's to know. It takes no memory.
-    pub fn replace(&mut self, cell: &CellRef, given: Data) -> Data
-        ensures put { self.new ≡ put self.old cell.now (tree given) }
-        ensures old { tree result ≡ value self.old cell.now }
-    {
-        match place_of(&self.pairs, cell) {
-            Some(at) => replace_pair(&mut self.pairs, at, (*cell, given)),
-            None => Data::NullData,
-        }
-    }
 }
 
-fn value_in(alloc: Global, pairs: &[(CellRef, Data)], cell: &CellRef) -> Result<Data, Memory>
-    ensures { IfOk result (λ v. tree v ≡ value (map entry_of pairs.now) cell.now) }
+/// Where the object with this cell stands, which is of what the plan has at its name.
+fn place_of(instance: &Instance<'_>, objects: &[Stored], cell: &CellRef) -> Option<usize>
+    requires of_plan { keys (flat_map stored_pairs objects.now) ≡ cells instance.now.plan }
+    requires named { cell.now.name ≡ instance.now.name }
+    ensures { result ≡ position_from (stores cell.now) 0 objects.now }
 {
-    match pair_of(pairs, cell) {
-        Some(pair) => pair.1.try_clone(alloc),
-        None => Ok(Data::NullData),
+    instance.plan().known();
+    let Some(place) = instance.place() else {
+        return None;
+    };
+    let owner = usize::from(place.owner);
+    match objects.get(owner) {
+        Some(object) if object.has(cell) => Some(owner),
+        _ => None,
     }
 }
 
-/// The first pair of a cell.
-fn pair_of<'a>(pairs: &'a [(CellRef, Data)], cell: &CellRef) -> Option<&'a (CellRef, Data)>
-    ensures { option_map (λ pair. pair.now) result ≡ find (λ pair. same_cell pair.0 cell.now) pairs.now }
+/// Writes a value into a cell of the object at this place.
+fn write_in(
+    objects: &mut Vec<Stored>,
+    place: usize,
+    part: &Part,
+    monitored: Kind,
+    cell: &CellRef,
+    given: Data,
+) -> Undo
+    requires place { position_from (stores cell.now) 0 objects.old.items ≡ Some place }
+    requires class { class_of (part_of part.now) ≡ cell.now.class_id }
+    requires fits { (rule : Rule) × (rule_watching monitored (part_of part.now) cell.now.index ≡ Some rule) × (meets rule (tree given) ≡ true) }
+    ensures put { flat_map stored_pairs objects.new.items ≡ state.put (flat_map stored_pairs objects.old.items) cell.now (tree given) }
+    ensures before { undone result (flat_map stored_pairs objects.new.items) ≡ flat_map stored_pairs objects.old.items }
 {
-    pairs.iter().find(|pair| pair.0 == *cell)
-}
-
-fn replace_pair(pairs: &mut Vec<(CellRef, Data)>, at: usize, pair: (CellRef, Data)) -> Data
-    requires { at < vec_len pairs.old }
-    ensures items { pairs.new.items ≡ slice_set pairs.old.items at pair }
-    ensures old { IfSome (slice_get pairs.old.items at) (λ p. result ≡ p.1) }
-{
-    let (_, old) = mem::replace(&mut pairs[at], pair);
-    old
-}
-
-/// Where the first pair of a cell stands.
-fn place_of(pairs: &[(CellRef, Data)], cell: &CellRef) -> Option<usize>
-    ensures within { IfSome result (λ at. at < length pairs.now) }
-    ensures found { IfSome result (λ at. IfSome (slice_get pairs.now at) (λ pair. same_cell pair.0 cell.now ≡ true)) }
-    ensures first { IfSome result (λ at. list_any (λ pair. same_cell pair.0 cell.now) (take at pairs.now) ≡ false) }
-    ensures none { IfNone result (list_any (λ pair. same_cell pair.0 cell.now) pairs.now ≡ false) }
-{
-    for (at, pair) in pairs.iter().enumerate() {
-        if pair.0 == *cell {
-            return Some(at);
-        }
+    let change = objects[place].write(part, monitored, cell.index, given);
+    Undo {
+        name: cell.name,
+        change,
     }
-    None
 }
 
-fn cells_of(alloc: Global, pairs: &[(CellRef, Data)]) -> Result<Vec<CellRef>, Memory>
-    ensures { IfOk result (λ list. list.items ≡ keys (map entry_of pairs.now)) }
+/// The register monitor at this place remembers a value.
+fn remember_in(objects: &mut Vec<Stored>, place: usize, name: LogicalName, now: Data) -> Undo
+    requires place { position_from (stores (plans.seen name)) 0 objects.old.items ≡ Some place }
+    ensures put { flat_map stored_pairs objects.new.items ≡ state.put (flat_map stored_pairs objects.old.items) (plans.seen name) (tree now) }
+    ensures before { undone result (flat_map stored_pairs objects.new.items) ≡ flat_map stored_pairs objects.old.items }
+{
+    let change = objects[place].remember(now);
+    Undo { name, change }
+}
+
+/// The profile at this place captures a row.
+fn capture_in(
+    alloc: Global,
+    objects: &mut Vec<Stored>,
+    place: usize,
+    name: LogicalName,
+    part: &ProfilePart,
+    row: Row,
+) -> Result<Undo, Memory>
+    requires place { position_from (stores (plans.buffer name)) 0 objects.old.items ≡ Some place }
+    requires rows { is_buffer (length part.now.captured.items) part.now.profile_entries (value (flat_map stored_pairs objects.old.items) (plans.buffer name)) ≡ true }
+    ensures ok { OnOk result (flat_map stored_pairs objects.new.items ≡ captured name part.now.profile_entries row (flat_map stored_pairs objects.old.items)) }
+    ensures before { IfOk result (λ undo. undone undo (flat_map stored_pairs objects.new.items) ≡ flat_map stored_pairs objects.old.items) }
+    ensures err { OnErr result (flat_map stored_pairs objects.new.items ≡ flat_map stored_pairs objects.old.items) }
+{
+    let change = objects[place].capture(alloc, part, row)?;
+    Ok(Undo { name, change })
+}
+
+/// The profile at this place is emptied.
+fn clear_in(objects: &mut Vec<Stored>, place: usize, name: LogicalName) -> Undo
+    requires place { position_from (stores (plans.buffer name)) 0 objects.old.items ≡ Some place }
+    ensures cleared { flat_map stored_pairs objects.new.items ≡ theory.clear (flat_map stored_pairs objects.old.items) name }
+    ensures before { undone result (flat_map stored_pairs objects.new.items) ≡ flat_map stored_pairs objects.old.items }
+{
+    let change = objects[place].clear();
+    Undo { name, change }
+}
+
+/// Takes a change of the object at this place back.
+fn restore_in(objects: &mut Vec<Stored>, place: usize, undo: Undo)
+    requires place { position_from (stores (changed_cell undo)) 0 objects.old.items ≡ Some place }
+    ensures { flat_map stored_pairs objects.new.items ≡ undone undo (flat_map stored_pairs objects.old.items) }
+{
+    objects[place].restore(undo.change);
+}
+
+fn cells_of(alloc: Global, objects: &[Stored]) -> Result<Vec<CellRef>, Memory>
+    ensures { IfOk result (λ list. list.items ≡ keys (flat_map stored_pairs objects.now)) }
 {
     let mut cells = Vec::new(alloc);
-    for pair in pairs {
-        cells.push(pair.0)?;
+    for object in objects {
+        object.push_keys(&mut cells)?;
     }
     Ok(cells)
 }
 
-fn copy_of(alloc: Global, pairs: &[(CellRef, Data)]) -> Result<Vec<(CellRef, Data)>, Memory>
-    ensures { IfOk result (λ copy. map entry_of copy.items ≡ map entry_of pairs.now) }
+fn copy_of(alloc: Global, objects: &[Stored]) -> Result<Vec<Stored>, Memory>
+    ensures { IfOk result (λ copy. flat_map stored_pairs copy.items ≡ flat_map stored_pairs objects.now) }
 {
-    let mut copy = Vec::new(alloc);
-    for pair in pairs {
-        copy.push((pair.0, pair.1.try_clone(alloc)?))?;
+    let mut copy = Vec::with_capacity(alloc, objects.len())?;
+    for object in objects {
+        copy.push(object.try_clone(alloc)?)?;
     }
     Ok(copy)
 }

@@ -1,31 +1,33 @@
-ghost use Rattle.std.specs.Prelude.{◌≡◌, ℕ, option_map, map, find, flat_map, IfOk, IsOk, slice_get};
-ghost use Rattle.std.specs.List.{list_any, position_from};
+ghost use Rattle.std.specs.Prelude.{◌≡◌, ◌<◌, ◌≤◌, ◌+◌, ◌^◌, ℕ, length, option_map, map, flat_map, IfOk, slice_get};
+ghost use Rattle.std.specs.List.{position_from};
 ghost use Rattle.std.specs.Str.{bytes_eq};
-ghost use Rattle.cosem_data.specs.View.{tree};
-ghost use Rattle.cosem_data.specs.Cells.{same_cell};
+ghost use Rattle.cosem_data.specs.Cells.{same_name};
 ghost use Rattle.cosem_data.specs.Kinds.{kind_of};
-ghost use Rattle.cosem_class.specs.Judged.{rule_answer};
-ghost use Rattle.meter_theory.specs.Plan.{cells, client_named, interface_at, is_cell, object_at, rule_of, start, start_of};
-ghost use Rattle.meter_theory.specs.State.{keys, value};
-ghost use Rattle.meter_theory.specs.Fixed.{fixed_of};
+ghost use Rattle.meter_theory.specs.Plan.{cells, client_named, is_cell, object_at, start, start_of};
+ghost use Rattle.meter_theory.specs.Rights.{is_client};
+ghost use Rattle.meter_theory.specs.State.{value};
 ghost use Rattle.meter_theory.specs.Sound.{IsSound};
-ghost use Rattle.config_plan.specs.Faultless.{IsFaultlessPlan};
-ghost use Rattle.object_model.specs.MeterView.{entry_of};
+ghost use Rattle.object_model.specs.Grants.{AreMasksOf};
 ghost use Rattle.object_model.specs.PartView.{part_of, monitored_kind};
 ghost use Rattle.object_model.specs.PlanView.{plan_of};
+ghost use Rattle.object_model.specs.Stored.{stored_pairs};
+ghost use Rattle.object_model.specs.Tables.{place_of};
 
 use crate::client::Client;
+use crate::grants::Grants;
+use crate::index::Index;
+use crate::instance::Instance;
 use crate::meter::Meter;
 use crate::object::Object;
 use crate::part::Part;
-use crate::right::Right;
-use config_plan::laws::faultless_configurations_are_sound;
+use crate::place::{Place, places_of};
+use crate::right::{Access, Right};
+use crate::stored::Stored;
 use cosem_data::cell::CellRef;
 use cosem_data::data::Data;
 use cosem_data::kind::Kind;
 use cosem_data::memory::Memory;
 use cosem_data::name::LogicalName;
-use meter_theory::access::AccessCode;
 use meter_theory::refs::Interface;
 use std::alloc::Global;
 use std::marker::Model;
@@ -52,19 +54,23 @@ pub struct PlanParts {
     pub rights: Vec<Right>,
 }
 
-/// The clients and objects of a meter and the rights of its clients: the plan of a configuration in which no fault is found
-/// (own profile).
+/// The clients and objects of a meter and the rights of its clients: a sound plan, of which the promises about influence and
+/// secrecy hold (own profile). Beside its parts it keeps what is asked often: the names in their order, the rights as masks
+/// and the places of the cells.
 #[derive(Drop)]
 pub struct Plan {
     clients: Vec<Client>,
     objects: Vec<Object>,
     rights: Vec<Right>,
+    index: Index,
+    grants: Grants,
+    places: Vec<Place>,
 }
 
 impl Model for Plan {
     ghost use Rattle.meter_theory.specs.Plan as theory;
     ghost use Rattle.meter_theory.specs.PlanCode.{plan_code};
-    ghost use Rattle.config_plan.specs.Faultless.{IsFaultlessPlan};
+    ghost use Rattle.object_model.specs.Tables.{AreTables};
 
     ghost Value = { theory.Plan };
 
@@ -72,37 +78,38 @@ impl Model for Plan {
 
     ghost view = { λ p. record { clients = p.clients.items; objects = p.objects.items; rights = p.rights.items } };
 
-    ghost invariant = { λ p. IsFaultlessPlan (record { clients = p.clients.items; objects = p.objects.items; rights = p.rights.items }) };
+    ghost invariant = { λ p. AreTables (record { clients = p.clients.items; objects = p.objects.items; rights = p.rights.items }) p.index p.grants p.places.items };
 }
 
 impl Plan {
-    /// The plan of these parts, which are those of a configuration in which no fault is found (own profile). It takes no
-    /// memory, and gives no error.
-    pub fn new(parts: PlanParts) -> Result<Plan, Memory>
-        requires { IsFaultlessPlan (plan_of parts) }
-        ensures plan { IfOk result (λ plan. plan ≡ plan_of parts) }
-        ensures good { IsOk result }
+    /// The plan of these parts, a sound one. The error is that memory was refused.
+    pub fn new(alloc: Global, parts: PlanParts) -> Result<Plan, Memory>
+        requires { IsSound (plan_of parts) }
+        ensures { IfOk result (λ plan. plan ≡ plan_of parts) }
     {
         let PlanParts {
             clients,
             objects,
             rights,
         } = parts;
+        let index = Index::new(alloc, names_of(alloc, &objects)?)?;
+        let grants = Grants::new(alloc, &index, &rights)?;
+        let places = places_of(alloc, &objects)?;
         Ok(Plan {
             clients,
             objects,
             rights,
+            index,
+            grants,
+            places,
         })
     }
 
-    /// What the type keeps, for callers: a plan is that of a configuration in which no fault is found, so that the
-    /// promises about influence and secrecy hold of it. It takes no memory.
+    /// What the type keeps, for callers: a plan is sound. It takes no memory.
     pub fn known(&self)
-        ensures faultless { IsFaultlessPlan self.now }
         ensures sound { IsSound self.now }
     {
         let _clients = &self.clients;
-        faultless_configurations_are_sound();
     }
 
     /// The client at this place, counted from 0, or None past the last. It takes no memory.
@@ -110,6 +117,13 @@ impl Plan {
         ensures { option_map (λ c. c.now) result ≡ slice_get self.now.clients client }
     {
         self.clients.get(usize::from(client))
+    }
+
+    /// Whether the plan has a client at this place, counted from 0. It takes no memory.
+    pub fn is_client(&self, client: u8) -> bool
+        ensures { result ≡ is_client self.now client }
+    {
+        self.client(client).is_some()
     }
 
     /// The object at this place in plan order, counted from 0, or None past the last. It takes no memory.
@@ -128,11 +142,54 @@ impl Plan {
         Some(place as u8)
     }
 
+    /// The number, from 0, of the object with this logical name, or None where there is none. `compared` rises by one a
+    /// comparison of names, by at most 10. It takes no memory.
+    pub fn find(&self, name: &LogicalName, compared: &mut u64) -> Option<u16>
+        requires { compared.old + 11 ≤ 2 ^ 64 }
+        ensures found { result ≡ position_from (λ o. same_name o.name name.now) 0 self.now.objects }
+        ensures counted { (compared.old ≤ compared.new) × (compared.new ≤ compared.old + 10) }
+    {
+        self.known();
+        let (number, comparisons) = self.index.find(name);
+        *compared += u64::from(comparisons);
+        number
+    }
+
+    /// The number of the object with this name.
+    pub(crate) fn number_of(&self, name: &LogicalName) -> Option<u16>
+        ensures { result ≡ position_from (λ o. same_name o.name name.now) 0 self.now.objects }
+    {
+        let (number, _) = self.index.find(name);
+        number
+    }
+
+    /// What the plan has at this logical name. It takes no memory.
+    pub fn instance(&self, name: &LogicalName) -> Instance<'_>
+        ensures { result ≡ record { plan = self.now; name = name.now } }
+    {
+        Instance::of(self, *name)
+    }
+
     /// The object with this logical name, or None where there is none. It takes no memory.
     pub fn object_at(&self, name: &LogicalName) -> Option<&Object>
         ensures { option_map (λ o. o.now) result ≡ object_at self.now name.now }
     {
-        self.objects.iter().find(|object| object.name() == *name)
+        self.instance(name).object()
+    }
+
+    /// The masks of what is granted for an access.
+    pub(crate) fn masks(&self, access: Access) -> &[u16]
+        ensures { AreMasksOf (map (λ o. o.name) self.now.objects) access self.now.rights result.now }
+    {
+        self.grants.masks(access)
+    }
+
+    /// Where the object with this number has its cells.
+    pub(crate) fn place(&self, number: u16) -> Place
+        requires { number < length self.now.objects }
+        ensures { result ≡ place_of self.now.objects number }
+    {
+        self.places[usize::from(number)]
     }
 
     /// The objects, in plan order. It takes no memory.
@@ -147,33 +204,6 @@ impl Plan {
         ensures { result.now ≡ self.now.rights }
     {
         &self.rights
-    }
-
-    /// The interface class of what stands at this name: the current association (IEC 62056-6-2, Association LN,
-    /// version 0), or an object; None where nothing stands. It takes no memory.
-    pub fn interface_at(&self, name: &LogicalName) -> Option<Interface>
-        ensures { result ≡ interface_at self.now name.now }
-    {
-        if *name == ASSOCIATION {
-            return Some(ASSOCIATION_LN);
-        }
-        self.object_at(name).map(|object| object.part().interface())
-    }
-
-    /// Whether the value may be put into the cell: `TypeUnmatched` for another tag and where no settable cell is,
-    /// `OtherReason` for the right tag against the rest of the cell's rule (own profile; the codes are those of
-    /// IEC 62056-5-3, Data-Access-Result). It takes no memory.
-    pub fn rule(&self, cell: &CellRef, value: &Data) -> Result<(), AccessCode>
-        ensures { result ≡ rule_answer (rule_of self.now cell.now) (tree value.now) }
-    {
-        let Some(object) = self.object_at(&cell.name) else {
-            return Err(AccessCode::TypeUnmatched);
-        };
-        let part = object.part();
-        if part.class_id() != cell.class_id {
-            return Err(AccessCode::TypeUnmatched);
-        }
-        part.judge(self.monitored_kind(part), cell.index, value)
     }
 
     /// The kind of the value that a register monitor watches, which is kept; that of null-data for any other object. It
@@ -191,25 +221,15 @@ impl Plan {
     pub fn start_kind(&self, cell: &CellRef) -> Kind
         ensures { result ≡ kind_of (value (start self.now) cell.now) }
     {
-        start_kind_in(&self.objects, cell)
-    }
-
-    /// A copy of a fixed attribute of an object, other than its logical name; null-data where there is none. The
-    /// class of the cell is not looked at. The error is that memory was refused.
-    pub fn fixed(&self, alloc: Global, cell: &CellRef) -> Result<Data, Memory>
-        ensures { IfOk result (λ value. tree value ≡ fixed_of (object_at self.now cell.now.name) cell.now.index) }
-    {
-        match self.object_at(&cell.name) {
-            Some(object) => object.part().fixed(alloc, cell.index),
-            None => Ok(Data::NullData),
-        }
+        self.instance(&cell.name)
+            .start_kind(cell.class_id, cell.index)
     }
 
     /// A meter of this plan, with the start values. The error is that memory was refused.
     pub fn start(&self, alloc: Global) -> Result<Meter, Memory>
         ensures { IfOk result (λ meter. meter ≡ start self.now) }
     {
-        Ok(Meter::new(start_pairs(alloc, &self.objects)?))
+        Ok(Meter::new(start_objects(alloc, &self.objects)?))
     }
 
     /// The cells, the attributes that can change, in plan order. The error is that memory was refused.
@@ -223,7 +243,7 @@ impl Plan {
     pub fn is_cell(&self, cell: &CellRef) -> bool
         ensures { result ≡ is_cell self.now cell.now }
     {
-        has_cell(&self.objects, cell)
+        self.instance(&cell.name).is_cell(cell.class_id, cell.index)
     }
 }
 
@@ -234,38 +254,26 @@ fn place_named(clients: &[Client], name: &[u8]) -> Option<usize>
     clients.iter().position(|client| client.name() == name)
 }
 
-/// The first object with this cell.
-fn object_with<'a>(objects: &'a [Object], cell: &CellRef) -> Option<&'a Object>
-    ensures { option_map (λ o. o.now) result ≡ find (λ o. list_any (same_cell cell.now) (keys (start_of o.name o.part))) objects.now }
+/// The names of objects, in their order.
+fn names_of(alloc: Global, objects: &[Object]) -> Result<Vec<LogicalName>, Memory>
+    ensures { IfOk result (λ names. names.items ≡ map (λ o. o.name) objects.now) }
 {
-    objects
-        .iter()
-        .find(|object| object.part().has_cell(object.name(), cell))
-}
-
-fn start_kind_in(objects: &[Object], cell: &CellRef) -> Kind
-    ensures { result ≡ kind_of (value (flat_map (λ o. start_of o.name o.part) objects.now) cell.now) }
-{
-    match object_with(objects, cell) {
-        Some(object) => object.part().start_kind(object.name(), cell),
-        None => Kind::NullData,
-    }
-}
-
-fn has_cell(objects: &[Object], cell: &CellRef) -> bool
-    ensures { result ≡ list_any (λ o. list_any (same_cell cell.now) (keys (start_of o.name o.part))) objects.now }
-{
-    objects
-        .iter()
-        .any(|object| object.part().has_cell(object.name(), cell))
-}
-
-fn start_pairs(alloc: Global, objects: &[Object]) -> Result<Vec<(CellRef, Data)>, Memory>
-    ensures { IfOk result (λ pairs. map entry_of pairs.items ≡ flat_map (λ o. start_of o.name o.part) objects.now) }
-{
-    let mut pairs = Vec::new(alloc);
+    let mut names = Vec::with_capacity(alloc, objects.len())?;
     for object in objects {
-        object.part().push_start(alloc, object.name(), &mut pairs)?;
+        names.push(object.name())?;
     }
-    Ok(pairs)
+    Ok(names)
+}
+
+/// The objects that have cells, with their start values.
+fn start_objects(alloc: Global, objects: &[Object]) -> Result<Vec<Stored>, Memory>
+    ensures { IfOk result (λ stored. flat_map stored_pairs stored.items ≡ flat_map (λ o. start_of o.name o.part) objects.now) }
+{
+    let mut stored = Vec::new(alloc);
+    for object in objects {
+        if let Some(object) = Stored::start(alloc, object)? {
+            stored.push(object)?;
+        }
+    }
+    Ok(stored)
 }

@@ -2,8 +2,7 @@
 ghost use Rattle.std.specs.Prelude.{◌≡◌, IfOk, IsOk, option_map, find};
 ghost use Rattle.cosem_data.specs.Cells.{same_cell};
 ghost use Rattle.meter_theory.specs.Labels.{label_at, or_else};
-ghost use Rattle.config_plan.specs.Faultless.{IsFaultlessPolicy};
-ghost use Rattle.object_model.specs.PolicyView.{policy_of, IsSomePolicy};
+ghost use Rattle.object_model.specs.PolicyView.{policy_of};
 
 use crate::plan::Plan;
 use cosem_data::cell::CellRef;
@@ -39,8 +38,7 @@ pub struct PolicyParts {
     pub default: Label,
 }
 
-/// A label for every cell: that of its first entry in a table, or else the default. It is the policy of a configuration
-/// in which no fault is found (own profile).
+/// A label for every cell: that of its first entry in a table, or else the default (own profile).
 #[derive(Drop)]
 pub struct Policy {
     table: Vec<(CellRef, Label)>,
@@ -49,33 +47,20 @@ pub struct Policy {
 
 impl Model for Policy {
     ghost use Rattle.meter_theory.specs.Labels as theory;
-    ghost use Rattle.object_model.specs.PolicyView.{IsSomePolicy};
 
     ghost Value = { theory.Policy };
 
     ghost view = { λ p. record { table = p.table.items; default = p.default } };
-
-    ghost invariant = { λ p. IsSomePolicy (record { table = p.table.items; default = p.default }) };
 }
 
 impl Policy {
-    /// The policy of these parts, which are those of a configuration in which no fault is found and which has this plan
-    /// (own profile). It takes no memory, and gives no error.
+    /// The policy of these parts for this plan. It takes no memory, and gives no error.
     pub fn new(_plan: &Plan, parts: PolicyParts) -> Result<Policy, Memory>
-        requires { IsFaultlessPolicy _plan.now (policy_of parts) }
         ensures policy { IfOk result (λ policy. policy ≡ policy_of parts) }
         ensures good { IsOk result }
     {
         let PolicyParts { table, default } = parts;
         Ok(Policy { table, default })
-    }
-
-    /// What the type keeps, for callers: a policy is that of a configuration in which no fault is found. It takes no
-    /// memory.
-    pub fn known(&self)
-        ensures { IsSomePolicy self.now }
-    {
-        let _table = &self.table;
     }
 
     /// The label of a cell: that of the first entry of the cell, or else the default. The inner cell of a register

@@ -1,9 +1,23 @@
 ghost use Rattle.std.specs.Prelude.{◌≡◌, ◌==◌, ◌&&◌};
 ghost use Rattle.cosem_data.specs.Cells.{same_name};
 ghost use Rattle.meter_theory.specs.Rights.{lists};
+ghost use Rattle.object_model.specs.Grants.{listed};
 
 use cosem_data::name::LogicalName;
 use std::marker::Model;
+
+/// What a right is asked for.
+#[derive(Clone, Copy)]
+pub(crate) enum Access {
+    /// That the object is in the client's view, which any right gives.
+    View,
+    /// A GET of an attribute.
+    Get,
+    /// A SET of an attribute.
+    Set,
+    /// An ACTION of a method.
+    Act,
+}
 
 /// What a client may do with an object: the attributes that it may read and set, and the methods that it may call
 /// (IEC 62056-6-2, access rights). A right without any of them still puts the object into the client's view.
@@ -42,6 +56,32 @@ impl Right {
         }
     }
 
+    /// The place of its client, counted from 0. It takes no memory.
+    pub(crate) fn client(&self) -> u8
+        ensures { result ≡ self.now.client }
+    {
+        self.client
+    }
+
+    /// The name of its object. It takes no memory.
+    pub(crate) fn object(&self) -> &LogicalName
+        ensures { result.now ≡ self.now.object }
+    {
+        &self.object
+    }
+
+    /// The indexes that it lists for this access; for the view 0, in each right. It takes no memory.
+    pub(crate) fn listed(&self, access: Access) -> &[u8]
+        ensures { result.now ≡ listed access self.now }
+    {
+        match access {
+            Access::View => &[0],
+            Access::Get => &self.gets,
+            Access::Set => &self.sets,
+            Access::Act => &self.acts,
+        }
+    }
+
     /// Whether it is a right of this client on this object. It takes no memory.
     pub fn is_for(&self, client: u8, object: &LogicalName) -> bool
         ensures { result ≡ ((self.now.client == client) && same_name self.now.object object.now) }
@@ -49,24 +89,10 @@ impl Right {
         self.client == client && self.object == *object
     }
 
-    /// Whether it allows a GET of this attribute (IEC 62056-6-2, access mode read_only). It takes no memory.
-    pub fn may_get(&self, index: u8) -> bool
-        ensures { result ≡ lists self.now.gets index }
+    /// Whether it lists this index for this access. It takes no memory.
+    pub(crate) fn lists(&self, access: Access, index: u8) -> bool
+        ensures { result ≡ lists (listed access self.now) index }
     {
-        self.gets.iter().any(|i| *i == index)
-    }
-
-    /// Whether it allows a SET of this attribute (IEC 62056-6-2, access mode write_only). It takes no memory.
-    pub fn may_set(&self, index: u8) -> bool
-        ensures { result ≡ lists self.now.sets index }
-    {
-        self.sets.iter().any(|i| *i == index)
-    }
-
-    /// Whether it allows an ACTION of this method (IEC 62056-6-2, method access modes). It takes no memory.
-    pub fn may_act(&self, index: u8) -> bool
-        ensures { result ≡ lists self.now.acts index }
-    {
-        self.acts.iter().any(|i| *i == index)
+        self.listed(access).iter().any(|i| *i == index)
     }
 }

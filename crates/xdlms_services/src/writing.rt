@@ -1,4 +1,4 @@
-ghost use Rattle.std.specs.Prelude.{◌≡◌, IfOk};
+ghost use Rattle.std.specs.Prelude.{◌≡◌, ◌++◌, OnErr, OnOk};
 ghost use Rattle.xdlms_services.specs.Replies.{CanWrite, IsReply, canonical_reply};
 ghost use Rattle.cosem_axdr.specs.Canonical.{HasLengths};
 ghost use Rattle.cosem_data.specs.View.{tree};
@@ -8,7 +8,6 @@ use cosem_data::data::Data;
 use cosem_data::memory::Memory;
 use meter_core::reply::Reply;
 use meter_theory::access::AccessCode;
-use std::alloc::Global;
 
 /// The services of IEC 62056-5-3 that the meter replies to.
 #[derive(Clone, Copy, Debug, PartialEq, Eq)]
@@ -39,56 +38,76 @@ const RESULT: u8 = 1;
 /// What stands for an optional part that isn't there.
 const ABSENT: u8 = 0;
 
-/// The APDU of a reply, with the invoke byte of its request: Get-Response-Normal,
+/// Puts the APDU of a reply behind what is there, with the invoke byte of its request: Get-Response-Normal,
 /// Set-Response-Normal or Action-Response-Normal of IEC 62056-5-3.
 ///
 /// A value goes into the reply to a GET alone, in its shortest encoding; a result goes into each of
-/// them; no APDU tells the quiet reply. The only error is want of memory.
+/// them; no APDU tells the quiet reply.
+///
+/// # Errors
+/// `Memory` where memory is refused; the vector then has what it had before.
 pub fn write_reply(
-    alloc: Global,
     invoke: u8,
     reply: &Reply,
     service: Service,
-) -> Result<Vec<u8>, Memory>
+    out: &mut Vec<u8>,
+) -> Result<(), Memory>
     requires { CanWrite service reply.now }
-    ensures form { IfOk result (λ bytes. IsReply service invoke reply.now bytes.items) }
     // Of the forms of the reply it is the shortest.
-    ensures shortest { IfOk result (λ bytes. bytes.items ≡ canonical_reply service invoke reply.now) }
+    ensures shortest { OnOk result (out.new.items ≡ out.old.items ++ canonical_reply service invoke reply.now) }
+    ensures form { OnOk result (IsReply service invoke reply.now (canonical_reply service invoke reply.now)) }
+    ensures err { OnErr result (out.new.items ≡ out.old.items) }
 {
     match (service, reply) {
-        (Service::Get, Reply::Value(value)) => write_value(alloc, invoke, value),
-        (_, Reply::Code(code)) => write_code(alloc, invoke, *code, service),
+        (Service::Get, Reply::Value(value)) => write_value(invoke, value, out),
+        (_, Reply::Code(code)) => write_code(invoke, *code, service, out),
         _ => unreachable!(),
     }
 }
 
-/// The reply to a GET that found the value.
+/// Puts the APDU of the reply to a GET that found the value behind what is there: Get-Response-Normal of
+/// IEC 62056-5-3, the value in its shortest encoding.
+///
+/// # Errors
+/// `Memory` where memory is refused; the vector then has what it had before.
 #[tactic(auto, using(cosem_axdr::proofs::Prefixes::canonical_is_encoding))]
-fn write_value(alloc: Global, invoke: u8, value: &Data) -> Result<Vec<u8>, Memory>
+pub fn write_value(invoke: u8, value: &Data, out: &mut Vec<u8>) -> Result<(), Memory>
     requires { HasLengths (tree value.now) }
-    ensures form { IfOk result (λ bytes. IsReply Service.Get invoke (Reply.Value value.now) bytes.items) }
-    ensures shortest { IfOk result (λ bytes. bytes.items ≡ canonical_reply Service.Get invoke (Reply.Value value.now)) }
+    ensures shortest { OnOk result (out.new.items ≡ out.old.items ++ canonical_reply Service.Get invoke (Reply.Value value.now)) }
+    ensures form { OnOk result (IsReply Service.Get invoke (Reply.Value value.now) (canonical_reply Service.Get invoke (Reply.Value value.now))) }
+    ensures err { OnErr result (out.new.items ≡ out.old.items) }
 {
-    let mut bytes = Vec::from_slice(alloc, &[GET_RESPONSE, NORMAL, invoke, VALUE])?;
-    write_data(value, &mut bytes)?;
-    Ok(bytes)
+    let len = out.len();
+    out.extend_from_slice(&[GET_RESPONSE, NORMAL, invoke, VALUE])?;
+    let written = write_data(value, out);
+    if written.is_err() {
+        out.truncate(len);
+    }
+    written
 }
 
-/// The reply that tells a result alone.
-fn write_code(
-    alloc: Global,
+/// Puts the APDU of the reply that tells a result alone behind what is there: Get-Response-Normal, Set-Response-Normal or
+/// Action-Response-Normal of IEC 62056-5-3.
+///
+/// # Errors
+/// `Memory` where memory is refused; the vector then has what it had before.
+pub fn write_code(
     invoke: u8,
     code: AccessCode,
     service: Service,
-) -> Result<Vec<u8>, Memory>
-    ensures form { IfOk result (λ bytes. IsReply service invoke (Reply.Code code) bytes.items) }
-    ensures shortest { IfOk result (λ bytes. bytes.items ≡ canonical_reply service invoke (Reply.Code code)) }
+    out: &mut Vec<u8>,
+) -> Result<(), Memory>
+    ensures shortest { OnOk result (out.new.items ≡ out.old.items ++ canonical_reply service invoke (Reply.Code code)) }
+    ensures form { IsReply service invoke (Reply.Code code) (canonical_reply service invoke (Reply.Code code)) }
+    ensures err { OnErr result (out.new.items ≡ out.old.items) }
 {
     let code = code.code();
-    let bytes = match service {
-        Service::Get => Vec::from_slice(alloc, &[GET_RESPONSE, NORMAL, invoke, RESULT, code])?,
-        Service::Set => Vec::from_slice(alloc, &[SET_RESPONSE, NORMAL, invoke, code])?,
-        Service::Act => Vec::from_slice(alloc, &[ACTION_RESPONSE, NORMAL, invoke, code, ABSENT])?,
-    };
-    Ok(bytes)
+    match service {
+        Service::Get => out.extend_from_slice(&[GET_RESPONSE, NORMAL, invoke, RESULT, code])?,
+        Service::Set => out.extend_from_slice(&[SET_RESPONSE, NORMAL, invoke, code])?,
+        Service::Act => {
+            out.extend_from_slice(&[ACTION_RESPONSE, NORMAL, invoke, code, ABSENT])?;
+        }
+    }
+    Ok(())
 }

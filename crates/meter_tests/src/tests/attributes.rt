@@ -1,6 +1,7 @@
 //! Attributes of an object, told by the bytes that encode their values.
+use class_control::monitor::Watch;
 use cosem_axdr::reading::read_data;
-use cosem_class::class::{ClassFault, InterfaceClass};
+use cosem_class::class::{ClassFault, InterfaceClass, Lent};
 use cosem_data::data::Data;
 use std::alloc::Global;
 use std::process::Abort;
@@ -25,6 +26,27 @@ pub(crate) fn is_encoded(
     Ok(())
 }
 
+/// What a plan lends to one operation after another.
+pub(crate) trait Lend {
+    /// The same for the next operation.
+    fn again(&self) -> Self;
+}
+
+impl<'a, Part> Lend for Lent<'a, Part> {
+    fn again(&self) -> Lent<'a, Part> {
+        Lent {
+            name: self.name,
+            part: self.part,
+        }
+    }
+}
+
+impl<'a> Lend for Watch<'a> {
+    fn again(&self) -> Watch<'a> {
+        *self
+    }
+}
+
 /// What is done to an attribute, or seen of it.
 #[derive(Clone, Copy)]
 pub(crate) enum Step<'a> {
@@ -36,25 +58,40 @@ pub(crate) enum Step<'a> {
     Hides(u8),
 }
 
-/// Takes these steps.
-pub(crate) fn take<C: InterfaceClass>(
+/// Takes these steps, for which the plan lends this.
+pub(crate) fn take<L: Lend + Drop, C: InterfaceClass<L>>(
     rt: &impl Abort,
     a: Global,
+    lent: L,
     object: &mut C,
     steps: &[Step],
 ) -> Result<(), Fail> {
     for step in steps {
         match *step {
             Step::Writes(index, bytes, want) => {
-                let done = object.write(index, value_of(rt, a, bytes)?);
-                assert!(rt; done == want, "{done:?} at {index}");
+                let done = object
+                    .write(lent.again(), index, value_of(rt, a, bytes)?)
+                    .err();
+                assert!(rt; done == want.err(), "{done:?} at {index}");
             }
-            Step::Shows(index, bytes) => is_encoded(rt, a, &object.read(a, index)?, bytes)?,
+            Step::Shows(index, bytes) => shows(rt, a, lent.again(), object, index, bytes)?,
             Step::Hides(index) => {
-                let fault = object.read(a, index).err();
+                let fault = object.read(a, lent.again(), index).err();
                 assert!(rt; fault == Some(ClassFault::NoIndex), "{fault:?} at {index}");
             }
         }
     }
     Ok(())
+}
+
+/// The attribute is read as the value that these bytes encode.
+pub(crate) fn shows<L, C: InterfaceClass<L>>(
+    rt: &impl Abort,
+    a: Global,
+    lent: L,
+    object: &C,
+    index: u8,
+    bytes: &[u8],
+) -> Result<(), Fail> {
+    is_encoded(rt, a, &object.read(a, lent, index)?, bytes)
 }

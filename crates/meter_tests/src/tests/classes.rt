@@ -1,6 +1,8 @@
-use super::attributes::{Step, take};
-use cosem_class::class::{ClassFault, InterfaceClass};
-use cosem_class::data1::Data1;
+ghost use Rattle.std.specs.Prelude.{◌≡◌};
+
+use super::attributes::{Step, shows, take};
+use cosem_class::class::{ClassFault, InterfaceClass, Lent};
+use cosem_class::data1::{Data1, DataPart};
 use cosem_class::judge::judge_kind;
 use cosem_class::register::{Register, RegisterPart};
 use cosem_data::bytes::Bytes;
@@ -59,9 +61,14 @@ fn limits_are_met_exactly(rt: HostRuntime) -> Result<(), Fail> {
 
 #[test]
 fn data_is_read_and_written(rt: HostRuntime) -> Result<(), Fail> {
-    let mut object = Data1 {
+    let part = DataPart {
+        start: Data::LongUnsigned(0),
+    };
+    let lent = Lent {
         name: DEVICE,
-        kind: Kind::LongUnsigned,
+        part: &part,
+    };
+    let mut object = Data1 {
         value: Data::LongUnsigned(1),
     };
     let steps = [
@@ -75,11 +82,42 @@ fn data_is_read_and_written(rt: HostRuntime) -> Result<(), Fail> {
         Step::Writes(2, &[0x12, 0, 2], Ok(())),
         Step::Shows(2, &[0x12, 0, 2]),
     ];
-    take(&rt, rt.alloc(), &mut object, &steps)
+    take(&rt, rt.alloc(), lent, &mut object, &steps)
+}
+
+/// What a plan lends of a register with this part.
+fn lent(part: &RegisterPart) -> Lent<'_, RegisterPart>
+    ensures { result.part.now ≡ part.now }
+{
+    Lent { name: ENERGY, part }
+}
+
+/// Calls a method of a register, of which the default and the value are of the kind of its start.
+fn call(
+    a: Global,
+    part: &RegisterPart,
+    object: &mut Register,
+    method: u8,
+) -> Result<(), ClassFault> {
+    let kind = part.start.kind();
+    judge_kind(kind, &part.default)?;
+    judge_kind(kind, &object.value)?;
+    object.invoke(
+        a,
+        lent(part),
+        method,
+        &Data::Integer(0),
+        Items::new(Vec::new(a)),
+    )
 }
 
 /// Writes a register, and calls its methods: a reset puts the default.
-fn writes_and_resets(rt: &impl Abort, a: Global, object: &mut Register) -> Result<(), Fail> {
+fn writes_and_resets(
+    rt: &impl Abort,
+    a: Global,
+    part: &RegisterPart,
+    object: &mut Register,
+) -> Result<(), Fail> {
     let writes = [
         Step::Shows(1, &[0x09, 0x06, 1, 0, 1, 8, 0, 255]),
         Step::Shows(3, &[0x02, 0x02, 0x0F, 0xFD, 0x16, 30]),
@@ -91,12 +129,12 @@ fn writes_and_resets(rt: &impl Abort, a: Global, object: &mut Register) -> Resul
         Step::Shows(2, &[0x06, 0x00, 0x01, 0xE2, 0x41]),
         Step::Writes(2, &[0x06, 0, 0, 0, 8], Ok(())),
     ];
-    take(rt, a, object, &writes)?;
-    let other = object.invoke(a, 2, &Data::Integer(0), Items::new(Vec::new(a)));
-    assert!(rt; other == Err(ClassFault::NoIndex), "{other:?}");
-    take(rt, a, object, &[Step::Shows(2, &[0x06, 0, 0, 0, 8])])?;
-    object.invoke(a, 1, &Data::Integer(0), Items::new(Vec::new(a)))?;
-    take(rt, a, object, &[Step::Shows(2, &[0x06, 0, 0, 0, 7])])
+    take(rt, a, lent(part), object, &writes)?;
+    let other = call(a, part, object, 2).err();
+    assert!(rt; other == Some(ClassFault::NoIndex), "{other:?}");
+    shows(rt, a, lent(part), object, 2, &[0x06, 0, 0, 0, 8])?;
+    call(a, part, object, 1)?;
+    shows(rt, a, lent(part), object, 2, &[0x06, 0, 0, 0, 7])
 }
 
 #[test]
@@ -110,11 +148,9 @@ fn register_is_read_written_and_reset(rt: HostRuntime) -> Result<(), Fail> {
         },
     };
     let mut object = Register {
-        name: ENERGY,
-        part: &part,
         value: Data::DoubleLongUnsigned(123_457),
     };
-    writes_and_resets(&rt, rt.alloc(), &mut object)
+    writes_and_resets(&rt, rt.alloc(), &part, &mut object)
 }
 
 #[test]

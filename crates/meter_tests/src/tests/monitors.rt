@@ -1,10 +1,8 @@
-use super::attributes::{Step, take};
+use super::attributes::{Step, shows, take};
 use super::scripts::SCRIPTS;
-use class_control::judge::judge_thresholds;
-use class_control::monitor::Monitor;
+use class_control::monitor::{Monitor, Watch};
 use class_control::parts::MonitorPart;
 use cosem_class::class::ClassFault;
-use cosem_class::judge::judge_kind;
 use cosem_class::shapes::array;
 use cosem_data::cell::CellRef;
 use cosem_data::data::Data;
@@ -46,15 +44,19 @@ pub(crate) fn monitor_part(alloc: Global) -> Result<MonitorPart, Fail> {
     })
 }
 
-/// A monitor of this part over a double-long-unsigned, with these thresholds, before its first evaluation.
-fn monitor(part: &MonitorPart, thresholds: Data) -> Result<Monitor<'_>, Fail> {
-    let kind = Kind::DoubleLongUnsigned;
-    judge_thresholds(part.actions.len(), kind, &thresholds)?;
-    Ok(Monitor {
+/// What a plan lends of a monitor with this part, over a double-long-unsigned.
+fn watch(part: &MonitorPart) -> Watch<'_> {
+    Watch {
         name: MONITOR,
         part,
-        kind,
-        thresholds,
+        kind: Kind::DoubleLongUnsigned,
+    }
+}
+
+/// A monitor of this part before its first evaluation.
+fn monitor(alloc: Global, part: &MonitorPart) -> Result<Monitor, Fail> {
+    Ok(Monitor {
+        thresholds: part.start.try_clone(alloc)?,
         seen: Data::NullData,
     })
 }
@@ -97,36 +99,36 @@ fn a_monitor_is_read_and_its_thresholds_written(rt: HostRuntime) -> Result<(), F
         Step::Writes(2, &[0x01, 0x01, 0x06, 0, 0, 0, 7], Ok(())),
         Step::Shows(2, &[0x01, 0x01, 0x06, 0, 0, 0, 7]),
     ];
-    let part = monitor_part(rt.alloc())?;
-    let start = part.start.try_clone(rt.alloc())?;
-    take(&rt, rt.alloc(), &mut monitor(&part, start)?, &steps)
-}
-
-/// Remembers a value that is of the monitored kind.
-fn remember(object: &mut Monitor, value: Data) -> Result<(), Fail> {
-    judge_kind(object.kind, &value)?;
-    object.remember(value);
-    Ok(())
+    let a = rt.alloc();
+    let part = monitor_part(a)?;
+    take(&rt, a, watch(&part), &mut monitor(a, &part)?, &steps)
 }
 
 /// This script alone is due at this value, or none, and the value is remembered.
 fn crosses(
     rt: &impl Abort,
     a: Global,
+    part: &MonitorPart,
     object: &mut Monitor,
     number: u32,
     want: Option<ScriptRef>,
 ) -> Result<(), Fail> {
-    let due = object.due(a, &Data::DoubleLongUnsigned(number))?;
+    let due = object.due(a, part, &Data::DoubleLongUnsigned(number))?;
     assert!(rt;
         due.len() <= 1 && due.first().copied() == want,
         "{due:?} at {number}"
     );
-    remember(object, Data::DoubleLongUnsigned(number))
+    let _before = object.remember(Data::DoubleLongUnsigned(number));
+    Ok(())
 }
 
 /// Scripts are due as the value crosses the threshold.
-fn crosses_the_threshold(rt: &impl Abort, a: Global, object: &mut Monitor) -> Result<(), Fail> {
+fn crosses_the_threshold(
+    rt: &impl Abort,
+    a: Global,
+    part: &MonitorPart,
+    object: &mut Monitor,
+) -> Result<(), Fail> {
     // Nothing was seen before the first, 100 lies on the side above, and each is remembered.
     for (number, want) in [
         (99, None),
@@ -138,14 +140,14 @@ fn crosses_the_threshold(rt: &impl Abort, a: Global, object: &mut Monitor) -> Re
         (4_000_000_000, Some(script(1))),
         (0, Some(script(2))),
     ] {
-        crosses(rt, a, object, number, want)?;
+        crosses(rt, a, part, object, number, want)?;
     }
-    take(rt, a, object, &[Step::Shows(2, &ONE_THRESHOLD)])
+    shows(rt, a, watch(part), object, 2, &ONE_THRESHOLD)
 }
 
 #[test]
 fn crossed_thresholds_are_due(rt: HostRuntime) -> Result<(), Fail> {
-    let part = monitor_part(rt.alloc())?;
-    let start = part.start.try_clone(rt.alloc())?;
-    crosses_the_threshold(&rt, rt.alloc(), &mut monitor(&part, start)?)
+    let a = rt.alloc();
+    let part = monitor_part(a)?;
+    crosses_the_threshold(&rt, a, &part, &mut monitor(a, &part)?)
 }

@@ -3,11 +3,12 @@ use super::monitors::{MONITORED_VALUE, ONE_PAIR, ONE_THRESHOLD, TWO_THRESHOLDS, 
 use super::profiles::two_entries;
 use super::schedules::{EACH_MONTH_END, SCRIPT_OF_TABLE, TWO_NOONS, schedule_part};
 use super::scripts::{TWO_SCRIPTS, scripts};
+use class_control::monitor::Monitor;
 use cosem_data::cell::CellRef;
 use cosem_data::kind::Kind;
 use cosem_data::name::LogicalName;
 use meter_theory::access::AccessCode;
-use object_model::part::{Part, SEEN};
+use object_model::part::Part;
 use std::alloc::Global;
 use std::process::Abort;
 use std::test::Fail;
@@ -33,7 +34,18 @@ fn schedule(alloc: Global) -> Result<Part, Fail> {
     Ok(Part::SingleActionSchedule(schedule_part(alloc)?))
 }
 
-/// An object with this part starts with these cells of the class, in order, which hold the values that these bytes encode.
+/// The start value at this index, if these are the cells.
+fn start_at<'a>(cells: &[(u8, &'a [u8])], index: u8) -> Option<&'a [u8]> {
+    for (cell, bytes) in cells {
+        if *cell == index {
+            return Some(*bytes);
+        }
+    }
+    None
+}
+
+/// An object with this part has these cells of the class and no other, and each starts with a value of the kind of the one
+/// that these bytes encode.
 fn starts(
     rt: &impl Abort,
     a: Global,
@@ -41,17 +53,19 @@ fn starts(
     class_id: u16,
     cells: &[(u8, &[u8])],
 ) -> Result<(), Fail> {
-    let mut pairs = Vec::new(a);
-    part.push_start(a, NAME, &mut pairs)?;
-    assert_eq!(rt; pairs.len(), cells.len());
-    for ((cell, value), (index, bytes)) in pairs.iter().zip(cells) {
-        let place = CellRef {
+    for index in 0..=16 {
+        let cell = CellRef {
             class_id,
             name: NAME,
-            index: *index,
+            index,
         };
-        assert!(rt; *cell == place, "{cell:?} for {place:?}");
-        is_encoded(rt, a, value, bytes)?;
+        let start = start_at(cells, index);
+        assert!(rt; part.has_cell(NAME, &cell) == start.is_some(), "{cell:?}");
+        let kind = match start {
+            Some(bytes) => value_of(rt, a, bytes)?.kind(),
+            None => Kind::NullData,
+        };
+        assert_eq!(rt; part.start_kind(NAME, &cell), kind, "of {cell:?}");
     }
     Ok(())
 }
@@ -73,7 +87,7 @@ fn parts_start_with_their_cells(rt: HostRuntime) -> Result<(), Fail> {
         a,
         monitor(a)?,
         21,
-        &[(2, &ONE_THRESHOLD), (SEEN, &[0x00])],
+        &[(2, &ONE_THRESHOLD), (Monitor::SEEN, &[0x00])],
     )?;
     starts(&rt, a, schedule(a)?, 22, &[(4, &EACH_MONTH_END)])
 }

@@ -1,11 +1,12 @@
-ghost use Rattle.std.specs.Prelude.{◌≡◌, length, IfOk};
+ghost use Rattle.std.specs.Prelude.{◌≡◌, length, IfOk, OnOk};
+ghost use Rattle.meter_tests.specs.Profiles.{MayStandIn};
 
-use super::attributes::{Step, is_encoded, take};
+use super::attributes::{Step, shows, take};
 use civil_moment::moment::Moment;
 use class_profile::due::is_due;
 use class_profile::profile::{Profile, ProfilePart};
-use class_profile::reversal::{dropped, take_back};
-use cosem_class::class::{ClassFault, InterfaceClass, Row};
+use class_profile::rows::Rows;
+use cosem_class::class::{ClassFault, InterfaceClass, Lent, Row};
 use cosem_data::cell::CellRef;
 use cosem_data::data::{Data, Items};
 use cosem_data::name::LogicalName;
@@ -39,15 +40,25 @@ pub(crate) fn two_entries(alloc: Global) -> Result<ProfilePart, Fail> {
     })
 }
 
-/// The object at the start.
-fn at_start<'a>(alloc: Global, part: &'a ProfilePart) -> Profile<'a> {
-    Profile {
+/// What a plan lends of a profile with this part.
+fn lent(part: &ProfilePart) -> Lent<'_, ProfilePart>
+    ensures { result.part.now ≡ part.now }
+{
+    Lent {
         name: LOAD_PROFILE,
         part,
-        buffer: Data::Array(Items::new(Vec::new(alloc))),
-        capture_period: Data::DoubleLongUnsigned(900),
-        entries_in_use: Data::DoubleLongUnsigned(0),
     }
+}
+
+/// The object at the start.
+fn at_start(alloc: Global, part: &ProfilePart) -> Result<Profile, Fail>
+    ensures { IfOk result (λ object. MayStandIn part.now object) }
+{
+    Ok(Profile {
+        buffer: Rows::new(alloc, part.profile_entries)?,
+        capture_period: part.capture_period,
+        entries_in_use: 0,
+    })
 }
 
 /// A value of energy and one of device.
@@ -61,35 +72,78 @@ fn row(alloc: Global, value: u8) -> Result<Row, Fail>
     Ok(Items::new(parts))
 }
 
-/// Captures a value of energy and one of device. The buffer before is the value that these bytes encode, and the buffer
-/// after goes back to it.
+/// Calls a method with this row.
+fn call(
+    a: Global,
+    part: &ProfilePart,
+    object: &mut Profile,
+    method: u8,
+    row: Row,
+) -> Result<(), ClassFault>
+    requires row { method ≡ 2 → length row ≡ length part.now.captured.items }
+    requires before { MayStandIn part.now object.old }
+    ensures { MayStandIn part.now object.new }
+{
+    object.invoke(a, lent(part), method, &Data::Integer(0), row)
+}
+
+/// Captures a value of energy and one of device. The buffer before is the value that these bytes encode, as it is after a
+/// capture that is taken back.
 fn captures(
     rt: &impl Abort,
     a: Global,
+    part: &ProfilePart,
     object: &mut Profile,
     value: u8,
     before: &[u8],
-) -> Result<(), Fail> {
-    take(rt, a, object, &[Step::Shows(2, before)])?;
-    assert!(rt; object.part.captured.len() == 2);
-    let oldest = dropped(a, object.part.profile_entries, &object.buffer)?;
-    let row = row(a, value)?;
-    object.invoke(a, 2, &Data::Integer(0), row)?;
-    let back = take_back(object.read(a, 2)?, oldest);
-    is_encoded(rt, a, &back, before)
+) -> Result<(), Fail>
+    requires before { MayStandIn part.now object.old }
+    ensures { OnOk result (MayStandIn part.now object.new) }
+{
+    assert!(rt; part.captured.len() == 2);
+    shows(rt, a, lent(part), object, 2, before)?;
+    let captured = object.capture(a, part, row(a, value)?)?;
+    object.take_back(captured);
+    shows(rt, a, lent(part), object, 2, before)?;
+    call(a, part, object, 2, row(a, value)?)?;
+    Ok(())
 }
 
 /// A call of a method other than the capture has this result.
 fn calls(
     rt: &impl Abort,
     a: Global,
+    part: &ProfilePart,
     object: &mut Profile,
     method: u8,
     want: Result<(), ClassFault>,
-) {
+)
+    requires before { MayStandIn part.now object.old }
+    ensures { MayStandIn part.now object.new }
+{
     assert!(rt; method != 2);
-    let done = object.invoke(a, method, &Data::Integer(0), Items::new(Vec::new(a)));
+    let done = call(a, part, object, method, Items::new(Vec::new(a)));
     assert!(rt; done == want, "{done:?} by {method}");
+}
+
+/// A reset empties the buffer, and one that is taken back leaves it and its entries in use, which these bytes encode.
+fn resets(
+    rt: &impl Abort,
+    a: Global,
+    part: &ProfilePart,
+    object: &mut Profile,
+    before: &[u8],
+    in_use: &[u8],
+) -> Result<(), Fail>
+    requires before { MayStandIn part.now object.old }
+{
+    let cleared = object.clear();
+    shows(rt, a, lent(part), object, 2, &[0x01, 0x00])?;
+    object.restore(cleared);
+    shows(rt, a, lent(part), object, 2, before)?;
+    shows(rt, a, lent(part), object, 7, in_use)?;
+    calls(rt, a, part, object, 1, Ok(()));
+    Ok(())
 }
 
 /// An array of the first entry.
@@ -113,32 +167,35 @@ const LAST_ENTRIES: [u8; 20] = [
 ];
 
 /// The last two of three entries are kept, and a reset empties the buffer.
-fn keeps_the_last(rt: &impl Abort, a: Global, object: &mut Profile) -> Result<(), Fail> {
-    captures(rt, a, object, 1, &[0x01, 0x00])?;
-    take(rt, a, object, &[Step::Shows(7, &[0x06, 0, 0, 0, 1])])?;
-    captures(rt, a, object, 2, &FIRST_ENTRY)?;
-    captures(rt, a, object, 3, &FIRST_ENTRIES)?;
-    calls(rt, a, object, 0, Err(ClassFault::NoIndex));
-    calls(rt, a, object, 3, Err(ClassFault::NoIndex));
-    let full = [
-        Step::Shows(2, &LAST_ENTRIES),
-        Step::Shows(7, &[0x06, 0, 0, 0, 2]),
-    ];
-    take(rt, a, object, &full)?;
-    calls(rt, a, object, 1, Ok(()));
+fn keeps_the_last(
+    rt: &impl Abort,
+    a: Global,
+    part: &ProfilePart,
+    object: &mut Profile,
+) -> Result<(), Fail>
+    requires before { MayStandIn part.now object.old }
+{
+    captures(rt, a, part, object, 1, &[0x01, 0x00])?;
+    shows(rt, a, lent(part), object, 7, &[0x06, 0, 0, 0, 1])?;
+    captures(rt, a, part, object, 2, &FIRST_ENTRY)?;
+    captures(rt, a, part, object, 3, &FIRST_ENTRIES)?;
+    calls(rt, a, part, object, 0, Err(ClassFault::NoIndex));
+    calls(rt, a, part, object, 3, Err(ClassFault::NoIndex));
+    resets(rt, a, part, object, &LAST_ENTRIES, &[0x06, 0, 0, 0, 2])?;
     let empty = [
         Step::Shows(2, &[0x01, 0x00]),
         Step::Shows(7, &[0x06, 0, 0, 0, 0]),
         // 900 seconds.
         Step::Shows(4, &[0x06, 0, 0, 0x03, 0x84]),
     ];
-    take(rt, a, object, &empty)
+    take(rt, a, lent(part), object, &empty)
 }
 
 #[test]
 fn the_last_entries_are_kept(rt: HostRuntime) -> Result<(), Fail> {
-    let part = two_entries(rt.alloc())?;
-    keeps_the_last(&rt, rt.alloc(), &mut at_start(rt.alloc(), &part))
+    let a = rt.alloc();
+    let part = two_entries(a)?;
+    keeps_the_last(&rt, a, &part, &mut at_start(a, &part)?)
 }
 
 #[test]
@@ -151,7 +208,7 @@ fn captures_are_due_each_quarter_of_an_hour(rt: HostRuntime) -> Result<(), Fail>
         (900, "2024-02-29T00:00:00", true),
         (0, "2000-01-01T00:00:00", false),
     ] {
-        let is_due = is_due(&Data::DoubleLongUnsigned(period), Moment::read(text)?);
+        let is_due = is_due(period, Moment::read(text)?);
         assert!(rt; is_due == want, "{period} at {text}");
     }
     Ok(())
@@ -198,6 +255,7 @@ fn a_profile_is_read_and_its_period_set(rt: HostRuntime) -> Result<(), Fail> {
         Step::Writes(4, &[0x06, 0, 0, 0, 60], Ok(())),
         Step::Shows(4, &[0x06, 0, 0, 0, 60]),
     ];
-    let part = two_entries(rt.alloc())?;
-    take(&rt, rt.alloc(), &mut at_start(rt.alloc(), &part), &steps)
+    let a = rt.alloc();
+    let part = two_entries(a)?;
+    take(&rt, a, lent(&part), &mut at_start(a, &part)?, &steps)
 }

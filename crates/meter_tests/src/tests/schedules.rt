@@ -1,12 +1,10 @@
 use super::attributes::{Step, take};
 use super::monitors::script;
 use super::times::{MIDNIGHT, MONTH_END, element};
-use class_control::judge::judge_times;
 use class_control::parts::SchedulePart;
 use class_control::schedule::Schedule;
-use cosem_class::class::ClassFault;
+use cosem_class::class::{ClassFault, Lent};
 use cosem_class::shapes::array;
-use cosem_data::data::Data;
 use cosem_data::name::LogicalName;
 use std::alloc::Global;
 use std::test::Fail;
@@ -23,13 +21,10 @@ pub(crate) fn schedule_part(alloc: Global) -> Result<SchedulePart, Fail> {
     })
 }
 
-/// A schedule of this part with these times.
-fn schedule(part: &SchedulePart, times: Data) -> Result<Schedule<'_>, Fail> {
-    judge_times(part.execution_type, &times)?;
+/// A schedule of this part at the start.
+fn schedule(alloc: Global, part: &SchedulePart) -> Result<Schedule, Fail> {
     Ok(Schedule {
-        name: SCHEDULE,
-        part,
-        times,
+        times: part.start.try_clone(alloc)?,
     })
 }
 
@@ -77,7 +72,11 @@ fn a_schedule_is_read_and_its_times_written(rt: HostRuntime) -> Result<(), Fail>
         Step::Writes(4, &ONE_NOON, Ok(())),
         Step::Shows(4, &ONE_NOON),
     ];
-    let part = schedule_part(rt.alloc())?;
-    let start = part.start.try_clone(rt.alloc())?;
-    take(&rt, rt.alloc(), &mut schedule(&part, start)?, &steps)
+    let a = rt.alloc();
+    let part = schedule_part(a)?;
+    let lent = Lent {
+        name: SCHEDULE,
+        part: &part,
+    };
+    take(&rt, a, lent, &mut schedule(a, &part)?, &steps)
 }

@@ -3,7 +3,7 @@ use class_control::action::Action;
 use class_control::parts::ScriptTablePart;
 use class_control::script::Script;
 use class_control::script_table::ScriptTable;
-use cosem_class::class::{ClassFault, InterfaceClass};
+use cosem_class::class::{ClassFault, InterfaceClass, Lent};
 use cosem_data::cell::{CellRef, MethodRef};
 use cosem_data::data::{Data, Items};
 use cosem_data::name::LogicalName;
@@ -75,22 +75,30 @@ pub(crate) const TWO_SCRIPTS: [u8; 53] = [
     0x00, // null-data
 ];
 
+/// What a plan lends of a table with this part.
+fn lent(part: &ScriptTablePart) -> Lent<'_, ScriptTablePart> {
+    Lent {
+        name: SCRIPTS,
+        part,
+    }
+}
+
 /// A call with the argument that these bytes encode has this result.
 fn calls(
     rt: &impl Abort,
     a: Global,
-    object: &mut ScriptTable,
+    part: &ScriptTablePart,
     (method, bytes): (u8, &[u8]),
     want: Result<(), ClassFault>,
 ) -> Result<(), Fail> {
     let argument = value_of(rt, a, bytes)?;
-    let done = object.invoke(a, method, &argument, Items::new(Vec::new(a)));
+    let done = ScriptTable.invoke(a, lent(part), method, &argument, Items::new(Vec::new(a)));
     assert!(rt; done == want, "{done:?} of {bytes:?}");
     Ok(())
 }
 
 /// Shows its scripts, which a long-unsigned calls. Script 0 is the null script.
-fn is_read_and_called(rt: &impl Abort, a: Global, object: &mut ScriptTable) -> Result<(), Fail> {
+fn is_read_and_called(rt: &impl Abort, a: Global, part: &ScriptTablePart) -> Result<(), Fail> {
     let steps = [
         Step::Shows(1, &[0x09, 0x06, 0, 0, 10, 0, 100, 255]),
         Step::Shows(2, &TWO_SCRIPTS),
@@ -100,22 +108,18 @@ fn is_read_and_called(rt: &impl Abort, a: Global, object: &mut ScriptTable) -> R
         Step::Writes(2, &[0x00], Err(ClassFault::NotSettable)),
         Step::Writes(3, &[0x00], Err(ClassFault::NoIndex)),
     ];
-    take(rt, a, object, &steps)?;
+    take(rt, a, lent(part), &mut ScriptTable, &steps)?;
     let unknown = Err(ClassFault::UnknownScript);
-    calls(rt, a, object, (1, &[0x12, 0, 0]), Ok(()))?;
-    calls(rt, a, object, (1, &[0x12, 0, 1]), Ok(()))?;
-    calls(rt, a, object, (1, &[0x12, 0, 3]), Ok(()))?;
-    calls(rt, a, object, (1, &[0x12, 0, 4]), unknown)?;
-    calls(rt, a, object, (1, &[0x11, 1]), Err(ClassFault::Kind))?;
-    calls(rt, a, object, (2, &[0x12, 0, 1]), Err(ClassFault::NoIndex))
+    calls(rt, a, part, (1, &[0x12, 0, 0]), Ok(()))?;
+    calls(rt, a, part, (1, &[0x12, 0, 1]), Ok(()))?;
+    calls(rt, a, part, (1, &[0x12, 0, 3]), Ok(()))?;
+    calls(rt, a, part, (1, &[0x12, 0, 4]), unknown)?;
+    calls(rt, a, part, (1, &[0x11, 1]), Err(ClassFault::Kind))?;
+    calls(rt, a, part, (2, &[0x12, 0, 1]), Err(ClassFault::NoIndex))
 }
 
 #[test]
 fn a_script_table_is_read_and_called(rt: HostRuntime) -> Result<(), Fail> {
     let part = scripts(rt.alloc())?;
-    let mut object = ScriptTable {
-        name: SCRIPTS,
-        part: &part,
-    };
-    is_read_and_called(&rt, rt.alloc(), &mut object)
+    is_read_and_called(&rt, rt.alloc(), &part)
 }

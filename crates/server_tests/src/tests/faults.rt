@@ -1,4 +1,4 @@
-use config_parts::fault::ConfigFault;
+use config_text::fault::ConfigFault;
 use meter_server::running::LineFault;
 use meter_server::verdict::{Verdict, verdict_text};
 use std::test::Fail;

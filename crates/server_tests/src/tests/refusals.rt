@@ -101,14 +101,16 @@ const ROWS: [Row; 21] = [
 fn all_held(
     rt: &impl Abort,
     alloc: Global,
+    plan: &Plan,
     cells: &[CellRef],
     meter: &Meter,
-) -> Result<String, Memory> {
+) -> Result<String, Memory>
+    requires { IsState plan.now meter.now }
+{
     let mut bytes = Vec::with_capacity(alloc, 256)?;
     for cell in cells {
-        if let Some(value) = meter.held(cell) {
-            encode(rt, value, &mut bytes)?;
-        }
+        let value = meter.value(alloc, plan, cell)?;
+        encode(rt, &value, &mut bytes)?;
     }
     Ok(hex::encode_upper(alloc, &bytes)?)
 }
@@ -125,11 +127,11 @@ fn taken(
     requires { IsState plan.now meter.old }
     ensures { IsState plan.now meter.new }
 {
-    let before = all_held(rt, alloc, cells, meter)?;
+    let before = all_held(rt, alloc, plan, cells, meter)?;
     if let Ok(reply) = apply(alloc, plan, meter, step) {
         return Ok(reply);
     }
-    let behind = all_held(rt, alloc, cells, meter)?;
+    let behind = all_held(rt, alloc, plan, cells, meter)?;
     assert_eq!(rt; behind.as_str(), before.as_str());
     let again = apply(alloc, plan, meter, step);
     assert!(rt; again.is_ok(), "refused once more");
@@ -153,7 +155,7 @@ fn survives_all(
         let all = format!(in alloc;
             "06{register:08X}{alarm}01010600000064{seen}{rows}0600000384060000000{count}{TIMES}"
         )?;
-        let held = all_held(rt, alloc, cells, meter)?;
+        let held = all_held(rt, alloc, plan, cells, meter)?;
         assert_eq!(rt; held.as_str(), all.as_str());
     }
     Ok(())

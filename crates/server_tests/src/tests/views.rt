@@ -47,10 +47,10 @@ fn a_view_is_read(rt: HostRuntime) -> Result<(), Fail> {
     let view = View::of(&plan, INSTALLER);
     is_written(&rt, rt.alloc(), view.object_list(rt.alloc()), LIST)?;
     for (index, want) in [(1, "09060000280000FF"), (5, "00"), (8, "1602")] {
-        let value = view.read(rt.alloc(), index)?;
+        let value = view.read(rt.alloc(), (), index)?;
         is_written(&rt, rt.alloc(), Ok(value), want)?;
     }
-    let other = view.read(rt.alloc(), 9).err();
+    let other = view.read(rt.alloc(), (), 9).err();
     assert_eq!(rt; other, Some(ClassFault::NoIndex));
     Ok(())
 }

@@ -12,10 +12,10 @@ use Rattle.association_views.proofs.association.attribute_accesses.Goals as goal
 pub loop-place-preserved : goal.loop-place-preserved
 loop-place-preserved c =
     ap (map tree) c.in_ok-push.ensures.items
-    ∙ (map_push tree c.loop-place.all.items c.in_ok-attribute_access.field-0
-    ∙ (ap (λ ts. ts ++ tree c.in_ok-attribute_access.field-0 ∷ []) c.loop-place.invariant
-    ∙ (ap (λ t. map access (range_with_len 1 c.loop-place.place) ++ t ∷ []) c.in_ok-attribute_access.ensures
+    ∙ (map_push tree c.loop-place.all.items c.in_ok-access.access
+    ∙ (ap (λ ts. ts ++ tree c.in_ok-access.access ∷ []) c.loop-place.invariant
+    ∙ (ap (λ t. map access (range_with_len 1 c.loop-place.place) ++ t ∷ []) c.in_ok-access.ensures
     ∙ sym (one_more access c.loop-place.place))))
   where
     access : ℕ → Tree
-    access k = attribute_access c.args.plan.now c.args.client (cell c.args.interface.class_id c.args.name.now k)
+    access k = attribute_access c.args.instance.now.plan c.args.client (cell c.args.interface.class_id c.args.instance.now.name k)

@@ -6,4 +6,4 @@ use Rattle.meter_theory.specs.Fixed.{attribute_access}
 use Rattle.association_views.proofs.association.attribute_accesses.Given as goal
 
 abbrev pub invariant-loop-place : goal.invariant-loop-place
-invariant-loop-place l = map tree l.all.items ≡ map (λ k. attribute_access l.plan l.client (cell l.interface.class_id l.name k)) (range_with_len 1 l.place)
+invariant-loop-place l = map tree l.all.items ≡ map (λ k. attribute_access l.instance.plan l.client (cell l.interface.class_id l.instance.name k)) (range_with_len 1 l.place)

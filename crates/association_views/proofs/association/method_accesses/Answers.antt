@@ -14,8 +14,8 @@ loop-place-preserved c =
     ap (map tree) c.in_ok-push.ensures.items
     ∙ (map_push tree c.loop-place.all.items c.in_ok-method_access.field-0
     ∙ (ap (λ ts. ts ++ tree c.in_ok-method_access.field-0 ∷ []) c.loop-place.invariant
-    ∙ (ap (λ t. map access (range_with_len 1 c.loop-place.place) ++ t ∷ []) c.in_ok-method_access.ensures
+    ∙ (ap (λ t. map access (range_with_len 1 c.loop-place.place) ++ t ∷ []) (c.in_ok-method_access.ensures c.args.interface.class_id)
     ∙ sym (one_more access c.loop-place.place))))
   where
     access : ℕ → Tree
-    access k = method_access c.args.plan.now c.args.client (cell c.args.interface.class_id c.args.name.now k)
+    access k = method_access c.args.instance.now.plan c.args.client (cell c.args.interface.class_id c.args.instance.now.name k)

@@ -2,7 +2,6 @@ use Rattle.std.proofs.Common.{◌++◌, map, sym, ap, ◌∙◌}
 use Rattle.std.specs.Vec.{vec_items}
 use Rattle.std.proofs.lemmas.List.{append-nil}
 use Rattle.cosem_data.specs.View.{tree}
-use Rattle.meter_theory.specs.Steps as theory
 use Rattle.class_control.specs.DueScript.{as_list}
 use Rattle.class_control.proofs.DueMore.{due_more}
 use Rattle.class_control.proofs.due.due_scripts.Goals as goal

@@ -1,20 +1,19 @@
-use Rattle.std.proofs.Common.{ap, sym, subst, ◌∙◌, map}
+use Rattle.std.proofs.Common.{ap, sym, subst, ◌∙◌}
 use Rattle.meter_theory.specs.States.{IsState}
 use Rattle.meter_theory.specs.Steps.{effects}
 use Rattle.meter_theory.proofs.KeepSteps.{step-keeps}
-use Rattle.object_model.specs.EffectView.{effect_of, MayTakeAll}
 use Rattle.meter_core.specs.StepView.{step_of}
-use Rattle.meter_core.proofs.Added.{none_stands}
+use Rattle.meter_effects.proofs.Added.{none_stands}
 use Rattle.meter_core.proofs.Answered.{own_reply, own_memory}
 use Rattle.meter_core.proofs.apply.own.Goals as goal
 
-pub play-requires-clause-fits : goal.play-requires-clause-fits
-play-requires-clause-fits c = subst (MayTakeAll c.args.plan.now) (sym c.deref.ensures.value) c.in_ok-effects.ensures.ok.fits
+pub apply_all-requires-clause-fits : goal.apply_all-requires-clause-fits
+apply_all-requires-clause-fits c = c.in_ok-effects.ensures.ok.fits
 
 pub returns-clause-ok : goal.returns-clause-ok
 returns-clause-ok c =
-    c.in_ok-play.ensures.ok
-    ∙ ap (effects c.args.plan.now c.args.meter.now) (ap (map effect_of) c.deref.ensures.value ∙ c.in_ok-effects.ensures.ok.effects)
+    c.in_ok-apply_all.ensures.ok
+    ∙ ap (effects c.args.plan.now c.args.meter.now) c.in_ok-effects.ensures.ok.effects
 
 pub returns-clause-state : goal.returns-clause-state
 returns-clause-state c =
@@ -27,9 +26,8 @@ pub returns-in_err-effects-clause-denied : goal.returns-in_err-effects-clause-de
 returns-in_err-effects-clause-denied c = λ needs.
     let is_ok = c.in_err-effects.ensures.none (own_memory c.args.plan.now c.args.meter.now (step_of c.args.step.now) c.requires.own needs) in cc
 
-pub returns-in_err-play-clause-denied : goal.returns-in_err-play-clause-denied
-returns-in_err-play-clause-denied c = λ needs.
-    let is_ok = c.in_err-play.ensures.none
-    (c.deref.ensures.value
-    ∙ none_stands c.in_ok-effects.effects.items
+pub returns-in_err-apply_all-clause-denied : goal.returns-in_err-apply_all-clause-denied
+returns-in_err-apply_all-clause-denied c = λ needs.
+    let is_ok = c.in_err-apply_all.ensures.none
+    (none_stands c.in_ok-effects.effects.items
     (c.in_ok-effects.ensures.ok.effects ∙ own_memory c.args.plan.now c.args.meter.now (step_of c.args.step.now) c.requires.own needs)) in cc

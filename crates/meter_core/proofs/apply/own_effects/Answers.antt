@@ -1,7 +1,7 @@
 use Rattle.std.proofs.Common.{ap, sym, subst, ◌∙◌}
 use Rattle.std.proofs.lemmas.Result.{IfOk-weaker}
 use Rattle.meter_theory.specs.Steps.{effects_of}
-use Rattle.meter_core.specs.Adds.{StandsFor}
+use Rattle.meter_effects.specs.Adds.{StandsFor}
 use Rattle.meter_core.specs.StepView.{step_of}
 use Rattle.meter_core.proofs.apply.own_effects.Goals as goal
 

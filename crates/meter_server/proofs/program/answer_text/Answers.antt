@@ -1,9 +1,9 @@
 use Rattle.std.proofs.Common.{◌≡◌, ℕ, Result, Ok, Err, refl, sym, ap, subst}
 use Rattle.meter_theory.specs.Labels.{Policy}
 use Rattle.meter_theory.specs.Plan.{Plan}
-use Rattle.config_parts.specs.Fault.{Fault as ConfigFault}
-use Rattle.config_parts.specs.Parts.{ConfigText}
-use Rattle.config_plan.specs.PlanOf.{plan_of}
+use Rattle.config_text.specs.Fault.{Fault as ConfigFault}
+use Rattle.config_text.specs.Parts.{ConfigText}
+use Rattle.config_rules.specs.PlanOf.{plan_of}
 use Rattle.config_reader.specs.ConfigOf.{Reads, config_of}
 use Rattle.meter_server.specs.declared.running.LineFault.{LineFault}
 use Rattle.meter_server.specs.Running.{Moment, RunsLines}

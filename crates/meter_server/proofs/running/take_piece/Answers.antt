@@ -1,42 +1,76 @@
-use Rattle.std.proofs.Common.{◌+◌, ◌<◌, ◌++◌, ◌∷◌, [], List, ℕ, Option, Err, length, take, drop, get_or, sym, subst, arith, length-take}
-use Rattle.std.proofs.lemmas.List.{take_more, take-append-drop}
+use Rattle.std.proofs.Common.{◌++◌, ◌∷◌, [], List, ℕ, refl, sym, subst, arith}
 use Rattle.std.proofs.lemmas.Result.{err_from_is_err_and}
-use Rattle.meter_theory.specs.Plan.{Plan}
 use Rattle.meter_server.specs.declared.running.Run.{Run}
-use Rattle.meter_server.specs.declared.running.LineFault.{LineFault}
-use Rattle.meter_server.specs.Pieces.{Advances, TakesPiece}
-use Rattle.meter_server.proofs.Hearing.{few-lines, Advances-then, Takes-then, Takes-more}
+use Rattle.meter_server.specs.Feeding.{IsSplit}
+use Rattle.meter_server.specs.Pieces.{Advances}
+use Rattle.meter_server.proofs.Hearing.{Advances-none, few-lines, one-fits, line-answered, line-stops, texts-written, write-stops}
+use Rattle.meter_server.proofs.Standing.{stage}
 use Rattle.meter_server.proofs.running.take_piece.Goals as goal
 
-pub take_byte-requires-clause-fits : goal.take_byte-requires-clause-fits
-take_byte-requires-clause-fits g c =
-    let few = few-lines c.args.plan.now c.args.run.now c.loop-byte.run _ _ _ c.loop-byte.invariant.0 c.loop-byte.invariant.1 in
-    omega (arith, few, c.requires.fits, length-take c.loop-byte.byte-index c.args.piece.now)
+pub loop-part-init : goal.loop-part-init
+loop-part-init g c =
+    ([], Advances-none c.args.plan.now (stage c.args.feeder.now c.args.run.now (g.W.Write.contents c.args.writer.now)) c.args.piece.now c.requires.held c.requires.state)
 
-pub take_byte-requires-clause-held : goal.take_byte-requires-clause-held
-take_byte-requires-clause-held g c = c.loop-byte.invariant.1.held
+pub answer_line-requires-clause-fits : goal.answer_line-requires-clause-fits
+answer_line-requires-clause-fits g c =
+    let old = stage c.args.feeder.now c.args.run.now (g.W.Write.contents c.args.writer.now) in
+    let mid = stage c.loop-part.feeder c.loop-part.run (g.W.Write.contents c.loop-part.writer) in
+    let split = rw c.in-Some.is at c.in_ok-part.ensures.fed in
+    omega (
+      arith,
+      few-lines c.args.plan.now old mid c.args.piece.now c.loop-part.rest.now c.loop-part.invariant.0 c.loop-part.invariant.1,
+      c.requires.fits,
+      one-fits (c.loop-part.feeder ++ c.loop-part.rest.now) _ c.in-Some.behind.now split,
+    )
 
-pub take_byte-requires-clause-state : goal.take_byte-requires-clause-state
-take_byte-requires-clause-state g c = c.loop-byte.invariant.1.state
+pub returns-in_err-answer_line : goal.returns-in_err-answer_line
+returns-in_err-answer_line g c =
+    let old = stage c.args.feeder.now c.args.run.now (g.W.Write.contents c.args.writer.now) in
+    let mid = stage c.loop-part.feeder c.loop-part.run (g.W.Write.contents c.loop-part.writer) in
+    let new = stage c.next_line.new.self c.answer_line.new.run (g.W.Write.contents c.loop-part.writer) in
+    let p = err_from_is_err_and c.from_residual-in_err-answer_line.result c.from_residual-in_err-answer_line.ensures.1 in
+    let split = subst (λ (l : List ℕ). IsSplit (c.loop-part.feeder ++ c.loop-part.rest.now) l c.in-Some.behind.now) (sym c.line.ensures) (rw c.in-Some.is at c.in_ok-part.ensures.fed) in
+    rw (p.1, p.2) (line-stops c.args.plan.now old mid new c.args.piece.now c.loop-part.rest.now c.loop-part.invariant.0 c.line.result.now c.in-Some.behind.now c.in_err-answer_line.field-0.0
+    c.loop-part.invariant.1 split c.in_err-answer_line.ensures refl)
 
--- one byte more of a piece
-stops : (plan : Plan) (old mid new : Run) (piece : List ℕ) (i : ℕ) (w0 w1 w2 : Option (List ℕ)) (ls : List (List ℕ)) (e : LineFault) → i < length piece
-    → Advances plan old mid (take i piece) w0 w1 ls → TakesPiece plan mid new (get_or piece i 0 ∷ []) w1 w2 (Err e) → TakesPiece plan old new piece w0 w2 (Err e)
-stops plan old mid new piece i w0 w1 w2 ls e lt a t =
-    let so_far = Takes-then plan old mid new (take i piece) (get_or piece i 0 ∷ []) w0 w1 w2 ls e a t in
-    let front : TakesPiece plan old new (take (i + 1) piece) w0 w2 (Err e) = subst (λ (x : List ℕ). TakesPiece plan old new x w0 w2 (Err e)) (sym (take_more piece i 0 lt)) so_far in
-    subst (λ (x : List ℕ). TakesPiece plan old new x w0 w2 (Err e)) (take-append-drop (i + 1) piece) (Takes-more plan old new (take (i + 1) piece) (drop (i + 1) piece) w0 w2 e front)
+pub loop-part-preserved : goal.loop-part-preserved
+loop-part-preserved g c =
+    let old = stage c.args.feeder.now c.args.run.now (g.W.Write.contents c.args.writer.now) in
+    let w = g.W.Write.contents c.loop-part.writer in
+    let mid = stage c.loop-part.feeder c.loop-part.run w in
+    let lines = c.loop-part.invariant.0 ++ c.line.result.now ∷ [] in
+    let split = subst (λ (l : List ℕ). IsSplit (c.loop-part.feeder ++ c.loop-part.rest.now) l c.in-Some.behind.now) (sym c.line.ensures) (rw c.in-Some.is at c.in_ok-part.ensures.fed) in
+    let more = line-answered c.args.plan.now old mid c.answer_line.new.run c.args.piece.now c.loop-part.rest.now c.loop-part.invariant.0 c.line.result.now c.in-Some.behind.now tt
+    c.loop-part.invariant.1 split c.in_ok-answer_line.ensures in
+    (lines, subst (λ (h : List ℕ). Advances c.args.plan.now old (stage h c.answer_line.new.run w) c.args.piece.now c.in-Some.behind.now lines) (sym c.clear.ensures) more)
 
-goes_on : (plan : Plan) (old mid new : Run) (piece : List ℕ) (i : ℕ) (w0 w1 w2 : Option (List ℕ)) (ls ms : List (List ℕ)) → i < length piece
-    → Advances plan old mid (take i piece) w0 w1 ls → Advances plan mid new (get_or piece i 0 ∷ []) w1 w2 ms → Advances plan old new (take (i + 1) piece) w0 w2 (ls ++ ms)
-goes_on plan old mid new piece i w0 w1 w2 ls ms lt a t =
-    subst (λ (x : List ℕ). Advances plan old new x w0 w2 (ls ++ ms)) (sym (take_more piece i 0 lt)) (Advances-then plan old mid new (take i piece) (get_or piece i 0 ∷ []) w0 w1 w2 ls ms a t)
+pub loop-part-preserved-in-Continue-branch-4 : goal.loop-part-preserved-in-Continue-branch-4
+loop-part-preserved-in-Continue-branch-4 g c =
+    let old = stage c.args.feeder.now c.args.run.now (g.W.Write.contents c.args.writer.now) in
+    let w = g.W.Write.contents c.loop-part.writer in
+    let mid = stage c.loop-part.feeder c.loop-part.run w in
+    let lines = c.loop-part.invariant.0 ++ c.line.result.now ∷ [] in
+    let split = subst (λ (l : List ℕ). IsSplit (c.loop-part.feeder ++ c.loop-part.rest.now) l c.in-Some.behind.now) (sym c.line.ensures) (rw c.in-Some.is at c.in_ok-part.ensures.fed) in
+    let more = line-answered c.args.plan.now old mid c.answer_line.new.run c.args.piece.now c.loop-part.rest.now c.loop-part.invariant.0 c.line.result.now c.in-Some.behind.now tt
+    c.loop-part.invariant.1 split c.in_ok-answer_line.ensures in
+    let run = c.answer_line.new.run in
+    let emptied : Run = record { meter = run.meter; count = run.count; waiting = c.write_waiting.new.waiting; apdu = run.apdu; reply = run.reply } in (
+      lines,
+      texts-written c.args.plan.now old (stage [] run w) (stage c.clear.new.self emptied (g.W.Write.contents c.write_waiting.new.writer)) c.args.piece.now c.in-Some.behind.now lines more
+          c.clear.ensures refl refl c.in_ok-write_waiting.ensures.emptied c.in_ok-write_waiting.ensures.ok,
+    )
 
-pub returns-in_err-take_byte : goal.returns-in_err-take_byte
-returns-in_err-take_byte g c =
-    let p = err_from_is_err_and c.from_residual.result c.from_residual.ensures.1 in
-    rw (p.1, p.2) (stops c.args.plan.now c.args.run.now c.loop-byte.run c.take_byte.new.run c.args.piece.now c.loop-byte.byte-index _ _ _ c.loop-byte.invariant.0 c.in_err-take_byte.field-0.0 c.loop-byte-test.true c.loop-byte.invariant.1 c.in_err-take_byte.ensures)
-
-pub loop-byte-preserved : goal.loop-byte-preserved
-loop-byte-preserved g c =
-    (c.loop-byte.invariant.0 ++ c.in_ok-take_byte.ensures.0, goes_on c.args.plan.now c.args.run.now c.loop-byte.run c.take_byte.new.run c.args.piece.now c.loop-byte.byte-index _ _ _ c.loop-byte.invariant.0 c.in_ok-take_byte.ensures.0 c.loop-byte-test.true c.loop-byte.invariant.1 c.in_ok-take_byte.ensures.1)
+pub returns-in_err-write_waiting : goal.returns-in_err-write_waiting
+returns-in_err-write_waiting g c =
+    let old = stage c.args.feeder.now c.args.run.now (g.W.Write.contents c.args.writer.now) in
+    let w = g.W.Write.contents c.loop-part.writer in
+    let mid = stage c.loop-part.feeder c.loop-part.run w in
+    let lines = c.loop-part.invariant.0 ++ c.line.result.now ∷ [] in
+    let split = subst (λ (l : List ℕ). IsSplit (c.loop-part.feeder ++ c.loop-part.rest.now) l c.in-Some.behind.now) (sym c.line.ensures) (rw c.in-Some.is at c.in_ok-part.ensures.fed) in
+    let more = line-answered c.args.plan.now old mid c.answer_line.new.run c.args.piece.now c.loop-part.rest.now c.loop-part.invariant.0 c.line.result.now c.in-Some.behind.now tt
+    c.loop-part.invariant.1 split c.in_ok-answer_line.ensures in
+    let run = c.answer_line.new.run in
+    let left : Run = record { meter = run.meter; count = run.count; waiting = c.write_waiting.new.waiting; apdu = run.apdu; reply = run.reply } in
+    let cut = c.in_err-write_waiting.ensures.err in
+    let p = err_from_is_err_and c.from_residual-in_err-write_waiting.result c.from_residual-in_err-write_waiting.ensures.1 in
+    rw (p.1, p.2) (write-stops c.args.plan.now old (stage [] run w) (stage c.clear.new.self left (g.W.Write.contents c.write_waiting.new.writer)) c.args.piece.now c.in-Some.behind.now lines cut.0 cut.1 more cut.2 cut.3 cut.4 c.in_err-write_waiting.ensures.emptied)

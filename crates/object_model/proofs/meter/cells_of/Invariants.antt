@@ -1,7 +1,7 @@
-use Rattle.std.proofs.Common.{◌≡◌, map, take}
+use Rattle.std.proofs.Common.{◌≡◌, flat_map, take}
 use Rattle.meter_theory.specs.State.{keys}
-use Rattle.object_model.specs.MeterView.{entry_of}
+use Rattle.object_model.specs.Stored.{stored_pairs}
 use Rattle.object_model.proofs.meter.cells_of.Given as goal
 
-abbrev pub invariant-loop-pair : goal.invariant-loop-pair
-invariant-loop-pair l = l.cells.items ≡ keys (map entry_of (take l.pair-index l.pairs))
+abbrev pub invariant-loop-object : goal.invariant-loop-object
+invariant-loop-object l = l.cells.items ≡ keys (flat_map stored_pairs (take l.object-index l.objects))

@@ -1,6 +1,6 @@
-use Rattle.std.proofs.Common.{◌≡◌, map, take}
-use Rattle.object_model.specs.MeterView.{entry_of}
+use Rattle.std.proofs.Common.{◌≡◌, flat_map, take}
+use Rattle.object_model.specs.Stored.{stored_pairs}
 use Rattle.object_model.proofs.meter.copy_of.Given as goal
 
-abbrev pub invariant-loop-pair : goal.invariant-loop-pair
-invariant-loop-pair l = map entry_of l.copy.items ≡ map entry_of (take l.pair-index l.pairs)
+abbrev pub invariant-loop-object : goal.invariant-loop-object
+invariant-loop-object l = flat_map stored_pairs l.copy.items ≡ flat_map stored_pairs (take l.object-index l.objects)

@@ -1,13 +1,30 @@
-use Rattle.std.proofs.Common.{ap, sym, ◌∙◌}
+use Rattle.std.proofs.Common.{◌∙◌, ap, sym, arith}
+use Rattle.std.specs.List.{position_from}
 use Rattle.meter_theory.specs.State.{value}
-use Rattle.object_model.proofs.Pairs.{value-found, value-none}
+use Rattle.object_model.specs.Stored.{stored_pairs, stores}
+use Rattle.object_model.proofs.Aligned.{found-stored}
+use Rattle.object_model.proofs.Stores.{nowhere-value}
+use Rattle.object_model.proofs.Changed.{split, value-in}
 use Rattle.object_model.proofs.meter.Meter.held.Goals as goal
+
+pub index-requires : goal.index-requires
+index-requires c = let at = (found-stored c.self.inside.objects.items c.args.cell.now c.in-Some.place
+    (ap (position_from (stores c.args.cell.now) 0) (sym c.deref.ensures.value) ∙ sym c.place_of.ensures ∙ c.in-Some.is)).0 in omega (arith, at)
+
+pub held-requires : goal.held-requires
+held-requires c =
+    let s = split c.self.inside.objects.items c.args.cell.now c.in-Some.place c.index.result.now
+    (ap (position_from (stores c.args.cell.now) 0) (sym c.deref.ensures.value) ∙ sym c.place_of.ensures ∙ c.in-Some.is) in
+    ap (stores c.args.cell.now) c.index.ensures ∙ s.here
 
 pub returns-in-Some-clause-found : goal.returns-in-Some-clause-found
 returns-in-Some-clause-found c =
-    value-found c.self.inside.pairs.items c.args.cell.now c.in-Some.pair.now (rw c.deref.ensures.value at c.in-Some.ensures)
-    ∙ ap (λ s. value s c.args.cell.now) c.self.view_is
+    let s = split c.self.inside.objects.items c.args.cell.now c.in-Some.place c.index.result.now
+    (ap (position_from (stores c.args.cell.now) 0) (sym c.deref.ensures.value) ∙ sym c.place_of.ensures ∙ c.in-Some.is) in
+    c.held.ensures.value ∙ ap (λ m. value (stored_pairs m) c.args.cell.now) c.index.ensures
+    ∙ sym (value-in c.self.inside.objects.items c.args.cell.now c.in-Some.place c.index.result.now s) ∙ ap (λ t. value t c.args.cell.now) c.self.view_is
 
 pub returns-in-None-clause-none : goal.returns-in-None-clause-none
 returns-in-None-clause-none c =
-    sym (value-none c.self.inside.pairs.items c.args.cell.now (rw c.deref.ensures.value at c.in-None.ensures) ∙ ap (λ s. value s c.args.cell.now) c.self.view_is)
+    ap (λ s. value s c.args.cell.now) (sym c.self.view_is)
+    ∙ nowhere-value c.self.inside.objects.items c.args.cell.now (sym (ap (position_from (stores c.args.cell.now) 0) (sym c.deref.ensures.value) ∙ sym c.place_of.ensures ∙ c.in-None.is))

@@ -1,21 +1,15 @@
-use Rattle.std.proofs.Common.{◌∙◌, ap, subst, sym}
-use Rattle.cosem_data.specs.Tree.{null_data}
+use Rattle.std.proofs.Common.{◌∙◌, ap, sym, subst}
+use Rattle.std.specs.List.{position_from}
 use Rattle.cosem_data.specs.View.{tree}
-use Rattle.meter_theory.specs.State.{put}
-use Rattle.meter_theory.proofs.State.{put-twice}
-use Rattle.object_model.specs.PartView.{MayReplace}
-use Rattle.object_model.proofs.Puts.{put-may-replace}
+use Rattle.meter_theory.specs.Lists.{IsIn}
+use Rattle.meter_theory.specs.State.{keys}
+use Rattle.object_model.specs.Stored.{stores}
+use Rattle.object_model.proofs.Puts.{put-is-there}
+use Rattle.object_model.proofs.Kept.{stored-somewhere}
 use Rattle.object_model.proofs.meter.Meter.put.Goals as goal
 
-pub put-value-requires : goal.put-value-requires
-put-value-requires c =
-    subst (λ held. MayReplace c.part-part.result.now c.monitored_kind-monitored.result c.args.cell.now.index held (tree c.args.given)) (sym c.replace-held.ensures.old)
-    (put-may-replace c.args.plan.now c.args.self.now c.args.cell.now (tree c.args.given) c.in-Some.object.now c.part-part.result.now c.monitored_kind-monitored.result
-    c.known.ensures.sound c.requires.of_plan c.requires.fits (sym c.in-Some.ensures) c.part-part.ensures c.monitored_kind-monitored.ensures)
-
-pub returns-in-Some : goal.returns-in-Some
-returns-in-Some c =
-    c.set.ensures
-    ∙ ap (λ s. put s c.args.cell.now (tree c.put-value.result)) c.replace-held.ensures.put
-    ∙ put-twice c.args.self.now c.args.cell.now null_data (tree c.put-value.result)
-    ∙ ap (put c.args.self.now c.args.cell.now) c.put-value.ensures
+pub unreachable-requires-in_default-place_of : goal.unreachable-requires-in_default-place_of
+unreachable-requires-in_default-place_of c =
+    stored-somewhere c.self.inside.objects.items c.args.cell.now
+    (subst (λ s. IsIn (keys s) c.args.cell.now) (sym c.self.view_is) (put-is-there c.args.plan.now c.args.self.now c.args.cell.now (tree c.args.given) c.requires.of_plan c.requires.fits))
+    (ap (position_from (stores c.args.cell.now) 0) (sym c.deref.ensures.value) ∙ sym c.place_of.ensures ∙ c.in_default-place_of.is)

@@ -1,0 +1,8 @@
+use Rattle.std.proofs.Common.{◌∙◌, ap, sym}
+use Rattle.cosem_data.specs.View.{tree}
+use Rattle.cosem_data.specs.TreeCode.{parts-trees}
+use Rattle.meter_theory.specs.Times.{parts_of}
+use Rattle.class_profile.proofs.selection.parts_of.Goals as goal
+
+pub returns-in-Structure : goal.returns-in-Structure
+returns-in-Structure c = c.as_slice.ensures ∙ sym (parts-trees c.in-Structure.parts) ∙ ap (λ v. parts_of (tree v)) (sym c.in-Structure.is)

@@ -1,0 +1,3 @@
+pub mod FirstPlace
+pub mod Halves
+pub mod KindPlaces

@@ -1,0 +1,55 @@
+//! C13: thresholds and actions that differ in number.
+ghost use Rattle.std.specs.Prelude.{◌≡◌};
+ghost use Rattle.config_text.specs.BodyView.{body_text};
+ghost use Rattle.config_text.specs.Fault.{Gives};
+ghost use Rattle.config_rules.specs.Passes as passes;
+
+use crate::judged::fault_if;
+use crate::walk::{Judge, each};
+use config_text::fault::{Code, ConfigFault};
+use config_text::parts::{BodyParts, ConfigParts, ObjectParts};
+use std::alloc::Global;
+
+#[tactic(auto, unfolding(config_rules::specs::Passes::equal_counts_in))]
+fn equal_counts_in(alloc: Global, at: &str, body: &BodyParts) -> Result<(), ConfigFault>
+    ensures { Gives (λ u. u) result (passes.equal_counts_in at.now (body_text body.now)) }
+{
+    match body {
+        BodyParts::RegisterMonitor {
+            thresholds,
+            actions,
+            ..
+        } => {
+            let equal = thresholds.len() == actions.len();
+            fault_if(alloc, Code::Counts, at, ".action", !equal)
+        }
+        _ => Ok(()),
+    }
+}
+
+/// The numbers of thresholds and actions.
+#[derive(Drop)]
+struct EqualCounts;
+
+impl Judge for EqualCounts {
+    ghost use Rattle.config_rules.specs.Passes.{equal_counts_in};
+
+    type Part = ObjectParts;
+
+    ghost judges = { λ _ at o. equal_counts_in at o.body };
+
+    fn judge(&self, alloc: Global, at: &str, object: &ObjectParts) -> Result<(), ConfigFault> {
+        equal_counts_in(alloc, at, &object.body)
+    }
+}
+
+/// Judges the numbers of thresholds and actions.
+///
+/// # Errors
+/// C13 at the first monitor that has not one action for each threshold.
+#[tactic(auto, unfolding(config_rules::specs::Passes::equal_counts))]
+pub(crate) fn equal_counts(alloc: Global, config: &ConfigParts) -> Result<(), ConfigFault>
+    ensures { Gives (λ u. u) result (passes.equal_counts config.now) }
+{
+    each(alloc, &EqualCounts, "object", config.objects.as_slice())
+}

@@ -1,0 +1,39 @@
+//! C18: objects that are fed whose class has no value that can be.
+ghost use Rattle.config_text.specs.Fault.{Gives};
+ghost use Rattle.config_rules.specs.Passes as passes;
+
+use crate::judged::fault_if;
+use crate::walk::{Judge, each};
+use config_text::fault::{Code, ConfigFault};
+use config_text::parts::{ConfigParts, ObjectParts};
+use std::alloc::Global;
+
+/// Whether an object may be fed.
+#[derive(Drop)]
+struct Fed;
+
+impl Judge for Fed {
+    ghost use Rattle.std.specs.Prelude.{◌==◌, ◌&&◌, ◌||◌, ◌++◌, codes, not};
+    ghost use Rattle.config_text.specs.Fault.{fault_if};
+    ghost use Rattle.config_text.specs.declared.fault.Code.TheVariants.{Fed};
+
+    type Part = ObjectParts;
+
+    ghost judges = { λ _ at o. fault_if Fed (at ++ codes ".fed") (o.fed && not ((o.class == 1) || (o.class == 3))) };
+
+    fn judge(&self, alloc: Global, at: &str, object: &ObjectParts) -> Result<(), ConfigFault> {
+        let has_input = object.class_id == 1 || object.class_id == 3;
+        fault_if(alloc, Code::Fed, at, ".fed", object.fed && !has_input)
+    }
+}
+
+/// Judges which objects are fed.
+///
+/// # Errors
+/// C18 at the first object that is fed and neither of class 1 nor of class 3.
+#[tactic(auto, unfolding(config_rules::specs::Passes::fed_values))]
+pub(crate) fn fed_values(alloc: Global, config: &ConfigParts) -> Result<(), ConfigFault>
+    ensures { Gives (λ u. u) result (passes.fed_values config.now) }
+{
+    each(alloc, &Fed, "object", config.objects.as_slice())
+}

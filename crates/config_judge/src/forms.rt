@@ -1,0 +1,160 @@
+//! C4: names of bad form.
+
+ghost use Rattle.std.specs.Prelude.{◌++◌};
+ghost use Rattle.config_text.specs.Fault.{Gives};
+ghost use Rattle.config_rules.specs.Passes as spec;
+
+use crate::form::{is_client_name, is_logical_name};
+use crate::judged::fault_if;
+use crate::reference_walk::{JudgeReferences, references};
+use crate::walk::{Judge, JudgeText, both_sets, each};
+use config_text::fault::{Code, ConfigFault};
+use config_text::parts::{
+    ClientParts, ConfigParts, LabelParts, ObjectParts, RightParts, ScriptRefParts, TargetParts,
+};
+use std::alloc::Global;
+
+/// Judges the form of a logical name at a key below a place.
+fn logical_form(alloc: Global, at: &str, key: &str, name: &str) -> Result<(), ConfigFault>
+    ensures { Gives (λ u. u) result (spec.logical_form (at.now ++ key.now) name.now) }
+{
+    fault_if(alloc, Code::Form, at, key, !is_logical_name(name))
+}
+
+/// Judges the form of a client's name at a key below a place.
+fn client_form(alloc: Global, at: &str, key: &str, name: &str) -> Result<(), ConfigFault>
+    ensures { Gives (λ u. u) result (spec.client_form (at.now ++ key.now) name.now) }
+{
+    fault_if(alloc, Code::Form, at, key, !is_client_name(name))
+}
+
+/// Names of clients in a set.
+#[derive(Drop)]
+struct ClientForm;
+
+impl JudgeText for ClientForm {
+    ghost use Rattle.config_rules.specs.Passes.{client_form};
+
+    ghost judges = { λ _. client_form };
+
+    fn judge(&self, alloc: Global, at: &str, text: &str) -> Result<(), ConfigFault> {
+        client_form(alloc, at, "", text)
+    }
+}
+
+/// Names of the clients themselves.
+#[derive(Drop)]
+struct ClientForms;
+
+impl Judge for ClientForms {
+    ghost use Rattle.std.specs.Prelude.{◌++◌, codes};
+    ghost use Rattle.config_rules.specs.Passes.{client_form};
+
+    type Part = ClientParts;
+
+    ghost judges = { λ _ at client. client_form (at ++ codes ".name") client.name };
+
+    fn judge(&self, alloc: Global, at: &str, client: &ClientParts) -> Result<(), ConfigFault> {
+        client_form(alloc, at, ".name", client.name.as_str())
+    }
+}
+
+/// Names that references have.
+#[derive(Drop)]
+struct ReferenceForms;
+
+impl JudgeReferences for ReferenceForms {
+    ghost use Rattle.std.specs.Prelude.{◌++◌, codes};
+    ghost use Rattle.config_rules.specs.Passes.{logical_form};
+
+    ghost targets = { λ _ at t. logical_form (at ++ codes ".object") t.object };
+
+    ghost scripts = { λ _ at r. logical_form (at ++ codes ".table") r.table };
+
+    fn judge_target(
+        &self,
+        alloc: Global,
+        at: &str,
+        target: &TargetParts,
+    ) -> Result<(), ConfigFault> {
+        logical_form(alloc, at, ".object", target.object.as_str())
+    }
+
+    fn judge_script(
+        &self,
+        alloc: Global,
+        at: &str,
+        script: &ScriptRefParts,
+    ) -> Result<(), ConfigFault> {
+        logical_form(alloc, at, ".table", script.table.as_str())
+    }
+}
+
+/// The name of an object, and those that it refers to.
+#[derive(Drop)]
+struct ObjectForms;
+
+impl Judge for ObjectForms {
+    ghost use Rattle.config_rules.specs.Passes.{object_forms};
+
+    type Part = ObjectParts;
+
+    ghost judges = { λ _. object_forms };
+
+    #[tactic(auto, unfolding(config_rules::specs::Passes::object_forms))]
+    fn judge(&self, alloc: Global, at: &str, object: &ObjectParts) -> Result<(), ConfigFault> {
+        logical_form(alloc, at, ".name", object.name.as_str())?;
+        references(alloc, &ReferenceForms, at, &object.body)
+    }
+}
+
+/// The names of a right.
+#[derive(Drop)]
+struct RightForms;
+
+impl Judge for RightForms {
+    ghost use Rattle.config_rules.specs.Passes.{right_forms};
+
+    type Part = RightParts;
+
+    ghost judges = { λ _. right_forms };
+
+    #[tactic(auto, unfolding(config_rules::specs::Passes::right_forms))]
+    fn judge(&self, alloc: Global, at: &str, right: &RightParts) -> Result<(), ConfigFault> {
+        client_form(alloc, at, ".client", right.client.as_str())?;
+        logical_form(alloc, at, ".object", right.object.as_str())
+    }
+}
+
+/// The names of a label.
+#[derive(Drop)]
+struct LabelForms;
+
+impl Judge for LabelForms {
+    ghost use Rattle.config_rules.specs.Passes.{label_forms};
+
+    type Part = LabelParts;
+
+    ghost judges = { λ _. label_forms };
+
+    #[tactic(auto, unfolding(config_rules::specs::Passes::label_forms))]
+    fn judge(&self, alloc: Global, at: &str, label: &LabelParts) -> Result<(), ConfigFault> {
+        logical_form(alloc, at, ".object", label.target.object.as_str())?;
+        both_sets(alloc, &ClientForm, at, &label.sets)
+    }
+}
+
+/// Judges the forms of all names.
+///
+/// # Errors
+/// C4 at the first logical name or client's name of bad form.
+#[tactic(auto, unfolding(config_rules::specs::Passes::forms))]
+pub(crate) fn forms(alloc: Global, config: &ConfigParts) -> Result<(), ConfigFault>
+    ensures { Gives (λ u. u) result (spec.forms config.now) }
+{
+    each(alloc, &ClientForms, "client", config.clients.as_slice())?;
+    each(alloc, &ObjectForms, "object", config.objects.as_slice())?;
+    each(alloc, &RightForms, "right", config.rights.as_slice())?;
+    both_sets(alloc, &ClientForm, "policy", &config.policy)?;
+    each(alloc, &LabelForms, "label", config.labels.as_slice())
+}

@@ -1,0 +1,75 @@
+//! C17: labels on what is no cell, and second ones for a cell.
+ghost use Rattle.std.specs.Prelude.{◌≡◌, ◌||◌, not};
+ghost use Rattle.std.specs.List.{list_any};
+ghost use Rattle.config_text.specs.Fault.{Gives};
+ghost use Rattle.config_rules.specs.Names as names;
+ghost use Rattle.config_rules.specs.Passes as passes;
+
+use crate::classes::is_cell;
+use crate::directory::Directory;
+use crate::judged::fault_if;
+use crate::walk::{JudgeNew, each_new};
+use config_text::fault::{Code, ConfigFault};
+use config_text::parts::{LabelParts, TargetParts};
+use std::alloc::Global;
+
+fn same_target(one: &TargetParts, other: &TargetParts) -> bool
+    ensures { result ≡ passes.same_target one.now other.now }
+{
+    one.object.as_str() == other.object.as_str() && one.index == other.index
+}
+
+/// Whether one of the labels is of this target.
+fn has_label(labels: &[LabelParts], target: &TargetParts) -> bool
+    ensures { result ≡ list_any (λ e. passes.same_target e.target target.now) labels.now }
+{
+    labels
+        .iter()
+        .any(|label| same_target(&label.target, target))
+}
+
+/// Whether a target is no cell, or one of the labels is of it.
+fn is_wrong(directory: &Directory<'_>, earlier: &[LabelParts], target: &TargetParts) -> bool
+    ensures { result ≡ (not (names.target_is directory.now.config.now names.cells target.now) || list_any (λ e. passes.same_target e.target target.now) earlier.now) }
+{
+    let class = directory.class(target.object.as_str());
+    !is_cell(class, target.index) || has_label(earlier, target)
+}
+
+/// The target of a label.
+#[derive(Drop)]
+struct NewLabel<'d, 'c> {
+    directory: &'d Directory<'c>,
+}
+
+impl<'d, 'c> JudgeNew for NewLabel<'d, 'c> {
+    ghost use Rattle.config_rules.specs.Passes.{new_label};
+
+    type Part = LabelParts;
+
+    ghost judges = { λ all. new_label all.directory.now.config.now };
+
+    fn judge(
+        &self,
+        alloc: Global,
+        earlier: &[LabelParts],
+        at: &str,
+        label: &LabelParts,
+    ) -> Result<(), ConfigFault> {
+        let wrong = is_wrong(self.directory, earlier, &label.target);
+        fault_if(alloc, Code::Label, at, ".index", wrong)
+    }
+}
+
+/// Judges the targets of the labels.
+///
+/// # Errors
+/// C17 at the first label that is of no cell, or of a cell that an earlier one is of.
+#[tactic(auto, unfolding(config_rules::specs::Passes::new_labels))]
+pub(crate) fn new_labels(alloc: Global, directory: &Directory<'_>) -> Result<(), ConfigFault>
+    ensures { Gives (λ u. u) result (passes.new_labels directory.now.config.now) }
+{
+    let config = directory.config;
+    let labels = config.labels.as_slice();
+    each_new(alloc, &NewLabel { directory }, "label", labels)
+}

@@ -1,0 +1,274 @@
+//! C16: more than a limit allows.
+ghost use Rattle.std.specs.Prelude.{◌≡◌, ◌++◌, ◌||◌, IfOk, Some, codes, length, map, nat_lt, not, option_map, string_bytes};
+ghost use Rattle.meter_theory.specs.Value.{is_within_limits};
+ghost use Rattle.config_text.specs.BodyView.{body_text};
+ghost use Rattle.config_text.specs.Fault.{Gives};
+ghost use Rattle.config_text.specs.Fault as faults;
+ghost use Rattle.config_text.specs.declared.fault.Code.TheVariants.{Limit};
+ghost use Rattle.config_rules.specs.Passes as passes;
+ghost use Rattle.config_rules.specs.PlanOf.{thresholds_value, times_value};
+ghost use Rattle.value_text.specs.Texts.{value_in};
+ghost use Rattle.config_rules.specs.Walks as walks;
+ghost use Rattle.config_judge.specs.Lines.{followed_by};
+
+use crate::arrays::{times_of, values_of};
+use crate::judged::fault_if;
+use crate::walk::{Judge, each};
+use class_control::times::MOST_TIMES;
+use config_text::fault::{Code, ConfigFault};
+use config_text::parts::{
+    ActionParts, BodyParts, CaptureParts, ConfigParts, ObjectParts, ScriptParts, UpDownParts,
+};
+use cosem_class::judge::keeps_limits;
+use cosem_data::data::{Data, Items};
+use cosem_data::memory::Memory;
+use std::alloc::Global;
+use value_text::value;
+
+/// The most clients of a meter (own profile).
+pub(crate) const MOST_CLIENTS: usize = 16;
+
+/// The most objects of a meter (own profile).
+pub(crate) const MOST_OBJECTS: usize = 512;
+
+/// The most scripts of a script table (own profile).
+pub(crate) const MOST_SCRIPTS: usize = 64;
+
+/// The most actions of a script (own profile).
+pub(crate) const MOST_ACTIONS: usize = 32;
+
+/// The most attributes that a profile captures (own profile).
+pub(crate) const MOST_CAPTURES: usize = 32;
+
+/// The most entries of a profile (own profile).
+pub(crate) const MOST_ENTRIES: u64 = 1000;
+
+/// The most thresholds of a register monitor, and so the most of its actions (own profile).
+pub(crate) const MOST_THRESHOLDS: usize = 16;
+
+/// A number of elements against a limit.
+fn at_most(
+    alloc: Global,
+    at: &str,
+    key: &str,
+    limit: usize,
+    number: usize,
+) -> Result<(), ConfigFault>
+    ensures { Gives (λ u. u) result (faults.fault_if Limit (at.now ++ key.now) (nat_lt limit number)) }
+{
+    fault_if(alloc, Code::Limit, at, key, limit < number)
+}
+
+/// Whether a text is no value, or one within the limits. The error is that memory was refused.
+fn is_small(alloc: Global, text: &str) -> Result<bool, Memory>
+    ensures { IfOk result (λ small. small ≡ passes.is_small (value_in text.now)) }
+{
+    match value::value_in(alloc, text.as_bytes())? {
+        Some(value) => Ok(keeps_limits(&value)),
+        None => Ok(true),
+    }
+}
+
+/// The value that a text is, against the limits.
+fn small_value(alloc: Global, at: &str, key: &str, text: &str) -> Result<(), ConfigFault>
+    ensures { Gives (λ u. u) result (passes.small_value (at.now ++ key.now) (Some text.now)) }
+{
+    let Ok(small) = is_small(alloc, text) else {
+        return Err(ConfigFault::Memory);
+    };
+    fault_if(alloc, Code::Limit, at, key, !small)
+}
+
+/// The value of an action, where it has one.
+fn small_parameter(alloc: Global, at: &str, value: &Option<String>) -> Result<(), ConfigFault>
+    ensures { Gives (λ u. u) result (passes.small_value (at.now ++ codes ".value") (option_map string_bytes value.now)) }
+{
+    match value {
+        Some(text) => small_value(alloc, at, ".value", text.as_str()),
+        None => Ok(()),
+    }
+}
+
+/// The values of actions.
+#[derive(Drop)]
+struct SmallAction;
+
+impl Judge for SmallAction {
+    ghost use Rattle.std.specs.Prelude.{◌++◌, codes};
+    ghost use Rattle.config_rules.specs.Passes.{small_value};
+
+    type Part = ActionParts;
+
+    ghost judges = { λ _ at a. small_value (at ++ codes ".value") a.value };
+
+    fn judge(&self, alloc: Global, at: &str, action: &ActionParts) -> Result<(), ConfigFault> {
+        small_parameter(alloc, at, &action.value)
+    }
+}
+
+/// The sizes of scripts.
+#[derive(Drop)]
+struct ScriptLimits;
+
+impl Judge for ScriptLimits {
+    ghost use Rattle.config_rules.specs.Passes.{script_limits};
+
+    type Part = ScriptParts;
+
+    ghost judges = { λ _. script_limits };
+
+    #[tactic(auto, unfolding(config_rules::specs::Passes::script_limits))]
+    fn judge(&self, alloc: Global, at: &str, script: &ScriptParts) -> Result<(), ConfigFault> {
+        at_most(alloc, at, ".action", MOST_ACTIONS, script.actions.len())?;
+        let name = format!(in alloc; "{at}.action")?;
+        each(
+            alloc,
+            &SmallAction,
+            name.as_str(),
+            script.actions.as_slice(),
+        )
+    }
+}
+
+/// The sizes of a register's value and default.
+fn register_limits(alloc: Global, at: &str, value: &str, default: &str) -> Result<(), ConfigFault>
+    ensures { Gives (λ u. u) result (followed_by (passes.small_value (at.now ++ codes ".value") (Some value.now))
+        (passes.small_value (at.now ++ codes ".default") (Some default.now))) }
+{
+    small_value(alloc, at, ".value", value)?;
+    small_value(alloc, at, ".default", default)
+}
+
+/// The number of captures, and of entries.
+fn profile_limits(
+    alloc: Global,
+    at: &str,
+    captures: &[CaptureParts],
+    entries: u64,
+) -> Result<(), ConfigFault>
+    ensures { Gives (λ u. u) result (followed_by (faults.fault_if Limit (at.now ++ codes ".capture") (nat_lt 32 (length captures.now)))
+        (faults.fault_if Limit (at.now ++ codes ".entries") (nat_lt 1000 entries))) }
+{
+    at_most(alloc, at, ".capture", MOST_CAPTURES, captures.len())?;
+    fault_if(alloc, Code::Limit, at, ".entries", MOST_ENTRIES < entries)
+}
+
+/// The sizes of a script table.
+fn script_table_limits(alloc: Global, at: &str, scripts: &[ScriptParts]) -> Result<(), ConfigFault>
+    ensures { Gives (λ u. u) result (followed_by (faults.fault_if Limit (at.now ++ codes ".script") (nat_lt 64 (length scripts.now)))
+        (walks.each passes.script_limits (at.now ++ codes ".script") scripts.now)) }
+{
+    at_most(alloc, at, ".script", MOST_SCRIPTS, scripts.len())?;
+    let name = format!(in alloc; "{at}.script")?;
+    each(alloc, &ScriptLimits, name.as_str(), scripts)
+}
+
+/// Whether thresholds are within the limits as one array. The error is that memory was refused.
+fn are_small_thresholds(alloc: Global, texts: &[String]) -> Result<bool, Memory>
+    ensures { IfOk result (λ small. small ≡ is_within_limits (thresholds_value (map string_bytes texts.now))) }
+{
+    let array = Data::Array(Items::new(values_of(alloc, texts)?));
+    Ok(keeps_limits(&array))
+}
+
+/// Whether times are within the limits as one array. The error is that memory was refused.
+fn are_small_times(alloc: Global, texts: &[String]) -> Result<bool, Memory>
+    ensures { IfOk result (λ small. small ≡ is_within_limits (times_value (map string_bytes texts.now))) }
+{
+    let array = Data::Array(Items::new(times_of(alloc, texts)?));
+    Ok(keeps_limits(&array))
+}
+
+/// The number and the size of thresholds.
+fn threshold_limits(alloc: Global, at: &str, texts: &[String]) -> Result<(), ConfigFault>
+    ensures { Gives (λ u. u) result (faults.fault_if Limit (at.now ++ codes ".thresholds")
+        (nat_lt 16 (length (map string_bytes texts.now)) || not (is_within_limits (thresholds_value (map string_bytes texts.now))))) }
+{
+    let Ok(small) = are_small_thresholds(alloc, texts) else {
+        return Err(ConfigFault::Memory);
+    };
+    let many = MOST_THRESHOLDS < texts.len();
+    fault_if(alloc, Code::Limit, at, ".thresholds", many || !small)
+}
+
+/// The sizes of a register monitor.
+fn monitor_limits(
+    alloc: Global,
+    at: &str,
+    thresholds: &[String],
+    actions: &[UpDownParts],
+) -> Result<(), ConfigFault>
+    ensures { Gives (λ u. u) result (followed_by (faults.fault_if Limit (at.now ++ codes ".thresholds")
+        (nat_lt 16 (length (map string_bytes thresholds.now)) || not (is_within_limits (thresholds_value (map string_bytes thresholds.now)))))
+        (faults.fault_if Limit (at.now ++ codes ".action") (nat_lt 16 (length actions.now)))) }
+{
+    threshold_limits(alloc, at, thresholds)?;
+    at_most(alloc, at, ".action", MOST_THRESHOLDS, actions.len())
+}
+
+/// The number and the size of times.
+fn time_limits(alloc: Global, at: &str, texts: &[String]) -> Result<(), ConfigFault>
+    ensures { Gives (λ u. u) result (faults.fault_if Limit (at.now ++ codes ".times")
+        (nat_lt 16 (length (map string_bytes texts.now)) || not (is_within_limits (times_value (map string_bytes texts.now))))) }
+{
+    let Ok(small) = are_small_times(alloc, texts) else {
+        return Err(ConfigFault::Memory);
+    };
+    let many = MOST_TIMES < texts.len();
+    fault_if(alloc, Code::Limit, at, ".times", many || !small)
+}
+
+/// The sizes in an object's body.
+#[tactic(auto, unfolding(config_rules::specs::Passes::limits_in))]
+fn limits_in(alloc: Global, at: &str, body: &BodyParts) -> Result<(), ConfigFault>
+    ensures { Gives (λ u. u) result (passes.limits_in at.now (body_text body.now)) }
+{
+    match body {
+        BodyParts::Data { value } => small_value(alloc, at, ".value", value.as_str()),
+        BodyParts::Register { value, default, .. } => {
+            register_limits(alloc, at, value.as_str(), default.as_str())
+        }
+        BodyParts::ProfileGeneric {
+            capture,
+            entries,
+            ..
+        } => profile_limits(alloc, at, capture.as_slice(), *entries),
+        BodyParts::ScriptTable { scripts } => { script_table_limits(alloc, at, scripts.as_slice()) }
+        BodyParts::RegisterMonitor {
+            thresholds,
+            actions,
+            ..
+        } => monitor_limits(alloc, at, thresholds.as_slice(), actions.as_slice()),
+        BodyParts::SingleActionSchedule { times, .. } => time_limits(alloc, at, times.as_slice()),
+        BodyParts::Unknown => Ok(()),
+    }
+}
+
+/// The sizes of an object.
+#[derive(Drop)]
+struct ObjectLimits;
+
+impl Judge for ObjectLimits {
+    ghost use Rattle.config_rules.specs.Passes.{limits_in};
+
+    type Part = ObjectParts;
+
+    ghost judges = { λ _ at o. limits_in at o.body };
+
+    fn judge(&self, alloc: Global, at: &str, object: &ObjectParts) -> Result<(), ConfigFault> {
+        limits_in(alloc, at, &object.body)
+    }
+}
+
+/// Judges numbers and sizes.
+///
+/// # Errors
+/// C16 at the first list that has more elements, or value that is larger or nested deeper, than a limit allows.
+#[tactic(auto, unfolding(config_rules::specs::Passes::within_limits))]
+pub(crate) fn within_limits(alloc: Global, config: &ConfigParts) -> Result<(), ConfigFault>
+    ensures { Gives (λ u. u) result (passes.within_limits config.now) }
+{
+    at_most(alloc, "client", "", MOST_CLIENTS, config.clients.len())?;
+    at_most(alloc, "object", "", MOST_OBJECTS, config.objects.len())?;
+    each(alloc, &ObjectLimits, "object", config.objects.as_slice())
+}

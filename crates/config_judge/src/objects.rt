@@ -1,0 +1,87 @@
+//! C5 and C6: objects with a name that an earlier one has, and of a class that isn't known.
+
+ghost use Rattle.std.specs.Prelude.{◌≡◌, ◌||◌, codes, take};
+ghost use Rattle.std.specs.List.{list_any};
+ghost use Rattle.std.specs.Str.{bytes_eq};
+ghost use Rattle.config_text.specs.Fault.{Gives};
+ghost use Rattle.config_rules.specs.Passes as spec;
+ghost use Rattle.config_rules.specs.Walks.{element_place};
+
+use crate::classes::is_known_class;
+use crate::directory::Directory;
+use crate::judged::fault_if;
+use crate::walk::{Judge, each};
+use config_text::fault::{Code, ConfigFault};
+use config_text::parts::{ConfigParts, ObjectParts};
+use std::alloc::Global;
+
+/// The logical name of the current association (IEC 62056-6-2, Association LN).
+const CURRENT_ASSOCIATION: &str = "0.0.40.0.0.255";
+
+/// Whether the current association or an object before a place has the name.
+fn is_taken(directory: &Directory<'_>, name: &str, place: usize) -> bool
+    ensures { result ≡ (bytes_eq (codes "0.0.40.0.0.255") name.now || list_any (λ e. bytes_eq e.name name.now) (take place directory.now.config.now.objects)) }
+{
+    CURRENT_ASSOCIATION == name || directory.has_object_before(name, place)
+}
+
+/// Judges whether an object's name is new at its place.
+fn new_object(
+    alloc: Global,
+    directory: &Directory<'_>,
+    i: usize,
+    object: &ObjectParts,
+) -> Result<(), ConfigFault>
+    ensures { Gives (λ u. u) result (spec.new_object (take i directory.now.config.now.objects) (element_place (codes "object") i) object.now) }
+{
+    let taken = is_taken(directory, object.name.as_str(), i);
+    let place = format!(in alloc; "object[{i}]")?;
+    fault_if(alloc, Code::ObjectTwice, place.as_str(), ".name", taken)
+}
+
+/// Judges whether each object's name is new.
+///
+/// # Errors
+/// C5 at the first name that an earlier object or the current association has.
+#[tactic(auto, unfolding(config_rules::specs::Passes::new_objects, config_rules::specs::Walks::each_after))]
+pub(crate) fn new_objects(alloc: Global, directory: &Directory<'_>) -> Result<(), ConfigFault>
+    ensures { Gives (λ u. u) result (spec.new_objects directory.now.config.now) }
+{
+    let config = directory.config;
+    let objects = config.objects.as_slice();
+    for (i, object) in objects.iter().enumerate() {
+        new_object(alloc, directory, i, object)?;
+    }
+    Ok(())
+}
+
+/// The class of an object.
+#[derive(Drop)]
+struct KnownClass;
+
+impl Judge for KnownClass {
+    ghost use Rattle.std.specs.Prelude.{◌++◌, codes, not};
+    ghost use Rattle.config_text.specs.Fault.{fault_if};
+    ghost use Rattle.config_text.specs.declared.fault.Code.TheVariants.{ClassUnknown};
+    ghost use Rattle.config_rules.specs.Names.{is_known_class};
+
+    type Part = ObjectParts;
+
+    ghost judges = { λ _ at o. fault_if ClassUnknown (at ++ codes ".class") (not (is_known_class o.class)) };
+
+    fn judge(&self, alloc: Global, at: &str, object: &ObjectParts) -> Result<(), ConfigFault> {
+        let known = is_known_class(object.class_id);
+        fault_if(alloc, Code::ClassUnknown, at, ".class", !known)
+    }
+}
+
+/// Judges whether each object's class is known.
+///
+/// # Errors
+/// C6 at the first interface class other than 1, 3, 7, 9, 21 and 22.
+#[tactic(auto, unfolding(config_rules::specs::Passes::known_classes))]
+pub(crate) fn known_classes(alloc: Global, config: &ConfigParts) -> Result<(), ConfigFault>
+    ensures { Gives (λ u. u) result (spec.known_classes config.now) }
+{
+    each(alloc, &KnownClass, "object", config.objects.as_slice())
+}

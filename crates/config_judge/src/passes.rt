@@ -1,0 +1,83 @@
+//! The passes over a configuration, one a code, each run only where those before it found nothing (own profile).
+
+ghost use Rattle.config_text.specs.Fault.{Gives};
+ghost use Rattle.config_rules.specs.Passes.{judged};
+ghost use Rattle.config_judge.specs.JudgedNames.{judged_names, judged_rest};
+
+use crate::clients::{known_clients, new_clients};
+use crate::counts::equal_counts;
+use crate::directory::Directory;
+use crate::fed::fed_values;
+use crate::forms::forms;
+use crate::indexes::known_indexes;
+use crate::labels::new_labels;
+use crate::laws::names_are_judged_first;
+use crate::limits::within_limits;
+use crate::objects::{known_classes, new_objects};
+use crate::references::known_references;
+use crate::rights::settable_rights;
+use crate::scripts::{new_scripts, no_executes};
+use crate::sorting::right_sorting;
+use crate::times::right_times;
+use crate::values::right_values;
+use config_text::fault::ConfigFault;
+use std::alloc::Global;
+
+/// Judges whether the names and indexes of a configuration are of good form and lead to something (own profile).
+///
+/// # Errors
+/// The first fault of the least code that is met, at its place:
+/// - C4 at the first logical name or client's name of bad form;
+/// - C5 at the first name that an earlier object or the current association has;
+/// - C6 at the first interface class that isn't known;
+/// - C7 at the first name that no client has;
+/// - C8 at the first name or service access point that an earlier client has;
+/// - C9 at the first reference to no object, to a table that is no script table, or to a script that isn't there;
+/// - C10 at the first index that the class doesn't have, or that isn't usable there;
+/// - C0 where memory was refused, at any time.
+#[tactic(auto, unfolding(crate::specs::JudgedNames::judged_names))]
+fn judge_names(alloc: Global, directory: &Directory<'_>) -> Result<(), ConfigFault>
+    ensures { Gives (λ u. u) result (judged_names directory.now.config.now) }
+{
+    let config = directory.config;
+    forms(alloc, config)?;
+    new_objects(alloc, directory)?;
+    known_classes(alloc, config)?;
+    known_clients(alloc, directory)?;
+    new_clients(alloc, config)?;
+    known_references(alloc, directory)?;
+    known_indexes(alloc, directory)
+}
+
+/// Judges values, rights, labels and sizes: the codes C11 to C20, one after another.
+///
+/// # Errors
+/// The least of the codes that is met, at the first place where it is.
+#[tactic(auto, unfolding(crate::specs::JudgedNames::judged_rest))]
+fn judge_values(alloc: Global, directory: &Directory<'_>) -> Result<(), ConfigFault>
+    ensures { Gives (λ u. u) result (judged_rest directory.now.config.now) }
+{
+    let config = directory.config;
+    right_values(alloc, directory)?;
+    settable_rights(alloc, directory)?;
+    equal_counts(alloc, config)?;
+    new_scripts(alloc, config)?;
+    no_executes(alloc, directory)?;
+    within_limits(alloc, config)?;
+    new_labels(alloc, directory)?;
+    fed_values(alloc, config)?;
+    right_times(alloc, config)?;
+    right_sorting(alloc, config)
+}
+
+/// Judges what the tables of a configuration say.
+///
+/// # Errors
+/// The least of the codes C4 to C20 that is met, at the first place where it is; C0 where memory was refused, at any time.
+pub fn judge(alloc: Global, directory: &Directory<'_>) -> Result<(), ConfigFault>
+    ensures { Gives (λ u. u) result (judged directory.now.config.now) }
+{
+    names_are_judged_first();
+    judge_names(alloc, directory)?;
+    judge_values(alloc, directory)
+}

@@ -1,0 +1,232 @@
+//! C9: references to no object, to a table that is no script table, or to a script that isn't there.
+
+ghost use Rattle.std.specs.Prelude.{◌≡◌, ◌==◌, ◌++◌, codes, is_some};
+ghost use Rattle.std.specs.List.{list_any};
+ghost use Rattle.config_text.specs.BodyView.{body_text};
+ghost use Rattle.config_text.specs.Fault.{Gives};
+ghost use Rattle.config_rules.specs.Names.{object_named, scripts_in};
+ghost use Rattle.config_rules.specs.Passes as spec;
+ghost use Rattle.config_rules.specs.Walks as walks;
+
+use crate::directory::Directory;
+use crate::judged::fault_if;
+use crate::reference_walk::{JudgeReferences, references};
+use crate::walk::{Judge, each};
+use config_text::fault::{Code, ConfigFault};
+use config_text::parts::{
+    BodyParts, LabelParts, ObjectParts, RightParts, ScriptParts, ScriptRefParts, TargetParts,
+};
+use std::alloc::Global;
+
+/// The interface class of script tables.
+const SCRIPT_TABLE: u16 = 9;
+
+/// Judges whether the object that is named at a place is there.
+fn known_object(
+    alloc: Global,
+    directory: &Directory<'_>,
+    at: &str,
+    name: &str,
+) -> Result<(), ConfigFault>
+    ensures { Gives (λ u. u) result (spec.known_object directory.now.config.now at.now name.now) }
+{
+    let known = directory.has_object(name);
+    fault_if(alloc, Code::Reference, at, ".object", !known)
+}
+
+/// The scripts of an object.
+fn scripts_in(body: &BodyParts) -> &[ScriptParts]
+    ensures { result.now ≡ scripts_in (body_text body.now) }
+{
+    match body {
+        BodyParts::ScriptTable { scripts } => scripts.as_slice(),
+        _ => &[],
+    }
+}
+
+/// The scripts of the object with a name, none where there is no such object.
+fn scripts_of<'a>(directory: &Directory<'a>, name: &str) -> &'a [ScriptParts]
+    ensures { result.now ≡ spec.scripts_of (object_named directory.now.config.now name.now) }
+{
+    match directory.object(name) {
+        Some(object) => scripts_in(&object.body),
+        None => &[],
+    }
+}
+
+/// Whether one of the scripts has the identifier.
+fn has_id(scripts: &[ScriptParts], id: u64) -> bool
+    ensures { result ≡ list_any (λ s. s.id == id) scripts.now }
+{
+    scripts.iter().any(|script| u64::from(script.id) == id)
+}
+
+/// Whether a table with these scripts has one with this number. Script 0, which does nothing, is in every table.
+fn has_script(scripts: &[ScriptParts], script: i64) -> bool
+    ensures { result ≡ spec.has_script scripts.now script }
+{
+    match u64::try_from(script) {
+        Ok(id) => id == 0 || has_id(scripts, id),
+        Err(_) => false,
+    }
+}
+
+/// Judges whether a script is there.
+#[tactic(auto, unfolding(config_rules::specs::Passes::known_script))]
+fn known_script(
+    alloc: Global,
+    directory: &Directory<'_>,
+    at: &str,
+    script: &ScriptRefParts,
+) -> Result<(), ConfigFault>
+    ensures { Gives (λ u. u) result (spec.known_script directory.now.config.now at.now script.now) }
+{
+    let table = script.table.as_str();
+    let is_table = directory.class(table) == SCRIPT_TABLE;
+    fault_if(alloc, Code::Reference, at, ".table", !is_table)?;
+    let known = has_script(scripts_of(directory, table), script.script);
+    fault_if(alloc, Code::Reference, at, ".script", !known)
+}
+
+/// What an object refers to.
+#[derive(Drop)]
+struct KnownReference<'d, 'c> {
+    directory: &'d Directory<'c>,
+}
+
+impl<'d, 'c> JudgeReferences for KnownReference<'d, 'c> {
+    ghost use Rattle.config_rules.specs.Passes.{known_object, known_script};
+
+    ghost targets = { λ all at t. known_object all.directory.now.config.now at t.object };
+
+    ghost scripts = { λ all. known_script all.directory.now.config.now };
+
+    fn judge_target(
+        &self,
+        alloc: Global,
+        at: &str,
+        target: &TargetParts,
+    ) -> Result<(), ConfigFault> {
+        known_object(alloc, self.directory, at, target.object.as_str())
+    }
+
+    fn judge_script(
+        &self,
+        alloc: Global,
+        at: &str,
+        script: &ScriptRefParts,
+    ) -> Result<(), ConfigFault> {
+        known_script(alloc, self.directory, at, script)
+    }
+}
+
+/// The references of an object.
+#[derive(Drop)]
+struct ObjectReferences<'d, 'c> {
+    directory: &'d Directory<'c>,
+}
+
+impl<'d, 'c> Judge for ObjectReferences<'d, 'c> {
+    ghost use Rattle.config_rules.specs.Passes.{known_object, known_script};
+    ghost use Rattle.config_rules.specs.Walks.{references};
+
+    type Part = ObjectParts;
+
+    ghost judges = { λ all at o. references (λ at t. known_object all.directory.now.config.now at t.object) (known_script all.directory.now.config.now) at o.body };
+
+    fn judge(&self, alloc: Global, at: &str, object: &ObjectParts) -> Result<(), ConfigFault> {
+        let directory = self.directory;
+        references(alloc, &KnownReference { directory }, at, &object.body)
+    }
+}
+
+/// The object of a right.
+#[derive(Drop)]
+struct RightObject<'d, 'c> {
+    directory: &'d Directory<'c>,
+}
+
+impl<'d, 'c> Judge for RightObject<'d, 'c> {
+    ghost use Rattle.config_rules.specs.Passes.{known_object};
+
+    type Part = RightParts;
+
+    ghost judges = { λ all at r. known_object all.directory.now.config.now at r.object };
+
+    fn judge(&self, alloc: Global, at: &str, right: &RightParts) -> Result<(), ConfigFault> {
+        known_object(alloc, self.directory, at, right.object.as_str())
+    }
+}
+
+/// The object of a label.
+#[derive(Drop)]
+struct LabelObject<'d, 'c> {
+    directory: &'d Directory<'c>,
+}
+
+impl<'d, 'c> Judge for LabelObject<'d, 'c> {
+    ghost use Rattle.config_rules.specs.Passes.{known_object};
+
+    type Part = LabelParts;
+
+    ghost judges = { λ all at l. known_object all.directory.now.config.now at l.target.object };
+
+    fn judge(&self, alloc: Global, at: &str, label: &LabelParts) -> Result<(), ConfigFault> {
+        known_object(alloc, self.directory, at, label.target.object.as_str())
+    }
+}
+
+/// Judges the references of the objects.
+fn object_references(alloc: Global, directory: &Directory<'_>) -> Result<(), ConfigFault>
+    ensures { Gives (λ u. u) result
+        (walks.each (λ at o. walks.references (λ at t. spec.known_object directory.now.config.now at t.object) (spec.known_script directory.now.config.now) at o.body) (codes "object") directory.now.config.now.objects) }
+{
+    let config = directory.config;
+    each(
+        alloc,
+        &ObjectReferences { directory },
+        "object",
+        config.objects.as_slice(),
+    )
+}
+
+/// Judges the objects of the rights.
+fn right_objects(alloc: Global, directory: &Directory<'_>) -> Result<(), ConfigFault>
+    ensures { Gives (λ u. u) result
+        (walks.each (λ at r. spec.known_object directory.now.config.now at r.object) (codes "right") directory.now.config.now.rights) }
+{
+    let config = directory.config;
+    each(
+        alloc,
+        &RightObject { directory },
+        "right",
+        config.rights.as_slice(),
+    )
+}
+
+/// Judges the objects of the labels.
+fn label_objects(alloc: Global, directory: &Directory<'_>) -> Result<(), ConfigFault>
+    ensures { Gives (λ u. u) result
+        (walks.each (λ at l. spec.known_object directory.now.config.now at l.target.object) (codes "label") directory.now.config.now.labels) }
+{
+    let config = directory.config;
+    each(
+        alloc,
+        &LabelObject { directory },
+        "label",
+        config.labels.as_slice(),
+    )
+}
+
+/// Judges whether all that is referred to is there: objects, script tables, and their scripts.
+///
+/// # Errors
+/// C9 at the first reference to no object, to a table that is no script table, or to a script that isn't in its table.
+#[tactic(auto, unfolding(config_rules::specs::Passes::known_references))]
+pub(crate) fn known_references(alloc: Global, directory: &Directory<'_>) -> Result<(), ConfigFault>
+    ensures { Gives (λ u. u) result (spec.known_references directory.now.config.now) }
+{
+    object_references(alloc, directory)?;
+    right_objects(alloc, directory)?;
+    label_objects(alloc, directory)
+}

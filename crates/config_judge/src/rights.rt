@@ -1,0 +1,75 @@
+//! C12: rights to set what isn't a settable cell.
+ghost use Rattle.config_text.specs.Fault.{Gives};
+ghost use Rattle.config_rules.specs.Passes as passes;
+
+use crate::classes::is_settable;
+use crate::directory::Directory;
+use crate::judged::fault_if;
+use crate::walk::{Judge, each};
+use config_text::fault::{Code, ConfigFault};
+use config_text::parts::RightParts;
+use std::alloc::Global;
+
+/// Attributes of a class that can be set.
+#[derive(Drop)]
+struct SettableOf {
+    class: u16,
+}
+
+impl Judge for SettableOf {
+    ghost use Rattle.std.specs.Prelude.{not};
+    ghost use Rattle.config_text.specs.Fault.{fault_if};
+    ghost use Rattle.config_text.specs.declared.fault.Code.TheVariants.{NotSettable};
+    ghost use Rattle.config_rules.specs.Names.{is_among, settable};
+
+    type Part = u8;
+
+    ghost judges = { λ all at index. fault_if NotSettable at (not (is_among settable all.class index)) };
+
+    fn judge(&self, alloc: Global, at: &str, index: &u8) -> Result<(), ConfigFault> {
+        let settable = is_settable(self.class, *index);
+        fault_if(alloc, Code::NotSettable, at, "", !settable)
+    }
+}
+
+/// The rights to set.
+#[derive(Drop)]
+struct SettableRights<'d, 'c> {
+    directory: &'d Directory<'c>,
+}
+
+impl<'d, 'c> Judge for SettableRights<'d, 'c> {
+    ghost use Rattle.std.specs.Prelude.{◌++◌, codes, not};
+    ghost use Rattle.config_text.specs.Fault.{fault_if};
+    ghost use Rattle.config_text.specs.declared.fault.Code.TheVariants.{NotSettable};
+    ghost use Rattle.config_rules.specs.Names.{class_named, is_among, settable};
+    ghost use Rattle.config_rules.specs.Walks as walks;
+
+    type Part = RightParts;
+
+    ghost judges = { λ all at r. walks.each (λ at index. fault_if NotSettable at (not (is_among settable (class_named all.directory.now.config.now r.object) index))) (at ++ codes ".set") r.sets };
+
+    fn judge(&self, alloc: Global, at: &str, right: &RightParts) -> Result<(), ConfigFault> {
+        let class = self.directory.class(right.object.as_str());
+        let name = format!(in alloc; "{at}.set")?;
+        each(
+            alloc,
+            &SettableOf { class },
+            name.as_str(),
+            right.sets.as_slice(),
+        )
+    }
+}
+
+/// Judges the rights to set.
+///
+/// # Errors
+/// C12 at the first index that isn't that of a settable cell.
+#[tactic(auto, unfolding(config_rules::specs::Passes::settable_rights))]
+pub(crate) fn settable_rights(alloc: Global, directory: &Directory<'_>) -> Result<(), ConfigFault>
+    ensures { Gives (λ u. u) result (passes.settable_rights directory.now.config.now) }
+{
+    let config = directory.config;
+    let rights = config.rights.as_slice();
+    each(alloc, &SettableRights { directory }, "right", rights)
+}

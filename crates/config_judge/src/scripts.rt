@@ -1,0 +1,159 @@
+//! C14 and C15: scripts with identifier 0 or that of an earlier one, and actions that execute a script table.
+ghost use Rattle.std.specs.Prelude.{◌≡◌, ◌==◌, ◌&&◌};
+ghost use Rattle.std.specs.List.{list_any};
+ghost use Rattle.config_text.specs.BodyView.{body_text};
+ghost use Rattle.config_text.specs.Fault.{Gives};
+ghost use Rattle.config_rules.specs.Names as names;
+ghost use Rattle.config_rules.specs.Passes as passes;
+
+use crate::directory::Directory;
+use crate::judged::fault_if;
+use crate::reference_walk::each_action;
+use crate::walk::{Judge, JudgeNew, each, each_new};
+use config_text::fault::{Code, ConfigFault};
+use config_text::parts::{ActionParts, BodyParts, ConfigParts, ObjectParts, ScriptParts};
+use config_text::service::Service;
+use std::alloc::Global;
+
+/// The interface class of script tables (IEC 62056-6-2).
+const SCRIPT_TABLE: u16 = 9;
+
+/// The scripts of a script table, none of another object.
+fn scripts_in(body: &BodyParts) -> &[ScriptParts]
+    ensures { result.now ≡ names.scripts_in (body_text body.now) }
+{
+    match body {
+        BodyParts::ScriptTable { scripts } => scripts.as_slice(),
+        _ => &[],
+    }
+}
+
+/// Whether one of the scripts has this identifier.
+fn has_id(scripts: &[ScriptParts], id: u16) -> bool
+    ensures { result ≡ list_any (λ e. e.id == id) scripts.now }
+{
+    scripts.iter().any(|script| script.id == id)
+}
+
+/// The identifier of a script.
+#[derive(Drop)]
+struct NewScript;
+
+impl JudgeNew for NewScript {
+    ghost use Rattle.config_rules.specs.Passes.{new_script};
+
+    type Part = ScriptParts;
+
+    ghost judges = { λ _. new_script };
+
+    fn judge(
+        &self,
+        alloc: Global,
+        earlier: &[ScriptParts],
+        at: &str,
+        script: &ScriptParts,
+    ) -> Result<(), ConfigFault> {
+        let taken = script.id == 0 || has_id(earlier, script.id);
+        fault_if(alloc, Code::ScriptId, at, ".id", taken)
+    }
+}
+
+/// The identifiers of an object's scripts.
+#[derive(Drop)]
+struct NewScripts;
+
+impl Judge for NewScripts {
+    ghost use Rattle.std.specs.Prelude.{◌++◌, codes};
+    ghost use Rattle.config_rules.specs.Names.{scripts_in};
+    ghost use Rattle.config_rules.specs.Passes.{new_script};
+    ghost use Rattle.config_rules.specs.Walks as walks;
+
+    type Part = ObjectParts;
+
+    ghost judges = { λ _ at o. walks.each_new new_script (at ++ codes ".script") (scripts_in o.body) };
+
+    fn judge(&self, alloc: Global, at: &str, object: &ObjectParts) -> Result<(), ConfigFault> {
+        let name = format!(in alloc; "{at}.script")?;
+        each_new(alloc, &NewScript, name.as_str(), scripts_in(&object.body))
+    }
+}
+
+/// Judges the identifiers of scripts.
+///
+/// # Errors
+/// C14 at the first identifier that is 0 or that of an earlier script of its table.
+#[tactic(auto, unfolding(config_rules::specs::Passes::new_scripts))]
+pub(crate) fn new_scripts(alloc: Global, config: &ConfigParts) -> Result<(), ConfigFault>
+    ensures { Gives (λ u. u) result (passes.new_scripts config.now) }
+{
+    each(alloc, &NewScripts, "object", config.objects.as_slice())
+}
+
+/// Whether an action executes a script table.
+fn executes(directory: &Directory<'_>, action: &ActionParts) -> bool
+    ensures { result ≡ (passes.is_invoke action.now.service && (names.class_named directory.now.config.now action.now.target.object == 9)) }
+{
+    let class = directory.class(action.target.object.as_str());
+    match action.service {
+        Service::Write => false,
+        Service::Invoke => class == SCRIPT_TABLE,
+    }
+}
+
+/// What an action executes.
+#[derive(Drop)]
+struct NoExecute<'d, 'c> {
+    directory: &'d Directory<'c>,
+}
+
+impl<'d, 'c> Judge for NoExecute<'d, 'c> {
+    ghost use Rattle.config_rules.specs.Passes.{no_execute};
+
+    type Part = ActionParts;
+
+    ghost judges = { λ all. no_execute all.directory.now.config.now };
+
+    fn judge(&self, alloc: Global, at: &str, action: &ActionParts) -> Result<(), ConfigFault> {
+        let executes = executes(self.directory, action);
+        fault_if(alloc, Code::Execute, at, ".object", executes)
+    }
+}
+
+/// What an object's scripts execute.
+#[derive(Drop)]
+struct NoExecutes<'d, 'c> {
+    directory: &'d Directory<'c>,
+}
+
+impl<'d, 'c> Judge for NoExecutes<'d, 'c> {
+    ghost use Rattle.config_rules.specs.Names.{scripts_in};
+    ghost use Rattle.config_rules.specs.Passes.{no_execute};
+    ghost use Rattle.config_rules.specs.Walks as walks;
+
+    type Part = ObjectParts;
+
+    ghost judges = { λ all at o. walks.each_action (no_execute all.directory.now.config.now) at (scripts_in o.body) };
+
+    fn judge(&self, alloc: Global, at: &str, object: &ObjectParts) -> Result<(), ConfigFault> {
+        let directory = self.directory;
+        each_action(
+            alloc,
+            &NoExecute { directory },
+            at,
+            scripts_in(&object.body),
+        )
+    }
+}
+
+/// Judges what scripts execute.
+///
+/// # Errors
+/// C15 at the first action that calls a method of a script table.
+#[tactic(auto, unfolding(config_rules::specs::Passes::no_executes))]
+pub(crate) fn no_executes(alloc: Global, directory: &Directory<'_>) -> Result<(), ConfigFault>
+    ensures { Gives (λ u. u) result (passes.no_executes directory.now.config.now) }
+{
+    let config = directory.config;
+    let objects = config.objects.as_slice();
+    each(alloc, &NoExecutes { directory }, "object", objects)
+}

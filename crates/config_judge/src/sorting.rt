@@ -1,0 +1,97 @@
+//! C20: sort methods other than fifo, and parts of attributes captured.
+ghost use Rattle.std.specs.Prelude.{◌≡◌, ◌++◌, codes, pos};
+ghost use Rattle.config_text.specs.BodyView.{body_text};
+ghost use Rattle.config_text.specs.Fault.{Gives};
+ghost use Rattle.config_text.specs.Fault as faults;
+ghost use Rattle.config_text.specs.declared.fault.Code.TheVariants.{Sorting};
+ghost use Rattle.config_rules.specs.Passes as passes;
+ghost use Rattle.config_rules.specs.Walks as walks;
+
+use crate::judged::fault_if;
+use crate::walk::{Judge, each};
+use config_text::fault::{Code, ConfigFault};
+use config_text::parts::{BodyParts, CaptureParts, ConfigParts, ObjectParts};
+use std::alloc::Global;
+
+/// Whether a number is given that is another than the one that is allowed.
+fn is_other(only: i64, given: Option<i64>) -> bool
+    ensures { result ≡ passes.is_other only given }
+{
+    match given {
+        Some(given) => !(only <= given && given <= only),
+        None => false,
+    }
+}
+
+/// The part of an attribute that is captured.
+#[derive(Drop)]
+struct WholeCapture;
+
+impl Judge for WholeCapture {
+    ghost use Rattle.std.specs.Prelude.{◌++◌, codes, pos};
+    ghost use Rattle.config_text.specs.Fault.{fault_if};
+    ghost use Rattle.config_text.specs.declared.fault.Code.TheVariants.{Sorting};
+    ghost use Rattle.config_rules.specs.Passes.{is_other};
+
+    type Part = CaptureParts;
+
+    ghost judges = { λ _ at x. fault_if Sorting (at ++ codes ".data_index") (is_other (pos 0) x.data_index) };
+
+    fn judge(&self, alloc: Global, at: &str, capture: &CaptureParts) -> Result<(), ConfigFault> {
+        let other = is_other(0, capture.data_index);
+        fault_if(alloc, Code::Sorting, at, ".data_index", other)
+    }
+}
+
+/// Judges the parts that are captured.
+fn whole_captures(alloc: Global, at: &str, captures: &[CaptureParts]) -> Result<(), ConfigFault>
+    ensures { Gives (λ u. u) result (walks.each (λ at x. faults.fault_if Sorting (at ++ codes ".data_index") (passes.is_other (pos 0) x.data_index)) (at.now ++ codes ".capture") captures.now) }
+{
+    let name = format!(in alloc; "{at}.capture")?;
+    each(alloc, &WholeCapture, name.as_str(), captures)
+}
+
+#[tactic(auto, unfolding(config_rules::specs::Passes::right_sorting_in))]
+fn right_sorting_in(alloc: Global, at: &str, body: &BodyParts) -> Result<(), ConfigFault>
+    ensures { Gives (λ u. u) result (passes.right_sorting_in at.now (body_text body.now)) }
+{
+    match body {
+        BodyParts::ProfileGeneric {
+            capture,
+            sort_method,
+            ..
+        } => {
+            whole_captures(alloc, at, capture.as_slice())?;
+            let other = is_other(1, *sort_method);
+            fault_if(alloc, Code::Sorting, at, ".sort_method", other)
+        }
+        _ => Ok(()),
+    }
+}
+
+/// The sorting of an object.
+#[derive(Drop)]
+struct RightSorting;
+
+impl Judge for RightSorting {
+    ghost use Rattle.config_rules.specs.Passes.{right_sorting_in};
+
+    type Part = ObjectParts;
+
+    ghost judges = { λ _ at o. right_sorting_in at o.body };
+
+    fn judge(&self, alloc: Global, at: &str, object: &ObjectParts) -> Result<(), ConfigFault> {
+        right_sorting_in(alloc, at, &object.body)
+    }
+}
+
+/// Judges what profiles capture of each attribute, and how they are sorted.
+///
+/// # Errors
+/// C20 at the first data_index other than 0 or sort_method other than 1, fifo.
+#[tactic(auto, unfolding(config_rules::specs::Passes::right_sorting))]
+pub(crate) fn right_sorting(alloc: Global, config: &ConfigParts) -> Result<(), ConfigFault>
+    ensures { Gives (λ u. u) result (passes.right_sorting config.now) }
+{
+    each(alloc, &RightSorting, "object", config.objects.as_slice())
+}

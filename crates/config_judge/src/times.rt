@@ -1,0 +1,81 @@
+//! C19: execution times that the type doesn't allow.
+ghost use Rattle.std.specs.Prelude.{◌≡◌, ◌++◌, IfOk, codes, map, not, string_bytes};
+ghost use Rattle.meter_theory.specs.Times.{are_execution_times};
+ghost use Rattle.meter_theory.specs.Value.{elements};
+ghost use Rattle.config_text.specs.BodyView.{body_text};
+ghost use Rattle.config_text.specs.Fault.{Gives};
+ghost use Rattle.config_text.specs.Fault as faults;
+ghost use Rattle.config_text.specs.declared.fault.Code.TheVariants.{Times};
+ghost use Rattle.config_rules.specs.Passes as passes;
+ghost use Rattle.config_rules.specs.PlanOf.{times_value};
+
+use crate::arrays::times_of;
+use crate::judged::fault_if;
+use crate::walk::{Judge, each};
+use class_control::times::are_execution_times;
+use config_text::fault::{Code, ConfigFault};
+use config_text::parts::{BodyParts, ConfigParts, ObjectParts};
+use cosem_data::memory::Memory;
+use std::alloc::Global;
+
+/// Whether times fit the type of a schedule. The error is that memory was refused.
+fn do_fit(alloc: Global, execution_type: u8, texts: &[String]) -> Result<bool, Memory>
+    ensures { IfOk result (λ fit. fit ≡ are_execution_times execution_type (elements (times_value (map string_bytes texts.now)))) }
+{
+    let times = times_of(alloc, texts)?;
+    Ok(are_execution_times(execution_type, times.as_slice()))
+}
+
+/// Judges the times of a schedule of a type.
+fn right_times_of(
+    alloc: Global,
+    at: &str,
+    execution_type: u8,
+    times: &[String],
+) -> Result<(), ConfigFault>
+    ensures { Gives (λ u. u) result (faults.fault_if Times (at.now ++ codes ".times") (not (are_execution_times execution_type (elements (times_value (map string_bytes times.now)))))) }
+{
+    let Ok(fit) = do_fit(alloc, execution_type, times) else {
+        return Err(ConfigFault::Memory);
+    };
+    fault_if(alloc, Code::Times, at, ".times", !fit)
+}
+
+#[tactic(auto, unfolding(config_rules::specs::Passes::right_times_in))]
+fn right_times_in(alloc: Global, at: &str, body: &BodyParts) -> Result<(), ConfigFault>
+    ensures { Gives (λ u. u) result (passes.right_times_in at.now (body_text body.now)) }
+{
+    match body {
+        BodyParts::SingleActionSchedule { kind, times, .. } => {
+            right_times_of(alloc, at, *kind, times.as_slice())
+        }
+        _ => Ok(()),
+    }
+}
+
+/// The times of an object.
+#[derive(Drop)]
+struct RightTimes;
+
+impl Judge for RightTimes {
+    ghost use Rattle.config_rules.specs.Passes.{right_times_in};
+
+    type Part = ObjectParts;
+
+    ghost judges = { λ _ at o. right_times_in at o.body };
+
+    fn judge(&self, alloc: Global, at: &str, object: &ObjectParts) -> Result<(), ConfigFault> {
+        right_times_in(alloc, at, &object.body)
+    }
+}
+
+/// Judges the times of each schedule by its type.
+///
+/// # Errors
+/// C19 at the first times that don't fit the type.
+#[tactic(auto, unfolding(config_rules::specs::Passes::right_times))]
+pub(crate) fn right_times(alloc: Global, config: &ConfigParts) -> Result<(), ConfigFault>
+    ensures { Gives (λ u. u) result (passes.right_times config.now) }
+{
+    each(alloc, &RightTimes, "object", config.objects.as_slice())
+}

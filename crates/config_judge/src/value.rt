@@ -1,0 +1,69 @@
+//! The values in the texts of a configuration.
+ghost use Rattle.std.specs.Prelude.{◌≡◌, IfOk, Some, is_some};
+ghost use Rattle.cosem_data.specs.View.{tree};
+ghost use Rattle.cosem_data.specs.Tree.{octet_string};
+ghost use Rattle.value_text.specs.Texts.{value_in};
+ghost use Rattle.config_rules.specs.Values as spec;
+
+use class_control::times::is_execution_time;
+use cosem_class::shapes::structure;
+use cosem_data::bytes::Bytes;
+use cosem_data::data::Data;
+use cosem_data::kind::Kind;
+use cosem_data::memory::Memory;
+use std::alloc::Global;
+use value_text::value::{bytes_in, value_in};
+
+/// The kind of the value that a text is, none where it is no value. The error is that memory was refused.
+pub(crate) fn kind_in(alloc: Global, text: &str) -> Result<Option<Kind>, Memory>
+    ensures { IfOk result (λ kind. kind ≡ spec.kind_in text.now) }
+{
+    match value_in(alloc, text.as_bytes())? {
+        Some(value) => Ok(Some(value.kind())),
+        None => Ok(None),
+    }
+}
+
+fn octets(alloc: Global, bytes: &[u8]) -> Result<Data, Memory>
+    ensures { IfOk result (λ value. tree value ≡ octet_string bytes.now) }
+{
+    Ok(Data::OctetString(Bytes::new(Vec::from_slice(alloc, bytes)?)))
+}
+
+/// A structure of time, the first four bytes, and date, the others (IEC 62056-6-2, Single action schedule,
+/// execution_time_date). The error is that memory was refused.
+pub(crate) fn time_and_date(alloc: Global, bytes: &[u8]) -> Result<Data, Memory>
+    ensures { IfOk result (λ value. tree value ≡ spec.time_and_date bytes.now) }
+{
+    let (time, date) = bytes.split_at(bytes.len().min(4));
+    structure(alloc, [octets(alloc, time)?, octets(alloc, date)?])
+}
+
+/// Whether these are nine bytes, a time and a date with each field in its range.
+fn are_time_and_date(alloc: Global, bytes: &[u8]) -> Result<bool, Memory>
+    ensures { IfOk result (λ are. are ≡ spec.are_time_and_date (Some bytes.now)) }
+{
+    let value = time_and_date(alloc, bytes)?;
+    Ok(bytes.len() == 9 && is_execution_time(&value))
+}
+
+/// Whether a text is the hex text of nine bytes, a time and a date with each field in its range. The error is that memory was
+/// refused.
+pub(crate) fn is_time_text(alloc: Global, text: &str) -> Result<bool, Memory>
+    ensures { IfOk result (λ is. is ≡ spec.is_time_text text.now) }
+{
+    match bytes_in(alloc, text.as_bytes())? {
+        Some(bytes) => are_time_and_date(alloc, &bytes),
+        None => Ok(false),
+    }
+}
+
+/// Whether a text is the hex text of the encoding of one value. The error is that memory was refused.
+pub(crate) fn is_value(alloc: Global, text: &str) -> Result<bool, Memory>
+    ensures { IfOk result (λ is. is ≡ is_some (value_in text.now)) }
+{
+    match value_in(alloc, text.as_bytes())? {
+        Some(_) => Ok(true),
+        None => Ok(false),
+    }
+}

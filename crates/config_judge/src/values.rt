@@ -1,0 +1,341 @@
+//! C11: values that aren't hex, aren't one Data, or aren't of their kind.
+ghost use Rattle.std.specs.Prelude.{◌≡◌, ◌==◌, ◌&&◌, ◌++◌, IfOk, codes, length, map, not, is_some, string_bytes};
+ghost use Rattle.std.specs.List.{list_all};
+ghost use Rattle.cosem_data.specs.View.{tree};
+ghost use Rattle.cosem_data.specs.Kinds.{kind_of, same_kind};
+ghost use Rattle.cosem_data.specs.declared.kind.Kind.TheVariants.{Array};
+ghost use Rattle.meter_theory.specs.Value.{elements};
+ghost use Rattle.meter_theory.specs.Times.{are_execution_times};
+ghost use Rattle.value_text.specs.Texts.{value_in};
+ghost use Rattle.config_text.specs.BodyView.{body_text};
+ghost use Rattle.config_text.specs.Fault.{Gives};
+ghost use Rattle.config_text.specs.Fault as faults;
+ghost use Rattle.config_text.specs.declared.fault.Code.TheVariants.{Value};
+ghost use Rattle.config_rules.specs.Names.{object_named};
+ghost use Rattle.config_rules.specs.Passes as passes;
+ghost use Rattle.config_rules.specs.Values as spec;
+ghost use Rattle.config_rules.specs.Walks as walks;
+ghost use Rattle.config_judge.specs.Lines.{followed_by};
+
+use crate::directory::Directory;
+use crate::judged::fault_if;
+use crate::kinds::{Kinds, has_kind, is_number, is_of_kind, may_be_number};
+use crate::reference_walk::each_action;
+use crate::value::{is_time_text, is_value, kind_in};
+use crate::walk::{Judge, JudgeText, each, each_text};
+use class_control::judge::elements_of;
+use class_control::times::are_execution_times;
+use config_text::fault::{Code, ConfigFault};
+use config_text::parts::{ActionParts, BodyParts, ObjectParts, TargetParts, UpDownParts};
+use config_text::service::Service;
+use cosem_data::data::Data;
+use cosem_data::kind::Kind;
+use cosem_data::memory::Memory;
+use std::alloc::Global;
+use value_text::value::value_in;
+
+/// Whether each value is of a kind.
+fn are_of_kind(kind: Option<Kind>, values: &[Data]) -> bool
+    ensures { result ≡ list_all (spec.has_kind kind) (map tree values.now) }
+{
+    values.iter().all(|value| has_kind(kind, value))
+}
+
+/// Whether these are so many values of a kind.
+fn are_thresholds(number: usize, kind: Option<Kind>, values: &[Data]) -> bool
+    ensures { result ≡ ((length (map tree values.now) == number) && list_all (spec.has_kind kind) (map tree values.now)) }
+{
+    values.len() == number && are_of_kind(kind, values)
+}
+
+/// Whether a value may be so many thresholds over a value of this kind, the limits left aside.
+fn may_be_thresholds(number: usize, kind: Option<Kind>, value: &Data) -> bool
+    ensures { result ≡ (same_kind (kind_of (tree value.now)) Array
+        && ((length (elements (tree value.now)) == number) && list_all (spec.has_kind kind) (elements (tree value.now)))) }
+{
+    value.kind() == Kind::Array && are_thresholds(number, kind, elements_of(value))
+}
+
+/// Whether a value may be the thresholds of a register monitor with these actions, the limits left aside.
+fn may_be_of_monitor(
+    kinds: &Kinds<'_, '_>,
+    monitored: &TargetParts,
+    actions: &[UpDownParts],
+    value: &Data,
+) -> bool
+    ensures { result ≡ (same_kind (kind_of (tree value.now)) Array
+        && ((length (elements (tree value.now)) == length actions.now)
+        && list_all (spec.has_kind (spec.kind_named kinds.now.directory.now.config.now monitored.now.object)) (elements (tree value.now)))) }
+{
+    let watched = kinds.named(monitored.object.as_str());
+    may_be_thresholds(actions.len(), watched, value)
+}
+
+/// Whether a value may be the times of a schedule of this type, the limits left aside.
+fn may_be_times(execution_type: u8, value: &Data) -> bool
+    ensures { result ≡ (same_kind (kind_of (tree value.now)) Array && are_execution_times execution_type (elements (tree value.now))) }
+{
+    value.kind() == Kind::Array && are_execution_times(execution_type, elements_of(value))
+}
+
+/// Whether a value may stand in the settable cell of an object with this body, which starts with a value of its own of this
+/// kind, the limits left aside.
+fn may_stand(kinds: &Kinds<'_, '_>, own: Option<Kind>, body: &BodyParts, value: &Data) -> bool
+    requires { own ≡ spec.start_kind_in (body_text body.now) }
+    ensures { result ≡ spec.may_stand kinds.now.directory.now.config.now (body_text body.now) (tree value.now) }
+{
+    match body {
+        BodyParts::Data { .. } | BodyParts::Register { .. } => has_kind(own, value),
+        BodyParts::ProfileGeneric { .. } => value.kind() == Kind::DoubleLongUnsigned,
+        BodyParts::RegisterMonitor {
+            monitored,
+            actions,
+            ..
+        } => may_be_of_monitor(kinds, monitored, actions.as_slice(), value),
+        BodyParts::SingleActionSchedule { kind, .. } => may_be_times(*kind, value),
+        BodyParts::ScriptTable { .. } | BodyParts::Unknown => true,
+    }
+}
+
+/// Whether a value may stand in what is named, the limits left aside.
+fn may_stand_at(kinds: &Kinds<'_, '_>, target: &TargetParts, value: &Data) -> bool
+    ensures { result ≡ spec.may_stand_at kinds.now.directory.now.config.now
+        (object_named kinds.now.directory.now.config.now target.now.object) (tree value.now) }
+{
+    let name = target.object.as_str();
+    match kinds.directory.object(name) {
+        Some(object) => may_stand(kinds, kinds.named(name), &object.body, value),
+        None => true,
+    }
+}
+
+/// Whether a text is a value that may stand in what is named. The error is that memory was refused.
+fn is_written(
+    alloc: Global,
+    kinds: &Kinds<'_, '_>,
+    target: &TargetParts,
+    text: &str,
+) -> Result<bool, Memory>
+    ensures { IfOk result (λ right. right ≡ passes.written_value kinds.now.directory.now.config.now target.now (value_in text.now)) }
+{
+    match value_in(alloc, text.as_bytes())? {
+        Some(value) => Ok(may_stand_at(kinds, target, &value)),
+        None => Ok(false),
+    }
+}
+
+/// Whether an action has a value that it can write, or a parameter that is a value. The error is that memory was refused.
+fn action_value(alloc: Global, kinds: &Kinds<'_, '_>, action: &ActionParts) -> Result<bool, Memory>
+    ensures { IfOk result (λ right. right ≡ passes.action_value kinds.now.directory.now.config.now action.now.service action.now.target action.now.value) }
+{
+    match (action.service, &action.value) {
+        (Service::Write, Some(text)) => is_written(alloc, kinds, &action.target, text.as_str()),
+        (Service::Write, None) => Ok(false),
+        (Service::Invoke, Some(text)) => is_value(alloc, text.as_str()),
+        (Service::Invoke, None) => Ok(true),
+    }
+}
+
+/// The value of an action.
+#[derive(Drop)]
+struct ActionValue<'k, 'd, 'c> {
+    kinds: &'k Kinds<'d, 'c>,
+}
+
+impl<'k, 'd, 'c> Judge for ActionValue<'k, 'd, 'c> {
+    ghost use Rattle.config_rules.specs.Passes.{right_action_value};
+
+    type Part = ActionParts;
+
+    ghost judges = { λ all. right_action_value all.kinds.now.directory.now.config.now };
+
+    fn judge(&self, alloc: Global, at: &str, action: &ActionParts) -> Result<(), ConfigFault> {
+        let Ok(right) = action_value(alloc, self.kinds, action) else {
+            return Err(ConfigFault::Memory);
+        };
+        fault_if(alloc, Code::Value, at, ".value", !right)
+    }
+}
+
+/// Thresholds over a value of a kind.
+#[derive(Drop)]
+struct Threshold {
+    kind: Option<Kind>,
+}
+
+impl JudgeText for Threshold {
+    ghost use Rattle.std.specs.Prelude.{not};
+    ghost use Rattle.config_text.specs.Fault.{fault_if};
+    ghost use Rattle.config_text.specs.declared.fault.Code.TheVariants.{Value};
+    ghost use Rattle.value_text.specs.Texts.{value_in};
+    ghost use Rattle.config_rules.specs.Values.{is_of_kind};
+
+    ghost judges = { λ all at text. fault_if Value at (not (is_of_kind all.kind (value_in text))) };
+
+    fn judge(&self, alloc: Global, at: &str, text: &str) -> Result<(), ConfigFault> {
+        let Ok(value) = value_in(alloc, text.as_bytes()) else {
+            return Err(ConfigFault::Memory);
+        };
+        fault_if(alloc, Code::Value, at, "", !is_of_kind(self.kind, &value))
+    }
+}
+
+/// Times and dates.
+#[derive(Drop)]
+struct TimeText;
+
+impl JudgeText for TimeText {
+    ghost use Rattle.std.specs.Prelude.{not};
+    ghost use Rattle.config_text.specs.Fault.{fault_if};
+    ghost use Rattle.config_text.specs.declared.fault.Code.TheVariants.{Value};
+    ghost use Rattle.config_rules.specs.Values.{is_time_text};
+
+    ghost judges = { λ _ at text. fault_if Value at (not (is_time_text text)) };
+
+    fn judge(&self, alloc: Global, at: &str, text: &str) -> Result<(), ConfigFault> {
+        let Ok(is_time) = is_time_text(alloc, text) else {
+            return Err(ConfigFault::Memory);
+        };
+        fault_if(alloc, Code::Value, at, "", !is_time)
+    }
+}
+
+/// The value of a data object.
+fn data_value(alloc: Global, at: &str, value: &str) -> Result<(), ConfigFault>
+    ensures { Gives (λ u. u) result (faults.fault_if Value (at.now ++ codes ".value") (not (is_some (value_in value.now)))) }
+{
+    let Ok(is_value) = is_value(alloc, value) else {
+        return Err(ConfigFault::Memory);
+    };
+    fault_if(alloc, Code::Value, at, ".value", !is_value)
+}
+
+/// The default of a register whose value is of this kind.
+fn register_default(
+    alloc: Global,
+    at: &str,
+    kind: Option<Kind>,
+    default: &str,
+) -> Result<(), ConfigFault>
+    ensures { Gives (λ u. u) result (faults.fault_if Value (at.now ++ codes ".default") (not (spec.is_of_kind kind (value_in default.now)))) }
+{
+    let Ok(value) = value_in(alloc, default.as_bytes()) else {
+        return Err(ConfigFault::Memory);
+    };
+    fault_if(
+        alloc,
+        Code::Value,
+        at,
+        ".default",
+        !is_of_kind(kind, &value),
+    )
+}
+
+/// The value and the default of a register.
+fn register_values(alloc: Global, at: &str, value: &str, default: &str) -> Result<(), ConfigFault>
+    ensures { Gives (λ u. u) result (followed_by (faults.fault_if Value (at.now ++ codes ".value") (not (spec.is_number (spec.kind_in value.now))))
+        (faults.fault_if Value (at.now ++ codes ".default") (not (spec.is_of_kind (spec.kind_in value.now) (value_in default.now))))) }
+{
+    let Ok(kind) = kind_in(alloc, value) else {
+        return Err(ConfigFault::Memory);
+    };
+    fault_if(alloc, Code::Value, at, ".value", !is_number(kind))?;
+    register_default(alloc, at, kind, default)
+}
+
+/// Judges the thresholds of a monitor of a value of this kind.
+fn thresholds(
+    alloc: Global,
+    at: &str,
+    kind: Option<Kind>,
+    texts: &[String],
+) -> Result<(), ConfigFault>
+    ensures { Gives (λ u. u) result (walks.each (λ at text. faults.fault_if Value at (not (spec.is_of_kind kind (value_in text))))
+        (at.now ++ codes ".thresholds") (map string_bytes texts.now)) }
+{
+    let name = format!(in alloc; "{at}.thresholds")?;
+    each_text(alloc, &Threshold { kind }, name.as_str(), texts)
+}
+
+/// The monitored value is a number, and the thresholds are of its kind.
+fn monitor_values(
+    alloc: Global,
+    kinds: &Kinds<'_, '_>,
+    at: &str,
+    monitored: &TargetParts,
+    texts: &[String],
+) -> Result<(), ConfigFault>
+    ensures { Gives (λ u. u) result (followed_by (faults.fault_if Value (at.now ++ codes ".monitored.index") (not (spec.may_be_number (spec.kind_named kinds.now.directory.now.config.now monitored.now.object))))
+        (walks.each (λ at text. faults.fault_if Value at (not (spec.is_of_kind (spec.kind_named kinds.now.directory.now.config.now monitored.now.object) (value_in text))))
+        (at.now ++ codes ".thresholds") (map string_bytes texts.now))) }
+{
+    let kind = kinds.named(monitored.object.as_str());
+    let right = may_be_number(kind);
+    fault_if(alloc, Code::Value, at, ".monitored.index", !right)?;
+    thresholds(alloc, at, kind, texts)
+}
+
+/// The values in an object's body.
+#[tactic(auto, unfolding(config_rules::specs::Passes::right_values_in))]
+fn right_values_in(
+    alloc: Global,
+    kinds: &Kinds<'_, '_>,
+    at: &str,
+    body: &BodyParts,
+) -> Result<(), ConfigFault>
+    ensures { Gives (λ u. u) result (passes.right_values_in kinds.now.directory.now.config.now at.now (body_text body.now)) }
+{
+    match body {
+        BodyParts::Data { value } => data_value(alloc, at, value.as_str()),
+        BodyParts::Register { value, default, .. } => {
+            register_values(alloc, at, value.as_str(), default.as_str())
+        }
+        BodyParts::ScriptTable { scripts } => {
+            each_action(alloc, &ActionValue { kinds }, at, scripts.as_slice())
+        }
+        BodyParts::RegisterMonitor {
+            monitored,
+            thresholds,
+            ..
+        } => monitor_values(alloc, kinds, at, monitored, thresholds.as_slice()),
+        BodyParts::SingleActionSchedule { times, .. } => {
+            let name = format!(in alloc; "{at}.times")?;
+            each_text(alloc, &TimeText, name.as_str(), times.as_slice())
+        }
+        BodyParts::ProfileGeneric { .. } | BodyParts::Unknown => Ok(()),
+    }
+}
+
+/// The values of an object.
+#[derive(Drop)]
+struct ObjectValues<'k, 'd, 'c> {
+    kinds: &'k Kinds<'d, 'c>,
+}
+
+impl<'k, 'd, 'c> Judge for ObjectValues<'k, 'd, 'c> {
+    ghost use Rattle.config_rules.specs.Passes.{right_values_in};
+
+    type Part = ObjectParts;
+
+    ghost judges = { λ all at o. right_values_in all.kinds.now.directory.now.config.now at o.body };
+
+    fn judge(&self, alloc: Global, at: &str, object: &ObjectParts) -> Result<(), ConfigFault> {
+        right_values_in(alloc, self.kinds, at, &object.body)
+    }
+}
+
+/// Judges the values of each object.
+///
+/// # Errors
+/// C11 at the first text that isn't hex, isn't one Data, or isn't of the kind that is asked for there.
+#[tactic(auto, unfolding(config_rules::specs::Passes::right_values))]
+pub(crate) fn right_values(alloc: Global, directory: &Directory<'_>) -> Result<(), ConfigFault>
+    ensures { Gives (λ u. u) result (passes.right_values directory.now.config.now) }
+{
+    let Ok(kinds) = Kinds::new(alloc, directory) else {
+        return Err(ConfigFault::Memory);
+    };
+    let config = directory.config;
+    let objects = config.objects.as_slice();
+    each(alloc, &ObjectValues { kinds: &kinds }, "object", objects)
+}

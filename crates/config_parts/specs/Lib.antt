@@ -1,3 +1,0 @@
-pub mod BodyView
-pub mod Fault
-pub mod Parts

@@ -1,7 +1,0 @@
-use Rattle.std.proofs.Common.{◌≡◌, map, take}
-use Rattle.config_plan.specs.PlanOf.{right_of}
-use Rattle.config_plans.proofs.clients.rights_of.Given as goal
-
--- the rights before are taken
-abbrev pub invariant-loop-part : goal.invariant-loop-part
-invariant-loop-part l = l.rights.items ≡ map (right_of l.directory.config.now) (take l.part-index l.parts)

@@ -1,7 +1,0 @@
-use Rattle.std.proofs.Common.{map, take, string_bytes}
-use Rattle.config_plan.specs.Faultless.{HasNamed}
-use Rattle.config_plans.proofs.policy.clients_named.Given as goal
-
--- the clients before are in the set
-abbrev pub invariant-loop-name : goal.invariant-loop-name
-invariant-loop-name l = HasNamed l.directory.config.now (map string_bytes (take l.name-index l.names)) l.set

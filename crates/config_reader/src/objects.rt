@@ -1,0 +1,175 @@
+//! The objects of a configuration.
+ghost use Rattle.std.specs.Prelude.{◌≡◌, ◌≤◌, IfOk, map, length, true, string_bytes};
+ghost use Rattle.std.specs.List.{list_all};
+ghost use Rattle.cosem_data.specs.View.{tree};
+ghost use Rattle.config_text.specs.BodyView.{body_text};
+ghost use Rattle.meter_theory.specs.Plan as theory;
+ghost use Rattle.object_model.specs.PartView.{part_of};
+ghost use Rattle.config_rules.specs.PlanOf as plan;
+ghost use Rattle.config_reader.specs.Room.{has_room};
+
+use crate::scripts::scripts_of;
+use crate::targets::{actions_of, captured, cell_named, name_of, script_named};
+use class_control::parts::{MonitorPart, SchedulePart, ScriptTablePart};
+use class_profile::profile::ProfilePart;
+use config_judge::arrays::{times_of, value_or_null, values_of};
+use config_judge::directory::Directory;
+use config_text::parts::{
+    BodyParts, CaptureParts, ObjectParts, ScriptRefParts, TargetParts, UpDownParts,
+};
+use cosem_class::data1::DataPart;
+use cosem_class::register::RegisterPart;
+use cosem_data::data::{Data, Items};
+use cosem_data::memory::Memory;
+use meter_theory::refs::ScalerUnit;
+use object_model::object::Object;
+use object_model::part::Part;
+use std::alloc::Global;
+
+fn register(
+    alloc: Global,
+    value: &str,
+    default: &str,
+    scaler_unit: ScalerUnit,
+) -> Result<Part, Memory>
+    ensures { IfOk result (λ part. part_of part ≡ theory.Register (plan.value_of value.now) (plan.value_of default.now) scaler_unit) }
+{
+    let start = value_or_null(alloc, value)?;
+    let default = value_or_null(alloc, default)?;
+    Ok(Part::Register(RegisterPart {
+        start,
+        default,
+        scaler_unit,
+    }))
+}
+
+fn profile(
+    alloc: Global,
+    directory: &Directory,
+    captures: &[CaptureParts],
+    capture_period: u32,
+    entries: u64,
+) -> Result<Part, Memory>
+    requires some { 1 ≤ entries }
+    requires few { entries ≤ 1000 }
+    ensures { IfOk result (λ part. part_of part ≡ theory.ProfileGeneric (map (λ x. plan.cell_named directory.now.config.now x.target) captures.now) capture_period entries) }
+{
+    let captured = captured(alloc, directory, captures)?;
+    Ok(Part::ProfileGeneric(ProfilePart {
+        captured,
+        capture_period,
+        profile_entries: entries as u32,
+    }))
+}
+
+fn monitor(
+    alloc: Global,
+    directory: &Directory,
+    monitored: &TargetParts,
+    thresholds: &[String],
+    actions: &[UpDownParts],
+) -> Result<Part, Memory>
+    ensures { IfOk result (λ part. part_of part ≡ theory.RegisterMonitor (plan.cell_named directory.now.config.now monitored.now) (plan.thresholds_value (map string_bytes thresholds.now)) (map plan.up_down_of actions.now)) }
+{
+    let start = Data::Array(Items::new(values_of(alloc, thresholds)?));
+    let actions = actions_of(alloc, actions)?;
+    Ok(Part::RegisterMonitor(MonitorPart {
+        monitored_value: cell_named(directory, monitored),
+        start,
+        actions,
+    }))
+}
+
+fn schedule(
+    alloc: Global,
+    script: &ScriptRefParts,
+    execution_type: u8,
+    times: &[String],
+) -> Result<Part, Memory>
+    ensures { IfOk result (λ part. part_of part ≡ theory.SingleActionSchedule (plan.script_named script.now) execution_type (plan.times_value (map string_bytes times.now))) }
+{
+    let start = Data::Array(Items::new(times_of(alloc, times)?));
+    Ok(Part::SingleActionSchedule(SchedulePart {
+        executed_script: script_named(script),
+        execution_type,
+        start,
+    }))
+}
+
+/// What a plan fixes of an object, by what the configuration says of its class. A class that isn't known has an empty
+/// script table's part: no configuration without faults has one. The error is that memory was refused.
+fn part(alloc: Global, directory: &Directory, body: &BodyParts) -> Result<Part, Memory>
+    requires { has_room (body_text body.now) ≡ true }
+    ensures { IfOk result (λ part. part_of part ≡ plan.part_of directory.now.config.now (body_text body.now)) }
+{
+    match body {
+        BodyParts::Data { value } => Ok(Part::Data(DataPart {
+            start: value_or_null(alloc, value.as_str())?,
+        })),
+        BodyParts::Register {
+            value,
+            default,
+            scaler,
+            unit,
+        } => {
+            let scaler_unit = ScalerUnit {
+                scaler: *scaler,
+                unit: *unit,
+            };
+            register(alloc, value.as_str(), default.as_str(), scaler_unit)
+        }
+        BodyParts::ProfileGeneric {
+            capture,
+            period,
+            entries,
+            ..
+        } => profile(alloc, directory, capture.as_slice(), *period, *entries),
+        BodyParts::ScriptTable { scripts } => Ok(Part::ScriptTable(ScriptTablePart {
+            scripts: scripts_of(alloc, directory, scripts.as_slice())?,
+        })),
+        BodyParts::RegisterMonitor {
+            monitored,
+            thresholds,
+            actions,
+        } => monitor(
+            alloc,
+            directory,
+            monitored,
+            thresholds.as_slice(),
+            actions.as_slice(),
+        ),
+        BodyParts::SingleActionSchedule {
+            script,
+            kind,
+            times,
+        } => schedule(alloc, script, *kind, times.as_slice()),
+        BodyParts::Unknown => Ok(Part::ScriptTable(ScriptTablePart {
+            scripts: Vec::new(alloc),
+        })),
+    }
+}
+
+fn object(alloc: Global, directory: &Directory, parts: &ObjectParts) -> Result<Object, Memory>
+    requires { has_room parts.now.body ≡ true }
+    ensures { IfOk result (λ object. object ≡ plan.object_of directory.now.config.now parts.now) }
+{
+    let name = name_of(parts.name.as_str());
+    let part = part(alloc, directory, &parts.body)?;
+    Ok(Object::new(name, parts.fed, part))
+}
+
+/// The objects, in plan order. The error is that memory was refused.
+pub(crate) fn objects_of(
+    alloc: Global,
+    directory: &Directory,
+    parts: &[ObjectParts],
+) -> Result<Vec<Object>, Memory>
+    requires { list_all (λ o. has_room o.body) parts.now ≡ true }
+    ensures { IfOk result (λ objects. objects.items ≡ map (plan.object_of directory.now.config.now) parts.now) }
+{
+    let mut objects = Vec::new(alloc);
+    for part in parts {
+        objects.push(object(alloc, directory, part)?)?;
+    }
+    Ok(objects)
+}

@@ -1,0 +1,98 @@
+//! The attributes, methods and scripts that a configuration names.
+ghost use Rattle.std.specs.Prelude.{◌≡◌, ◌<◌, IfOk, map};
+ghost use Rattle.class_profile.specs.ProfileClass.{HaveAttributeIndexes};
+ghost use Rattle.config_rules.specs.PlanOf as plan;
+
+use config_judge::directory::Directory;
+use config_text::parts::{CaptureParts, ScriptRefParts, TargetParts, UpDownParts};
+use cosem_data::cell::{CellRef, MethodRef};
+use cosem_data::memory::Memory;
+use cosem_data::name::LogicalName;
+use meter_theory::refs::{ScriptRef, UpDown};
+use std::alloc::Global;
+
+/// The logical name that a text is, six zero bytes where it is none. It takes no memory.
+pub(crate) fn name_of(text: &str) -> LogicalName
+    ensures { result ≡ plan.name_of text.now }
+{
+    match LogicalName::read(text) {
+        Ok(name) => name,
+        Err(_) => LogicalName([0; 6]),
+    }
+}
+
+/// The attribute that is named. It takes no memory.
+pub(crate) fn cell_named(directory: &Directory, target: &TargetParts) -> CellRef
+    ensures cell { result ≡ plan.cell_named directory.now.config.now target.now }
+    ensures index { result.index < 128 }
+{
+    let object = target.object.as_str();
+    CellRef {
+        class_id: directory.class(object),
+        name: name_of(object),
+        index: target.index,
+    }
+}
+
+/// The method that is named. It takes no memory.
+pub(crate) fn method_named(directory: &Directory, target: &TargetParts) -> MethodRef
+    ensures method { result ≡ plan.method_named directory.now.config.now target.now }
+    ensures index { result.index < 128 }
+{
+    let object = target.object.as_str();
+    MethodRef {
+        class_id: directory.class(object),
+        name: name_of(object),
+        index: target.index,
+    }
+}
+
+/// The captured attributes, in order. The error is that memory was refused.
+pub(crate) fn captured(
+    alloc: Global,
+    directory: &Directory,
+    captures: &[CaptureParts],
+) -> Result<Vec<CellRef>, Memory>
+    ensures cells { IfOk result (λ cells. cells.items ≡ map (λ x. plan.cell_named directory.now.config.now x.target) captures.now) }
+    ensures indexes { IfOk result (λ cells. HaveAttributeIndexes cells.items) }
+{
+    let mut cells = Vec::new(alloc);
+    for capture in captures {
+        cells.push(cell_named(directory, &capture.target))?;
+    }
+    Ok(cells)
+}
+
+/// A script's identifier, 0 where it is not one of sixteen bits (IEC 62056-6-2, Script table, script_identifier).
+fn script_number(script: i64) -> u16
+    ensures { result ≡ plan.script_number script }
+{
+    match u16::try_from(script) {
+        Ok(number) => number,
+        Err(_) => 0,
+    }
+}
+
+/// The script that is named. It takes no memory.
+pub(crate) fn script_named(script: &ScriptRefParts) -> ScriptRef
+    ensures { result ≡ plan.script_named script.now }
+{
+    ScriptRef {
+        table: name_of(script.table.as_str()),
+        script: script_number(script.script),
+    }
+}
+
+/// What is run at each threshold, in order. The error is that memory was refused.
+pub(crate) fn actions_of(alloc: Global, actions: &[UpDownParts]) -> Result<Vec<UpDown>, Memory>
+    ensures { IfOk result (λ list. list.items ≡ map plan.up_down_of actions.now) }
+{
+    let mut list = Vec::new(alloc);
+    for action in actions {
+        list.push(UpDown {
+            up: script_named(&action.up),
+            down: script_named(&action.down),
+        })?;
+    }
+    Ok(list)
+}

@@ -1,0 +1,11 @@
+pub mod Actions
+pub mod Cells
+pub mod Fits
+pub mod Indexes
+pub mod Monitored
+pub mod Named
+pub mod Passed
+pub mod Rights
+pub mod Scripts
+pub mod Sound
+pub mod Starts

@@ -1,0 +1,198 @@
+-- What a pass that found nothing says of each part.
+use Rattle.std.proofs.Common.{◌≡◌, ◌⊎◌, ℕ, ◌+◌, Bool, true, false, not, List, [], ◌∷◌, ◌++◌, map, length, refl, sym, ap, subst, ◌∙◌, inl, inr, Result, Ok, Err}
+use Rattle.std.specs.Bool.{⊤}
+use Rattle.std.specs.Prelude.{codes}
+use Rattle.std.specs.List.{list_all}
+use Rattle.std.proofs.lemmas.Bool.{and_from}
+use Rattle.std.proofs.lemmas.List.{append_assoc, append-nil}
+use Rattle.meter_theory.specs.Lists.{IsIn, AreDistinct}
+use Rattle.meter_theory.proofs.Lists.{in_append_cases, in_map, from_map}
+use Rattle.config_text.specs.declared.fault.Code.{Code}
+use Rattle.config_text.specs.Fault.{Fault, fault_if, ◌>>=◌}
+use Rattle.config_text.specs.Parts.{Text, ConfigText, TargetText, ScriptRefText, CaptureText, ActionText, ScriptText, UpDownText, BodyText, DataText, RegisterText, ProfileText, ScriptTableText, MonitorText, ScheduleText, UnknownText}
+use Rattle.config_rules.specs.Walks.{Judge, each, each_from, each_after, each_new, each_action, script_actions, both_scripts, references, element_place}
+use Rattle.config_rules.specs.Passes as passes
+use Rattle.config_rules.specs.Passes.{judged}
+
+-- a chain that found nothing: neither did its first line, nor the others
+pub then_ok : {A B : Type 0} (r : Result A Fault) (f : A → Result B Fault) (y : B) → r >>= f ≡ Ok y → (x : A) × (r ≡ Ok x) × (f x ≡ Ok y)
+then_ok (Ok x) f y h = (x, refl, h)
+then_ok (Err e) f y h = cc
+
+pub not_faulty : (code : Code) (place : Text) (b : Bool) → fault_if code place b ≡ Ok tt → b ≡ false
+not_faulty code place true h = cc
+not_faulty code place false h = refl
+
+pub not_not : (b : Bool) → not b ≡ false → b ≡ true
+not_not true h = refl
+not_not false h = cc
+
+-- the test whose failure is the fault
+pub holds : (code : Code) (place : Text) (b : Bool) → fault_if code place (not b) ≡ Ok tt → b ≡ true
+holds code place b h = not_not b (not_faulty code place (not b) h)
+
+-- each element was judged at some place, and found right
+pub each_ok : {A : Type 0} (judge : Judge A) (name : Text) (i : ℕ) (xs : List A) → each_from judge name i xs ≡ Ok tt → (x : A) → IsIn xs x → (at : Text) × (judge at x ≡ Ok tt)
+unfolding each_from
+each_ok judge name i [] h x none = absurd none
+each_ok judge name i (y ∷ ys) h x there =
+    let r = then_ok (judge (element_place name i) y) (λ _. each_from judge name (i + 1) ys) tt h in
+    elim there [
+      | inl e ↦ (element_place name i, subst (λ z. judge (element_place name i) z ≡ Ok tt) (sym e) (one r.0 r.1))
+      | inr j ↦ each_ok judge name (i + 1) ys r.2 x j
+    ]
+  where
+    one : (u : ⊤) → judge (element_place name i) y ≡ Ok u → judge (element_place name i) y ≡ Ok tt
+    one u e = e
+
+-- each element passed the test whose failure is the fault
+pub each_holds : {A : Type 0} (code : Code) (test : A → Bool) (name : Text) (i : ℕ) (xs : List A) → each_from (λ at x. fault_if code at (not (test x))) name i xs ≡ Ok tt →
+    list_all test xs ≡ true
+unfolding each_from
+each_holds code test name i [] h = refl
+each_holds code test name i (x ∷ xs) h =
+    let r = then_ok (fault_if code (element_place name i) (not (test x))) (λ _. each_from (λ at y. fault_if code at (not (test y))) name (i + 1) xs) tt h in
+    and_from (test x) (list_all test xs) (holds code (element_place name i) (test x) r.1) (each_holds code test name (i + 1) xs r.2)
+
+-- an element beside those before it has a key of its own, where the judge asks for it
+abbrev pub AsksNewKey : {A K : Type 0} → (A → K) → (List A → Judge A) → Type 0
+AsksNewKey {A} key judge = (earlier : List A) (at : Text) (x : A) → judge earlier at x ≡ Ok tt → (y : A) → IsIn earlier y → key y ≡ key x → ⊥
+
+-- one more with a key of its own
+one_more : {A K : Type 0} (key : A → K) (earlier : List A) (x : A) → AreDistinct (map key earlier) → ((y : A) → IsIn earlier y → key y ≡ key x → ⊥) →
+    AreDistinct (map key (earlier ++ x ∷ []))
+one_more {A = A} key [] x distinct other = (λ none. none, tt)
+one_more {A = A} key (z ∷ earlier) x distinct other =
+    (λ i. let y = from_map key (earlier ++ x ∷ []) (key z) i in at y.0 y.2 (in_append_cases earlier (x ∷ []) y.0 y.1), one_more key earlier x distinct.1 (λ y i. other y (inr i)))
+  where
+    at : (y : A) → key z ≡ key y → (IsIn earlier y ⊎ IsIn (x ∷ []) y) → ⊥
+    at y e (inl i) = distinct.0 (subst (IsIn (map key earlier)) (sym e) (in_map key earlier y i))
+    at y e (inr (inl is)) = other z (inl refl) (e ∙ ap key is)
+    at y e (inr (inr none)) = none
+
+after_distinct : {A K : Type 0} (key : A → K) (judge : List A → Judge A) → AsksNewKey key judge → (name : Text) (earlier xs : List A) → AreDistinct (map key earlier) →
+    each_after judge name earlier xs ≡ Ok tt → AreDistinct (map key (earlier ++ xs))
+unfolding each_after
+after_distinct key judge asks name earlier [] distinct h = subst (λ ys. AreDistinct (map key ys)) (sym (append-nil earlier)) distinct
+after_distinct key judge asks name earlier (x ∷ xs) distinct h =
+    let r = then_ok (judge earlier (element_place name (length earlier)) x) (λ _. each_after judge name (earlier ++ x ∷ []) xs) tt h in
+    subst (λ ys. AreDistinct (map key ys)) (append_assoc earlier (x ∷ []) xs)
+    (after_distinct key judge asks name (earlier ++ x ∷ []) xs (one_more key earlier x distinct (asks earlier (element_place name (length earlier)) x r.1)) r.2)
+
+-- elements that were each judged against those before them have keys of their own
+pub each_new_distinct : {A K : Type 0} (key : A → K) (judge : List A → Judge A) → AsksNewKey key judge → (name : Text) (xs : List A) → each_new judge name xs ≡ Ok tt →
+    AreDistinct (map key xs)
+each_new_distinct key judge asks name xs h = after_distinct key judge asks name [] xs tt h
+
+after_ok : {A : Type 0} (judge : List A → Judge A) (name : Text) (earlier xs : List A) → each_after judge name earlier xs ≡ Ok tt →
+    (x : A) → IsIn xs x → (before : List A) × (at : Text) × (judge before at x ≡ Ok tt)
+unfolding each_after
+after_ok judge name earlier [] h x none = absurd none
+after_ok judge name earlier (y ∷ ys) h x there =
+    let r = then_ok (judge earlier (element_place name (length earlier)) y) (λ _. each_after judge name (earlier ++ y ∷ []) ys) tt h in
+    elim there [
+      | inl e ↦ (earlier, element_place name (length earlier), subst (λ z. judge earlier (element_place name (length earlier)) z ≡ Ok tt) (sym e) r.1)
+      | inr j ↦ after_ok judge name (earlier ++ y ∷ []) ys r.2 x j
+    ]
+
+-- each element was judged beside some before it
+pub each_new_in : {A : Type 0} (judge : List A → Judge A) (name : Text) (xs : List A) → each_new judge name xs ≡ Ok tt →
+    (x : A) → IsIn xs x → (before : List A) × (at : Text) × (judge before at x ≡ Ok tt)
+each_new_in judge name xs h = after_ok judge name [] xs h
+
+-- each action of each script was judged, and found right
+pub each_action_ok : (judge : Judge ActionText) (at : Text) (scripts : List ScriptText) → each_action judge at scripts ≡ Ok tt →
+    (s : ScriptText) → IsIn scripts s → (a : ActionText) → IsIn s.actions a → (place : Text) × (judge place a ≡ Ok tt)
+each_action_ok judge at scripts h s i a j =
+    let r = each_ok (script_actions judge) (at ++ codes ".script") 0 scripts h s i in
+    each_ok judge (r.0 ++ codes ".action") 0 s.actions r.1 a j
+
+-- each thing that a body refers to
+abbrev pub EachReference : (TargetText → Type 0) → (ScriptRefText → Type 0) → BodyText → Type 0
+EachReference T S (DataText value) = Unit {0}
+EachReference T S (RegisterText value default scaler unit) = Unit {0}
+EachReference T S (ProfileText captures period entries sort_method) = (x : CaptureText) → IsIn captures x → T x.target
+EachReference T S (ScriptTableText scripts) = (s : ScriptText) → IsIn scripts s → (a : ActionText) → IsIn s.actions a → T a.target
+EachReference T S (MonitorText monitored thresholds actions) = T monitored × ((a : UpDownText) → IsIn actions a → S a.up × S a.down)
+EachReference T S (ScheduleText script type times) = S script
+EachReference T S UnknownText = Unit {0}
+
+pub references_ok : (T : TargetText → Type 0) (S : ScriptRefText → Type 0) (target : Judge TargetText) (script : Judge ScriptRefText) →
+    ((at : Text) (t : TargetText) → target at t ≡ Ok tt → T t) → ((at : Text) (r : ScriptRefText) → script at r ≡ Ok tt → S r) →
+    (at : Text) (body : BodyText) → references target script at body ≡ Ok tt → EachReference T S body
+unfolding references
+references_ok T S target script t r at (DataText value) h = tt
+references_ok T S target script t r at (RegisterText value default scaler unit) h = tt
+references_ok T S target script t r at (ProfileText captures period entries sort_method) h = λ x i.
+    let judged = each_ok (λ place c. target place c.target) (at ++ codes ".capture") 0 captures h x i in t judged.0 x.target judged.1
+references_ok T S target script t r at (ScriptTableText scripts) h = λ s i a j.
+    let judged = each_action_ok (λ place x. target place x.target) at scripts h s i a j in t judged.0 a.target judged.1
+references_ok T S target script t r at (MonitorText monitored thresholds actions) h =
+    let first = then_ok (target (at ++ codes ".monitored") monitored) (λ _. each (both_scripts script) (at ++ codes ".action") actions) tt h in (
+      t (at ++ codes ".monitored") monitored first.1,
+      λ a i.
+          let judged = each_ok (both_scripts script) (at ++ codes ".action") 0 actions first.2 a i in
+          let both = then_ok (script (judged.0 ++ codes ".up") a.up) (λ _. script (judged.0 ++ codes ".down") a.down) tt judged.1 in
+          (r (judged.0 ++ codes ".up") a.up both.1, r (judged.0 ++ codes ".down") a.down both.2),
+    )
+references_ok T S target script t r at (ScheduleText s type times) h = r (at ++ codes ".script") s h
+references_ok T S target script t r at UnknownText h = tt
+
+-- What every pass found.
+pub record IsJudged (c : ConfigText) : Type 0 where
+  pub forms : passes.forms c ≡ Ok tt
+  pub objects : passes.new_objects c ≡ Ok tt
+  pub classes : passes.known_classes c ≡ Ok tt
+  pub clients : passes.known_clients c ≡ Ok tt
+  pub access : passes.new_clients c ≡ Ok tt
+  pub references : passes.known_references c ≡ Ok tt
+  pub indexes : passes.known_indexes c ≡ Ok tt
+  pub values : passes.right_values c ≡ Ok tt
+  pub rights : passes.settable_rights c ≡ Ok tt
+  pub counts : passes.equal_counts c ≡ Ok tt
+  pub scripts : passes.new_scripts c ≡ Ok tt
+  pub executes : passes.no_executes c ≡ Ok tt
+  pub limits : passes.within_limits c ≡ Ok tt
+  pub labels : passes.new_labels c ≡ Ok tt
+  pub inputs : passes.fed_values c ≡ Ok tt
+  pub times : passes.right_times c ≡ Ok tt
+  pub sorting : passes.right_sorting c ≡ Ok tt
+
+pub passed : (c : ConfigText) → judged c ≡ Ok tt → IsJudged c
+unfolding judged
+passed c h =
+    let a = then_ok (passes.forms c) _ tt h in
+    let b = then_ok (passes.new_objects c) _ tt a.2 in
+    let d = then_ok (passes.known_classes c) _ tt b.2 in
+    let e = then_ok (passes.known_clients c) _ tt d.2 in
+    let f = then_ok (passes.new_clients c) _ tt e.2 in
+    let g = then_ok (passes.known_references c) _ tt f.2 in
+    let i = then_ok (passes.known_indexes c) _ tt g.2 in
+    let j = then_ok (passes.right_values c) _ tt i.2 in
+    let k = then_ok (passes.settable_rights c) _ tt j.2 in
+    let l = then_ok (passes.equal_counts c) _ tt k.2 in
+    let m = then_ok (passes.new_scripts c) _ tt l.2 in
+    let n = then_ok (passes.no_executes c) _ tt m.2 in
+    let o = then_ok (passes.within_limits c) _ tt n.2 in
+    let p = then_ok (passes.new_labels c) _ tt o.2 in
+    let q = then_ok (passes.fed_values c) _ tt p.2 in
+    let r = then_ok (passes.right_times c) (λ _. passes.right_sorting c) tt q.2 in
+    record {
+      forms = a.1;
+      objects = b.1;
+      classes = d.1;
+      clients = e.1;
+      access = f.1;
+      references = g.1;
+      indexes = i.1;
+      values = j.1;
+      rights = k.1;
+      counts = l.1;
+      scripts = m.1;
+      executes = n.1;
+      limits = o.1;
+      labels = p.1;
+      inputs = q.1;
+      times = r.1;
+      sorting = r.2;
+    }

@@ -1,0 +1,102 @@
+-- Scripts: those that references name are there, and those of a table have numbers of their own.
+use Rattle.std.proofs.Common.{◌≡◌, ℕ, ◌==◌, Bool, true, false, cond, not, List, [], ◌∷◌, ◌++◌, map, refl, sym, ap, subst, ◌∙◌, Option, Some, None, is_some, eq-eqb, Ok}
+use Rattle.std.specs.Prelude.{ℤ, pos, negsuc, int_le, unsigned_abs, codes, ◌&&◌, ◌||◌}
+use Rattle.std.specs.List.{list_any}
+use Rattle.std.proofs.lemmas.Bool.{or_parts, false≢true}
+use Rattle.meter_theory.specs.Lists.{IsIn, AreDistinct, some_passes}
+use Rattle.meter_theory.specs.Plan.{class_of}
+use Rattle.meter_theory.specs.Rights.{knows_script}
+use Rattle.meter_theory.specs.Steps.{scripts_of}
+use Rattle.meter_theory.specs.Sound.{has_script}
+use Rattle.meter_theory.proofs.Lists.{none_in, from_map}
+use Rattle.config_text.specs.declared.fault.Code.TheVariants.{Reference, ScriptId}
+use Rattle.config_text.specs.Fault.{fault_if}
+use Rattle.config_text.specs.Parts.{Text, ConfigText, ObjectText, ScriptRefText, ScriptText, BodyText, DataText, RegisterText, ProfileText, ScriptTableText, MonitorText, ScheduleText, UnknownText}
+use Rattle.config_rules.specs.Names.{object_named, class_named, class_in, scripts_in}
+use Rattle.config_rules.specs.PlanOf.{part_of, plan_of, script_of, script_named, script_number}
+use Rattle.config_rules.specs.Passes as passes
+use Rattle.config_rules.specs.Walks.{each_new}
+use Rattle.config_rules.proofs.Passed.{then_ok, holds, not_faulty, each_ok, each_new_distinct, each_new_in, AsksNewKey}
+use Rattle.config_rules.proofs.Named.{IsName}
+use Rattle.config_rules.proofs.Cells.{IsRight, target_of}
+
+-- the script that is named is one of the plan
+abbrev pub IsScript : ConfigText → ScriptRefText → Type 0
+IsScript c r = has_script (plan_of c) (script_named r) ≡ true
+
+-- the scripts of a table have the numbers of their texts
+same_numbers : (c : ConfigText) (scripts : List ScriptText) → map (λ s. s.id) (map (script_of c) scripts) ≡ map (λ s. s.id) scripts
+same_numbers c [] = refl
+same_numbers c (s ∷ scripts) = ap (λ ids. s.id ∷ ids) (same_numbers c scripts)
+
+same_known : (c : ConfigText) (scripts : List ScriptText) (n : ℕ) → list_any (λ s. s.id == n) (map (script_of c) scripts) ≡ list_any (λ s. s.id == n) scripts
+same_known c [] n = refl
+same_known c (s ∷ scripts) n = ap (λ b. (s.id == n) || b) (same_known c scripts n)
+
+-- a number that the texts know is one of the scripts; that of no script is 0, which each table has
+known_number : (c : ConfigText) (scripts : List ScriptText) (z : ℤ) → passes.has_script scripts z ≡ true → knows_script (map (script_of c) scripts) (script_number z) ≡ true
+known_number c scripts (pos n) h = at (int_le (pos 0) (pos n) && int_le (pos n) (pos 65535))
+  where
+    at : (b : Bool) → knows_script (map (script_of c) scripts) (cond b (unsigned_abs (pos n)) 0) ≡ true
+    at true = ap (λ b. (n == 0) || b) (same_known c scripts n) ∙ h
+    at false = refl
+known_number c scripts (negsuc n) h = absurd (false≢true h)
+
+-- a script that the passes found in its table
+pub known_script : (c : ConfigText) → IsRight c → (at : Text) (r : ScriptRefText) → IsName r.table → passes.known_script c at r ≡ Ok tt → IsScript c r
+unfolding passes.known_script
+known_script c ok at r name h =
+    let both = then_ok (fault_if Reference (at ++ codes ".table") (not (class_named c r.table == 9)))
+    (λ _. fault_if Reference (at ++ codes ".script") (not (passes.has_script (passes.scripts_of (object_named c r.table)) r.script))) tt h in
+    let class = holds Reference (at ++ codes ".table") (class_named c r.table == 9) both.1 in
+    let number = holds Reference (at ++ codes ".script") (passes.has_script (passes.scripts_of (object_named c r.table)) r.script) both.2 in
+    let table = target_of c ok r.table name (there (object_named c r.table) class) in
+    subst (λ found. some_passes (λ o. (class_of o.part == 9) && knows_script (scripts_of o.part) (script_number r.script)) found ≡ true) (sym table.1.planned)
+    (runs table.0.body (subst (λ k. (k == 9) ≡ true) table.1.class class) (subst (λ found. passes.has_script (passes.scripts_of found) r.script ≡ true) table.1.is number))
+  where
+    there : (found : Option ObjectText) → (class_in found == 9) ≡ true → is_some found ≡ true
+    there None k = absurd (false≢true k)
+    there (Some o) k = refl
+
+    runs : (body : BodyText) → (class_of (part_of c body) == 9) ≡ true → passes.has_script (scripts_in body) r.script ≡ true →
+        ((class_of (part_of c body) == 9) && knows_script (scripts_of (part_of c body)) (script_number r.script)) ≡ true
+    runs (DataText value) k known = absurd (false≢true k)
+    runs (RegisterText value default scaler unit) k known = absurd (false≢true k)
+    runs (ProfileText captures period entries sort_method) k known = absurd (false≢true k)
+    runs (ScriptTableText scripts) k known = known_number c scripts r.script known
+    runs (MonitorText monitored thresholds actions) k known = absurd (false≢true k)
+    runs (ScheduleText script type times) k known = absurd (false≢true k)
+    runs UnknownText k known = known_number c [] r.script known
+
+-- Numbers
+
+-- no script of a table has the null script's number, and none that of an earlier one
+own_numbers : (at : Text) (scripts : List ScriptText) → each_new passes.new_script (at ++ codes ".script") scripts ≡ Ok tt → AreDistinct (0 ∷ map (λ s. s.id) scripts)
+own_numbers at scripts h = (not_null, each_new_distinct (λ s. s.id) passes.new_script other (at ++ codes ".script") scripts h)
+  where
+    other : AsksNewKey (λ s. s.id) passes.new_script
+    other earlier place s ok e i same =
+        let none = (or_parts (s.id == 0) (list_any (λ z. z.id == s.id) earlier) (not_faulty ScriptId (place ++ codes ".id") _ ok)).1 in
+        false≢true (sym (none_in (λ z. z.id == s.id) earlier e none i) ∙ eq-eqb e.id s.id same)
+
+    not_null : IsIn (map (λ s. s.id) scripts) 0 → ⊥
+    not_null i =
+        let s = from_map (λ z. z.id) scripts 0 i in
+        let r = each_new_in passes.new_script (at ++ codes ".script") scripts h s.0 s.1 in
+        let apart = (or_parts (s.0.id == 0) (list_any (λ z. z.id == s.0.id) r.0) (not_faulty ScriptId (r.1 ++ codes ".id") _ r.2)).0 in
+        false≢true (sym apart ∙ eq-eqb s.0.id 0 (sym s.2))
+
+pub script_numbers : (c : ConfigText) → IsRight c → (o : ObjectText) → IsIn c.objects o → AreDistinct (0 ∷ map (λ s. s.id) (scripts_of (part_of c o.body)))
+unfolding passes.new_scripts
+script_numbers c ok o i =
+    let r = each_ok (λ at p. each_new passes.new_script (at ++ codes ".script") (scripts_in p.body)) (codes "object") 0 c.objects ok.judged.scripts o i in
+    numbered o.body (own_numbers r.0 (scripts_in o.body) r.1)
+  where
+    numbered : (body : BodyText) → AreDistinct (0 ∷ map (λ s. s.id) (scripts_in body)) → AreDistinct (0 ∷ map (λ s. s.id) (scripts_of (part_of c body)))
+    numbered (DataText value) h = h
+    numbered (RegisterText value default scaler unit) h = h
+    numbered (ProfileText captures period entries sort_method) h = h
+    numbered (ScriptTableText scripts) h = subst (λ ids. AreDistinct (0 ∷ ids)) (sym (same_numbers c scripts)) h
+    numbered (MonitorText monitored thresholds actions) h = h
+    numbered (ScheduleText script type times) h = h
+    numbered UnknownText h = h

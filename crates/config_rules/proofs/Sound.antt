@@ -1,0 +1,249 @@
+-- The plan of a configuration in which the passes find nothing is sound.
+use Rattle.std.proofs.Common.{◌≡◌, ℕ, ◌==◌, Bool, true, false, not, List, [], ◌∷◌, ◌++◌, map, length, refl, sym, ap, subst, ◌∙◌, inl, inr, Option, Some, None, is_some, eqb-true, eq-eqb, nat_lt, nat_le, leb-true, Ok}
+use Rattle.std.specs.Prelude.{option_and_then, codes, ◌&&◌, ◌||◌}
+use Rattle.std.proofs.lemmas.Bool.{or_cases, and_parts, and_from, false≢true, ltb-false, le-leb}
+use Rattle.std.proofs.lemmas.List.{length-map}
+use Rattle.std.specs.List.{list_all}
+use Rattle.cosem_data.specs.Tree.{Tree, null_data}
+use Rattle.cosem_data.specs.Kinds.{kind_of}
+use Rattle.cosem_data.specs.Cells.{cell, same_name}
+use Rattle.cosem_data.specs.declared.cell.CellRef.{CellRef}
+use Rattle.meter_theory.specs.Lists.{IsIn, AreDistinct}
+use Rattle.meter_theory.specs.declared.refs.ScriptRef.{ScriptRef}
+use Rattle.meter_theory.specs.State.{value}
+use Rattle.meter_theory.specs.Value.{OfKind, counter, is_within_limits}
+use Rattle.meter_theory.specs.Plan.{start_of, cells, entries_in_use, class_of, association_name}
+use Rattle.meter_theory.specs.Steps.{scripts_of, Captures, captures_in}
+use Rattle.meter_theory.specs.Sound.{IsSound, IsCapturable, IsSoundPart, is_name, has_action_sizes, has_script_sizes, has_part_sizes, has_sizes, has_sap, has_script, is_right, scripts_run_by}
+use Rattle.meter_theory.proofs.Rights.{cell_of_found}
+use Rattle.meter_theory.proofs.Lists.{in_map, from_map, from_flat_map}
+use Rattle.config_text.specs.declared.fault.Code.TheVariants as code
+use Rattle.config_text.specs.declared.service.Service.{Service}
+use Rattle.config_text.specs.declared.service.Service.TheVariants as services
+use Rattle.config_text.specs.Fault.{fault_if}
+use Rattle.config_text.specs.Parts.{Text, ConfigText, ObjectText, TargetText, ActionText, UpDownText, BodyText, DataText, RegisterText, ProfileText, ScriptTableText, MonitorText, ScheduleText, UnknownText}
+use Rattle.config_rules.specs.Names.{is_among, settable, capturable, target_is, class_named}
+use Rattle.value_text.specs.Texts.{value_in}
+use Rattle.config_rules.specs.PlanOf.{part_of, object_of, plan_of, name_of, value_of, or_else, cell_named, up_down_of, script_of, action_of, parameter_of, thresholds_value, right_of, client_of, script_named}
+use Rattle.config_rules.specs.Read.{IsRead, is_body_of}
+use Rattle.config_rules.specs.Passes as passes
+use Rattle.config_rules.specs.Passes.{judged}
+use Rattle.config_rules.specs.Walks.{each}
+use Rattle.config_rules.proofs.Passed.{then_ok, holds, not_faulty, each_ok, EachReference, passed}
+use Rattle.config_rules.proofs.Named.{IsName, names_apart, plan_names, six_bytes, name_of_is}
+use Rattle.config_rules.proofs.Cells.{IsRight, IsTarget, right, settable_cell}
+use Rattle.config_rules.proofs.Starts.{limits_of, register_start}
+use Rattle.config_rules.proofs.Scripts.{IsScript, script_numbers}
+use Rattle.config_rules.proofs.Actions.{IsAction, action_at, written_value, writes, calls}
+use Rattle.config_rules.proofs.Rights.{right_is}
+use Rattle.config_rules.proofs.Fits.{known_of, indexes_of, monitor_source, starts}
+
+-- Captures
+
+-- the entries in use of a profile, named by a target
+in_use : (c : ConfigText) (t : TargetText) (o : ObjectText) → IsTarget c t.object o → 7 ≡ class_named c t.object → 7 ≡ t.index →
+    IsIn (cells (plan_of c)) (cell_named c t) × IsCapturable (plan_of c) (cell_named c t)
+in_use c t o target class index = at o.body refl
+  where
+    named : cell_named c t ≡ entries_in_use (name_of o.name)
+    named k = cell (sym class k) (name_of (sym target.name k)) (sym index k)
+
+    planned : IsIn (plan_of c).objects (object_of c o)
+    planned = in_map (object_of c) c.objects o target.there
+
+    other : {A : Type 0} (n : ℕ) → (7 == n) ≡ false → 7 ≡ n → A
+    other n apart e = absurd (false≢true (sym apart ∙ eq-eqb 7 n e))
+
+    class_at : (body : BodyText) → o.body ≡ body → 7 ≡ class_of (part_of c body)
+    class_at body is = class ∙ (target.class ∙ ap (λ b. class_of (part_of c b)) is)
+
+    at : (body : BodyText) → o.body ≡ body → IsIn (cells (plan_of c)) (cell_named c t) × IsCapturable (plan_of c) (cell_named c t)
+    at (DataText value) is = other 1 refl (class_at (DataText value) is)
+    at (RegisterText value default scaler unit) is = other 3 refl (class_at (RegisterText value default scaler unit) is)
+    at (ProfileText captures period entries sort_method) is =
+        let there : IsIn {A = CellRef × Tree} (start_of (name_of t.object) (part_of c o.body)) (entries_in_use (name_of t.object), counter 0) =
+        subst (λ b. IsIn {A = CellRef × Tree} (start_of (name_of t.object) (part_of c b)) (entries_in_use (name_of t.object), counter 0)) (sym is) (inr (inr (inl refl))) in
+        let same : entries_in_use (name_of t.object) ≡ cell_named c t = λ k. cell (class k) (name_of t.object) (index k) in (
+          subst (IsIn (cells (plan_of c))) same (cell_of_found (plan_of c) (name_of t.object) (object_of c o) target.planned (entries_in_use (name_of t.object)) (counter 0) there),
+          inr (object_of c o, planned, _, ap (λ b. captures_in (part_of c b)) is, named),
+        )
+    at (ScriptTableText scripts) is = other 9 refl (class_at (ScriptTableText scripts) is)
+    at (MonitorText monitored ths actions) is = other 21 refl (class_at (MonitorText monitored ths actions) is)
+    at (ScheduleText script type times) is = other 22 refl (class_at (ScheduleText script type times) is)
+    at UnknownText is = other 9 refl (class_at UnknownText is)
+
+captured_cell : (c : ConfigText) → IsRight c → (t : TargetText) (o : ObjectText) → IsTarget c t.object o → target_is c capturable t ≡ true →
+    IsIn (cells (plan_of c)) (cell_named c t) × IsCapturable (plan_of c) (cell_named c t)
+captured_cell c ok t o target h =
+    elim (or_cases ((7 == class_named c t.object) && (7 == t.index)) (is_among settable (class_named c t.object) t.index) h) [
+      | inl e ↦ let both = and_parts (7 == class_named c t.object) (7 == t.index) e in
+          in_use c t o target (eqb-true 7 (class_named c t.object) both.0) (eqb-true 7 t.index both.1)
+      | inr e ↦ let s = settable_cell c ok t o target e in (s.0, inl s.1)
+    ]
+
+captures : (c : ConfigText) → IsRight c → (o : ObjectText) → IsIn c.objects o → (body : BodyText) → o.body ≡ body → (taken : Captures) → captures_in (part_of c body) ≡ Some taken →
+    (x : CellRef) → IsIn taken.captured x → IsIn (cells (plan_of c)) x × IsCapturable (plan_of c) x
+unfolding passes.usable_indexes
+captures c ok o i (DataText value) is taken e x j = cc
+captures c ok o i (RegisterText value default scaler unit) is taken e x j = cc
+captures c ok o i (ProfileText all period entries sort_method) is taken e x j =
+    let same : record { captured = map (λ y. cell_named c y.target) all; entries = entries } ≡ taken = cc in
+    let y = from_map (λ z. cell_named c z.target) all x (subst (λ z. IsIn z.captured x) (sym same) j) in
+    let refers = subst (EachReference (λ t. (p : ObjectText) × IsTarget c t.object p) (IsScript c)) is (known_of c ok o i) y.0 y.1 in
+    let indexes = indexes_of c ok o i (ProfileText all period entries sort_method) is in
+    let index = each_ok (λ at z. passes.usable c capturable at z.target) (indexes.0 ++ codes ".capture") 0 all indexes.1 y.0 y.1 in
+    let r = captured_cell c ok y.0.target refers.0 refers.1 (holds code.Index (index.0 ++ codes ".index") (target_is c capturable y.0.target) index.1) in
+    (subst (IsIn (cells (plan_of c))) (sym y.2) r.0, subst (IsCapturable (plan_of c)) (sym y.2) r.1)
+captures c ok o i (ScriptTableText scripts) is taken e x j = cc
+captures c ok o i (MonitorText monitored ths actions) is taken e x j = cc
+captures c ok o i (ScheduleText script type times) is taken e x j = cc
+captures c ok o i UnknownText is taken e x j = cc
+
+-- References
+
+-- what monitors and schedules have run is there
+scripts_run : (c : ConfigText) → IsRight c → (o : ObjectText) → IsIn c.objects o → (body : BodyText) → o.body ≡ body → (r : ScriptRef) → IsIn (scripts_run_by (part_of c body)) r →
+    has_script (plan_of c) r ≡ true
+scripts_run c ok o i (DataText value) is r j = absurd j
+scripts_run c ok o i (RegisterText value default scaler unit) is r j = absurd j
+scripts_run c ok o i (ProfileText captures period entries sort_method) is r j = absurd j
+scripts_run c ok o i (ScriptTableText scripts) is r j = absurd j
+scripts_run c ok o i (MonitorText monitored ths actions) is r j =
+    let refers = subst (EachReference (λ t. (p : ObjectText) × IsTarget c t.object p) (IsScript c)) is (known_of c ok o i) in
+    let up_down = from_flat_map (λ z. z.up ∷ z.down ∷ []) (map up_down_of actions) r j in
+    let a = from_map up_down_of actions up_down.0 up_down.1 in
+    one a.0 (refers.1 a.0 a.1) (subst (λ z. IsIn (z.up ∷ z.down ∷ []) r) a.2 up_down.2)
+  where
+    one : (a : UpDownText) → IsScript c a.up × IsScript c a.down → IsIn (script_named a.up ∷ script_named a.down ∷ []) r → has_script (plan_of c) r ≡ true
+    one a both (inl e) = subst (λ z. has_script (plan_of c) z ≡ true) (sym e) both.0
+    one a both (inr (inl e)) = subst (λ z. has_script (plan_of c) z ≡ true) (sym e) both.1
+    one a both (inr (inr none)) = absurd none
+scripts_run c ok o i (ScheduleText script type times) is r (inl e) =
+    subst (λ z. has_script (plan_of c) z ≡ true) (sym e) (subst (EachReference (λ t. (p : ObjectText) × IsTarget c t.object p) (IsScript c)) is (known_of c ok o i))
+scripts_run c ok o i (ScheduleText script type times) is r (inr none) = absurd none
+scripts_run c ok o i UnknownText is r j = absurd j
+
+-- Parts
+
+sound_part : (c : ConfigText) → IsRight c → (o : ObjectText) → IsIn c.objects o → (body : BodyText) → o.body ≡ body → IsSoundPart (plan_of c) (part_of c body)
+sound_part c ok o i (DataText value) is = tt
+sound_part c ok o i (RegisterText value default scaler unit) is = (register_start c ok o i value default scaler unit is).1
+sound_part c ok o i (ProfileText captures period entries sort_method) is = tt
+sound_part c ok o i (ScriptTableText scripts) is = tt
+sound_part c ok o i (MonitorText monitored ths actions) is =
+    let source = monitor_source c ok o i monitored ths actions is in
+    (source.1.cell, source.1.rule ∙ ap (λ v. Some (OfKind (kind_of v))) (sym source.1.starts))
+sound_part c ok o i (ScheduleText script type times) is = tt
+sound_part c ok o i UnknownText is = tt
+
+-- Sizes
+
+at_most_ok : {A : Type 0} (limit : ℕ) (at : Text) (xs : List A) → passes.at_most limit at xs ≡ Ok tt → nat_le (length xs) limit ≡ true
+at_most_ok limit at xs h = le-leb (length xs) limit (ltb-false limit (length xs) (not_faulty code.Limit at (nat_lt limit (length xs)) h))
+
+few_of_map : {A B : Type 0} (f : A → B) (limit : ℕ) (xs : List A) → nat_le (length xs) limit ≡ true → nat_le (length (map f xs)) limit ≡ true
+few_of_map f limit xs h = subst (λ n. nat_le n limit ≡ true) (sym (length-map xs f)) h
+
+each_of_map : {A B : Type 0} (test : B → Bool) (f : A → B) (xs : List A) → ((x : A) → IsIn xs x → test (f x) ≡ true) → list_all test (map f xs) ≡ true
+each_of_map test f [] h = refl
+each_of_map test f (x ∷ xs) h = and_from (test (f x)) (list_all test (map f xs)) (h x (inl refl)) (each_of_map test f xs (λ y i. h y (inr i)))
+
+six : (text : Text) → IsName text → is_name (name_of text) ≡ true
+six text name = subst (λ n. is_name n ≡ true) (sym (name_of_is text name.0 name.1)) (six_bytes text name.0 name.1)
+
+-- the value of an action keeps within the limits
+small_parameter : (value : Option Text) → ((text : Text) → value ≡ Some text → is_some (value_in text) ≡ true) → passes.is_small (option_and_then value_in value) ≡ true →
+    is_within_limits (parameter_of value) ≡ true
+small_parameter None h small = refl
+small_parameter (Some text) h small = at (value_in text) refl (h text refl) small
+  where
+    at : (r : Option Tree) → value_in text ≡ r → is_some r ≡ true → passes.is_small (value_in text) ≡ true → is_within_limits (value_of text) ≡ true
+    at None e s l = cc
+    at (Some v) e s l = subst (λ z. is_within_limits z ≡ true) (sym (ap (or_else null_data) e)) (subst (λ z. passes.is_small z ≡ true) e l)
+
+action_sizes : (c : ConfigText) (a : ActionText) → IsAction c a → IsName a.target.object → (service : Service) → a.service ≡ service →
+    has_action_sizes (action_of c service a.target a.value) ≡ true
+action_sizes c a act name services.Write is =
+    let written = written_value c a act.object act.target.is (subst (λ s. passes.action_value c s a.target a.value ≡ true) is act.value) act.limit in
+    and_from (is_name (name_of a.target.object)) (is_within_limits (parameter_of a.value)) (six a.target.object name) written.limit
+action_sizes c a act name services.Invoke is =
+    and_from (is_name (name_of a.target.object)) (is_within_limits (parameter_of a.value)) (six a.target.object name)
+    (small_parameter a.value (λ text e. subst (λ v. passes.action_value c services.Invoke a.target v ≡ true) e (subst (λ s. passes.action_value c s a.target a.value ≡ true) is act.value)) act.limit)
+
+part_sizes : (c : ConfigText) → IsRight c → (o : ObjectText) → IsIn c.objects o → (body : BodyText) → o.body ≡ body → has_part_sizes (part_of c body) ≡ true
+unfolding passes.limits_in passes.script_limits
+part_sizes c ok o i (DataText value) is = refl
+part_sizes c ok o i (RegisterText value default scaler unit) is = refl
+part_sizes c ok o i (ProfileText all period entries sort_method) is =
+    let limits = limits_of c ok o i (ProfileText all period entries sort_method) is in
+    let names = subst (EachReference (λ t. IsName t.object) (λ r. IsName r.table)) is (ok.names.references o i) in
+    let both = then_ok (passes.at_most 32 (limits.0 ++ codes ".capture") all) (λ _. fault_if code.Limit (limits.0 ++ codes ".entries") (nat_lt 1000 entries)) tt limits.1 in
+    let one = (and_parts (o.class == 7) (nat_le 1 entries) (subst (λ b. is_body_of o.class b ≡ true) is (ok.read.bodies o i))).1 in
+    and_from (nat_le (length (map (λ y. cell_named c y.target) all)) 32) _ (few_of_map (λ y. cell_named c y.target) 32 all (at_most_ok 32 (limits.0 ++ codes ".capture") all both.1))
+    (and_from (list_all (λ x. is_name x.name) (map (λ y. cell_named c y.target) all)) _ (each_of_map (λ x. is_name x.name) (λ y. cell_named c y.target) all (λ y j. six y.target.object (names y j)))
+    (and_from (nat_le 1 entries) (nat_le entries 1000) one (le-leb entries 1000 (ltb-false 1000 entries (not_faulty code.Limit (limits.0 ++ codes ".entries") (nat_lt 1000 entries) both.2)))))
+part_sizes c ok o i (ScriptTableText scripts) is =
+    let limits = limits_of c ok o i (ScriptTableText scripts) is in
+    let names = subst (EachReference (λ t. IsName t.object) (λ r. IsName r.table)) is (ok.names.references o i) in
+    let few = then_ok (passes.at_most 64 (limits.0 ++ codes ".script") scripts) (λ _. each passes.script_limits (limits.0 ++ codes ".script") scripts) tt limits.1 in
+    and_from (nat_le (length (map (script_of c) scripts)) 64) (list_all has_script_sizes (map (script_of c) scripts)) (few_of_map (script_of c) 64 scripts (at_most_ok 64 (limits.0 ++ codes ".script") scripts few.1))
+    (each_of_map has_script_sizes (script_of c) scripts (λ s j.
+    let script = each_ok passes.script_limits (limits.0 ++ codes ".script") 0 scripts few.2 s j in
+    let actions = then_ok (passes.at_most 32 (script.0 ++ codes ".action") s.actions) (λ _. each (λ at x. passes.small_value (at ++ codes ".value") x.value) (script.0 ++ codes ".action") s.actions) tt script.1 in
+    and_from (nat_le (length (map (λ a. action_of c a.service a.target a.value) s.actions)) 32) _ (few_of_map (λ a. action_of c a.service a.target a.value) 32 s.actions (at_most_ok 32 (script.0 ++ codes ".action") s.actions actions.1))
+    (each_of_map has_action_sizes (λ a. action_of c a.service a.target a.value) s.actions (λ a k.
+    action_sizes c a (action_at c ok o i scripts is s j a k) (names s j a k) a.service refl))))
+part_sizes c ok o i (MonitorText monitored ths actions) is =
+    let limits = limits_of c ok o i (MonitorText monitored ths actions) is in
+    let names = subst (EachReference (λ t. IsName t.object) (λ r. IsName r.table)) is (ok.names.references o i) in
+    let few = then_ok (fault_if code.Limit (limits.0 ++ codes ".thresholds") (nat_lt 16 (length ths) || not (is_within_limits (thresholds_value ths))))
+    (λ _. passes.at_most 16 (limits.0 ++ codes ".action") actions) tt limits.1 in
+    and_from (is_name (name_of monitored.object)) _ (six monitored.object names.0)
+    (and_from (nat_le (length (map up_down_of actions)) 16) _ (few_of_map up_down_of 16 actions (at_most_ok 16 (limits.0 ++ codes ".action") actions few.2))
+    (each_of_map (λ a. is_name a.up.table && is_name a.down.table) up_down_of actions (λ a j.
+    and_from (is_name (name_of a.up.table)) (is_name (name_of a.down.table)) (six a.up.table (names.1 a j).0) (six a.down.table (names.1 a j).1))))
+part_sizes c ok o i (ScheduleText script type times) is =
+    six script.table (subst (EachReference (λ t. IsName t.object) (λ r. IsName r.table)) is (ok.names.references o i))
+part_sizes c ok o i UnknownText is = refl
+
+-- The whole
+
+-- the configuration's own limits
+few : (c : ConfigText) → IsRight c → (nat_le (length c.clients) 16 ≡ true) × (nat_le (length c.objects) 512 ≡ true)
+unfolding passes.within_limits
+few c ok =
+    let clients = then_ok (passes.at_most 16 (codes "client") c.clients) _ tt ok.judged.limits in
+    let objects = then_ok (passes.at_most 512 (codes "object") c.objects) (λ _. each (λ at p. passes.limits_in at p.body) (codes "object") c.objects) tt clients.2 in
+    (at_most_ok 16 (codes "client") c.clients clients.1, at_most_ok 512 (codes "object") c.objects objects.1)
+
+-- The plan of a configuration without a fault is sound.
+pub plan_is_sound : (c : ConfigText) → IsRead c → judged c ≡ Ok tt → IsSound (plan_of c)
+plan_is_sound c read h = record {
+  names = plan_names c ok.names ok.new;
+  apart = λ o i. let p = from_map (object_of c) c.objects o i in
+      subst (λ z. same_name z.name association_name ≡ false) (sym p.2) (names_apart c ok.names ok.judged.objects p.0 p.1);
+  few_clients = leb-true (length (map client_of c.clients)) 16 (few_of_map client_of 16 c.clients (few c ok).0);
+  few_objects = leb-true (length (map (object_of c) c.objects)) 512 (few_of_map (object_of c) 512 c.objects (few c ok).1);
+  sizes = λ o i. let p = from_map (object_of c) c.objects o i in
+      subst (λ z. has_sizes z ≡ true) (sym p.2)
+      (and_from (is_name (name_of p.0.name)) (has_part_sizes (part_of c p.0.body)) (six p.0.name (ok.names.objects p.0 p.1)) (part_sizes c ok p.0 p.1 p.0.body refl));
+  saps = λ client i. let p = from_map client_of c.clients client i in subst (λ z. has_sap z ≡ true) (sym p.2) (read.saps p.0 p.1);
+  rights = λ r i. let p = from_map (right_of c) c.rights r i in
+      subst (λ z. is_right (plan_of c) z ≡ true) (sym p.2) (right_is c ok p.0 p.1);
+  starts = starts c ok;
+  writes = λ o i script j x v k. let p = from_map (object_of c) c.objects o i in
+      writes c ok p.0 p.1 p.0.body refl script (subst (λ z. IsIn (scripts_of z.part) script) p.2 j) x v k;
+  calls = λ o i script j m v k. let p = from_map (object_of c) c.objects o i in
+      calls c ok p.0 p.1 p.0.body refl script (subst (λ z. IsIn (scripts_of z.part) script) p.2 j) m v k;
+  scripts = λ o i. let p = from_map (object_of c) c.objects o i in
+      subst (λ z. AreDistinct (0 ∷ map (λ s. s.id) (scripts_of z.part))) (sym p.2) (script_numbers c ok p.0 p.1);
+  references = λ o i r j. let p = from_map (object_of c) c.objects o i in
+      scripts_run c ok p.0 p.1 p.0.body refl r (subst (λ z. IsIn (scripts_run_by z.part) r) p.2 j);
+  captures = λ o i taken is x j. let p = from_map (object_of c) c.objects o i in
+      captures c ok p.0 p.1 p.0.body refl taken (sym (ap (λ z. captures_in z.part) p.2) ∙ is) x j;
+  parts = λ o i. let p = from_map (object_of c) c.objects o i in
+      subst (λ z. IsSoundPart (plan_of c) z.part) (sym p.2) (sound_part c ok p.0 p.1 p.0.body refl);
+}
+  where
+    ok : IsRight c
+    ok = right c read (passed c h)

@@ -1,0 +1,319 @@
+-- What can be wrong with what the tables of a configuration say (own profile): one pass a code, each over the whole
+-- configuration in the order of its text, and run only where the passes before it found nothing.
+use Rattle.std.specs.Prelude.{ℕ, ℤ, pos, ◌==◌, nat_lt, int_le, Bool, true, false, not, ◌&&◌, ◌||◌, List, [], ◌++◌, length, codes, Option, Some, None, is_some, option_and_then, Result, Ok, ⊤}
+use Rattle.std.specs.List.{list_any}
+use Rattle.std.specs.Str.{bytes_eq}
+use Rattle.cosem_data.specs.Tree.{Tree}
+use Rattle.meter_theory.specs.Value.{is_within_limits, elements}
+use Rattle.meter_theory.specs.Times.{are_execution_times}
+use Rattle.config_text.specs.Fault.{Fault, fault_if, ◌>>=◌}
+use Rattle.config_text.specs.declared.fault.Code.TheVariants.{Form, ObjectTwice, ClassUnknown, ClientUnknown, ClientTwice, Reference, Index, Value, NotSettable, Counts, ScriptId, Execute, Limit, Label, Fed, Times, Sorting}
+use Rattle.config_text.specs.declared.service.Service.{Service}
+use Rattle.config_text.specs.declared.service.Service.TheVariants.{Write, Invoke}
+use Rattle.config_text.specs.Parts.{Text, ClientText, ObjectText, TargetText, ScriptRefText, ActionText, ScriptText, RightText, SetsText, LabelText, ConfigText, BodyText, DataText, RegisterText, ProfileText, ScriptTableText, MonitorText, ScheduleText, UnknownText}
+use Rattle.config_rules.specs.Names.{is_client_name, object_named, has_client, class_named, scripts_in, is_known_class, is_index, attributes, methods, target_is, settable, capturable, monitorable, is_among, cells}
+use Rattle.value_text.specs.Texts.{name_in, value_in}
+use Rattle.config_rules.specs.Values.{kind_in, kind_named, is_of_kind, is_number, may_be_number, may_stand_at, is_time_text}
+use Rattle.config_rules.specs.PlanOf.{thresholds_value, times_value}
+use Rattle.config_rules.specs.Walks.{Judge, each, each_new, each_action, references}
+
+-- the clients and the names of sets of clients
+abbrev pub both_sets : Judge Text → Judge SetsText
+both_sets judge at s = do
+  influence ← each judge (at ++ codes ".influence") s.influence
+  each judge (at ++ codes ".learn") s.learn
+
+-- C4 Names of bad form
+
+abbrev pub logical_form : Judge Text
+logical_form at name = fault_if Form at (not (is_some (name_in name)))
+
+abbrev pub client_form : Judge Text
+client_form at name = fault_if Form at (not (is_client_name name))
+
+unfoldable pub object_forms : Judge ObjectText
+object_forms at o = do
+  name ← logical_form (at ++ codes ".name") o.name
+  references (λ at t. logical_form (at ++ codes ".object") t.object) (λ at r. logical_form (at ++ codes ".table") r.table) at o.body
+
+unfoldable pub right_forms : Judge RightText
+right_forms at r = do
+  client ← client_form (at ++ codes ".client") r.client
+  logical_form (at ++ codes ".object") r.object
+
+unfoldable pub label_forms : Judge LabelText
+label_forms at l = do
+  object ← logical_form (at ++ codes ".object") l.target.object
+  both_sets client_form at l.sets
+
+unfoldable pub forms : ConfigText → Result ⊤ Fault
+forms c = do
+  clients ← each (λ at client. client_form (at ++ codes ".name") client.name) (codes "client") c.clients
+  objects ← each object_forms (codes "object") c.objects
+  rights ← each right_forms (codes "right") c.rights
+  policy ← both_sets client_form (codes "policy") c.policy
+  each label_forms (codes "label") c.labels
+
+-- C5 A name of an object that an earlier one has, or the current association
+
+abbrev pub new_object : List ObjectText → Judge ObjectText
+new_object earlier at o =
+    fault_if ObjectTwice (at ++ codes ".name")
+    (bytes_eq (codes "0.0.40.0.0.255") o.name || list_any (λ e. bytes_eq e.name o.name) earlier)
+
+unfoldable pub new_objects : ConfigText → Result ⊤ Fault
+new_objects c = each_new new_object (codes "object") c.objects
+
+-- C6 An interface class that isn't known
+
+unfoldable pub known_classes : ConfigText → Result ⊤ Fault
+known_classes c = each (λ at o. fault_if ClassUnknown (at ++ codes ".class") (not (is_known_class o.class))) (codes "object") c.objects
+
+-- C7 A client that isn't there
+
+abbrev pub known_client : ConfigText → Judge Text
+known_client c at name = fault_if ClientUnknown at (not (has_client c name))
+
+unfoldable pub known_clients : ConfigText → Result ⊤ Fault
+known_clients c = do
+  rights ← each (λ at r. known_client c (at ++ codes ".client") r.client) (codes "right") c.rights
+  policy ← both_sets (known_client c) (codes "policy") c.policy
+  each (λ at l. both_sets (known_client c) at l.sets) (codes "label") c.labels
+
+-- C8 A client's name or service access point that an earlier one has
+
+unfoldable pub new_client : List ClientText → Judge ClientText
+new_client earlier at c = do
+  name ← fault_if ClientTwice (at ++ codes ".name") (list_any (λ e. bytes_eq e.name c.name) earlier)
+  fault_if ClientTwice (at ++ codes ".sap") (list_any (λ e. e.sap == c.sap) earlier)
+
+unfoldable pub new_clients : ConfigText → Result ⊤ Fault
+new_clients c = each_new new_client (codes "client") c.clients
+
+-- C9 A reference to no object, to a table that is no script table, or to a script that isn't there; script 0 is in every table
+
+abbrev pub known_object : ConfigText → Judge Text
+known_object c at name = fault_if Reference (at ++ codes ".object") (not (is_some (object_named c name)))
+
+abbrev pub has_script : List ScriptText → ℤ → Bool
+has_script scripts (pos n) = (n == 0) || list_any (λ s. s.id == n) scripts
+has_script scripts _ = false
+
+abbrev pub scripts_of : Option ObjectText → List ScriptText
+scripts_of None = []
+scripts_of (Some o) = scripts_in o.body
+
+unfoldable pub known_script : ConfigText → Judge ScriptRefText
+known_script c at r = do
+  table ← fault_if Reference (at ++ codes ".table") (not (class_named c r.table == 9))
+  fault_if Reference (at ++ codes ".script") (not (has_script (scripts_of (object_named c r.table)) r.script))
+
+unfoldable pub known_references : ConfigText → Result ⊤ Fault
+known_references c = do
+  objects ← each (λ at o. references (λ at t. known_object c at t.object) (known_script c) at o.body) (codes "object") c.objects
+  rights ← each (λ at r. known_object c at r.object) (codes "right") c.rights
+  each (λ at l. known_object c at l.target.object) (codes "label") c.labels
+
+-- C10 An index that the class doesn't have, or that isn't usable there
+
+abbrev pub usable : ConfigText → List (ℕ × ℕ) → Judge TargetText
+usable c pairs at t = fault_if Index (at ++ codes ".index") (not (target_is c pairs t))
+
+abbrev pub usable_action : ConfigText → Service → Judge TargetText
+usable_action c Write at t = usable c settable at t
+usable_action c Invoke at t = fault_if Index (at ++ codes ".index") (not (is_index methods (class_named c t.object) t.index))
+
+unfoldable pub usable_indexes : ConfigText → Judge BodyText
+usable_indexes c at (ProfileText captures period entries sort_method) =
+    each (λ at x. usable c capturable at x.target) (at ++ codes ".capture") captures
+usable_indexes c at (ScriptTableText scripts) = each_action (λ at a. usable_action c a.service at a.target) at scripts
+usable_indexes c at (MonitorText monitored thresholds actions) = usable c monitorable (at ++ codes ".monitored") monitored
+usable_indexes c at _ = Ok tt
+
+-- a right is on attributes and methods that the class has
+abbrev pub right_index : List (ℕ × ℕ) → ℕ → Judge ℕ
+right_index highest class at index = fault_if Index at (not (is_index highest class index))
+
+unfoldable pub right_indexes : ConfigText → Judge RightText
+right_indexes c at r = do
+  gets ← each (right_index attributes (class_named c r.object)) (at ++ codes ".get") r.gets
+  sets ← each (right_index attributes (class_named c r.object)) (at ++ codes ".set") r.sets
+  each (right_index methods (class_named c r.object)) (at ++ codes ".act") r.acts
+
+unfoldable pub known_indexes : ConfigText → Result ⊤ Fault
+known_indexes c = do
+  objects ← each (λ at o. usable_indexes c at o.body) (codes "object") c.objects
+  each (right_indexes c) (codes "right") c.rights
+
+-- C11 A value that isn't hex, isn't one Data, or isn't of the kind
+
+-- a value that may stand in the target
+abbrev pub written_value : ConfigText → TargetText → Option Tree → Bool
+written_value c t None = false
+written_value c t (Some v) = may_stand_at c (object_named c t.object) v
+
+abbrev pub action_value : ConfigText → Service → TargetText → Option Text → Bool
+action_value c Write t text = written_value c t (option_and_then value_in text)
+action_value c Invoke t None = true
+action_value c Invoke t (Some text) = is_some (value_in text)
+
+abbrev pub right_action_value : ConfigText → Judge ActionText
+right_action_value c at a = fault_if Value (at ++ codes ".value") (not (action_value c a.service a.target a.value))
+
+unfoldable pub right_values_in : ConfigText → Judge BodyText
+right_values_in c at (DataText value) = fault_if Value (at ++ codes ".value") (not (is_some (value_in value)))
+right_values_in c at (RegisterText value default scaler unit) = do
+  start ← fault_if Value (at ++ codes ".value") (not (is_number (kind_in value)))
+  fault_if Value (at ++ codes ".default") (not (is_of_kind (kind_in value) (value_in default)))
+right_values_in c at (ScriptTableText scripts) = each_action (right_action_value c) at scripts
+right_values_in c at (MonitorText monitored thresholds actions) = do
+  source ← fault_if Value (at ++ codes ".monitored.index") (not (may_be_number (kind_named c monitored.object)))
+  each (λ at text. fault_if Value at (not (is_of_kind (kind_named c monitored.object) (value_in text)))) (at ++ codes ".thresholds") thresholds
+right_values_in c at (ScheduleText script type times) =
+    each (λ at text. fault_if Value at (not (is_time_text text))) (at ++ codes ".times") times
+right_values_in c at _ = Ok tt
+
+unfoldable pub right_values : ConfigText → Result ⊤ Fault
+right_values c = each (λ at o. right_values_in c at o.body) (codes "object") c.objects
+
+-- C12 A right to set what isn't a settable cell
+
+unfoldable pub settable_rights : ConfigText → Result ⊤ Fault
+settable_rights c =
+    each (λ at r. each (λ at index. fault_if NotSettable at (not (is_among settable (class_named c r.object) index))) (at ++ codes ".set") r.sets)
+    (codes "right") c.rights
+
+-- C13 Thresholds and actions that differ in number
+
+unfoldable pub equal_counts_in : Judge BodyText
+equal_counts_in at (MonitorText monitored thresholds actions) =
+    fault_if Counts (at ++ codes ".action") (not (length thresholds == length actions))
+equal_counts_in at _ = Ok tt
+
+unfoldable pub equal_counts : ConfigText → Result ⊤ Fault
+equal_counts c = each (λ at o. equal_counts_in at o.body) (codes "object") c.objects
+
+-- C14 A script with identifier 0, or with that of an earlier one of its table
+
+abbrev pub new_script : List ScriptText → Judge ScriptText
+new_script earlier at s = fault_if ScriptId (at ++ codes ".id") ((s.id == 0) || list_any (λ e. e.id == s.id) earlier)
+
+unfoldable pub new_scripts : ConfigText → Result ⊤ Fault
+new_scripts c = each (λ at o. each_new new_script (at ++ codes ".script") (scripts_in o.body)) (codes "object") c.objects
+
+-- C15 An action that executes a script table
+
+abbrev pub is_invoke : Service → Bool
+is_invoke Write = false
+is_invoke Invoke = true
+
+abbrev pub no_execute : ConfigText → Judge ActionText
+no_execute c at a = fault_if Execute (at ++ codes ".object") (is_invoke a.service && (class_named c a.target.object == 9))
+
+unfoldable pub no_executes : ConfigText → Result ⊤ Fault
+no_executes c = each (λ at o. each_action (no_execute c) at (scripts_in o.body)) (codes "object") c.objects
+
+-- C16 More than a limit allows
+
+abbrev pub at_most : {A : Type 0} → ℕ → Judge (List A)
+at_most limit at xs = fault_if Limit at (nat_lt limit (length xs))
+
+abbrev pub is_small : Option Tree → Bool
+is_small None = true
+is_small (Some v) = is_within_limits v
+
+abbrev pub small_value : Judge (Option Text)
+small_value at text = fault_if Limit at (not (is_small (option_and_then value_in text)))
+
+unfoldable pub script_limits : Judge ScriptText
+script_limits at s = do
+  few ← at_most 32 (at ++ codes ".action") s.actions
+  each (λ at a. small_value (at ++ codes ".value") a.value) (at ++ codes ".action") s.actions
+
+unfoldable pub limits_in : Judge BodyText
+limits_in at (DataText value) = small_value (at ++ codes ".value") (Some value)
+limits_in at (RegisterText value default scaler unit) = do
+  start ← small_value (at ++ codes ".value") (Some value)
+  small_value (at ++ codes ".default") (Some default)
+limits_in at (ProfileText captures period entries sort_method) = do
+  few ← at_most 32 (at ++ codes ".capture") captures
+  fault_if Limit (at ++ codes ".entries") (nat_lt 1000 entries)
+limits_in at (ScriptTableText scripts) = do
+  few ← at_most 64 (at ++ codes ".script") scripts
+  each script_limits (at ++ codes ".script") scripts
+limits_in at (MonitorText monitored thresholds actions) = do
+  few ← fault_if Limit (at ++ codes ".thresholds") (nat_lt 16 (length thresholds) || not (is_within_limits (thresholds_value thresholds)))
+  at_most 16 (at ++ codes ".action") actions
+limits_in at (ScheduleText script type times) =
+    fault_if Limit (at ++ codes ".times") (nat_lt 16 (length times) || not (is_within_limits (times_value times)))
+limits_in at UnknownText = Ok tt
+
+unfoldable pub within_limits : ConfigText → Result ⊤ Fault
+within_limits c = do
+  clients ← at_most 16 (codes "client") c.clients
+  few ← at_most 512 (codes "object") c.objects
+  each (λ at o. limits_in at o.body) (codes "object") c.objects
+
+-- C17 A label on what is no cell, or a second one for a cell
+
+abbrev pub same_target : TargetText → TargetText → Bool
+same_target s t = bytes_eq s.object t.object && (s.index == t.index)
+
+abbrev pub new_label : ConfigText → List LabelText → Judge LabelText
+new_label c earlier at l =
+    fault_if Label (at ++ codes ".index") (not (target_is c cells l.target) || list_any (λ e. same_target e.target l.target) earlier)
+
+unfoldable pub new_labels : ConfigText → Result ⊤ Fault
+new_labels c = each_new (new_label c) (codes "label") c.labels
+
+-- C18 An object is fed whose class has no value that can be
+
+unfoldable pub fed_values : ConfigText → Result ⊤ Fault
+fed_values c =
+    each (λ at o. fault_if Fed (at ++ codes ".fed") (o.fed && not ((o.class == 1) || (o.class == 3)))) (codes "object") c.objects
+
+-- C19 Execution times that the type doesn't allow
+
+unfoldable pub right_times_in : Judge BodyText
+right_times_in at (ScheduleText script type times) =
+    fault_if Times (at ++ codes ".times") (not (are_execution_times type (elements (times_value times))))
+right_times_in at _ = Ok tt
+
+unfoldable pub right_times : ConfigText → Result ⊤ Fault
+right_times c = each (λ at o. right_times_in at o.body) (codes "object") c.objects
+
+-- C20 A sort method other than fifo, 1, or a part of an attribute captured
+
+abbrev pub is_other : ℤ → Option ℤ → Bool
+is_other only None = false
+is_other only (Some z) = not (int_le only z && int_le z only)
+
+unfoldable pub right_sorting_in : Judge BodyText
+right_sorting_in at (ProfileText captures period entries sort_method) = do
+  parts ← each (λ at x. fault_if Sorting (at ++ codes ".data_index") (is_other (pos 0) x.data_index)) (at ++ codes ".capture") captures
+  fault_if Sorting (at ++ codes ".sort_method") (is_other (pos 1) sort_method)
+right_sorting_in at _ = Ok tt
+
+unfoldable pub right_sorting : ConfigText → Result ⊤ Fault
+right_sorting c = each (λ at o. right_sorting_in at o.body) (codes "object") c.objects
+
+-- The passes, one code after another.
+unfoldable pub judged : ConfigText → Result ⊤ Fault
+judged c = do
+  names ← forms c  -- C4
+  objects ← new_objects c  -- C5
+  classes ← known_classes c  -- C6
+  clients ← known_clients c  -- C7
+  access ← new_clients c  -- C8
+  references ← known_references c  -- C9
+  indexes ← known_indexes c  -- C10
+  values ← right_values c  -- C11
+  rights ← settable_rights c  -- C12
+  counts ← equal_counts c  -- C13
+  scripts ← new_scripts c  -- C14
+  executes ← no_executes c  -- C15
+  limits ← within_limits c  -- C16
+  labels ← new_labels c  -- C17
+  inputs ← fed_values c  -- C18
+  times ← right_times c  -- C19
+  right_sorting c  -- C20

@@ -1,0 +1,57 @@
+-- Walks over the parts of a configuration, in the order of its text. A place is the path to a part, as `object[6].name`.
+use Rattle.std.specs.Prelude.{ℕ, ◌+◌, ◌++◌, List, [], ◌∷◌, length, codes, Result, Ok, ⊤}
+use Rattle.std.specs.Fmt.{decimal}
+use Rattle.config_text.specs.Fault.{Fault, ◌>>=◌}
+use Rattle.config_text.specs.Parts.{Text, TargetText, ScriptRefText, ActionText, ScriptText, UpDownText, BodyText, ProfileText, ScriptTableText, MonitorText, ScheduleText}
+
+-- what is judged at a place: nothing found, or the first fault
+abbrev pub Judge : Type 0 → Type 0
+Judge A = Text → A → Result ⊤ Fault
+
+-- the place of an element of an array
+abbrev pub element_place : Text → ℕ → Text
+element_place name i = name ++ codes "[" ++ decimal i ++ codes "]"
+
+-- each element of an array in turn
+unfoldable pub each_from : {A : Type 0} → Judge A → Text → ℕ → List A → Result ⊤ Fault
+each_from judge name i [] = Ok tt
+each_from judge name i (x ∷ xs) = do
+  this ← judge (element_place name i) x
+  each_from judge name (i + 1) xs
+
+abbrev pub each : {A : Type 0} → Judge A → Text → List A → Result ⊤ Fault
+each judge name xs = each_from judge name 0 xs
+
+-- each element in turn, beside those before it
+unfoldable pub each_after : {A : Type 0} → (List A → Judge A) → Text → List A → List A → Result ⊤ Fault
+each_after judge name earlier [] = Ok tt
+each_after judge name earlier (x ∷ xs) = do
+  this ← judge earlier (element_place name (length earlier)) x
+  each_after judge name (earlier ++ x ∷ []) xs
+
+abbrev pub each_new : {A : Type 0} → (List A → Judge A) → Text → List A → Result ⊤ Fault
+each_new judge name xs = each_after judge name [] xs
+
+-- each action of each script
+abbrev pub script_actions : Judge ActionText → Judge ScriptText
+script_actions judge at s = each judge (at ++ codes ".action") s.actions
+
+abbrev pub each_action : Judge ActionText → Judge (List ScriptText)
+each_action judge at scripts = each (script_actions judge) (at ++ codes ".script") scripts
+
+-- the scripts of a threshold
+abbrev pub both_scripts : Judge ScriptRefText → Judge UpDownText
+both_scripts judge at a = do
+  up ← judge (at ++ codes ".up") a.up
+  judge (at ++ codes ".down") a.down
+
+-- whatever an object refers to: the objects of targets, and scripts
+unfoldable pub references : Judge TargetText → Judge ScriptRefText → Judge BodyText
+references target script at (ProfileText captures period entries sort_method) =
+    each (λ at c. target at c.target) (at ++ codes ".capture") captures
+references target script at (ScriptTableText scripts) = each_action (λ at a. target at a.target) at scripts
+references target script at (MonitorText monitored thresholds actions) = do
+  this ← target (at ++ codes ".monitored") monitored
+  each (both_scripts script) (at ++ codes ".action") actions
+references target script at (ScheduleText r type times) = script (at ++ codes ".script") r
+references target script at _ = Ok tt

@@ -1,6 +1,0 @@
-use Rattle.config_tables.specs.Clients.{client_keys}
-use Rattle.config_tables.proofs.client.ClientTableTableForm.check_keys.Goals as goal
-
-pub returns : goal.returns
-unfolding client_keys
-returns c = rw (c.in_ok-needed.ensures, c.in_ok-needed-2.ensures) c.only.ensures

@@ -1,0 +1,10 @@
+use Rattle.std.proofs.Common.{◌≡◌, drop}
+use Rattle.toml.specs.View.{items_view, array_view}
+use Rattle.config_text.specs.Lists.{each, natural_of, with_front}
+use Rattle.config_text.proofs.lists.each_natural.Given as goal
+
+-- what was read, and what is left says
+abbrev pub invariant-loop-i : goal.invariant-loop-i
+invariant-loop-i l =
+    let one = natural_of l.low l.high in
+    with_front l.all.items (each one l.name l.i (items_view (drop l.i l.array.items))) ≡ each one l.name 0 (array_view l.array)

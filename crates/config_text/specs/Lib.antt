@@ -1,0 +1,13 @@
+pub mod BodyView
+pub mod Classes
+pub mod Clients
+pub mod Document
+pub mod Fault
+pub mod Keys
+pub mod Lists
+pub mod Objects
+pub mod Parts
+pub mod Rights
+pub mod Tables
+pub mod Targets
+pub mod Values

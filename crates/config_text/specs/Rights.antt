@@ -1,0 +1,52 @@
+-- The tables of rights, of the policy and of labels.
+use Rattle.std.specs.Prelude.{[], ◌∷◌, codes, Result, Ok, ⊤}
+use Rattle.toml.specs.Data.{Members}
+use Rattle.config_text.specs.Fault.{Fault, ◌>>=◌}
+use Rattle.config_text.specs.Parts.{Text, RightText, SetsText, LabelText}
+use Rattle.config_text.specs.Keys.{needed, only}
+use Rattle.config_text.specs.Lists.{texts_at, optional_naturals_at}
+use Rattle.config_text.specs.Values.{text_at}
+use Rattle.config_text.specs.Targets.{target_of}
+
+unfoldable pub right_keys : Text → Members → Result ⊤ Fault
+right_keys at t = do
+  client ← needed at (codes "client") t
+  object ← needed at (codes "object") t
+  only at (codes "client" ∷ codes "object" ∷ codes "get" ∷ codes "set" ∷ codes "act" ∷ []) t
+
+unfoldable pub right_of : Text → Members → Result RightText Fault
+right_of at t = do
+  client ← text_at at (codes "client") t
+  object ← text_at at (codes "object") t
+  gets ← optional_naturals_at 0 127 at (codes "get") t
+  sets ← optional_naturals_at 0 127 at (codes "set") t
+  acts ← optional_naturals_at 0 127 at (codes "act") t
+  Ok (record { client = client; object = object; gets = gets; sets = sets; acts = acts })
+
+-- the policy
+unfoldable pub policy_keys : Text → Members → Result ⊤ Fault
+policy_keys at t = do
+  influence ← needed at (codes "influence") t
+  learn ← needed at (codes "learn") t
+  only at (codes "influence" ∷ codes "learn" ∷ []) t
+
+unfoldable pub sets_of : Text → Members → Result SetsText Fault
+sets_of at t = do
+  influence ← texts_at at (codes "influence") t
+  learn ← texts_at at (codes "learn") t
+  Ok (record { influence = influence; learn = learn })
+
+-- a label
+unfoldable pub label_keys : Text → Members → Result ⊤ Fault
+label_keys at t = do
+  object ← needed at (codes "object") t
+  index ← needed at (codes "index") t
+  influence ← needed at (codes "influence") t
+  learn ← needed at (codes "learn") t
+  only at (codes "object" ∷ codes "index" ∷ codes "influence" ∷ codes "learn" ∷ []) t
+
+unfoldable pub label_of : Text → Members → Result LabelText Fault
+label_of at t = do
+  target ← target_of at t
+  sets ← sets_of at t
+  Ok (record { target = target; sets = sets })

@@ -1,0 +1,137 @@
+//! What the elements of an array say, if they are texts or numbers.
+
+ghost use Rattle.std.specs.Prelude.{◌≡◌, map, option_map, string_bytes};
+ghost use Rattle.toml.specs.View.{view, table_view, array_view};
+ghost use Rattle.config_text.specs.Fault.{Gives};
+ghost use Rattle.config_text.specs.Lists as spec;
+
+use crate::fault::{Code, ConfigFault, fault};
+use crate::lookup::{array, value_at};
+use crate::values::natural;
+use std::alloc::Global;
+use toml::value::Array;
+use toml::{Table, Value};
+
+/// The array at a key.
+#[tactic(auto, unfolding(crate::specs::Lists::array_at))]
+pub(crate) fn array_at<'a>(
+    alloc: Global,
+    at: &str,
+    key: &str,
+    table: &'a Table,
+) -> Result<&'a Array, ConfigFault>
+    ensures { Gives (λ a. array_view a.now) result (spec.array_at at.now key.now (table_view table.now)) }
+{
+    match array(table, key) {
+        Some(found) => Ok(found),
+        None => Err(fault(alloc, Code::Kind, at, key)),
+    }
+}
+
+/// One text of an array.
+fn text_of(alloc: Global, name: &str, i: usize, value: &Value) -> Result<String, ConfigFault>
+    ensures { Gives (λ s. string_bytes s) result (spec.text_of (spec.element_place name.now i) (view value.now)) }
+{
+    match value.as_str() {
+        Some(text) => Ok(String::from_str(alloc, text)?),
+        None => {
+            let place = format!(in alloc; "{name}[{i}]")?;
+            Err(fault(alloc, Code::Kind, place.as_str(), ""))
+        }
+    }
+}
+
+/// The texts of an array.
+#[tactic(auto, unfolding(crate::specs::Lists::each))]
+fn each_text(alloc: Global, name: &str, array: &Array) -> Result<Vec<String>, ConfigFault>
+    ensures { Gives (λ v. map string_bytes v.items) result (spec.each spec.text_of name.now 0 (array_view array.now)) }
+{
+    let mut all = Vec::new(alloc);
+    for (i, value) in array.iter().enumerate() {
+        all.push(text_of(alloc, name, i, value)?)?;
+    }
+    Ok(all)
+}
+
+/// The texts of the array at a key.
+///
+/// # Errors
+/// C3 at the key where it is no array, and at the first element that is no text.
+#[tactic(auto, unfolding(crate::specs::Lists::texts_at))]
+pub(crate) fn texts_at(
+    alloc: Global,
+    at: &str,
+    key: &str,
+    table: &Table,
+) -> Result<Vec<String>, ConfigFault>
+    ensures { Gives (λ v. map string_bytes v.items) result (spec.texts_at at.now key.now (table_view table.now)) }
+{
+    let items = array_at(alloc, at, key, table)?;
+    let name = format!(in alloc; "{at}{key}")?;
+    each_text(alloc, name.as_str(), items)
+}
+
+/// One number of an array.
+fn natural_of(
+    alloc: Global,
+    low: u8,
+    high: u8,
+    name: &str,
+    i: usize,
+    value: &Value,
+) -> Result<u8, ConfigFault>
+    ensures { Gives (λ n. n) result (spec.natural_of low high (spec.element_place name.now i) (view value.now)) }
+{
+    match natural(value.as_integer(), u64::from(low), u64::from(high)) {
+        Some(number) => Ok(number as u8),
+        None => {
+            let place = format!(in alloc; "{name}[{i}]")?;
+            Err(fault(alloc, Code::Kind, place.as_str(), ""))
+        }
+    }
+}
+
+/// The numbers of an array.
+#[tactic(auto, unfolding(crate::specs::Lists::each))]
+fn each_natural(
+    alloc: Global,
+    low: u8,
+    high: u8,
+    name: &str,
+    array: &Array,
+) -> Result<Vec<u8>, ConfigFault>
+    ensures { Gives (λ v. v.items) result (spec.each (spec.natural_of low high) name.now 0 (array_view array.now)) }
+{
+    let mut all = Vec::new(alloc);
+    for (i, value) in array.iter().enumerate() {
+        all.push(natural_of(alloc, low, high, name, i, value)?)?;
+    }
+    Ok(all)
+}
+
+/// The whole numbers from `low` to `high` of the array at a key, none where it is left out.
+///
+/// # Errors
+/// C3 at the key where it is no array, and at the first element that is something else.
+#[tactic(auto, unfolding(crate::specs::Lists::optional_naturals_at))]
+pub(crate) fn optional_naturals_at(
+    alloc: Global,
+    low: u8,
+    high: u8,
+    at: &str,
+    key: &str,
+    table: &Table,
+) -> Result<Vec<u8>, ConfigFault>
+    ensures { Gives (λ v. v.items) result (spec.optional_naturals_at low high at.now key.now (table_view table.now)) }
+{
+    match value_at(table, key) {
+        Some(value) => match value.as_array() {
+            Some(items) => {
+                let name = format!(in alloc; "{at}{key}")?;
+                each_natural(alloc, low, high, name.as_str(), items)
+            }
+            None => Err(fault(alloc, Code::Kind, at, key)),
+        },
+        None => Ok(Vec::new(alloc)),
+    }
+}

@@ -1,0 +1,114 @@
+//! The tables of rights, of the policy and of labels.
+
+ghost use Rattle.toml.specs.View.{table_view};
+ghost use Rattle.config_text.specs.Fault.{Gives};
+ghost use Rattle.config_text.specs.Rights as spec;
+
+use crate::fault::ConfigFault;
+use crate::keys::{needed, only};
+use crate::lists::{optional_naturals_at, texts_at};
+use crate::parts::{LabelParts, RightParts, SetsParts};
+use crate::tables::TableForm;
+use crate::target::target_of;
+use crate::values::text_at;
+use std::alloc::Global;
+use toml::Table;
+
+/// `client`, `object` and perhaps `get`, `set`, `act`: a right.
+pub(crate) struct RightTable;
+
+impl TableForm for RightTable {
+    ghost use Rattle.config_text.specs.Rights.{right_keys, right_of};
+
+    type Parts = RightParts;
+
+    ghost keys = { right_keys };
+
+    ghost says = { right_of };
+
+    #[tactic(auto, unfolding(crate::specs::Rights::right_keys))]
+    fn check_keys(alloc: Global, at: &str, table: &Table) -> Result<(), ConfigFault> {
+        needed(alloc, at, "client", table)?;
+        needed(alloc, at, "object", table)?;
+        only(alloc, at, &["client", "object", "get", "set", "act"], table)
+    }
+
+    #[tactic(auto, unfolding(crate::specs::Rights::right_of))]
+    fn read(alloc: Global, at: &str, table: &Table) -> Result<RightParts, ConfigFault> {
+        let client = text_at(alloc, at, "client", table)?;
+        let object = text_at(alloc, at, "object", table)?;
+        let gets = optional_naturals_at(alloc, 0, 127, at, "get", table)?;
+        let sets = optional_naturals_at(alloc, 0, 127, at, "set", table)?;
+        let acts = optional_naturals_at(alloc, 0, 127, at, "act", table)?;
+        Ok(RightParts {
+            client,
+            object,
+            gets,
+            sets,
+            acts,
+        })
+    }
+}
+
+/// The sets of clients that a table has, among other things that it says.
+#[tactic(auto, unfolding(crate::specs::Rights::sets_of))]
+fn sets_of(alloc: Global, at: &str, table: &Table) -> Result<SetsParts, ConfigFault>
+    ensures { Gives (λ x. x) result (spec.sets_of at.now (table_view table.now)) }
+{
+    let influence = texts_at(alloc, at, "influence", table)?;
+    let learn = texts_at(alloc, at, "learn", table)?;
+    Ok(SetsParts { influence, learn })
+}
+
+/// `influence` and `learn`: the policy.
+pub(crate) struct PolicyTable;
+
+impl TableForm for PolicyTable {
+    ghost use Rattle.config_text.specs.Rights.{policy_keys, sets_of};
+
+    type Parts = SetsParts;
+
+    ghost keys = { policy_keys };
+
+    ghost says = { sets_of };
+
+    #[tactic(auto, unfolding(crate::specs::Rights::policy_keys))]
+    fn check_keys(alloc: Global, at: &str, table: &Table) -> Result<(), ConfigFault> {
+        needed(alloc, at, "influence", table)?;
+        needed(alloc, at, "learn", table)?;
+        only(alloc, at, &["influence", "learn"], table)
+    }
+
+    fn read(alloc: Global, at: &str, table: &Table) -> Result<SetsParts, ConfigFault> {
+        sets_of(alloc, at, table)
+    }
+}
+
+/// `object`, `index`, `influence` and `learn`: a label.
+pub(crate) struct LabelTable;
+
+impl TableForm for LabelTable {
+    ghost use Rattle.config_text.specs.Rights.{label_keys, label_of};
+
+    type Parts = LabelParts;
+
+    ghost keys = { label_keys };
+
+    ghost says = { label_of };
+
+    #[tactic(auto, unfolding(crate::specs::Rights::label_keys))]
+    fn check_keys(alloc: Global, at: &str, table: &Table) -> Result<(), ConfigFault> {
+        needed(alloc, at, "object", table)?;
+        needed(alloc, at, "index", table)?;
+        needed(alloc, at, "influence", table)?;
+        needed(alloc, at, "learn", table)?;
+        only(alloc, at, &["object", "index", "influence", "learn"], table)
+    }
+
+    #[tactic(auto, unfolding(crate::specs::Rights::label_of))]
+    fn read(alloc: Global, at: &str, table: &Table) -> Result<LabelParts, ConfigFault> {
+        let target = target_of(alloc, at, table)?;
+        let sets = sets_of(alloc, at, table)?;
+        Ok(LabelParts { target, sets })
+    }
+}

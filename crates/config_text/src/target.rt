@@ -1,0 +1,80 @@
+//! The tables that name an attribute or method, and a script.
+
+ghost use Rattle.toml.specs.View.{table_view};
+ghost use Rattle.config_text.specs.Fault.{Gives};
+ghost use Rattle.config_text.specs.Targets as spec;
+
+use crate::fault::ConfigFault;
+use crate::keys::{needed, only};
+use crate::parts::{ScriptRefParts, TargetParts};
+use crate::tables::TableForm;
+use crate::values::{integer_at, natural_at, text_at};
+use std::alloc::Global;
+use toml::Table;
+
+/// The attribute or method that a table names, among other things that it says.
+#[tactic(auto, unfolding(crate::specs::Targets::target_of))]
+pub(crate) fn target_of(alloc: Global, at: &str, table: &Table) -> Result<TargetParts, ConfigFault>
+    ensures { Gives (λ x. x) result (spec.target_of at.now (table_view table.now)) }
+{
+    let object = text_at(alloc, at, "object", table)?;
+    let index = natural_at(alloc, 0, 127, at, "index", table)?;
+    Ok(TargetParts {
+        object,
+        index: index as u8,
+    })
+}
+
+/// `object` and `index`: an attribute or method.
+pub(crate) struct TargetTable;
+
+impl TableForm for TargetTable {
+    ghost use Rattle.config_text.specs.Targets.{target_keys, target_of};
+
+    type Parts = TargetParts;
+
+    ghost keys = { target_keys };
+
+    ghost says = { target_of };
+
+    #[tactic(auto, unfolding(crate::specs::Targets::target_keys))]
+    fn check_keys(alloc: Global, at: &str, table: &Table) -> Result<(), ConfigFault> {
+        needed(alloc, at, "object", table)?;
+        needed(alloc, at, "index", table)?;
+        only(alloc, at, &["object", "index"], table)
+    }
+
+    fn read(alloc: Global, at: &str, table: &Table) -> Result<TargetParts, ConfigFault> {
+        target_of(alloc, at, table)
+    }
+}
+
+/// `table` and `script`: a script of a script table.
+pub(crate) struct ScriptRefTable;
+
+impl TableForm for ScriptRefTable {
+    ghost use Rattle.config_text.specs.Targets.{script_ref_keys, script_ref_of};
+
+    type Parts = ScriptRefParts;
+
+    ghost keys = { script_ref_keys };
+
+    ghost says = { script_ref_of };
+
+    #[tactic(auto, unfolding(crate::specs::Targets::script_ref_keys))]
+    fn check_keys(alloc: Global, at: &str, table: &Table) -> Result<(), ConfigFault> {
+        needed(alloc, at, "table", table)?;
+        needed(alloc, at, "script", table)?;
+        only(alloc, at, &["table", "script"], table)
+    }
+
+    #[tactic(auto, unfolding(crate::specs::Targets::script_ref_of))]
+    fn read(alloc: Global, at: &str, table: &Table) -> Result<ScriptRefParts, ConfigFault> {
+        let name = text_at(alloc, at, "table", table)?;
+        let script = integer_at(alloc, at, "script", table)?;
+        Ok(ScriptRefParts {
+            table: name,
+            script,
+        })
+    }
+}

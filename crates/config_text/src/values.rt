@@ -1,0 +1,234 @@
+//! What a table says at a key that holds a text, a number or a yes or no. `at` is the place of the table, up to its dot.
+
+ghost use Rattle.std.specs.Prelude.{◌≡◌, ◌≤◌, ◌≤ℤ◌, option_map, option_and_then, string_bytes, length, IfOk};
+ghost use Rattle.std.specs.Char.{is_ascii};
+ghost use Rattle.std.specs.List.{list_all};
+ghost use Rattle.toml.specs.Data.{as_str, as_integer, get_member};
+ghost use Rattle.toml.specs.View.{table_view};
+ghost use Rattle.config_text.specs.Fault.{Gives};
+ghost use Rattle.config_text.specs.Values as spec;
+
+use crate::fault::{Code, ConfigFault, fault};
+use crate::lookup::{integer, text, value_at};
+use std::alloc::Global;
+use toml::Table;
+
+/// The text at a key.
+///
+/// # Errors
+/// C3 at the key where it isn't a text.
+#[tactic(auto, unfolding(crate::specs::Values::text_at))]
+pub(crate) fn text_at(
+    alloc: Global,
+    at: &str,
+    key: &str,
+    table: &Table,
+) -> Result<String, ConfigFault>
+    ensures { Gives (λ s. string_bytes s) result (spec.text_at at.now key.now (table_view table.now)) }
+{
+    match text(table, key) {
+        Some(found) => Ok(String::from_str(alloc, found)?),
+        None => Err(fault(alloc, Code::Kind, at, key)),
+    }
+}
+
+/// The text at a key that may be left out.
+///
+/// # Errors
+/// C3 at the key where it isn't a text.
+#[tactic(auto, unfolding(crate::specs::Values::optional_text_at))]
+pub(crate) fn optional_text_at(
+    alloc: Global,
+    at: &str,
+    key: &str,
+    table: &Table,
+) -> Result<Option<String>, ConfigFault>
+    ensures { Gives (λ s. option_map string_bytes s) result (spec.optional_text_at at.now key.now (table_view table.now)) }
+{
+    match value_at(table, key) {
+        Some(value) => match value.as_str() {
+            Some(found) => Ok(Some(String::from_str(alloc, found)?)),
+            None => Err(fault(alloc, Code::Kind, at, key)),
+        },
+        None => Ok(None),
+    }
+}
+
+/// Whether all characters are of ASCII.
+fn is_ascii_alone(text: &str) -> bool
+    ensures { result ≡ list_all is_ascii text.now }
+{
+    text.as_bytes().iter().all(|byte| byte.is_ascii())
+}
+
+/// Whether a text is `low` to `high` ASCII characters.
+fn has_ascii(text: &str, low: usize, high: usize) -> bool
+    ensures { result ≡ spec.has_ascii low high text.now }
+{
+    low <= text.len() && text.len() <= high && is_ascii_alone(text)
+}
+
+/// The text of `low` to `high` ASCII characters at a key that may be left out.
+///
+/// # Errors
+/// C3 at the key where it is something else.
+#[tactic(auto, unfolding(crate::specs::Values::optional_ascii_at))]
+pub(crate) fn optional_ascii_at(
+    alloc: Global,
+    low: usize,
+    high: usize,
+    at: &str,
+    key: &str,
+    table: &Table,
+) -> Result<Option<String>, ConfigFault>
+    ensures { Gives (λ s. option_map string_bytes s) result (spec.optional_ascii_at low high at.now key.now (table_view table.now)) }
+{
+    match value_at(table, key) {
+        Some(value) => match value.as_str() {
+            Some(found) if has_ascii(found, low, high) => {
+                Ok(Some(String::from_str(alloc, found)?))
+            }
+            _ => Err(fault(alloc, Code::Kind, at, key)),
+        },
+        None => Ok(None),
+    }
+}
+
+/// A whole number from `low` to `high`.
+pub(crate) fn natural(found: Option<i64>, low: u64, high: u64) -> Option<u64>
+    ensures { result ≡ spec.natural_in low high found }
+{
+    let number = u64::try_from(found?).ok()?;
+    if low <= number && number <= high {
+        Some(number)
+    } else {
+        None
+    }
+}
+
+/// The whole number at a key, if it has one from `low` to `high`.
+pub(crate) fn natural_or_none(low: u64, high: u64, key: &str, table: &Table) -> Option<u64>
+    ensures { result ≡ spec.natural_in low high (option_and_then as_integer (get_member key.now (table_view table.now))) }
+{
+    natural(integer(table, key), low, high)
+}
+
+/// The whole number from `low` to `high` at a key.
+///
+/// # Errors
+/// C3 at the key where it is something else.
+#[tactic(auto, unfolding(crate::specs::Values::natural_at))]
+pub(crate) fn natural_at(
+    alloc: Global,
+    low: u64,
+    high: u64,
+    at: &str,
+    key: &str,
+    table: &Table,
+) -> Result<u64, ConfigFault>
+    ensures value { Gives (λ n. n) result (spec.natural_at low high at.now key.now (table_view table.now)) }
+    ensures range { IfOk result (λ n. (low ≤ n) × (n ≤ high)) }
+{
+    match natural(integer(table, key), low, high) {
+        Some(number) => Ok(number),
+        None => Err(fault(alloc, Code::Kind, at, key)),
+    }
+}
+
+/// An integer from `low` to `high`.
+fn signed(found: Option<i64>, low: i64, high: i64) -> Option<i64>
+    ensures { result ≡ spec.integer_in low high found }
+{
+    let value = found?;
+    if low <= value && value <= high {
+        Some(value)
+    } else {
+        None
+    }
+}
+
+/// The integer from `low` to `high` at a key.
+///
+/// # Errors
+/// C3 at the key where it is something else.
+#[tactic(auto, unfolding(crate::specs::Values::signed_at))]
+pub(crate) fn signed_at(
+    alloc: Global,
+    low: i64,
+    high: i64,
+    at: &str,
+    key: &str,
+    table: &Table,
+) -> Result<i64, ConfigFault>
+    ensures value { Gives (λ n. n) result (spec.signed_at low high at.now key.now (table_view table.now)) }
+    ensures range { IfOk result (λ n. (low ≤ℤ n) × (n ≤ℤ high)) }
+{
+    match signed(integer(table, key), low, high) {
+        Some(number) => Ok(number),
+        None => Err(fault(alloc, Code::Kind, at, key)),
+    }
+}
+
+/// The integer at a key.
+///
+/// # Errors
+/// C3 at the key where it is something else.
+#[tactic(auto, unfolding(crate::specs::Values::integer_at))]
+pub(crate) fn integer_at(
+    alloc: Global,
+    at: &str,
+    key: &str,
+    table: &Table,
+) -> Result<i64, ConfigFault>
+    ensures { Gives (λ n. n) result (spec.integer_at at.now key.now (table_view table.now)) }
+{
+    match integer(table, key) {
+        Some(number) => Ok(number),
+        None => Err(fault(alloc, Code::Kind, at, key)),
+    }
+}
+
+/// The integer at a key that may be left out.
+///
+/// # Errors
+/// C3 at the key where it is something else.
+#[tactic(auto, unfolding(crate::specs::Values::optional_integer_at))]
+pub(crate) fn optional_integer_at(
+    alloc: Global,
+    at: &str,
+    key: &str,
+    table: &Table,
+) -> Result<Option<i64>, ConfigFault>
+    ensures { Gives (λ n. n) result (spec.optional_integer_at at.now key.now (table_view table.now)) }
+{
+    match value_at(table, key) {
+        Some(value) => match value.as_integer() {
+            Some(number) => Ok(Some(number)),
+            None => Err(fault(alloc, Code::Kind, at, key)),
+        },
+        None => Ok(None),
+    }
+}
+
+/// The yes or no at a key, or `absent` where it is left out.
+///
+/// # Errors
+/// C3 at the key where it is something else.
+#[tactic(auto, unfolding(crate::specs::Values::flag_at))]
+pub(crate) fn flag_at(
+    alloc: Global,
+    absent: bool,
+    at: &str,
+    key: &str,
+    table: &Table,
+) -> Result<bool, ConfigFault>
+    ensures { Gives (λ b. b) result (spec.flag_at absent at.now key.now (table_view table.now)) }
+{
+    match value_at(table, key) {
+        Some(value) => match value.as_bool() {
+            Some(flag) => Ok(flag),
+            None => Err(fault(alloc, Code::Kind, at, key)),
+        },
+        None => Ok(absent),
+    }
+}

@@ -1,8 +1,0 @@
-use Rattle.std.proofs.Common.{◌≡◌, map, take, string_bytes}
-use Rattle.cosem_data.specs.View.{tree}
-use Rattle.config_plan.specs.PlanOf.{value_of}
-use Rattle.config_values.proofs.arrays.values_of.Given as goal
-
--- the texts before have been read
-abbrev pub invariant-loop-text : goal.invariant-loop-text
-invariant-loop-text l = map tree l.values.items ≡ map value_of (map string_bytes (take l.text-index l.texts))

@@ -1,5 +1,0 @@
-use Rattle.std.proofs.Common.{◌∙◌}
-use Rattle.config_walks.proofs.directory.Directory.object_place.Goals as goal
-
-pub returns : goal.returns
-returns c = c.copied.ensures ∙ (c.get.ensures.value ∙ c.args.self.now.object_places c.args.name.now)

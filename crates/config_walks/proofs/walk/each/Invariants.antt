@@ -1,9 +1,0 @@
-use Rattle.std.proofs.Common.{◌≡◌, drop}
-use Rattle.config_plan.specs.Walks.{each_from}
-use Rattle.config_walks.proofs.walk.each.Given as goal
-
--- what is left has the first fault of all
-abbrev pub invariant-loop-i : goal.invariant-loop-i
-invariant-loop-i g l =
-    let judges = g.J.Judge.judges l.judge in
-    each_from judges l.name l.i (drop l.i l.parts) ≡ each_from judges l.name 0 l.parts

@@ -1,4 +1,0 @@
-pub mod Keys
-pub mod Lists
-pub mod Tables
-pub mod Values

@@ -1,0 +1,329 @@
+-- What is added to effects, and which effects methods, scripts and a meter's own steps have.
+use Rattle.std.specs.Prelude.{◌≡◌, ℕ, ◌+◌, ◌<◌, ◌==◌, Bool, true, false, ◌&&◌, cond, List, [], ◌∷◌, ◌++◌, map, flat_map, find, take, length, get_or, Option, Some, None, option_map, option_and_then, Ok, Err, is_ok, is_some, if◌then◌else◌}
+use Rattle.std.proofs.Common.{refl, sym, ap, ap₂, subst, ◌∙◌, zero, suc, arith, inl, inr, Bor}
+use Rattle.std.proofs.lemmas.Bool.{and_parts, or_right, cond-true, cond-false}
+use Rattle.std.proofs.lemmas.List.{map_more, map_push, append_assoc, append-nil, flat_map_more}
+use Rattle.cosem_data.specs.Tree.{Tree, array, no_trees}
+use Rattle.cosem_data.specs.declared.kind.Kind.TheVariants.{NullData}
+use Rattle.cosem_data.specs.Kinds.{kind_of, same_kind}
+use Rattle.cosem_data.specs.View.{tree}
+use Rattle.cosem_data.specs.declared.data.Data.{Data}
+use Rattle.cosem_data.specs.declared.cell.CellRef.{CellRef}
+use Rattle.cosem_data.specs.declared.cell.MethodRef.{MethodRef}
+use Rattle.cosem_data.specs.declared.name.LogicalName.{LogicalName}
+use Rattle.cosem_class.specs.Judged.{rule_answer}
+use Rattle.meter_theory.specs.Lists.{IsIn, for_some}
+use Rattle.meter_theory.specs.declared.refs.ScriptRef.{ScriptRef}
+use Rattle.meter_theory.specs.declared.refs.ScalerUnit.{ScalerUnit}
+use Rattle.meter_theory.specs.declared.refs.UpDown.{UpDown}
+use Rattle.meter_theory.specs.Rights.{Argument, Given, has_right_tag, script_number}
+use Rattle.meter_theory.proofs.Rights.{ruled-cell}
+use Rattle.class_control.specs.MonitorClass.{may_be_seen}
+use Rattle.meter_theory.specs.declared.access.AccessCode.{AccessCode}
+use Rattle.meter_theory.specs.declared.access.AccessCode.TheVariants as codes
+use Rattle.meter_theory.specs.Plan.{Plan, Object, Script, Part, Data1, Register, ProfileGeneric, ScriptTable, RegisterMonitor, SingleActionSchedule, class_of, object_at, rule_in, rule_of, register_value, capture_period, start, thresholds, seen}
+use Rattle.meter_theory.specs.Sound.{IsSound, IsSoundPart}
+use Rattle.meter_theory.specs.State.{State, keys, value}
+use Rattle.meter_theory.specs.States.{IsState, IsSeen, IsRemembered, Holds, Fits, MayStand}
+use Rattle.meter_theory.specs.Times.{Moment, is_capture_due}
+use Rattle.meter_theory.specs.Value.{Rule, OfKind, Thresholds, meets, right_tag, right_elements, is_within_limits, elements, count_of}
+use Rattle.meter_theory.specs.Steps as theory
+use Rattle.meter_theory.specs.Steps.{Captures, captures_in, captures_of, meets_some}
+use Rattle.meter_theory.proofs.Agreement.{object-found}
+use Rattle.meter_theory.proofs.Lists.{found}
+use Rattle.class_control.specs.ScriptView.{script_of}
+use Rattle.class_control.specs.declared.script.Script as code
+use Rattle.object_model.specs.PartView.{part_of}
+use Rattle.object_model.specs.declared.part.Part as code_part
+use Rattle.object_model.specs.declared.part.Part.TheVariants as parts
+use Rattle.class_control.specs.declared.parts.ScriptTablePart.{ScriptTablePart}
+use Rattle.object_model.specs.EffectView.{effect_of, MayTake, MayTakeAll, IsProfile}
+use Rattle.object_model.specs.declared.effect.Effect.{Effect}
+use Rattle.object_model.specs.declared.effect.Effect.TheVariants as effects
+use Rattle.meter_effects.specs.Adds.{Adds, StandsFor}
+use Rattle.meter_effects.specs.Writes.{AreWrites}
+
+-- Lists of effects
+
+pub may_take-push : (P : Plan) (es : List Effect) (e : Effect) → MayTakeAll P es → MayTake P e → MayTakeAll P (es ++ e ∷ [])
+may_take-push P [] e all may = (may, tt)
+may_take-push P (f ∷ es) e all may = (all.0, may_take-push P es e all.1 may)
+
+pub adds_one : (P : Plan) (before after : List Effect) (e : Effect) → after ≡ before ++ e ∷ [] → MayTake P e → Adds P (effect_of e ∷ []) before after
+adds_one P before after e is may = record {
+  effects = ap (map effect_of) is ∙ map_push effect_of before e;
+  fits = λ all. subst (MayTakeAll P) (sym is) (may_take-push P before e all may);
+}
+
+pub adds_none : (P : Plan) (es : List Effect) → Adds P [] es es
+adds_none P es = record { effects = sym (append-nil (map effect_of es)); fits = λ all. all }
+
+-- what was added to no effects
+pub stands_for : (P : Plan) (added meant : List theory.Effect) (before list : List Effect) → before ≡ [] → added ≡ meant → Adds P added before list → StandsFor P meant list
+stands_for P added meant before list none is adds = record {
+  effects = adds.effects ∙ (ap (λ xs. map effect_of xs ++ added) none ∙ is);
+  fits = adds.fits (subst (MayTakeAll P) (sym none) tt);
+}
+
+pub adds_more : (P : Plan) (added more : List theory.Effect) (a b d : List Effect) → Adds P added a b → Adds P more b d → Adds P (added ++ more) a d
+adds_more P added more a b d first second = record {
+  effects = second.effects ∙ (ap (λ xs. xs ++ more) first.effects ∙ append_assoc (map effect_of a) added more);
+  fits = λ all. second.fits (first.fits all);
+}
+
+pub adds-is : (P : Plan) (xs ys : List theory.Effect) (a b : List Effect) → xs ≡ ys → Adds P xs a b → Adds P ys a b
+adds-is P xs ys a b is h = subst (λ zs. Adds P zs a b) is h
+
+-- the effects of one element more
+pub flat_map-more : {A B E : Type 0} (f : B → List E) (g : A → B) (xs : List A) (i : ℕ) (x : A) → i < length xs → x ≡ get_or xs i x →
+    flat_map f (map g (take i xs)) ++ f (g x) ≡ flat_map f (map g (take (i + 1) xs))
+flat_map-more f g xs i x within is =
+    ap (λ y. flat_map f (map g (take i xs)) ++ f (g y)) is
+    ∙ (flat_map_more f [] (map g (take i xs)) (g (get_or xs i x))
+    ∙ ap (flat_map f) (sym (map_more g xs i x within)))
+
+append-empty : {A : Type 0} (xs ys : List A) → xs ++ ys ≡ [] → (xs ≡ []) × (ys ≡ [])
+append-empty [] ys h = (refl, h)
+append-empty (x ∷ xs) ys h = cc
+
+-- where a list has no effects, none of its elements has one
+pub nothing_at : {A B E : Type 0} (f : B → List E) (g : A → B) (xs : List A) (i : ℕ) (x : A) → i < length xs → x ≡ get_or xs i x → flat_map f (map g xs) ≡ [] → f (g x) ≡ []
+nothing_at f g [] i x within is none = absurd (omega arith)
+nothing_at f g (y ∷ xs) zero x within is none = ap (λ z. f (g z)) is ∙ (append-empty (f (g y)) (flat_map f (map g xs)) none).0
+nothing_at f g (y ∷ xs) (suc i) x within is none = nothing_at f g xs i x (omega arith) is (append-empty (f (g y)) (flat_map f (map g xs)) none).1
+
+-- Methods
+
+-- the default of a register may stand in its value
+default_may_stand : (P : Plan) (o : Object) (first default : Tree) (scaler_unit : ScalerUnit) → IsSound P → object_at P o.name ≡ Some o → o.part ≡ Register first default scaler_unit →
+    MayStand P (register_value o.name) default
+default_may_stand P o first default scaler_unit sound is part =
+    (OfKind (kind_of first), rule, subst (IsSoundPart P) part (sound.parts o (object-found P o.name o is).0))
+  where
+    rule : rule_of P (register_value o.name) ≡ Some (OfKind (kind_of first))
+    rule =
+        ap (option_and_then (λ z. cond (class_of z.part == 3) (rule_in P z.part 2) None)) is
+        ∙ ap (λ p. cond (class_of p == 3) (rule_in P p 2) None) part
+
+-- a profile of the plan is one by its name
+pub is_profile-by_name : (P : Plan) (o : Object) (c : Captures) → object_at P o.name ≡ Some o → captures_in o.part ≡ Some c → IsProfile P o.name
+is_profile-by_name P o c is captures = (c, ap captures_of is ∙ captures)
+
+-- the object that a name leads to is found by its own name
+pub found_again : (P : Plan) (n : LogicalName) (o : Object) → Some o ≡ object_at P n → object_at P o.name ≡ Some o
+found_again P n o is = ap (object_at P) (object-found P n o (sym is)).1 ∙ sym is
+
+-- what is known of a list to which an effect was added
+abbrev pub IsAdded : Effect → List Effect → List Effect → Type 0
+IsAdded e before after = (P : Plan) → MayTake P e → Adds P (effect_of e ∷ []) before after
+
+pub register_added : (P : Plan) (o : Object) (cell : CellRef) (d : Data) (first default : Tree) (scaler_unit : ScalerUnit) (method : ℕ) (before after : List Effect) → IsSound P →
+    object_at P o.name ≡ Some o → o.part ≡ Register first default scaler_unit → cell ≡ register_value o.name → tree d ≡ default → IsAdded (effects.Put cell d) before after →
+    Adds P (theory.plain_method o.name o.part method) before after
+register_added P o cell d first default scaler_unit method before after sound is part celled same added =
+    adds-is P _ _ before after (ap₂ (λ x v. theory.Put x v ∷ []) celled same ∙ sym (ap (λ p. theory.plain_method o.name p method) part)) (added P may)
+  where
+    may : MayStand P cell (tree d)
+    may = subst (λ x. MayStand P x (tree d)) (sym celled) (subst (MayStand P (register_value o.name)) (sym same) (default_may_stand P o first default scaler_unit sound is part))
+
+pub reset_added : (P : Plan) (o : Object) (n : LogicalName) (captured : List CellRef) (period entries method : ℕ) (before after : List Effect) → n ≡ o.name →
+    o.part ≡ ProfileGeneric captured period entries → (method == 1) ≡ true → IsAdded (effects.Clear n) before after → Adds P (theory.plain_method o.name o.part method) before after
+reset_added P o n captured period entries method before after named part one added =
+    adds-is P _ _ before after
+    (ap (λ m. theory.Clear m ∷ []) named
+    ∙ (sym (cond-true (method == 1) (theory.Clear o.name ∷ []) (theory.Capture o.name ∷ []) one) ∙ sym (ap (λ p. theory.plain_method o.name p method) part)))
+    (added P tt)
+
+pub capture_added : (P : Plan) (o : Object) (n : LogicalName) (captured : List CellRef) (period entries method : ℕ) (before after : List Effect) → object_at P o.name ≡ Some o → n ≡ o.name →
+    o.part ≡ ProfileGeneric captured period entries → (method == 1) ≡ false → IsAdded (effects.Capture n) before after → Adds P (theory.plain_method o.name o.part method) before after
+capture_added P o n captured period entries method before after is named part other added =
+    adds-is P _ _ before after
+    (ap (λ m. theory.Capture m ∷ []) named
+    ∙ (sym (cond-false (method == 1) (theory.Clear o.name ∷ []) (theory.Capture o.name ∷ []) other) ∙ sym (ap (λ p. theory.plain_method o.name p method) part)))
+    (added P (subst (IsProfile P) (sym named) (is_profile-by_name P o (record { captured = captured; entries = entries }) is (ap captures_in part))))
+
+-- the plain method of an object that a name leads to
+pub plain_effects : (P : Plan) (m : MethodRef) (o : Object) → Some o ≡ object_at P m.name → theory.plain_method o.name o.part m.index ≡ theory.plain_method_of P m
+plain_effects P m o is =
+    ap (λ n. theory.plain_method n o.part m.index) (object-found P m.name o (sym is)).1
+    ∙ ap (λ f. for_some f (λ z. theory.plain_method m.name z.part m.index)) is
+
+-- an item of a loop is an element
+pub item_in : {A : Type 0} (xs : List A) (i : ℕ) (x : A) → i < length xs → x ≡ get_or xs i x → IsIn xs x
+item_in [] i x within is = absurd (omega arith)
+item_in (y ∷ xs) zero x within is = inl is
+item_in (y ∷ xs) (suc i) x within is = inr (item_in xs i x (omega arith) is)
+
+-- Scripts
+
+find-map : {A B : Type 0} (f : A → B) (test : B → Bool) (xs : List A) → option_map f (find (λ x. test (f x)) xs) ≡ find test (map f xs)
+find-map f test [] = refl
+find-map f test (x ∷ xs) = elim (test (f x)) as (λ b. option_map f (cond b (Some x) (find (λ z. test (f z)) xs)) ≡ cond b (Some (f x)) (find test (map f xs))) [
+  | true ↦ refl
+  | false ↦ find-map f test xs
+]
+
+-- a script that is found in the code is found in the table
+pub script_found : (r : Option (Bor code.Script)) (scripts : List code.Script) (id : ℕ) → option_map (λ s. s.now) r ≡ find (λ s. s.id == id) scripts →
+    option_map (λ s. script_of s.now) r ≡ find (λ s. s.id == id) (map script_of scripts)
+script_found None scripts id h = ap (option_map script_of) h ∙ find-map script_of (λ s. s.id == id) scripts
+script_found (Some s) scripts id h = ap (option_map script_of) h ∙ find-map script_of (λ s. s.id == id) scripts
+
+-- the script that a reference names
+abbrev pub named_script : Plan → ScriptRef → Option Script
+named_script P r = option_and_then (λ o. find (λ s. s.id == r.script) (theory.scripts_of o.part)) (object_at P r.table)
+
+pub script_writes : (P : Plan) (r : ScriptRef) (s : Script) → IsSound P → Some s ≡ named_script P r → AreWrites P s.actions
+script_writes P r s sound is = at (object_at P r.table) refl is
+  where
+    at : (o : Option Object) → object_at P r.table ≡ o → Some s ≡ option_and_then (λ z. find (λ k. k.id == r.script) (theory.scripts_of z.part)) o → AreWrites P s.actions
+    at None there e = cc
+    at (Some o) there e = λ x v i. sound.writes o (object-found P r.table o there).0 s (found (λ k. k.id == r.script) (theory.scripts_of o.part) s (sym e)).0 x v i
+
+pub script_effects-some : (P : Plan) (r : ScriptRef) (s : Script) → Some s ≡ named_script P r → theory.actions_effects P s.actions ≡ theory.effects_of_script P r
+script_effects-some P r s is = at (object_at P r.table) is
+  where
+    at : (o : Option Object) → Some s ≡ option_and_then (λ z. find (λ k. k.id == r.script) (theory.scripts_of z.part)) o →
+        theory.actions_effects P s.actions ≡ for_some o (λ z. theory.script_in P (theory.scripts_of z.part) r.script)
+    at None e = cc
+    at (Some o) e = ap (λ f. for_some f (λ z. theory.actions_effects P z.actions)) e
+
+pub script_effects-none : (P : Plan) (r : ScriptRef) → None ≡ named_script P r → theory.effects_of_script P r ≡ []
+script_effects-none P r is = at (object_at P r.table) is
+  where
+    at : (o : Option Object) → None ≡ option_and_then (λ z. find (λ k. k.id == r.script) (theory.scripts_of z.part)) o →
+        for_some o (λ z. theory.script_in P (theory.scripts_of z.part) r.script) ≡ []
+    at None e = refl
+    at (Some o) e = ap (λ f. for_some f (λ z. theory.actions_effects P z.actions)) (sym e)
+
+-- Own steps
+
+-- a capture that is due
+pub capture_meant : (P : Plan) (s : State) (n : LogicalName) (t : Moment) (c : Captures) → Some c ≡ captures_of (object_at P n) → is_capture_due (count_of (value s (capture_period n))) t ≡ true →
+    theory.Capture n ∷ [] ≡ theory.effects_of P s (theory.CaptureAt n t)
+capture_meant P s n t c is due = at (object_at P n) is
+  where
+    in_part : (part : Part) → Some c ≡ captures_in part → theory.Capture n ∷ [] ≡ theory.captured_at s n t part
+    in_part (ProfileGeneric captured period entries) e = sym (cond-true (is_capture_due (count_of (value s (capture_period n))) t) (theory.Capture n ∷ []) [] due)
+    in_part (Data1 first) e = cc
+    in_part (Register first default scaler_unit) e = cc
+    in_part (ScriptTable scripts) e = cc
+    in_part (RegisterMonitor monitored th actions) e = cc
+    in_part (SingleActionSchedule script type times) e = cc
+
+    at : (o : Option Object) → Some c ≡ captures_of o → theory.Capture n ∷ [] ≡ for_some o (λ z. theory.captured_at s n t z.part)
+    at None e = cc
+    at (Some o) e = in_part o.part e
+
+-- the profile that a name leads to
+pub profile_named : {A : Type 0} (f : A → Captures) (r : Option A) (captures : Option Captures) → option_map f r ≡ captures → is_some r ≡ true → (c : Captures) × (Some c ≡ captures)
+profile_named f None captures is some = cc
+profile_named f (Some a) captures is some = (f a, is)
+
+-- what an evaluation means
+pub evaluation_meant : (P : Plan) (s : State) (n : LogicalName) (o : Object) (monitored : CellRef) (th : Tree) (actions : List UpDown) → Some o ≡ object_at P n → o.part ≡ RegisterMonitor monitored th actions →
+    flat_map (theory.effects_of_script P) (theory.due_scripts actions (elements (value s (thresholds n))) (value s (seen n)) (value s monitored)) ++ theory.Put (seen n) (value s monitored) ∷ []
+    ≡ theory.effects_of P s (theory.Evaluate n)
+evaluation_meant P s n o monitored th actions is part =
+    sym (ap (theory.evaluated P s n) part) ∙ ap (λ f. for_some f (λ z. theory.evaluated P s n z.part)) is
+
+-- the thresholds of a monitor are those of its actions
+pub thresholds_fit : (P : Plan) (s : State) (n : LogicalName) (o : Object) (monitored : CellRef) (th : Tree) (actions : List UpDown) → IsState P s → Some o ≡ object_at P n →
+    o.part ≡ RegisterMonitor monitored th actions → meets (Thresholds (length actions) (kind_of (value (start P) monitored))) (value s (thresholds n)) ≡ true
+thresholds_fit P s n o monitored th actions k is part = k.settable (thresholds n) there (Thresholds (length actions) (kind_of (value (start P) monitored))) rule
+  where
+    rule : rule_of P (thresholds n) ≡ Some (Thresholds (length actions) (kind_of (value (start P) monitored)))
+    rule =
+        ap (option_and_then (λ z. cond (class_of z.part == 21) (rule_in P z.part 2) None)) (sym is)
+        ∙ ap (λ p. cond (class_of p == 21) (rule_in P p 2) None) part
+
+    there : IsIn (keys s) (thresholds n)
+    there = subst (λ ks. IsIn ks (thresholds n)) (sym k.cells)
+        (ruled-cell P (thresholds n) (Given (array no_trees)) (subst (λ r. has_right_tag r (Given (array no_trees)) ≡ true) (sym rule) refl))
+
+-- what a monitor has seen is null-data or of the monitored kind
+pub seen_fits : (P : Plan) (s : State) (n : LogicalName) (o : Object) (monitored : CellRef) (th : Tree) (actions : List UpDown) → IsState P s → Some o ≡ object_at P n →
+    o.part ≡ RegisterMonitor monitored th actions → may_be_seen (kind_of (value (start P) monitored)) (value s (seen n)) ≡ true
+seen_fits P s n o monitored th actions k is part =
+    let there = object-found P n o (sym is) in
+    at (value s (seen n)) (subst (λ p. Holds P s n p) part (subst (λ m. Holds P s m o.part) there.1 (k.inner o there.0)))
+  where
+    at : (v : Tree) → IsSeen P monitored v → may_be_seen (kind_of (value (start P) monitored)) v ≡ true
+    at v (inl null) = ap (may_be_seen (kind_of (value (start P) monitored))) null
+    at v (inr fits) = or_right (same_kind (kind_of v) NullData) (meets (OfKind (kind_of (value (start P) monitored))) v) fits
+
+-- the monitored value keeps its kind
+pub monitored_fits : (P : Plan) (s : State) (n : LogicalName) (o : Object) (monitored : CellRef) (th : Tree) (actions : List UpDown) → IsSound P → IsState P s → Some o ≡ object_at P n →
+    o.part ≡ RegisterMonitor monitored th actions → meets (OfKind (kind_of (value (start P) monitored))) (value s monitored) ≡ true
+monitored_fits P s n o monitored th actions sound k is part =
+    let there = object-found P n o (sym is) in
+    let fine : IsSoundPart P (RegisterMonitor monitored th actions) = subst (IsSoundPart P) part (sound.parts o there.0) in
+    k.settable monitored (subst (λ ks. IsIn ks monitored) (sym k.cells) fine.0) (OfKind (kind_of (value (start P) monitored))) fine.1
+
+-- and may be remembered
+pub remember_may : (P : Plan) (n : LogicalName) (o : Object) (monitored : CellRef) (th : Tree) (actions : List UpDown) (v : Tree) → Some o ≡ object_at P n → o.part ≡ RegisterMonitor monitored th actions →
+    meets (OfKind (kind_of (value (start P) monitored))) v ≡ true → Fits P (theory.Put (seen n) v)
+remember_may P n o monitored th actions v is part fits =
+    let there = object-found P n o (sym is) in
+    inr (o, there.0, subst (λ p. IsRemembered P o.name p (seen n) v) (sym part) (ap seen (sym there.1), inr fits))
+
+-- a rule that a value passes
+pub passes-meets : (r : Option Rule) (v : Tree) → is_ok (rule_answer r v) ≡ meets_some r v
+passes-meets None v = refl
+passes-meets (Some rule) v = at (right_tag rule v) (is_within_limits v && right_elements rule (elements v))
+  where
+    at : (tag rest : Bool) → is_ok {T = Unit {0}} {E = AccessCode} (if tag then (if (tag && rest) then Ok tt else Err codes.OtherReason) else Err codes.TypeUnmatched) ≡ (tag && rest)
+    at true true = refl
+    at true false = refl
+    at false rest = refl
+
+pub meets-may_stand : (P : Plan) (x : CellRef) (v : Tree) → meets_some (rule_of P x) v ≡ true → MayStand P x v
+meets-may_stand P x v h = at (rule_of P x) refl h
+  where
+    at : (r : Option Rule) → rule_of P x ≡ r → meets_some r v ≡ true → MayStand P x v
+    at None is e = cc
+    at (Some rule) is e = (rule, is, e)
+
+-- an input that is taken
+pub input_meant : (P : Plan) (s : State) (x : CellRef) (v : Tree) → (theory.is_fed P x && meets_some (rule_of P x) v) ≡ true → theory.Put x v ∷ [] ≡ theory.effects_of P s (theory.Input x v)
+input_meant P s x v both = sym (cond-true (theory.is_fed P x && meets_some (rule_of P x) v) (theory.Put x v ∷ []) [] both)
+
+pub input_may : (P : Plan) (x : CellRef) (v : Tree) → (theory.is_fed P x && meets_some (rule_of P x) v) ≡ true → MayStand P x v
+input_may P x v both = meets-may_stand P x v (and_parts (theory.is_fed P x) (meets_some (rule_of P x) v) both).1
+
+-- one that is not
+pub no_input_meant : (P : Plan) (s : State) (x : CellRef) (v : Tree) → (theory.is_fed P x && meets_some (rule_of P x) v) ≡ false → [] ≡ theory.effects_of P s (theory.Input x v)
+no_input_meant P s x v other = sym (cond-false (theory.is_fed P x && meets_some (rule_of P x) v) (theory.Put x v ∷ []) [] other)
+
+-- the method of an object other than a script table
+pub other_method : (P : Plan) (m : MethodRef) (argument : Argument) (o : Object) → Some o ≡ object_at P m.name → ((scripts : List Script) → o.part ≡ ScriptTable scripts → ⊥) →
+    theory.plain_method o.name o.part m.index ≡ theory.method_effects P m argument
+other_method P m argument o is other =
+    ap (λ n. theory.plain_method n o.part m.index) (object-found P m.name o (sym is)).1
+    ∙ (in_part o.part other
+    ∙ ap (λ f. for_some f (λ z. theory.method_in P m z.part (script_number argument))) is)
+  where
+    in_part : (part : Part) → ((scripts : List Script) → part ≡ ScriptTable scripts → ⊥) → theory.plain_method m.name part m.index ≡ theory.method_in P m part (script_number argument)
+    in_part (ScriptTable scripts) apart = absurd (apart scripts refl)
+    in_part (Data1 first) apart = refl
+    in_part (Register first default scaler_unit) apart = refl
+    in_part (ProfileGeneric captured period entries) apart = refl
+    in_part (RegisterMonitor monitored th actions) apart = refl
+    in_part (SingleActionSchedule script type times) apart = refl
+
+-- a part that is no script table means none
+pub no_table : (q : code_part.Part) → ((p : ScriptTablePart) → q ≡ parts.ScriptTable p → ⊥) → (o : Object) → part_of q ≡ o.part → (scripts : List Script) → o.part ≡ ScriptTable scripts → ⊥
+no_table q apart o same scripts is = at q apart (same ∙ is)
+  where
+    at : (r : code_part.Part) → ((p : ScriptTablePart) → r ≡ parts.ScriptTable p → ⊥) → part_of r ≡ ScriptTable scripts → ⊥
+    at (parts.Data first) h e = cc
+    at (parts.Register p) h e = cc
+    at (parts.ProfileGeneric p) h e = cc
+    at (parts.ScriptTable p) h e = h p refl
+    at (parts.RegisterMonitor p) h e = cc
+    at (parts.SingleActionSchedule p) h e = cc
+
+-- effects that stand for none are none
+pub none_stands : (es : List Effect) → map effect_of es ≡ [] → es ≡ []
+none_stands [] h = refl
+none_stands (e ∷ es) h = cc

@@ -1,7 +1,0 @@
-use Rattle.std.proofs.Common.{◌≡◌, map, take}
-use Rattle.cosem_data.specs.View.{tree}
-use Rattle.meter_theory.specs.State.{value}
-use Rattle.meter_effects.proofs.capture.captured_values.Given as goal
-
-abbrev pub invariant-loop-cell : goal.invariant-loop-cell
-invariant-loop-cell l = map tree l.values.items ≡ map (value l.meter) (take l.cell-index l.captured)

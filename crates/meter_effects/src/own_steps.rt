@@ -1,0 +1,192 @@
+//! The effects of the steps that a meter takes by itself: inputs, captures, evaluations and schedules. All guards are judged
+//! in the state before the step (own profile).
+ghost use Rattle.std.specs.Prelude.{◌≡◌, ◌&&◌, [], flat_map, IfOk, OnOk, IsOk};
+ghost use Rattle.cosem_data.specs.View.{tree};
+ghost use Rattle.meter_theory.specs.Plan as plans;
+ghost use Rattle.meter_theory.specs.Plan.{rule_of};
+ghost use Rattle.meter_theory.specs.State.{State, value};
+ghost use Rattle.meter_theory.specs.States.{IsState};
+ghost use Rattle.meter_theory.specs.Steps as theory;
+ghost use Rattle.meter_theory.specs.Times.{is_capture_due, is_schedule_due};
+ghost use Rattle.meter_theory.specs.Value.{count_of, elements};
+ghost use Rattle.meter_effects.specs.Adds.{Adds, StandsFor};
+
+use crate::scripts::{push_effect, push_script};
+use civil_moment::moment::Moment;
+use class_control::matching::is_due as is_schedule_due;
+use class_control::monitor::Monitor;
+use class_profile::due::is_due as is_capture_due;
+use cosem_data::cell::CellRef;
+use cosem_data::data::Data;
+use cosem_data::memory::Memory;
+use cosem_data::name::LogicalName;
+use meter_theory::refs::ScriptRef;
+use object_model::cells::{capture_period, execution_time, seen, thresholds};
+use object_model::effect::Effect;
+use object_model::held::Held;
+use object_model::instance::Instance;
+use object_model::meter::Meter;
+use object_model::part::Part;
+use object_model::plan::Plan;
+use std::alloc::Global;
+
+/// The effect of an input, if it goes to the value of a fed object and may stand there. The only error is that memory
+/// was refused, which without effects it isn't.
+pub fn input_effects(
+    alloc: Global,
+    plan: &Plan,
+    cell: &CellRef,
+    given: &Data,
+) -> Result<Vec<Effect>, Memory>
+    ensures ok { IfOk result (λ list. (s : State) → StandsFor plan.now (theory.effects_of plan.now s (theory.Input cell.now (tree given.now))) list.items) }
+    ensures none { (s : State) → theory.effects_of plan.now s (theory.Input cell.now (tree given.now)) ≡ [] → IsOk result }
+{
+    let mut effects = Vec::new(alloc);
+    if !takes_input(plan, cell, given) {
+        return Ok(effects);
+    }
+    push_effect(&mut effects, Effect::Put(*cell, given.try_clone(alloc)?))?;
+    Ok(effects)
+}
+
+/// Whether the cell is the value of a fed object, and the value may stand there.
+fn takes_input(plan: &Plan, cell: &CellRef, given: &Data) -> bool
+    ensures { result ≡ (theory.is_fed plan.now cell.now && theory.meets_some (rule_of plan.now cell.now) (tree given.now)) }
+{
+    let instance = plan.instance(&cell.name);
+    is_fed(&instance, cell) && instance.rule(cell.class_id, cell.index, given).is_ok()
+}
+
+/// Whether the cell is the value of a fed object.
+fn is_fed(instance: &Instance<'_>, cell: &CellRef) -> bool
+    requires { cell.now.name ≡ instance.now.name }
+    ensures { result ≡ theory.is_fed instance.now.plan cell.now }
+{
+    match instance.object() {
+        Some(object) => {
+            object.is_fed() && object.part().class_id() == cell.class_id && cell.index == 2
+        }
+        None => false,
+    }
+}
+
+/// The capture of the profile with this name, if it is due at the moment. The only error is that memory was refused,
+/// which without effects it isn't.
+pub fn capture_effects(
+    alloc: Global,
+    plan: &Plan,
+    meter: &Meter,
+    profile: LogicalName,
+    moment: Moment,
+) -> Result<Vec<Effect>, Memory>
+    requires { IsState plan.now meter.now }
+    ensures ok { IfOk result (λ list. StandsFor plan.now (theory.effects_of plan.now meter.now (theory.CaptureAt profile moment)) list.items) }
+    ensures none { theory.effects_of plan.now meter.now (theory.CaptureAt profile moment) ≡ [] → IsOk result }
+{
+    let mut effects = Vec::new(alloc);
+    let instance = plan.instance(&profile);
+    let Some(_) = instance.profile() else {
+        return Ok(effects);
+    };
+    if !is_period_over(meter, &instance, moment) {
+        return Ok(effects);
+    }
+    push_effect(&mut effects, Effect::Capture(profile))?;
+    Ok(effects)
+}
+
+/// Whether the capture_period of a profile divides the seconds of the moment.
+fn is_period_over(meter: &Meter, instance: &Instance<'_>, moment: Moment) -> bool
+    requires { IsState instance.now.plan meter.now }
+    ensures { result ≡ is_capture_due (count_of (value meter.now (plans.capture_period instance.now.name))) moment }
+{
+    match meter.held(instance, &capture_period(instance.name())) {
+        Some(period) => is_capture_due(period.count(), moment),
+        None => false,
+    }
+}
+
+/// The effects of the script of the schedule with this name, if the moment is one of its times. The only error is that memory was
+/// refused, which without effects it isn't.
+pub fn schedule_effects(
+    alloc: Global,
+    plan: &Plan,
+    meter: &Meter,
+    schedule: LogicalName,
+    moment: Moment,
+) -> Result<Vec<Effect>, Memory>
+    requires { IsState plan.now meter.now }
+    ensures ok { IfOk result (λ list. StandsFor plan.now (theory.effects_of plan.now meter.now (theory.ScheduleAt schedule moment)) list.items) }
+    ensures none { theory.effects_of plan.now meter.now (theory.ScheduleAt schedule moment) ≡ [] → IsOk result }
+{
+    let mut effects = Vec::new(alloc);
+    let instance = plan.instance(&schedule);
+    let Some(object) = instance.object() else {
+        return Ok(effects);
+    };
+    let Part::SingleActionSchedule(part) = object.part() else {
+        return Ok(effects);
+    };
+    if !is_time(meter, &instance, moment) {
+        return Ok(effects);
+    }
+    push_script(alloc, plan, part.executed_script, &mut effects)?;
+    Ok(effects)
+}
+
+/// Whether the moment is one of the execution_time of a schedule.
+fn is_time(meter: &Meter, instance: &Instance<'_>, moment: Moment) -> bool
+    requires { IsState instance.now.plan meter.now }
+    ensures { result ≡ is_schedule_due (elements (value meter.now (plans.execution_time instance.now.name))) moment }
+{
+    match meter.held(instance, &execution_time(instance.name())) {
+        Some(Held::Value(times)) => is_schedule_due(times, moment),
+        _ => false,
+    }
+}
+
+/// The effects of an evaluation of the register monitor with this name: of the scripts that are due, in the order of
+/// the thresholds, and then what it remembers. All thresholds are judged before any script runs, and what it remembers is
+/// the monitored value before the step. The only error is that memory was refused, which without effects it isn't.
+pub fn evaluation_effects(
+    alloc: Global,
+    plan: &Plan,
+    meter: &Meter,
+    name: LogicalName,
+) -> Result<Vec<Effect>, Memory>
+    requires { IsState plan.now meter.now }
+    ensures ok { IfOk result (λ list. StandsFor plan.now (theory.effects_of plan.now meter.now (theory.Evaluate name)) list.items) }
+    ensures none { theory.effects_of plan.now meter.now (theory.Evaluate name) ≡ [] → IsOk result }
+{
+    plan.known();
+    let mut effects = Vec::new(alloc);
+    let Some(object) = plan.object_at(&name) else {
+        return Ok(effects);
+    };
+    let Part::RegisterMonitor(part) = object.part() else {
+        return Ok(effects);
+    };
+    let now = meter.value(alloc, plan, &part.monitored_value)?;
+    let monitor = Monitor {
+        thresholds: meter.value(alloc, plan, &thresholds(name))?,
+        seen: meter.value(alloc, plan, &seen(name))?,
+    };
+    push_scripts(alloc, plan, &monitor.due(alloc, part, &now)?, &mut effects)?;
+    push_effect(&mut effects, Effect::Remember(name, now))?;
+    Ok(effects)
+}
+
+/// Adds the effects of scripts, in their order.
+fn push_scripts(
+    alloc: Global,
+    plan: &Plan,
+    scripts: &[ScriptRef],
+    effects: &mut Vec<Effect>,
+) -> Result<(), Memory>
+    ensures { OnOk result (Adds plan.now (flat_map (theory.effects_of_script plan.now) scripts.now) effects.old.items effects.new.items) }
+{
+    for script in scripts {
+        push_script(alloc, plan, *script, effects)?;
+    }
+    Ok(())
+}

@@ -1,0 +1,165 @@
+-- Masks of indexes, and what the rights grant.
+use Rattle.std.proofs.Common.{◌≡◌, ◌≢◌, ◌==◌, ◌<◌, ◌≤◌, ◌+◌, ◌*◌, ◌^◌, ◌%◌, ℕ, suc, Bool, true, false, ◌&&◌, ◌||◌, nat_lt, cond, List, [], ◌∷◌, length, take, Option, Some, None, refl, sym, ap, ◌∙◌, inl, inr, ◌⊎◌, arith, get_or, set, max, eqb-true, bit_or, zero}
+use Rattle.std.specs.List.{position_from, list_any}
+use Rattle.std.specs.Int.{bit_at, w16}
+use Rattle.std.proofs.lemmas.Bool.{false≢true, cases_lt}
+use Rattle.std.proofs.lemmas.Bool.Decides.{nat_tests}
+use Rattle.std.proofs.lemmas.List.{get_or-set_same, get_or-set_other}
+use Rattle.std.proofs.lemmas.List.Folds.{list_any_more}
+use Rattle.std.proofs.lemmas.Nat.Bits.{bit_at_or, bit_at-lt, bit_at_set_same, bit_at_set_other, bit_at-zero}
+use Rattle.std.proofs.Math.ListN.{length-set}
+use Rattle.cosem_data.specs.Cells.{same_name}
+use Rattle.cosem_data.specs.declared.name.LogicalName.{LogicalName}
+use Rattle.cosem_data.proofs.Same.{same_name-true, same_name-from}
+use Rattle.meter_theory.specs.Lists.{IsIn}
+use Rattle.meter_theory.specs.Plan.{Right}
+use Rattle.meter_theory.specs.Rights.{lists}
+use Rattle.object_model.specs.declared.right.Access.{Access}
+use Rattle.object_model.specs.Index.{name_at}
+use Rattle.object_model.specs.Grants.{listed, has_bit, granted_at, grants, AreMasksOf}
+use Rattle.std.specs.Prelude.{IfSome}
+
+or_true : (b : Bool) → (b || true) ≡ true
+or_true true = refl
+or_true false = refl
+
+or_false : (b : Bool) → (b || false) ≡ b
+or_false true = refl
+or_false false = refl
+
+and_false : (a b : Bool) → ((a && false) && b) ≡ false
+and_false true b = refl
+and_false false b = refl
+
+lt_is : (i n : ℕ) → i < n → nat_lt i n ≡ true
+lt_is i n h = grind (arith, nat_tests)
+
+lt_not : (i n : ℕ) → n ≤ i → nat_lt i n ≡ false
+lt_not i n h = grind (arith, nat_tests)
+
+pub no_bits : (i : ℕ) → has_bit 0 i ≡ false
+no_bits i = at (nat_lt i 16)
+  where
+    at : (b : Bool) → (b && (bit_at 0 i == 1)) ≡ false
+    at true = ap (λ n. n == 1) (bit_at-zero i)
+    at false = refl
+
+ored : (x y : ℕ) → x < 2 → y < 2 → (max x y == 1) ≡ ((x == 1) || (y == 1))
+ored x y h g = grind (arith, nat_tests)
+
+pub has_bit-or : (a b i : ℕ) → has_bit (bit_or a b) i ≡ (has_bit a i || has_bit b i)
+has_bit-or a b i = at (nat_lt i 16)
+  where
+    at : (t : Bool) → (t && (bit_at (bit_or a b) i == 1)) ≡ ((t && (bit_at a i == 1)) || (t && (bit_at b i == 1)))
+    at true = ap (λ n. n == 1) (bit_at_or a b i) ∙ ored (bit_at a i) (bit_at b i) (bit_at-lt a i) (bit_at-lt b i)
+    at false = refl
+
+pub has_bit-set : (m j i : ℕ) → j < 16 → has_bit (bit_or m (1 * 2 ^ j % 65536)) i ≡ (has_bit m i || (j == i))
+has_bit-set m j i h = at (j == i) refl
+  where
+    at : (b : Bool) → (j == i) ≡ b → has_bit (bit_or m (1 * 2 ^ j % 65536)) i ≡ (has_bit m i || b)
+    at true e =
+        let same : j ≡ i = eqb-true j i e in
+        let bit : bit_at (bit_or m (1 * 2 ^ j % 65536)) i ≡ 1 = ap (bit_at (bit_or m (1 * 2 ^ j % 65536))) (sym same) ∙ bit_at_set_same w16 m j h in
+        ap (λ t. t && (bit_at (bit_or m (1 * 2 ^ j % 65536)) i == 1)) (lt_is i 16 (omega arith)) ∙ ap (λ n. n == 1) bit ∙ sym (or_true (has_bit m i))
+    at false e =
+        let other : i ≢ j = λ s. false≢true (sym e ∙ ap (λ z. z == i) (sym s) ∙ itself i) in
+        ap (λ n. nat_lt i 16 && (n == 1)) (bit_at_set_other w16 m j h i other) ∙ sym (or_false (has_bit m i))
+      where
+        itself : (n : ℕ) → (n == n) ≡ true
+        itself n = grind (arith, nat_tests)
+
+pub mask-more : (xs : List ℕ) (k m : ℕ) → k < length xs → get_or xs k 0 < 16 → ((i : ℕ) → lists (take k xs) i ≡ has_bit m i) →
+    (i : ℕ) → lists (take (k + 1) xs) i ≡ has_bit (bit_or m (1 * 2 ^ get_or xs k 0 % 65536)) i
+mask-more xs k m h small before i =
+    list_any_more (λ j. j == i) xs k 0 h ∙ ap (λ b. b || (get_or xs k 0 == i)) (before i) ∙ sym (has_bit-set m (get_or xs k 0) i small)
+
+-- where a name stands
+pub at-position : (names : List LogicalName) (name : LogicalName) (start p : ℕ) → Some p ≡ position_from (λ n. same_name n name) start names →
+    (k : ℕ) × (p ≡ start + k) × (k < length names) × (name_at names k ≡ name)
+at-position [] name start p h = cc
+at-position (n ∷ ns) name start p h = at (λ g. at-position ns name (start + 1) p g) (same_name n name) refl h
+  where
+    at : (Some p ≡ position_from (λ m. same_name m name) (start + 1) ns → (k : ℕ) × (p ≡ start + 1 + k) × (k < length ns) × (name_at ns k ≡ name)) →
+        (b : Bool) → same_name n name ≡ b → Some p ≡ cond b (Some start) (position_from (λ m. same_name m name) (start + 1) ns) →
+        (k : ℕ) × (p ≡ start + k) × (k < length (n ∷ ns)) × (name_at (n ∷ ns) k ≡ name)
+    at later true e g = let same : p ≡ start = cc in (0, omega arith, omega arith, same_name-true n name e)
+    at later false e g = let rest = later g in (suc rest.0, omega (arith, rest.1), omega (arith, rest.2), rest.3)
+
+pub one-more : (names : List LogicalName) (access : Access) (rights : List Right) (masks : List ℕ) (i : ℕ) (r : Right) (k mask at : ℕ) →
+    i < length rights → r ≡ get_or rights i r → AreMasksOf names access (take i rights) masks → Some k ≡ position_from (λ n. same_name n r.object) 0 names →
+    r.client < 16 → ((j : ℕ) → lists (listed access r) j ≡ has_bit mask j) → at ≡ k * 16 + r.client →
+    AreMasksOf names access (take (i + 1) rights) (set masks at (bit_or (get_or masks at 0) mask))
+one-more names access rights masks i r k mask at h is before found small listed_is here = record {
+  size = simp length-set before.size;
+  agrees = λ name client index.
+      list_any_more (grants access name client index) rights i r h
+      ∙ ap (λ z. list_any (grants access name client index) (take i rights) || grants access name client index z) (sym is)
+      ∙ ap (λ b. b || grants access name client index r) (before.agrees name client index)
+      ∙ core name client index (position_from (λ n. same_name n name) 0 names) refl;
+}
+  where
+    stands : (n : ℕ) × (k ≡ 0 + n) × (n < length names) × (name_at names n ≡ r.object)
+    stands = at-position names r.object 0 k found
+
+    after : List ℕ
+    after = set masks at (bit_or (get_or masks at 0) mask)
+
+    written : get_or after at 0 ≡ bit_or (get_or masks at 0) mask
+    written = get_or-set_same masks at (bit_or (get_or masks at 0) mask) 0 (omega (arith, before.size, stands.1, stands.2))
+
+    apart : (m c j : ℕ) → (c < 16 → m * 16 + c ≢ at) → (nat_lt c 16 && has_bit (get_or masks (m * 16 + c) 0) j) ≡ (nat_lt c 16 && has_bit (get_or after (m * 16 + c) 0) j)
+    apart m c j other = by (cases_lt c 16)
+      where
+        by : (c < 16) ⊎ (16 ≤ c) → (nat_lt c 16 && has_bit (get_or masks (m * 16 + c) 0) j) ≡ (nat_lt c 16 && has_bit (get_or after (m * 16 + c) 0) j)
+        by (inl low) = ap (λ z. nat_lt c 16 && has_bit z j) (sym (get_or-set_other masks at (m * 16 + c) (bit_or (get_or masks at 0) mask) 0 (other low)))
+        by (inr high) = ap (λ b. b && has_bit (get_or masks (m * 16 + c) 0) j) (lt_not c 16 high) ∙ sym (ap (λ b. b && has_bit (get_or after (m * 16 + c) 0) j) (lt_not c 16 high))
+
+    core : (name : LogicalName) (c j : ℕ) (q : Option ℕ) → position_from (λ n. same_name n name) 0 names ≡ q →
+        (granted_at masks q c j || grants access name c j r) ≡ granted_at after q c j
+    core name c j None e = by (same_name r.object name) refl
+      where
+        by : (b : Bool) → same_name r.object name ≡ b → (((r.client == c) && b) && lists (listed access r) j) ≡ false
+        by true s =
+            let same : r.object ≡ name = same_name-true r.object name s in
+            let none : Some k ≡ None = found ∙ ap (λ m. position_from (λ n. same_name n m) 0 names) same ∙ e in cc
+        by false s = and_false (r.client == c) (lists (listed access r) j)
+    core name c j (Some m) e = by (r.client == c) refl (same_name r.object name) refl
+      where
+        other : (n : ℕ) × (m ≡ 0 + n) × (n < length names) × (name_at names n ≡ name)
+        other = at-position names name 0 m (sym e)
+
+        by : (a : Bool) → (r.client == c) ≡ a → (b : Bool) → same_name r.object name ≡ b →
+            ((nat_lt c 16 && has_bit (get_or masks (m * 16 + c) 0) j) || ((a && b) && lists (listed access r) j)) ≡ (nat_lt c 16 && has_bit (get_or after (m * 16 + c) 0) j)
+        by false d b s =
+            or_false (nat_lt c 16 && has_bit (get_or masks (m * 16 + c) 0) j)
+            ∙ apart m c j (λ low g. false≢true (sym d ∙ tested (omega (arith, g, here, small, low))))
+          where
+            tested : r.client ≡ c → (r.client == c) ≡ true
+            tested g = grind (arith, nat_tests)
+        by true d false s =
+            or_false (nat_lt c 16 && has_bit (get_or masks (m * 16 + c) 0) j)
+            ∙ apart m c j (λ low g. let same : m ≡ k = omega (arith, g, here, small, low) in
+            false≢true (sym s ∙ same_name-from r.object name (sym stands.3 ∙ ap (name_at names) (omega (arith, stands.1, same, other.1)) ∙ other.3)))
+        by true d true s =
+            let mine : r.client ≡ c = eqb-true r.client c d in
+            let named : r.object ≡ name = same_name-true r.object name s in
+            let one : Some k ≡ Some m = found ∙ ap (λ z. position_from (λ n. same_name n z) 0 names) named ∙ e in
+            let number : k ≡ m = cc in
+            let place : m * 16 + c ≡ at = omega (arith, mine, number, here) in
+            ap (λ t. (t && has_bit (get_or masks (m * 16 + c) 0) j) || lists (listed access r) j) (lt_is c 16 (omega (arith, mine, small)))
+            ∙ ap (λ t. has_bit (get_or masks (m * 16 + c) 0) j || t) (listed_is j)
+            ∙ sym (has_bit-or (get_or masks (m * 16 + c) 0) mask j)
+            ∙ ap (λ z. has_bit z j) (ap (λ z. bit_or (get_or masks z 0) mask) place ∙ sym written ∙ ap (λ z. get_or after z 0) (sym place))
+            ∙ sym (ap (λ t. t && has_bit (get_or after (m * 16 + c) 0) j) (lt_is c 16 (omega (arith, mine, small))))
+
+pub room : (names : List LogicalName) (name : LogicalName) (size : ℕ) (q : Option ℕ) → size ≡ length names * 16 → q ≡ position_from (λ n. same_name n name) 0 names →
+    IfSome q (λ k. k * 16 + 16 ≤ size)
+room names name size None fits is = tt
+room names name size (Some k) fits is = let at = at-position names name 0 k is in omega (arith, at.1, at.2)
+
+-- an element at a place is of the list
+pub item-in : {A : Type 0} (xs : List A) (i : ℕ) (x : A) → i < length xs → x ≡ get_or xs i x → IsIn xs x
+item-in [] i x h is = absurd (omega arith)
+item-in (y ∷ ys) zero x h is = inl is
+item-in (y ∷ ys) (suc i) x h is = inr (item-in ys i x (omega arith) is)

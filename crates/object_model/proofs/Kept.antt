@@ -1,0 +1,83 @@
+-- What a register monitor remembers has its cell.
+use Rattle.std.proofs.Common.{◌≡◌, sym, subst, ◌∙◌, refl, inl, inr, List, Option, Some, None, flat_map}
+use Rattle.std.specs.List.{position_from}
+use Rattle.std.proofs.lemmas.Bool.{false≢true}
+use Rattle.cosem_data.specs.Tree.{Tree, null_data, array, no_trees}
+use Rattle.cosem_data.specs.Cells.{same_cell}
+use Rattle.cosem_data.proofs.Same.{same_cell-refl}
+use Rattle.cosem_data.specs.declared.cell.CellRef.{CellRef}
+use Rattle.cosem_data.specs.declared.name.LogicalName.{LogicalName}
+use Rattle.meter_theory.specs.Lists.{IsIn}
+use Rattle.meter_theory.specs.State.{State, keys, value}
+use Rattle.meter_theory.specs.States.{IsState, IsBuffer, IsCount, Holds, IsRemembered, Fits}
+use Rattle.meter_theory.specs.Steps.{Put, Captures, captures_in, captures_of}
+use Rattle.meter_theory.specs.Plan.{Plan, Object, Part, Data1, Register, ProfileGeneric, ScriptTable, RegisterMonitor, SingleActionSchedule, object_at, start_of, buffer, entries_in_use, seen}
+use Rattle.meter_theory.proofs.Lists.{in_any}
+use Rattle.meter_theory.proofs.Agreement.{object-found}
+use Rattle.meter_theory.proofs.Rights.{cell_of_object}
+use Rattle.object_model.specs.EffectView.{IsProfile}
+use Rattle.object_model.specs.declared.stored.Stored.{Stored}
+use Rattle.object_model.specs.Stored.{stored_pairs, stores}
+use Rattle.object_model.proofs.Puts.{put-is-there}
+use Rattle.object_model.proofs.Stores.{nowhere}
+
+pub remembered-there : (P : Plan) (s : State) (n : LogicalName) (v : Tree) → IsState P s → Fits P (Put (seen n) v) → IsIn (keys s) (seen n)
+remembered-there P s n v k (inl may) = put-is-there P s (seen n) v k may
+remembered-there P s n v k (inr fits) = at fits.0.part refl fits.2
+  where
+    at : (p : Part) → fits.0.part ≡ p → IsRemembered P fits.0.name fits.0.part (seen n) v → IsIn (keys s) (seen n)
+    at (RegisterMonitor monitored th actions) is r =
+        let here : seen n ≡ seen fits.0.name = (subst (λ q. IsRemembered P fits.0.name q (seen n) v) is r).0 in
+        subst (IsIn (keys s)) (sym here)
+        (subst (λ ks. IsIn ks (seen fits.0.name)) (sym k.cells)
+        (cell_of_object P fits.0 (seen fits.0.name) null_data fits.1 (subst (λ q. IsIn (start_of fits.0.name q) (seen fits.0.name, null_data)) (sym is) (inr (inl refl)))))
+    at (Data1 first) is r = absurd (subst (λ q. IsRemembered P fits.0.name q (seen n) v) is r)
+    at (Register first default scaler_unit) is r = absurd (subst (λ q. IsRemembered P fits.0.name q (seen n) v) is r)
+    at (ProfileGeneric captured period entries) is r = absurd (subst (λ q. IsRemembered P fits.0.name q (seen n) v) is r)
+    at (ScriptTable scripts) is r = absurd (subst (λ q. IsRemembered P fits.0.name q (seen n) v) is r)
+    at (SingleActionSchedule script type times) is r = absurd (subst (λ q. IsRemembered P fits.0.name q (seen n) v) is r)
+
+-- a cell of the state is stored somewhere
+pub stored-somewhere : (ms : List Stored) (x : CellRef) → IsIn (keys (flat_map stored_pairs ms)) x → position_from (stores x) 0 ms ≡ None → ⊥
+stored-somewhere ms x there none =
+    false≢true (sym (nowhere ms x 0 (sym none)) ∙ in_any (same_cell x) (keys (flat_map stored_pairs ms)) x there (same_cell-refl x))
+
+-- a profile of a state has rows and their number
+pub profile_holds : (P : Plan) (s : State) (n : LogicalName) (c : Captures) → IsState P s → Some c ≡ captures_of (object_at P n) →
+    IsBuffer P c.captured c.entries (value s (buffer n)) × IsCount c.entries (value s (entries_in_use n))
+profile_holds P s n c k is = at (object_at P n) refl is
+  where
+    in_part : (part : Part) → Some c ≡ captures_in part → Holds P s n part → IsBuffer P c.captured c.entries (value s (buffer n)) × IsCount c.entries (value s (entries_in_use n))
+    in_part (ProfileGeneric captured period entries) e holds =
+        let same : c ≡ record { captured = captured; entries = entries } = cc in
+        subst (λ (z : Captures). IsBuffer P z.captured z.entries (value s (buffer n)) × IsCount z.entries (value s (entries_in_use n))) (sym same) holds
+    in_part (Data1 first) e holds = cc
+    in_part (Register first default scaler_unit) e holds = cc
+    in_part (ScriptTable scripts) e holds = cc
+    in_part (RegisterMonitor monitored th actions) e holds = cc
+    in_part (SingleActionSchedule script type times) e holds = cc
+
+    at : (o : Option Object) → object_at P n ≡ o → Some c ≡ captures_of o → IsBuffer P c.captured c.entries (value s (buffer n)) × IsCount c.entries (value s (entries_in_use n))
+    at None found e = cc
+    at (Some o) found e =
+        let there = object-found P n o found in
+        in_part o.part e (subst (λ m. Holds P s m o.part) there.1 (k.inner o there.0))
+
+-- a profile of the plan has its cells
+pub profile-there : (P : Plan) (s : State) (n : LogicalName) → IsState P s → IsProfile P n → IsIn (keys s) (buffer n)
+profile-there P s n k is = at (object_at P n) refl is.1
+  where
+    in_part : (o : Object) → IsIn P.objects o → o.name ≡ n → (p : Part) → o.part ≡ p → captures_in p ≡ Some is.0 → IsIn (keys s) (buffer n)
+    in_part o i named (ProfileGeneric captured period entries) here e =
+        subst (λ m. IsIn (keys s) (buffer m)) named
+        (subst (λ ks. IsIn ks (buffer o.name)) (sym k.cells)
+        (cell_of_object P o (buffer o.name) (array no_trees) i (subst (λ q. IsIn (start_of o.name q) (buffer o.name, array no_trees)) (sym here) (inl refl))))
+    in_part o i named (Data1 first) here e = cc
+    in_part o i named (Register first default scaler_unit) here e = cc
+    in_part o i named (ScriptTable scripts) here e = cc
+    in_part o i named (RegisterMonitor monitored th actions) here e = cc
+    in_part o i named (SingleActionSchedule script type times) here e = cc
+
+    at : (o : Option Object) → object_at P n ≡ o → captures_of o ≡ Some is.0 → IsIn (keys s) (buffer n)
+    at None found e = cc
+    at (Some o) found e = let there = object-found P n o found in in_part o there.0 there.1 o.part refl e

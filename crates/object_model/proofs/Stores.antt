@@ -1,0 +1,187 @@
+-- The stored objects of a meter, as a state.
+use Rattle.std.proofs.Common.{◌≡◌, ◌+◌, ◌<◌, ℕ, zero, suc, refl, ap, sym, ◌∙◌, arith, Bool, true, false, ◌||◌, ◌&&◌, cond, Option, Some, None, List, [], ◌∷◌, ◌++◌, flat_map, length, get_or, set}
+use Rattle.std.proofs.lemmas.Bool.{or_parts, cond-true, cond-false, false≢true}
+use Rattle.std.specs.List.{list_any, position_from}
+use Rattle.cosem_data.specs.Tree.{Tree, null_data}
+use Rattle.cosem_data.specs.Cells.{same_cell, same_name}
+use Rattle.cosem_data.specs.declared.name.LogicalName.{LogicalName}
+use Rattle.cosem_data.specs.declared.cell.CellRef.{CellRef}
+use Rattle.cosem_data.proofs.Same.{same_cell-true, same_name-from}
+use Rattle.meter_theory.specs.State.{State, keys, value, put}
+use Rattle.meter_theory.specs.Plan.{buffer, capture_period, entries_in_use, thresholds, seen}
+use Rattle.cosem_data.specs.TreeCode.{parts-trees}
+use Rattle.meter_theory.specs.Value.{array_of, elements}
+use Rattle.class_profile.specs.Reversal.{rows_before}
+use Rattle.object_model.specs.declared.stored.Cells.{Cells}
+use Rattle.object_model.specs.declared.stored.Cells.TheVariants as cells
+use Rattle.object_model.specs.declared.stored.Stored.{Stored}
+use Rattle.object_model.specs.Stored.{pairs_of, stored_pairs, stores}
+use Rattle.object_model.proofs.ByObject.{one, same_cell-turned, same_cell-apart, value-first, value-second, value-absent}
+
+-- one pair of a state
+
+pub last : (b : Bool) → (b || false) ≡ true → b ≡ true
+last true h = refl
+last false h = cc
+
+pub put-here : (c x : CellRef) (w v : Tree) (s : State) → same_cell x c ≡ true → put ((c, w) ∷ s) x v ≡ (c, v) ∷ s
+put-here c x w v s h = cond-true (same_cell c x) ((c, v) ∷ s) ((c, w) ∷ put s x v) (same_cell-turned x c h)
+
+pub put-past : (c x : CellRef) (w v : Tree) (s : State) → same_cell x c ≡ false → put ((c, w) ∷ s) x v ≡ (c, w) ∷ put s x v
+put-past c x w v s h = cond-false (same_cell c x) ((c, v) ∷ s) ((c, w) ∷ put s x v) (same_cell-apart x c h)
+
+pub value-here : (c x : CellRef) (w : Tree) (s : State) → same_cell x c ≡ true → value ((c, w) ∷ s) x ≡ w
+value-here c x w s h = cond-true (same_cell c x) w (value s x) (same_cell-turned x c h)
+
+pub value-past : (c x : CellRef) (w : Tree) (s : State) → same_cell x c ≡ false → value ((c, w) ∷ s) x ≡ value s x
+value-past c x w s h = cond-false (same_cell c x) w (value s x) (same_cell-apart x c h)
+
+-- two states in a row
+
+pub put-first : (x : CellRef) (v : Tree) (s t : State) → list_any (same_cell x) (keys s) ≡ true → put (s ++ t) x v ≡ put s x v ++ t
+put-first x v [] t h = cc
+put-first x v (e ∷ s) t h = at (same_cell x e.0) refl h (λ g. put-first x v s t g)
+  where
+    at : (b : Bool) → same_cell x e.0 ≡ b → (b || list_any (same_cell x) (keys s)) ≡ true → (list_any (same_cell x) (keys s) ≡ true → put (s ++ t) x v ≡ put s x v ++ t) →
+        put (e ∷ (s ++ t)) x v ≡ put (e ∷ s) x v ++ t
+    at true is g later = put-here e.0 x e.1 v (s ++ t) is ∙ sym (ap (λ z. z ++ t) (put-here e.0 x e.1 v s is))
+    at false is g later = put-past e.0 x e.1 v (s ++ t) is ∙ ap (λ z. e ∷ z) (later g) ∙ sym (ap (λ z. z ++ t) (put-past e.0 x e.1 v s is))
+
+pub put-second : (x : CellRef) (v : Tree) (s t : State) → list_any (same_cell x) (keys s) ≡ false → put (s ++ t) x v ≡ s ++ put t x v
+put-second x v [] t h = refl
+put-second x v (e ∷ s) t h =
+    let parts = or_parts (same_cell x e.0) (list_any (same_cell x) (keys s)) h in
+    put-past e.0 x e.1 v (s ++ t) parts.0 ∙ ap (λ z. e ∷ z) (put-second x v s t parts.1)
+
+-- where a cell is stored
+
+pub place-value : (os : List Stored) (x : CellRef) (start p : ℕ) → Some p ≡ position_from (stores x) start os →
+    (k : ℕ) × (p ≡ start + k) × (k < length os) × ((d : Stored) → stores x (get_or os k d) ≡ true) × ((d : Stored) → value (flat_map stored_pairs os) x ≡ value (stored_pairs (get_or os k d)) x)
+place-value [] x start p h = cc
+place-value (o ∷ os) x start p h = at (λ g. place-value os x (start + 1) p g) (stores x o) refl h
+  where
+    at : (Some p ≡ position_from (stores x) (start + 1) os →
+        (k : ℕ) × (p ≡ start + 1 + k) × (k < length os) × ((d : Stored) → stores x (get_or os k d) ≡ true) × ((d : Stored) → value (flat_map stored_pairs os) x ≡ value (stored_pairs (get_or os k d)) x)) →
+        (b : Bool) → stores x o ≡ b → Some p ≡ cond b (Some start) (position_from (stores x) (start + 1) os) →
+        (k : ℕ) × (p ≡ start + k) × (k < length (o ∷ os)) × ((d : Stored) → stores x (get_or (o ∷ os) k d) ≡ true)
+        × ((d : Stored) → value (flat_map stored_pairs (o ∷ os)) x ≡ value (stored_pairs (get_or (o ∷ os) k d)) x)
+    at later true is g = let same : p ≡ start = cc in (0, omega arith, omega arith, (λ d. is), (λ d. value-first x (stored_pairs o) (flat_map stored_pairs os) is))
+    at later false is g =
+        let rest = later g in
+        (suc rest.0, omega (arith, rest.1), omega (arith, rest.2), rest.3, (λ d. value-second x (stored_pairs o) (flat_map stored_pairs os) is ∙ rest.4 d))
+
+pub place-put : (os : List Stored) (x : CellRef) (v : Tree) (start p : ℕ) → Some p ≡ position_from (stores x) start os → (k : ℕ) → p ≡ start + k → (d new : Stored) →
+    stored_pairs new ≡ put (stored_pairs (get_or os k d)) x v → flat_map stored_pairs (set os k new) ≡ put (flat_map stored_pairs os) x v
+place-put [] x v start p h k e d new is = cc
+place-put (o ∷ os) x v start p h k e d new is = at (λ g j f i. place-put os x v (start + 1) p g j f d new i) (stores x o) refl h k e is
+  where
+    at : (Some p ≡ position_from (stores x) (start + 1) os → (j : ℕ) → p ≡ start + 1 + j → stored_pairs new ≡ put (stored_pairs (get_or os j d)) x v →
+        flat_map stored_pairs (set os j new) ≡ put (flat_map stored_pairs os) x v) →
+        (b : Bool) → stores x o ≡ b → Some p ≡ cond b (Some start) (position_from (stores x) (start + 1) os) → (j : ℕ) → p ≡ start + j →
+        stored_pairs new ≡ put (stored_pairs (get_or (o ∷ os) j d)) x v → flat_map stored_pairs (set (o ∷ os) j new) ≡ put (flat_map stored_pairs (o ∷ os)) x v
+    at later true has g zero f i = ap (λ s. s ++ flat_map stored_pairs os) i ∙ sym (put-first x v (stored_pairs o) (flat_map stored_pairs os) has)
+    at later true has g (suc j) f i = let same : p ≡ start = cc in absurd (omega arith)
+    at later false has g zero f i = let there = place-value os x (start + 1) p g in absurd (omega (arith, there.1))
+    at later false has g (suc j) f i = ap (λ s. stored_pairs o ++ s) (later g j (omega arith) i) ∙ sym (put-second x v (stored_pairs o) (flat_map stored_pairs os) has)
+
+pub nowhere : (os : List Stored) (x : CellRef) (start : ℕ) → None ≡ position_from (stores x) start os → list_any (same_cell x) (keys (flat_map stored_pairs os)) ≡ false
+nowhere [] x start h = refl
+nowhere (o ∷ os) x start h = at (λ g. nowhere os x (start + 1) g) (stores x o) refl h
+  where
+    both : (s t : State) → list_any (same_cell x) (keys s) ≡ false → list_any (same_cell x) (keys t) ≡ false → list_any (same_cell x) (keys (s ++ t)) ≡ false
+    both [] t f g = g
+    both (e ∷ s) t f g =
+        let parts = or_parts (same_cell x e.0) (list_any (same_cell x) (keys s)) f in
+        ap (λ b. b || list_any (same_cell x) (keys (s ++ t))) parts.0 ∙ both s t parts.1 g
+
+    at : (None ≡ position_from (stores x) (start + 1) os → list_any (same_cell x) (keys (flat_map stored_pairs os)) ≡ false) →
+        (b : Bool) → stores x o ≡ b → None ≡ cond b (Some start) (position_from (stores x) (start + 1) os) → list_any (same_cell x) (keys (flat_map stored_pairs (o ∷ os))) ≡ false
+    at later true has g = cc
+    at later false has g = both (stored_pairs o) (flat_map stored_pairs os) has (later g)
+
+put-absent : (x : CellRef) (v : Tree) (s : State) → list_any (same_cell x) (keys s) ≡ false → put s x v ≡ s
+put-absent x v [] h = refl
+put-absent x v (e ∷ s) h =
+    let parts = or_parts (same_cell x e.0) (list_any (same_cell x) (keys s)) h in
+    put-past e.0 x e.1 v s parts.0 ∙ ap (λ z. e ∷ z) (put-absent x v s parts.1)
+
+pub nowhere-value : (os : List Stored) (x : CellRef) → None ≡ position_from (stores x) 0 os → value (flat_map stored_pairs os) x ≡ null_data
+nowhere-value os x h = value-absent x (flat_map stored_pairs os) (nowhere os x 0 h)
+
+pub nowhere-put : (os : List Stored) (x : CellRef) (v : Tree) → None ≡ position_from (stores x) 0 os → put (flat_map stored_pairs os) x v ≡ flat_map stored_pairs os
+nowhere-put os x v h = put-absent x v (flat_map stored_pairs os) (nowhere os x 0 h)
+
+-- a cell is stored under its name
+
+stores-named : (x : CellRef) (n : LogicalName) (c : Cells) → list_any (same_cell x) (keys (pairs_of n c)) ≡ true → x.name ≡ n
+stores-named x n (cells.Data object) h = one x 1 n 2 h
+stores-named x n (cells.Register object) h = one x 3 n 2 h
+stores-named x n (cells.ProfileGeneric object) h = three (same_cell x (buffer n)) refl (same_cell x (capture_period n)) refl h
+  where
+    three : (a : Bool) → same_cell x (buffer n) ≡ a → (b : Bool) → same_cell x (capture_period n) ≡ b → (a || (b || (same_cell x (entries_in_use n) || false))) ≡ true → x.name ≡ n
+    three true e b f g = ap (λ y. y.name) (same_cell-true x (buffer n) e)
+    three false e true f g = ap (λ y. y.name) (same_cell-true x (capture_period n) f)
+    three false e false f g = one x 7 n 7 g
+stores-named x n (cells.RegisterMonitor object) h = two (same_cell x (thresholds n)) refl h
+  where
+    two : (a : Bool) → same_cell x (thresholds n) ≡ a → (a || (same_cell x (seen n) || false)) ≡ true → x.name ≡ n
+    two true e g = ap (λ y. y.name) (same_cell-true x (thresholds n) e)
+    two false e g = one x 21 n 0 g
+stores-named x n (cells.SingleActionSchedule object) h = one x 22 n 4 h
+
+pub stored-name : (x : CellRef) (o : Stored) → stores x o ≡ true → x.name ≡ o.name
+stored-name x o h = stores-named x o.name o.cells h
+
+not-named : (x : CellRef) (o : Stored) → same_name o.name x.name ≡ false → stores x o ≡ false
+not-named x o h = at (stores x o) refl
+  where
+    at : (b : Bool) → stores x o ≡ b → b ≡ false
+    at true e = absurd (false≢true (sym h ∙ same_name-from o.name x.name (sym (stores-named x o.name o.cells e))))
+    at false e = refl
+
+-- words for the cells of a class
+
+pub never_both : (b : Bool) → (b && false) ≡ false
+never_both true = refl
+never_both false = refl
+
+pub same_value : (a b : Tree) → Some a ≡ Some b → a ≡ b
+same_value a b e = cc
+
+-- the cells of one object, of which a name is the same as itself
+pub put-seen : (n : LogicalName) (limits last now : Tree) → put ((thresholds n, limits) ∷ (seen n, last) ∷ []) (seen n) now ≡ (thresholds n, limits) ∷ (seen n, now) ∷ []
+put-seen n limits last now = rw (same_name-from n n refl) refl
+
+pub put-thresholds : (n : LogicalName) (limits last given : Tree) → put ((thresholds n, limits) ∷ (seen n, last) ∷ []) (thresholds n) given ≡ (thresholds n, given) ∷ (seen n, last) ∷ []
+put-thresholds n limits last given = rw (same_name-from n n refl) refl
+
+pub put-buffer : (n : LogicalName) (rows period in_use given : Tree) →
+    put ((buffer n, rows) ∷ (capture_period n, period) ∷ (entries_in_use n, in_use) ∷ []) (buffer n) given ≡ (buffer n, given) ∷ (capture_period n, period) ∷ (entries_in_use n, in_use) ∷ []
+put-buffer n rows period in_use given = rw (same_name-from n n refl) refl
+
+pub put-in_use : (n : LogicalName) (rows period in_use given : Tree) →
+    put ((buffer n, rows) ∷ (capture_period n, period) ∷ (entries_in_use n, in_use) ∷ []) (entries_in_use n) given ≡ (buffer n, rows) ∷ (capture_period n, period) ∷ (entries_in_use n, given) ∷ []
+put-in_use n rows period in_use given = rw (same_name-from n n refl) refl
+
+pub value-buffer : (n : LogicalName) (rows period in_use : Tree) → value ((buffer n, rows) ∷ (capture_period n, period) ∷ (entries_in_use n, in_use) ∷ []) (buffer n) ≡ rows
+value-buffer n rows period in_use = rw (same_name-from n n refl) refl
+
+pub value-in_use : (n : LogicalName) (rows period in_use : Tree) → value ((buffer n, rows) ∷ (capture_period n, period) ∷ (entries_in_use n, in_use) ∷ []) (entries_in_use n) ≡ in_use
+value-in_use n rows period in_use = rw (same_name-from n n refl) refl
+
+-- a capture that is taken back
+pub undone-captured : (n : LogicalName) (rows : List Tree) (period in_use count : Tree) (dropped : Option Tree) → (s : State) →
+    s ≡ (buffer n, array_of rows) ∷ (capture_period n, period) ∷ (entries_in_use n, in_use) ∷ [] →
+    put (put s (buffer n) (array_of (rows_before dropped (elements (value s (buffer n)))))) (entries_in_use n) count
+    ≡ (buffer n, array_of (rows_before dropped rows)) ∷ (capture_period n, period) ∷ (entries_in_use n, count) ∷ []
+undone-captured n rows period in_use count dropped s is =
+    ap (λ t. put (put t (buffer n) (array_of (rows_before dropped (elements (value t (buffer n)))))) (entries_in_use n) count) is
+    ∙ ap (λ xs. put (put ((buffer n, array_of rows) ∷ (capture_period n, period) ∷ (entries_in_use n, in_use) ∷ []) (buffer n) (array_of (rows_before dropped xs))) (entries_in_use n) count)
+    (ap elements (value-buffer n (array_of rows) period in_use) ∙ parts-trees rows)
+    ∙ ap (λ t. put t (entries_in_use n) count) (put-buffer n (array_of rows) period in_use (array_of (rows_before dropped rows)))
+    ∙ put-in_use n (array_of (rows_before dropped rows)) period in_use count
+
+-- the rows of a profile
+pub rows-held : (n : LogicalName) (rows : List Tree) (period in_use : Tree) (s : State) → s ≡ (buffer n, array_of rows) ∷ (capture_period n, period) ∷ (entries_in_use n, in_use) ∷ [] →
+    elements (value s (buffer n)) ≡ rows
+rows-held n rows period in_use s is = ap (λ t. elements (value t (buffer n))) is ∙ ap elements (value-buffer n (array_of rows) period in_use) ∙ parts-trees rows

@@ -1,0 +1,62 @@
+-- What clients are granted on objects, as masks of indexes.
+use Rattle.std.specs.Prelude.{◌≡◌, ◌==◌, ◌<◌, ◌+◌, ◌*◌, ℕ, Bool, false, ◌&&◌, nat_lt, List, [], ◌∷◌, length, slice_index, Option, Some, None, All}
+use Rattle.std.specs.List.{position_from, list_any}
+use Rattle.std.specs.Int.{bit_at}
+use Rattle.cosem_data.specs.Cells.{same_name}
+use Rattle.cosem_data.specs.declared.name.LogicalName.{LogicalName}
+use Rattle.meter_theory.specs.Plan.{Right}
+use Rattle.meter_theory.specs.Rights.{lists}
+use Rattle.object_model.specs.declared.grants.Grants.{Grants}
+use Rattle.object_model.specs.declared.right.Access.{Access}
+use Rattle.object_model.specs.declared.right.Access.TheVariants.{View, Get, Set, Act}
+
+-- the indexes that a right lists for an access; the view has each: own profile
+abbrev pub listed : Access → Right → List ℕ
+listed View r = 0 ∷ []
+listed Get r = r.gets
+listed Set r = r.sets
+listed Act r = r.acts
+
+-- the place of a name: own profile
+abbrev pub place_in : List LogicalName → LogicalName → Option ℕ
+place_in names name = position_from (λ n. same_name n name) 0 names
+
+-- the bit of this index in the mask, of sixteen: own profile
+abbrev pub has_bit : ℕ → ℕ → Bool
+has_bit mask index = nat_lt index 16 && (bit_at mask index == 1)
+
+-- masks for sixteen clients an object, of which one is asked: own profile
+abbrev pub granted_at : List ℕ → Option ℕ → ℕ → ℕ → Bool
+granted_at masks None client index = false
+granted_at masks (Some k) client index = nat_lt client 16 && has_bit (slice_index masks (k * 16 + client)) index
+
+-- what the masks grant a client on what has this name: own profile
+abbrev pub granted : List LogicalName → List ℕ → LogicalName → ℕ → ℕ → Bool
+granted names masks name client index = granted_at masks (place_in names name) client index
+
+-- a right of this client on this object that lists this index: own profile
+abbrev pub grants : Access → LogicalName → ℕ → ℕ → Right → Bool
+grants access name client index r = ((r.client == client) && same_name r.object name) && lists (listed access r) index
+
+-- the masks have room for the right: own profile
+pub record HasRoom (names : List LogicalName) (r : Right) : Type 0 where
+  pub client : r.client < 16
+  pub number : ℕ
+  pub object : place_in names r.object ≡ Some number
+  pub indexes : (access : Access) → All (λ i. i < 16) (listed access r)
+
+-- the masks say what the rights say: own profile
+pub record AreMasksOf (names : List LogicalName) (access : Access) (rights : List Right) (masks : List ℕ) : Type 0 where
+  pub size : length masks ≡ length names * 16
+  pub agrees : (name : LogicalName) (client index : ℕ) → list_any (grants access name client index) rights ≡ granted names masks name client index
+
+-- the masks of an access: own profile
+abbrev pub masks_for : Access → Grants → List ℕ
+masks_for View grants = grants.views.items
+masks_for Get grants = grants.gets.items
+masks_for Set grants = grants.sets.items
+masks_for Act grants = grants.acts.items
+
+-- the masks of each access say what the rights say: own profile
+abbrev pub AreGrants : List LogicalName → List Right → Grants → Type 0
+AreGrants names rights grants = (access : Access) → AreMasksOf names access rights (masks_for access grants)

@@ -1,0 +1,55 @@
+-- What the stored objects of a meter stand for.
+use Rattle.std.specs.Prelude.{ℕ, Bool, true, false, List, [], ◌∷◌, Option, Some, None}
+use Rattle.std.specs.List.{list_any}
+use Rattle.cosem_data.specs.View.{tree}
+use Rattle.cosem_data.specs.Tree.{Tree}
+use Rattle.cosem_data.specs.Cells.{same_cell}
+use Rattle.cosem_data.specs.declared.name.LogicalName.{LogicalName}
+use Rattle.cosem_data.specs.declared.cell.CellRef.{CellRef}
+use Rattle.meter_theory.specs.State.{State, keys, value, put}
+use Rattle.meter_theory.specs.Value.{array_of, counter, structure_of}
+use Rattle.meter_theory.specs.Steps.{buffer_after, in_use_after}
+use Rattle.meter_theory.specs.Plan.{data_value, register_value, buffer, capture_period, entries_in_use, thresholds, seen, execution_time}
+use Rattle.object_model.specs.declared.held.Held.{Held}
+use Rattle.object_model.specs.declared.held.Held.TheVariants as held
+use Rattle.object_model.specs.declared.stored.Cells.{Cells}
+use Rattle.object_model.specs.declared.stored.Cells.TheVariants as cells
+use Rattle.object_model.specs.declared.stored.Stored.{Stored}
+
+-- the cells of an object with this name, in the order of its class: IEC 62056-6-2, interface classes
+abbrev pub pairs_of : LogicalName → Cells → State
+pairs_of n (cells.Data object) = (data_value n, tree object.value) ∷ []
+pairs_of n (cells.Register object) = (register_value n, tree object.value) ∷ []
+pairs_of n (cells.ProfileGeneric object) =
+    (buffer n, array_of object.buffer) ∷ (capture_period n, counter object.capture_period) ∷ (entries_in_use n, counter object.entries_in_use) ∷ []
+pairs_of n (cells.RegisterMonitor object) = (thresholds n, tree object.thresholds) ∷ (seen n, tree object.seen) ∷ []
+pairs_of n (cells.SingleActionSchedule object) = (execution_time n, tree object.times) ∷ []
+
+-- the same of a stored object: own profile
+abbrev pub stored_pairs : Stored → State
+stored_pairs o = pairs_of o.name o.cells
+
+-- the same of an object that has cells, and none of one that has not: own profile
+abbrev pub pairs_if : Option Stored → State
+pairs_if None = []
+pairs_if (Some o) = stored_pairs o
+
+-- whether it is a cell of the stored object: own profile
+abbrev pub stores : CellRef → Stored → Bool
+stores x o = list_any (same_cell x) (keys (stored_pairs o))
+
+-- the value that is lent: own profile
+abbrev pub held_tree : Held → Tree
+held_tree (held.Value value) = tree value.now
+held_tree (held.Number number) = counter number
+held_tree (held.Rows rows) = array_of rows.now
+
+-- the cells of a profile after a capture of this row: IEC 62056-6-2, Profile generic, capture
+abbrev pub captured : LogicalName → ℕ → List Tree → State → State
+captured n entries row s =
+    put (put s (buffer n) (buffer_after entries (value s (buffer n)) (structure_of row))) (entries_in_use n) (in_use_after entries (value s (entries_in_use n)))
+
+-- the entries of a profile are lent: own profile
+abbrev pub is_rows : Held → Bool
+is_rows (held.Rows rows) = true
+is_rows _ = false

@@ -1,0 +1,47 @@
+-- A state with what stood in it before effects.
+use Rattle.std.specs.Prelude.{List, [], ◌∷◌, option_map}
+use Rattle.cosem_data.specs.View.{tree}
+use Rattle.cosem_data.specs.declared.cell.CellRef.{CellRef}
+use Rattle.cosem_data.specs.declared.name.LogicalName.{LogicalName}
+use Rattle.meter_theory.specs.Plan.{data_value, register_value, buffer, capture_period, entries_in_use, thresholds, seen, execution_time}
+use Rattle.meter_theory.specs.State.{State, value, put}
+use Rattle.meter_theory.specs.Value.{array_of, counter, elements}
+use Rattle.class_profile.specs.Reversal.{rows_before}
+use Rattle.object_model.specs.declared.undo.Change.{Change}
+use Rattle.object_model.specs.declared.undo.Change.TheVariants as changes
+use Rattle.object_model.specs.declared.undo.Undo.{Undo}
+
+-- the state with what a change of the object with this name found: own profile
+abbrev pub change_undone : LogicalName → Change → State → State
+change_undone n (changes.Data held) s = put s (data_value n) (tree held)
+change_undone n (changes.Register held) s = put s (register_value n) (tree held)
+change_undone n (changes.Period held) s = put s (capture_period n) (counter held)
+change_undone n (changes.Captured captured) s =
+    put (put s (buffer n) (array_of (rows_before (option_map tree captured.dropped) (elements (value s (buffer n)))))) (entries_in_use n) (counter captured.entries_in_use)
+change_undone n (changes.Cleared cleared) s = put (put s (buffer n) (array_of cleared.buffer)) (entries_in_use n) (counter cleared.entries_in_use)
+change_undone n (changes.Thresholds held) s = put s (thresholds n) (tree held)
+change_undone n (changes.Seen held) s = put s (seen n) (tree held)
+change_undone n (changes.Times held) s = put s (execution_time n) (tree held)
+
+-- a cell of the object that was changed: own profile
+abbrev pub cell_changed : LogicalName → Change → CellRef
+cell_changed n (changes.Data held) = data_value n
+cell_changed n (changes.Register held) = register_value n
+cell_changed n (changes.Period held) = capture_period n
+cell_changed n (changes.Captured captured) = buffer n
+cell_changed n (changes.Cleared cleared) = buffer n
+cell_changed n (changes.Thresholds held) = thresholds n
+cell_changed n (changes.Seen held) = seen n
+cell_changed n (changes.Times held) = execution_time n
+
+abbrev pub changed_cell : Undo → CellRef
+changed_cell undo = cell_changed undo.name undo.change
+
+-- the state before one effect: own profile
+abbrev pub undone : Undo → State → State
+undone undo s = change_undone undo.name undo.change s
+
+-- the state before several effects, given in their order: the last is the first to be taken back (own profile)
+abbrev pub all_undone : List Undo → State → State
+all_undone [] s = s
+all_undone (undo ∷ undos) s = undone undo (all_undone undos s)

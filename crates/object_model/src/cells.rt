@@ -1,0 +1,89 @@
+//! The cells of objects by their names: the attributes that can change (IEC 62056-6-2, interface classes).
+ghost use Rattle.std.specs.Prelude.{◌≡◌};
+ghost use Rattle.meter_theory.specs.Plan as theory;
+
+use class_control::monitor::Monitor;
+use class_control::schedule::Schedule;
+use class_profile::profile::Profile;
+use cosem_class::data1::Data1;
+use cosem_class::register::Register;
+use cosem_data::cell::CellRef;
+use cosem_data::name::LogicalName;
+
+/// Attribute 2 of a data object, value.
+pub fn data_value(object: LogicalName) -> CellRef
+    ensures { result ≡ theory.data_value object }
+{
+    cell(Data1::INTERFACE.class_id, object, Data1::VALUE)
+}
+
+/// Attribute 2 of a register, value.
+pub fn register_value(register: LogicalName) -> CellRef
+    ensures { result ≡ theory.register_value register }
+{
+    cell(Register::INTERFACE.class_id, register, Register::VALUE)
+}
+
+/// Attribute 2 of a profile, buffer.
+pub fn buffer(profile: LogicalName) -> CellRef
+    ensures { result ≡ theory.buffer profile }
+{
+    cell(Profile::INTERFACE.class_id, profile, Profile::BUFFER)
+}
+
+/// Attribute 4 of a profile, capture_period.
+pub fn capture_period(profile: LogicalName) -> CellRef
+    ensures { result ≡ theory.capture_period profile }
+{
+    cell(
+        Profile::INTERFACE.class_id,
+        profile,
+        Profile::CAPTURE_PERIOD,
+    )
+}
+
+/// Attribute 7 of a profile, entries_in_use.
+pub fn entries_in_use(profile: LogicalName) -> CellRef
+    ensures { result ≡ theory.entries_in_use profile }
+{
+    cell(
+        Profile::INTERFACE.class_id,
+        profile,
+        Profile::ENTRIES_IN_USE,
+    )
+}
+
+/// Attribute 2 of a register monitor, thresholds.
+pub fn thresholds(monitor: LogicalName) -> CellRef
+    ensures { result ≡ theory.thresholds monitor }
+{
+    cell(Monitor::INTERFACE.class_id, monitor, Monitor::THRESHOLDS)
+}
+
+/// The inner cell of a register monitor: the value that it saw last (own profile).
+pub fn seen(monitor: LogicalName) -> CellRef
+    ensures { result ≡ theory.seen monitor }
+{
+    cell(Monitor::INTERFACE.class_id, monitor, Monitor::SEEN)
+}
+
+/// Attribute 4 of a single action schedule, execution_time.
+pub fn execution_time(schedule: LogicalName) -> CellRef
+    ensures { result ≡ theory.execution_time schedule }
+{
+    cell(
+        Schedule::INTERFACE.class_id,
+        schedule,
+        Schedule::EXECUTION_TIME,
+    )
+}
+
+fn cell(class_id: u16, name: LogicalName, index: u8) -> CellRef
+    ensures { result ≡ record { class_id = class_id; name = name; index = index } }
+{
+    CellRef {
+        class_id,
+        name,
+        index,
+    }
+}

@@ -1,0 +1,43 @@
+use class_profile::rows::Rows;
+use cosem_data::data::Data;
+use cosem_data::memory::Memory;
+use std::alloc::Global;
+
+/// The value of a cell, where it stands.
+#[derive(Clone, Copy)]
+pub enum Held<'a> {
+    /// Any value.
+    Value(&'a Data),
+    /// A double-long-unsigned.
+    Number(u32),
+    /// The entries of a profile, an array.
+    Rows(&'a Rows),
+}
+
+impl<'a> Held<'a> {
+    ghost use Rattle.std.specs.Prelude.{◌≡◌, IfOk};
+    ghost use Rattle.cosem_data.specs.View.{tree};
+    ghost use Rattle.meter_theory.specs.Value.{count_of};
+    ghost use Rattle.object_model.specs.Stored.{held_tree};
+
+    /// The number that it is as a double-long-unsigned, and 0 for any other value. It takes no memory.
+    pub fn count(&self) -> u32
+        ensures { result ≡ count_of (held_tree self.now) }
+    {
+        match self {
+            Held::Number(number) | Held::Value(Data::DoubleLongUnsigned(number)) => *number,
+            _ => 0,
+        }
+    }
+
+    /// A copy of the value. The error is that memory was refused.
+    pub fn to_data(&self, alloc: Global) -> Result<Data, Memory>
+        ensures { IfOk result (λ value. tree value ≡ held_tree self.now) }
+    {
+        match self {
+            Held::Value(value) => value.try_clone(alloc),
+            Held::Number(number) => Ok(Data::DoubleLongUnsigned(*number)),
+            Held::Rows(rows) => rows.to_data(alloc),
+        }
+    }
+}

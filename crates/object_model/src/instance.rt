@@ -1,0 +1,243 @@
+//! What stands at a logical name of a plan, looked up once. Nothing here takes memory, but for copies of values.
+ghost use Rattle.std.specs.Prelude.{◌≡◌, ℕ, true, option_map, IfOk};
+ghost use Rattle.cosem_data.specs.View.{tree};
+ghost use Rattle.std.specs.List.{position_from};
+ghost use Rattle.cosem_data.specs.Cells.{cell, same_name};
+ghost use Rattle.cosem_data.specs.Kinds.{kind_of};
+ghost use Rattle.cosem_class.specs.Judged.{rule_answer};
+ghost use Rattle.meter_theory.specs.Fixed.{fixed_of};
+ghost use Rattle.meter_theory.specs.Plan.{interface_at, is_cell, object_at, rule_of, start};
+ghost use Rattle.meter_theory.specs.Rights.{has_right, in_view, lists, may_read};
+ghost use Rattle.meter_theory.specs.State.{value};
+ghost use Rattle.meter_theory.specs.Steps.{captures_of};
+ghost use Rattle.object_model.specs.Grants.{listed};
+ghost use Rattle.object_model.specs.Tables.{place_of};
+
+use crate::grants::is_granted;
+use crate::object::Object;
+use crate::part::Part;
+use crate::place::Place;
+use crate::plan::{ASSOCIATION, ASSOCIATION_LN, Plan};
+use crate::right::Access;
+use class_profile::profile::ProfilePart;
+use cosem_data::cell::CellRef;
+use cosem_data::data::Data;
+use cosem_data::kind::Kind;
+use cosem_data::memory::Memory;
+use cosem_data::name::LogicalName;
+use meter_theory::access::AccessCode;
+use meter_theory::refs::Interface;
+use std::alloc::Global;
+use std::marker::Model;
+
+/// What a plan has at an instance-id, a logical name (IEC 62056-5-3, Cosem-Object-Instance-Id): the current association, an
+/// object, or nothing. Whatever is asked of it takes no other search of the names.
+#[derive(Drop)]
+pub struct Instance<'a> {
+    plan: &'a Plan,
+    name: LogicalName,
+    number: Option<u16>,
+}
+
+impl<'a> Model for Instance<'a> {
+    ghost use Rattle.std.specs.Prelude.{◌≡◌};
+    ghost use Rattle.std.specs.List.{position_from};
+    ghost use Rattle.cosem_data.specs.Cells.{same_name};
+    ghost use Rattle.object_model.specs.InstanceView.{AtName, at_name_code};
+
+    ghost Value = { AtName };
+
+    ghost coded = { at_name_code };
+
+    ghost view = { λ i. record { plan = i.plan.now; name = i.name } };
+
+    ghost invariant = { λ i. i.number ≡ position_from (λ o. same_name o.name i.name) 0 i.plan.now.objects };
+}
+
+impl<'a> Instance<'a> {
+    /// What the plan has at this name.
+    pub fn of(plan: &'a Plan, name: LogicalName) -> Self
+        ensures { result ≡ record { plan = plan.now; name = name } }
+    {
+        Instance {
+            plan,
+            name,
+            number: plan.number_of(&name),
+        }
+    }
+
+    /// The plan.
+    pub fn plan(&self) -> &'a Plan
+        ensures { result.now ≡ self.now.plan }
+    {
+        self.plan
+    }
+
+    /// The logical name.
+    pub fn name(&self) -> LogicalName
+        ensures { result ≡ self.now.name }
+    {
+        self.name
+    }
+
+    /// The object with this name, or None where the plan has none.
+    pub fn object(&self) -> Option<&'a Object>
+        ensures { option_map (λ o. o.now) result ≡ object_at self.now.plan self.now.name }
+    {
+        match self.number {
+            Some(number) => self.plan.object(number),
+            None => None,
+        }
+    }
+
+    /// What the plan fixes of the profile with this name, or None where it has none.
+    pub fn profile(&self) -> Option<&'a ProfilePart>
+        ensures { option_map (λ part. record { captured = part.now.captured.items; entries = part.now.profile_entries }) result ≡ captures_of (object_at self.now.plan self.now.name) }
+    {
+        match self.object()?.part() {
+            Part::ProfileGeneric(part) => Some(part),
+            _ => None,
+        }
+    }
+
+    /// Where the object has its cells, or None where the plan has no object with this name.
+    pub(crate) fn place(&self) -> Option<Place>
+        ensures { result ≡ option_map (place_of self.now.plan.objects) (position_from (λ o. same_name o.name self.now.name) 0 self.now.plan.objects) }
+    {
+        match self.number {
+            Some(number) => Some(self.plan.place(number)),
+            None => None,
+        }
+    }
+
+    /// The interface class of what stands here: the current association (IEC 62056-6-2, Association LN, version 0), or an
+    /// object; None where nothing stands.
+    pub fn interface(&self) -> Option<Interface>
+        ensures { result ≡ interface_at self.now.plan self.now.name }
+    {
+        if self.name == ASSOCIATION {
+            return Some(ASSOCIATION_LN);
+        }
+        self.object().map(|object| object.part().interface())
+    }
+
+    /// Whether the client's view has this name: the current association, or an object on which it has a right. The view
+    /// of a client that the plan lacks is empty (IEC 62056-6-2, object_list).
+    pub fn in_view(&self, client: u8) -> bool
+        ensures { result ≡ in_view self.now.plan client self.now.name }
+    {
+        self.plan.is_client(client) && (self.name == ASSOCIATION || self.has_right(client))
+    }
+
+    /// Whether the client has a right on the object, be it without any attribute or method.
+    pub fn has_right(&self, client: u8) -> bool
+        ensures { result ≡ has_right self.now.plan client self.now.name (λ r. true) }
+    {
+        self.is_granted(Access::View, client, 0)
+    }
+
+    /// Whether a right of the client allows a GET of the attribute with this index.
+    pub fn may_get(&self, client: u8, index: u8) -> bool
+        ensures { result ≡ has_right self.now.plan client self.now.name (λ r. lists r.gets index) }
+    {
+        self.is_granted(Access::Get, client, index)
+    }
+
+    /// Whether a right of the client allows a SET of the attribute with this index.
+    pub fn may_set(&self, client: u8, index: u8) -> bool
+        ensures { result ≡ has_right self.now.plan client self.now.name (λ r. lists r.sets index) }
+    {
+        self.is_granted(Access::Set, client, index)
+    }
+
+    /// Whether a right of the client allows an ACTION of the method with this index.
+    pub fn may_act(&self, client: u8, index: u8) -> bool
+        ensures { result ≡ has_right self.now.plan client self.now.name (λ r. lists r.acts index) }
+    {
+        self.is_granted(Access::Act, client, index)
+    }
+
+    /// Whether the client may read this attribute of what its view has: the logical name, the attributes of the current
+    /// association but 5 and 7, user information and secret (own profile), and what a right allows.
+    pub fn may_read(&self, client: u8, index: u8) -> bool
+        ensures { (class_id : ℕ) → result ≡ may_read self.now.plan client (cell class_id self.now.name index) }
+    {
+        if self.name == ASSOCIATION {
+            matches!(index, 1..=4 | 6 | 8)
+        } else {
+            index == 1 || self.may_get(client, index)
+        }
+    }
+
+    /// Whether a right of the client lists this index for this access.
+    fn is_granted(&self, access: Access, client: u8, index: u8) -> bool
+        ensures { result ≡ has_right self.now.plan client self.now.name (λ r. lists (listed access r) index) }
+    {
+        is_granted(self.plan.masks(access), self.number, client, index)
+    }
+
+    /// Whether the class with this number has a cell at this index here: an attribute that can change, or what a register
+    /// monitor has seen.
+    pub fn is_cell(&self, class_id: u16, index: u8) -> bool
+        ensures { result ≡ is_cell self.now.plan (cell class_id self.now.name index) }
+    {
+        self.plan.known();
+        match self.object() {
+            Some(object) => object
+                .part()
+                .has_cell(object.name(), &self.cell(class_id, index)),
+            None => false,
+        }
+    }
+
+    /// The kind of the value with which a cell starts; that of null-data for what is no cell.
+    pub fn start_kind(&self, class_id: u16, index: u8) -> Kind
+        ensures { result ≡ kind_of (value (start self.now.plan) (cell class_id self.now.name index)) }
+    {
+        self.plan.known();
+        match self.object() {
+            Some(object) => object
+                .part()
+                .start_kind(object.name(), &self.cell(class_id, index)),
+            None => Kind::NullData,
+        }
+    }
+
+    /// Whether the value may be put into a cell: `TypeUnmatched` for another tag and where no settable cell is,
+    /// `OtherReason` for the right tag against the rest of the cell's rule (own profile; the codes are those of
+    /// IEC 62056-5-3, Data-Access-Result).
+    pub fn rule(&self, class_id: u16, index: u8, value: &Data) -> Result<(), AccessCode>
+        ensures { result ≡ rule_answer (rule_of self.now.plan (cell class_id self.now.name index)) (tree value.now) }
+    {
+        let Some(object) = self.object() else {
+            return Err(AccessCode::TypeUnmatched);
+        };
+        let part = object.part();
+        if part.class_id() != class_id {
+            return Err(AccessCode::TypeUnmatched);
+        }
+        part.judge(self.plan.monitored_kind(part), index, value)
+    }
+
+    /// A copy of a fixed attribute of the object, other than its logical name; null-data where there is none. The error is
+    /// that memory was refused.
+    pub fn fixed(&self, alloc: Global, index: u8) -> Result<Data, Memory>
+        ensures { IfOk result (λ value. tree value ≡ fixed_of (object_at self.now.plan self.now.name) index) }
+    {
+        match self.object() {
+            Some(object) => object.part().fixed(alloc, index),
+            None => Ok(Data::NullData),
+        }
+    }
+
+    /// The cell of this class at this index.
+    fn cell(&self, class_id: u16, index: u8) -> CellRef
+        ensures { result ≡ cell class_id self.now.name index }
+    {
+        CellRef {
+            class_id,
+            name: self.name,
+            index,
+        }
+    }
+}

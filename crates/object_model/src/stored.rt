@@ -1,0 +1,286 @@
+//! The objects of a meter: of each the cells of its class. The plan lends its part to each operation.
+ghost use Rattle.std.specs.Prelude.{◌≡◌, ◌++◌, length, true, Some, IfOk, IsOk, OnOk, OnErr};
+ghost use Rattle.cosem_data.specs.View.{tree};
+ghost use Rattle.cosem_data.specs.Cells.{cell};
+ghost use Rattle.meter_theory.specs.Plan as theory;
+ghost use Rattle.meter_theory.specs.Plan.{class_of, start_of};
+ghost use Rattle.meter_theory.specs.State.{keys, put, value};
+ghost use Rattle.meter_theory.specs.Steps.{clear};
+ghost use Rattle.meter_theory.specs.Value.{Rule, elements, meets};
+ghost use Rattle.class_profile.specs.ProfileClass.{is_buffer};
+ghost use Rattle.object_model.specs.PartView.{part_of, rule_watching};
+ghost use Rattle.object_model.specs.Stored.{captured, held_tree, is_rows, pairs_if, stored_pairs, stores};
+ghost use Rattle.object_model.specs.Undone.{cell_changed, change_undone};
+
+use crate::cells::{
+    buffer, capture_period, data_value, entries_in_use, execution_time, register_value, seen,
+    thresholds,
+};
+use crate::held::Held;
+use crate::object::Object;
+use crate::part::Part;
+use crate::undo::Change;
+use crate::writes::{write_data, write_monitor, write_profile, write_register, write_schedule};
+use class_control::monitor::{Monitor, Watch};
+use class_control::schedule::Schedule;
+use class_profile::profile::{Profile, ProfilePart};
+use class_profile::rows::Rows;
+use cosem_class::class::{Lent, Row};
+use cosem_class::data1::Data1;
+use cosem_class::register::Register;
+use cosem_data::cell::CellRef;
+use cosem_data::data::Data;
+use cosem_data::kind::Kind;
+use cosem_data::memory::Memory;
+use cosem_data::name::LogicalName;
+use std::alloc::Global;
+
+/// The cells of an object, by its class (IEC 62056-6-2, interface classes). A script table has none.
+#[derive(Drop)]
+pub(crate) enum Cells {
+    Data(Data1),
+    Register(Register),
+    ProfileGeneric(Profile),
+    RegisterMonitor(Monitor),
+    SingleActionSchedule(Schedule),
+}
+
+/// An object of a meter that has cells.
+#[derive(Drop)]
+pub(crate) struct Stored {
+    pub(crate) name: LogicalName,
+    pub(crate) cells: Cells,
+}
+
+impl Stored {
+    /// The object with its start values, if it has cells. The error is that memory was refused.
+    pub(crate) fn start(alloc: Global, object: &Object) -> Result<Option<Stored>, Memory>
+        ensures { IfOk result (λ stored. pairs_if stored ≡ start_of object.now.name object.now.part) }
+    {
+        let cells = match object.part() {
+            Part::Data(part) => Cells::Data(Data1 {
+                value: part.start.try_clone(alloc)?,
+            }),
+            Part::Register(part) => Cells::Register(Register {
+                value: part.start.try_clone(alloc)?,
+            }),
+            Part::ProfileGeneric(part) => Cells::ProfileGeneric(Profile {
+                buffer: Rows::new(alloc, part.profile_entries)?,
+                capture_period: part.capture_period,
+                entries_in_use: 0,
+            }),
+            Part::ScriptTable(_) => return Ok(None),
+            Part::RegisterMonitor(part) => Cells::RegisterMonitor(Monitor {
+                thresholds: part.start.try_clone(alloc)?,
+                seen: Data::NullData,
+            }),
+            Part::SingleActionSchedule(part) => Cells::SingleActionSchedule(Schedule {
+                times: part.start.try_clone(alloc)?,
+            }),
+        };
+        Ok(Some(Stored {
+            name: object.name(),
+            cells,
+        }))
+    }
+
+    /// A copy. The error is that memory was refused.
+    pub(crate) fn try_clone(&self, alloc: Global) -> Result<Stored, Memory>
+        ensures { IfOk result (λ copy. stored_pairs copy ≡ stored_pairs self.now) }
+    {
+        let cells = match &self.cells {
+            Cells::Data(object) => Cells::Data(Data1 {
+                value: object.value.try_clone(alloc)?,
+            }),
+            Cells::Register(object) => Cells::Register(Register {
+                value: object.value.try_clone(alloc)?,
+            }),
+            Cells::ProfileGeneric(object) => Cells::ProfileGeneric(Profile {
+                buffer: object.buffer.try_clone(alloc)?,
+                capture_period: object.capture_period,
+                entries_in_use: object.entries_in_use,
+            }),
+            Cells::RegisterMonitor(object) => Cells::RegisterMonitor(Monitor {
+                thresholds: object.thresholds.try_clone(alloc)?,
+                seen: object.seen.try_clone(alloc)?,
+            }),
+            Cells::SingleActionSchedule(object) => Cells::SingleActionSchedule(Schedule {
+                times: object.times.try_clone(alloc)?,
+            }),
+        };
+        Ok(Stored {
+            name: self.name,
+            cells,
+        })
+    }
+
+    /// Whether it is a cell of the object. It takes no memory.
+    pub(crate) fn has(&self, cell: &CellRef) -> bool
+        ensures { result ≡ stores cell.now self.now }
+    {
+        let name = self.name;
+        match &self.cells {
+            Cells::Data(_) => *cell == data_value(name),
+            Cells::Register(_) => *cell == register_value(name),
+            Cells::ProfileGeneric(_) => {
+                *cell == buffer(name)
+                    || *cell == capture_period(name)
+                    || *cell == entries_in_use(name)
+            }
+            Cells::RegisterMonitor(_) => { *cell == thresholds(name) || *cell == seen(name) }
+            Cells::SingleActionSchedule(_) => *cell == execution_time(name),
+        }
+    }
+
+    /// The value in a cell of the object. It takes no memory.
+    pub(crate) fn held(&self, cell: &CellRef) -> Held<'_>
+        requires { stores cell.now self.now ≡ true }
+        ensures value { held_tree result ≡ value (stored_pairs self.now) cell.now }
+        ensures rows { is_rows result ≡ true → cell.now.class_id ≡ 7 }
+    {
+        match &self.cells {
+            Cells::Data(object) => Held::Value(&object.value),
+            Cells::Register(object) => Held::Value(&object.value),
+            Cells::ProfileGeneric(object) => match cell.index {
+                Profile::BUFFER => Held::Rows(&object.buffer),
+                Profile::CAPTURE_PERIOD => Held::Number(object.capture_period),
+                _ => Held::Number(object.entries_in_use),
+            },
+            Cells::RegisterMonitor(object) => match cell.index {
+                Monitor::THRESHOLDS => Held::Value(&object.thresholds),
+                _ => Held::Value(&object.seen),
+            },
+            Cells::SingleActionSchedule(object) => Held::Value(&object.times),
+        }
+    }
+
+    /// Adds its cells behind others. The error is that memory was refused.
+    pub(crate) fn push_keys(&self, cells: &mut Vec<CellRef>) -> Result<(), Memory>
+        ensures { OnOk result (cells.new.items ≡ cells.old.items ++ keys (stored_pairs self.now)) }
+    {
+        let name = self.name;
+        match &self.cells {
+            Cells::Data(_) => cells.push(data_value(name))?,
+            Cells::Register(_) => cells.push(register_value(name))?,
+            Cells::ProfileGeneric(_) => {
+                cells.push(buffer(name))?;
+                cells.push(capture_period(name))?;
+                cells.push(entries_in_use(name))?;
+            }
+            Cells::RegisterMonitor(_) => {
+                cells.push(thresholds(name))?;
+                cells.push(seen(name))?;
+            }
+            Cells::SingleActionSchedule(_) => {
+                cells.push(execution_time(name))?;
+            }
+        }
+        Ok(())
+    }
+
+    /// Writes a value that may stand in the cell at this index, by the object's class, to which the plan lends this part and
+    /// the kind that a register monitor watches. It takes no memory.
+    pub(crate) fn write(&mut self, part: &Part, monitored: Kind, index: u8, given: Data) -> Change
+        requires fits { (rule : Rule) × (rule_watching monitored (part_of part.now) index ≡ Some rule) × (meets rule (tree given) ≡ true) }
+        requires stored { stores (cell (class_of (part_of part.now)) self.old.name index) self.old ≡ true }
+        ensures name { self.new.name ≡ self.old.name }
+        ensures put { stored_pairs self.new ≡ put (stored_pairs self.old) (cell (class_of (part_of part.now)) self.old.name index) (tree given) }
+        ensures cell { cell_changed self.old.name result ≡ cell (class_of (part_of part.now)) self.old.name index }
+        ensures before { change_undone self.old.name result (stored_pairs self.new) ≡ stored_pairs self.old }
+    {
+        let name = self.name;
+        match (&mut self.cells, part) {
+            (Cells::Data(object), Part::Data(part)) => {
+                Change::Data(write_data(object, Lent { name, part }, index, given))
+            }
+            (Cells::Register(object), Part::Register(part)) => {
+                Change::Register(write_register(object, Lent { name, part }, index, given))
+            }
+            (Cells::ProfileGeneric(object), Part::ProfileGeneric(part)) => {
+                Change::Period(write_profile(object, Lent { name, part }, index, given))
+            }
+            (Cells::RegisterMonitor(object), Part::RegisterMonitor(part)) => {
+                let kind = monitored;
+                Change::Thresholds(write_monitor(object, Watch { name, part, kind }, index, given))
+            }
+            (Cells::SingleActionSchedule(object), Part::SingleActionSchedule(part)) => {
+                Change::Times(write_schedule(object, Lent { name, part }, index, given))
+            }
+            _ => unreachable!(),
+        }
+    }
+
+    /// What a register monitor saw last. It takes no memory.
+    pub(crate) fn remember(&mut self, now: Data) -> Change
+        requires { stores (theory.seen self.old.name) self.old ≡ true }
+        ensures name { self.new.name ≡ self.old.name }
+        ensures put { stored_pairs self.new ≡ put (stored_pairs self.old) (theory.seen self.old.name) (tree now) }
+        ensures cell { cell_changed self.old.name result ≡ theory.seen self.old.name }
+        ensures before { change_undone self.old.name result (stored_pairs self.new) ≡ stored_pairs self.old }
+    {
+        match &mut self.cells {
+            Cells::RegisterMonitor(object) => Change::Seen(object.remember(now)),
+            _ => unreachable!(),
+        }
+    }
+
+    /// Captures a row into a profile, over what the plan fixes of it. The only error is that memory was refused, which a full
+    /// buffer doesn't ask for; the object is as it was then.
+    pub(crate) fn capture(
+        &mut self,
+        alloc: Global,
+        part: &ProfilePart,
+        row: Row,
+    ) -> Result<Change, Memory>
+        requires stored { stores (theory.buffer self.old.name) self.old ≡ true }
+        requires rows { is_buffer (length part.now.captured.items) part.now.profile_entries (value (stored_pairs self.old) (theory.buffer self.old.name)) ≡ true }
+        ensures name { self.new.name ≡ self.old.name }
+        ensures ok { OnOk result (stored_pairs self.new ≡ captured self.old.name part.now.profile_entries row (stored_pairs self.old)) }
+        ensures before { IfOk result (λ change. change_undone self.old.name change (stored_pairs self.new) ≡ stored_pairs self.old) }
+        ensures cell { IfOk result (λ change. cell_changed self.old.name change ≡ theory.buffer self.old.name) }
+        ensures err { OnErr result (stored_pairs self.new ≡ stored_pairs self.old) }
+        ensures full { length (elements (value (stored_pairs self.old) (theory.buffer self.old.name))) ≡ part.now.profile_entries → IsOk result }
+    {
+        match &mut self.cells {
+            Cells::ProfileGeneric(object) => {
+                Ok(Change::Captured(object.capture(alloc, part, row)?))
+            }
+            _ => unreachable!(),
+        }
+    }
+
+    /// Empties a profile. It takes no memory.
+    pub(crate) fn clear(&mut self) -> Change
+        requires { stores (theory.buffer self.old.name) self.old ≡ true }
+        ensures name { self.new.name ≡ self.old.name }
+        ensures pairs { stored_pairs self.new ≡ clear (stored_pairs self.old) self.old.name }
+        ensures cell { cell_changed self.old.name result ≡ theory.buffer self.old.name }
+        ensures before { change_undone self.old.name result (stored_pairs self.new) ≡ stored_pairs self.old }
+    {
+        match &mut self.cells {
+            Cells::ProfileGeneric(object) => Change::Cleared(object.clear()),
+            _ => unreachable!(),
+        }
+    }
+
+    /// Takes a change back. It takes no memory.
+    pub(crate) fn restore(&mut self, change: Change)
+        requires { stores (cell_changed self.old.name change) self.old ≡ true }
+        ensures name { self.new.name ≡ self.old.name }
+        ensures pairs { stored_pairs self.new ≡ change_undone self.old.name change (stored_pairs self.old) }
+    {
+        match (&mut self.cells, change) {
+            (Cells::Data(object), Change::Data(held)) => object.value = held,
+            (Cells::Register(object), Change::Register(held)) => object.value = held,
+            (Cells::ProfileGeneric(object), Change::Period(held)) => object.capture_period = held,
+            (Cells::ProfileGeneric(object), Change::Captured(captured)) => {
+                object.take_back(captured)
+            }
+            (Cells::ProfileGeneric(object), Change::Cleared(cleared)) => object.restore(cleared),
+            (Cells::RegisterMonitor(object), Change::Thresholds(held)) => object.thresholds = held,
+            (Cells::RegisterMonitor(object), Change::Seen(held)) => object.seen = held,
+            (Cells::SingleActionSchedule(object), Change::Times(held)) => object.times = held,
+            _ => unreachable!(),
+        }
+    }
+}

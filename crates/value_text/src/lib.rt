@@ -1,0 +1,5 @@
+//! Names, bytes and values as texts: words of lines and texts of configurations (own profile).
+#![tactic(auto)]
+
+pub mod name;
+pub mod value;
