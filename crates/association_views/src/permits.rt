@@ -4,7 +4,7 @@ ghost use Rattle.std.specs.Prelude.{◌≡◌, ℕ, ℤ, pos, int_le, nat_le, is
 ghost use Rattle.cosem_data.specs.Cells.{cell};
 ghost use Rattle.meter_theory.specs.Access.{is_success};
 ghost use Rattle.meter_theory.specs.Rights as rights;
-ghost use Rattle.meter_theory.specs.Rights.{cell_of, is_index, method_of};
+ghost use Rattle.meter_theory.specs.Rights.{is_index};
 ghost use Rattle.meter_theory.specs.Plan.{interface_at, object_at, rule_of};
 ghost use Rattle.object_model.specs.ArgumentView.{argument_of, selection_of};
 ghost use Rattle.object_model.specs.PartView.{part_of};
@@ -13,37 +13,13 @@ ghost use Rattle.association_views.specs.Permits.{permitted, value_code};
 use crate::selection::descriptor_in;
 use class_control::script_table::{ScriptTable, knows_script};
 use cosem_class::class::InterfaceClass;
-use cosem_data::cell::{CellRef, MethodRef};
-use cosem_data::data::Data;
-use cosem_data::name::LogicalName;
+use cosem_data::cell::CellRef;
 use meter_theory::access::AccessCode;
+use meter_theory::refs::Descriptor;
 use object_model::argument::Argument;
 use object_model::instance::Instance;
 use object_model::part::Part;
 use object_model::plan::Plan;
-
-/// The attribute that a request names; an index below 0 names what its absolute value would.
-pub fn attribute_cell(class_id: u16, name: &LogicalName, index: i8) -> CellRef
-    ensures { result ≡ cell_of (record { class_id = class_id; name = name.now; index = index }) }
-{
-    CellRef {
-        class_id,
-        name: *name,
-        index: index.unsigned_abs(),
-    }
-}
-
-/// The method that a request names; an index below 0 names what its absolute value would.
-pub fn called_method(class_id: u16, name: &LogicalName, index: i8) -> MethodRef
-    ensures { result ≡ method_of (record { class_id = class_id; name = name.now; index = index }) }
-{
-    let index = index.unsigned_abs();
-    MethodRef {
-        class_id,
-        name: *name,
-        index,
-    }
-}
 
 /// Whether an index is one from 1 to the highest.
 fn is_index(index: i8, highest: u8) -> bool
@@ -63,21 +39,21 @@ fn class_is(instance: &Instance, class_id: u16) -> bool
 }
 
 /// Whether the class of what stands at the name has an attribute with this index.
-fn has_attribute(instance: &Instance, index: i8) -> bool
-    ensures { result ≡ rights.has_attribute index (interface_at instance.now.plan instance.now.name) }
+fn has_attribute(instance: &Instance, descriptor: &Descriptor) -> bool
+    ensures { result ≡ rights.has_attribute descriptor.now.index (interface_at instance.now.plan instance.now.name) }
 {
     match instance.interface() {
-        Some(interface) => is_index(index, interface.attributes),
+        Some(interface) => is_index(descriptor.index, interface.attributes),
         None => false,
     }
 }
 
 /// Whether the class of what stands at the name has a method with this index.
-fn has_method(instance: &Instance, index: i8) -> bool
-    ensures { result ≡ rights.has_method index (interface_at instance.now.plan instance.now.name) }
+fn has_method(instance: &Instance, descriptor: &Descriptor) -> bool
+    ensures { result ≡ rights.has_method descriptor.now.index (interface_at instance.now.plan instance.now.name) }
 {
     match instance.interface() {
-        Some(interface) => is_index(index, interface.methods),
+        Some(interface) => is_index(descriptor.index, interface.methods),
         None => false,
     }
 }
@@ -93,8 +69,8 @@ fn takes_selection(cell: &CellRef, selection: &Option<(u8, Argument)>) -> bool
 }
 
 /// The parameter of a selector is an entry descriptor.
-fn right_selection(selection: &Option<(u8, Argument)>) -> bool
-    ensures { result ≡ rights.right_selection (selection_of selection.now) }
+fn valid_selection(selection: &Option<(u8, Argument)>) -> bool
+    ensures { result ≡ rights.valid_selection (selection_of selection.now) }
 {
     match selection {
         None => true,
@@ -102,89 +78,117 @@ fn right_selection(selection: &Option<(u8, Argument)>) -> bool
     }
 }
 
-/// The code of a GET.
-fn get_answer(
+/// Whether the client at this place may read an attribute by this selection (IEC 62056-5-3, GET): the first place that
+/// applies gives the code. `ObjectUndefined`: the name isn't in the client's view, or the class has no such index;
+/// `ObjectClassInconsistent`: another class; `ReadWriteDenied`: no right; `ScopeOfAccessViolated`: a selector that the
+/// attribute doesn't take; `TypeUnmatched`: its parameter is no entry descriptor.
+pub fn permit_get(
+    plan: &Plan,
+    client: u8,
+    descriptor: &Descriptor,
+    selection: &Option<(u8, Argument)>,
+) -> Result<(), AccessCode>
+    ensures { result ≡ permitted (rights.get_answer plan.now client descriptor.now (selection_of selection.now)) }
+{
+    permit_get_at(
+        &plan.instance(&descriptor.name),
+        client,
+        descriptor,
+        selection,
+    )
+}
+
+/// As `permit_get`, of what was looked up at the name.
+pub fn permit_get_at(
     instance: &Instance,
     client: u8,
-    class_id: u16,
-    index: i8,
+    descriptor: &Descriptor,
     selection: &Option<(u8, Argument)>,
-) -> AccessCode
-    ensures { result ≡ rights.get_answer instance.now.plan client (record { class_id = class_id; name = instance.now.name; index = index }) (selection_of selection.now) }
+) -> Result<(), AccessCode>
+    requires { descriptor.now.name ≡ instance.now.name }
+    ensures { result ≡ permitted (rights.get_answer instance.now.plan client descriptor.now (selection_of selection.now)) }
 {
-    let cell = attribute_cell(class_id, &instance.name(), index);
+    let cell = descriptor.attribute();
     if !instance.in_view(client) {
-        return AccessCode::ObjectUndefined;
+        return Err(AccessCode::ObjectUndefined);
     }
-    if !class_is(instance, class_id) {
-        return AccessCode::ObjectClassInconsistent;
+    if !class_is(instance, descriptor.class_id) {
+        return Err(AccessCode::ObjectClassInconsistent);
     }
-    if !has_attribute(instance, index) {
-        return AccessCode::ObjectUndefined;
+    if !has_attribute(instance, descriptor) {
+        return Err(AccessCode::ObjectUndefined);
     }
     if !instance.may_read(client, cell.index) {
-        return AccessCode::ReadWriteDenied;
+        return Err(AccessCode::ReadWriteDenied);
     }
     if !takes_selection(&cell, selection) {
-        return AccessCode::ScopeOfAccessViolated;
+        return Err(AccessCode::ScopeOfAccessViolated);
     }
-    if !right_selection(selection) {
-        return AccessCode::TypeUnmatched;
+    if !valid_selection(selection) {
+        return Err(AccessCode::TypeUnmatched);
     }
-    AccessCode::Success
+    Ok(())
 }
 
-/// The code of a SET by its value alone.
-fn value_answer(instance: &Instance, class_id: u16, index: u8, value: &Argument) -> AccessCode
-    ensures { result ≡ value_code (rule_of instance.now.plan (cell class_id instance.now.name index)) (argument_of value.now) }
-{
-    match value {
-        Argument::Value(value) => match instance.rule(class_id, index, value) {
-            Ok(()) => AccessCode::Success,
-            Err(code) => code,
-        },
-        _ => AccessCode::TypeUnmatched,
-    }
-}
-
-/// The code of a SET.
-fn set_answer(
-    instance: &Instance,
+/// Whether the client at this place may set an attribute to this value (IEC 62056-5-3, SET): as `permit_get`, but
+/// `ScopeOfAccessViolated` for any selector, `TypeUnmatched` for a value that is unreadable or of another tag, and
+/// `OtherReason` for the right tag against the rest of the cell's rule.
+pub fn permit_set(
+    plan: &Plan,
     client: u8,
-    class_id: u16,
-    index: i8,
+    descriptor: &Descriptor,
     selected: bool,
     value: &Argument,
-) -> AccessCode
-    ensures { result ≡ rights.set_answer instance.now.plan client (record { class_id = class_id; name = instance.now.name; index = index }) selected (argument_of value.now) }
+) -> Result<(), AccessCode>
+    ensures { result ≡ permitted (rights.set_answer plan.now client descriptor.now selected (argument_of value.now)) }
 {
-    let attribute = index.unsigned_abs();
-    if !instance.in_view(client) {
-        return AccessCode::ObjectUndefined;
-    }
-    if !class_is(instance, class_id) {
-        return AccessCode::ObjectClassInconsistent;
-    }
-    if !has_attribute(instance, index) {
-        return AccessCode::ObjectUndefined;
-    }
-    if !instance.may_set(client, attribute) {
-        return AccessCode::ReadWriteDenied;
-    }
-    if selected {
-        return AccessCode::ScopeOfAccessViolated;
-    }
-    value_answer(instance, class_id, attribute, value)
+    permit_set_at(
+        &plan.instance(&descriptor.name),
+        client,
+        descriptor,
+        selected,
+        value,
+    )
 }
 
-/// The number of a script in the parameter of execute, a long-unsigned; None for any other (IEC 62056-6-2, Script table,
-/// execute). It takes no memory.
-pub fn script_number(argument: &Argument) -> Option<u16>
-    ensures { result ≡ rights.script_number (argument_of argument.now) }
+/// As `permit_set`, of what was looked up at the name.
+pub fn permit_set_at(
+    instance: &Instance,
+    client: u8,
+    descriptor: &Descriptor,
+    selected: bool,
+    value: &Argument,
+) -> Result<(), AccessCode>
+    requires { descriptor.now.name ≡ instance.now.name }
+    ensures { result ≡ permitted (rights.set_answer instance.now.plan client descriptor.now selected (argument_of value.now)) }
 {
-    match argument {
-        Argument::Value(Data::LongUnsigned(id)) => Some(*id),
-        _ => None,
+    let cell = descriptor.attribute();
+    if !instance.in_view(client) {
+        return Err(AccessCode::ObjectUndefined);
+    }
+    if !class_is(instance, descriptor.class_id) {
+        return Err(AccessCode::ObjectClassInconsistent);
+    }
+    if !has_attribute(instance, descriptor) {
+        return Err(AccessCode::ObjectUndefined);
+    }
+    if !instance.may_set(client, cell.index) {
+        return Err(AccessCode::ReadWriteDenied);
+    }
+    if selected {
+        return Err(AccessCode::ScopeOfAccessViolated);
+    }
+    permit_value(instance, &cell, value)
+}
+
+/// Whether the value may stand in the cell.
+fn permit_value(instance: &Instance, cell: &CellRef, value: &Argument) -> Result<(), AccessCode>
+    requires { cell.now.name ≡ instance.now.name }
+    ensures { result ≡ permitted (value_code (rule_of instance.now.plan cell.now) (argument_of value.now)) }
+{
+    match value {
+        Argument::Value(value) => instance.rule(cell.class_id, cell.index, value),
+        _ => Err(AccessCode::TypeUnmatched),
     }
 }
 
@@ -199,11 +203,11 @@ fn executes(instance: &Instance) -> bool
 }
 
 /// The parameter of execute is a script's number; that of reset and capture is absent or any readable value (own profile).
-fn right_parameter(instance: &Instance, argument: &Argument) -> bool
-    ensures { result ≡ rights.right_parameter (object_at instance.now.plan instance.now.name) (argument_of argument.now) }
+fn valid_parameter(instance: &Instance, argument: &Argument) -> bool
+    ensures { result ≡ rights.valid_parameter (object_at instance.now.plan instance.now.name) (argument_of argument.now) }
 {
     if executes(instance) {
-        script_number(argument).is_some()
+        argument.script_number().is_some()
     } else {
         !matches!(argument, Argument::Unreadable)
     }
@@ -223,119 +227,10 @@ fn knows(part: &Part, id: u16) -> bool
 fn known_script(instance: &Instance, argument: &Argument) -> bool
     ensures { result ≡ rights.known_script (object_at instance.now.plan instance.now.name) (rights.script_number (argument_of argument.now)) }
 {
-    match (instance.object(), script_number(argument)) {
+    match (instance.object(), argument.script_number()) {
         (Some(object), Some(id)) => knows(object.part(), id),
         _ => true,
     }
-}
-
-/// The code of an ACTION.
-fn act_answer(
-    instance: &Instance,
-    client: u8,
-    class_id: u16,
-    index: i8,
-    argument: &Argument,
-) -> AccessCode
-    ensures { result ≡ rights.act_answer instance.now.plan client (record { class_id = class_id; name = instance.now.name; index = index }) (argument_of argument.now) }
-{
-    if !instance.in_view(client) {
-        return AccessCode::ObjectUndefined;
-    }
-    if !class_is(instance, class_id) {
-        return AccessCode::ObjectClassInconsistent;
-    }
-    if !has_method(instance, index) {
-        return AccessCode::ObjectUndefined;
-    }
-    if !instance.may_act(client, index.unsigned_abs()) {
-        return AccessCode::ReadWriteDenied;
-    }
-    if !right_parameter(instance, argument) {
-        return AccessCode::TypeUnmatched;
-    }
-    if !known_script(instance, argument) {
-        return AccessCode::OtherReason;
-    }
-    AccessCode::Success
-}
-
-/// A code as a permit.
-fn permit_of(code: AccessCode) -> Result<(), AccessCode>
-    ensures { result ≡ permitted code }
-{
-    match code {
-        AccessCode::Success => Ok(()),
-        code => Err(code),
-    }
-}
-
-/// Whether the client at this place may read an attribute by this selection (IEC 62056-5-3, GET): the first place that
-/// applies gives the code. `ObjectUndefined`: the name isn't in the client's view, or the class has no such index;
-/// `ObjectClassInconsistent`: another class; `ReadWriteDenied`: no right; `ScopeOfAccessViolated`: a selector that the
-/// attribute doesn't take; `TypeUnmatched`: its parameter is no entry descriptor.
-pub fn permit_get(
-    plan: &Plan,
-    client: u8,
-    class_id: u16,
-    name: &LogicalName,
-    index: i8,
-    selection: &Option<(u8, Argument)>,
-) -> Result<(), AccessCode>
-    ensures { result ≡ permitted (rights.get_answer plan.now client (record { class_id = class_id; name = name.now; index = index }) (selection_of selection.now)) }
-{
-    permit_get_at(&plan.instance(name), client, class_id, index, selection)
-}
-
-/// As `permit_get`, of what was looked up at the name.
-pub fn permit_get_at(
-    instance: &Instance,
-    client: u8,
-    class_id: u16,
-    index: i8,
-    selection: &Option<(u8, Argument)>,
-) -> Result<(), AccessCode>
-    ensures { result ≡ permitted (rights.get_answer instance.now.plan client (record { class_id = class_id; name = instance.now.name; index = index }) (selection_of selection.now)) }
-{
-    permit_of(get_answer(instance, client, class_id, index, selection))
-}
-
-/// Whether the client at this place may set an attribute to this value (IEC 62056-5-3, SET): as `permit_get`, but
-/// `ScopeOfAccessViolated` for any selector, `TypeUnmatched` for a value that is unreadable or of another tag, and
-/// `OtherReason` for the right tag against the rest of the cell's rule.
-pub fn permit_set(
-    plan: &Plan,
-    client: u8,
-    class_id: u16,
-    name: &LogicalName,
-    index: i8,
-    selected: bool,
-    value: &Argument,
-) -> Result<(), AccessCode>
-    ensures { result ≡ permitted (rights.set_answer plan.now client (record { class_id = class_id; name = name.now; index = index }) selected (argument_of value.now)) }
-{
-    permit_set_at(
-        &plan.instance(name),
-        client,
-        class_id,
-        index,
-        selected,
-        value,
-    )
-}
-
-/// As `permit_set`, of what was looked up at the name.
-pub fn permit_set_at(
-    instance: &Instance,
-    client: u8,
-    class_id: u16,
-    index: i8,
-    selected: bool,
-    value: &Argument,
-) -> Result<(), AccessCode>
-    ensures { result ≡ permitted (rights.set_answer instance.now.plan client (record { class_id = class_id; name = instance.now.name; index = index }) selected (argument_of value.now)) }
-{
-    permit_of(set_answer(instance, client, class_id, index, selected, value))
 }
 
 /// Whether the client at this place may call a method with this argument (IEC 62056-5-3, ACTION): the first place that
@@ -346,25 +241,47 @@ pub fn permit_set_at(
 pub fn permit_action(
     plan: &Plan,
     client: u8,
-    class_id: u16,
-    name: &LogicalName,
-    index: i8,
+    descriptor: &Descriptor,
     argument: &Argument,
 ) -> Result<(), AccessCode>
-    ensures { result ≡ permitted (rights.act_answer plan.now client (record { class_id = class_id; name = name.now; index = index }) (argument_of argument.now)) }
+    ensures { result ≡ permitted (rights.act_answer plan.now client descriptor.now (argument_of argument.now)) }
 {
-    permit_action_at(&plan.instance(name), client, class_id, index, argument)
+    permit_action_at(
+        &plan.instance(&descriptor.name),
+        client,
+        descriptor,
+        argument,
+    )
 }
 
 /// As `permit_action`, of what was looked up at the name.
 pub fn permit_action_at(
     instance: &Instance,
     client: u8,
-    class_id: u16,
-    index: i8,
+    descriptor: &Descriptor,
     argument: &Argument,
 ) -> Result<(), AccessCode>
-    ensures { result ≡ permitted (rights.act_answer instance.now.plan client (record { class_id = class_id; name = instance.now.name; index = index }) (argument_of argument.now)) }
+    requires { descriptor.now.name ≡ instance.now.name }
+    ensures { result ≡ permitted (rights.act_answer instance.now.plan client descriptor.now (argument_of argument.now)) }
 {
-    permit_of(act_answer(instance, client, class_id, index, argument))
+    let method = descriptor.method();
+    if !instance.in_view(client) {
+        return Err(AccessCode::ObjectUndefined);
+    }
+    if !class_is(instance, descriptor.class_id) {
+        return Err(AccessCode::ObjectClassInconsistent);
+    }
+    if !has_method(instance, descriptor) {
+        return Err(AccessCode::ObjectUndefined);
+    }
+    if !instance.may_act(client, method.index) {
+        return Err(AccessCode::ReadWriteDenied);
+    }
+    if !valid_parameter(instance, argument) {
+        return Err(AccessCode::TypeUnmatched);
+    }
+    if !known_script(instance, argument) {
+        return Err(AccessCode::OtherReason);
+    }
+    Ok(())
 }

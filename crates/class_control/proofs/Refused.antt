@@ -2,7 +2,7 @@
 use Rattle.std.proofs.Common.{◌≡◌, Bool, true, false, Some, None, Ok, Err, refl}
 use Rattle.std.specs.Prelude.{if◌then◌else◌, Option}
 use Rattle.cosem_data.specs.Tree.{Tree}
-use Rattle.meter_theory.specs.Value.{Rule, right_tag, meets}
+use Rattle.meter_theory.specs.Value.{Rule, valid_tag, meets}
 use Rattle.cosem_class.specs.Objects.{FaultAs}
 use Rattle.cosem_class.specs.Judged.{judged, answer_of, write_fault}
 use Rattle.cosem_class.specs.declared.class.ClassFault.{ClassFault}
@@ -21,7 +21,7 @@ accepted_as_judged rule v false named is none = cc
 -- what is judged is refused for its kind or its rule
 pub refused_as_judged : (rule : Rule) (v : Tree) (e : ClassFault) (settable named : Bool) → settable ≡ true → Err e ≡ answer_of (judged rule v) →
     FaultAs e (write_fault settable named (judged rule v))
-refused_as_judged rule v e settable named is h = at (right_tag rule v) (meets rule v) e settable is h
+refused_as_judged rule v e settable named is h = at (valid_tag rule v) (meets rule v) e settable is h
   where
     at : (tag fits : Bool) (e : ClassFault) (settable : Bool) → settable ≡ true → Err e ≡ answer_of (if tag then (if fits then None else Some faults.Rule) else Some faults.Kind) →
         FaultAs e (write_fault settable named (if tag then (if fits then None else Some faults.Rule) else Some faults.Kind))
@@ -35,7 +35,7 @@ refused_as_judged rule v e settable named is h = at (right_tag rule v) (meets ru
 
 -- and never for want of memory
 pub judged_without_memory : (rule : Rule) (v : Tree) (e : ClassFault) → Err e ≡ answer_of (judged rule v) → e ≡ faults.Memory → ⊥
-judged_without_memory rule v e h = at (right_tag rule v) (meets rule v) e h
+judged_without_memory rule v e h = at (valid_tag rule v) (meets rule v) e h
   where
     at : (tag fits : Bool) (e : ClassFault) → Err e ≡ answer_of (if tag then (if fits then None else Some faults.Rule) else Some faults.Kind) → e ≡ faults.Memory → ⊥
     at true true e h m = cc

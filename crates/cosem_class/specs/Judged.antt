@@ -2,7 +2,7 @@
 use Rattle.std.specs.Prelude.{◌≡◌, Bool, true, false, ◌&&◌, Option, Some, None, Result, Ok, Err, if◌then◌else◌}
 use Rattle.std.proofs.Common.{refl}
 use Rattle.cosem_data.specs.Tree.{Tree}
-use Rattle.meter_theory.specs.Value.{Rule, right_tag, right_elements, is_within_limits, meets, elements}
+use Rattle.meter_theory.specs.Value.{Rule, valid_tag, valid_elements, is_within_limits, meets, elements}
 use Rattle.cosem_class.specs.declared.class.ClassFault.{ClassFault}
 use Rattle.cosem_class.specs.declared.class.ClassFault.TheVariants as faults
 use Rattle.meter_theory.specs.declared.access.AccessCode.{AccessCode}
@@ -12,7 +12,7 @@ use Rattle.meter_theory.specs.declared.access.AccessCode.TheVariants as codes
 -- profile).
 abbrev pub judged : Rule → Tree → Option ClassFault
 judged rule value =
-    if right_tag rule value then (if meets rule value then None else Some faults.Rule) else Some faults.Kind
+    if valid_tag rule value then (if meets rule value then None else Some faults.Rule) else Some faults.Kind
 
 -- no fault as an answer
 abbrev pub answer_of : Option ClassFault → Result (Unit {0}) ClassFault
@@ -21,7 +21,7 @@ answer_of (Some fault) = Err fault
 
 -- a value that is judged without fault meets the rule
 pub meets_of_judged : (rule : Rule) (value : Tree) → judged rule value ≡ None → meets rule value ≡ true
-meets_of_judged rule value h = at (right_tag rule value) (meets rule value) h
+meets_of_judged rule value h = at (valid_tag rule value) (meets rule value) h
   where
     at : (tag fits : Bool) → (if tag then (if fits then None else Some faults.Rule) else Some faults.Kind) ≡ None → fits ≡ true
     at true true e = refl
@@ -30,7 +30,7 @@ meets_of_judged rule value h = at (right_tag rule value) (meets rule value) h
 
 -- and the other way round
 pub judged_of_meets : (rule : Rule) (value : Tree) → meets rule value ≡ true → judged rule value ≡ None
-judged_of_meets rule value h = at (right_tag rule value) (is_within_limits value && right_elements rule (elements value)) h
+judged_of_meets rule value h = at (valid_tag rule value) (is_within_limits value && valid_elements rule (elements value)) h
   where
     at : (tag rest : Bool) → (tag && rest) ≡ true → (if tag then (if tag && rest then None else Some faults.Rule) else Some faults.Kind) ≡ None
     at true true e = refl
@@ -59,7 +59,7 @@ fault_of_accepted false false fault accepted = cc
 abbrev pub rule_answer : Option Rule → Tree → Result (Unit {0}) AccessCode
 rule_answer None value = Err codes.TypeUnmatched
 rule_answer (Some rule) value =
-    if right_tag rule value then (if meets rule value then Ok tt else Err codes.OtherReason) else Err codes.TypeUnmatched
+    if valid_tag rule value then (if meets rule value then Ok tt else Err codes.OtherReason) else Err codes.TypeUnmatched
 
 -- the code that tells of a class's fault (IEC 62056-5-3, Data-Access-Result)
 abbrev pub access_of : ClassFault → AccessCode
@@ -75,7 +75,7 @@ coded_answer (Err fault) = Err (access_of fault)
 
 -- a value that is judged has the code of its rule
 pub coded_answer-judged : (rule : Rule) (value : Tree) → coded_answer (answer_of (judged rule value)) ≡ rule_answer (Some rule) value
-coded_answer-judged rule value = at (right_tag rule value) (meets rule value)
+coded_answer-judged rule value = at (valid_tag rule value) (meets rule value)
   where
     at : (tag fits : Bool) → coded_answer (answer_of (if tag then (if fits then None else Some faults.Rule) else Some faults.Kind))
         ≡ (if tag then (if fits then Ok tt else Err codes.OtherReason) else Err codes.TypeUnmatched)

@@ -1,9 +1,14 @@
 -- What the permits say of a reply and of the state after it.
 use Rattle.std.specs.Prelude.{◌≡◌, Bool, true, false, not, cond, ℕ, ℤ, List, [], length, ◌==◌, Option, Some, None, Ok, Err}
-use Rattle.std.proofs.lemmas.Bool.{eqb-true}
+use Rattle.std.proofs.lemmas.Bool.{eqb-true, false≢true, and_parts}
+use Rattle.std.specs.Prelude.{is_some, unsigned_abs}
+use Rattle.std.specs.Option.{option_map}
+use Rattle.std.specs.List.{list_any}
+use Rattle.cosem_data.specs.Cells.{cell, same_cell, same_name}
+use Rattle.cosem_data.proofs.Same.{same_cell-refl}
 use Rattle.std.proofs.lemmas.List.{nil_from_length}
-use Rattle.std.proofs.Common.{refl, sym, ap, ◌∙◌, inl, inr}
-use Rattle.cosem_data.specs.Tree.{Tree}
+use Rattle.std.proofs.Common.{refl, sym, ap, subst, ◌∙◌, inl, inr}
+use Rattle.cosem_data.specs.Tree.{Tree, array, no_trees}
 use Rattle.cosem_data.specs.declared.cell.CellRef.{CellRef}
 use Rattle.cosem_data.specs.declared.cell.MethodRef.{MethodRef}
 use Rattle.cosem_data.specs.declared.name.LogicalName.{LogicalName}
@@ -11,23 +16,21 @@ use Rattle.meter_theory.specs.declared.access.AccessCode.{AccessCode}
 use Rattle.meter_theory.specs.declared.access.AccessCode.TheVariants as codes
 use Rattle.meter_theory.specs.Access.{is_success}
 use Rattle.meter_theory.specs.State.{State}
-use Rattle.meter_theory.specs.Plan.{Plan, rule_of}
+use Rattle.meter_theory.specs.Lists.{IsIn}
+use Rattle.meter_theory.specs.Plan.{Plan, Object, Part, ProfileGeneric, association, association_name, buffer, cells, interface_at, interface_of, is_cell, object_at, rule_of, start_of}
 use Rattle.meter_theory.specs.Value.{Rule}
-use Rattle.meter_theory.specs.Rights.{Argument, Given, Descriptor, Selection, cell_of, method_of, get_answer, set_answer, act_answer, set_places, meets_rule}
+use Rattle.meter_theory.specs.Rights.{Argument, Given, Descriptor, Selection, cell_of, class_is, method_of, get_answer, get_places, set_answer, act_answer, set_places, meets_rule, takes_selection}
 use Rattle.meter_theory.specs.Steps.{Step, Get, Set, Act, Input, CaptureAt, Evaluate, ScheduleAt, client_of, effects, effects_of, given_value, method_effects, next}
 use Rattle.meter_theory.specs.Replies.{Value, Code, Quiet, attribute, selected, reply_to}
 use Rattle.meter_theory.specs.States.{MayStand}
-use Rattle.meter_theory.proofs.Rights.{place_passed}
+use Rattle.meter_theory.proofs.Lists.{none_in}
+use Rattle.meter_theory.proofs.Rights.{place_passed, cell_of_found, get_class}
 use Rattle.cosem_data.specs.declared.data.Data.{Data}
 use Rattle.object_model.specs.declared.argument.Argument as code
 use Rattle.object_model.specs.declared.argument.Argument.TheVariants as arguments
 use Rattle.object_model.specs.ArgumentView.{argument_of}
 use Rattle.association_views.specs.Permits.{permitted}
 use Rattle.meter_core.specs.Memory.{needs_no_memory}
-
--- a descriptor by its parts
-abbrev pub named : ℕ → LogicalName → ℤ → Descriptor
-named class_id name index = record { class_id = class_id; name = name; index = index }
 
 -- no effects are those of a list of no length
 no_effects : {A : Type 0} (xs : List A) → (length xs == 0) ≡ true → xs ≡ []
@@ -64,6 +67,10 @@ not_refused codes.TypeUnmatched unit h n = cc
 not_refused codes.ScopeOfAccessViolated unit h n = cc
 not_refused codes.OtherReason unit h n = cc
 
+not-false : (b : Bool) → not b ≡ false → b ≡ true
+not-false true h = refl
+not-false false h = cc
+
 -- GET
 
 pub granted_get_takes_memory : {b : Bool} (P : Plan) (s : State) (c : ℕ) (d : Descriptor) (selection : Option Selection) (unit : Unit {0}) → Ok unit ≡ permitted (get_answer P c d selection)
@@ -81,6 +88,41 @@ pub granted_get : (P : Plan) (s : State) (c : ℕ) (d : Descriptor) (selection :
 granted_get P s c d selection v unit h is =
     ap Value is
     ∙ ap (λ code. cond (is_success code) (Value (selected selection (attribute P s c (cell_of d)))) (Code code)) (sym (granted (get_answer P c d selection) unit h))
+
+-- the class of what stands at a name says which object it is: a profile has a buffer
+buffer_in : (P : Plan) (n : LogicalName) → class_is 7 (interface_at P n) ≡ true → IsIn (cells P) (buffer n)
+buffer_in P n h = at (same_name n association_name) (object_at P n) refl h
+  where
+    of_part : (o : Object) → object_at P n ≡ Some o → (part : Part) → o.part ≡ part → class_is 7 (Some (interface_of part)) ≡ true → IsIn (cells P) (buffer n)
+    of_part o there (ProfileGeneric captured period entries) is h =
+        cell_of_found P n o there (buffer n) (array no_trees) (subst (λ p. IsIn (start_of n p) (buffer n, array no_trees)) (sym is) (inl refl))
+    of_part o there _ is h = cc
+
+    at : (b : Bool) (o : Option Object) → object_at P n ≡ o → class_is 7 (cond b (Some association) (option_map (λ z. interface_of z.part) o)) ≡ true → IsIn (cells P) (buffer n)
+    at true o there h = cc
+    at false None there h = cc
+    at false (Some o) there h = of_part o there o.part refl h
+
+in_cells : (xs : List CellRef) (x : CellRef) → IsIn xs x → list_any (same_cell x) xs ≡ true
+in_cells xs x i = at (list_any (same_cell x) xs) refl
+  where
+    at : (b : Bool) → list_any (same_cell x) xs ≡ b → list_any (same_cell x) xs ≡ true
+    at true is = is
+    at false is = absurd (false≢true (sym (none_in (same_cell x) xs x is i) ∙ same_cell-refl x))
+
+-- a granted GET by a selector is of a buffer that is a cell
+pub selects_buffer : (P : Plan) (c : ℕ) (d : Descriptor) (selection : Option Selection) (unit : Unit {0}) → Ok unit ≡ permitted (get_answer P c d selection) → is_some selection ≡ true
+    → ((cell_of d).class_id ≡ 7) × ((cell_of d).index ≡ 2) × (is_cell P (cell_of d) ≡ true)
+selects_buffer P c d None unit h some = cc
+selects_buffer P c d (Some s) unit h some =
+    let success = ap is_success (granted (get_answer P c d (Some s)) unit h) in
+    let takes = not-false _ (place_passed (get_places P c d (Some s)) (not (takes_selection (cell_of d) (Some s)), codes.ScopeOfAccessViolated) (inr (inr (inr (inr (inl refl))))) refl success) in
+    let class = and_parts _ _ takes in
+    let class_is_7 : d.class_id ≡ 7 = eqb-true d.class_id 7 class.0 in
+    let index_is_2 = eqb-true (unsigned_abs d.index) 2 (and_parts _ _ class.1).0 in
+    let there = buffer_in P d.name (subst (λ k. class_is k (interface_at P d.name) ≡ true) class_is_7 (get_class P c d (Some s) success)) in
+    (class_is_7, index_is_2, ap (λ k. list_any (same_cell (cell k d.name (unsigned_abs d.index))) (cells P)) class_is_7
+    ∙ (ap (λ i. list_any (same_cell (cell 7 d.name i)) (cells P)) index_is_2 ∙ in_cells (cells P) (buffer d.name) there))
 
 -- SET
 
@@ -151,10 +193,6 @@ own_memory P s (Input x v) own n = no_effects (effects_of P s (Input x v)) n
 own_memory P s (CaptureAt m t) own n = no_effects (effects_of P s (CaptureAt m t)) n
 own_memory P s (Evaluate m) own n = no_effects (effects_of P s (Evaluate m)) n
 own_memory P s (ScheduleAt m t) own n = no_effects (effects_of P s (ScheduleAt m t)) n
-
-not-false : (b : Bool) → not b ≡ false → b ≡ true
-not-false true h = refl
-not-false false h = cc
 
 stands : (P : Plan) (x : CellRef) (v : Tree) (r : Option Rule) → rule_of P x ≡ r → meets_rule r (Given v) ≡ true → MayStand P x v
 stands P x v None is h = cc

@@ -7,20 +7,28 @@ use Rattle.meter_core.specs.declared.step.Step.{Step}
 use Rattle.meter_core.specs.declared.step.Step.TheVariants as kinds
 use Rattle.meter_core.specs.declared.reply.Reply.{Reply}
 use Rattle.meter_core.specs.declared.reply.Reply.TheVariants as replies
+use Rattle.meter_core.specs.declared.shown.Shown.{Shown}
+use Rattle.meter_core.specs.declared.shown.Shown.TheVariants as shown
 
+-- the step of the theory that a step is: own profile
 abbrev pub step_of : Step → steps.Step
-step_of (kinds.Get client class_id name index selection) =
-    steps.Get client (record { class_id = class_id; name = name; index = index }) (selection_of selection)
-step_of (kinds.Set client class_id name index selected value) =
-    steps.Set client (record { class_id = class_id; name = name; index = index }) selected (argument_of value)
-step_of (kinds.Act client class_id name index argument) =
-    steps.Act client (record { class_id = class_id; name = name; index = index }) (argument_of argument)
+step_of (kinds.Get client attribute selection) = steps.Get client attribute (selection_of selection)
+step_of (kinds.Set client attribute selected value) = steps.Set client attribute selected (argument_of value)
+step_of (kinds.Act client method argument) = steps.Act client method (argument_of argument)
 step_of (kinds.Input cell value) = steps.Input cell (tree value)
 step_of (kinds.CaptureAt profile moment) = steps.CaptureAt profile moment
 step_of (kinds.Evaluate monitor) = steps.Evaluate monitor
 step_of (kinds.ScheduleAt schedule moment) = steps.ScheduleAt schedule moment
 
+-- the reply of the theory that a reply is: own profile
 abbrev pub reply_of : Reply → answers.Reply
 reply_of (replies.Value value) = answers.Value (tree value)
 reply_of (replies.Code code) = answers.Code code
 reply_of replies.Quiet = answers.Quiet
+
+-- the reply that a shown answer is: own profile
+abbrev pub shown_of : Shown → answers.Reply
+shown_of (shown.Value value) = answers.Value (tree value.now)
+shown_of (shown.Entries entries) = answers.Value entries
+shown_of (shown.Made value) = answers.Value (tree value)
+shown_of (shown.Code code) = answers.Code code

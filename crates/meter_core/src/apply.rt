@@ -4,30 +4,27 @@ ghost use Rattle.cosem_data.specs.View.{tree};
 ghost use Rattle.cosem_data.specs.declared.cell.CellRef.{CellRef};
 ghost use Rattle.meter_theory.specs.Steps as steps;
 ghost use Rattle.meter_theory.specs.Steps.{client_of, next};
-ghost use Rattle.meter_theory.specs.Replies.{attribute, reply_to};
+ghost use Rattle.meter_theory.specs.Replies.{reply_to};
 ghost use Rattle.meter_theory.specs.State as state;
 ghost use Rattle.meter_theory.specs.States.{IsState, MayStand};
 ghost use Rattle.meter_effects.specs.Adds.{StandsFor};
 ghost use Rattle.meter_core.specs.Memory.{needs_no_memory};
-ghost use Rattle.meter_core.specs.StepView.{argument_of, reply_of, selection_of, step_of};
+ghost use Rattle.meter_core.specs.StepView.{argument_of, reply_of, step_of};
 
 use crate::reply::Reply;
+use crate::shown::show;
 use crate::step::Step;
-use association_views::association::fixed_attribute;
-use association_views::permits::{
-    attribute_cell, called_method, permit_action, permit_get, permit_set,
-};
-use association_views::selection::select;
+use association_views::permits::{permit_action, permit_set};
 use cosem_data::cell::CellRef;
 use cosem_data::data::Data;
 use cosem_data::memory::Memory;
-use cosem_data::name::LogicalName;
 use meter_effects::effects::apply_all;
 use meter_effects::own_steps::{
     capture_effects, evaluation_effects, input_effects, schedule_effects,
 };
 use meter_effects::scripts::push_method;
 use meter_theory::access::AccessCode;
+use meter_theory::refs::Descriptor;
 use object_model::argument::Argument;
 use object_model::effect::Effect;
 use object_model::meter::Meter;
@@ -47,74 +44,21 @@ pub fn apply(alloc: Global, plan: &Plan, meter: &mut Meter, step: &Step) -> Resu
     match step {
         Step::Get {
             client,
-            class_id,
-            name,
-            index,
+            attribute,
             selection,
-        } => get(
-            alloc, plan, meter, *client, *class_id, name, *index, selection,
-        ),
+        } => show(alloc, plan, meter, *client, attribute, selection)?.into_reply(alloc),
         Step::Set {
             client,
-            class_id,
-            name,
-            index,
+            attribute,
             selected,
             value,
-        } => set(
-            alloc, plan, meter, *client, *class_id, name, *index, *selected, value,
-        ),
+        } => set(alloc, plan, meter, *client, attribute, *selected, value),
         Step::Act {
             client,
-            class_id,
-            name,
-            index,
+            method,
             argument,
-        } => act(
-            alloc, plan, meter, *client, *class_id, name, *index, argument,
-        ),
+        } => act(alloc, plan, meter, *client, method, argument),
         _ => own(alloc, plan, meter, step),
-    }
-}
-
-/// The answer to a GET (IEC 62056-5-3): the value that the selection leaves, or why there is none.
-fn get(
-    alloc: Global,
-    plan: &Plan,
-    meter: &Meter,
-    client: u8,
-    class_id: u16,
-    name: &LogicalName,
-    index: i8,
-    selection: &Option<(u8, Argument)>,
-) -> Result<Reply, Memory>
-    requires { IsState plan.now meter.now }
-    ensures reply { IfOk result (λ reply. reply_of reply ≡ reply_to plan.now meter.now (steps.Get client (record { class_id = class_id; name = name.now; index = index }) (selection_of selection.now))) }
-    ensures denied { needs_no_memory plan.now meter.now (steps.Get client (record { class_id = class_id; name = name.now; index = index }) (selection_of selection.now)) ≡ true → IsOk result }
-{
-    if let Err(code) = permit_get(plan, client, class_id, name, index, selection) {
-        return Ok(Reply::Code(code));
-    }
-    let cell = attribute_cell(class_id, name, index);
-    let value = attribute(alloc, plan, meter, client, &cell)?;
-    Ok(Reply::Value(select(alloc, selection, value)?))
-}
-
-/// The value of an attribute as the client reads it: that of a cell, or a fixed one.
-fn attribute(
-    alloc: Global,
-    plan: &Plan,
-    meter: &Meter,
-    client: u8,
-    cell: &CellRef,
-) -> Result<Data, Memory>
-    requires { IsState plan.now meter.now }
-    ensures { IfOk result (λ value. tree value ≡ attribute plan.now meter.now client cell.now) }
-{
-    if plan.is_cell(cell) {
-        meter.value(alloc, plan, cell)
-    } else {
-        fixed_attribute(alloc, plan, client, cell)
     }
 }
 
@@ -124,27 +68,24 @@ fn set(
     plan: &Plan,
     meter: &mut Meter,
     client: u8,
-    class_id: u16,
-    name: &LogicalName,
-    index: i8,
+    attribute: &Descriptor,
     selected: bool,
     value: &Argument,
 ) -> Result<Reply, Memory>
     requires { IsState plan.now meter.old }
     ensures state { IsState plan.now meter.new }
-    ensures ok { OnOk result (meter.new ≡ next plan.now meter.old (steps.Set client (record { class_id = class_id; name = name.now; index = index }) selected (argument_of value.now))) }
-    ensures reply { IfOk result (λ reply. reply_of reply ≡ reply_to plan.now meter.old (steps.Set client (record { class_id = class_id; name = name.now; index = index }) selected (argument_of value.now))) }
+    ensures ok { OnOk result (meter.new ≡ next plan.now meter.old (steps.Set client attribute.now selected (argument_of value.now))) }
+    ensures reply { IfOk result (λ reply. reply_of reply ≡ reply_to plan.now meter.old (steps.Set client attribute.now selected (argument_of value.now))) }
     ensures err { OnErr result (meter.new ≡ meter.old) }
-    ensures denied { needs_no_memory plan.now meter.old (steps.Set client (record { class_id = class_id; name = name.now; index = index }) selected (argument_of value.now)) ≡ true → IsOk result }
+    ensures denied { needs_no_memory plan.now meter.old (steps.Set client attribute.now selected (argument_of value.now)) ≡ true → IsOk result }
 {
     plan.known();
-    if let Err(code) = permit_set(plan, client, class_id, name, index, selected, value) {
+    if let Err(code) = permit_set(plan, client, attribute, selected, value) {
         return Ok(Reply::Code(code));
     }
     if let Argument::Value(value) = value {
-        let cell = attribute_cell(class_id, name, index);
         let given = value.try_clone(alloc)?;
-        put(alloc, plan, meter, cell, given);
+        put(alloc, plan, meter, attribute.attribute(), given);
     }
     Ok(Reply::Code(AccessCode::Success))
 }
@@ -164,25 +105,22 @@ fn act(
     plan: &Plan,
     meter: &mut Meter,
     client: u8,
-    class_id: u16,
-    name: &LogicalName,
-    index: i8,
+    method: &Descriptor,
     argument: &Argument,
 ) -> Result<Reply, Memory>
     requires { IsState plan.now meter.old }
     ensures state { IsState plan.now meter.new }
-    ensures ok { OnOk result (meter.new ≡ next plan.now meter.old (steps.Act client (record { class_id = class_id; name = name.now; index = index }) (argument_of argument.now))) }
-    ensures reply { IfOk result (λ reply. reply_of reply ≡ reply_to plan.now meter.old (steps.Act client (record { class_id = class_id; name = name.now; index = index }) (argument_of argument.now))) }
+    ensures ok { OnOk result (meter.new ≡ next plan.now meter.old (steps.Act client method.now (argument_of argument.now))) }
+    ensures reply { IfOk result (λ reply. reply_of reply ≡ reply_to plan.now meter.old (steps.Act client method.now (argument_of argument.now))) }
     ensures err { OnErr result (meter.new ≡ meter.old) }
-    ensures denied { needs_no_memory plan.now meter.old (steps.Act client (record { class_id = class_id; name = name.now; index = index }) (argument_of argument.now)) ≡ true → IsOk result }
+    ensures denied { needs_no_memory plan.now meter.old (steps.Act client method.now (argument_of argument.now)) ≡ true → IsOk result }
 {
     plan.known();
-    if let Err(code) = permit_action(plan, client, class_id, name, index, argument) {
+    if let Err(code) = permit_action(plan, client, method, argument) {
         return Ok(Reply::Code(code));
     }
-    let method = called_method(class_id, name, index);
     let mut effects = Vec::new(alloc);
-    push_method(alloc, plan, &method, argument, &mut effects)?;
+    push_method(alloc, plan, &method.method(), argument, &mut effects)?;
     apply_all(alloc, plan, meter, effects)?;
     Ok(Reply::Code(AccessCode::Success))
 }

@@ -4,4 +4,5 @@
 pub mod apply;
 pub mod reply;
 pub mod run;
+pub mod shown;
 pub mod step;

@@ -5,6 +5,7 @@ use cosem_data::cell::CellRef;
 use cosem_data::data::Data;
 use cosem_data::memory::Memory;
 use cosem_data::name::LogicalName;
+use meter_theory::refs::Descriptor;
 use object_model::argument::Argument;
 use std::alloc::Global;
 
@@ -15,26 +16,20 @@ pub enum Step {
     /// one.
     Get {
         client: u8,
-        class_id: u16,
-        name: LogicalName,
-        index: i8,
+        attribute: Descriptor,
         selection: Option<(u8, Argument)>,
     },
     /// The client at this place sets an attribute (IEC 62056-5-3, SET). No cell is set by a selector.
     Set {
         client: u8,
-        class_id: u16,
-        name: LogicalName,
-        index: i8,
+        attribute: Descriptor,
         selected: bool,
         value: Argument,
     },
     /// The client at this place calls a method (IEC 62056-5-3, ACTION).
     Act {
         client: u8,
-        class_id: u16,
-        name: LogicalName,
-        index: i8,
+        method: Descriptor,
         argument: Argument,
     },
     /// A value comes from outside into a cell, which is the value of a fed object (own profile). Any other changes
@@ -73,43 +68,31 @@ impl Step {
         Ok(match self {
             Step::Get {
                 client,
-                class_id,
-                name,
-                index,
+                attribute,
                 selection,
             } => Step::Get {
                 client: *client,
-                class_id: *class_id,
-                name: *name,
-                index: *index,
+                attribute: *attribute,
                 selection: selection_copy(alloc, selection)?,
             },
             Step::Set {
                 client,
-                class_id,
-                name,
-                index,
+                attribute,
                 selected,
                 value,
             } => Step::Set {
                 client: *client,
-                class_id: *class_id,
-                name: *name,
-                index: *index,
+                attribute: *attribute,
                 selected: *selected,
                 value: value.try_clone(alloc)?,
             },
             Step::Act {
                 client,
-                class_id,
-                name,
-                index,
+                method,
                 argument,
             } => Step::Act {
                 client: *client,
-                class_id: *class_id,
-                name: *name,
-                index: *index,
+                method: *method,
                 argument: argument.try_clone(alloc)?,
             },
             Step::Input { cell, value } => Step::Input {

@@ -26,7 +26,7 @@ use Rattle.meter_theory.specs.Sound.{IsSound, IsSoundPart}
 use Rattle.meter_theory.specs.State.{State, keys, value}
 use Rattle.meter_theory.specs.States.{IsState, IsSeen, IsRemembered, Holds, Fits, MayStand}
 use Rattle.meter_theory.specs.Times.{Moment, is_capture_due}
-use Rattle.meter_theory.specs.Value.{Rule, OfKind, Thresholds, meets, right_tag, right_elements, is_within_limits, elements, count_of}
+use Rattle.meter_theory.specs.Value.{Rule, OfKind, Thresholds, meets, valid_tag, valid_elements, is_within_limits, elements, count_of}
 use Rattle.meter_theory.specs.Steps as theory
 use Rattle.meter_theory.specs.Steps.{Captures, captures_in, captures_of, meets_some}
 use Rattle.meter_theory.proofs.Agreement.{object-found}
@@ -270,7 +270,7 @@ remember_may P n o monitored th actions v is part fits =
 -- a rule that a value passes
 pub passes-meets : (r : Option Rule) (v : Tree) → is_ok (rule_answer r v) ≡ meets_some r v
 passes-meets None v = refl
-passes-meets (Some rule) v = at (right_tag rule v) (is_within_limits v && right_elements rule (elements v))
+passes-meets (Some rule) v = at (valid_tag rule v) (is_within_limits v && valid_elements rule (elements v))
   where
     at : (tag rest : Bool) → is_ok {T = Unit {0}} {E = AccessCode} (if tag then (if (tag && rest) then Ok tt else Err codes.OtherReason) else Err codes.TypeUnmatched) ≡ (tag && rest)
     at true true = refl

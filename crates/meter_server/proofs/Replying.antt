@@ -28,46 +28,17 @@ use Rattle.meter_server.specs.Spelling.{reply_text}
 use Rattle.meter_server.specs.Running.{tasks_of, printed}
 use Rattle.meter_server.specs.Pieces.{replies_to, printed_from}
 
--- the APDU that is written brings the reply
-pub canonical-reply_bytes : (service : Service) (invoke : ℕ) (r : Reply) → canonical_reply service invoke r ≡ reply_bytes service invoke (reply_of r)
-canonical-reply_bytes services.Get invoke (Value v) = refl
-canonical-reply_bytes services.Get invoke (Code c) = refl
-canonical-reply_bytes services.Get invoke Quiet = refl
-canonical-reply_bytes services.Set invoke (Value v) = refl
-canonical-reply_bytes services.Set invoke (Code c) = refl
-canonical-reply_bytes services.Set invoke Quiet = refl
-canonical-reply_bytes services.Act invoke (Value v) = refl
-canonical-reply_bytes services.Act invoke (Code c) = refl
-canonical-reply_bytes services.Act invoke Quiet = refl
-
--- a GET is never replied nothing
-not_quiet : (b : Bool) (v : Tree) (code : AccessCode) → theory.Quiet ≡ cond b (theory.Value v) (theory.Code code) → ⊥
-not_quiet true v code e = absurd cc
-not_quiet false v code e = absurd cc
-
 -- the reply to a request of a sound plan's meter can be written
-pub CanWrite-reply : (P : Plan) → IsSound P → (s : State) → IsState P s → (client : ℕ) (request : Request) (r : Reply)
-    → reply_of r ≡ reply_to P s (step_of_request client request) → CanWrite (service_of request) r
-CanWrite-reply P sound s k client (Get invoke class_id name index selection) (Value v) e =
-    reply-writable P sound s k (step_of_request client (Get invoke class_id name index selection)) (tree v) (sym e)
-CanWrite-reply P sound s k client (Get invoke class_id name index selection) (Code c) e = tt
-CanWrite-reply P sound s k client (Get invoke class_id name index selection) Quiet e = absurd (not_quiet _ _ _ e)
-CanWrite-reply P sound s k client (Set invoke class_id name index selected value) (Value v) e = cc
-CanWrite-reply P sound s k client (Set invoke class_id name index selected value) (Code c) e = tt
-CanWrite-reply P sound s k client (Set invoke class_id name index selected value) Quiet e = cc
-CanWrite-reply P sound s k client (Act invoke class_id name index argument) (Value v) e = cc
-CanWrite-reply P sound s k client (Act invoke class_id name index argument) (Code c) e = tt
-CanWrite-reply P sound s k client (Act invoke class_id name index argument) Quiet e = cc
-
--- the bytes that are written bring the meter's reply to the request
-pub written-reply_by : (P : Plan) (s : State) (client : ℕ) (request : Request) (r : Reply) (service : Service) (invoke : ℕ) (bytes : List ℕ)
-    → reply_of r ≡ reply_to P s (step_of_request client request) → service ≡ service_of request → invoke ≡ invoke_of request
-    → bytes ≡ canonical_reply service invoke r → bytes ≡ reply_by P s client (Some request)
-written-reply_by P s client request r service invoke bytes e f g h =
-    h ∙ canonical-reply_bytes service invoke r
-    ∙ ap (λ (z : Service). reply_bytes z invoke (reply_of r)) f
-    ∙ ap (λ (i : ℕ). reply_bytes (service_of request) i (reply_of r)) g
-    ∙ ap (replied_with request) e
+pub can_reply : (P : Plan) → IsSound P → (s : State) → IsState P s → (client : ℕ) (request : Request) → CanReply (service_of request) (reply_to P s (step_of_request client request))
+can_reply P sound s k client (Get invoke attribute selection) =
+    at (is_success (get_answer P client attribute (selection_of selection))) refl
+  where
+    at : (b : Bool) → is_success (get_answer P client attribute (selection_of selection)) ≡ b
+        → CanReply services.Get (cond b (theory.Value (selected (selection_of selection) (theory.attribute P s client (cell_of attribute)))) (theory.Code (get_answer P client attribute (selection_of selection))))
+    at true is = reply-writable P sound s k (step_of_request client (Get invoke attribute selection)) _ (ap (λ b. cond b _ _) is)
+    at false is = tt
+can_reply P sound s k client (Set invoke attribute selected value) = tt
+can_reply P sound s k client (Act invoke method argument) = tt
 
 -- what is asked is what the bytes are
 pub reply_of_ask-at : (P : Plan) (s : State) (ask : Ask) (read : Option Request) → request_at ask.apdu ≡ read → reply_by P s ask.client read ≡ reply_of_ask P s ask

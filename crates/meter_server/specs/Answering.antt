@@ -1,13 +1,11 @@
 -- What the meter replies to an APDU, and what it becomes.
 use Rattle.std.specs.Prelude.{ℕ, List, [], ◌∷◌, drop, Option, Some, None, option_map}
 use Rattle.std.specs.List.{filter_map}
-use Rattle.cosem_axdr.specs.Canonical.{canonical}
-use Rattle.meter_theory.specs.Access.{code_of}
 use Rattle.meter_theory.specs.Plan.{Plan}
 use Rattle.meter_theory.specs.State.{State}
 use Rattle.meter_theory.specs.Steps as steps
 use Rattle.meter_theory.specs.Steps.{Step, next}
-use Rattle.meter_theory.specs.Replies.{Reply, Value, Code, reply_to}
+use Rattle.meter_theory.specs.Replies.{Reply, reply_to}
 use Rattle.object_model.specs.ArgumentView.{argument_of}
 use Rattle.meter_core.specs.StepView.{selection_of}
 use Rattle.xdlms_services.specs.declared.request.Request.{Request}
@@ -15,36 +13,26 @@ use Rattle.xdlms_services.specs.declared.request.Request.TheVariants as requests
 use Rattle.xdlms_services.specs.declared.writing.Service.{Service}
 use Rattle.xdlms_services.specs.declared.writing.Service.TheVariants as services
 use Rattle.xdlms_services.specs.Reading.{request_at}
+use Rattle.xdlms_services.specs.Replies.{reply_bytes}
 use Rattle.meter_server.specs.Asking.{Ask}
 
 -- the service that a request asks for (IEC 62056-5-3, GET, SET and ACTION)
 abbrev pub service_of : Request → Service
-service_of (requests.Get invoke class_id name index selection) = services.Get
-service_of (requests.Set invoke class_id name index selected value) = services.Set
-service_of (requests.Act invoke class_id name index argument) = services.Act
+service_of (requests.Get invoke attribute selection) = services.Get
+service_of (requests.Set invoke attribute selected value) = services.Set
+service_of (requests.Act invoke method argument) = services.Act
 
 -- the Invoke-Id-And-Priority of a request, which its reply brings back (IEC 62056-5-3)
 abbrev pub invoke_of : Request → ℕ
-invoke_of (requests.Get invoke class_id name index selection) = invoke
-invoke_of (requests.Set invoke class_id name index selected value) = invoke
-invoke_of (requests.Act invoke class_id name index argument) = invoke
+invoke_of (requests.Get invoke attribute selection) = invoke
+invoke_of (requests.Set invoke attribute selected value) = invoke
+invoke_of (requests.Act invoke method argument) = invoke
 
 -- the step of the meter that a client's request is (IEC 62056-5-3, GET, SET and ACTION)
 abbrev pub step_of_request : ℕ → Request → Step
-step_of_request client (requests.Get invoke class_id name index selection) =
-    steps.Get client (record { class_id = class_id; name = name; index = index }) (selection_of selection)
-step_of_request client (requests.Set invoke class_id name index selected value) =
-    steps.Set client (record { class_id = class_id; name = name; index = index }) selected (argument_of value)
-step_of_request client (requests.Act invoke class_id name index argument) =
-    steps.Act client (record { class_id = class_id; name = name; index = index }) (argument_of argument)
-
--- the APDU of a reply: Get-Response-Normal with a value in its shortest encoding or with a result, Set-Response-Normal, Action-Response-Normal (IEC 62056-5-3)
-abbrev pub reply_bytes : Service → ℕ → Reply → List ℕ
-reply_bytes services.Get invoke (Value value) = 0xC4 ∷ 1 ∷ invoke ∷ 0 ∷ canonical value
-reply_bytes services.Get invoke (Code code) = 0xC4 ∷ 1 ∷ invoke ∷ 1 ∷ code_of code ∷ []
-reply_bytes services.Set invoke (Code code) = 0xC5 ∷ 1 ∷ invoke ∷ code_of code ∷ []
-reply_bytes services.Act invoke (Code code) = 0xC7 ∷ 1 ∷ invoke ∷ code_of code ∷ 0 ∷ []
-reply_bytes _ invoke _ = []
+step_of_request client (requests.Get invoke attribute selection) = steps.Get client attribute (selection_of selection)
+step_of_request client (requests.Set invoke attribute selected value) = steps.Set client attribute selected (argument_of value)
+step_of_request client (requests.Act invoke method argument) = steps.Act client method (argument_of argument)
 
 -- the APDU of the reply to a request
 abbrev pub replied_with : Request → Reply → List ℕ

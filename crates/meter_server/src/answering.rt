@@ -1,12 +1,11 @@
 ghost use Rattle.std.specs.Prelude.{◌≡◌, ◌⊎◌, ◌++◌, Some, OnOk, OnErr};
 ghost use Rattle.meter_theory.specs.States.{IsState};
 ghost use Rattle.meter_theory.specs.Steps.{next};
-ghost use Rattle.meter_core.specs.StepView.{step_of};
-ghost use Rattle.meter_server.specs.Answering as spec;
 ghost use Rattle.meter_server.specs.Answering.{exception, next_of, next_by, reply_of_ask, reply_by};
 
 use cosem_data::memory::Memory;
 use meter_core::apply::apply;
+use meter_core::shown::show;
 use meter_core::step::Step;
 use object_model::meter::Meter;
 use object_model::plan::Plan;
@@ -14,7 +13,7 @@ use std::alloc::Global;
 use std::marker::Model;
 use xdlms_services::reading::{ApduFault, read_apdu};
 use xdlms_services::request::Request;
-use xdlms_services::writing::{Service, write_reply};
+use xdlms_services::writing::{Service, write_reply, write_shown};
 
 /// An APDU of a client, which is named by its place in the plan. Contracts see the two as a record.
 #[derive(Debug, Drop)]
@@ -78,7 +77,8 @@ fn put_exception(out: &mut Vec<u8>) -> Result<(), Memory>
     Ok(())
 }
 
-/// Puts the APDU that is replied to a request behind what is there; the meter takes the step that it is.
+/// Puts the APDU that is replied to a request behind what is there; the meter takes the step that it is. The value of a GET is
+/// written from where it stands.
 fn answer_request(
     alloc: Global,
     plan: &Plan,
@@ -93,79 +93,43 @@ fn answer_request(
     ensures next { OnOk result (meter.new ≡ next_by plan.now meter.old client (Some request)) }
     ensures err { OnErr result ((meter.new ≡ meter.old) ⊎ (meter.new ≡ next_by plan.now meter.old client (Some request))) }
 {
-    let asked = step_asked(client, request);
     plan.known();
-    let reply = apply(alloc, plan, meter, &asked.step)?;
-    write_reply(asked.invoke, &reply, asked.service, out)
-}
-
-/// The step that a request is, and what its reply needs of it.
-#[derive(Drop)]
-struct StepAsked {
-    service: Service,
-    invoke: u8,
-    step: Step,
-}
-
-/// The step that a client's request is.
-fn step_asked(client: u8, request: Request) -> StepAsked
-    ensures service { result.service ≡ spec.service_of request }
-    ensures invoke { result.invoke ≡ spec.invoke_of request }
-    ensures step { step_of result.step ≡ spec.step_of_request client request }
-{
     match request {
         Request::Get {
             invoke,
-            class_id,
-            name,
-            index,
+            attribute,
             selection,
-        } => StepAsked {
-            service: Service::Get,
-            invoke,
-            step: Step::Get {
-                client,
-                class_id,
-                name,
-                index,
-                selection,
-            },
-        },
+        } => {
+            let shown = show(alloc, plan, meter, client, &attribute, &selection)?;
+            write_shown(invoke, &shown, out)
+        }
         Request::Set {
             invoke,
-            class_id,
-            name,
-            index,
+            attribute,
             selected,
             value,
-        } => StepAsked {
-            service: Service::Set,
-            invoke,
-            step: Step::Set {
+        } => {
+            let step = Step::Set {
                 client,
-                class_id,
-                name,
-                index,
+                attribute,
                 selected,
                 value,
-            },
-        },
+            };
+            let reply = apply(alloc, plan, meter, &step)?;
+            write_reply(invoke, &reply, Service::Set, out)
+        }
         Request::Act {
             invoke,
-            class_id,
-            name,
-            index,
+            method,
             argument,
-        } => StepAsked {
-            service: Service::Act,
-            invoke,
-            step: Step::Act {
+        } => {
+            let step = Step::Act {
                 client,
-                class_id,
-                name,
-                index,
+                method,
                 argument,
-            },
-        },
+            };
+            let reply = apply(alloc, plan, meter, &step)?;
+            write_reply(invoke, &reply, Service::Act, out)
+        }
     }
 }

@@ -16,7 +16,7 @@ use Rattle.cosem_data.specs.declared.name.LogicalName.{LogicalName}
 use Rattle.cosem_data.specs.declared.cell.CellRef.{CellRef}
 use Rattle.cosem_data.specs.declared.kind.Kind.TheVariants.{DoubleLongUnsigned}
 use Rattle.meter_theory.specs.Lists.{IsIn}
-use Rattle.meter_theory.specs.Value.{Rule, OfKind, Thresholds, ExecutionTimes, array_of, structure_of, elements, counter, right_tag, right_elements, is_within_limits, meets}
+use Rattle.meter_theory.specs.Value.{Rule, OfKind, Thresholds, ExecutionTimes, array_of, structure_of, elements, counter, valid_tag, valid_elements, is_within_limits, meets}
 use Rattle.meter_theory.specs.Times.{parts_of}
 use Rattle.meter_theory.specs.Selection.{EntryDescriptor, places_between, columns_of, entries_of}
 use Rattle.meter_theory.specs.State.{State, value}
@@ -70,7 +70,7 @@ small_writable v h =
 
 meeting_writable : (rule : Rule) (v : Tree) → meets rule v ≡ true → HasLengths v
 meeting_writable rule v h =
-    small_writable v (and_parts (is_within_limits v) (right_elements rule (elements v)) (and_parts (right_tag rule v) (is_within_limits v && right_elements rule (elements v)) h).1).0
+    small_writable v (and_parts (is_within_limits v) (valid_elements rule (elements v)) (and_parts (valid_tag rule v) (is_within_limits v && valid_elements rule (elements v)) h).1).0
 
 -- Fixed attributes
 

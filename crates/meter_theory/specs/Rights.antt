@@ -9,9 +9,10 @@ use Rattle.cosem_data.specs.declared.cell.CellRef.{CellRef}
 use Rattle.cosem_data.specs.declared.cell.MethodRef.{MethodRef}
 use Rattle.meter_theory.specs.declared.access.AccessCode.{AccessCode}
 use Rattle.meter_theory.specs.declared.access.AccessCode.TheVariants.{Success, ReadWriteDenied, ObjectUndefined, ObjectClassInconsistent, TypeUnmatched, ScopeOfAccessViolated, OtherReason}
-use Rattle.meter_theory.specs.Value.{Rule, right_tag, meets}
+use Rattle.meter_theory.specs.Value.{Rule, valid_tag, meets}
 use Rattle.meter_theory.specs.Selection.{EntryDescriptor, descriptor_of, as_long_unsigned}
 use Rattle.meter_theory.specs.declared.refs.Interface.{Interface}
+pub use Rattle.meter_theory.specs.declared.refs.Descriptor.{Descriptor}
 use Rattle.meter_theory.specs.Plan.{Plan, Object, Right, Script, Part, ScriptTable, class_of, association_name, interface_at, object_at, rule_of}
 
 -- a value or a parameter that a request brings along
@@ -21,15 +22,11 @@ pub data Argument : Type 0 where
   -- bytes that are no encoding of one value to their end
   Unreadable : Argument
 
--- the attribute or method that a request names (Cosem-Attribute-Descriptor, Cosem-Method-Descriptor)
-pub record Descriptor : Type 0 where
-  pub class_id : ℕ
-  pub name : LogicalName
-  pub index : ℤ
-
+-- the attribute that a request names; an index below 0 names what its absolute value would (IEC 62056-5-3, Cosem-Attribute-Descriptor)
 abbrev pub cell_of : Descriptor → CellRef
 cell_of d = cell d.class_id d.name (unsigned_abs d.index)
 
+-- the method that a request names (IEC 62056-5-3, Cosem-Method-Descriptor)
 abbrev pub method_of : Descriptor → MethodRef
 method_of d = record { class_id = d.class_id; name = d.name; index = unsigned_abs d.index }
 
@@ -104,9 +101,9 @@ descriptor_in (Given v) = descriptor_of v
 descriptor_in _ = None
 
 -- the parameter of a selector is an entry descriptor
-abbrev pub right_selection : Option Selection → Bool
-right_selection None = true
-right_selection (Some selection) = is_some (descriptor_in selection.1)
+abbrev pub valid_selection : Option Selection → Bool
+valid_selection None = true
+valid_selection (Some selection) = is_some (descriptor_in selection.1)
 
 abbrev pub is_unreadable : Argument → Bool
 is_unreadable Unreadable = true
@@ -114,7 +111,7 @@ is_unreadable _ = false
 
 -- a value of the tag that the cell asks for
 abbrev pub has_right_tag : Option Rule → Argument → Bool
-has_right_tag (Some rule) (Given v) = right_tag rule v
+has_right_tag (Some rule) (Given v) = valid_tag rule v
 has_right_tag _ _ = false
 
 abbrev pub meets_rule : Option Rule → Argument → Bool
@@ -129,7 +126,7 @@ get_places P c d selection =
     ∷ (not (has_attribute d.index (interface_at P d.name)), ObjectUndefined)
     ∷ (not (may_read P c (cell_of d)), ReadWriteDenied)
     ∷ (not (takes_selection (cell_of d) selection), ScopeOfAccessViolated)
-    ∷ (not (right_selection selection), TypeUnmatched)
+    ∷ (not (valid_selection selection), TypeUnmatched)
     ∷ []
 
 abbrev pub get_answer : Plan → ℕ → Descriptor → Option Selection → AccessCode
@@ -167,8 +164,8 @@ knows (ScriptTable scripts) id = knows_script scripts id
 knows _ id = true
 
 -- the parameter of execute is a script's number; that of reset and capture is absent or any readable value (own profile)
-abbrev pub right_parameter : Option Object → Argument → Bool
-right_parameter o argument = cond (executes o) (is_some (script_number argument)) (not (is_unreadable argument))
+abbrev pub valid_parameter : Option Object → Argument → Bool
+valid_parameter o argument = cond (executes o) (is_some (script_number argument)) (not (is_unreadable argument))
 
 abbrev pub known_script : Option Object → Option ℕ → Bool
 known_script (Some o) (Some id) = knows o.part id
@@ -181,7 +178,7 @@ act_places P c d argument =
     ∷ (not (class_is d.class_id (interface_at P d.name)), ObjectClassInconsistent)
     ∷ (not (has_method d.index (interface_at P d.name)), ObjectUndefined)
     ∷ (not (may_act P c (method_of d)), ReadWriteDenied)
-    ∷ (not (right_parameter (object_at P d.name) argument), TypeUnmatched)
+    ∷ (not (valid_parameter (object_at P d.name) argument), TypeUnmatched)
     ∷ (not (known_script (object_at P d.name) (script_number argument)), OtherReason)
     ∷ []
 

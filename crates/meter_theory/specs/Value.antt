@@ -41,17 +41,17 @@ pub data Rule : Type 0 where
   ExecutionTimes : (type : ℕ) → Rule
 
 -- the value has the tag that the rule asks for
-abbrev pub right_tag : Rule → Tree → Bool
-right_tag (OfKind kind) v = same_kind (kind_of v) kind
-right_tag (Thresholds number kind) v = same_kind (kind_of v) Array
-right_tag (ExecutionTimes type) v = same_kind (kind_of v) Array
+abbrev pub valid_tag : Rule → Tree → Bool
+valid_tag (OfKind kind) v = same_kind (kind_of v) kind
+valid_tag (Thresholds number kind) v = same_kind (kind_of v) Array
+valid_tag (ExecutionTimes type) v = same_kind (kind_of v) Array
 
 -- the elements are what the rule asks for
-abbrev pub right_elements : Rule → List Tree → Bool
-right_elements (OfKind kind) vs = true
-right_elements (Thresholds number kind) vs = (length vs == number) && list_all (λ v. same_kind (kind_of v) kind) vs
-right_elements (ExecutionTimes type) vs = are_execution_times type vs
+abbrev pub valid_elements : Rule → List Tree → Bool
+valid_elements (OfKind kind) vs = true
+valid_elements (Thresholds number kind) vs = (length vs == number) && list_all (λ v. same_kind (kind_of v) kind) vs
+valid_elements (ExecutionTimes type) vs = are_execution_times type vs
 
 -- The value may stand in a cell with this rule.
 abbrev pub meets : Rule → Tree → Bool
-meets rule v = right_tag rule v && (is_within_limits v && right_elements rule (elements v))
+meets rule v = valid_tag rule v && (is_within_limits v && valid_elements rule (elements v))

@@ -28,7 +28,7 @@ same_cell-apart x y h = at (same_cell y x) refl
     at true is = absurd (false≢true (sym h ∙ same_cell-turned y x is))
     at false is = is
 
-list_any-keys : (x : CellRef) (s t : State) → list_any (same_cell x) (keys (s ++ t)) ≡ (list_any (same_cell x) (keys s) || list_any (same_cell x) (keys t))
+pub list_any-keys : (x : CellRef) (s t : State) → list_any (same_cell x) (keys (s ++ t)) ≡ (list_any (same_cell x) (keys s) || list_any (same_cell x) (keys t))
 list_any-keys x [] t = refl
 list_any-keys x (e ∷ s) t = at (same_cell x e.0) (list_any-keys x s t)
   where

@@ -1,5 +1,5 @@
 -- The stored objects of a meter, as a state.
-use Rattle.std.proofs.Common.{◌≡◌, ◌+◌, ◌<◌, ℕ, zero, suc, refl, ap, sym, ◌∙◌, arith, Bool, true, false, ◌||◌, ◌&&◌, cond, Option, Some, None, List, [], ◌∷◌, ◌++◌, flat_map, length, get_or, set}
+use Rattle.std.proofs.Common.{◌≡◌, ◌+◌, ◌<◌, ℕ, zero, suc, refl, ap, sym, ◌∙◌, arith, Bool, true, false, ◌||◌, ◌&&◌, cond, Option, Some, None, is_some, List, [], ◌∷◌, ◌++◌, flat_map, length, get_or, set}
 use Rattle.std.proofs.lemmas.Bool.{or_parts, cond-true, cond-false, false≢true}
 use Rattle.std.specs.List.{list_any, position_from}
 use Rattle.cosem_data.specs.Tree.{Tree, null_data}
@@ -16,7 +16,7 @@ use Rattle.object_model.specs.declared.stored.Cells.{Cells}
 use Rattle.object_model.specs.declared.stored.Cells.TheVariants as cells
 use Rattle.object_model.specs.declared.stored.Stored.{Stored}
 use Rattle.object_model.specs.Stored.{pairs_of, stored_pairs, stores}
-use Rattle.object_model.proofs.ByObject.{one, same_cell-turned, same_cell-apart, value-first, value-second, value-absent}
+use Rattle.object_model.proofs.ByObject.{list_any-keys, one, same_cell-turned, same_cell-apart, value-first, value-second, value-absent}
 
 -- one pair of a state
 
@@ -84,20 +84,18 @@ place-put (o ∷ os) x v start p h k e d new is = at (λ g j f i. place-put os x
     at later false has g zero f i = let there = place-value os x (start + 1) p g in absurd (omega (arith, there.1))
     at later false has g (suc j) f i = ap (λ s. stored_pairs o ++ s) (later g j (omega arith) i) ∙ sym (put-second x v (stored_pairs o) (flat_map stored_pairs os) has)
 
-pub nowhere : (os : List Stored) (x : CellRef) (start : ℕ) → None ≡ position_from (stores x) start os → list_any (same_cell x) (keys (flat_map stored_pairs os)) ≡ false
-nowhere [] x start h = refl
-nowhere (o ∷ os) x start h = at (λ g. nowhere os x (start + 1) g) (stores x o) refl h
+-- an object has the cell where it is found, and else none has it
+pub is_some-stored : (os : List Stored) (x : CellRef) (start : ℕ) → is_some (position_from (stores x) start os) ≡ list_any (same_cell x) (keys (flat_map stored_pairs os))
+is_some-stored [] x start = refl
+is_some-stored (o ∷ os) x start = at (stores x o) (is_some-stored os x (start + 1)) ∙ sym (list_any-keys x (stored_pairs o) (flat_map stored_pairs os))
   where
-    both : (s t : State) → list_any (same_cell x) (keys s) ≡ false → list_any (same_cell x) (keys t) ≡ false → list_any (same_cell x) (keys (s ++ t)) ≡ false
-    both [] t f g = g
-    both (e ∷ s) t f g =
-        let parts = or_parts (same_cell x e.0) (list_any (same_cell x) (keys s)) f in
-        ap (λ b. b || list_any (same_cell x) (keys (s ++ t))) parts.0 ∙ both s t parts.1 g
+    at : (b : Bool) → is_some (position_from (stores x) (start + 1) os) ≡ list_any (same_cell x) (keys (flat_map stored_pairs os))
+        → is_some (cond b (Some start) (position_from (stores x) (start + 1) os)) ≡ (b || list_any (same_cell x) (keys (flat_map stored_pairs os)))
+    at true later = refl
+    at false later = later
 
-    at : (None ≡ position_from (stores x) (start + 1) os → list_any (same_cell x) (keys (flat_map stored_pairs os)) ≡ false) →
-        (b : Bool) → stores x o ≡ b → None ≡ cond b (Some start) (position_from (stores x) (start + 1) os) → list_any (same_cell x) (keys (flat_map stored_pairs (o ∷ os))) ≡ false
-    at later true has g = cc
-    at later false has g = both (stored_pairs o) (flat_map stored_pairs os) has (later g)
+pub nowhere : (os : List Stored) (x : CellRef) (start : ℕ) → None ≡ position_from (stores x) start os → list_any (same_cell x) (keys (flat_map stored_pairs os)) ≡ false
+nowhere os x start h = sym (is_some-stored os x start) ∙ ap is_some (sym h)
 
 put-absent : (x : CellRef) (v : Tree) (s : State) → list_any (same_cell x) (keys s) ≡ false → put s x v ≡ s
 put-absent x v [] h = refl

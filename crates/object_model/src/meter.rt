@@ -1,11 +1,11 @@
 //! A meter: a value for each cell of its plan.
-ghost use Rattle.std.specs.Prelude.{◌≡◌, flat_map, length, map, true, false, None, Some, IfOk, IfSome, IfNone, IsOk, OnOk, OnErr};
+ghost use Rattle.std.specs.Prelude.{◌≡◌, flat_map, is_some, length, map, true, false, None, Some, IfOk, IfSome, IfNone, IsOk, OnOk, OnErr};
 ghost use Rattle.std.specs.List.{position_from};
 ghost use Rattle.cosem_data.specs.View.{tree};
 ghost use Rattle.cosem_data.specs.Tree.{null_data};
 ghost use Rattle.cosem_data.specs.declared.name.LogicalName.{LogicalName as NameValue};
 ghost use Rattle.meter_theory.specs.Plan as plans;
-ghost use Rattle.meter_theory.specs.Plan.{cells, class_of, object_at};
+ghost use Rattle.meter_theory.specs.Plan.{cells, class_of, is_cell, object_at};
 ghost use Rattle.meter_theory.specs.State as state;
 ghost use Rattle.meter_theory.specs.State.{keys, value};
 ghost use Rattle.meter_theory.specs.States.{IsState, MayStand, Fits};
@@ -90,8 +90,10 @@ impl Meter {
     pub fn held(&self, instance: &Instance<'_>, cell: &CellRef) -> Option<Held<'_>>
         requires of_plan { IsState instance.now.plan self.now }
         requires named { cell.now.name ≡ instance.now.name }
+        ensures cell { is_some result ≡ is_cell instance.now.plan cell.now }
         ensures found { IfSome result (λ held. held_tree held ≡ value self.now cell.now) }
         ensures rows { IfSome result (λ held. is_rows held ≡ true → cell.now.class_id ≡ 7) }
+        ensures buffer { IfSome result (λ held. cell.now.class_id ≡ 7 → cell.now.index ≡ 2 → is_rows held ≡ true) }
         ensures none { IfNone result (value self.now cell.now ≡ null_data) }
     {
         match place_of(instance, &self.objects, cell) {

@@ -137,6 +137,7 @@ impl Stored {
         requires { stores cell.now self.now ≡ true }
         ensures value { held_tree result ≡ value (stored_pairs self.now) cell.now }
         ensures rows { is_rows result ≡ true → cell.now.class_id ≡ 7 }
+        ensures buffer { cell.now.class_id ≡ 7 → cell.now.index ≡ 2 → is_rows result ≡ true }
     {
         match &self.cells {
             Cells::Data(object) => Held::Value(&object.value),

@@ -7,6 +7,7 @@ use Rattle.std.proofs.lemmas.Bool.{ltb-false, le-ltb, eqb-true}
 use Rattle.cosem_data.specs.Tree.{Tree, depth}
 use Rattle.cosem_data.specs.View.{tree, data_of-tree, tree-data_of}
 use Rattle.cosem_data.specs.declared.name.LogicalName.{LogicalName}
+use Rattle.meter_theory.specs.Rights.{Descriptor}
 use Rattle.cosem_axdr.specs.declared.fault.ReadFault.{ReadFault}
 use Rattle.cosem_axdr.specs.Grammar.{IsEncoding}
 use Rattle.cosem_axdr.specs.Reading.{data_at}
@@ -70,8 +71,8 @@ argument-again Unreadable text b h = unreadable-again text (argument_at text) (a
 -- ---- what stands in front
 
 -- the front of a normal request
-abbrev front : ℕ → ℕ → ℕ → LogicalName → ℤ → ℕ → Front
-front service invoke class_id name index flag = record { service = service; form = 1; invoke = invoke; class_id = class_id; name = name; index = index; flag = flag }
+abbrev front : ℕ → ℕ → Descriptor → ℕ → Front
+front service invoke d flag = record { service = service; form = 1; invoke = invoke; descriptor = d; flag = flag }
 
 -- a list of one byte
 one_byte : (xs : List ℕ) → length xs ≡ 1 → (a : ℕ) × (xs ≡ a ∷ [])
@@ -90,7 +91,7 @@ six_bytes _ h = absurd (omega arith)
 
 -- thirteen bytes with 01 second are the front that is read of them
 pub headed-takes : (bytes : List ℕ) → 13 ≤ length bytes → IsBytes bytes → slice_index bytes 1 ≡ 1
-    → IsHeaded (front_at bytes).service (front_at bytes).invoke (front_at bytes).class_id (front_at bytes).name (front_at bytes).index bytes ((front_at bytes).flag ∷ drop 13 bytes)
+    → IsHeaded (front_at bytes).service (front_at bytes).invoke (front_at bytes).descriptor bytes ((front_at bytes).flag ∷ drop 13 bytes)
 headed-takes (a ∷ one ∷ i ∷ c0 ∷ c1 ∷ n0 ∷ n1 ∷ n2 ∷ n3 ∷ n4 ∷ n5 ∷ x ∷ flag ∷ rest) h b e =
     let word : IsBytes (c0 ∷ c1 ∷ []) = λ k. two c0 c1 k (b 3) (b 4) in
     record {
@@ -125,15 +126,15 @@ request-there bytes text f le one e d =
     rw long (rw one (ap (λ (g : Front). service_of g (drop 13 bytes)) e ∙ ap (service_of f) d))
 
 -- the same of bytes written out
-explicit-again : (service invoke c0 c1 n0 n1 n2 n3 n4 n5 x flag : ℕ) (text : List ℕ) (class_id : ℕ) (name : LogicalName) (index : ℤ)
-    → from_be_bytes w16 (c0 ∷ c1 ∷ []) ≡ class_id → n0 ∷ n1 ∷ n2 ∷ n3 ∷ n4 ∷ n5 ∷ [] ≡ name.0 → cast_signed w8 x ≡ index
-    → request_at (service ∷ 1 ∷ invoke ∷ c0 ∷ c1 ∷ n0 ∷ n1 ∷ n2 ∷ n3 ∷ n4 ∷ n5 ∷ x ∷ flag ∷ text) ≡ service_of (front service invoke class_id name index flag) text
-explicit-again service invoke c0 c1 n0 n1 n2 n3 n4 n5 x flag text class_id name index c n i =
+explicit-again : (service invoke c0 c1 n0 n1 n2 n3 n4 n5 x flag : ℕ) (text : List ℕ) (d : Descriptor)
+    → from_be_bytes w16 (c0 ∷ c1 ∷ []) ≡ d.class_id → n0 ∷ n1 ∷ n2 ∷ n3 ∷ n4 ∷ n5 ∷ [] ≡ d.name.0 → cast_signed w8 x ≡ d.index
+    → request_at (service ∷ 1 ∷ invoke ∷ c0 ∷ c1 ∷ n0 ∷ n1 ∷ n2 ∷ n3 ∷ n4 ∷ n5 ∷ x ∷ flag ∷ text) ≡ service_of (front service invoke d flag) text
+explicit-again service invoke c0 c1 n0 n1 n2 n3 n4 n5 x flag text d c n i =
     let named : LogicalName = record { 0 = n0 ∷ n1 ∷ n2 ∷ n3 ∷ n4 ∷ n5 ∷ [] } in
-    request-there (service ∷ 1 ∷ invoke ∷ c0 ∷ c1 ∷ n0 ∷ n1 ∷ n2 ∷ n3 ∷ n4 ∷ n5 ∷ x ∷ flag ∷ text) text (front service invoke class_id name index flag) (omega arith) refl
-    (ap (λ (k : ℕ). front service invoke k named (cast_signed w8 x) flag) c
-    ∙ ap (λ (k : List ℕ). let m : LogicalName = record { 0 = k } in front service invoke class_id m (cast_signed w8 x) flag) n
-    ∙ ap (λ (k : ℤ). front service invoke class_id name k flag) i)
+    request-there (service ∷ 1 ∷ invoke ∷ c0 ∷ c1 ∷ n0 ∷ n1 ∷ n2 ∷ n3 ∷ n4 ∷ n5 ∷ x ∷ flag ∷ text) text (front service invoke d flag) (omega arith) refl
+    (ap (λ (k : ℕ). front service invoke (record { class_id = k; name = named; index = cast_signed w8 x }) flag) c
+    ∙ ap (λ (k : List ℕ). let m : LogicalName = record { 0 = k } in front service invoke (record { class_id = d.class_id; name = m; index = cast_signed w8 x }) flag) n
+    ∙ ap (λ (k : ℤ). front service invoke (record { class_id = d.class_id; name = d.name; index = k }) flag) i)
     refl
 
 -- a number of one byte is that byte
@@ -141,63 +142,63 @@ first-of : (x : ℕ) → from_be_bytes w8 (x ∷ []) ≡ x
 first-of x = omega arith
 
 -- bytes with this front are read by the service
-pub headed-again : (service invoke class_id : ℕ) (name : LogicalName) (index : ℤ) (bytes : List ℕ) (flag : ℕ) (text : List ℕ) → IsHeaded service invoke class_id name index bytes (flag ∷ text)
-    → request_at bytes ≡ service_of (front service invoke class_id name index flag) text
-headed-again service invoke class_id name index bytes flag text h =
-    let w = two_bytes h.class_bytes (ap (λ (t : List ℕ). length t) h.class_is.1 ∙ wide16.len class_id) in
-    let n = six_bytes name.0 h.name_length in
-    let i = one_byte h.index_bytes (ap (λ (t : List ℕ). length t) h.index_is.1 ∙ wide8.len (cast_unsigned w8 index)) in
-    let class_again : from_be_bytes w16 (w.0 ∷ w.1 ∷ []) ≡ class_id = ap (from_be_bytes w16) (sym w.2 ∙ h.class_is.1) ∙ wide16.again class_id h.class_is.0 in
-    let byte_again : i.0 ≡ cast_unsigned w8 index = sym (first-of i.0) ∙ ap (from_be_bytes w8) (sym i.1 ∙ h.index_is.1) ∙ wide8.again (cast_unsigned w8 index) (signed8.small index h.index_is.0) in
+pub headed-again : (service invoke : ℕ) (d : Descriptor) (bytes : List ℕ) (flag : ℕ) (text : List ℕ) → IsHeaded service invoke d bytes (flag ∷ text)
+    → request_at bytes ≡ service_of (front service invoke d flag) text
+headed-again service invoke d bytes flag text h =
+    let w = two_bytes h.class_bytes (ap (λ (t : List ℕ). length t) h.class_is.1 ∙ wide16.len d.class_id) in
+    let n = six_bytes d.name.0 h.name_length in
+    let i = one_byte h.index_bytes (ap (λ (t : List ℕ). length t) h.index_is.1 ∙ wide8.len (cast_unsigned w8 d.index)) in
+    let class_again : from_be_bytes w16 (w.0 ∷ w.1 ∷ []) ≡ d.class_id = ap (from_be_bytes w16) (sym w.2 ∙ h.class_is.1) ∙ wide16.again d.class_id h.class_is.0 in
+    let byte_again : i.0 ≡ cast_unsigned w8 d.index = sym (first-of i.0) ∙ ap (from_be_bytes w8) (sym i.1 ∙ h.index_is.1) ∙ wide8.again (cast_unsigned w8 d.index) (signed8.small d.index h.index_is.0) in
     let split : bytes ≡ service ∷ 1 ∷ invoke ∷ w.0 ∷ w.1 ∷ n.0 ∷ n.1 ∷ n.2 ∷ n.3 ∷ n.4 ∷ n.5 ∷ i.0 ∷ flag ∷ text =
     h.whole
-    ∙ ap (λ (t : List ℕ). service ∷ 1 ∷ invoke ∷ (t ++ (name.0 ++ (h.index_bytes ++ flag ∷ text)))) w.2
+    ∙ ap (λ (t : List ℕ). service ∷ 1 ∷ invoke ∷ (t ++ (d.name.0 ++ (h.index_bytes ++ flag ∷ text)))) w.2
     ∙ ap (λ (t : List ℕ). service ∷ 1 ∷ invoke ∷ w.0 ∷ w.1 ∷ (t ++ (h.index_bytes ++ flag ∷ text))) n.6
     ∙ ap (λ (t : List ℕ). service ∷ 1 ∷ invoke ∷ w.0 ∷ w.1 ∷ n.0 ∷ n.1 ∷ n.2 ∷ n.3 ∷ n.4 ∷ n.5 ∷ (t ++ flag ∷ text)) i.1 in
     ap request_at split
-    ∙ explicit-again service invoke w.0 w.1 n.0 n.1 n.2 n.3 n.4 n.5 i.0 flag text class_id name index class_again (sym n.6) (ap (cast_signed w8) byte_again ∙ signed8.redo index h.index_is.0)
+    ∙ explicit-again service invoke w.0 w.1 n.0 n.1 n.2 n.3 n.4 n.5 i.0 flag text d class_again (sym n.6) (ap (cast_signed w8) byte_again ∙ signed8.redo d.index h.index_is.0)
 
 -- what stands behind a front is bytes
-rest-bytes : (service invoke class_id : ℕ) (name : LogicalName) (index : ℤ) (bytes rest : List ℕ) → IsBytes bytes → IsHeaded service invoke class_id name index bytes rest → IsBytes rest
-rest-bytes service invoke class_id name index bytes rest b h =
+rest-bytes : (service invoke : ℕ) (d : Descriptor) (bytes rest : List ℕ) → IsBytes bytes → IsHeaded service invoke d bytes rest → IsBytes rest
+rest-bytes service invoke d bytes rest b h =
     let all = subst IsBytes h.whole b in
-    IsBytes-behind h.index_bytes rest (IsBytes-behind name.0 (h.index_bytes ++ rest) (IsBytes-behind h.class_bytes (name.0 ++ (h.index_bytes ++ rest)) (λ k. all (suc (suc (suc k))))))
+    IsBytes-behind h.index_bytes rest (IsBytes-behind d.name.0 (h.index_bytes ++ rest) (IsBytes-behind h.class_bytes (d.name.0 ++ (h.index_bytes ++ rest)) (λ k. all (suc (suc (suc k))))))
 
 -- an ACTION with a parameter is read as that ACTION
-parameter-again : (invoke class_id : ℕ) (name : LogicalName) (index : ℤ) (a : Argument) (bytes rest text : List ℕ) → IsBytes bytes → IsHeaded 195 invoke class_id name index bytes rest → IsArgument a text → rest ≡ 1 ∷ text
-    → request_at bytes ≡ Some (Act invoke class_id name index a)
-parameter-again invoke class_id name index a bytes rest text b h is e =
-    let headed = subst (IsHeaded 195 invoke class_id name index bytes) e h in
-    let text_bytes : IsBytes text = λ k. rest-bytes 195 invoke class_id name index bytes (1 ∷ text) b headed (suc k) in
-    headed-again 195 invoke class_id name index bytes 1 text headed ∙ ap (λ (x : Argument). Some (Act invoke class_id name index x)) (argument-again a text text_bytes is)
+parameter-again : (invoke : ℕ) (d : Descriptor) (a : Argument) (bytes rest text : List ℕ) → IsBytes bytes → IsHeaded 195 invoke d bytes rest → IsArgument a text → rest ≡ 1 ∷ text
+    → request_at bytes ≡ Some (Act invoke d a)
+parameter-again invoke d a bytes rest text b h is e =
+    let headed = subst (IsHeaded 195 invoke d bytes) e h in
+    let text_bytes : IsBytes text = λ k. rest-bytes 195 invoke d bytes (1 ∷ text) b headed (suc k) in
+    headed-again 195 invoke d bytes 1 text headed ∙ ap (λ (x : Argument). Some (Act invoke d x)) (argument-again a text text_bytes is)
 
 -- a form of a request is read as that request
 pub request-again : (r : Request) (bytes : List ℕ) → IsBytes bytes → IsRequest r bytes → request_at bytes ≡ Some r
-request-again (Get invoke class_id name index None) bytes b h =
-    headed-again 192 invoke class_id name index bytes 0 [] (subst (IsHeaded 192 invoke class_id name index bytes) h.2 h.1)
-request-again (Get invoke class_id name index (Some s)) bytes b h =
+request-again (Get invoke d None) bytes b h =
+    headed-again 192 invoke d bytes 0 [] (subst (IsHeaded 192 invoke d bytes) h.2 h.1)
+request-again (Get invoke d (Some s)) bytes b h =
     let p = h.2 in
-    let headed = subst (IsHeaded 192 invoke class_id name index bytes) p.2 h.1 in
-    let text_bytes : IsBytes p.0 = λ k. rest-bytes 192 invoke class_id name index bytes (1 ∷ s.0 ∷ p.0) b headed (suc (suc k)) in
-    headed-again 192 invoke class_id name index bytes 1 (s.0 ∷ p.0) headed
-    ∙ ap (λ (a : Argument). Some (Get invoke class_id name index (Some (s.0, a)))) (argument-again s.1 p.0 text_bytes p.1)
-request-again (Set invoke class_id name index false value) bytes b h =
+    let headed = subst (IsHeaded 192 invoke d bytes) p.2 h.1 in
+    let text_bytes : IsBytes p.0 = λ k. rest-bytes 192 invoke d bytes (1 ∷ s.0 ∷ p.0) b headed (suc (suc k)) in
+    headed-again 192 invoke d bytes 1 (s.0 ∷ p.0) headed
+    ∙ ap (λ (a : Argument). Some (Get invoke d (Some (s.0, a)))) (argument-again s.1 p.0 text_bytes p.1)
+request-again (Set invoke d false value) bytes b h =
     let p = h.2 in
-    let headed = subst (IsHeaded 193 invoke class_id name index bytes) p.2 h.1 in
-    let text_bytes : IsBytes p.0 = λ k. rest-bytes 193 invoke class_id name index bytes (0 ∷ p.0) b headed (suc k) in
-    headed-again 193 invoke class_id name index bytes 0 p.0 headed ∙ ap (λ (a : Argument). Some (Set invoke class_id name index false a)) (argument-again value p.0 text_bytes p.1)
-request-again (Set invoke class_id name index true value) bytes b h =
+    let headed = subst (IsHeaded 193 invoke d bytes) p.2 h.1 in
+    let text_bytes : IsBytes p.0 = λ k. rest-bytes 193 invoke d bytes (0 ∷ p.0) b headed (suc k) in
+    headed-again 193 invoke d bytes 0 p.0 headed ∙ ap (λ (a : Argument). Some (Set invoke d false a)) (argument-again value p.0 text_bytes p.1)
+request-again (Set invoke d true value) bytes b h =
     let p = h.2 in
-    headed-again 193 invoke class_id name index bytes 1 p.0 (subst (IsHeaded 193 invoke class_id name index bytes) p.2 h.1)
-    ∙ ap (λ (a : Argument). Some (Set invoke class_id name index true a)) (sym p.1)
-request-again (Act invoke class_id name index Absent) bytes b h =
-    headed-again 195 invoke class_id name index bytes 0 [] (subst (IsHeaded 195 invoke class_id name index bytes) h.2 h.1)
-request-again (Act invoke class_id name index (Value d)) bytes b h =
+    headed-again 193 invoke d bytes 1 p.0 (subst (IsHeaded 193 invoke d bytes) p.2 h.1)
+    ∙ ap (λ (a : Argument). Some (Set invoke d true a)) (sym p.1)
+request-again (Act invoke d Absent) bytes b h =
+    headed-again 195 invoke d bytes 0 [] (subst (IsHeaded 195 invoke d bytes) h.2 h.1)
+request-again (Act invoke d (Value d)) bytes b h =
     let p = h.2 in
-    parameter-again invoke class_id name index (Value d) bytes h.0 p.0 b h.1 p.1 p.2
-request-again (Act invoke class_id name index Unreadable) bytes b h =
+    parameter-again invoke d (Value d) bytes h.0 p.0 b h.1 p.1 p.2
+request-again (Act invoke d Unreadable) bytes b h =
     let p = h.2 in
-    parameter-again invoke class_id name index Unreadable bytes h.0 p.0 b h.1 p.1 p.2
+    parameter-again invoke d Unreadable bytes h.0 p.0 b h.1 p.1 p.2
 
 -- ---- and back
 
@@ -208,7 +209,7 @@ no_bytes (x ∷ xs) h = absurd (omega arith)
 
 -- the bytes are this front and the rest
 abbrev Headed : ℕ → Front → List ℕ → List ℕ → Type 0
-Headed service f bytes rest = IsHeaded service f.invoke f.class_id f.name f.index bytes rest
+Headed service f bytes rest = IsHeaded service f.invoke f.descriptor bytes rest
 
 -- the flag is the one that was tested
 with_flag : (service : ℕ) (f : Front) (bytes rest : List ℕ) (flag : ℕ) → Headed service f bytes (f.flag ∷ rest) → (f.flag == flag) ≡ true → Headed service f bytes (flag ∷ rest)
@@ -242,10 +243,10 @@ get-takes f bytes rest r b h e =
 set-takes : (f : Front) (bytes rest : List ℕ) (r : Request) → IsBytes rest → Headed 193 f bytes (f.flag ∷ rest) → set_of f rest ≡ Some r → IsRequest r bytes
 set-takes f bytes rest r b h e =
     elim (chosen (f.flag == 0) _ _ (Some r) e) [
-      | inl p ↦ subst (λ (x : Request). IsRequest x bytes) (some_is (Set f.invoke f.class_id f.name f.index false (argument_at rest)) r p.1)
+      | inl p ↦ subst (λ (x : Request). IsRequest x bytes) (some_is (Set f.invoke f.descriptor false (argument_at rest)) r p.1)
           (0 ∷ rest, with_flag 193 f bytes rest 0 h p.0, (rest, argument-takes rest b, refl))
       | inr p ↦ elim (chosen (f.flag == 1) _ _ (Some r) p.1) [
-        | inl q ↦ subst (λ (x : Request). IsRequest x bytes) (some_is (Set f.invoke f.class_id f.name f.index true Absent) r q.1)
+        | inl q ↦ subst (λ (x : Request). IsRequest x bytes) (some_is (Set f.invoke f.descriptor true Absent) r q.1)
             (1 ∷ rest, with_flag 193 f bytes rest 1 h q.0, (rest, refl, refl))
         | inr q ↦ absurd cc
       ]

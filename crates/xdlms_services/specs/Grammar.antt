@@ -1,10 +1,10 @@
 -- The forms of a request (IEC 62056-5-3): a relation between requests and whole byte lists.
-use Rattle.std.specs.Prelude.{◌≡◌, ℕ, ℤ, ◌<◌, ◌≤◌, Bool, true, false, List, [], ◌∷◌, ◌++◌, length, slice_index, Option, Some, None}
+use Rattle.std.specs.Prelude.{◌≡◌, ℕ, ◌<◌, ◌≤◌, Bool, true, false, List, [], ◌∷◌, ◌++◌, length, slice_index, Option, Some, None}
 use Rattle.std.specs.Int.{w8, w16}
 use Rattle.cosem_data.specs.Tree.{Tree, depth}
 use Rattle.cosem_data.specs.View.{tree}
-use Rattle.cosem_data.specs.declared.name.LogicalName.{LogicalName}
 use Rattle.cosem_axdr.specs.Grammar.{IsEncoding, IsUnsigned, IsSigned}
+use Rattle.meter_theory.specs.Rights.{Descriptor}
 use Rattle.object_model.specs.declared.argument.Argument.{Argument}
 use Rattle.object_model.specs.declared.argument.Argument.TheVariants.{Absent, Value, Unreadable}
 use Rattle.xdlms_services.specs.declared.request.Request.{Request}
@@ -17,13 +17,13 @@ IsArgument (Value value) bytes = IsEncoding (tree value) bytes × (depth (tree v
 IsArgument Unreadable bytes = (t : Tree) → IsEncoding t bytes → depth t ≤ 16 → ⊥
 
 -- the tag, 01 for the normal form, the invoke byte, and the Cosem-Attribute-Descriptor or the Cosem-Method-Descriptor: class in two bytes, name in six, index in one; then the rest (IEC 62056-5-3, Get-Request-Normal, Set-Request-Normal and Action-Request-Normal)
-pub record IsHeaded (service invoke class_id : ℕ) (name : LogicalName) (index : ℤ) (bytes rest : List ℕ) : Type 0 where
+pub record IsHeaded (service invoke : ℕ) (d : Descriptor) (bytes rest : List ℕ) : Type 0 where
   pub class_bytes : List ℕ
-  pub class_is : IsUnsigned w16 class_id class_bytes
-  pub name_length : length name.0 ≡ 6
+  pub class_is : IsUnsigned w16 d.class_id class_bytes
+  pub name_length : length d.name.0 ≡ 6
   pub index_bytes : List ℕ
-  pub index_is : IsSigned w8 index index_bytes
-  pub whole : bytes ≡ service ∷ 1 ∷ invoke ∷ (class_bytes ++ (name.0 ++ (index_bytes ++ rest)))
+  pub index_is : IsSigned w8 d.index index_bytes
+  pub whole : bytes ≡ service ∷ 1 ∷ invoke ∷ (class_bytes ++ (d.name.0 ++ (index_bytes ++ rest)))
 
 -- what stands behind the index of a GET: 00, or 01 and its Selective-Access-Descriptor, the selector and the parameter (IEC 62056-5-3, Get-Request-Normal)
 abbrev pub IsSelection : Option (ℕ × Argument) → List ℕ → Type 0
@@ -42,9 +42,9 @@ IsInvocation argument rest = (text : List ℕ) × IsArgument argument text × (r
 
 -- the bytes are a form of the request (IEC 62056-5-3, xDLMS-APDU: C0 is get-request, C1 is set-request, C3 is action-request)
 abbrev pub IsRequest : Request → List ℕ → Type 0
-IsRequest (Get invoke class_id name index selection) bytes = (rest : List ℕ) × IsHeaded 0xC0 invoke class_id name index bytes rest × IsSelection selection rest
-IsRequest (Set invoke class_id name index selected value) bytes = (rest : List ℕ) × IsHeaded 0xC1 invoke class_id name index bytes rest × IsSetting selected value rest
-IsRequest (Act invoke class_id name index argument) bytes = (rest : List ℕ) × IsHeaded 0xC3 invoke class_id name index bytes rest × IsInvocation argument rest
+IsRequest (Get invoke d selection) bytes = (rest : List ℕ) × IsHeaded 0xC0 invoke d bytes rest × IsSelection selection rest
+IsRequest (Set invoke d selected value) bytes = (rest : List ℕ) × IsHeaded 0xC1 invoke d bytes rest × IsSetting selected value rest
+IsRequest (Act invoke d argument) bytes = (rest : List ℕ) × IsHeaded 0xC3 invoke d bytes rest × IsInvocation argument rest
 
 -- the bytes are a form of no request
 abbrev pub IsNoRequest : List ℕ → Type 0

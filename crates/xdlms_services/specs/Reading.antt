@@ -38,7 +38,7 @@ selected_at (selector ∷ text) = Some (selector, argument_at text)
 
 -- the GET with this front and selection
 abbrev pub get_with : Front → Option (ℕ × Argument) → Request
-get_with f selection = Get f.invoke f.class_id f.name f.index selection
+get_with f selection = Get f.invoke f.descriptor selection
 
 -- the rest of a GET (IEC 62056-5-3, Get-Request-Normal)
 abbrev pub get_of : Front → List ℕ → Option Request
@@ -50,13 +50,13 @@ get_of f rest =
 -- the rest of a SET (IEC 62056-5-3, Set-Request-Normal)
 abbrev pub set_of : Front → List ℕ → Option Request
 set_of f rest =
-    if f.flag == 0 then Some (Set f.invoke f.class_id f.name f.index false (argument_at rest))
-    else if f.flag == 1 then Some (Set f.invoke f.class_id f.name f.index true Absent)
+    if f.flag == 0 then Some (Set f.invoke f.descriptor false (argument_at rest))
+    else if f.flag == 1 then Some (Set f.invoke f.descriptor true Absent)
     else None
 
 -- the ACTION with this front and argument
 abbrev pub act_with : Front → Argument → Request
-act_with f argument = Act f.invoke f.class_id f.name f.index argument
+act_with f argument = Act f.invoke f.descriptor argument
 
 -- the rest of an ACTION (IEC 62056-5-3, Action-Request-Normal)
 abbrev pub act_of : Front → List ℕ → Option Request
@@ -79,9 +79,11 @@ front_at bytes = record {
   service = slice_index bytes 0;
   form = slice_index bytes 1;
   invoke = slice_index bytes 2;
-  class_id = from_be_bytes w16 (slice_index bytes 3 ∷ slice_index bytes 4 ∷ []);
-  name = record { 0 = slice_index bytes 5 ∷ slice_index bytes 6 ∷ slice_index bytes 7 ∷ slice_index bytes 8 ∷ slice_index bytes 9 ∷ slice_index bytes 10 ∷ [] };
-  index = cast_signed w8 (slice_index bytes 11);
+  descriptor = record {
+    class_id = from_be_bytes w16 (slice_index bytes 3 ∷ slice_index bytes 4 ∷ []);
+    name = record { 0 = slice_index bytes 5 ∷ slice_index bytes 6 ∷ slice_index bytes 7 ∷ slice_index bytes 8 ∷ slice_index bytes 9 ∷ slice_index bytes 10 ∷ [] };
+    index = cast_signed w8 (slice_index bytes 11);
+  };
   flag = slice_index bytes 12;
 }
 

@@ -9,4 +9,4 @@ pub mod writing;
 
 pub use reading::{ApduFault, read_apdu};
 pub use request::Request;
-pub use writing::{Service, write_code, write_reply, write_value};
+pub use writing::{Service, write_code, write_reply, write_shown, write_value};

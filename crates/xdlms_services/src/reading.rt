@@ -7,6 +7,7 @@ use crate::request::Request;
 use cosem_axdr::fault::ReadFault;
 use cosem_axdr::reading::read_data;
 use cosem_data::name::LogicalName;
+use meter_theory::refs::Descriptor;
 use object_model::argument::Argument;
 use std::alloc::Global;
 
@@ -25,9 +26,7 @@ struct Front {
     service: u8,
     form: u8,
     invoke: u8,
-    class_id: u16,
-    name: LogicalName,
-    index: i8,
+    descriptor: Descriptor,
     flag: u8,
 }
 
@@ -89,9 +88,11 @@ fn front_of(bytes: &[u8]) -> Front
         service: bytes[0],
         form: bytes[1],
         invoke: bytes[2],
-        class_id: u16::from_be_bytes([bytes[3], bytes[4]]),
-        name: LogicalName([bytes[5], bytes[6], bytes[7], bytes[8], bytes[9], bytes[10]]),
-        index: bytes[11].cast_signed(),
+        descriptor: Descriptor {
+            class_id: u16::from_be_bytes([bytes[3], bytes[4]]),
+            name: LogicalName([bytes[5], bytes[6], bytes[7], bytes[8], bytes[9], bytes[10]]),
+            index: bytes[11].cast_signed(),
+        },
         flag: bytes[12],
     }
 }
@@ -119,9 +120,7 @@ fn get_request(alloc: Global, front: Front, rest: &[u8]) -> Result<Request, Apdu
     };
     Ok(Request::Get {
         invoke: front.invoke,
-        class_id: front.class_id,
-        name: front.name,
-        index: front.index,
+        attribute: front.descriptor,
         selection,
     })
 }
@@ -137,9 +136,7 @@ fn set_request(alloc: Global, front: Front, rest: &[u8]) -> Result<Request, Apdu
     };
     Ok(Request::Set {
         invoke: front.invoke,
-        class_id: front.class_id,
-        name: front.name,
-        index: front.index,
+        attribute: front.descriptor,
         selected: front.flag == 1,
         value,
     })
@@ -156,9 +153,7 @@ fn act_request(alloc: Global, front: Front, rest: &[u8]) -> Result<Request, Apdu
     };
     Ok(Request::Act {
         invoke: front.invoke,
-        class_id: front.class_id,
-        name: front.name,
-        index: front.index,
+        method: front.descriptor,
         argument,
     })
 }

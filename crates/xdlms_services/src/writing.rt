@@ -1,12 +1,16 @@
 ghost use Rattle.std.specs.Prelude.{◌≡◌, ◌++◌, OnErr, OnOk};
-ghost use Rattle.xdlms_services.specs.Replies.{CanWrite, IsReply, canonical_reply};
+ghost use Rattle.meter_theory.specs.Replies as answers;
+ghost use Rattle.meter_core.specs.StepView.{shown_of};
+ghost use Rattle.xdlms_services.specs.Replies.{CanReply, CanWrite, IsReply, IsResponse, canonical_reply, reply_bytes};
 ghost use Rattle.cosem_axdr.specs.Canonical.{HasLengths};
 ghost use Rattle.cosem_data.specs.View.{tree};
 
+use class_profile::entries::Entries;
 use cosem_axdr::writing::write_data;
 use cosem_data::data::Data;
 use cosem_data::memory::Memory;
 use meter_core::reply::Reply;
+use meter_core::shown::Shown;
 use meter_theory::access::AccessCode;
 
 /// The services of IEC 62056-5-3 that the meter replies to.
@@ -63,6 +67,42 @@ pub fn write_reply(
         (_, Reply::Code(code)) => write_code(invoke, *code, service, out),
         _ => unreachable!(),
     }
+}
+
+/// Puts the APDU of the answer to a GET behind what is there: Get-Response-Normal of IEC 62056-5-3, a value in its shortest
+/// encoding, which is written from where it stands.
+///
+/// # Errors
+/// `Memory` where memory is refused; the vector then has what it had before.
+pub fn write_shown(invoke: u8, shown: &Shown<'_>, out: &mut Vec<u8>) -> Result<(), Memory>
+    requires { CanReply Service.Get (shown_of shown.now) }
+    ensures shortest { OnOk result (out.new.items ≡ out.old.items ++ reply_bytes Service.Get invoke (shown_of shown.now)) }
+    ensures form { OnOk result (IsResponse Service.Get invoke (shown_of shown.now) (reply_bytes Service.Get invoke (shown_of shown.now))) }
+    ensures err { OnErr result (out.new.items ≡ out.old.items) }
+{
+    match shown {
+        Shown::Value(value) => write_value(invoke, value, out),
+        Shown::Made(value) => write_value(invoke, value, out),
+        Shown::Entries(entries) => write_entries(invoke, entries, out),
+        Shown::Code(code) => write_code(invoke, *code, Service::Get, out),
+    }
+}
+
+/// Puts the APDU of the reply to a GET that found entries of a profile behind what is there.
+#[tactic(auto, using(cosem_axdr::proofs::Prefixes::canonical_is_encoding))]
+fn write_entries(invoke: u8, entries: &Entries<'_>, out: &mut Vec<u8>) -> Result<(), Memory>
+    requires { HasLengths entries.now }
+    ensures shortest { OnOk result (out.new.items ≡ out.old.items ++ reply_bytes Service.Get invoke (answers.Value entries.now)) }
+    ensures form { OnOk result (IsResponse Service.Get invoke (answers.Value entries.now) (reply_bytes Service.Get invoke (answers.Value entries.now))) }
+    ensures err { OnErr result (out.new.items ≡ out.old.items) }
+{
+    let len = out.len();
+    out.extend_from_slice(&[GET_RESPONSE, NORMAL, invoke, VALUE])?;
+    let put = entries.write(out);
+    if put.is_err() {
+        out.truncate(len);
+    }
+    put
 }
 
 /// Puts the APDU of the reply to a GET that found the value behind what is there: Get-Response-Normal of

@@ -4,12 +4,24 @@ use cosem_data::memory::Memory;
 use cosem_data::name::LogicalName;
 use meter_core::reply::Reply;
 use meter_core::step::Step;
+use meter_theory::refs::Descriptor;
 use object_model::argument::Argument;
 use std::alloc::Global;
 use std::test::Fail;
 
-/// Device ID 1, as the OBIS table of IEC 62056-6-1 has it.
-const DEVICE: LogicalName = LogicalName([0, 0, 96, 1, 0, 255]);
+/// The value of Device ID 1, as the OBIS table of IEC 62056-6-1 has it.
+const VALUE: Descriptor = Descriptor {
+    class_id: 1,
+    name: LogicalName([0, 0, 96, 1, 0, 255]),
+    index: 2,
+};
+
+/// The buffer of load profile 1, as the OBIS table of IEC 62056-6-2 has it.
+const BUFFER: Descriptor = Descriptor {
+    class_id: 7,
+    name: LogicalName([1, 0, 99, 1, 0, 255]),
+    index: 2,
+};
 
 fn text(alloc: Global) -> Result<Data, Memory> {
     let bytes = Vec::from_slice(alloc, b"meter")?;
@@ -26,9 +38,7 @@ fn is_text(value: &Data) -> bool {
 fn copied_set(alloc: Global) -> Result<Step, Memory> {
     let step = Step::Set {
         client: 3,
-        class_id: 1,
-        name: DEVICE,
-        index: 2,
+        attribute: VALUE,
         selected: false,
         value: Argument::Value(text(alloc)?),
     };
@@ -39,12 +49,10 @@ fn is_the_set(step: &Step) -> bool {
     match step {
         Step::Set {
             client: 3,
-            class_id: 1,
-            name,
-            index: 2,
+            attribute,
             selected: false,
             value: Argument::Value(value),
-        } => *name == DEVICE && is_text(value),
+        } => *attribute == VALUE && is_text(value),
         _ => false,
     }
 }
@@ -52,22 +60,20 @@ fn is_the_set(step: &Step) -> bool {
 fn copied_get(alloc: Global) -> Result<Step, Memory> {
     let step = Step::Get {
         client: 1,
-        class_id: 7,
-        name: DEVICE,
-        index: 2,
+        attribute: BUFFER,
         selection: Some((2, Argument::Value(text(alloc)?))),
     };
     step.try_clone(alloc)
 }
 
-/// A GET of an attribute with this index by selector 2 and the text.
+/// A GET of a buffer by selector 2 and the text.
 fn is_the_get(step: &Step) -> bool {
     match step {
         Step::Get {
-            index: 2,
+            client: 1,
+            attribute,
             selection: Some((2, Argument::Value(parameter))),
-            ..
-        } => is_text(parameter),
+        } => *attribute == BUFFER && is_text(parameter),
         _ => false,
     }
 }

@@ -6,6 +6,7 @@ use cosem_data::data::Data;
 use cosem_data::name::LogicalName;
 use meter_core::reply::Reply;
 use meter_core::step::Step;
+use meter_theory::refs::Descriptor;
 use object_model::argument::Argument;
 use std::alloc::Global;
 use std::process::Abort;
@@ -65,6 +66,14 @@ policy = { influence = ["manager"], learn = ["manager"] }
 /// An attribute or a method: class, name and index.
 pub(super) type Named = (u16, LogicalName, i8);
 
+pub(super) fn descriptor((class_id, name, index): Named) -> Descriptor {
+    Descriptor {
+        class_id,
+        name,
+        index,
+    }
+}
+
 /// What happens to the meter. Values and parameters are told by their encoding in hex, where there are any, and moments by
 /// their text.
 #[derive(Clone, Copy)]
@@ -115,26 +124,20 @@ fn selection(alloc: Global, text: &str) -> Result<Option<(u8, Argument)>, Fail> 
 /// The step of an event.
 pub(super) fn step(alloc: Global, event: Event) -> Result<Step, Fail> {
     Ok(match event {
-        Event::Get((class_id, name, index), text) => Step::Get {
+        Event::Get(named, text) => Step::Get {
             client: MANAGER,
-            class_id,
-            name,
-            index,
+            attribute: descriptor(named),
             selection: selection(alloc, text)?,
         },
         Event::Set(text) => Step::Set {
             client: MANAGER,
-            class_id: 1,
-            name: ALARM,
-            index: 2,
+            attribute: descriptor((1, ALARM, 2)),
             selected: false,
             value: argument(alloc, text)?,
         },
-        Event::Act((class_id, name, index), text) => Step::Act {
+        Event::Act(named, text) => Step::Act {
             client: MANAGER,
-            class_id,
-            name,
-            index,
+            method: descriptor(named),
             argument: argument(alloc, text)?,
         },
         Event::Input(energy) => Step::Input {

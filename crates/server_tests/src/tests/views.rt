@@ -1,9 +1,9 @@
 use super::samples::{
-    ALARM, ENERGY, INSTALLER, MANAGER, NOBODY, READER, TEXT, cell, is_written, plan_of, value_of,
+    ALARM, ENERGY, INSTALLER, MANAGER, NOBODY, READER, TEXT, cell, is_written, plan_of,
 };
+use super::steps::descriptor;
 use association_views::association::{association_attribute, fixed_attribute};
 use association_views::permits::{permit_action, permit_get, permit_set};
-use association_views::selection::select;
 use association_views::view::View;
 use cosem_class::class::{ClassFault, InterfaceClass};
 use cosem_data::data::Data;
@@ -55,32 +55,27 @@ fn a_view_is_read(rt: HostRuntime) -> Result<(), Fail> {
     Ok(())
 }
 
-/// What is no entry descriptor leaves the whole.
-#[test]
-fn other_selections_leave_the_whole(rt: HostRuntime) -> Result<(), Fail> {
-    for argument in [Argument::Absent, Argument::Unreadable] {
-        let rows = value_of(rt.alloc(), "0102020111010201110A")?;
-        let whole = select(rt.alloc(), &Some((2, argument)), rows);
-        is_written(&rt, rt.alloc(), whole, "0102020111010201110A")?;
-    }
-    Ok(())
-}
-
 /// The manager may do all of this but set no value; at the place of no client nothing is seen.
 #[test]
 fn requests_are_permitted(rt: HostRuntime) -> Result<(), Fail> {
     let plan = plan_of(rt.alloc(), TEXT)?;
+    let alarm = descriptor((1, ALARM, 2));
     for (client, want) in [
         (MANAGER, Ok(())),
         (NOBODY, Err(AccessCode::ObjectUndefined)),
     ] {
-        let got = permit_get(&plan, client, 15, &ASSOCIATION, 2, &None);
+        let got = permit_get(&plan, client, &descriptor((15, ASSOCIATION, 2)), &None);
         let value = Argument::Value(Data::Unsigned(1));
-        let set = permit_set(&plan, client, 1, &ALARM, 2, false, &value);
-        let called = permit_action(&plan, client, 3, &ENERGY, 1, &Argument::Absent);
+        let set = permit_set(&plan, client, &alarm, false, &value);
+        let called = permit_action(
+            &plan,
+            client,
+            &descriptor((3, ENERGY, 1)),
+            &Argument::Absent,
+        );
         assert_eq!(rt; (got, set, called), (want, want, want), "by {client}");
     }
-    let absent = permit_set(&plan, MANAGER, 1, &ALARM, 2, false, &Argument::Absent);
+    let absent = permit_set(&plan, MANAGER, &alarm, false, &Argument::Absent);
     assert_eq!(rt; absent, Err(AccessCode::TypeUnmatched));
     Ok(())
 }

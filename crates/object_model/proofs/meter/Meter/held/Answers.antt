@@ -1,9 +1,13 @@
-use Rattle.std.proofs.Common.{◌∙◌, ap, sym, arith}
-use Rattle.std.specs.List.{position_from}
-use Rattle.meter_theory.specs.State.{value}
+use Rattle.std.proofs.Common.{◌≡◌, ◌∙◌, ap, sym, arith, List, flat_map, is_some}
+use Rattle.std.specs.List.{list_any, position_from}
+use Rattle.cosem_data.specs.Cells.{same_cell}
+use Rattle.cosem_data.specs.declared.cell.CellRef.{CellRef}
+use Rattle.meter_theory.specs.State.{keys, value}
+use Rattle.meter_theory.specs.Plan.{cells}
+use Rattle.object_model.specs.declared.stored.Stored.{Stored}
 use Rattle.object_model.specs.Stored.{stored_pairs, stores}
 use Rattle.object_model.proofs.Aligned.{found-stored}
-use Rattle.object_model.proofs.Stores.{nowhere-value}
+use Rattle.object_model.proofs.Stores.{is_some-stored, nowhere-value}
 use Rattle.object_model.proofs.Changed.{split, value-in}
 use Rattle.object_model.proofs.meter.Meter.held.Goals as goal
 
@@ -28,3 +32,17 @@ pub returns-in-None-clause-none : goal.returns-in-None-clause-none
 returns-in-None-clause-none c =
     ap (λ s. value s c.args.cell.now) (sym c.self.view_is)
     ∙ nowhere-value c.self.inside.objects.items c.args.cell.now (sym (ap (position_from (stores c.args.cell.now) 0) (sym c.deref.ensures.value) ∙ sym c.place_of.ensures ∙ c.in-None.is))
+
+-- what is found is a cell of the plan, and nothing else is one
+is_cell-found : (ms : List Stored) (x : CellRef) (cells : List CellRef) → keys (flat_map stored_pairs ms) ≡ cells → is_some (position_from (stores x) 0 ms) ≡ list_any (same_cell x) cells
+is_cell-found ms x cells e = is_some-stored ms x 0 ∙ ap (list_any (same_cell x)) e
+
+pub returns-in-Some-clause-cell : goal.returns-in-Some-clause-cell
+returns-in-Some-clause-cell c =
+    sym (ap is_some (ap (position_from (stores c.args.cell.now) 0) (sym c.deref.ensures.value) ∙ sym c.place_of.ensures ∙ c.in-Some.is))
+    ∙ is_cell-found c.self.inside.objects.items c.args.cell.now (cells c.args.instance.now.plan) (ap keys c.self.view_is ∙ c.requires.of_plan.cells)
+
+pub returns-in-None-clause-cell : goal.returns-in-None-clause-cell
+returns-in-None-clause-cell c =
+    sym (ap is_some (ap (position_from (stores c.args.cell.now) 0) (sym c.deref.ensures.value) ∙ sym c.place_of.ensures ∙ c.in-None.is))
+    ∙ is_cell-found c.self.inside.objects.items c.args.cell.now (cells c.args.instance.now.plan) (ap keys c.self.view_is ∙ c.requires.of_plan.cells)

@@ -1,8 +1,0 @@
-use Rattle.std.proofs.Common.{◌∙◌, ap, sym}
-use Rattle.cosem_data.specs.View.{tree}
-use Rattle.cosem_data.specs.TreeCode.{parts-trees}
-use Rattle.meter_theory.specs.Times.{parts_of}
-use Rattle.association_views.proofs.selection.parts_of.Goals as goal
-
-pub returns-in-Structure : goal.returns-in-Structure
-returns-in-Structure c = c.as_slice.ensures ∙ sym (parts-trees c.in-Structure.items) ∙ ap (λ v. parts_of (tree v)) (sym c.in-Structure.is)
