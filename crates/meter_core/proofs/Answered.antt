@@ -15,11 +15,12 @@ use Rattle.cosem_data.specs.declared.name.LogicalName.{LogicalName}
 use Rattle.meter_theory.specs.declared.access.AccessCode.{AccessCode}
 use Rattle.meter_theory.specs.declared.access.AccessCode.TheVariants as codes
 use Rattle.meter_theory.specs.Access.{is_success}
+use Rattle.meter_theory.specs.declared.refs.Descriptor.{Descriptor}
 use Rattle.meter_theory.specs.State.{State}
 use Rattle.meter_theory.specs.Lists.{IsIn}
 use Rattle.meter_theory.specs.Plan.{Plan, Object, Part, ProfileGeneric, association, association_name, buffer, cells, interface_at, interface_of, is_cell, object_at, rule_of, start_of}
 use Rattle.meter_theory.specs.Value.{Rule}
-use Rattle.meter_theory.specs.Rights.{Argument, Given, Descriptor, Selection, cell_of, class_is, method_of, get_answer, get_places, set_answer, act_answer, set_places, meets_rule, takes_selection}
+use Rattle.meter_theory.specs.Rights.{Argument, Given, Selection, cell_of, class_is, method_of, get_answer, get_places, set_answer, act_answer, set_places, meets_rule, takes_selection}
 use Rattle.meter_theory.specs.Steps.{Step, Get, Set, Act, Input, CaptureAt, Evaluate, ScheduleAt, client_of, effects, effects_of, given_value, method_effects, next}
 use Rattle.meter_theory.specs.Replies.{Value, Code, Quiet, attribute, selected, reply_to}
 use Rattle.meter_theory.specs.States.{MayStand}
@@ -28,9 +29,13 @@ use Rattle.meter_theory.proofs.Rights.{place_passed, cell_of_found, get_class}
 use Rattle.cosem_data.specs.declared.data.Data.{Data}
 use Rattle.object_model.specs.declared.argument.Argument as code
 use Rattle.object_model.specs.declared.argument.Argument.TheVariants as arguments
-use Rattle.object_model.specs.ArgumentView.{argument_of}
+use Rattle.object_model.specs.ArgumentView.{argument_of, selection_of}
 use Rattle.association_views.specs.Permits.{permitted}
+use Rattle.meter_core.specs.Copies.{shows_value}
 use Rattle.meter_core.specs.Memory.{needs_no_memory}
+use Rattle.meter_core.specs.StepView.{shown_of}
+use Rattle.meter_core.specs.declared.shown.Shown.{Shown}
+use Rattle.meter_core.specs.declared.shown.Shown.TheVariants as shown
 
 -- no effects are those of a list of no length
 no_effects : {A : Type 0} (xs : List A) → (length xs == 0) ≡ true → xs ≡ []
@@ -120,9 +125,33 @@ selects_buffer P c d (Some s) unit h some =
     let class = and_parts _ _ takes in
     let class_is_7 : d.class_id ≡ 7 = eqb-true d.class_id 7 class.0 in
     let index_is_2 = eqb-true (unsigned_abs d.index) 2 (and_parts _ _ class.1).0 in
-    let there = buffer_in P d.name (subst (λ k. class_is k (interface_at P d.name) ≡ true) class_is_7 (get_class P c d (Some s) success)) in
-    (class_is_7, index_is_2, ap (λ k. list_any (same_cell (cell k d.name (unsigned_abs d.index))) (cells P)) class_is_7
-    ∙ (ap (λ i. list_any (same_cell (cell 7 d.name i)) (cells P)) index_is_2 ∙ in_cells (cells P) (buffer d.name) there))
+    let there = buffer_in P d.name (subst (λ k. class_is k (interface_at P d.name) ≡ true) class_is_7 (get_class P c d (Some s) success)) in (
+      class_is_7,
+      index_is_2,
+      ap (λ k. list_any (same_cell (cell k d.name (unsigned_abs d.index))) (cells P)) class_is_7
+          ∙ (ap (λ i. list_any (same_cell (cell 7 d.name i)) (cells P)) index_is_2 ∙ in_cells (cells P) (buffer d.name) there),
+    )
+
+pub is_some-selection : (selection : Option (ℕ × code.Argument)) → is_some (selection_of selection) ≡ is_some selection
+is_some-selection None = refl
+is_some-selection (Some s) = refl
+
+-- without a selection the whole is left
+pub unselected : (selection : Option Selection) (v : Tree) → (is_some selection ≡ true → ⊥) → v ≡ selected selection v
+unselected None v n = refl
+unselected (Some s) v n = absurd (n refl)
+
+-- what is shown where a GET is refused is no value
+pub code_shown : (P : Plan) (s : State) (c : ℕ) (d : Descriptor) (selection : Option Selection) (answer : Shown) → shown_of answer ≡ reply_to P s (Get c d selection)
+    → needs_no_memory P s (Get c d selection) ≡ true → shows_value answer ≡ false
+code_shown P s c d selection answer is needs = at (is_success (get_answer P c d selection)) answer needs is
+  where
+    at : (b : Bool) (x : Shown) → not b ≡ true → shown_of x ≡ cond b (Value (selected selection (attribute P s c (cell_of d)))) (Code (get_answer P c d selection)) → shows_value x ≡ false
+    at true x n e = cc
+    at false (shown.Value v) n e = cc
+    at false (shown.Entries rows) n e = cc
+    at false (shown.Made v) n e = cc
+    at false (shown.Code code) n e = refl
 
 -- SET
 

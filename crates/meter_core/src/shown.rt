@@ -45,8 +45,8 @@ impl<'a> Shown<'a> {
 
     /// The answer as a reply that owns its value. The only error is that memory was refused; a result takes none.
     pub fn into_reply(self, alloc: Global) -> Result<Reply, Memory>
-        ensures equal { IfOk result (λ reply. reply_of reply ≡ shown_of self) }
-        ensures bare { shows_value self ≡ false → IsOk result }
+        ensures equal { IfOk result (λ reply. reply_of reply ≡ shown_of self.entry) }
+        ensures bare { shows_value self.entry ≡ false → IsOk result }
     {
         Ok(match self {
             Shown::Value(value) => Reply::Value(value.try_clone(alloc)?),
@@ -79,16 +79,14 @@ pub fn show<'a>(
     let cell = attribute.attribute();
     match meter.held(&instance, &cell) {
         Some(held) => Ok(show_held(held, selection)),
-        None => Ok(Shown::Made(fixed_attribute_at(
-            alloc, &instance, client, cell.index,
-        )?)),
+        None => Ok(Shown::Made(fixed_attribute_at(alloc, &instance, client, cell.index)?)),
     }
 }
 
 /// What a selection leaves of the value of a cell. Only a buffer takes one.
 fn show_held<'a>(held: Held<'a>, selection: &Option<(u8, Argument)>) -> Shown<'a>
     requires { is_some selection.now ≡ true → is_rows held ≡ true }
-    ensures { shown_of result ≡ answers.Value (selected (selection_of selection.now) (held_tree held)) }
+    ensures { shown_of result ≡ answers.Value (selected (selection_of selection.now) (held_tree held.entry)) }
 {
     match held {
         Held::Value(value) => Shown::Value(value),

@@ -7,7 +7,7 @@ use Rattle.std.proofs.lemmas.Bool.{ltb-false, le-ltb, eqb-true}
 use Rattle.cosem_data.specs.Tree.{Tree, depth}
 use Rattle.cosem_data.specs.View.{tree, data_of-tree, tree-data_of}
 use Rattle.cosem_data.specs.declared.name.LogicalName.{LogicalName}
-use Rattle.meter_theory.specs.Rights.{Descriptor}
+use Rattle.meter_theory.specs.declared.refs.Descriptor.{Descriptor}
 use Rattle.cosem_axdr.specs.declared.fault.ReadFault.{ReadFault}
 use Rattle.cosem_axdr.specs.Grammar.{IsEncoding}
 use Rattle.cosem_axdr.specs.Reading.{data_at}

@@ -4,7 +4,7 @@ use Rattle.std.specs.Int.{w8, w16}
 use Rattle.cosem_data.specs.Tree.{Tree, depth}
 use Rattle.cosem_data.specs.View.{tree}
 use Rattle.cosem_axdr.specs.Grammar.{IsEncoding, IsUnsigned, IsSigned}
-use Rattle.meter_theory.specs.Rights.{Descriptor}
+use Rattle.meter_theory.specs.declared.refs.Descriptor.{Descriptor}
 use Rattle.object_model.specs.declared.argument.Argument.{Argument}
 use Rattle.object_model.specs.declared.argument.Argument.TheVariants.{Absent, Value, Unreadable}
 use Rattle.xdlms_services.specs.declared.request.Request.{Request}
