@@ -3,7 +3,8 @@ use Rattle.std.proofs.Common.{◌≡◌, ℕ, Bool, true, false, cond, List, [],
 use Rattle.std.specs.Option.{option_map}
 use Rattle.std.specs.List.{flat_map, cons_option}
 use Rattle.cosem_data.specs.Tree.{Tree}
-use Rattle.cosem_data.specs.View.{tree}
+use Rattle.cosem_axdr.specs.Canonical.{HasLengths}
+use Rattle.meter_theory.specs.Access.{is_success}
 use Rattle.meter_theory.specs.declared.access.AccessCode.{AccessCode}
 use Rattle.meter_theory.specs.Plan.{Plan, start}
 use Rattle.meter_theory.specs.State.{State}
@@ -11,19 +12,17 @@ use Rattle.meter_theory.specs.Sound.{IsSound}
 use Rattle.meter_theory.specs.States.{IsState}
 use Rattle.meter_theory.specs.Steps.{next}
 use Rattle.meter_theory.specs.Replies as theory
-use Rattle.meter_theory.specs.Replies.{reply_to, replies}
+use Rattle.meter_theory.specs.Replies.{reply_to, replies, selected}
+use Rattle.meter_theory.specs.Rights.{cell_of, get_answer}
 use Rattle.meter_theory.proofs.Lengths.{reply-writable}
-use Rattle.meter_core.specs.StepView.{reply_of}
-use Rattle.meter_core.specs.declared.reply.Reply.{Reply}
-use Rattle.meter_core.specs.declared.reply.Reply.TheVariants.{Value, Code, Quiet}
+use Rattle.meter_core.specs.StepView.{selection_of}
 use Rattle.xdlms_services.specs.declared.request.Request.{Request}
 use Rattle.xdlms_services.specs.declared.request.Request.TheVariants.{Get, Set, Act}
-use Rattle.xdlms_services.specs.declared.writing.Service.{Service}
 use Rattle.xdlms_services.specs.declared.writing.Service.TheVariants as services
 use Rattle.xdlms_services.specs.Reading.{request_at}
-use Rattle.xdlms_services.specs.Replies.{CanWrite, canonical_reply}
+use Rattle.xdlms_services.specs.Replies.{CanReply}
 use Rattle.meter_server.specs.Asking.{Ask}
-use Rattle.meter_server.specs.Answering.{service_of, invoke_of, step_of_request, reply_bytes, replied_with, next_by, reply_by, next_of, reply_of_ask, exception, Task, Answer, Take, steps_of, apdus_from, apdus_of}
+use Rattle.meter_server.specs.Answering.{service_of, step_of_request, next_by, reply_by, next_of, reply_of_ask, exception, Task, Answer, Take, steps_of, apdus_from, apdus_of}
 use Rattle.meter_server.specs.Spelling.{reply_text}
 use Rattle.meter_server.specs.Running.{tasks_of, printed}
 use Rattle.meter_server.specs.Pieces.{replies_to, printed_from}
@@ -31,12 +30,13 @@ use Rattle.meter_server.specs.Pieces.{replies_to, printed_from}
 -- the reply to a request of a sound plan's meter can be written
 pub can_reply : (P : Plan) → IsSound P → (s : State) → IsState P s → (client : ℕ) (request : Request) → CanReply (service_of request) (reply_to P s (step_of_request client request))
 can_reply P sound s k client (Get invoke attribute selection) =
-    at (is_success (get_answer P client attribute (selection_of selection))) refl
+    let code = get_answer P client attribute (selection_of selection) in
+    let value = selected (selection_of selection) (theory.attribute P s client (cell_of attribute)) in
+    at code value (is_success code) (λ is. reply-writable P sound s k (step_of_request client (Get invoke attribute selection)) value (ap (λ b. cond b (theory.Value value) (theory.Code code)) is))
   where
-    at : (b : Bool) → is_success (get_answer P client attribute (selection_of selection)) ≡ b
-        → CanReply services.Get (cond b (theory.Value (selected (selection_of selection) (theory.attribute P s client (cell_of attribute)))) (theory.Code (get_answer P client attribute (selection_of selection))))
-    at true is = reply-writable P sound s k (step_of_request client (Get invoke attribute selection)) _ (ap (λ b. cond b _ _) is)
-    at false is = tt
+    at : (code : AccessCode) (value : Tree) (b : Bool) → (b ≡ true → HasLengths value) → CanReply services.Get (cond b (theory.Value value) (theory.Code code))
+    at code value true lengths = lengths refl
+    at code value false lengths = tt
 can_reply P sound s k client (Set invoke attribute selected value) = tt
 can_reply P sound s k client (Act invoke method argument) = tt
 

@@ -193,9 +193,9 @@ request-again (Set invoke d true value) bytes b h =
     ∙ ap (λ (a : Argument). Some (Set invoke d true a)) (sym p.1)
 request-again (Act invoke d Absent) bytes b h =
     headed-again 195 invoke d bytes 0 [] (subst (IsHeaded 195 invoke d bytes) h.2 h.1)
-request-again (Act invoke d (Value d)) bytes b h =
+request-again (Act invoke d (Value v)) bytes b h =
     let p = h.2 in
-    parameter-again invoke d (Value d) bytes h.0 p.0 b h.1 p.1 p.2
+    parameter-again invoke d (Value v) bytes h.0 p.0 b h.1 p.1 p.2
 request-again (Act invoke d Unreadable) bytes b h =
     let p = h.2 in
     parameter-again invoke d Unreadable bytes h.0 p.0 b h.1 p.1 p.2

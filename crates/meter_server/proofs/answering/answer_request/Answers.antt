@@ -1,27 +1,30 @@
-use Rattle.std.proofs.Common.{◌≡◌, ◌++◌, inr, ℕ, List, refl, ◌∙◌, ap, sym, subst, OnOk, OnErr, Result, Ok, Err}
-use Rattle.meter_theory.specs.Replies.{reply_to}
+use Rattle.std.proofs.Common.{◌≡◌, inr, sym, ap, subst, ◌∙◌, OnOk, OnErr, Result, Ok, Err}
+use Rattle.meter_core.specs.StepView.{shown_of}
 use Rattle.meter_theory.specs.Steps.{next}
-use Rattle.xdlms_services.specs.declared.writing.Service.{Service}
-use Rattle.xdlms_services.specs.Replies.{CanWrite}
-use Rattle.meter_server.proofs.Replying.{CanWrite-reply, written-reply_by}
+use Rattle.xdlms_services.specs.declared.request.Request.TheVariants.{Get}
+use Rattle.xdlms_services.specs.declared.writing.Service.TheVariants as services
+use Rattle.xdlms_services.specs.Replies.{CanReply}
+use Rattle.meter_server.specs.Answering.{step_of_request}
+use Rattle.meter_server.proofs.Replying.{can_reply}
 use Rattle.meter_server.proofs.answering.answer_request.Goals as goal
 
-pub write_reply-requires : goal.write_reply-requires
-write_reply-requires c =
-    subst (λ (z : Service). CanWrite z c.in_ok-reply.reply) (sym c.step_asked-asked.ensures.service)
-    (CanWrite-reply c.args.plan.now c.known.ensures.sound c.args.meter.now c.requires c.args.client c.args.request c.in_ok-reply.reply
-    (c.in_ok-reply.ensures.reply ∙ ap (reply_to c.args.plan.now c.args.meter.now) c.step_asked-asked.ensures.step))
+on_ok : {A E : Type 0} (r : Result A E) (Q : Type 0) → Q → OnOk r Q
+on_ok (Ok x) Q q = q
+on_ok (Err e) Q q = tt
 
 on_err : {A E : Type 0} (r : Result A E) (Q : Type 0) → Q → OnErr r Q
 on_err (Ok x) Q q = tt
 on_err (Err e) Q q = q
 
-pub returns-clause-reply : goal.returns-clause-reply
-returns-clause-reply c =
-    subst (λ (t : List ℕ). OnOk c.write_reply.result (c.write_reply.new.out.items ≡ c.args.out.now.items ++ t))
-    (written-reply_by c.args.plan.now c.args.meter.now c.args.client c.args.request c.in_ok-reply.reply c.step_asked-asked.result.service c.step_asked-asked.result.invoke _
-    (c.in_ok-reply.ensures.reply ∙ ap (reply_to c.args.plan.now c.args.meter.now) c.step_asked-asked.ensures.step)
-    c.step_asked-asked.ensures.service c.step_asked-asked.ensures.invoke refl) c.write_reply.ensures.shortest
+pub write_shown-requires : goal.write_shown-requires
+write_shown-requires c =
+    subst (CanReply services.Get) (sym c.in_ok-shown-in-Get.ensures.reply)
+    (can_reply c.args.plan.now c.known.ensures.sound c.args.meter.now c.requires c.args.client (Get c.in-Get.invoke c.in-Get.attribute c.in-Get.selection))
 
-pub returns-clause-err : goal.returns-clause-err
-returns-clause-err c = on_err c.write_reply.result _ (inr (c.in_ok-reply.ensures.ok ∙ ap (next c.args.plan.now c.args.meter.now) c.step_asked-asked.ensures.step))
+pub returns-in_ok-reply-in-Act-clause-next : goal.returns-in_ok-reply-in-Act-clause-next
+returns-in_ok-reply-in-Act-clause-next c =
+    on_ok c.write_reply-in-Act.result _ (c.in_ok-reply-in-Act.ensures.ok ∙ ap (λ r. next c.args.plan.now c.args.meter.now (step_of_request c.args.client r)) (sym c.in-Act.is))
+
+pub returns-in_ok-reply-in-Act-clause-err : goal.returns-in_ok-reply-in-Act-clause-err
+returns-in_ok-reply-in-Act-clause-err c =
+    on_err c.write_reply-in-Act.result _ (inr (c.in_ok-reply-in-Act.ensures.ok ∙ ap (λ r. next c.args.plan.now c.args.meter.now (step_of_request c.args.client r)) (sym c.in-Act.is)))
