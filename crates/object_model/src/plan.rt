@@ -143,11 +143,12 @@ impl Plan {
     }
 
     /// The number, from 0, of the object with this logical name, or None where there is none. `compared` rises by one a
-    /// comparison of names, by at most 10. It takes no memory.
+    /// comparison of names, by at most 10, and by at least one where there are objects. It takes no memory.
     pub fn find(&self, name: &LogicalName, compared: &mut u64) -> Option<u16>
         requires { compared.old + 11 ≤ 2 ^ 64 }
         ensures found { result ≡ position_from (λ o. same_name o.name name.now) 0 self.now.objects }
         ensures counted { (compared.old ≤ compared.new) × (compared.new ≤ compared.old + 10) }
+        ensures begun { 1 ≤ length self.now.objects → compared.old < compared.new }
     {
         self.known();
         let (number, comparisons) = self.index.find(name);
