@@ -1,6 +1,6 @@
 -- What is added to effects, and which effects methods, scripts and a meter's own steps have.
 use Rattle.std.specs.Prelude.{◌≡◌, ℕ, ◌+◌, ◌<◌, ◌==◌, Bool, true, false, ◌&&◌, cond, List, [], ◌∷◌, ◌++◌, map, flat_map, find, take, length, get_or, Option, Some, None, option_map, option_and_then, Ok, Err, is_ok, is_some, if◌then◌else◌}
-use Rattle.std.proofs.Common.{refl, sym, ap, ap₂, subst, ◌∙◌, zero, suc, arith, inl, inr, Bor}
+use Rattle.std.proofs.Common.{refl, sym, ap, ap₂, subst, ◌∙◌, zero, suc, arith, inl, inr}
 use Rattle.std.proofs.lemmas.Bool.{and_parts, or_right, cond-true, cond-false}
 use Rattle.std.proofs.lemmas.List.{map_more, map_push, append_assoc, append-nil, flat_map_more}
 use Rattle.cosem_data.specs.Tree.{Tree, array, no_trees}
@@ -37,10 +37,12 @@ use Rattle.object_model.specs.PartView.{part_of}
 use Rattle.object_model.specs.declared.part.Part as code_part
 use Rattle.object_model.specs.declared.part.Part.TheVariants as parts
 use Rattle.class_control.specs.declared.parts.ScriptTablePart.{ScriptTablePart}
+use Rattle.object_model.specs.InstanceView.{AtName}
 use Rattle.object_model.specs.EffectView.{effect_of, MayTake, MayTakeAll, IsProfile}
 use Rattle.object_model.specs.declared.effect.Effect.{Effect}
 use Rattle.object_model.specs.declared.effect.Effect.TheVariants as effects
 use Rattle.meter_effects.specs.Adds.{Adds, StandsFor}
+use Rattle.meter_effects.specs.Targets.{named_script}
 use Rattle.meter_effects.specs.Writes.{AreWrites}
 
 -- Lists of effects
@@ -110,6 +112,9 @@ pub is_profile-by_name : (P : Plan) (o : Object) (c : Captures) → object_at P 
 is_profile-by_name P o c is captures = (c, ap captures_of is ∙ captures)
 
 -- the object that a name leads to is found by its own name
+pub found_there : (P : Plan) (n : LogicalName) (i : AtName) (o : Object) → i ≡ record { plan = P; name = n } → Some o ≡ object_at i.plan i.name → Some o ≡ object_at P n
+found_there P n i o is h = h ∙ ap (λ j. object_at j.plan j.name) is
+
 pub found_again : (P : Plan) (n : LogicalName) (o : Object) → Some o ≡ object_at P n → object_at P o.name ≡ Some o
 found_again P n o is = ap (object_at P) (object-found P n o (sym is)).1 ∙ sym is
 
@@ -164,14 +169,10 @@ find-map f test (x ∷ xs) = elim (test (f x)) as (λ b. option_map f (cond b (S
 ]
 
 -- a script that is found in the code is found in the table
-pub script_found : (r : Option (Bor code.Script)) (scripts : List code.Script) (id : ℕ) → option_map (λ s. s.now) r ≡ find (λ s. s.id == id) scripts →
-    option_map (λ s. script_of s.now) r ≡ find (λ s. s.id == id) (map script_of scripts)
-script_found None scripts id h = ap (option_map script_of) h ∙ find-map script_of (λ s. s.id == id) scripts
-script_found (Some s) scripts id h = ap (option_map script_of) h ∙ find-map script_of (λ s. s.id == id) scripts
-
--- the script that a reference names
-abbrev pub named_script : Plan → ScriptRef → Option Script
-named_script P r = option_and_then (λ o. find (λ s. s.id == r.script) (theory.scripts_of o.part)) (object_at P r.table)
+pub script_found : {R : Type 0} (f : R → code.Script) (r : Option R) (scripts : List code.Script) (id : ℕ) → option_map f r ≡ find (λ s. s.id == id) scripts →
+    option_map (λ s. script_of (f s)) r ≡ find (λ s. s.id == id) (map script_of scripts)
+script_found f None scripts id h = ap (option_map script_of) h ∙ find-map script_of (λ s. s.id == id) scripts
+script_found f (Some s) scripts id h = ap (option_map script_of) h ∙ find-map script_of (λ s. s.id == id) scripts
 
 pub script_writes : (P : Plan) (r : ScriptRef) (s : Script) → IsSound P → Some s ≡ named_script P r → AreWrites P s.actions
 script_writes P r s sound is = at (object_at P r.table) refl is

@@ -4,3 +4,4 @@ pub mod Changes
 pub mod Accepted
 pub mod ClosedSets
 pub mod Added
+pub mod Targets

@@ -2,3 +2,4 @@ pub mod Operations
 pub mod PlanOperations
 pub mod Adds
 pub mod Writes
+pub mod Targets

@@ -130,7 +130,10 @@ pub fn schedule_effects(
     if !is_time(meter, &instance, moment) {
         return Ok(effects);
     }
-    push_script(alloc, plan, part.executed_script, &mut effects)?;
+    let Some(table) = instance.referred(0) else {
+        unreachable!();
+    };
+    push_script(alloc, &table, part.executed_script.script, &mut effects)?;
     Ok(effects)
 }
 
@@ -160,16 +163,20 @@ pub fn evaluation_effects(
 {
     plan.known();
     let mut effects = Vec::new(alloc);
-    let Some(object) = plan.object_at(&name) else {
+    let instance = plan.instance(&name);
+    let Some(object) = instance.object() else {
         return Ok(effects);
     };
     let Part::RegisterMonitor(part) = object.part() else {
         return Ok(effects);
     };
-    let now = meter.value(alloc, plan, &part.monitored_value)?;
+    let Some(source) = instance.referred(0) else {
+        unreachable!();
+    };
+    let now = meter.value_at(alloc, &source, &part.monitored_value)?;
     let monitor = Monitor {
-        thresholds: meter.value(alloc, plan, &thresholds(name))?,
-        seen: meter.value(alloc, plan, &seen(name))?,
+        thresholds: meter.value_at(alloc, &instance, &thresholds(name))?,
+        seen: meter.value_at(alloc, &instance, &seen(name))?,
     };
     push_scripts(alloc, plan, &monitor.due(alloc, part, &now)?, &mut effects)?;
     push_effect(&mut effects, Effect::Remember(name, now))?;
@@ -186,7 +193,7 @@ fn push_scripts(
     ensures { OnOk result (Adds plan.now (flat_map (theory.effects_of_script plan.now) scripts.now) effects.old.items effects.new.items) }
 {
     for script in scripts {
-        push_script(alloc, plan, *script, effects)?;
+        push_script(alloc, &plan.instance(&script.table), script.script, effects)?;
     }
     Ok(())
 }

@@ -5,6 +5,7 @@ mod Granted
 mod Searches
 mod Places
 mod Room
+mod Referred
 mod Stores
 mod Aligned
 mod Changed

@@ -14,7 +14,7 @@ use Rattle.object_model.specs.Grants.{listed, HasRoom}
 use Rattle.object_model.proofs.ByObject.{position-map}
 
 -- what is found has a place
-placed : {A : Type 0} (test : A → Bool) (xs : List A) (x : A) (i : ℕ) → find test xs ≡ Some x → (k : ℕ) × (position_from test i xs ≡ Some k)
+pub placed : {A : Type 0} (test : A → Bool) (xs : List A) (x : A) (i : ℕ) → find test xs ≡ Some x → (k : ℕ) × (position_from test i xs ≡ Some k)
 placed test [] x i h = cc
 placed test (y ∷ xs) x i h = at (λ g. placed test xs x (i + 1) g) (test y) h
   where

@@ -22,6 +22,7 @@ pub record IsSearched (names : List LogicalName) (numbers : List ℕ) (name : Lo
   pub greater : (j : ℕ) → high ≤ j → j < length numbers → order (entry names numbers j) name ≡ Greater
   pub counted : (k : ℕ) → length numbers < 2 ^ k → compared ≤ k
   pub halved : (high - low) * 2 ^ compared ≤ length numbers
+  pub left : length numbers + 2 ≤ (high - low + 2) * 2 ^ compared
 
 pub halves : (d e c n : ℕ) → e * 2 ≤ d → d * 2 ^ c ≤ n → e * 2 ^ (c + 1) ≤ n
 halves d e c n h b =
@@ -30,6 +31,15 @@ halves d e c n h b =
   where
     regroup : (p : ℕ) → e * 2 * p ≤ d * 2 ^ c → e * (p * 2) ≤ n
     regroup p m = let same : e * (p * 2) ≡ e * 2 * p = grind arith in omega arith
+
+-- what a comparison leaves of `d` numbers, at least
+pub leaves : (d e c n : ℕ) → d ≤ e * 2 + 2 → n + 2 ≤ (d + 2) * 2 ^ c → n + 2 ≤ (e + 2) * 2 ^ (c + 1)
+leaves d e c n h b =
+    let more : (d + 2) * 2 ^ c ≤ (e + 2) * 2 * 2 ^ c = mul-le-mul_right (2 ^ c) (omega arith) in
+    rw pow_more (regroup (2 ^ c) more)
+  where
+    regroup : (p : ℕ) → (d + 2) * 2 ^ c ≤ (e + 2) * 2 * p → n + 2 ≤ (e + 2) * (p * 2)
+    regroup p m = let same : (e + 2) * (p * 2) ≡ (e + 2) * 2 * p = grind arith in omega arith
 
 pub one_more : (d c n k : ℕ) → 0 < d → d * 2 ^ c ≤ n → n < 2 ^ k → c + 1 ≤ k
 one_more d c n k some b h = at (cases_lt c k)
@@ -72,6 +82,7 @@ goes-up names numbers name low high compared s some i middle at is = record {
   greater = i.greater;
   counted = λ k h. one_more (high - low) compared (length numbers) k (omega arith) i.halved h;
   halved = halves (high - low) (high - (middle + 1)) compared (length numbers) (omega arith) i.halved;
+  left = leaves (high - low) (high - (middle + 1)) compared (length numbers) (omega arith) i.left;
 }
   where
     below : (j : ℕ) → (j ≡ middle) ⊎ (j < middle) → order (entry names numbers j) name ≡ Less
@@ -88,6 +99,7 @@ goes-down names numbers name low high compared s some i middle at is = record {
   greater = λ j h g. above j g (eq-or-lt_of_le h);
   counted = λ k h. one_more (high - low) compared (length numbers) k (omega arith) i.halved h;
   halved = halves (high - low) (middle - low) compared (length numbers) (omega arith) i.halved;
+  left = leaves (high - low) (middle - low) compared (length numbers) (omega arith) i.left;
 }
   where
     above : (j : ℕ) → j < length numbers → (middle ≡ j) ⊎ (middle < j) → order (entry names numbers j) name ≡ Greater

@@ -1,11 +1,13 @@
 -- What a plan keeps beside its parts, so that nothing is looked for twice.
-use Rattle.std.specs.Prelude.{◌≡◌, ◌==◌, ◌<◌, ℕ, Bool, not, List, length, map, filter, take, flat_map}
+use Rattle.std.specs.Prelude.{◌≡◌, ◌==◌, ◌<◌, ℕ, Bool, not, List, [], ◌∷◌, length, map, filter, take, flat_map, Some}
 use Rattle.std.specs.List.{slice_index_or}
 use Rattle.cosem_data.specs.declared.name.LogicalName.{LogicalName}
-use Rattle.meter_theory.specs.Plan.{Plan, Object, class_of, start_of}
+use Rattle.meter_theory.specs.Edges.{scripts_named}
+use Rattle.meter_theory.specs.Lists.{for_some}
+use Rattle.meter_theory.specs.Plan.{Plan, Object, Action, Write, Invoke, Part, ProfileGeneric, ScriptTable, RegisterMonitor, SingleActionSchedule, class_of, object_at, start_of}
 use Rattle.meter_theory.specs.Sound.{IsSound}
 use Rattle.meter_theory.specs.State.{keys}
-use Rattle.object_model.specs.Grants.{AreGrants}
+use Rattle.object_model.specs.Grants.{AreGrants, place_in}
 use Rattle.object_model.specs.declared.grants.Grants.{Grants}
 use Rattle.object_model.specs.declared.place.Place.{Place}
 
@@ -29,9 +31,32 @@ pub record ArePlaces (objects : List Object) (places : List Place) : Type 0 wher
   pub size : length places ≡ length objects
   pub each : (number : ℕ) → number < length objects → (other : Place) → slice_index_or places number other ≡ place_of objects number
 
--- a sound plan, the names of its objects, what its rights grant, and the places of its cells: own profile
-pub record AreTables (P : Plan) (names : List LogicalName) (grants : Grants) (places : List Place) : Type 0 where
+-- whose attribute an action writes, or whose method it executes: IEC 62056-6-2, Script table, action_specification
+abbrev pub target : Action → LogicalName
+target (Write x v) = x.name
+target (Invoke m parameter) = m.name
+
+-- The objects to which a part refers, in its order: of the captured cells, of the targets of its scripts' actions, of the
+-- monitored value and then of the scripts that are run: IEC 62056-6-2, interface classes.
+abbrev pub references : Part → List LogicalName
+references (ProfileGeneric captured period entries) = map (λ x. x.name) captured
+references (ScriptTable scripts) = flat_map (λ s. map target s.actions) scripts
+references (RegisterMonitor monitored thresholds actions) = monitored.name ∷ map (λ r. r.table) (scripts_named actions)
+references (SingleActionSchedule script type times) = script.table ∷ []
+references _ = []
+
+-- the same of the object with this name: own profile
+abbrev pub references_at : Plan → LogicalName → List LogicalName
+references_at P n = for_some (object_at P n) (λ o. references o.part)
+
+-- for each object the numbers of those to which it refers: own profile
+abbrev pub AreReferences : List LogicalName → List Object → List (List ℕ) → Type 0
+AreReferences names objects numbers = map (map Some) numbers ≡ map (λ o. map (place_in names) (references o.part)) objects
+
+-- a sound plan, the names of its objects, what its rights grant, the places of its cells, and what its objects refer to: own profile
+pub record AreTables (P : Plan) (names : List LogicalName) (grants : Grants) (places : List Place) (numbers : List (List ℕ)) : Type 0 where
   pub sound : IsSound P
   pub named : names ≡ map (λ o. o.name) P.objects
   pub granted : AreGrants names P.rights grants
   pub placed : ArePlaces P.objects places
+  pub referred : AreReferences names P.objects numbers

@@ -62,6 +62,7 @@ impl Index {
     pub(crate) fn find(&self, name: &LogicalName) -> (Option<u16>, u32)
         ensures found { result.0 ≡ position_from (λ n. same_name n name.now) 0 self.now }
         ensures counted { (k : ℕ) → length self.now < 2 ^ k → result.1 ≤ k }
+        ensures begun { 1 ≤ length self.now → 1 ≤ result.1 }
     {
         let (place, compared) = search(&self.names, &self.numbers, name);
         match place {
@@ -79,6 +80,9 @@ fn search(names: &[LogicalName], numbers: &[u16], name: &LogicalName) -> (Result
         × ((j : ℕ) → j < i → order (entry names.now numbers.now j) name.now ≡ Less)
         × ((j : ℕ) → i ≤ j → j < length numbers.now → order (entry names.now numbers.now j) name.now ≡ Greater)) }
     ensures counted { (k : ℕ) → length numbers.now < 2 ^ k → result.1 ≤ k }
+    ensures begun { 1 ≤ length numbers.now → 1 ≤ result.1 }
+    // What isn't found has been looked for until no number was left.
+    ensures all { IfErr result.0 (λ i. length numbers.now + 1 < 2 ^ (result.1 + 1)) }
 {
     let mut low = 0;
     let mut high = numbers.len();

@@ -1,5 +1,5 @@
 //! What stands at a logical name of a plan, looked up once. Nothing here takes memory, but for copies of values.
-ghost use Rattle.std.specs.Prelude.{◌≡◌, ℕ, true, option_map, IfOk};
+ghost use Rattle.std.specs.Prelude.{◌≡◌, ℕ, true, option_map, slice_get, IfOk, Some};
 ghost use Rattle.cosem_data.specs.View.{tree};
 ghost use Rattle.std.specs.List.{position_from};
 ghost use Rattle.cosem_data.specs.Cells.{cell, same_name};
@@ -11,7 +11,8 @@ ghost use Rattle.meter_theory.specs.Rights.{has_right, in_view, lists, may_read}
 ghost use Rattle.meter_theory.specs.State.{value};
 ghost use Rattle.meter_theory.specs.Steps.{captures_of};
 ghost use Rattle.object_model.specs.Grants.{listed};
-ghost use Rattle.object_model.specs.Tables.{place_of};
+ghost use Rattle.object_model.specs.PartView.{part_of, monitored_kind};
+ghost use Rattle.object_model.specs.Tables.{place_of, references_at};
 
 use crate::grants::is_granted;
 use crate::object::Object;
@@ -107,6 +108,32 @@ impl<'a> Instance<'a> {
         match self.number {
             Some(number) => Some(self.plan.place(number)),
             None => None,
+        }
+    }
+
+    /// What the plan has at the name to which the object refers at this place, counted from 0, or None past the last: a
+    /// profile to its captured cells, a script table to the targets of its scripts' actions, a register monitor to its
+    /// monitored value and then to the scripts of its actions, a schedule to its script. It takes no search.
+    pub fn referred(&self, place: usize) -> Option<Instance<'a>>
+        ensures { result ≡ option_map (λ name. record { plan = self.now.plan; name = name }) (slice_get (references_at self.now.plan self.now.name) place) }
+    {
+        let number = self.plan.reference(self.number?, place)?;
+        let name = self.plan.objects()[usize::from(number)].name();
+        Some(Instance {
+            plan: self.plan,
+            name,
+            number: Some(number),
+        })
+    }
+
+    /// The kind of the value that the register monitor here watches, which is kept; that of null-data for any other object.
+    pub(crate) fn monitored_kind(&self, part: &Part) -> Kind
+        requires { option_map (λ o. o.part) (object_at self.now.plan self.now.name) ≡ Some (part_of part.now) }
+        ensures { result ≡ monitored_kind self.now.plan (part_of part.now) }
+    {
+        match (part.monitored(), self.referred(0)) {
+            (Some(cell), Some(source)) => source.start_kind(cell.class_id, cell.index),
+            _ => Kind::NullData,
         }
     }
 
@@ -216,7 +243,7 @@ impl<'a> Instance<'a> {
         if part.class_id() != class_id {
             return Err(AccessCode::TypeUnmatched);
         }
-        part.judge(self.plan.monitored_kind(part), index, value)
+        part.judge(self.monitored_kind(part), index, value)
     }
 
     /// A copy of a fixed attribute of the object, other than its logical name; null-data where there is none. The error is

@@ -15,6 +15,7 @@ pub mod part;
 mod place;
 pub mod plan;
 pub mod policy;
+mod references;
 pub mod right;
 mod stored;
 pub mod undo;

@@ -16,6 +16,7 @@ ghost use Rattle.class_profile.specs.ProfileClass.{is_buffer};
 ghost use Rattle.object_model.specs.EffectView.{effect_of, IsProfile, MayTake};
 ghost use Rattle.object_model.specs.PartView.{part_of, rule_watching};
 ghost use Rattle.object_model.specs.Stored.{captured, held_tree, is_rows, stored_pairs, stores};
+ghost use Rattle.object_model.specs.Tables.{references_at};
 ghost use Rattle.object_model.specs.Undone.{changed_cell, undone};
 
 use crate::cells::{buffer, seen};
@@ -79,7 +80,21 @@ impl Meter {
         requires { IsState plan.now self.now }
         ensures { IfOk result (λ v. tree v ≡ value self.now cell.now) }
     {
-        match self.held(&plan.instance(&cell.name), cell) {
+        self.value_at(alloc, &plan.instance(&cell.name), cell)
+    }
+
+    /// The same of a cell of what stands at its name in the meter's plan, without a search for the name.
+    pub fn value_at(
+        &self,
+        alloc: Global,
+        instance: &Instance<'_>,
+        cell: &CellRef,
+    ) -> Result<Data, Memory>
+        requires of_plan { IsState instance.now.plan self.now }
+        requires named { cell.now.name ≡ instance.now.name }
+        ensures { IfOk result (λ v. tree v ≡ value self.now cell.now) }
+    {
+        match self.held(instance, cell) {
             Some(held) => held.to_data(alloc),
             None => Ok(Data::NullData),
         }
@@ -148,7 +163,7 @@ impl Meter {
             unreachable!();
         };
         let part = object.part();
-        let monitored = plan.monitored_kind(part);
+        let monitored = instance.monitored_kind(part);
         write_in(&mut self.objects, place, part, monitored, cell, given)
     }
 
@@ -179,26 +194,30 @@ impl Meter {
         let Some(part) = instance.profile() else {
             unreachable!();
         };
-        let row = self.captured_values(alloc, plan, &part.captured)?;
+        let row = self.captured_values(alloc, &instance, &part.captured)?;
         let Some(place) = place_of(&instance, &self.objects, &buffer(profile)) else {
             unreachable!();
         };
         capture_in(alloc, &mut self.objects, place, profile, part, row)
     }
 
-    /// A copy of the value of each captured cell, in order.
+    /// A copy of the value of each captured cell of a profile, in order.
     fn captured_values(
         &self,
         alloc: Global,
-        plan: &Plan,
+        profile: &Instance<'_>,
         captured: &[CellRef],
     ) -> Result<Row, Memory>
-        requires { IsState plan.now self.now }
+        requires of_plan { IsState profile.now.plan self.now }
+        requires referred { references_at profile.now.plan profile.now.name ≡ map (λ x. x.name) captured.now }
         ensures { IfOk result (λ row. row ≡ map (value self.now) captured.now) }
     {
         let mut values = Vec::with_capacity(alloc, captured.len())?;
-        for cell in captured {
-            values.push(self.value(alloc, plan, cell)?)?;
+        for (place, cell) in captured.iter().enumerate() {
+            let Some(column) = profile.referred(place) else {
+                unreachable!();
+            };
+            values.push(self.value_at(alloc, &column, cell)?)?;
         }
         Ok(Items::new(values))
     }

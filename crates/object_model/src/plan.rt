@@ -1,4 +1,4 @@
-ghost use Rattle.std.specs.Prelude.{◌≡◌, ◌<◌, ◌≤◌, ◌+◌, ◌^◌, ℕ, length, option_map, map, flat_map, IfOk, slice_get};
+ghost use Rattle.std.specs.Prelude.{◌≡◌, ◌<◌, ◌≤◌, ◌+◌, ◌^◌, ℕ, length, option_map, option_and_then, map, flat_map, IfOk, Some, slice_get};
 ghost use Rattle.std.specs.List.{position_from};
 ghost use Rattle.std.specs.Str.{bytes_eq};
 ghost use Rattle.cosem_data.specs.Cells.{same_name};
@@ -8,10 +8,9 @@ ghost use Rattle.meter_theory.specs.Rights.{is_client};
 ghost use Rattle.meter_theory.specs.State.{value};
 ghost use Rattle.meter_theory.specs.Sound.{IsSound};
 ghost use Rattle.object_model.specs.Grants.{AreMasksOf};
-ghost use Rattle.object_model.specs.PartView.{part_of, monitored_kind};
 ghost use Rattle.object_model.specs.PlanView.{plan_of};
 ghost use Rattle.object_model.specs.Stored.{stored_pairs};
-ghost use Rattle.object_model.specs.Tables.{place_of};
+ghost use Rattle.object_model.specs.Tables.{place_of, references};
 
 use crate::client::Client;
 use crate::grants::Grants;
@@ -19,8 +18,8 @@ use crate::index::Index;
 use crate::instance::Instance;
 use crate::meter::Meter;
 use crate::object::Object;
-use crate::part::Part;
 use crate::place::{Place, places_of};
+use crate::references::References;
 use crate::right::{Access, Right};
 use crate::stored::Stored;
 use cosem_data::cell::CellRef;
@@ -55,8 +54,8 @@ pub struct PlanParts {
 }
 
 /// The clients and objects of a meter and the rights of its clients: a sound plan, of which the promises about influence and
-/// secrecy hold (own profile). Beside its parts it keeps what is asked often: the names in their order, the rights as masks
-/// and the places of the cells.
+/// secrecy hold (own profile). Beside its parts it keeps what is asked often: the names in their order, the rights as masks,
+/// the places of the cells, and what the objects refer to.
 #[derive(Drop)]
 pub struct Plan {
     clients: Vec<Client>,
@@ -65,6 +64,7 @@ pub struct Plan {
     index: Index,
     grants: Grants,
     places: Vec<Place>,
+    references: References,
 }
 
 impl Model for Plan {
@@ -78,7 +78,7 @@ impl Model for Plan {
 
     ghost view = { λ p. record { clients = p.clients.items; objects = p.objects.items; rights = p.rights.items } };
 
-    ghost invariant = { λ p. AreTables (record { clients = p.clients.items; objects = p.objects.items; rights = p.rights.items }) p.index p.grants p.places.items };
+    ghost invariant = { λ p. AreTables (record { clients = p.clients.items; objects = p.objects.items; rights = p.rights.items }) p.index p.grants p.places.items p.references };
 }
 
 impl Plan {
@@ -95,6 +95,7 @@ impl Plan {
         let index = Index::new(alloc, names_of(alloc, &objects)?)?;
         let grants = Grants::new(alloc, &index, &rights)?;
         let places = places_of(alloc, &objects)?;
+        let references = References::new(alloc, &index, &objects)?;
         Ok(Plan {
             clients,
             objects,
@@ -102,6 +103,7 @@ impl Plan {
             index,
             grants,
             places,
+            references,
         })
     }
 
@@ -143,11 +145,12 @@ impl Plan {
     }
 
     /// The number, from 0, of the object with this logical name, or None where there is none. `compared` rises by one a
-    /// comparison of names, by at most 10. It takes no memory.
+    /// comparison of names, by at most 10, and by at least one where there are objects. It takes no memory.
     pub fn find(&self, name: &LogicalName, compared: &mut u64) -> Option<u16>
         requires { compared.old + 11 ≤ 2 ^ 64 }
         ensures found { result ≡ position_from (λ o. same_name o.name name.now) 0 self.now.objects }
         ensures counted { (compared.old ≤ compared.new) × (compared.new ≤ compared.old + 10) }
+        ensures begun { 1 ≤ length self.now.objects → compared.old < compared.new }
     {
         self.known();
         let (number, comparisons) = self.index.find(name);
@@ -192,6 +195,14 @@ impl Plan {
         self.places[usize::from(number)]
     }
 
+    /// The number of that to which the object with this number refers at this place.
+    pub(crate) fn reference(&self, object: u16, place: usize) -> Option<u16>
+        ensures { option_map (λ number. Some number) result
+            ≡ option_map (λ name. position_from (λ o. same_name o.name name) 0 self.now.objects) (option_and_then (λ o. slice_get (references o.part) place) (slice_get self.now.objects object)) }
+    {
+        self.references.at(object, place)
+    }
+
     /// The objects, in plan order. It takes no memory.
     pub fn objects(&self) -> &[Object]
         ensures { result.now ≡ self.now.objects }
@@ -204,17 +215,6 @@ impl Plan {
         ensures { result.now ≡ self.now.rights }
     {
         &self.rights
-    }
-
-    /// The kind of the value that a register monitor watches, which is kept; that of null-data for any other object. It
-    /// takes no memory.
-    pub fn monitored_kind(&self, part: &Part) -> Kind
-        ensures { result ≡ monitored_kind self.now (part_of part.now) }
-    {
-        match part.monitored() {
-            Some(cell) => self.start_kind(&cell),
-            None => Kind::NullData,
-        }
     }
 
     /// The kind of the value with which a cell starts; that of null-data for what is no cell. It takes no memory.

@@ -3,5 +3,5 @@ use Rattle.cosem_data.specs.View.{tree}
 use Rattle.meter_theory.specs.State.{value}
 use Rattle.object_model.proofs.meter.Meter.captured_values.Given as goal
 
-abbrev pub invariant-loop-cell : goal.invariant-loop-cell
-invariant-loop-cell l = map tree l.values.items ≡ map (value l.self) (take l.cell-index l.captured)
+abbrev pub invariant-loop-place : goal.invariant-loop-place
+invariant-loop-place l = map tree l.values.items ≡ map (value l.self) (take l.place l.captured)
