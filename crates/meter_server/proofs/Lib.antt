@@ -1,7 +1,7 @@
 pub mod Ascii
 pub mod Replying
 pub mod OwnSteps
-pub mod Hearing
-pub mod Cutting
-pub mod Standing
+pub mod Breaking
+pub mod Taking
+pub mod Alone
 pub mod Exact

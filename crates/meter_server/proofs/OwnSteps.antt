@@ -1,12 +1,11 @@
 -- The meter's own steps, one after another.
-use Rattle.std.proofs.Common.{◌≡◌, ◌≢◌, ℕ, ◌+◌, ◌<◌, List, [], ◌∷◌, ◌++◌, map, take, drop, length, get_or, Option, Some, None, Ok, refl, sym, ap, ◌∙◌, append-nil}
+use Rattle.std.proofs.Common.{◌≡◌, ℕ, ◌+◌, ◌<◌, List, [], ◌∷◌, ◌++◌, map, take, drop, length, get_or, Option, Some, None, Ok, refl, sym, ap, ◌∙◌, append-nil}
 use Rattle.std.specs.Prelude.{option_to_list}
 use Rattle.std.specs.List.{flat_map, filter_map}
 use Rattle.std.proofs.lemmas.List.{take_more, take-append-drop}
 use Rattle.std.proofs.lemmas.List.Elements.{filter_map-append}
 use Rattle.meter_theory.specs.Plan.{Plan, Object}
 use Rattle.meter_theory.specs.State.{State}
-use Rattle.meter_theory.specs.States.{IsState}
 use Rattle.meter_theory.specs.Steps.{Step, next}
 use Rattle.meter_theory.specs.Times.{Moment}
 use Rattle.meter_theory.specs.Replies.{run}
@@ -15,9 +14,8 @@ use Rattle.meter_server.specs.Driving.{offered, moment_steps}
 use Rattle.meter_server.specs.Spelling.{line_of, reply_text}
 use Rattle.meter_server.specs.declared.line.Line.{Line}
 use Rattle.meter_server.specs.declared.line.Line.TheVariants.{At, Unreadable}
-use Rattle.meter_server.specs.Running.{tasks_in, tasks_of}
-use Rattle.meter_server.specs.declared.running.Run.{Run}
-use Rattle.meter_server.specs.Pieces.{meter_after, replies_to, AnswersLine}
+use Rattle.meter_server.specs.Running.{tasks_in}
+use Rattle.meter_server.specs.Solo.{meter_after, replies_to, told, TakesLine}
 
 -- ---- what a moment offers
 
@@ -66,28 +64,12 @@ own_told : (P : Plan) (s : State) (steps : List Step) → replies_to P s (map Ta
 own_told P s [] = refl
 own_told P s (step ∷ steps) = own_told P (next P s step) steps
 
-one_line : (plan : Plan) (line : List ℕ) (said : Line) → line_of plan line ≡ said → tasks_of plan (line ∷ []) ≡ tasks_in plan said
-one_line plan line said e = append-nil (tasks_in plan (line_of plan line)) ∙ ap (tasks_in plan) e
-
--- a line that says this was answered
-pub line-done : (plan : Plan) (old new : Run) (line : List ℕ) (said : Line) (u : Unit {0})
-    → said ≡ line_of plan line → said ≢ Unreadable → new.meter ≡ meter_after plan old.meter (tasks_in plan said)
-    → new.waiting.items ≡ old.waiting.items ++ flat_map reply_text (replies_to plan old.meter (tasks_in plan said)) → new.count ≡ old.count + 1 → IsState plan new.meter
-    → AnswersLine plan old new line (Ok u)
-line-done plan old new line said u e readable meter waiting count state =
-    let same = sym (one_line plan line said (sym e)) in (
-      λ bad. readable (e ∙ bad),
-      meter ∙ ap (meter_after plan old.meter) same,
-      waiting ∙ ap (λ tasks. old.waiting.items ++ flat_map reply_text (replies_to plan old.meter tasks)) same,
-      count,
-      state,
+-- a line that offers a moment was answered
+pub moment-done : (plan : Plan) (old new : State) (number : ℕ) (line waiting : List ℕ) (moment : Moment) (u : Unit {0})
+    → At moment ≡ line_of plan line → new ≡ run plan old (moment_steps plan moment) → TakesLine plan old new number line waiting waiting (Ok u)
+moment-done plan old new number line waiting moment u e meter =
+    let steps = moment_steps plan moment in (
+      λ bad. let f : At moment ≡ Unreadable = e ∙ bad in cc,
+      meter ∙ sym (own_after plan old steps) ∙ ap (λ (s : Line). meter_after plan old (tasks_in plan s)) e,
+      sym (append-nil waiting) ∙ ap (λ apdus. waiting ++ flat_map reply_text apdus) (sym (own_told plan old steps)) ∙ ap (λ (s : Line). waiting ++ told plan old (tasks_in plan s)) e,
     )
-
--- a line that offers a moment
-pub moment-done : (plan : Plan) (old new : Run) (line : List ℕ) (moment : Moment) (u : Unit {0})
-    → At moment ≡ line_of plan line → new.meter ≡ run plan old.meter (moment_steps plan moment) → new.waiting.items ≡ old.waiting.items → new.count ≡ old.count + 1 → IsState plan new.meter
-    → AnswersLine plan old new line (Ok u)
-moment-done plan old new line moment u e meter waiting count state =
-    let steps = moment_steps plan moment in
-    line-done plan old new line (At moment) u e (λ bad. cc) (meter ∙ sym (own_after plan old.meter steps))
-    (waiting ∙ sym (append-nil old.waiting.items) ∙ ap (λ told. old.waiting.items ++ flat_map reply_text told) (sym (own_told plan old.meter steps))) count state

@@ -25,7 +25,7 @@ use Rattle.meter_server.specs.Asking.{Ask}
 use Rattle.meter_server.specs.Answering.{service_of, step_of_request, next_by, reply_by, next_of, reply_of_ask, exception, Task, Answer, Take, steps_of, apdus_from, apdus_of}
 use Rattle.meter_server.specs.Spelling.{reply_text}
 use Rattle.meter_server.specs.Running.{tasks_of, printed}
-use Rattle.meter_server.specs.Pieces.{replies_to, printed_from}
+use Rattle.meter_server.specs.Solo.{replies_to, told}
 
 -- the reply to a request of a sound plan's meter can be written
 pub can_reply : (P : Plan) → IsSound P → (s : State) → IsState P s → (client : ℕ) (request : Request) → CanReply (service_of request) (reply_to P s (step_of_request client request))
@@ -64,6 +64,6 @@ replies_to-apdus_of P s (Answer ask ∷ tasks) =
     ]
 replies_to-apdus_of P s (Take step ∷ tasks) = replies_to-apdus_of P (next P s step) tasks
 
--- from the start on, one line after another is the run
-pub printed_from-start : (P : Plan) (lines : List (List ℕ)) → printed_from P (start P) lines ≡ printed P lines
-printed_from-start P lines = ap (flat_map reply_text) (replies_to-apdus_of P (start P) (tasks_of P lines))
+-- from the start on, what is written for one line after another is what the run prints
+pub told-printed : (P : Plan) (lines : List (List ℕ)) → told P (start P) (tasks_of P lines) ≡ printed P lines
+told-printed P lines = ap (flat_map reply_text) (replies_to-apdus_of P (start P) (tasks_of P lines))

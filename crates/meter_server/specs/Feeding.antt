@@ -1,7 +1,7 @@
 -- Lines of bytes that come in pieces. All of it is own profile.
 use Rattle.std.specs.Prelude.{◌≡◌, ℕ, List, [], ◌∷◌, ◌++◌, Option, Some, None}
 use Rattle.std.specs.Borrow.{Bor}
-use Rattle.meter_server.specs.Running.{IsLine, ended}
+use Rattle.meter_server.specs.Lines.{IsLine, ended}
 
 -- the line that ends with this part: the part itself where nothing is held, else what is held
 abbrev pub line_with : List ℕ → List ℕ → List ℕ

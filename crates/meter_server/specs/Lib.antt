@@ -3,9 +3,11 @@ pub mod Answering
 pub mod Words
 pub mod Spelling
 pub mod Driving
+pub mod Lines
 pub mod Running
 pub mod Feeding
 pub mod Pieces
+pub mod Solo
 pub mod Verdicts
 pub mod Faults
 pub mod Program

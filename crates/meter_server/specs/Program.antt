@@ -1,10 +1,11 @@
 -- What the program does with its words, and what it tells whoever started it (own profile throughout).
-use Rattle.std.specs.Prelude.{◌≡◌, ℕ, List, [], ◌∷◌, ◌++◌, String, string_bytes, codes, Option, Some, None, Result, Ok, Err, if◌then◌else◌}
+use Rattle.std.specs.Prelude.{◌≡◌, ℕ, List, [], ◌∷◌, ◌++◌, string_bytes, codes, Option, Some, None, Result, Ok, Err, if◌then◌else◌}
 use Rattle.std.specs.Str.{bytes_eq}
 use Rattle.config_text.specs.Fault.{Fault as ConfigFault, Fails}
 use Rattle.config_text.specs.Parts.{ConfigText}
 use Rattle.config_rules.specs.PlanOf.{plan_of}
-use Rattle.meter_server.specs.Running.{Moment, RunsLines}
+use Rattle.meter_server.specs.Lines.{Moment}
+use Rattle.meter_server.specs.Running.{RunsLines}
 use Rattle.meter_server.specs.Verdicts.{fault_line}
 use Rattle.meter_server.specs.Faults.{fault_words}
 use Rattle.meter_server.specs.declared.running.LineFault.{LineFault}

@@ -1,5 +1,5 @@
 -- What is written for the lines that are read. Lines of hex are own profile throughout; what they ask and what is replied is not.
-use Rattle.std.specs.Prelude.{◌≡◌, ◌≢◌, ℕ, ◌+◌, ◌^◌, ◌<◌, ◌≤◌, List, [], ◌∷◌, ◌++◌, length, map, Option, Some, None, ◌⊎◌, All, Result, Ok, Err}
+use Rattle.std.specs.Prelude.{◌≡◌, ◌≢◌, ℕ, ◌+◌, ◌^◌, ◌<◌, ◌≤◌, List, [], ◌∷◌, ◌++◌, length, map, ◌⊎◌, All, Result, Ok, Err}
 use Rattle.std.specs.List.{flat_map}
 use Rattle.std.specs.Io.KnownBytes.{Consumes, Appends, IsAtEnd}
 use Rattle.meter_theory.specs.Plan.{Plan, start}
@@ -12,26 +12,8 @@ use Rattle.meter_server.specs.declared.line.Line.{Line as LineValue}
 use Rattle.meter_server.specs.declared.line.Line.TheVariants.{Skipped, Ask, Input, Evaluate, At, Unreadable}
 use Rattle.meter_server.specs.declared.running.LineFault.{LineFault}
 use Rattle.meter_server.specs.declared.running.LineFault.TheVariants.{Read, Write, Line, Memory}
+use Rattle.meter_server.specs.Lines.{IsLine, ended, text_of_lines, with_last, Moment, StandsWhole}
 use Rattle.meter_server.specs.Spelling.{line_of, reply_text, unreadable_text}
-
--- Lines
-
--- a line holds no newline (own profile)
-abbrev pub IsLine : List ℕ → Type 0
-IsLine line = All (λ b. b ≢ 10) line
-
--- a line with its end, a newline (own profile)
-abbrev pub ended : List ℕ → List ℕ
-ended line = line ++ 10 ∷ []
-
--- the text of lines, each with its end (own profile)
-abbrev pub text_of_lines : List (List ℕ) → List ℕ
-text_of_lines lines = flat_map ended lines
-
--- the lines with one more that the input ends, if it has a byte (own profile)
-abbrev pub with_last : List (List ℕ) → List ℕ → List (List ℕ)
-with_last lines [] = lines
-with_last lines (b ∷ bs) = lines ++ (b ∷ bs) ∷ []
 
 -- the line is skipped or gives the meter something to do (own profile)
 abbrev pub IsReadable : Plan → List ℕ → Type 0
@@ -58,21 +40,12 @@ printed plan lines = flat_map reply_text (apdus_of (tasks_of plan lines) (replie
 
 -- The promise
 
--- what a reader has left and what a writer holds, where that is known (own profile)
-pub record Moment : Type 0 where
-  pub unread : Option (List ℕ)
-  pub written : Option (List ℕ)
-
 -- these lines, each with its end, and the rest were read; all of the lines are readable, and this text was written (own profile)
 pub record Heard (plan : Plan) (before after : Moment) (lines : List (List ℕ)) (rest text : List ℕ) : Type 0 where
   pub each : All IsLine lines
   pub readable : All (IsReadable plan) lines
   pub read : Consumes before.unread after.unread (text_of_lines lines ++ rest)
   pub wrote : Appends before.written after.written text
-
--- the line stands whole at the front of the rest: its end follows it, or the input ends (own profile)
-abbrev pub StandsWhole : Option (List ℕ) → List ℕ → List ℕ → Type 0
-StandsWhole unread line rest = IsLine line × (((more : List ℕ) × (rest ≡ ended line ++ more)) ⊎ ((rest ≡ line) × (0 < length line) × IsAtEnd unread))
 
 -- what is written for a line behind these: the replies to what it asks, or that it is unreadable (own profile)
 abbrev pub IsTextFor : Plan → List (List ℕ) → List ℕ → List ℕ → Type 0

@@ -1,7 +1,7 @@
 //! Lines of bytes that come in pieces, however these are cut.
 ghost use Rattle.std.specs.Prelude.{◌≡◌, ◌++◌, ◌<◌, [], length, IfOk, IfSome};
 ghost use Rattle.meter_server.specs.Feeding.{Feeds, SplitsLine, line_with};
-ghost use Rattle.meter_server.specs.Running.{IsLine};
+ghost use Rattle.meter_server.specs.Lines.{IsLine};
 
 use cosem_data::memory::Memory;
 use std::alloc::Global;
@@ -18,7 +18,7 @@ pub struct Feeder {
 
 impl Model for Feeder {
     ghost use Rattle.std.specs.Prelude.{List, ℕ};
-    ghost use Rattle.meter_server.specs.Running.{IsLine};
+    ghost use Rattle.meter_server.specs.Lines.{IsLine};
 
     ghost Value = { List ℕ };
 

@@ -6,6 +6,7 @@ mod answering;
 mod driving;
 pub mod feeding;
 mod line;
+pub mod lines;
 pub mod program;
 pub mod running;
 mod text;

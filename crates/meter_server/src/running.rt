@@ -1,15 +1,17 @@
-ghost use Rattle.std.specs.Prelude.{◌≡◌, ◌+◌, ◌^◌, ◌<◌, ◌⊎◌, List, ℕ, Some, Err, length, [], ◌∷◌};
+//! A meter that answers lines.
+ghost use Rattle.std.specs.Prelude.{◌≡◌, ◌+◌, ◌⊎◌, List, ℕ, Some, Ok, Err, IfOk, length};
 ghost use Rattle.meter_theory.specs.Plan.{start};
 ghost use Rattle.meter_theory.specs.States.{IsState};
-ghost use Rattle.meter_server.specs.Running.{Moment, RunsLines, IsLine, IsFirstBad, IsAllReadable, IsOther, with_last};
-ghost use Rattle.meter_server.specs.Pieces.{AnswersInput, AnswersLine, EndsRun, TakesPiece};
+ghost use Rattle.meter_server.specs.Lines.{with_last};
+ghost use Rattle.meter_server.specs.Running.{RunsLines, IsFirstBad, IsAllReadable, IsOther};
+ghost use Rattle.meter_server.specs.Solo.{TakesLine};
 
 use crate::answering::answer;
 use crate::driving::{take_moment, take_step};
-use crate::feeding::Feeder;
 use crate::line::{Line, read_line};
+use crate::lines::{AnswersLines, answer_lines};
 use crate::text::{put_reply, put_unreadable};
-use crate::writing::{WriteFailed, write_waiting};
+use crate::writing::WriteFailed;
 use cosem_data::memory::Memory;
 use meter_core::step::Step;
 use object_model::meter::Meter;
@@ -18,6 +20,7 @@ use std::alloc::Global;
 use std::error::Error;
 use std::fmt;
 use std::io::{Read, Write};
+use std::marker::Model;
 
 /// Why a run of lines ended early.
 #[derive(Clone, Copy, Debug, PartialEq, Eq, Drop)]
@@ -72,22 +75,102 @@ impl From<WriteFailed> for LineFault {
     }
 }
 
-/// The meter, how many lines have ended, the texts of replies that wait to be written, and room for an APDU and its
-/// reply, which each line uses again.
+/// A meter of a plan alone, which answers lines. Contracts see the plan and the meter.
 #[derive(Drop)]
-struct Run {
+pub struct Solo<'a> {
+    plan: &'a Plan,
+    held: Held,
+}
+
+/// The meter, and room for an APDU and its reply, which each line uses again.
+#[derive(Drop)]
+struct Held {
     meter: Meter,
-    count: u64,
-    waiting: Vec<u8>,
     apdu: Vec<u8>,
     reply: Vec<u8>,
 }
 
-/// How many bytes are read at once at most.
-const PIECE: usize = 65536;
+impl<'a> Model for Solo<'a> {
+    ghost use Rattle.meter_theory.specs.States.{IsState};
+    ghost use Rattle.meter_server.specs.Solo.{Solo as Alone, solo_code};
 
-/// Where more bytes than these wait, they are written.
-const FULL: usize = 65536;
+    ghost Value = { Alone };
+
+    ghost coded = { solo_code };
+
+    ghost view = { λ s. record { plan = s.plan.now; meter = s.held.meter } };
+
+    ghost invariant = { λ s. IsState s.plan.now s.held.meter };
+}
+
+impl<'a> Solo<'a> {
+    /// A meter that begins at the start of the plan. The only error is that memory was refused.
+    pub fn start(alloc: Global, plan: &'a Plan) -> Result<Self, Memory>
+        ensures plan { IfOk result (λ x. x.plan ≡ plan.now) }
+        ensures meter { IfOk result (λ x. x.meter ≡ start plan.now) }
+    {
+        plan.known();
+        let held = Held {
+            meter: plan.start(alloc)?,
+            apdu: Vec::new(alloc),
+            reply: Vec::new(alloc),
+        };
+        Ok(Solo { plan, held })
+    }
+}
+
+impl<'a> AnswersLines for Solo<'a> {
+    ghost use Rattle.meter_server.specs.Solo.{AnswersLine, StopsAtLine};
+
+    ghost answers = { AnswersLine };
+
+    ghost stops = { StopsAtLine };
+
+    fn answer_line(
+        &mut self,
+        alloc: Global,
+        number: u64,
+        line: &[u8],
+        waiting: &mut Vec<u8>,
+    ) -> Result<(), LineFault> {
+        take_line(alloc, self.plan, &mut self.held, number, line, waiting)
+    }
+}
+
+/// Answers a line, and puts its text behind those that wait.
+fn take_line(
+    alloc: Global,
+    plan: &Plan,
+    held: &mut Held,
+    number: u64,
+    line: &[u8],
+    waiting: &mut Vec<u8>,
+) -> Result<(), LineFault>
+    requires { IsState plan.now held.old.meter }
+    ensures state { IsState plan.now held.new.meter }
+    ensures line { TakesLine plan.now held.old.meter held.new.meter number line.now waiting.old.items waiting.new.items result }
+{
+    match read_line(alloc, plan, line, &mut held.apdu)? {
+        Line::Skipped => {}
+        Line::Ask(ask) => {
+            held.reply.clear();
+            answer(alloc, plan, &mut held.meter, &ask, &mut held.reply)?;
+            put_reply(&held.reply, waiting)?;
+        }
+        Line::Input { cell, value } => {
+            take_step(alloc, plan, &mut held.meter, &Step::Input { cell, value })?;
+        }
+        Line::Evaluate(monitor) => {
+            take_step(alloc, plan, &mut held.meter, &Step::Evaluate { monitor })?;
+        }
+        Line::At(moment) => take_moment(alloc, plan, &mut held.meter, moment)?,
+        Line::Unreadable => {
+            put_unreadable(alloc, number, waiting)?;
+            return Err(LineFault::Line(number));
+        }
+    }
+    Ok(())
+}
 
 /// Answers the lines that the reader gives, by a meter of the plan that begins at its start, and says
 /// how many lines there were.
@@ -119,137 +202,6 @@ pub fn run_lines<R: Read, W: Write>(
     ensures unreadable { (input : List ℕ) (lines : List (List ℕ)) (line rest : List ℕ) → R.remaining reader.old ≡ Some input →
         IsFirstBad plan.now input lines line rest → (result ≡ Err (LineFault.Line (length lines + 1))) ⊎ IsOther result }
 {
-    run_input(alloc, plan, reader, writer)
-}
-
-/// Answers the lines that the reader gives.
-fn run_input<R: Read, W: Write>(
-    alloc: Global,
-    plan: &Plan,
-    reader: &mut R,
-    writer: &mut W,
-) -> Result<u64, LineFault>
-    ensures { RunsLines plan.now
-        (record { unread = R.remaining reader.old; written = W.contents writer.old })
-        (record { unread = R.remaining reader.new; written = W.contents writer.new }) result }
-{
-    plan.known();
-    let Ok(meter) = plan.start(alloc) else {
-        return Err(LineFault::Memory);
-    };
-    let mut run = Run {
-        meter,
-        count: 0,
-        waiting: Vec::new(alloc),
-        apdu: Vec::new(alloc),
-        reply: Vec::new(alloc),
-    };
-    let ended = answer_input(alloc, plan, &mut run, reader, writer);
-    write_waiting(&mut run.waiting, writer)?;
-    ended
-}
-
-/// Answers the lines that the reader gives. Before each read what waits is written.
-fn answer_input<R: Read, W: Write>(
-    alloc: Global,
-    plan: &Plan,
-    run: &mut Run,
-    reader: &mut R,
-    writer: &mut W,
-) -> Result<u64, LineFault>
-    requires start { run.old.meter ≡ start plan.now }
-    requires state { IsState plan.now run.old.meter }
-    requires count { run.old.count ≡ 0 }
-    requires waiting { run.old.waiting.items ≡ [] }
-    ensures { AnswersInput plan.now
-        (record { unread = R.remaining reader.old; written = W.contents writer.old })
-        (record { unread = R.remaining reader.new; written = W.contents writer.new }) run.new.waiting.items result }
-{
-    let mut feeder = Feeder::new(alloc);
-    let mut total = 0u64;
-    let mut buffer = [0u8; PIECE];
-    for _ in 0..u64::MAX {
-        write_waiting(&mut run.waiting, writer)?;
-        let Ok(taken) = reader.read(&mut buffer) else {
-            return Err(LineFault::Read);
-        };
-        if taken == 0 {
-            return end_run(alloc, plan, run, feeder.held());
-        }
-        let Some(sum) = total.checked_add(taken as u64) else {
-            return Err(LineFault::Read);
-        };
-        total = sum;
-        take_piece(alloc, plan, &mut feeder, run, &buffer[..taken], writer)?;
-    }
-    Err(LineFault::Read)
-}
-
-/// The input has ended, and with it the last line, unless that has no byte. Answers how many lines there were.
-fn end_run(alloc: Global, plan: &Plan, run: &mut Run, last: &[u8]) -> Result<u64, LineFault>
-    requires fits { run.old.count + length last.now < 2 ^ 64 }
-    requires state { IsState plan.now run.old.meter }
-    ensures { EndsRun plan.now run.old run.new last.now result }
-{
-    if !last.is_empty() {
-        answer_line(alloc, plan, run, last)?;
-    }
-    Ok(run.count)
-}
-
-/// Takes some bytes of the input, and answers the lines that they end. A line that lies whole in them is not copied.
-fn take_piece<W: Write>(
-    alloc: Global,
-    plan: &Plan,
-    feeder: &mut Feeder,
-    run: &mut Run,
-    piece: &[u8],
-    writer: &mut W,
-) -> Result<(), LineFault>
-    requires fits { run.old.count + length feeder.old + length piece.now < 2 ^ 64 }
-    requires held { IsLine feeder.old }
-    requires state { IsState plan.now run.old.meter }
-    ensures { TakesPiece plan.now
-        (record { held = feeder.old; run = run.old; written = W.contents writer.old })
-        (record { held = feeder.new; run = run.new; written = W.contents writer.new }) piece.now result }
-{
-    let mut rest = piece;
-    while let Some((part, behind)) = feeder.next_line(rest)? {
-        answer_line(alloc, plan, run, feeder.line(part))?;
-        feeder.clear();
-        rest = behind;
-        if run.waiting.len() > FULL {
-            write_waiting(&mut run.waiting, writer)?;
-        }
-    }
-    Ok(())
-}
-
-/// Answers the next line, and puts its text behind those that wait.
-fn answer_line(alloc: Global, plan: &Plan, run: &mut Run, line: &[u8]) -> Result<(), LineFault>
-    requires fits { run.old.count + 1 < 2 ^ 64 }
-    requires state { IsState plan.now run.old.meter }
-    ensures { AnswersLine plan.now run.old run.new line.now result }
-{
-    run.count += 1;
-    match read_line(alloc, plan, line, &mut run.apdu)? {
-        Line::Skipped => {}
-        Line::Ask(ask) => {
-            run.reply.clear();
-            answer(alloc, plan, &mut run.meter, &ask, &mut run.reply)?;
-            put_reply(&run.reply, &mut run.waiting)?;
-        }
-        Line::Input { cell, value } => {
-            take_step(alloc, plan, &mut run.meter, &Step::Input { cell, value })?;
-        }
-        Line::Evaluate(monitor) => {
-            take_step(alloc, plan, &mut run.meter, &Step::Evaluate { monitor })?;
-        }
-        Line::At(moment) => take_moment(alloc, plan, &mut run.meter, moment)?,
-        Line::Unreadable => {
-            put_unreadable(alloc, run.count, &mut run.waiting)?;
-            return Err(LineFault::Line(run.count));
-        }
-    }
-    Ok(())
+    let mut solo = Solo::start(alloc, plan)?;
+    answer_lines(alloc, &mut solo, reader, writer)
 }

@@ -1,4 +1,4 @@
-use Rattle.std.proofs.Common.{◌≡◌, ℕ, Result, Ok, Err, refl, sym, ap, subst}
+use Rattle.std.proofs.Common.{◌≡◌, ℕ, Result, Ok, Err, refl, sym, subst}
 use Rattle.meter_theory.specs.Labels.{Policy}
 use Rattle.meter_theory.specs.Plan.{Plan}
 use Rattle.config_text.specs.Fault.{Fault as ConfigFault}
@@ -6,7 +6,8 @@ use Rattle.config_text.specs.Parts.{ConfigText}
 use Rattle.config_rules.specs.PlanOf.{plan_of}
 use Rattle.config_reader.specs.ConfigOf.{Reads, config_of}
 use Rattle.meter_server.specs.declared.running.LineFault.{LineFault}
-use Rattle.meter_server.specs.Running.{Moment, RunsLines}
+use Rattle.meter_server.specs.Lines.{Moment}
+use Rattle.meter_server.specs.Running.{RunsLines}
 use Rattle.meter_server.specs.Program.{AnswersText, outcome_of}
 use Rattle.meter_server.proofs.program.answer_text.Goals as goal
 
