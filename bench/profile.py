@@ -4,7 +4,7 @@
     bench/profile.py
 
 The buffer of a profile of two columns is filled by captures. Then 2,000 GETs of the whole buffer of 1,000 rows are answered,
-beside a loop that only copies the same replies. And 20,000 captures go into the full buffers of profiles of 10, 100 and
+and of its first ten rows, beside a loop that only copies the same replies. And 20,000 captures go into the full buffers of profiles of 10, 100 and
 1,000 entries, beside a loop that only copies the same lines: what a capture takes more where more rows stay is what moving
 them takes. Each figure is a run with those lines less a run that only fills the buffer. Run `./cosem-flow demo < /dev/null`
 first, which builds the program.
@@ -20,6 +20,8 @@ GETS = 2_000
 CAPTURES = 20_000
 RUNS = 5
 GET = "meter C001C100070100630100FF0200\n"
+# The first ten rows, by selector 2 and an entry descriptor.
+GET_OF_TEN = "meter C001C100070100630100FF02010202040600000001060000000A120001120000\n"
 CAPTURE = "meter C301C100070100630100FF0200\n"
 CONFIG = """version = 1
 client = [ {{ name = "meter", sap = 16 }} ]
@@ -61,16 +63,17 @@ def main():
             print(
                 f"{entries} entries: {1e6 * taken / CAPTURES:.2f} microseconds a capture, {taken / copied:.1f} times a copy of its line"
             )
-        gets = written(folder, "gets", CAPTURE * 1000 + GET * GETS)
-        taken = seconds_of(run, gets) - filled
-        with open(gets) as lines:
-            replies = subprocess.run(run, stdin=lines, capture_output=True, text=True, check=True).stdout
-        whole = written(folder, "replies", "".join(replies.splitlines(keepends=True)[1000:]))
-        copied = seconds_of(copy, whole) - started
-        print(
-            f"{GETS} GETs of 1000 rows: {GETS / taken:.0f} GETs/s, {os.path.getsize(whole) / taken / 1e6:.1f} MB/s of replies, "
-            f"{taken / copied:.1f} times a copy of them"
-        )
+        for rows, get in ((1000, GET), (10, GET_OF_TEN)):
+            gets = written(folder, "gets", CAPTURE * 1000 + get * GETS)
+            taken = seconds_of(run, gets) - filled
+            with open(gets) as lines:
+                replies = subprocess.run(run, stdin=lines, capture_output=True, text=True, check=True).stdout
+            answers = written(folder, "replies", "".join(replies.splitlines(keepends=True)[1000:]))
+            copied = seconds_of(copy, answers) - started
+            print(
+                f"{GETS} GETs of {rows} rows: {GETS / taken:.0f} GETs/s, {os.path.getsize(answers) / taken / 1e6:.1f} MB/s of replies, "
+                f"{taken / copied:.1f} times a copy of them"
+            )
 
 
 if __name__ == "__main__":

@@ -1,0 +1,62 @@
+#!/usr/bin/env python3
+"""Instructions of `cosem-flow run`, counted by valgrind, which repeat from run to run where times don't.
+
+    bench/instructions.py [PROGRAM]
+
+Told are the instructions for a mixed line of the demo, for a GET by a random name over 512 objects and 2,048 rights, for a byte
+of that configuration's text, for a GET of a buffer of 1,000 rows, whole and by 10 rows, and for a capture into full buffers of
+10 and 1,000 rows. Each figure is a run with many lines less one with few. Run `./cosem-flow demo < /dev/null` first, which
+builds the program; another program of the same words can be named, to be counted beside it.
+"""
+import os
+import random
+import re
+import subprocess
+import sys
+import tempfile
+
+import config
+import demo
+import profile
+
+COUNTED = re.compile(rb"Collected : (\d+)")
+
+
+def counted(program, text, lines):
+    """The instructions of a run by the configuration in one file over the lines in another."""
+    command = ["valgrind", "--tool=callgrind", "--callgrind-out-file=/dev/null", program, "run", text]
+    with open(lines, "rb") as given:
+        run = subprocess.run(command, stdin=given, stdout=subprocess.DEVNULL, stderr=subprocess.PIPE, check=True)
+    return int(COUNTED.search(run.stderr).group(1))
+
+
+def main():
+    program = sys.argv[1] if len(sys.argv) > 1 else demo.PROGRAM
+    with tempfile.TemporaryDirectory() as folder:
+
+        def each(text, begin, line, few, many):
+            """Of lines behind those that begin a run, the instructions for one."""
+            runs = [profile.written(folder, f"{count}", begin + "".join(line() for _ in range(count))) for count in (few, many)]
+            less, more = (counted(program, text, run) for run in runs)
+            return (more - less) / (many - few)
+
+        rng = random.Random(1)
+        mixed = each(demo.CONFIG, "", lambda: demo.request(rng) + "\n", 2_000, 22_000)
+        print(f"a mixed line: {mixed:.0f}")
+        wide = profile.written(folder, "wide.toml", config.config(rng, 512))
+        names = iter(config.gets(rng, 512).splitlines(keepends=True))
+        print(f"a GET by a random name over 512 objects: {each(wide, '', lambda: next(names), 2_000, 22_000):.0f}")
+        bare = profile.written(folder, "bare.toml", config.config(rng, 0))
+        nothing = profile.written(folder, "nothing", "")
+        read = counted(program, wide, nothing) - counted(program, bare, nothing)
+        print(f"a byte of a configuration's text: {read / (os.path.getsize(wide) - os.path.getsize(bare)):.0f}")
+        for entries in (10, 1_000):
+            text = profile.written(folder, f"{entries}.toml", profile.CONFIG.format(entries=entries))
+            full = profile.CAPTURE * entries
+            print(f"a capture into {entries} full entries: {each(text, full, lambda: profile.CAPTURE, 0, 2_000):.0f}")
+        print(f"a GET of 1,000 rows: {each(text, full, lambda: profile.GET, 0, 20):.0f}")
+        print(f"a GET of 10 of 1,000 rows: {each(text, full, lambda: profile.GET_OF_TEN, 0, 200):.0f}")
+
+
+if __name__ == "__main__":
+    main()
