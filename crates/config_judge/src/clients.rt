@@ -12,20 +12,20 @@ use crate::judged::fault_if;
 use crate::walk::{Judge, JudgeNew, JudgeText, both_sets, each, each_new};
 use config_text::fault::{Code, ConfigFault};
 use config_text::parts::{ClientParts, ConfigParts, LabelParts, RightParts};
+use config_text::place::Place;
 use std::alloc::Global;
 
 /// Judges whether the client at a key below a place is there.
 fn known_client(
-    alloc: Global,
     directory: &Directory<'_>,
-    at: &str,
+    at: &Place<'_>,
     key: &str,
     name: &str,
 ) -> Result<(), ConfigFault>
     ensures { Gives (λ u. u) result (spec.known_client directory.now.config.now (at.now ++ key.now) name.now) }
 {
     let known = directory.has_client(name);
-    fault_if(alloc, Code::ClientUnknown, at, key, !known)
+    fault_if(Code::ClientUnknown, at, key, !known)
 }
 
 /// The clients of a set.
@@ -39,8 +39,8 @@ impl<'d, 'c> JudgeText for KnownClient<'d, 'c> {
 
     ghost judges = { λ all. known_client all.directory.now.config.now };
 
-    fn judge(&self, alloc: Global, at: &str, text: &str) -> Result<(), ConfigFault> {
-        known_client(alloc, self.directory, at, "", text)
+    fn judge(&self, at: &Place<'_>, text: &str) -> Result<(), ConfigFault> {
+        known_client(self.directory, at, "", text)
     }
 }
 
@@ -58,8 +58,8 @@ impl<'d, 'c> Judge for RightClient<'d, 'c> {
 
     ghost judges = { λ all at r. known_client all.directory.now.config.now (at ++ codes ".client") r.client };
 
-    fn judge(&self, alloc: Global, at: &str, right: &RightParts) -> Result<(), ConfigFault> {
-        known_client(alloc, self.directory, at, ".client", right.client.as_str())
+    fn judge(&self, at: &Place<'_>, right: &RightParts) -> Result<(), ConfigFault> {
+        known_client(self.directory, at, ".client", right.client.as_str())
     }
 }
 
@@ -76,47 +76,10 @@ impl<'d, 'c> Judge for LabelClients<'d, 'c> {
 
     ghost judges = { λ all at l. both_sets (known_client all.directory.now.config.now) at l.sets };
 
-    fn judge(&self, alloc: Global, at: &str, label: &LabelParts) -> Result<(), ConfigFault> {
+    fn judge(&self, at: &Place<'_>, label: &LabelParts) -> Result<(), ConfigFault> {
         let directory = self.directory;
-        both_sets(alloc, &KnownClient { directory }, at, &label.sets)
+        both_sets(&KnownClient { directory }, at, &label.sets)
     }
-}
-
-/// Judges the clients of the rights.
-fn right_clients(alloc: Global, directory: &Directory<'_>) -> Result<(), ConfigFault>
-    ensures { Gives (λ u. u) result
-        (walks.each (λ at r. spec.known_client directory.now.config.now (at ++ codes ".client") r.client) (codes "right") directory.now.config.now.rights) }
-{
-    let config = directory.config;
-    each(
-        alloc,
-        &RightClient { directory },
-        "right",
-        config.rights.as_slice(),
-    )
-}
-
-/// Judges the clients of the policy.
-fn policy_clients(alloc: Global, directory: &Directory<'_>) -> Result<(), ConfigFault>
-    ensures { Gives (λ u. u) result
-        (spec.both_sets (spec.known_client directory.now.config.now) (codes "policy") directory.now.config.now.policy) }
-{
-    let config = directory.config;
-    both_sets(alloc, &KnownClient { directory }, "policy", &config.policy)
-}
-
-/// Judges the clients of the labels.
-fn label_clients(alloc: Global, directory: &Directory<'_>) -> Result<(), ConfigFault>
-    ensures { Gives (λ u. u) result
-        (walks.each (λ at l. spec.both_sets (spec.known_client directory.now.config.now) at l.sets) (codes "label") directory.now.config.now.labels) }
-{
-    let config = directory.config;
-    each(
-        alloc,
-        &LabelClients { directory },
-        "label",
-        config.labels.as_slice(),
-    )
 }
 
 /// Judges whether each client that is named is there.
@@ -127,9 +90,15 @@ fn label_clients(alloc: Global, directory: &Directory<'_>) -> Result<(), ConfigF
 pub(crate) fn known_clients(alloc: Global, directory: &Directory<'_>) -> Result<(), ConfigFault>
     ensures { Gives (λ u. u) result (spec.known_clients directory.now.config.now) }
 {
-    right_clients(alloc, directory)?;
-    policy_clients(alloc, directory)?;
-    label_clients(alloc, directory)
+    let config = directory.config;
+    let rights = config.rights.as_slice();
+    let right_place = Place::top(alloc, "right");
+    each(&RightClient { directory }, &right_place, rights)?;
+    let policy_place = Place::top(alloc, "policy");
+    both_sets(&KnownClient { directory }, &policy_place, &config.policy)?;
+    let labels = config.labels.as_slice();
+    let label_place = Place::top(alloc, "label");
+    each(&LabelClients { directory }, &label_place, labels)
 }
 
 /// Whether one of the clients has the name.
@@ -160,15 +129,14 @@ impl JudgeNew for NewClient {
     #[tactic(auto, unfolding(config_rules::specs::Passes::new_client))]
     fn judge(
         &self,
-        alloc: Global,
         earlier: &[ClientParts],
-        at: &str,
+        at: &Place<'_>,
         client: &ClientParts,
     ) -> Result<(), ConfigFault> {
         let name_taken = has_name(earlier, client.name.as_str());
-        fault_if(alloc, Code::ClientTwice, at, ".name", name_taken)?;
+        fault_if(Code::ClientTwice, at, ".name", name_taken)?;
         let sap_taken = has_sap(earlier, client.sap);
-        fault_if(alloc, Code::ClientTwice, at, ".sap", sap_taken)
+        fault_if(Code::ClientTwice, at, ".sap", sap_taken)
     }
 }
 
@@ -181,5 +149,6 @@ impl JudgeNew for NewClient {
 pub(crate) fn new_clients(alloc: Global, config: &ConfigParts) -> Result<(), ConfigFault>
     ensures { Gives (λ u. u) result (spec.new_clients config.now) }
 {
-    each_new(alloc, &NewClient, "client", config.clients.as_slice())
+    let client_place = Place::top(alloc, "client");
+    each_new(&NewClient, &client_place, config.clients.as_slice())
 }

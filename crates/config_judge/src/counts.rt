@@ -8,10 +8,11 @@ use crate::judged::fault_if;
 use crate::walk::{Judge, each};
 use config_text::fault::{Code, ConfigFault};
 use config_text::parts::{BodyParts, ConfigParts, ObjectParts};
+use config_text::place::Place;
 use std::alloc::Global;
 
 #[tactic(auto, unfolding(config_rules::specs::Passes::equal_counts_in))]
-fn equal_counts_in(alloc: Global, at: &str, body: &BodyParts) -> Result<(), ConfigFault>
+fn equal_counts_in(at: &Place<'_>, body: &BodyParts) -> Result<(), ConfigFault>
     ensures { Gives (λ u. u) result (passes.equal_counts_in at.now (body_text body.now)) }
 {
     match body {
@@ -21,7 +22,7 @@ fn equal_counts_in(alloc: Global, at: &str, body: &BodyParts) -> Result<(), Conf
             ..
         } => {
             let equal = thresholds.len() == actions.len();
-            fault_if(alloc, Code::Counts, at, ".action", !equal)
+            fault_if(Code::Counts, at, ".action", !equal)
         }
         _ => Ok(()),
     }
@@ -38,8 +39,8 @@ impl Judge for EqualCounts {
 
     ghost judges = { λ _ at o. equal_counts_in at o.body };
 
-    fn judge(&self, alloc: Global, at: &str, object: &ObjectParts) -> Result<(), ConfigFault> {
-        equal_counts_in(alloc, at, &object.body)
+    fn judge(&self, at: &Place<'_>, object: &ObjectParts) -> Result<(), ConfigFault> {
+        equal_counts_in(at, &object.body)
     }
 }
 
@@ -51,5 +52,6 @@ impl Judge for EqualCounts {
 pub(crate) fn equal_counts(alloc: Global, config: &ConfigParts) -> Result<(), ConfigFault>
     ensures { Gives (λ u. u) result (passes.equal_counts config.now) }
 {
-    each(alloc, &EqualCounts, "object", config.objects.as_slice())
+    let object_place = Place::top(alloc, "object");
+    each(&EqualCounts, &object_place, config.objects.as_slice())
 }

@@ -6,6 +6,7 @@ use crate::judged::fault_if;
 use crate::walk::{Judge, each};
 use config_text::fault::{Code, ConfigFault};
 use config_text::parts::{ConfigParts, ObjectParts};
+use config_text::place::Place;
 use std::alloc::Global;
 
 /// Whether an object may be fed.
@@ -21,9 +22,9 @@ impl Judge for Fed {
 
     ghost judges = { λ _ at o. fault_if Fed (at ++ codes ".fed") (o.fed && not ((o.class == 1) || (o.class == 3))) };
 
-    fn judge(&self, alloc: Global, at: &str, object: &ObjectParts) -> Result<(), ConfigFault> {
+    fn judge(&self, at: &Place<'_>, object: &ObjectParts) -> Result<(), ConfigFault> {
         let has_input = object.class_id == 1 || object.class_id == 3;
-        fault_if(alloc, Code::Fed, at, ".fed", object.fed && !has_input)
+        fault_if(Code::Fed, at, ".fed", object.fed && !has_input)
     }
 }
 
@@ -35,5 +36,6 @@ impl Judge for Fed {
 pub(crate) fn fed_values(alloc: Global, config: &ConfigParts) -> Result<(), ConfigFault>
     ensures { Gives (λ u. u) result (passes.fed_values config.now) }
 {
-    each(alloc, &Fed, "object", config.objects.as_slice())
+    let object_place = Place::top(alloc, "object");
+    each(&Fed, &object_place, config.objects.as_slice())
 }

@@ -12,20 +12,21 @@ use config_text::fault::{Code, ConfigFault};
 use config_text::parts::{
     ClientParts, ConfigParts, LabelParts, ObjectParts, RightParts, ScriptRefParts, TargetParts,
 };
+use config_text::place::Place;
 use std::alloc::Global;
 
 /// Judges the form of a logical name at a key below a place.
-fn logical_form(alloc: Global, at: &str, key: &str, name: &str) -> Result<(), ConfigFault>
+fn logical_form(at: &Place<'_>, key: &str, name: &str) -> Result<(), ConfigFault>
     ensures { Gives (λ u. u) result (spec.logical_form (at.now ++ key.now) name.now) }
 {
-    fault_if(alloc, Code::Form, at, key, !is_logical_name(name))
+    fault_if(Code::Form, at, key, !is_logical_name(name))
 }
 
 /// Judges the form of a client's name at a key below a place.
-fn client_form(alloc: Global, at: &str, key: &str, name: &str) -> Result<(), ConfigFault>
+fn client_form(at: &Place<'_>, key: &str, name: &str) -> Result<(), ConfigFault>
     ensures { Gives (λ u. u) result (spec.client_form (at.now ++ key.now) name.now) }
 {
-    fault_if(alloc, Code::Form, at, key, !is_client_name(name))
+    fault_if(Code::Form, at, key, !is_client_name(name))
 }
 
 /// Names of clients in a set.
@@ -37,8 +38,8 @@ impl JudgeText for ClientForm {
 
     ghost judges = { λ _. client_form };
 
-    fn judge(&self, alloc: Global, at: &str, text: &str) -> Result<(), ConfigFault> {
-        client_form(alloc, at, "", text)
+    fn judge(&self, at: &Place<'_>, text: &str) -> Result<(), ConfigFault> {
+        client_form(at, "", text)
     }
 }
 
@@ -54,8 +55,8 @@ impl Judge for ClientForms {
 
     ghost judges = { λ _ at client. client_form (at ++ codes ".name") client.name };
 
-    fn judge(&self, alloc: Global, at: &str, client: &ClientParts) -> Result<(), ConfigFault> {
-        client_form(alloc, at, ".name", client.name.as_str())
+    fn judge(&self, at: &Place<'_>, client: &ClientParts) -> Result<(), ConfigFault> {
+        client_form(at, ".name", client.name.as_str())
     }
 }
 
@@ -71,22 +72,12 @@ impl JudgeReferences for ReferenceForms {
 
     ghost scripts = { λ _ at r. logical_form (at ++ codes ".table") r.table };
 
-    fn judge_target(
-        &self,
-        alloc: Global,
-        at: &str,
-        target: &TargetParts,
-    ) -> Result<(), ConfigFault> {
-        logical_form(alloc, at, ".object", target.object.as_str())
+    fn judge_target(&self, at: &Place<'_>, target: &TargetParts) -> Result<(), ConfigFault> {
+        logical_form(at, ".object", target.object.as_str())
     }
 
-    fn judge_script(
-        &self,
-        alloc: Global,
-        at: &str,
-        script: &ScriptRefParts,
-    ) -> Result<(), ConfigFault> {
-        logical_form(alloc, at, ".table", script.table.as_str())
+    fn judge_script(&self, at: &Place<'_>, script: &ScriptRefParts) -> Result<(), ConfigFault> {
+        logical_form(at, ".table", script.table.as_str())
     }
 }
 
@@ -102,9 +93,9 @@ impl Judge for ObjectForms {
     ghost judges = { λ _. object_forms };
 
     #[tactic(auto, unfolding(config_rules::specs::Passes::object_forms))]
-    fn judge(&self, alloc: Global, at: &str, object: &ObjectParts) -> Result<(), ConfigFault> {
-        logical_form(alloc, at, ".name", object.name.as_str())?;
-        references(alloc, &ReferenceForms, at, &object.body)
+    fn judge(&self, at: &Place<'_>, object: &ObjectParts) -> Result<(), ConfigFault> {
+        logical_form(at, ".name", object.name.as_str())?;
+        references(&ReferenceForms, at, &object.body)
     }
 }
 
@@ -120,9 +111,9 @@ impl Judge for RightForms {
     ghost judges = { λ _. right_forms };
 
     #[tactic(auto, unfolding(config_rules::specs::Passes::right_forms))]
-    fn judge(&self, alloc: Global, at: &str, right: &RightParts) -> Result<(), ConfigFault> {
-        client_form(alloc, at, ".client", right.client.as_str())?;
-        logical_form(alloc, at, ".object", right.object.as_str())
+    fn judge(&self, at: &Place<'_>, right: &RightParts) -> Result<(), ConfigFault> {
+        client_form(at, ".client", right.client.as_str())?;
+        logical_form(at, ".object", right.object.as_str())
     }
 }
 
@@ -138,9 +129,9 @@ impl Judge for LabelForms {
     ghost judges = { λ _. label_forms };
 
     #[tactic(auto, unfolding(config_rules::specs::Passes::label_forms))]
-    fn judge(&self, alloc: Global, at: &str, label: &LabelParts) -> Result<(), ConfigFault> {
-        logical_form(alloc, at, ".object", label.target.object.as_str())?;
-        both_sets(alloc, &ClientForm, at, &label.sets)
+    fn judge(&self, at: &Place<'_>, label: &LabelParts) -> Result<(), ConfigFault> {
+        logical_form(at, ".object", label.target.object.as_str())?;
+        both_sets(&ClientForm, at, &label.sets)
     }
 }
 
@@ -152,9 +143,13 @@ impl Judge for LabelForms {
 pub(crate) fn forms(alloc: Global, config: &ConfigParts) -> Result<(), ConfigFault>
     ensures { Gives (λ u. u) result (spec.forms config.now) }
 {
-    each(alloc, &ClientForms, "client", config.clients.as_slice())?;
-    each(alloc, &ObjectForms, "object", config.objects.as_slice())?;
-    each(alloc, &RightForms, "right", config.rights.as_slice())?;
-    both_sets(alloc, &ClientForm, "policy", &config.policy)?;
-    each(alloc, &LabelForms, "label", config.labels.as_slice())
+    let client_place = Place::top(alloc, "client");
+    each(&ClientForms, &client_place, config.clients.as_slice())?;
+    let object_place = Place::top(alloc, "object");
+    each(&ObjectForms, &object_place, config.objects.as_slice())?;
+    let right_place = Place::top(alloc, "right");
+    each(&RightForms, &right_place, config.rights.as_slice())?;
+    both_sets(&ClientForm, &Place::top(alloc, "policy"), &config.policy)?;
+    let label_place = Place::top(alloc, "label");
+    each(&LabelForms, &label_place, config.labels.as_slice())
 }

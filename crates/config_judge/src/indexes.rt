@@ -12,40 +12,39 @@ use crate::classes::{has_attribute, has_method, is_capturable, is_monitorable, i
 use crate::directory::Directory;
 use crate::judged::fault_if;
 use crate::reference_walk::each_action;
-use crate::walk::{Judge, each};
+use crate::walk::{Judge, each, each_below};
 use config_text::fault::{Code, ConfigFault};
 use config_text::parts::{
     ActionParts, BodyParts, CaptureParts, ObjectParts, RightParts, TargetParts,
 };
+use config_text::place::Place;
 use config_text::service::Service;
 use std::alloc::Global;
 
 /// Judges the index of an attribute that is captured.
 fn captured(
-    alloc: Global,
     directory: &Directory<'_>,
-    at: &str,
+    at: &Place<'_>,
     target: &TargetParts,
 ) -> Result<(), ConfigFault>
     ensures { Gives (λ u. u) result (spec.usable directory.now.config.now capturable at.now target.now) }
 {
     let class = directory.class(target.object.as_str());
     let usable = is_capturable(class, target.index);
-    fault_if(alloc, Code::Index, at, ".index", !usable)
+    fault_if(Code::Index, at, ".index", !usable)
 }
 
 /// Judges the index of an attribute that is monitored.
 fn monitored(
-    alloc: Global,
     directory: &Directory<'_>,
-    at: &str,
+    at: &Place<'_>,
     target: &TargetParts,
 ) -> Result<(), ConfigFault>
     ensures { Gives (λ u. u) result (spec.usable directory.now.config.now monitorable (at.now ++ codes ".monitored") target.now) }
 {
     let class = directory.class(target.object.as_str());
     let usable = is_monitorable(class, target.index);
-    fault_if(alloc, Code::Index, at, ".monitored.index", !usable)
+    fault_if(Code::Index, at, ".monitored.index", !usable)
 }
 
 /// Whether an action can set or call what it names: a settable attribute, or a method.
@@ -73,8 +72,8 @@ impl<'d, 'c> Judge for UsableCapture<'d, 'c> {
 
     ghost judges = { λ all at x. usable all.directory.now.config.now capturable at x.target };
 
-    fn judge(&self, alloc: Global, at: &str, capture: &CaptureParts) -> Result<(), ConfigFault> {
-        captured(alloc, self.directory, at, &capture.target)
+    fn judge(&self, at: &Place<'_>, capture: &CaptureParts) -> Result<(), ConfigFault> {
+        captured(self.directory, at, &capture.target)
     }
 }
 
@@ -91,39 +90,37 @@ impl<'d, 'c> Judge for UsableAction<'d, 'c> {
 
     ghost judges = { λ all at a. usable_action all.directory.now.config.now a.service at a.target };
 
-    fn judge(&self, alloc: Global, at: &str, action: &ActionParts) -> Result<(), ConfigFault> {
+    fn judge(&self, at: &Place<'_>, action: &ActionParts) -> Result<(), ConfigFault> {
         let usable = is_usable(self.directory, action.service, &action.target);
-        fault_if(alloc, Code::Index, at, ".index", !usable)
+        fault_if(Code::Index, at, ".index", !usable)
     }
 }
 
 /// The indexes in an object's body.
 #[tactic(auto, unfolding(config_rules::specs::Passes::usable_indexes))]
 fn usable_indexes(
-    alloc: Global,
     directory: &Directory<'_>,
-    at: &str,
+    at: &Place<'_>,
     body: &BodyParts,
 ) -> Result<(), ConfigFault>
     ensures { Gives (λ u. u) result (spec.usable_indexes directory.now.config.now at.now (body_text body.now)) }
 {
     match body {
         BodyParts::ProfileGeneric { capture, .. } => {
-            let name = format!(in alloc; "{at}.capture")?;
-            each(
-                alloc,
+            each_below(
                 &UsableCapture { directory },
-                name.as_str(),
+                at,
+                ".capture",
                 capture.as_slice(),
             )
         }
         BodyParts::ScriptTable { scripts } => {
-            each_action(alloc, &UsableAction { directory }, at, scripts.as_slice())
+            each_action(&UsableAction { directory }, at, scripts.as_slice())
         }
         BodyParts::RegisterMonitor {
             monitored: target,
             ..
-        } => { monitored(alloc, directory, at, target) }
+        } => { monitored(directory, at, target) }
         _ => Ok(()),
     }
 }
@@ -141,8 +138,8 @@ impl<'d, 'c> Judge for ObjectIndexes<'d, 'c> {
 
     ghost judges = { λ all at o. usable_indexes all.directory.now.config.now at o.body };
 
-    fn judge(&self, alloc: Global, at: &str, object: &ObjectParts) -> Result<(), ConfigFault> {
-        usable_indexes(alloc, self.directory, at, &object.body)
+    fn judge(&self, at: &Place<'_>, object: &ObjectParts) -> Result<(), ConfigFault> {
+        usable_indexes(self.directory, at, &object.body)
     }
 }
 
@@ -160,9 +157,9 @@ impl Judge for AttributeOf {
 
     ghost judges = { λ all. right_index attributes all.class };
 
-    fn judge(&self, alloc: Global, at: &str, index: &u8) -> Result<(), ConfigFault> {
+    fn judge(&self, at: &Place<'_>, index: &u8) -> Result<(), ConfigFault> {
         let known = has_attribute(self.class, *index);
-        fault_if(alloc, Code::Index, at, "", !known)
+        fault_if(Code::Index, at, "", !known)
     }
 }
 
@@ -180,38 +177,10 @@ impl Judge for MethodOf {
 
     ghost judges = { λ all. right_index methods all.class };
 
-    fn judge(&self, alloc: Global, at: &str, index: &u8) -> Result<(), ConfigFault> {
+    fn judge(&self, at: &Place<'_>, index: &u8) -> Result<(), ConfigFault> {
         let known = has_method(self.class, *index);
-        fault_if(alloc, Code::Index, at, "", !known)
+        fault_if(Code::Index, at, "", !known)
     }
-}
-
-/// Judges the attributes of a list at a key below a place.
-fn right_attributes(
-    alloc: Global,
-    class: u16,
-    at: &str,
-    key: &str,
-    indexes: &[u8],
-) -> Result<(), ConfigFault>
-    ensures { Gives (λ u. u) result (walks.each (spec.right_index attributes class) (at.now ++ key.now) indexes.now) }
-{
-    let name = format!(in alloc; "{at}{key}")?;
-    each(alloc, &AttributeOf { class }, name.as_str(), indexes)
-}
-
-/// Judges the methods of a list at a key below a place.
-fn right_methods(
-    alloc: Global,
-    class: u16,
-    at: &str,
-    key: &str,
-    indexes: &[u8],
-) -> Result<(), ConfigFault>
-    ensures { Gives (λ u. u) result (walks.each (spec.right_index methods class) (at.now ++ key.now) indexes.now) }
-{
-    let name = format!(in alloc; "{at}{key}")?;
-    each(alloc, &MethodOf { class }, name.as_str(), indexes)
 }
 
 /// The indexes of a right.
@@ -228,40 +197,12 @@ impl<'d, 'c> Judge for RightIndexes<'d, 'c> {
     ghost judges = { λ all. right_indexes all.directory.now.config.now };
 
     #[tactic(auto, unfolding(config_rules::specs::Passes::right_indexes))]
-    fn judge(&self, alloc: Global, at: &str, right: &RightParts) -> Result<(), ConfigFault> {
+    fn judge(&self, at: &Place<'_>, right: &RightParts) -> Result<(), ConfigFault> {
         let class = self.directory.class(right.object.as_str());
-        right_attributes(alloc, class, at, ".get", right.gets.as_slice())?;
-        right_attributes(alloc, class, at, ".set", right.sets.as_slice())?;
-        right_methods(alloc, class, at, ".act", right.acts.as_slice())
+        each_below(&AttributeOf { class }, at, ".get", right.gets.as_slice())?;
+        each_below(&AttributeOf { class }, at, ".set", right.sets.as_slice())?;
+        each_below(&MethodOf { class }, at, ".act", right.acts.as_slice())
     }
-}
-
-/// Judges the indexes in the objects.
-fn object_indexes(alloc: Global, directory: &Directory<'_>) -> Result<(), ConfigFault>
-    ensures { Gives (λ u. u) result
-        (walks.each (λ at o. spec.usable_indexes directory.now.config.now at o.body) (codes "object") directory.now.config.now.objects) }
-{
-    let config = directory.config;
-    each(
-        alloc,
-        &ObjectIndexes { directory },
-        "object",
-        config.objects.as_slice(),
-    )
-}
-
-/// Judges the indexes in the rights.
-fn right_indexes(alloc: Global, directory: &Directory<'_>) -> Result<(), ConfigFault>
-    ensures { Gives (λ u. u) result
-        (walks.each (spec.right_indexes directory.now.config.now) (codes "right") directory.now.config.now.rights) }
-{
-    let config = directory.config;
-    each(
-        alloc,
-        &RightIndexes { directory },
-        "right",
-        config.rights.as_slice(),
-    )
 }
 
 /// Judges whether each index can be used where it stands: what is captured, set, called and monitored, and what rights
@@ -273,6 +214,11 @@ fn right_indexes(alloc: Global, directory: &Directory<'_>) -> Result<(), ConfigF
 pub(crate) fn known_indexes(alloc: Global, directory: &Directory<'_>) -> Result<(), ConfigFault>
     ensures { Gives (λ u. u) result (spec.known_indexes directory.now.config.now) }
 {
-    object_indexes(alloc, directory)?;
-    right_indexes(alloc, directory)
+    let config = directory.config;
+    let objects = config.objects.as_slice();
+    let object_place = Place::top(alloc, "object");
+    each(&ObjectIndexes { directory }, &object_place, objects)?;
+    let rights = config.rights.as_slice();
+    let right_place = Place::top(alloc, "right");
+    each(&RightIndexes { directory }, &right_place, rights)
 }

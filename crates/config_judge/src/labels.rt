@@ -11,6 +11,7 @@ use crate::judged::fault_if;
 use crate::walk::{JudgeNew, each_new};
 use config_text::fault::{Code, ConfigFault};
 use config_text::parts::{LabelParts, TargetParts};
+use config_text::place::Place;
 use std::alloc::Global;
 
 fn same_target(one: &TargetParts, other: &TargetParts) -> bool
@@ -51,13 +52,12 @@ impl<'d, 'c> JudgeNew for NewLabel<'d, 'c> {
 
     fn judge(
         &self,
-        alloc: Global,
         earlier: &[LabelParts],
-        at: &str,
+        at: &Place<'_>,
         label: &LabelParts,
     ) -> Result<(), ConfigFault> {
         let wrong = is_wrong(self.directory, earlier, &label.target);
-        fault_if(alloc, Code::Label, at, ".index", wrong)
+        fault_if(Code::Label, at, ".index", wrong)
     }
 }
 
@@ -71,5 +71,5 @@ pub(crate) fn new_labels(alloc: Global, directory: &Directory<'_>) -> Result<(),
 {
     let config = directory.config;
     let labels = config.labels.as_slice();
-    each_new(alloc, &NewLabel { directory }, "label", labels)
+    each_new(&NewLabel { directory }, &Place::top(alloc, "label"), labels)
 }

@@ -13,12 +13,13 @@ ghost use Rattle.config_judge.specs.Lines.{followed_by};
 
 use crate::arrays::{times_of, values_of};
 use crate::judged::fault_if;
-use crate::walk::{Judge, each};
+use crate::walk::{Judge, each, each_below};
 use class_control::times::MOST_TIMES;
 use config_text::fault::{Code, ConfigFault};
 use config_text::parts::{
     ActionParts, BodyParts, CaptureParts, ConfigParts, ObjectParts, ScriptParts, UpDownParts,
 };
+use config_text::place::Place;
 use cosem_class::judge::keeps_limits;
 use cosem_data::data::{Data, Items};
 use cosem_data::memory::Memory;
@@ -47,16 +48,10 @@ pub(crate) const MOST_ENTRIES: u64 = 1000;
 pub(crate) const MOST_THRESHOLDS: usize = 16;
 
 /// A number of elements against a limit.
-fn at_most(
-    alloc: Global,
-    at: &str,
-    key: &str,
-    limit: usize,
-    number: usize,
-) -> Result<(), ConfigFault>
+fn at_most(at: &Place<'_>, key: &str, limit: usize, number: usize) -> Result<(), ConfigFault>
     ensures { Gives (λ u. u) result (faults.fault_if Limit (at.now ++ key.now) (nat_lt limit number)) }
 {
-    fault_if(alloc, Code::Limit, at, key, limit < number)
+    fault_if(Code::Limit, at, key, limit < number)
 }
 
 /// Whether a text is no value, or one within the limits. The error is that memory was refused.
@@ -70,21 +65,19 @@ fn is_small(alloc: Global, text: &str) -> Result<bool, Memory>
 }
 
 /// The value that a text is, against the limits.
-fn small_value(alloc: Global, at: &str, key: &str, text: &str) -> Result<(), ConfigFault>
+fn small_value(at: &Place<'_>, key: &str, text: &str) -> Result<(), ConfigFault>
     ensures { Gives (λ u. u) result (passes.small_value (at.now ++ key.now) (Some text.now)) }
 {
-    let Ok(small) = is_small(alloc, text) else {
-        return Err(ConfigFault::Memory);
-    };
-    fault_if(alloc, Code::Limit, at, key, !small)
+    let small = is_small(at.alloc(), text)?;
+    fault_if(Code::Limit, at, key, !small)
 }
 
 /// The value of an action, where it has one.
-fn small_parameter(alloc: Global, at: &str, value: &Option<String>) -> Result<(), ConfigFault>
+fn small_parameter(at: &Place<'_>, value: &Option<String>) -> Result<(), ConfigFault>
     ensures { Gives (λ u. u) result (passes.small_value (at.now ++ codes ".value") (option_map string_bytes value.now)) }
 {
     match value {
-        Some(text) => small_value(alloc, at, ".value", text.as_str()),
+        Some(text) => small_value(at, ".value", text.as_str()),
         None => Ok(()),
     }
 }
@@ -101,8 +94,8 @@ impl Judge for SmallAction {
 
     ghost judges = { λ _ at a. small_value (at ++ codes ".value") a.value };
 
-    fn judge(&self, alloc: Global, at: &str, action: &ActionParts) -> Result<(), ConfigFault> {
-        small_parameter(alloc, at, &action.value)
+    fn judge(&self, at: &Place<'_>, action: &ActionParts) -> Result<(), ConfigFault> {
+        small_parameter(at, &action.value)
     }
 }
 
@@ -118,49 +111,41 @@ impl Judge for ScriptLimits {
     ghost judges = { λ _. script_limits };
 
     #[tactic(auto, unfolding(config_rules::specs::Passes::script_limits))]
-    fn judge(&self, alloc: Global, at: &str, script: &ScriptParts) -> Result<(), ConfigFault> {
-        at_most(alloc, at, ".action", MOST_ACTIONS, script.actions.len())?;
-        let name = format!(in alloc; "{at}.action")?;
-        each(
-            alloc,
-            &SmallAction,
-            name.as_str(),
-            script.actions.as_slice(),
-        )
+    fn judge(&self, at: &Place<'_>, script: &ScriptParts) -> Result<(), ConfigFault> {
+        at_most(at, ".action", MOST_ACTIONS, script.actions.len())?;
+        each_below(&SmallAction, at, ".action", script.actions.as_slice())
     }
 }
 
 /// The sizes of a register's value and default.
-fn register_limits(alloc: Global, at: &str, value: &str, default: &str) -> Result<(), ConfigFault>
+fn register_limits(at: &Place<'_>, value: &str, default: &str) -> Result<(), ConfigFault>
     ensures { Gives (λ u. u) result (followed_by (passes.small_value (at.now ++ codes ".value") (Some value.now))
         (passes.small_value (at.now ++ codes ".default") (Some default.now))) }
 {
-    small_value(alloc, at, ".value", value)?;
-    small_value(alloc, at, ".default", default)
+    small_value(at, ".value", value)?;
+    small_value(at, ".default", default)
 }
 
 /// The number of captures, and of entries.
 fn profile_limits(
-    alloc: Global,
-    at: &str,
+    at: &Place<'_>,
     captures: &[CaptureParts],
     entries: u64,
 ) -> Result<(), ConfigFault>
     ensures { Gives (λ u. u) result (followed_by (faults.fault_if Limit (at.now ++ codes ".capture") (nat_lt 32 (length captures.now)))
         (faults.fault_if Limit (at.now ++ codes ".entries") (nat_lt 1000 entries))) }
 {
-    at_most(alloc, at, ".capture", MOST_CAPTURES, captures.len())?;
-    fault_if(alloc, Code::Limit, at, ".entries", MOST_ENTRIES < entries)
+    at_most(at, ".capture", MOST_CAPTURES, captures.len())?;
+    fault_if(Code::Limit, at, ".entries", MOST_ENTRIES < entries)
 }
 
 /// The sizes of a script table.
-fn script_table_limits(alloc: Global, at: &str, scripts: &[ScriptParts]) -> Result<(), ConfigFault>
+fn script_table_limits(at: &Place<'_>, scripts: &[ScriptParts]) -> Result<(), ConfigFault>
     ensures { Gives (λ u. u) result (followed_by (faults.fault_if Limit (at.now ++ codes ".script") (nat_lt 64 (length scripts.now)))
         (walks.each passes.script_limits (at.now ++ codes ".script") scripts.now)) }
 {
-    at_most(alloc, at, ".script", MOST_SCRIPTS, scripts.len())?;
-    let name = format!(in alloc; "{at}.script")?;
-    each(alloc, &ScriptLimits, name.as_str(), scripts)
+    at_most(at, ".script", MOST_SCRIPTS, scripts.len())?;
+    each_below(&ScriptLimits, at, ".script", scripts)
 }
 
 /// Whether thresholds are within the limits as one array. The error is that memory was refused.
@@ -180,21 +165,18 @@ fn are_small_times(alloc: Global, texts: &[String]) -> Result<bool, Memory>
 }
 
 /// The number and the size of thresholds.
-fn threshold_limits(alloc: Global, at: &str, texts: &[String]) -> Result<(), ConfigFault>
+fn threshold_limits(at: &Place<'_>, texts: &[String]) -> Result<(), ConfigFault>
     ensures { Gives (λ u. u) result (faults.fault_if Limit (at.now ++ codes ".thresholds")
         (nat_lt 16 (length (map string_bytes texts.now)) || not (is_within_limits (thresholds_value (map string_bytes texts.now))))) }
 {
-    let Ok(small) = are_small_thresholds(alloc, texts) else {
-        return Err(ConfigFault::Memory);
-    };
+    let small = are_small_thresholds(at.alloc(), texts)?;
     let many = MOST_THRESHOLDS < texts.len();
-    fault_if(alloc, Code::Limit, at, ".thresholds", many || !small)
+    fault_if(Code::Limit, at, ".thresholds", many || !small)
 }
 
 /// The sizes of a register monitor.
 fn monitor_limits(
-    alloc: Global,
-    at: &str,
+    at: &Place<'_>,
     thresholds: &[String],
     actions: &[UpDownParts],
 ) -> Result<(), ConfigFault>
@@ -202,44 +184,42 @@ fn monitor_limits(
         (nat_lt 16 (length (map string_bytes thresholds.now)) || not (is_within_limits (thresholds_value (map string_bytes thresholds.now)))))
         (faults.fault_if Limit (at.now ++ codes ".action") (nat_lt 16 (length actions.now)))) }
 {
-    threshold_limits(alloc, at, thresholds)?;
-    at_most(alloc, at, ".action", MOST_THRESHOLDS, actions.len())
+    threshold_limits(at, thresholds)?;
+    at_most(at, ".action", MOST_THRESHOLDS, actions.len())
 }
 
 /// The number and the size of times.
-fn time_limits(alloc: Global, at: &str, texts: &[String]) -> Result<(), ConfigFault>
+fn time_limits(at: &Place<'_>, texts: &[String]) -> Result<(), ConfigFault>
     ensures { Gives (λ u. u) result (faults.fault_if Limit (at.now ++ codes ".times")
         (nat_lt 16 (length (map string_bytes texts.now)) || not (is_within_limits (times_value (map string_bytes texts.now))))) }
 {
-    let Ok(small) = are_small_times(alloc, texts) else {
-        return Err(ConfigFault::Memory);
-    };
+    let small = are_small_times(at.alloc(), texts)?;
     let many = MOST_TIMES < texts.len();
-    fault_if(alloc, Code::Limit, at, ".times", many || !small)
+    fault_if(Code::Limit, at, ".times", many || !small)
 }
 
 /// The sizes in an object's body.
 #[tactic(auto, unfolding(config_rules::specs::Passes::limits_in))]
-fn limits_in(alloc: Global, at: &str, body: &BodyParts) -> Result<(), ConfigFault>
+fn limits_in(at: &Place<'_>, body: &BodyParts) -> Result<(), ConfigFault>
     ensures { Gives (λ u. u) result (passes.limits_in at.now (body_text body.now)) }
 {
     match body {
-        BodyParts::Data { value } => small_value(alloc, at, ".value", value.as_str()),
+        BodyParts::Data { value } => small_value(at, ".value", value.as_str()),
         BodyParts::Register { value, default, .. } => {
-            register_limits(alloc, at, value.as_str(), default.as_str())
+            register_limits(at, value.as_str(), default.as_str())
         }
         BodyParts::ProfileGeneric {
             capture,
             entries,
             ..
-        } => profile_limits(alloc, at, capture.as_slice(), *entries),
-        BodyParts::ScriptTable { scripts } => { script_table_limits(alloc, at, scripts.as_slice()) }
+        } => profile_limits(at, capture.as_slice(), *entries),
+        BodyParts::ScriptTable { scripts } => { script_table_limits(at, scripts.as_slice()) }
         BodyParts::RegisterMonitor {
             thresholds,
             actions,
             ..
-        } => monitor_limits(alloc, at, thresholds.as_slice(), actions.as_slice()),
-        BodyParts::SingleActionSchedule { times, .. } => time_limits(alloc, at, times.as_slice()),
+        } => monitor_limits(at, thresholds.as_slice(), actions.as_slice()),
+        BodyParts::SingleActionSchedule { times, .. } => time_limits(at, times.as_slice()),
         BodyParts::Unknown => Ok(()),
     }
 }
@@ -255,8 +235,8 @@ impl Judge for ObjectLimits {
 
     ghost judges = { λ _ at o. limits_in at o.body };
 
-    fn judge(&self, alloc: Global, at: &str, object: &ObjectParts) -> Result<(), ConfigFault> {
-        limits_in(alloc, at, &object.body)
+    fn judge(&self, at: &Place<'_>, object: &ObjectParts) -> Result<(), ConfigFault> {
+        limits_in(at, &object.body)
     }
 }
 
@@ -268,7 +248,9 @@ impl Judge for ObjectLimits {
 pub(crate) fn within_limits(alloc: Global, config: &ConfigParts) -> Result<(), ConfigFault>
     ensures { Gives (λ u. u) result (passes.within_limits config.now) }
 {
-    at_most(alloc, "client", "", MOST_CLIENTS, config.clients.len())?;
-    at_most(alloc, "object", "", MOST_OBJECTS, config.objects.len())?;
-    each(alloc, &ObjectLimits, "object", config.objects.as_slice())
+    let client_place = Place::top(alloc, "client");
+    at_most(&client_place, "", MOST_CLIENTS, config.clients.len())?;
+    let object_place = Place::top(alloc, "object");
+    at_most(&object_place, "", MOST_OBJECTS, config.objects.len())?;
+    each(&ObjectLimits, &object_place, config.objects.as_slice())
 }

@@ -13,6 +13,7 @@ use crate::judged::fault_if;
 use crate::walk::{Judge, each};
 use config_text::fault::{Code, ConfigFault};
 use config_text::parts::{ConfigParts, ObjectParts};
+use config_text::place::Place;
 use std::alloc::Global;
 
 /// The logical name of the current association (IEC 62056-6-2, Association LN).
@@ -35,8 +36,12 @@ fn new_object(
     ensures { Gives (λ u. u) result (spec.new_object (take i directory.now.config.now.objects) (element_place (codes "object") i) object.now) }
 {
     let taken = is_taken(directory, object.name.as_str(), i);
-    let place = format!(in alloc; "object[{i}]")?;
-    fault_if(alloc, Code::ObjectTwice, place.as_str(), ".name", taken)
+    fault_if(
+        Code::ObjectTwice,
+        &Place::top(alloc, "object").element(i),
+        ".name",
+        taken,
+    )
 }
 
 /// Judges whether each object's name is new.
@@ -69,9 +74,9 @@ impl Judge for KnownClass {
 
     ghost judges = { λ _ at o. fault_if ClassUnknown (at ++ codes ".class") (not (is_known_class o.class)) };
 
-    fn judge(&self, alloc: Global, at: &str, object: &ObjectParts) -> Result<(), ConfigFault> {
+    fn judge(&self, at: &Place<'_>, object: &ObjectParts) -> Result<(), ConfigFault> {
         let known = is_known_class(object.class_id);
-        fault_if(alloc, Code::ClassUnknown, at, ".class", !known)
+        fault_if(Code::ClassUnknown, at, ".class", !known)
     }
 }
 
@@ -83,5 +88,6 @@ impl Judge for KnownClass {
 pub(crate) fn known_classes(alloc: Global, config: &ConfigParts) -> Result<(), ConfigFault>
     ensures { Gives (λ u. u) result (spec.known_classes config.now) }
 {
-    each(alloc, &KnownClass, "object", config.objects.as_slice())
+    let object_place = Place::top(alloc, "object");
+    each(&KnownClass, &object_place, config.objects.as_slice())
 }

@@ -10,7 +10,7 @@ use config_text::fault::ConfigFault;
 use config_text::parts::{
     ActionParts, BodyParts, CaptureParts, ScriptParts, ScriptRefParts, TargetParts, UpDownParts,
 };
-use std::alloc::Global;
+use config_text::place::Place;
 
 /// The actions of a script, each judged.
 #[derive(Drop)]
@@ -25,8 +25,8 @@ impl<'a, J: Judge<Part = ActionParts>> Judge for ScriptActions<'a, J> {
 
     ghost judges = { λ all. script_actions (J.judges all.judge.now) };
 
-    fn judge(&self, alloc: Global, at: &str, script: &ScriptParts) -> Result<(), ConfigFault> {
-        each_below(alloc, self.judge, at, ".action", script.actions.as_slice())
+    fn judge(&self, at: &Place<'_>, script: &ScriptParts) -> Result<(), ConfigFault> {
+        each_below(self.judge, at, ".action", script.actions.as_slice())
     }
 }
 
@@ -35,14 +35,13 @@ impl<'a, J: Judge<Part = ActionParts>> Judge for ScriptActions<'a, J> {
 /// # Errors
 /// The fault of the first action that has one.
 pub(crate) fn each_action<J: Judge<Part = ActionParts>>(
-    alloc: Global,
     judge: &J,
-    at: &str,
+    at: &Place<'_>,
     scripts: &[ScriptParts],
 ) -> Result<(), ConfigFault>
     ensures { Gives (λ u. u) result (spec.each_action (J.judges judge.now) at.now scripts.now) }
 {
-    each_below(alloc, &ScriptActions { judge }, at, ".script", scripts)
+    each_below(&ScriptActions { judge }, at, ".script", scripts)
 }
 
 /// What is judged of an object's references.
@@ -61,19 +60,14 @@ pub(crate) trait JudgeReferences {
     ///
     /// # Errors
     /// The first fault of it.
-    fn judge_target(&self, alloc: Global, at: &str, target: &TargetParts) -> Result<(), ConfigFault>
+    fn judge_target(&self, at: &Place<'_>, target: &TargetParts) -> Result<(), ConfigFault>
         ensures { Gives (λ u. u) result (targets self.now at.now target.now) };
 
     /// Judges a reference to a script at a place.
     ///
     /// # Errors
     /// The first fault of it.
-    fn judge_script(
-        &self,
-        alloc: Global,
-        at: &str,
-        script: &ScriptRefParts,
-    ) -> Result<(), ConfigFault>
+    fn judge_script(&self, at: &Place<'_>, script: &ScriptRefParts) -> Result<(), ConfigFault>
         ensures { Gives (λ u. u) result (scripts self.now at.now script.now) };
 }
 
@@ -88,8 +82,8 @@ impl<'a, J: JudgeReferences> Judge for Captures<'a, J> {
 
     ghost judges = { λ all at capture. J.targets all.judge.now at capture.target };
 
-    fn judge(&self, alloc: Global, at: &str, capture: &CaptureParts) -> Result<(), ConfigFault> {
-        self.judge.judge_target(alloc, at, &capture.target)
+    fn judge(&self, at: &Place<'_>, capture: &CaptureParts) -> Result<(), ConfigFault> {
+        self.judge.judge_target(at, &capture.target)
     }
 }
 
@@ -104,23 +98,9 @@ impl<'a, J: JudgeReferences> Judge for ActionTargets<'a, J> {
 
     ghost judges = { λ all at action. J.targets all.judge.now at action.target };
 
-    fn judge(&self, alloc: Global, at: &str, action: &ActionParts) -> Result<(), ConfigFault> {
-        self.judge.judge_target(alloc, at, &action.target)
+    fn judge(&self, at: &Place<'_>, action: &ActionParts) -> Result<(), ConfigFault> {
+        self.judge.judge_target(at, &action.target)
     }
-}
-
-/// Judges the reference to a script at a key below a place.
-fn script_below<J: JudgeReferences>(
-    alloc: Global,
-    judge: &J,
-    at: &str,
-    key: &str,
-    script: &ScriptRefParts,
-) -> Result<(), ConfigFault>
-    ensures { Gives (λ u. u) result (J.scripts judge.now (at.now ++ key.now) script.now) }
-{
-    let place = format!(in alloc; "{at}{key}")?;
-    judge.judge_script(alloc, place.as_str(), script)
 }
 
 /// The scripts of thresholds, each judged.
@@ -136,23 +116,10 @@ impl<'a, J: JudgeReferences> Judge for ThresholdScripts<'a, J> {
 
     ghost judges = { λ all. both_scripts (J.scripts all.judge.now) };
 
-    fn judge(&self, alloc: Global, at: &str, scripts: &UpDownParts) -> Result<(), ConfigFault> {
-        script_below(alloc, self.judge, at, ".up", &scripts.up)?;
-        script_below(alloc, self.judge, at, ".down", &scripts.down)
+    fn judge(&self, at: &Place<'_>, scripts: &UpDownParts) -> Result<(), ConfigFault> {
+        self.judge.judge_script(&at.below(".up"), &scripts.up)?;
+        self.judge.judge_script(&at.below(".down"), &scripts.down)
     }
-}
-
-/// Judges what is monitored.
-fn monitored_target<J: JudgeReferences>(
-    alloc: Global,
-    judge: &J,
-    at: &str,
-    monitored: &TargetParts,
-) -> Result<(), ConfigFault>
-    ensures { Gives (λ u. u) result (J.targets judge.now (at.now ++ codes ".monitored") monitored.now) }
-{
-    let place = format!(in alloc; "{at}.monitored")?;
-    judge.judge_target(alloc, place.as_str(), monitored)
 }
 
 /// Judges whatever an object refers to.
@@ -161,34 +128,26 @@ fn monitored_target<J: JudgeReferences>(
 /// The fault of the first reference that has one.
 #[tactic(auto, unfolding(config_rules::specs::Walks::references))]
 pub(crate) fn references<J: JudgeReferences>(
-    alloc: Global,
     judge: &J,
-    at: &str,
+    at: &Place<'_>,
     body: &BodyParts,
 ) -> Result<(), ConfigFault>
     ensures { Gives (λ u. u) result (spec.references (J.targets judge.now) (J.scripts judge.now) at.now (body_text body.now)) }
 {
     match body {
         BodyParts::ProfileGeneric { capture, .. } => {
-            each_below(
-                alloc,
-                &Captures { judge },
-                at,
-                ".capture",
-                capture.as_slice(),
-            )
+            each_below(&Captures { judge }, at, ".capture", capture.as_slice())
         }
         BodyParts::ScriptTable { scripts } => {
-            each_action(alloc, &ActionTargets { judge }, at, scripts.as_slice())
+            each_action(&ActionTargets { judge }, at, scripts.as_slice())
         }
         BodyParts::RegisterMonitor {
             monitored,
             actions,
             ..
         } => {
-            monitored_target(alloc, judge, at, monitored)?;
+            judge.judge_target(&at.below(".monitored"), monitored)?;
             each_below(
-                alloc,
                 &ThresholdScripts { judge },
                 at,
                 ".action",
@@ -196,7 +155,7 @@ pub(crate) fn references<J: JudgeReferences>(
             )
         }
         BodyParts::SingleActionSchedule { script, .. } => {
-            script_below(alloc, judge, at, ".script", script)
+            judge.judge_script(&at.below(".script"), script)
         }
         BodyParts::Data { .. } | BodyParts::Register { .. } | BodyParts::Unknown => Ok(()),
     }

@@ -16,26 +16,22 @@ use config_text::fault::{Code, ConfigFault};
 use config_text::parts::{
     BodyParts, LabelParts, ObjectParts, RightParts, ScriptParts, ScriptRefParts, TargetParts,
 };
+use config_text::place::Place;
 use std::alloc::Global;
 
-/// The interface class of script tables.
-const SCRIPT_TABLE: u16 = 9;
+/// The interface class of script tables (IEC 62056-6-2).
+pub(crate) const SCRIPT_TABLE: u16 = 9;
 
 /// Judges whether the object that is named at a place is there.
-fn known_object(
-    alloc: Global,
-    directory: &Directory<'_>,
-    at: &str,
-    name: &str,
-) -> Result<(), ConfigFault>
+fn known_object(directory: &Directory<'_>, at: &Place<'_>, name: &str) -> Result<(), ConfigFault>
     ensures { Gives (λ u. u) result (spec.known_object directory.now.config.now at.now name.now) }
 {
     let known = directory.has_object(name);
-    fault_if(alloc, Code::Reference, at, ".object", !known)
+    fault_if(Code::Reference, at, ".object", !known)
 }
 
-/// The scripts of an object.
-fn scripts_in(body: &BodyParts) -> &[ScriptParts]
+/// The scripts of a script table, none of another object.
+pub(crate) fn scripts_in(body: &BodyParts) -> &[ScriptParts]
     ensures { result.now ≡ scripts_in (body_text body.now) }
 {
     match body {
@@ -55,7 +51,7 @@ fn scripts_of<'a>(directory: &Directory<'a>, name: &str) -> &'a [ScriptParts]
 }
 
 /// Whether one of the scripts has the identifier.
-fn has_id(scripts: &[ScriptParts], id: u64) -> bool
+pub(crate) fn has_id(scripts: &[ScriptParts], id: u64) -> bool
     ensures { result ≡ list_any (λ s. s.id == id) scripts.now }
 {
     scripts.iter().any(|script| u64::from(script.id) == id)
@@ -74,18 +70,17 @@ fn has_script(scripts: &[ScriptParts], script: i64) -> bool
 /// Judges whether a script is there.
 #[tactic(auto, unfolding(config_rules::specs::Passes::known_script))]
 fn known_script(
-    alloc: Global,
     directory: &Directory<'_>,
-    at: &str,
+    at: &Place<'_>,
     script: &ScriptRefParts,
 ) -> Result<(), ConfigFault>
     ensures { Gives (λ u. u) result (spec.known_script directory.now.config.now at.now script.now) }
 {
     let table = script.table.as_str();
     let is_table = directory.class(table) == SCRIPT_TABLE;
-    fault_if(alloc, Code::Reference, at, ".table", !is_table)?;
+    fault_if(Code::Reference, at, ".table", !is_table)?;
     let known = has_script(scripts_of(directory, table), script.script);
-    fault_if(alloc, Code::Reference, at, ".script", !known)
+    fault_if(Code::Reference, at, ".script", !known)
 }
 
 /// What an object refers to.
@@ -101,22 +96,12 @@ impl<'d, 'c> JudgeReferences for KnownReference<'d, 'c> {
 
     ghost scripts = { λ all. known_script all.directory.now.config.now };
 
-    fn judge_target(
-        &self,
-        alloc: Global,
-        at: &str,
-        target: &TargetParts,
-    ) -> Result<(), ConfigFault> {
-        known_object(alloc, self.directory, at, target.object.as_str())
+    fn judge_target(&self, at: &Place<'_>, target: &TargetParts) -> Result<(), ConfigFault> {
+        known_object(self.directory, at, target.object.as_str())
     }
 
-    fn judge_script(
-        &self,
-        alloc: Global,
-        at: &str,
-        script: &ScriptRefParts,
-    ) -> Result<(), ConfigFault> {
-        known_script(alloc, self.directory, at, script)
+    fn judge_script(&self, at: &Place<'_>, script: &ScriptRefParts) -> Result<(), ConfigFault> {
+        known_script(self.directory, at, script)
     }
 }
 
@@ -134,9 +119,9 @@ impl<'d, 'c> Judge for ObjectReferences<'d, 'c> {
 
     ghost judges = { λ all at o. references (λ at t. known_object all.directory.now.config.now at t.object) (known_script all.directory.now.config.now) at o.body };
 
-    fn judge(&self, alloc: Global, at: &str, object: &ObjectParts) -> Result<(), ConfigFault> {
+    fn judge(&self, at: &Place<'_>, object: &ObjectParts) -> Result<(), ConfigFault> {
         let directory = self.directory;
-        references(alloc, &KnownReference { directory }, at, &object.body)
+        references(&KnownReference { directory }, at, &object.body)
     }
 }
 
@@ -153,8 +138,8 @@ impl<'d, 'c> Judge for RightObject<'d, 'c> {
 
     ghost judges = { λ all at r. known_object all.directory.now.config.now at r.object };
 
-    fn judge(&self, alloc: Global, at: &str, right: &RightParts) -> Result<(), ConfigFault> {
-        known_object(alloc, self.directory, at, right.object.as_str())
+    fn judge(&self, at: &Place<'_>, right: &RightParts) -> Result<(), ConfigFault> {
+        known_object(self.directory, at, right.object.as_str())
     }
 }
 
@@ -171,8 +156,8 @@ impl<'d, 'c> Judge for LabelObject<'d, 'c> {
 
     ghost judges = { λ all at l. known_object all.directory.now.config.now at l.target.object };
 
-    fn judge(&self, alloc: Global, at: &str, label: &LabelParts) -> Result<(), ConfigFault> {
-        known_object(alloc, self.directory, at, label.target.object.as_str())
+    fn judge(&self, at: &Place<'_>, label: &LabelParts) -> Result<(), ConfigFault> {
+        known_object(self.directory, at, label.target.object.as_str())
     }
 }
 
@@ -182,12 +167,9 @@ fn object_references(alloc: Global, directory: &Directory<'_>) -> Result<(), Con
         (walks.each (λ at o. walks.references (λ at t. spec.known_object directory.now.config.now at t.object) (spec.known_script directory.now.config.now) at o.body) (codes "object") directory.now.config.now.objects) }
 {
     let config = directory.config;
-    each(
-        alloc,
-        &ObjectReferences { directory },
-        "object",
-        config.objects.as_slice(),
-    )
+    let object_place = Place::top(alloc, "object");
+    let objects = config.objects.as_slice();
+    each(&ObjectReferences { directory }, &object_place, objects)
 }
 
 /// Judges the objects of the rights.
@@ -196,25 +178,11 @@ fn right_objects(alloc: Global, directory: &Directory<'_>) -> Result<(), ConfigF
         (walks.each (λ at r. spec.known_object directory.now.config.now at r.object) (codes "right") directory.now.config.now.rights) }
 {
     let config = directory.config;
+    let right_place = Place::top(alloc, "right");
     each(
-        alloc,
         &RightObject { directory },
-        "right",
+        &right_place,
         config.rights.as_slice(),
-    )
-}
-
-/// Judges the objects of the labels.
-fn label_objects(alloc: Global, directory: &Directory<'_>) -> Result<(), ConfigFault>
-    ensures { Gives (λ u. u) result
-        (walks.each (λ at l. spec.known_object directory.now.config.now at l.target.object) (codes "label") directory.now.config.now.labels) }
-{
-    let config = directory.config;
-    each(
-        alloc,
-        &LabelObject { directory },
-        "label",
-        config.labels.as_slice(),
     )
 }
 
@@ -228,5 +196,8 @@ pub(crate) fn known_references(alloc: Global, directory: &Directory<'_>) -> Resu
 {
     object_references(alloc, directory)?;
     right_objects(alloc, directory)?;
-    label_objects(alloc, directory)
+    let config = directory.config;
+    let labels = config.labels.as_slice();
+    let label_place = Place::top(alloc, "label");
+    each(&LabelObject { directory }, &label_place, labels)
 }

@@ -5,9 +5,10 @@ ghost use Rattle.config_rules.specs.Passes as passes;
 use crate::classes::is_settable;
 use crate::directory::Directory;
 use crate::judged::fault_if;
-use crate::walk::{Judge, each};
+use crate::walk::{Judge, each, each_below};
 use config_text::fault::{Code, ConfigFault};
 use config_text::parts::RightParts;
+use config_text::place::Place;
 use std::alloc::Global;
 
 /// Attributes of a class that can be set.
@@ -26,9 +27,9 @@ impl Judge for SettableOf {
 
     ghost judges = { λ all at index. fault_if NotSettable at (not (is_among settable all.class index)) };
 
-    fn judge(&self, alloc: Global, at: &str, index: &u8) -> Result<(), ConfigFault> {
+    fn judge(&self, at: &Place<'_>, index: &u8) -> Result<(), ConfigFault> {
         let settable = is_settable(self.class, *index);
-        fault_if(alloc, Code::NotSettable, at, "", !settable)
+        fault_if(Code::NotSettable, at, "", !settable)
     }
 }
 
@@ -49,15 +50,9 @@ impl<'d, 'c> Judge for SettableRights<'d, 'c> {
 
     ghost judges = { λ all at r. walks.each (λ at index. fault_if NotSettable at (not (is_among settable (class_named all.directory.now.config.now r.object) index))) (at ++ codes ".set") r.sets };
 
-    fn judge(&self, alloc: Global, at: &str, right: &RightParts) -> Result<(), ConfigFault> {
+    fn judge(&self, at: &Place<'_>, right: &RightParts) -> Result<(), ConfigFault> {
         let class = self.directory.class(right.object.as_str());
-        let name = format!(in alloc; "{at}.set")?;
-        each(
-            alloc,
-            &SettableOf { class },
-            name.as_str(),
-            right.sets.as_slice(),
-        )
+        each_below(&SettableOf { class }, at, ".set", right.sets.as_slice())
     }
 }
 
@@ -71,5 +66,6 @@ pub(crate) fn settable_rights(alloc: Global, directory: &Directory<'_>) -> Resul
 {
     let config = directory.config;
     let rights = config.rights.as_slice();
-    each(alloc, &SettableRights { directory }, "right", rights)
+    let right_place = Place::top(alloc, "right");
+    each(&SettableRights { directory }, &right_place, rights)
 }

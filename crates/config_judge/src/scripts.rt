@@ -9,31 +9,13 @@ ghost use Rattle.config_rules.specs.Passes as passes;
 use crate::directory::Directory;
 use crate::judged::fault_if;
 use crate::reference_walk::each_action;
+use crate::references::{SCRIPT_TABLE, has_id, scripts_in};
 use crate::walk::{Judge, JudgeNew, each, each_new};
 use config_text::fault::{Code, ConfigFault};
 use config_text::parts::{ActionParts, BodyParts, ConfigParts, ObjectParts, ScriptParts};
+use config_text::place::Place;
 use config_text::service::Service;
 use std::alloc::Global;
-
-/// The interface class of script tables (IEC 62056-6-2).
-const SCRIPT_TABLE: u16 = 9;
-
-/// The scripts of a script table, none of another object.
-fn scripts_in(body: &BodyParts) -> &[ScriptParts]
-    ensures { result.now ≡ names.scripts_in (body_text body.now) }
-{
-    match body {
-        BodyParts::ScriptTable { scripts } => scripts.as_slice(),
-        _ => &[],
-    }
-}
-
-/// Whether one of the scripts has this identifier.
-fn has_id(scripts: &[ScriptParts], id: u16) -> bool
-    ensures { result ≡ list_any (λ e. e.id == id) scripts.now }
-{
-    scripts.iter().any(|script| script.id == id)
-}
 
 /// The identifier of a script.
 #[derive(Drop)]
@@ -48,13 +30,12 @@ impl JudgeNew for NewScript {
 
     fn judge(
         &self,
-        alloc: Global,
         earlier: &[ScriptParts],
-        at: &str,
+        at: &Place<'_>,
         script: &ScriptParts,
     ) -> Result<(), ConfigFault> {
-        let taken = script.id == 0 || has_id(earlier, script.id);
-        fault_if(alloc, Code::ScriptId, at, ".id", taken)
+        let taken = script.id == 0 || has_id(earlier, u64::from(script.id));
+        fault_if(Code::ScriptId, at, ".id", taken)
     }
 }
 
@@ -72,9 +53,8 @@ impl Judge for NewScripts {
 
     ghost judges = { λ _ at o. walks.each_new new_script (at ++ codes ".script") (scripts_in o.body) };
 
-    fn judge(&self, alloc: Global, at: &str, object: &ObjectParts) -> Result<(), ConfigFault> {
-        let name = format!(in alloc; "{at}.script")?;
-        each_new(alloc, &NewScript, name.as_str(), scripts_in(&object.body))
+    fn judge(&self, at: &Place<'_>, object: &ObjectParts) -> Result<(), ConfigFault> {
+        each_new(&NewScript, &at.below(".script"), scripts_in(&object.body))
     }
 }
 
@@ -86,7 +66,8 @@ impl Judge for NewScripts {
 pub(crate) fn new_scripts(alloc: Global, config: &ConfigParts) -> Result<(), ConfigFault>
     ensures { Gives (λ u. u) result (passes.new_scripts config.now) }
 {
-    each(alloc, &NewScripts, "object", config.objects.as_slice())
+    let object_place = Place::top(alloc, "object");
+    each(&NewScripts, &object_place, config.objects.as_slice())
 }
 
 /// Whether an action executes a script table.
@@ -113,9 +94,9 @@ impl<'d, 'c> Judge for NoExecute<'d, 'c> {
 
     ghost judges = { λ all. no_execute all.directory.now.config.now };
 
-    fn judge(&self, alloc: Global, at: &str, action: &ActionParts) -> Result<(), ConfigFault> {
+    fn judge(&self, at: &Place<'_>, action: &ActionParts) -> Result<(), ConfigFault> {
         let executes = executes(self.directory, action);
-        fault_if(alloc, Code::Execute, at, ".object", executes)
+        fault_if(Code::Execute, at, ".object", executes)
     }
 }
 
@@ -134,14 +115,9 @@ impl<'d, 'c> Judge for NoExecutes<'d, 'c> {
 
     ghost judges = { λ all at o. walks.each_action (no_execute all.directory.now.config.now) at (scripts_in o.body) };
 
-    fn judge(&self, alloc: Global, at: &str, object: &ObjectParts) -> Result<(), ConfigFault> {
+    fn judge(&self, at: &Place<'_>, object: &ObjectParts) -> Result<(), ConfigFault> {
         let directory = self.directory;
-        each_action(
-            alloc,
-            &NoExecute { directory },
-            at,
-            scripts_in(&object.body),
-        )
+        each_action(&NoExecute { directory }, at, scripts_in(&object.body))
     }
 }
 
@@ -155,5 +131,6 @@ pub(crate) fn no_executes(alloc: Global, directory: &Directory<'_>) -> Result<()
 {
     let config = directory.config;
     let objects = config.objects.as_slice();
-    each(alloc, &NoExecutes { directory }, "object", objects)
+    let object_place = Place::top(alloc, "object");
+    each(&NoExecutes { directory }, &object_place, objects)
 }

@@ -8,9 +8,10 @@ ghost use Rattle.config_rules.specs.Passes as passes;
 ghost use Rattle.config_rules.specs.Walks as walks;
 
 use crate::judged::fault_if;
-use crate::walk::{Judge, each};
+use crate::walk::{Judge, each, each_below};
 use config_text::fault::{Code, ConfigFault};
 use config_text::parts::{BodyParts, CaptureParts, ConfigParts, ObjectParts};
+use config_text::place::Place;
 use std::alloc::Global;
 
 /// Whether a number is given that is another than the one that is allowed.
@@ -37,22 +38,21 @@ impl Judge for WholeCapture {
 
     ghost judges = { λ _ at x. fault_if Sorting (at ++ codes ".data_index") (is_other (pos 0) x.data_index) };
 
-    fn judge(&self, alloc: Global, at: &str, capture: &CaptureParts) -> Result<(), ConfigFault> {
+    fn judge(&self, at: &Place<'_>, capture: &CaptureParts) -> Result<(), ConfigFault> {
         let other = is_other(0, capture.data_index);
-        fault_if(alloc, Code::Sorting, at, ".data_index", other)
+        fault_if(Code::Sorting, at, ".data_index", other)
     }
 }
 
 /// Judges the parts that are captured.
-fn whole_captures(alloc: Global, at: &str, captures: &[CaptureParts]) -> Result<(), ConfigFault>
+fn whole_captures(at: &Place<'_>, captures: &[CaptureParts]) -> Result<(), ConfigFault>
     ensures { Gives (λ u. u) result (walks.each (λ at x. faults.fault_if Sorting (at ++ codes ".data_index") (passes.is_other (pos 0) x.data_index)) (at.now ++ codes ".capture") captures.now) }
 {
-    let name = format!(in alloc; "{at}.capture")?;
-    each(alloc, &WholeCapture, name.as_str(), captures)
+    each_below(&WholeCapture, at, ".capture", captures)
 }
 
 #[tactic(auto, unfolding(config_rules::specs::Passes::right_sorting_in))]
-fn right_sorting_in(alloc: Global, at: &str, body: &BodyParts) -> Result<(), ConfigFault>
+fn right_sorting_in(at: &Place<'_>, body: &BodyParts) -> Result<(), ConfigFault>
     ensures { Gives (λ u. u) result (passes.right_sorting_in at.now (body_text body.now)) }
 {
     match body {
@@ -61,9 +61,9 @@ fn right_sorting_in(alloc: Global, at: &str, body: &BodyParts) -> Result<(), Con
             sort_method,
             ..
         } => {
-            whole_captures(alloc, at, capture.as_slice())?;
+            whole_captures(at, capture.as_slice())?;
             let other = is_other(1, *sort_method);
-            fault_if(alloc, Code::Sorting, at, ".sort_method", other)
+            fault_if(Code::Sorting, at, ".sort_method", other)
         }
         _ => Ok(()),
     }
@@ -80,8 +80,8 @@ impl Judge for RightSorting {
 
     ghost judges = { λ _ at o. right_sorting_in at o.body };
 
-    fn judge(&self, alloc: Global, at: &str, object: &ObjectParts) -> Result<(), ConfigFault> {
-        right_sorting_in(alloc, at, &object.body)
+    fn judge(&self, at: &Place<'_>, object: &ObjectParts) -> Result<(), ConfigFault> {
+        right_sorting_in(at, &object.body)
     }
 }
 
@@ -93,5 +93,6 @@ impl Judge for RightSorting {
 pub(crate) fn right_sorting(alloc: Global, config: &ConfigParts) -> Result<(), ConfigFault>
     ensures { Gives (λ u. u) result (passes.right_sorting config.now) }
 {
-    each(alloc, &RightSorting, "object", config.objects.as_slice())
+    let object_place = Place::top(alloc, "object");
+    each(&RightSorting, &object_place, config.objects.as_slice())
 }

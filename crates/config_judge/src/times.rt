@@ -15,6 +15,7 @@ use crate::walk::{Judge, each};
 use class_control::times::are_execution_times;
 use config_text::fault::{Code, ConfigFault};
 use config_text::parts::{BodyParts, ConfigParts, ObjectParts};
+use config_text::place::Place;
 use cosem_data::memory::Memory;
 use std::alloc::Global;
 
@@ -27,27 +28,20 @@ fn do_fit(alloc: Global, execution_type: u8, texts: &[String]) -> Result<bool, M
 }
 
 /// Judges the times of a schedule of a type.
-fn right_times_of(
-    alloc: Global,
-    at: &str,
-    execution_type: u8,
-    times: &[String],
-) -> Result<(), ConfigFault>
+fn right_times_of(at: &Place<'_>, execution_type: u8, times: &[String]) -> Result<(), ConfigFault>
     ensures { Gives (λ u. u) result (faults.fault_if Times (at.now ++ codes ".times") (not (are_execution_times execution_type (elements (times_value (map string_bytes times.now)))))) }
 {
-    let Ok(fit) = do_fit(alloc, execution_type, times) else {
-        return Err(ConfigFault::Memory);
-    };
-    fault_if(alloc, Code::Times, at, ".times", !fit)
+    let fit = do_fit(at.alloc(), execution_type, times)?;
+    fault_if(Code::Times, at, ".times", !fit)
 }
 
 #[tactic(auto, unfolding(config_rules::specs::Passes::right_times_in))]
-fn right_times_in(alloc: Global, at: &str, body: &BodyParts) -> Result<(), ConfigFault>
+fn right_times_in(at: &Place<'_>, body: &BodyParts) -> Result<(), ConfigFault>
     ensures { Gives (λ u. u) result (passes.right_times_in at.now (body_text body.now)) }
 {
     match body {
         BodyParts::SingleActionSchedule { kind, times, .. } => {
-            right_times_of(alloc, at, *kind, times.as_slice())
+            right_times_of(at, *kind, times.as_slice())
         }
         _ => Ok(()),
     }
@@ -64,8 +58,8 @@ impl Judge for RightTimes {
 
     ghost judges = { λ _ at o. right_times_in at o.body };
 
-    fn judge(&self, alloc: Global, at: &str, object: &ObjectParts) -> Result<(), ConfigFault> {
-        right_times_in(alloc, at, &object.body)
+    fn judge(&self, at: &Place<'_>, object: &ObjectParts) -> Result<(), ConfigFault> {
+        right_times_in(at, &object.body)
     }
 }
 
@@ -77,5 +71,6 @@ impl Judge for RightTimes {
 pub(crate) fn right_times(alloc: Global, config: &ConfigParts) -> Result<(), ConfigFault>
     ensures { Gives (λ u. u) result (passes.right_times config.now) }
 {
-    each(alloc, &RightTimes, "object", config.objects.as_slice())
+    let object_place = Place::top(alloc, "object");
+    each(&RightTimes, &object_place, config.objects.as_slice())
 }

@@ -22,11 +22,12 @@ use crate::judged::fault_if;
 use crate::kinds::{Kinds, has_kind, is_number, is_of_kind, may_be_number};
 use crate::reference_walk::each_action;
 use crate::value::{is_time_text, is_value, kind_in};
-use crate::walk::{Judge, JudgeText, each, each_text};
+use crate::walk::{Judge, JudgeText, each, each_text_below};
 use class_control::judge::elements_of;
 use class_control::times::are_execution_times;
 use config_text::fault::{Code, ConfigFault};
 use config_text::parts::{ActionParts, BodyParts, ObjectParts, TargetParts, UpDownParts};
+use config_text::place::Place;
 use config_text::service::Service;
 use cosem_data::data::Data;
 use cosem_data::kind::Kind;
@@ -149,11 +150,9 @@ impl<'k, 'd, 'c> Judge for ActionValue<'k, 'd, 'c> {
 
     ghost judges = { λ all. right_action_value all.kinds.now.directory.now.config.now };
 
-    fn judge(&self, alloc: Global, at: &str, action: &ActionParts) -> Result<(), ConfigFault> {
-        let Ok(right) = action_value(alloc, self.kinds, action) else {
-            return Err(ConfigFault::Memory);
-        };
-        fault_if(alloc, Code::Value, at, ".value", !right)
+    fn judge(&self, at: &Place<'_>, action: &ActionParts) -> Result<(), ConfigFault> {
+        let right = action_value(at.alloc(), self.kinds, action)?;
+        fault_if(Code::Value, at, ".value", !right)
     }
 }
 
@@ -172,11 +171,9 @@ impl JudgeText for Threshold {
 
     ghost judges = { λ all at text. fault_if Value at (not (is_of_kind all.kind (value_in text))) };
 
-    fn judge(&self, alloc: Global, at: &str, text: &str) -> Result<(), ConfigFault> {
-        let Ok(value) = value_in(alloc, text.as_bytes()) else {
-            return Err(ConfigFault::Memory);
-        };
-        fault_if(alloc, Code::Value, at, "", !is_of_kind(self.kind, &value))
+    fn judge(&self, at: &Place<'_>, text: &str) -> Result<(), ConfigFault> {
+        let value = value_in(at.alloc(), text.as_bytes())?;
+        fault_if(Code::Value, at, "", !is_of_kind(self.kind, &value))
     }
 }
 
@@ -192,76 +189,43 @@ impl JudgeText for TimeText {
 
     ghost judges = { λ _ at text. fault_if Value at (not (is_time_text text)) };
 
-    fn judge(&self, alloc: Global, at: &str, text: &str) -> Result<(), ConfigFault> {
-        let Ok(is_time) = is_time_text(alloc, text) else {
-            return Err(ConfigFault::Memory);
-        };
-        fault_if(alloc, Code::Value, at, "", !is_time)
+    fn judge(&self, at: &Place<'_>, text: &str) -> Result<(), ConfigFault> {
+        let is_time = is_time_text(at.alloc(), text)?;
+        fault_if(Code::Value, at, "", !is_time)
     }
 }
 
 /// The value of a data object.
-fn data_value(alloc: Global, at: &str, value: &str) -> Result<(), ConfigFault>
+fn data_value(at: &Place<'_>, value: &str) -> Result<(), ConfigFault>
     ensures { Gives (λ u. u) result (faults.fault_if Value (at.now ++ codes ".value") (not (is_some (value_in value.now)))) }
 {
-    let Ok(is_value) = is_value(alloc, value) else {
-        return Err(ConfigFault::Memory);
-    };
-    fault_if(alloc, Code::Value, at, ".value", !is_value)
-}
-
-/// The default of a register whose value is of this kind.
-fn register_default(
-    alloc: Global,
-    at: &str,
-    kind: Option<Kind>,
-    default: &str,
-) -> Result<(), ConfigFault>
-    ensures { Gives (λ u. u) result (faults.fault_if Value (at.now ++ codes ".default") (not (spec.is_of_kind kind (value_in default.now)))) }
-{
-    let Ok(value) = value_in(alloc, default.as_bytes()) else {
-        return Err(ConfigFault::Memory);
-    };
-    fault_if(
-        alloc,
-        Code::Value,
-        at,
-        ".default",
-        !is_of_kind(kind, &value),
-    )
+    let is_value = is_value(at.alloc(), value)?;
+    fault_if(Code::Value, at, ".value", !is_value)
 }
 
 /// The value and the default of a register.
-fn register_values(alloc: Global, at: &str, value: &str, default: &str) -> Result<(), ConfigFault>
+fn register_values(at: &Place<'_>, value: &str, default: &str) -> Result<(), ConfigFault>
     ensures { Gives (λ u. u) result (followed_by (faults.fault_if Value (at.now ++ codes ".value") (not (spec.is_number (spec.kind_in value.now))))
         (faults.fault_if Value (at.now ++ codes ".default") (not (spec.is_of_kind (spec.kind_in value.now) (value_in default.now))))) }
 {
-    let Ok(kind) = kind_in(alloc, value) else {
-        return Err(ConfigFault::Memory);
-    };
-    fault_if(alloc, Code::Value, at, ".value", !is_number(kind))?;
-    register_default(alloc, at, kind, default)
+    let kind = kind_in(at.alloc(), value)?;
+    fault_if(Code::Value, at, ".value", !is_number(kind))?;
+    let default = value_in(at.alloc(), default.as_bytes())?;
+    fault_if(Code::Value, at, ".default", !is_of_kind(kind, &default))
 }
 
 /// Judges the thresholds of a monitor of a value of this kind.
-fn thresholds(
-    alloc: Global,
-    at: &str,
-    kind: Option<Kind>,
-    texts: &[String],
-) -> Result<(), ConfigFault>
+fn thresholds(at: &Place<'_>, kind: Option<Kind>, texts: &[String]) -> Result<(), ConfigFault>
     ensures { Gives (λ u. u) result (walks.each (λ at text. faults.fault_if Value at (not (spec.is_of_kind kind (value_in text))))
         (at.now ++ codes ".thresholds") (map string_bytes texts.now)) }
 {
-    let name = format!(in alloc; "{at}.thresholds")?;
-    each_text(alloc, &Threshold { kind }, name.as_str(), texts)
+    each_text_below(&Threshold { kind }, at, ".thresholds", texts)
 }
 
 /// The monitored value is a number, and the thresholds are of its kind.
 fn monitor_values(
-    alloc: Global,
     kinds: &Kinds<'_, '_>,
-    at: &str,
+    at: &Place<'_>,
     monitored: &TargetParts,
     texts: &[String],
 ) -> Result<(), ConfigFault>
@@ -271,36 +235,34 @@ fn monitor_values(
 {
     let kind = kinds.named(monitored.object.as_str());
     let right = may_be_number(kind);
-    fault_if(alloc, Code::Value, at, ".monitored.index", !right)?;
-    thresholds(alloc, at, kind, texts)
+    fault_if(Code::Value, at, ".monitored.index", !right)?;
+    thresholds(at, kind, texts)
 }
 
 /// The values in an object's body.
 #[tactic(auto, unfolding(config_rules::specs::Passes::right_values_in))]
 fn right_values_in(
-    alloc: Global,
     kinds: &Kinds<'_, '_>,
-    at: &str,
+    at: &Place<'_>,
     body: &BodyParts,
 ) -> Result<(), ConfigFault>
     ensures { Gives (λ u. u) result (passes.right_values_in kinds.now.directory.now.config.now at.now (body_text body.now)) }
 {
     match body {
-        BodyParts::Data { value } => data_value(alloc, at, value.as_str()),
+        BodyParts::Data { value } => data_value(at, value.as_str()),
         BodyParts::Register { value, default, .. } => {
-            register_values(alloc, at, value.as_str(), default.as_str())
+            register_values(at, value.as_str(), default.as_str())
         }
         BodyParts::ScriptTable { scripts } => {
-            each_action(alloc, &ActionValue { kinds }, at, scripts.as_slice())
+            each_action(&ActionValue { kinds }, at, scripts.as_slice())
         }
         BodyParts::RegisterMonitor {
             monitored,
             thresholds,
             ..
-        } => monitor_values(alloc, kinds, at, monitored, thresholds.as_slice()),
+        } => monitor_values(kinds, at, monitored, thresholds.as_slice()),
         BodyParts::SingleActionSchedule { times, .. } => {
-            let name = format!(in alloc; "{at}.times")?;
-            each_text(alloc, &TimeText, name.as_str(), times.as_slice())
+            each_text_below(&TimeText, at, ".times", times.as_slice())
         }
         BodyParts::ProfileGeneric { .. } | BodyParts::Unknown => Ok(()),
     }
@@ -319,8 +281,8 @@ impl<'k, 'd, 'c> Judge for ObjectValues<'k, 'd, 'c> {
 
     ghost judges = { λ all at o. right_values_in all.kinds.now.directory.now.config.now at o.body };
 
-    fn judge(&self, alloc: Global, at: &str, object: &ObjectParts) -> Result<(), ConfigFault> {
-        right_values_in(alloc, self.kinds, at, &object.body)
+    fn judge(&self, at: &Place<'_>, object: &ObjectParts) -> Result<(), ConfigFault> {
+        right_values_in(self.kinds, at, &object.body)
     }
 }
 
@@ -332,10 +294,9 @@ impl<'k, 'd, 'c> Judge for ObjectValues<'k, 'd, 'c> {
 pub(crate) fn right_values(alloc: Global, directory: &Directory<'_>) -> Result<(), ConfigFault>
     ensures { Gives (λ u. u) result (passes.right_values directory.now.config.now) }
 {
-    let Ok(kinds) = Kinds::new(alloc, directory) else {
-        return Err(ConfigFault::Memory);
-    };
+    let kinds = Kinds::new(alloc, directory)?;
     let config = directory.config;
     let objects = config.objects.as_slice();
-    each(alloc, &ObjectValues { kinds: &kinds }, "object", objects)
+    let object_place = Place::top(alloc, "object");
+    each(&ObjectValues { kinds: &kinds }, &object_place, objects)
 }

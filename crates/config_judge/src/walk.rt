@@ -7,7 +7,7 @@ ghost use Rattle.config_rules.specs.Walks as spec;
 
 use config_text::fault::ConfigFault;
 use config_text::parts::SetsParts;
-use std::alloc::Global;
+use config_text::place::Place;
 
 /// A judgement of one part of a configuration at its place.
 pub(crate) trait Judge {
@@ -25,7 +25,7 @@ pub(crate) trait Judge {
     ///
     /// # Errors
     /// The first fault of the part.
-    fn judge(&self, alloc: Global, at: &str, part: &Self::Part) -> Result<(), ConfigFault>
+    fn judge(&self, at: &Place<'_>, part: &Self::Part) -> Result<(), ConfigFault>
         ensures { Gives (λ u. u) result (judges self.now at.now part.now) };
 }
 
@@ -47,9 +47,8 @@ pub(crate) trait JudgeNew {
     /// The first fault of the part.
     fn judge(
         &self,
-        alloc: Global,
         earlier: &[Self::Part],
-        at: &str,
+        at: &Place<'_>,
         part: &Self::Part,
     ) -> Result<(), ConfigFault>
         ensures { Gives (λ u. u) result (judges self.now earlier.now at.now part.now) };
@@ -68,22 +67,8 @@ pub(crate) trait JudgeText {
     ///
     /// # Errors
     /// The fault of the text.
-    fn judge(&self, alloc: Global, at: &str, text: &str) -> Result<(), ConfigFault>
+    fn judge(&self, at: &Place<'_>, text: &str) -> Result<(), ConfigFault>
         ensures { Gives (λ u. u) result (judges self.now at.now text.now) };
-}
-
-/// Judges an element of an array.
-fn judge_element<J: Judge>(
-    alloc: Global,
-    judge: &J,
-    name: &str,
-    i: usize,
-    part: &J::Part,
-) -> Result<(), ConfigFault>
-    ensures { Gives (λ u. u) result (J.judges judge.now (spec.element_place name.now i) part.now) }
-{
-    let place = format!(in alloc; "{name}[{i}]")?;
-    judge.judge(alloc, place.as_str(), part)
 }
 
 /// Judges each part of an array in turn.
@@ -92,46 +77,40 @@ fn judge_element<J: Judge>(
 /// The fault of the first part that has one, at its place below the name.
 #[tactic(auto, unfolding(config_rules::specs::Walks::each_from))]
 pub(crate) fn each<J: Judge>(
-    alloc: Global,
     judge: &J,
-    name: &str,
+    name: &Place<'_>,
     parts: &[J::Part],
 ) -> Result<(), ConfigFault>
     ensures { Gives (λ u. u) result (spec.each (J.judges judge.now) name.now parts.now) }
 {
     for (i, part) in parts.iter().enumerate() {
-        judge_element(alloc, judge, name, i, part)?;
+        judge.judge(&(&*name).element(i), part)?;
     }
     Ok(())
 }
 
 /// Judges each part of the array at a key below a place.
 pub(crate) fn each_below<J: Judge>(
-    alloc: Global,
     judge: &J,
-    at: &str,
+    at: &Place<'_>,
     key: &str,
     parts: &[J::Part],
 ) -> Result<(), ConfigFault>
     ensures { Gives (λ u. u) result (spec.each (J.judges judge.now) (at.now ++ key.now) parts.now) }
 {
-    let name = format!(in alloc; "{at}{key}")?;
-    each(alloc, judge, name.as_str(), parts)
+    each(judge, &at.below(key), parts)
 }
 
 /// Judges an element of an array, which stands behind the earlier ones.
 fn judge_new_element<J: JudgeNew>(
-    alloc: Global,
     judge: &J,
-    name: &str,
+    name: &Place<'_>,
     earlier: &[J::Part],
     part: &J::Part,
 ) -> Result<(), ConfigFault>
     ensures { Gives (λ u. u) result (J.judges judge.now earlier.now (spec.element_place name.now (length earlier.now)) part.now) }
 {
-    let i = earlier.len();
-    let place = format!(in alloc; "{name}[{i}]")?;
-    judge.judge(alloc, earlier, place.as_str(), part)
+    judge.judge(earlier, &name.element(earlier.len()), part)
 }
 
 /// Judges each part of an array in turn, beside those before it.
@@ -140,31 +119,16 @@ fn judge_new_element<J: JudgeNew>(
 /// The fault of the first part that has one, at its place below the name.
 #[tactic(auto, unfolding(config_rules::specs::Walks::each_after))]
 pub(crate) fn each_new<J: JudgeNew>(
-    alloc: Global,
     judge: &J,
-    name: &str,
+    name: &Place<'_>,
     parts: &[J::Part],
 ) -> Result<(), ConfigFault>
     ensures { Gives (λ u. u) result (spec.each_new (J.judges judge.now) name.now parts.now) }
 {
     for (i, part) in parts.iter().enumerate() {
-        judge_new_element(alloc, judge, name, &parts[..i], part)?;
+        judge_new_element(judge, name, &parts[..i], part)?;
     }
     Ok(())
-}
-
-/// Judges an element of an array of texts.
-fn judge_text_element<J: JudgeText>(
-    alloc: Global,
-    judge: &J,
-    name: &str,
-    i: usize,
-    text: &str,
-) -> Result<(), ConfigFault>
-    ensures { Gives (λ u. u) result (J.judges judge.now (spec.element_place name.now i) text.now) }
-{
-    let place = format!(in alloc; "{name}[{i}]")?;
-    judge.judge(alloc, place.as_str(), text)
 }
 
 /// Judges each text of an array in turn.
@@ -173,31 +137,28 @@ fn judge_text_element<J: JudgeText>(
 /// The fault of the first text that has one, at its place below the name.
 #[tactic(auto, unfolding(config_rules::specs::Walks::each_from))]
 pub(crate) fn each_text<J: JudgeText>(
-    alloc: Global,
     judge: &J,
-    name: &str,
+    name: &Place<'_>,
     texts: &[String],
 ) -> Result<(), ConfigFault>
     ensures { Gives (λ u. u) result (spec.each (J.judges judge.now) name.now (map string_bytes texts.now)) }
 {
     for (i, text) in texts.iter().enumerate() {
-        judge_text_element(alloc, judge, name, i, text.as_str())?;
+        judge.judge(&(&*name).element(i), text.as_str())?;
     }
     Ok(())
 }
 
 /// Judges each text of the array at a key below a place.
-fn each_text_below<J: JudgeText>(
-    alloc: Global,
+pub(crate) fn each_text_below<J: JudgeText>(
     judge: &J,
-    at: &str,
+    at: &Place<'_>,
     key: &str,
     texts: &[String],
 ) -> Result<(), ConfigFault>
     ensures { Gives (λ u. u) result (spec.each (J.judges judge.now) (at.now ++ key.now) (map string_bytes texts.now)) }
 {
-    let name = format!(in alloc; "{at}{key}")?;
-    each_text(alloc, judge, name.as_str(), texts)
+    each_text(judge, &at.below(key), texts)
 }
 
 /// Judges each client of the sets that stand at a place.
@@ -205,13 +166,12 @@ fn each_text_below<J: JudgeText>(
 /// # Errors
 /// The fault of the first name that has one.
 pub(crate) fn both_sets<J: JudgeText>(
-    alloc: Global,
     judge: &J,
-    at: &str,
+    at: &Place<'_>,
     sets: &SetsParts,
 ) -> Result<(), ConfigFault>
     ensures { Gives (λ u. u) result (both_sets (J.judges judge.now) at.now sets.now) }
 {
-    each_text_below(alloc, judge, at, ".influence", sets.influence.as_slice())?;
-    each_text_below(alloc, judge, at, ".learn", sets.learn.as_slice())
+    each_text_below(judge, at, ".influence", sets.influence.as_slice())?;
+    each_text_below(judge, at, ".learn", sets.learn.as_slice())
 }

@@ -27,13 +27,9 @@ fn make(alloc: Global, directory: &Directory) -> Result<(Plan, Policy), ConfigFa
     ensures policy { IfOk result (λ made. IsPolicyOf directory.now.config.now made.1) }
     ensures memory { IfErr result (λ e. e ≡ faults.Memory) }
 {
-    let Ok(plan) = plan_of(alloc, directory) else {
-        return Err(ConfigFault::Memory);
-    };
-    match policy_of(alloc, directory, &plan) {
-        Ok(policy) => Ok((plan, policy)),
-        Err(_) => Err(ConfigFault::Memory),
-    }
+    let plan = plan_of(alloc, directory)?;
+    let policy = policy_of(alloc, directory, &plan)?;
+    Ok((plan, policy))
 }
 
 /// The plan and the policy of a configuration's text.

@@ -7,6 +7,7 @@ pub mod Keys
 pub mod Lists
 pub mod Objects
 pub mod Parts
+pub mod Places
 pub mod Rights
 pub mod Tables
 pub mod Targets

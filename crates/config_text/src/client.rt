@@ -3,9 +3,9 @@
 use crate::fault::ConfigFault;
 use crate::keys::{needed, only};
 use crate::parts::ClientParts;
+use crate::place::Place;
 use crate::tables::TableForm;
 use crate::values::{natural_at, optional_ascii_at, text_at};
-use std::alloc::Global;
 use toml::Table;
 
 /// `name`, `sap` and perhaps `password`: a client.
@@ -21,17 +21,17 @@ impl TableForm for ClientTable {
     ghost says = { client_of };
 
     #[tactic(auto, unfolding(crate::specs::Clients::client_keys))]
-    fn check_keys(alloc: Global, at: &str, table: &Table) -> Result<(), ConfigFault> {
-        needed(alloc, at, "name", table)?;
-        needed(alloc, at, "sap", table)?;
-        only(alloc, at, &["name", "sap", "password"], table)
+    fn check_keys(at: &Place<'_>, table: &Table) -> Result<(), ConfigFault> {
+        needed(at, "name", table)?;
+        needed(at, "sap", table)?;
+        only(at, &["name", "sap", "password"], table)
     }
 
     #[tactic(auto, unfolding(crate::specs::Clients::client_of))]
-    fn read(alloc: Global, at: &str, table: &Table) -> Result<ClientParts, ConfigFault> {
-        let name = text_at(alloc, at, "name", table)?;
-        let sap = natural_at(alloc, 1, 127, at, "sap", table)?;
-        let password = optional_ascii_at(alloc, 1, 64, at, "password", table)?;
+    fn read(at: &Place<'_>, table: &Table) -> Result<ClientParts, ConfigFault> {
+        let name = text_at(at, "name", table)?;
+        let sap = natural_at(1, 127, at, "sap", table)?;
+        let password = optional_ascii_at(1, 64, at, "password", table)?;
         Ok(ClientParts {
             name,
             sap: sap as u8,

@@ -3,7 +3,9 @@ ghost use Rattle.std.specs.Prelude.{◌≡◌, ◌++◌};
 ghost use Rattle.config_text.specs.declared.fault.ConfigFault.TheVariants.{Memory};
 ghost use Rattle.config_text.specs.Fault.{IsFault, number_of};
 
-use std::alloc::{AllocError, AllocFailed, Global};
+use crate::place::Place;
+use cosem_data::memory::Memory;
+use std::alloc::{AllocError, AllocFailed};
 
 /// What is wrong (own profile): each code is looked for in the whole text before the next.
 #[derive(Clone, Copy, Debug, PartialEq, Eq, Drop)]
@@ -98,6 +100,16 @@ impl From<AllocError> for ConfigFault {
     }
 }
 
+impl From<Memory> for ConfigFault {
+    ghost use Rattle.config_text.specs.declared.fault.ConfigFault.TheVariants as faults;
+
+    ghost from_gives = { λ _ e. e ≡ faults.Memory };
+
+    fn from(_: Memory) -> Self {
+        ConfigFault::Memory
+    }
+}
+
 impl<T: Drop> From<AllocFailed<T>> for ConfigFault {
     ghost from_gives = { λ _ e. e ≡ Memory };
 
@@ -107,10 +119,10 @@ impl<T: Drop> From<AllocFailed<T>> for ConfigFault {
 }
 
 /// The fault with this code at a key below a place, or want of memory.
-pub fn fault(alloc: Global, code: Code, at: &str, key: &str) -> ConfigFault
+pub fn fault(code: Code, at: &Place<'_>, key: &str) -> ConfigFault
     ensures { IsFault code (at.now ++ key.now) result }
 {
-    match format!(in alloc; "{at}{key}") {
+    match format!(in at.alloc(); "{at}{key}") {
         Ok(place) => ConfigFault::Found { code, place },
         Err(_) => ConfigFault::Memory,
     }

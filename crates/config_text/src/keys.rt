@@ -9,7 +9,7 @@ ghost use Rattle.config_text.specs.Keys as spec;
 
 use crate::fault::{Code, ConfigFault, fault};
 use crate::lookup::value_at;
-use std::alloc::Global;
+use crate::place::Place;
 use toml::Table;
 
 /// Looks for a key that has to be there. `at` is the place of the table, up to its dot.
@@ -17,12 +17,12 @@ use toml::Table;
 /// # Errors
 /// C2 at the key where it is missing.
 #[tactic(auto, unfolding(crate::specs::Keys::needed))]
-pub(crate) fn needed(alloc: Global, at: &str, key: &str, table: &Table) -> Result<(), ConfigFault>
+pub(crate) fn needed(at: &Place<'_>, key: &str, table: &Table) -> Result<(), ConfigFault>
     ensures { Gives (λ u. u) result (spec.needed at.now key.now (table_view table.now)) }
 {
     match value_at(table, key) {
         Some(_) => Ok(()),
-        None => Err(fault(alloc, Code::Key, at, key)),
+        None => Err(fault(Code::Key, at, key)),
     }
 }
 
@@ -38,17 +38,12 @@ fn is_among(key: &str, known: &[&str]) -> bool
 /// # Errors
 /// C2 at the first of them in byte order.
 #[tactic(auto, unfolding(crate::specs::Keys::only))]
-pub(crate) fn only(
-    alloc: Global,
-    at: &str,
-    known: &[&str],
-    table: &Table,
-) -> Result<(), ConfigFault>
+pub(crate) fn only(at: &Place<'_>, known: &[&str], table: &Table) -> Result<(), ConfigFault>
     ensures { Gives (λ u. u) result (spec.only at.now (map (λ k. k.now) known.now) (table_view table.now)) }
 {
     for key in table.keys() {
         if !is_among(key.as_str(), known) {
-            return Err(fault(alloc, Code::Key, at, key.as_str()));
+            return Err(fault(Code::Key, at, key.as_str()));
         }
     }
     Ok(())

@@ -11,6 +11,7 @@ mod lookup;
 mod monitor;
 mod object;
 pub mod parts;
+pub mod place;
 mod profile;
 mod read;
 mod register;

@@ -7,16 +7,15 @@ ghost use Rattle.config_text.specs.Lists as spec;
 
 use crate::fault::{Code, ConfigFault, fault};
 use crate::lookup::{array, value_at};
+use crate::place::Place;
 use crate::values::natural;
-use std::alloc::Global;
 use toml::value::Array;
 use toml::{Table, Value};
 
 /// The array at a key.
 #[tactic(auto, unfolding(crate::specs::Lists::array_at))]
 pub(crate) fn array_at<'a>(
-    alloc: Global,
-    at: &str,
+    at: &Place<'_>,
     key: &str,
     table: &'a Table,
 ) -> Result<&'a Array, ConfigFault>
@@ -24,31 +23,28 @@ pub(crate) fn array_at<'a>(
 {
     match array(table, key) {
         Some(found) => Ok(found),
-        None => Err(fault(alloc, Code::Kind, at, key)),
+        None => Err(fault(Code::Kind, at, key)),
     }
 }
 
 /// One text of an array.
-fn text_of(alloc: Global, name: &str, i: usize, value: &Value) -> Result<String, ConfigFault>
+fn text_of(name: &Place<'_>, i: usize, value: &Value) -> Result<String, ConfigFault>
     ensures { Gives (λ s. string_bytes s) result (spec.text_of (spec.element_place name.now i) (view value.now)) }
 {
     match value.as_str() {
-        Some(text) => Ok(String::from_str(alloc, text)?),
-        None => {
-            let place = format!(in alloc; "{name}[{i}]")?;
-            Err(fault(alloc, Code::Kind, place.as_str(), ""))
-        }
+        Some(text) => Ok(String::from_str(name.alloc(), text)?),
+        None => Err(fault(Code::Kind, &name.element(i), "")),
     }
 }
 
 /// The texts of an array.
 #[tactic(auto, unfolding(crate::specs::Lists::each))]
-fn each_text(alloc: Global, name: &str, array: &Array) -> Result<Vec<String>, ConfigFault>
+fn each_text(name: &Place<'_>, array: &Array) -> Result<Vec<String>, ConfigFault>
     ensures { Gives (λ v. map string_bytes v.items) result (spec.each spec.text_of name.now 0 (array_view array.now)) }
 {
-    let mut all = Vec::new(alloc);
+    let mut all = Vec::with_capacity(name.alloc(), array.len())?;
     for (i, value) in array.iter().enumerate() {
-        all.push(text_of(alloc, name, i, value)?)?;
+        all.push(text_of(name, i, value)?)?;
     }
     Ok(all)
 }
@@ -58,25 +54,19 @@ fn each_text(alloc: Global, name: &str, array: &Array) -> Result<Vec<String>, Co
 /// # Errors
 /// C3 at the key where it is no array, and at the first element that is no text.
 #[tactic(auto, unfolding(crate::specs::Lists::texts_at))]
-pub(crate) fn texts_at(
-    alloc: Global,
-    at: &str,
-    key: &str,
-    table: &Table,
-) -> Result<Vec<String>, ConfigFault>
+pub(crate) fn texts_at(at: &Place<'_>, key: &str, table: &Table) -> Result<Vec<String>, ConfigFault>
     ensures { Gives (λ v. map string_bytes v.items) result (spec.texts_at at.now key.now (table_view table.now)) }
 {
-    let items = array_at(alloc, at, key, table)?;
-    let name = format!(in alloc; "{at}{key}")?;
-    each_text(alloc, name.as_str(), items)
+    let items = array_at(at, key, table)?;
+    let name = at.below(key);
+    each_text(&name, items)
 }
 
 /// One number of an array.
 fn natural_of(
-    alloc: Global,
     low: u8,
     high: u8,
-    name: &str,
+    name: &Place<'_>,
     i: usize,
     value: &Value,
 ) -> Result<u8, ConfigFault>
@@ -84,27 +74,18 @@ fn natural_of(
 {
     match natural(value.as_integer(), u64::from(low), u64::from(high)) {
         Some(number) => Ok(number as u8),
-        None => {
-            let place = format!(in alloc; "{name}[{i}]")?;
-            Err(fault(alloc, Code::Kind, place.as_str(), ""))
-        }
+        None => Err(fault(Code::Kind, &name.element(i), "")),
     }
 }
 
 /// The numbers of an array.
 #[tactic(auto, unfolding(crate::specs::Lists::each))]
-fn each_natural(
-    alloc: Global,
-    low: u8,
-    high: u8,
-    name: &str,
-    array: &Array,
-) -> Result<Vec<u8>, ConfigFault>
+fn each_natural(low: u8, high: u8, name: &Place<'_>, array: &Array) -> Result<Vec<u8>, ConfigFault>
     ensures { Gives (λ v. v.items) result (spec.each (spec.natural_of low high) name.now 0 (array_view array.now)) }
 {
-    let mut all = Vec::new(alloc);
+    let mut all = Vec::with_capacity(name.alloc(), array.len())?;
     for (i, value) in array.iter().enumerate() {
-        all.push(natural_of(alloc, low, high, name, i, value)?)?;
+        all.push(natural_of(low, high, name, i, value)?)?;
     }
     Ok(all)
 }
@@ -115,10 +96,9 @@ fn each_natural(
 /// C3 at the key where it is no array, and at the first element that is something else.
 #[tactic(auto, unfolding(crate::specs::Lists::optional_naturals_at))]
 pub(crate) fn optional_naturals_at(
-    alloc: Global,
     low: u8,
     high: u8,
-    at: &str,
+    at: &Place<'_>,
     key: &str,
     table: &Table,
 ) -> Result<Vec<u8>, ConfigFault>
@@ -127,11 +107,11 @@ pub(crate) fn optional_naturals_at(
     match value_at(table, key) {
         Some(value) => match value.as_array() {
             Some(items) => {
-                let name = format!(in alloc; "{at}{key}")?;
-                each_natural(alloc, low, high, name.as_str(), items)
+                let name = at.below(key);
+                each_natural(low, high, &name, items)
             }
-            None => Err(fault(alloc, Code::Kind, at, key)),
+            None => Err(fault(Code::Kind, at, key)),
         },
-        None => Ok(Vec::new(alloc)),
+        None => Ok(Vec::new(at.alloc())),
     }
 }

@@ -9,9 +9,9 @@ use crate::fault::ConfigFault;
 use crate::keys::{needed, only};
 use crate::lists::texts_at;
 use crate::parts::{BodyParts, UpDownParts};
+use crate::place::Place;
 use crate::tables::{TableForm, list_at, list_keys_at, table_at, table_keys_at};
 use crate::target::{ScriptRefTable, TargetTable};
-use std::alloc::Global;
 use toml::Table;
 
 /// `up` and `down`: the scripts of a threshold.
@@ -27,44 +27,44 @@ impl TableForm for UpDownTable {
     ghost says = { up_down_of };
 
     #[tactic(auto, unfolding(crate::specs::Classes::up_down_keys))]
-    fn check_keys(alloc: Global, at: &str, table: &Table) -> Result<(), ConfigFault> {
-        needed(alloc, at, "up", table)?;
-        table_keys_at::<ScriptRefTable>(alloc, at, "up", table)?;
-        needed(alloc, at, "down", table)?;
-        table_keys_at::<ScriptRefTable>(alloc, at, "down", table)?;
-        only(alloc, at, &["up", "down"], table)
+    fn check_keys(at: &Place<'_>, table: &Table) -> Result<(), ConfigFault> {
+        needed(at, "up", table)?;
+        table_keys_at::<ScriptRefTable>(at, "up", table)?;
+        needed(at, "down", table)?;
+        table_keys_at::<ScriptRefTable>(at, "down", table)?;
+        only(at, &["up", "down"], table)
     }
 
     #[tactic(auto, unfolding(crate::specs::Classes::up_down_of))]
-    fn read(alloc: Global, at: &str, table: &Table) -> Result<UpDownParts, ConfigFault> {
-        let up = table_at::<ScriptRefTable>(alloc, at, "up", table)?;
-        let down = table_at::<ScriptRefTable>(alloc, at, "down", table)?;
+    fn read(at: &Place<'_>, table: &Table) -> Result<UpDownParts, ConfigFault> {
+        let up = table_at::<ScriptRefTable>(at, "up", table)?;
+        let down = table_at::<ScriptRefTable>(at, "down", table)?;
         Ok(UpDownParts { up, down })
     }
 }
 
 /// The keys of class 21.
 #[tactic(auto, unfolding(crate::specs::Classes::monitor_keys))]
-pub(crate) fn monitor_keys(alloc: Global, at: &str, table: &Table) -> Result<(), ConfigFault>
+pub(crate) fn monitor_keys(at: &Place<'_>, table: &Table) -> Result<(), ConfigFault>
     ensures { Gives (λ u. u) result (spec.monitor_keys at.now (table_view table.now)) }
 {
-    needed(alloc, at, "monitored", table)?;
-    table_keys_at::<TargetTable>(alloc, at, "monitored", table)?;
-    needed(alloc, at, "thresholds", table)?;
-    needed(alloc, at, "action", table)?;
-    list_keys_at::<UpDownTable>(alloc, at, "action", table)?;
+    needed(at, "monitored", table)?;
+    table_keys_at::<TargetTable>(at, "monitored", table)?;
+    needed(at, "thresholds", table)?;
+    needed(at, "action", table)?;
+    list_keys_at::<UpDownTable>(at, "action", table)?;
     let known = ["class", "name", "fed", "monitored", "thresholds", "action"];
-    only(alloc, at, &known, table)
+    only(at, &known, table)
 }
 
 /// What the table says of class 21.
 #[tactic(auto, unfolding(crate::specs::Classes::monitor_of))]
-pub(crate) fn monitor_of(alloc: Global, at: &str, table: &Table) -> Result<BodyParts, ConfigFault>
+pub(crate) fn monitor_of(at: &Place<'_>, table: &Table) -> Result<BodyParts, ConfigFault>
     ensures { Gives body_text result (spec.monitor_of at.now (table_view table.now)) }
 {
-    let monitored = table_at::<TargetTable>(alloc, at, "monitored", table)?;
-    let thresholds = texts_at(alloc, at, "thresholds", table)?;
-    let actions = list_at::<UpDownTable>(alloc, at, "action", table)?;
+    let monitored = table_at::<TargetTable>(at, "monitored", table)?;
+    let thresholds = texts_at(at, "thresholds", table)?;
+    let actions = list_at::<UpDownTable>(at, "action", table)?;
     Ok(BodyParts::RegisterMonitor {
         monitored,
         thresholds,

@@ -10,51 +10,51 @@ use crate::fault::ConfigFault;
 use crate::keys::needed;
 use crate::monitor::{monitor_keys, monitor_of};
 use crate::parts::{BodyParts, ObjectParts};
+use crate::place::Place;
 use crate::profile::{profile_keys, profile_of};
 use crate::register::{data_keys, data_of, register_keys, register_of};
 use crate::schedule::{schedule_keys, schedule_of};
 use crate::script::{script_table_keys, script_table_of};
 use crate::tables::TableForm;
 use crate::values::{flag_at, natural_at, natural_or_none, text_at};
-use std::alloc::Global;
 use toml::Table;
 
 /// The keys that the class asks for; none where it isn't known.
-fn class_keys(alloc: Global, class: Option<u64>, at: &str, table: &Table) -> Result<(), ConfigFault>
+fn class_keys(class: Option<u64>, at: &Place<'_>, table: &Table) -> Result<(), ConfigFault>
     ensures { Gives (λ u. u) result (spec.class_keys class at.now (table_view table.now)) }
 {
     match class {
-        Some(1) => data_keys(alloc, at, table),
-        Some(3) => register_keys(alloc, at, table),
-        Some(7) => profile_keys(alloc, at, table),
-        Some(9) => script_table_keys(alloc, at, table),
-        Some(21) => monitor_keys(alloc, at, table),
-        Some(22) => schedule_keys(alloc, at, table),
+        Some(1) => data_keys(at, table),
+        Some(3) => register_keys(at, table),
+        Some(7) => profile_keys(at, table),
+        Some(9) => script_table_keys(at, table),
+        Some(21) => monitor_keys(at, table),
+        Some(22) => schedule_keys(at, table),
         _ => Ok(()),
     }
 }
 
 /// Whether the object is fed. It isn't looked at where the class isn't known.
-fn fed_of(alloc: Global, class: u16, at: &str, table: &Table) -> Result<bool, ConfigFault>
+fn fed_of(class: u16, at: &Place<'_>, table: &Table) -> Result<bool, ConfigFault>
     ensures { Gives (λ b. b) result (spec.fed_of class at.now (table_view table.now)) }
 {
     match class {
-        1 | 3 | 7 | 9 | 21 | 22 => flag_at(alloc, false, at, "fed", table),
+        1 | 3 | 7 | 9 | 21 | 22 => flag_at(false, at, "fed", table),
         _ => Ok(false),
     }
 }
 
 /// What the table says of its class.
-fn body_of(alloc: Global, class: u16, at: &str, table: &Table) -> Result<BodyParts, ConfigFault>
+fn body_of(class: u16, at: &Place<'_>, table: &Table) -> Result<BodyParts, ConfigFault>
     ensures { Gives body_text result (spec.body_of class at.now (table_view table.now)) }
 {
     match class {
-        1 => data_of(alloc, at, table),
-        3 => register_of(alloc, at, table),
-        7 => profile_of(alloc, at, table),
-        9 => script_table_of(alloc, at, table),
-        21 => monitor_of(alloc, at, table),
-        22 => schedule_of(alloc, at, table),
+        1 => data_of(at, table),
+        3 => register_of(at, table),
+        7 => profile_of(at, table),
+        9 => script_table_of(at, table),
+        21 => monitor_of(at, table),
+        22 => schedule_of(at, table),
         _ => Ok(BodyParts::Unknown),
     }
 }
@@ -72,18 +72,18 @@ impl TableForm for ObjectTable {
     ghost says = { object_of };
 
     #[tactic(auto, unfolding(crate::specs::Objects::object_keys))]
-    fn check_keys(alloc: Global, at: &str, table: &Table) -> Result<(), ConfigFault> {
-        needed(alloc, at, "class", table)?;
-        needed(alloc, at, "name", table)?;
-        class_keys(alloc, natural_or_none(0, 65535, "class", table), at, table)
+    fn check_keys(at: &Place<'_>, table: &Table) -> Result<(), ConfigFault> {
+        needed(at, "class", table)?;
+        needed(at, "name", table)?;
+        class_keys(natural_or_none(0, 65535, "class", table), at, table)
     }
 
     #[tactic(auto, unfolding(crate::specs::Objects::object_of))]
-    fn read(alloc: Global, at: &str, table: &Table) -> Result<ObjectParts, ConfigFault> {
-        let class_id = natural_at(alloc, 0, 65535, at, "class", table)? as u16;
-        let name = text_at(alloc, at, "name", table)?;
-        let fed = fed_of(alloc, class_id, at, table)?;
-        let body = body_of(alloc, class_id, at, table)?;
+    fn read(at: &Place<'_>, table: &Table) -> Result<ObjectParts, ConfigFault> {
+        let class_id = natural_at(0, 65535, at, "class", table)? as u16;
+        let name = text_at(at, "name", table)?;
+        let fed = fed_of(class_id, at, table)?;
+        let body = body_of(class_id, at, table)?;
         Ok(ObjectParts {
             class_id,
             name,

@@ -8,10 +8,10 @@ ghost use Rattle.config_text.specs.Classes as spec;
 use crate::fault::ConfigFault;
 use crate::keys::{needed, only};
 use crate::parts::{BodyParts, CaptureParts};
+use crate::place::Place;
 use crate::tables::{TableForm, list_at, list_keys_at};
 use crate::target::target_of;
 use crate::values::{natural_at, optional_integer_at};
-use std::alloc::Global;
 use toml::Table;
 
 /// The greatest integer that a TOML text can have.
@@ -30,29 +30,29 @@ impl TableForm for CaptureTable {
     ghost says = { capture_of };
 
     #[tactic(auto, unfolding(crate::specs::Classes::capture_keys))]
-    fn check_keys(alloc: Global, at: &str, table: &Table) -> Result<(), ConfigFault> {
-        needed(alloc, at, "object", table)?;
-        needed(alloc, at, "index", table)?;
-        only(alloc, at, &["object", "index", "data_index"], table)
+    fn check_keys(at: &Place<'_>, table: &Table) -> Result<(), ConfigFault> {
+        needed(at, "object", table)?;
+        needed(at, "index", table)?;
+        only(at, &["object", "index", "data_index"], table)
     }
 
     #[tactic(auto, unfolding(crate::specs::Classes::capture_of))]
-    fn read(alloc: Global, at: &str, table: &Table) -> Result<CaptureParts, ConfigFault> {
-        let target = target_of(alloc, at, table)?;
-        let data_index = optional_integer_at(alloc, at, "data_index", table)?;
+    fn read(at: &Place<'_>, table: &Table) -> Result<CaptureParts, ConfigFault> {
+        let target = target_of(at, table)?;
+        let data_index = optional_integer_at(at, "data_index", table)?;
         Ok(CaptureParts { target, data_index })
     }
 }
 
 /// The keys of class 7.
 #[tactic(auto, unfolding(crate::specs::Classes::profile_keys))]
-pub(crate) fn profile_keys(alloc: Global, at: &str, table: &Table) -> Result<(), ConfigFault>
+pub(crate) fn profile_keys(at: &Place<'_>, table: &Table) -> Result<(), ConfigFault>
     ensures { Gives (λ u. u) result (spec.profile_keys at.now (table_view table.now)) }
 {
-    needed(alloc, at, "capture", table)?;
-    list_keys_at::<CaptureTable>(alloc, at, "capture", table)?;
-    needed(alloc, at, "period", table)?;
-    needed(alloc, at, "entries", table)?;
+    needed(at, "capture", table)?;
+    list_keys_at::<CaptureTable>(at, "capture", table)?;
+    needed(at, "period", table)?;
+    needed(at, "entries", table)?;
     let known = [
         "class",
         "name",
@@ -62,18 +62,18 @@ pub(crate) fn profile_keys(alloc: Global, at: &str, table: &Table) -> Result<(),
         "entries",
         "sort_method",
     ];
-    only(alloc, at, &known, table)
+    only(at, &known, table)
 }
 
 /// What the table says of class 7.
 #[tactic(auto, unfolding(crate::specs::Classes::profile_of))]
-pub(crate) fn profile_of(alloc: Global, at: &str, table: &Table) -> Result<BodyParts, ConfigFault>
+pub(crate) fn profile_of(at: &Place<'_>, table: &Table) -> Result<BodyParts, ConfigFault>
     ensures { Gives body_text result (spec.profile_of at.now (table_view table.now)) }
 {
-    let capture = list_at::<CaptureTable>(alloc, at, "capture", table)?;
-    let period = natural_at(alloc, 0, 4_294_967_295, at, "period", table)?;
-    let entries = natural_at(alloc, 1, GREATEST, at, "entries", table)?;
-    let sort_method = optional_integer_at(alloc, at, "sort_method", table)?;
+    let capture = list_at::<CaptureTable>(at, "capture", table)?;
+    let period = natural_at(0, 4_294_967_295, at, "period", table)?;
+    let entries = natural_at(1, GREATEST, at, "entries", table)?;
+    let sort_method = optional_integer_at(at, "sort_method", table)?;
     Ok(BodyParts::ProfileGeneric {
         capture,
         period: period as u32,

@@ -9,6 +9,7 @@ use crate::fault::{Code, ConfigFault, fault};
 use crate::keys::{needed, only};
 use crate::object::ObjectTable;
 use crate::parts::ConfigParts;
+use crate::place::Place;
 use crate::right::{LabelTable, PolicyTable, RightTable};
 use crate::tables::{list_at, list_keys_at, optional_list_at, table_at, table_keys_at};
 use crate::values::natural_at;
@@ -26,7 +27,7 @@ fn document(alloc: Global, text: &str) -> Result<Table, ConfigFault>
             if error.is_memory() {
                 Err(ConfigFault::Memory)
             } else {
-                Err(fault(alloc, Code::NotToml, "", "text"))
+                Err(fault(Code::NotToml, &Place::top(alloc, ""), "text"))
             }
         }
     }
@@ -37,17 +38,18 @@ fn document(alloc: Global, text: &str) -> Result<Table, ConfigFault>
 fn config_keys(alloc: Global, table: &Table) -> Result<(), ConfigFault>
     ensures { Gives (λ u. u) result (spec.config_keys (table_view table.now)) }
 {
-    needed(alloc, "", "version", table)?;
-    needed(alloc, "", "client", table)?;
-    list_keys_at::<ClientTable>(alloc, "", "client", table)?;
-    needed(alloc, "", "object", table)?;
-    list_keys_at::<ObjectTable>(alloc, "", "object", table)?;
-    list_keys_at::<RightTable>(alloc, "", "right", table)?;
-    needed(alloc, "", "policy", table)?;
-    table_keys_at::<PolicyTable>(alloc, "", "policy", table)?;
-    list_keys_at::<LabelTable>(alloc, "", "label", table)?;
+    let top = Place::top(alloc, "");
+    needed(&top, "version", table)?;
+    needed(&top, "client", table)?;
+    list_keys_at::<ClientTable>(&top, "client", table)?;
+    needed(&top, "object", table)?;
+    list_keys_at::<ObjectTable>(&top, "object", table)?;
+    list_keys_at::<RightTable>(&top, "right", table)?;
+    needed(&top, "policy", table)?;
+    table_keys_at::<PolicyTable>(&top, "policy", table)?;
+    list_keys_at::<LabelTable>(&top, "label", table)?;
     let known = ["version", "client", "object", "right", "policy", "label"];
-    only(alloc, "", &known, table)
+    only(&top, &known, table)
 }
 
 /// What the table says, or the first value of a wrong kind.
@@ -55,12 +57,13 @@ fn config_keys(alloc: Global, table: &Table) -> Result<(), ConfigFault>
 fn parts_of(alloc: Global, table: &Table) -> Result<ConfigParts, ConfigFault>
     ensures { Gives (λ x. x) result (spec.parts_of (table_view table.now)) }
 {
-    natural_at(alloc, 1, 1, "", "version", table)?;
-    let clients = list_at::<ClientTable>(alloc, "", "client", table)?;
-    let objects = list_at::<ObjectTable>(alloc, "", "object", table)?;
-    let rights = optional_list_at::<RightTable>(alloc, "", "right", table)?;
-    let policy = table_at::<PolicyTable>(alloc, "", "policy", table)?;
-    let labels = optional_list_at::<LabelTable>(alloc, "", "label", table)?;
+    let top = Place::top(alloc, "");
+    natural_at(1, 1, &top, "version", table)?;
+    let clients = list_at::<ClientTable>(&top, "client", table)?;
+    let objects = list_at::<ObjectTable>(&top, "object", table)?;
+    let rights = optional_list_at::<RightTable>(&top, "right", table)?;
+    let policy = table_at::<PolicyTable>(&top, "policy", table)?;
+    let labels = optional_list_at::<LabelTable>(&top, "label", table)?;
     Ok(ConfigParts {
         clients,
         objects,

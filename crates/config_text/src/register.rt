@@ -8,50 +8,50 @@ ghost use Rattle.config_text.specs.Classes as spec;
 use crate::fault::ConfigFault;
 use crate::keys::{needed, only};
 use crate::parts::BodyParts;
+use crate::place::Place;
 use crate::values::{natural_at, signed_at, text_at};
-use std::alloc::Global;
 use toml::Table;
 
 /// The keys of class 1.
 #[tactic(auto, unfolding(crate::specs::Classes::data_keys))]
-pub(crate) fn data_keys(alloc: Global, at: &str, table: &Table) -> Result<(), ConfigFault>
+pub(crate) fn data_keys(at: &Place<'_>, table: &Table) -> Result<(), ConfigFault>
     ensures { Gives (λ u. u) result (spec.data_keys at.now (table_view table.now)) }
 {
-    needed(alloc, at, "value", table)?;
-    only(alloc, at, &["class", "name", "fed", "value"], table)
+    needed(at, "value", table)?;
+    only(at, &["class", "name", "fed", "value"], table)
 }
 
 /// What the table says of class 1.
 #[tactic(auto, unfolding(crate::specs::Classes::data_of))]
-pub(crate) fn data_of(alloc: Global, at: &str, table: &Table) -> Result<BodyParts, ConfigFault>
+pub(crate) fn data_of(at: &Place<'_>, table: &Table) -> Result<BodyParts, ConfigFault>
     ensures { Gives body_text result (spec.data_of at.now (table_view table.now)) }
 {
-    let value = text_at(alloc, at, "value", table)?;
+    let value = text_at(at, "value", table)?;
     Ok(BodyParts::Data { value })
 }
 
 /// The keys of class 3.
 #[tactic(auto, unfolding(crate::specs::Classes::register_keys))]
-pub(crate) fn register_keys(alloc: Global, at: &str, table: &Table) -> Result<(), ConfigFault>
+pub(crate) fn register_keys(at: &Place<'_>, table: &Table) -> Result<(), ConfigFault>
     ensures { Gives (λ u. u) result (spec.register_keys at.now (table_view table.now)) }
 {
-    needed(alloc, at, "value", table)?;
-    needed(alloc, at, "default", table)?;
-    needed(alloc, at, "scaler", table)?;
-    needed(alloc, at, "unit", table)?;
+    needed(at, "value", table)?;
+    needed(at, "default", table)?;
+    needed(at, "scaler", table)?;
+    needed(at, "unit", table)?;
     let known = ["class", "name", "fed", "value", "default", "scaler", "unit"];
-    only(alloc, at, &known, table)
+    only(at, &known, table)
 }
 
 /// What the table says of class 3.
 #[tactic(auto, unfolding(crate::specs::Classes::register_of))]
-pub(crate) fn register_of(alloc: Global, at: &str, table: &Table) -> Result<BodyParts, ConfigFault>
+pub(crate) fn register_of(at: &Place<'_>, table: &Table) -> Result<BodyParts, ConfigFault>
     ensures { Gives body_text result (spec.register_of at.now (table_view table.now)) }
 {
-    let value = text_at(alloc, at, "value", table)?;
-    let default = text_at(alloc, at, "default", table)?;
-    let scaler = signed_at(alloc, -128, 127, at, "scaler", table)?;
-    let unit = natural_at(alloc, 0, 255, at, "unit", table)?;
+    let value = text_at(at, "value", table)?;
+    let default = text_at(at, "default", table)?;
+    let scaler = signed_at(-128, 127, at, "scaler", table)?;
+    let unit = natural_at(0, 255, at, "unit", table)?;
     Ok(BodyParts::Register {
         value,
         default,

@@ -8,10 +8,10 @@ use crate::fault::ConfigFault;
 use crate::keys::{needed, only};
 use crate::lists::{optional_naturals_at, texts_at};
 use crate::parts::{LabelParts, RightParts, SetsParts};
+use crate::place::Place;
 use crate::tables::TableForm;
 use crate::target::target_of;
 use crate::values::text_at;
-use std::alloc::Global;
 use toml::Table;
 
 /// `client`, `object` and perhaps `get`, `set`, `act`: a right.
@@ -27,19 +27,19 @@ impl TableForm for RightTable {
     ghost says = { right_of };
 
     #[tactic(auto, unfolding(crate::specs::Rights::right_keys))]
-    fn check_keys(alloc: Global, at: &str, table: &Table) -> Result<(), ConfigFault> {
-        needed(alloc, at, "client", table)?;
-        needed(alloc, at, "object", table)?;
-        only(alloc, at, &["client", "object", "get", "set", "act"], table)
+    fn check_keys(at: &Place<'_>, table: &Table) -> Result<(), ConfigFault> {
+        needed(at, "client", table)?;
+        needed(at, "object", table)?;
+        only(at, &["client", "object", "get", "set", "act"], table)
     }
 
     #[tactic(auto, unfolding(crate::specs::Rights::right_of))]
-    fn read(alloc: Global, at: &str, table: &Table) -> Result<RightParts, ConfigFault> {
-        let client = text_at(alloc, at, "client", table)?;
-        let object = text_at(alloc, at, "object", table)?;
-        let gets = optional_naturals_at(alloc, 0, 127, at, "get", table)?;
-        let sets = optional_naturals_at(alloc, 0, 127, at, "set", table)?;
-        let acts = optional_naturals_at(alloc, 0, 127, at, "act", table)?;
+    fn read(at: &Place<'_>, table: &Table) -> Result<RightParts, ConfigFault> {
+        let client = text_at(at, "client", table)?;
+        let object = text_at(at, "object", table)?;
+        let gets = optional_naturals_at(0, 127, at, "get", table)?;
+        let sets = optional_naturals_at(0, 127, at, "set", table)?;
+        let acts = optional_naturals_at(0, 127, at, "act", table)?;
         Ok(RightParts {
             client,
             object,
@@ -52,11 +52,11 @@ impl TableForm for RightTable {
 
 /// The sets of clients that a table has, among other things that it says.
 #[tactic(auto, unfolding(crate::specs::Rights::sets_of))]
-fn sets_of(alloc: Global, at: &str, table: &Table) -> Result<SetsParts, ConfigFault>
+fn sets_of(at: &Place<'_>, table: &Table) -> Result<SetsParts, ConfigFault>
     ensures { Gives (λ x. x) result (spec.sets_of at.now (table_view table.now)) }
 {
-    let influence = texts_at(alloc, at, "influence", table)?;
-    let learn = texts_at(alloc, at, "learn", table)?;
+    let influence = texts_at(at, "influence", table)?;
+    let learn = texts_at(at, "learn", table)?;
     Ok(SetsParts { influence, learn })
 }
 
@@ -73,14 +73,14 @@ impl TableForm for PolicyTable {
     ghost says = { sets_of };
 
     #[tactic(auto, unfolding(crate::specs::Rights::policy_keys))]
-    fn check_keys(alloc: Global, at: &str, table: &Table) -> Result<(), ConfigFault> {
-        needed(alloc, at, "influence", table)?;
-        needed(alloc, at, "learn", table)?;
-        only(alloc, at, &["influence", "learn"], table)
+    fn check_keys(at: &Place<'_>, table: &Table) -> Result<(), ConfigFault> {
+        needed(at, "influence", table)?;
+        needed(at, "learn", table)?;
+        only(at, &["influence", "learn"], table)
     }
 
-    fn read(alloc: Global, at: &str, table: &Table) -> Result<SetsParts, ConfigFault> {
-        sets_of(alloc, at, table)
+    fn read(at: &Place<'_>, table: &Table) -> Result<SetsParts, ConfigFault> {
+        sets_of(at, table)
     }
 }
 
@@ -97,18 +97,18 @@ impl TableForm for LabelTable {
     ghost says = { label_of };
 
     #[tactic(auto, unfolding(crate::specs::Rights::label_keys))]
-    fn check_keys(alloc: Global, at: &str, table: &Table) -> Result<(), ConfigFault> {
-        needed(alloc, at, "object", table)?;
-        needed(alloc, at, "index", table)?;
-        needed(alloc, at, "influence", table)?;
-        needed(alloc, at, "learn", table)?;
-        only(alloc, at, &["object", "index", "influence", "learn"], table)
+    fn check_keys(at: &Place<'_>, table: &Table) -> Result<(), ConfigFault> {
+        needed(at, "object", table)?;
+        needed(at, "index", table)?;
+        needed(at, "influence", table)?;
+        needed(at, "learn", table)?;
+        only(at, &["object", "index", "influence", "learn"], table)
     }
 
     #[tactic(auto, unfolding(crate::specs::Rights::label_of))]
-    fn read(alloc: Global, at: &str, table: &Table) -> Result<LabelParts, ConfigFault> {
-        let target = target_of(alloc, at, table)?;
-        let sets = sets_of(alloc, at, table)?;
+    fn read(at: &Place<'_>, table: &Table) -> Result<LabelParts, ConfigFault> {
+        let target = target_of(at, table)?;
+        let sets = sets_of(at, table)?;
         Ok(LabelParts { target, sets })
     }
 }

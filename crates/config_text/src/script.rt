@@ -8,19 +8,19 @@ ghost use Rattle.config_text.specs.Classes as spec;
 use crate::fault::ConfigFault;
 use crate::keys::{needed, only};
 use crate::parts::{ActionParts, BodyParts, ScriptParts};
+use crate::place::Place;
 use crate::service::Service;
 use crate::tables::{TableForm, list_at, list_keys_at};
 use crate::target::target_of;
 use crate::values::{natural_at, optional_text_at};
-use std::alloc::Global;
 use toml::Table;
 
 /// The service at a key: 1 writes an attribute, 2 invokes a method.
 #[tactic(auto, unfolding(crate::specs::Classes::service_at))]
-fn service_at(alloc: Global, at: &str, key: &str, table: &Table) -> Result<Service, ConfigFault>
+fn service_at(at: &Place<'_>, key: &str, table: &Table) -> Result<Service, ConfigFault>
     ensures { Gives (λ s. s) result (spec.service_at at.now key.now (table_view table.now)) }
 {
-    let number = natural_at(alloc, 1, 2, at, key, table)?;
+    let number = natural_at(1, 2, at, key, table)?;
     if number == 1 {
         Ok(Service::Write)
     } else {
@@ -41,18 +41,18 @@ impl TableForm for ActionTable {
     ghost says = { action_of };
 
     #[tactic(auto, unfolding(crate::specs::Classes::action_keys))]
-    fn check_keys(alloc: Global, at: &str, table: &Table) -> Result<(), ConfigFault> {
-        needed(alloc, at, "service", table)?;
-        needed(alloc, at, "object", table)?;
-        needed(alloc, at, "index", table)?;
-        only(alloc, at, &["service", "object", "index", "value"], table)
+    fn check_keys(at: &Place<'_>, table: &Table) -> Result<(), ConfigFault> {
+        needed(at, "service", table)?;
+        needed(at, "object", table)?;
+        needed(at, "index", table)?;
+        only(at, &["service", "object", "index", "value"], table)
     }
 
     #[tactic(auto, unfolding(crate::specs::Classes::action_of))]
-    fn read(alloc: Global, at: &str, table: &Table) -> Result<ActionParts, ConfigFault> {
-        let service = service_at(alloc, at, "service", table)?;
-        let target = target_of(alloc, at, table)?;
-        let value = optional_text_at(alloc, at, "value", table)?;
+    fn read(at: &Place<'_>, table: &Table) -> Result<ActionParts, ConfigFault> {
+        let service = service_at(at, "service", table)?;
+        let target = target_of(at, table)?;
+        let value = optional_text_at(at, "value", table)?;
         Ok(ActionParts {
             service,
             target,
@@ -74,17 +74,17 @@ impl TableForm for ScriptTable {
     ghost says = { script_of };
 
     #[tactic(auto, unfolding(crate::specs::Classes::script_keys))]
-    fn check_keys(alloc: Global, at: &str, table: &Table) -> Result<(), ConfigFault> {
-        needed(alloc, at, "id", table)?;
-        needed(alloc, at, "action", table)?;
-        list_keys_at::<ActionTable>(alloc, at, "action", table)?;
-        only(alloc, at, &["id", "action"], table)
+    fn check_keys(at: &Place<'_>, table: &Table) -> Result<(), ConfigFault> {
+        needed(at, "id", table)?;
+        needed(at, "action", table)?;
+        list_keys_at::<ActionTable>(at, "action", table)?;
+        only(at, &["id", "action"], table)
     }
 
     #[tactic(auto, unfolding(crate::specs::Classes::script_of))]
-    fn read(alloc: Global, at: &str, table: &Table) -> Result<ScriptParts, ConfigFault> {
-        let id = natural_at(alloc, 0, 65535, at, "id", table)?;
-        let actions = list_at::<ActionTable>(alloc, at, "action", table)?;
+    fn read(at: &Place<'_>, table: &Table) -> Result<ScriptParts, ConfigFault> {
+        let id = natural_at(0, 65535, at, "id", table)?;
+        let actions = list_at::<ActionTable>(at, "action", table)?;
         Ok(ScriptParts {
             id: id as u16,
             actions,
@@ -94,23 +94,19 @@ impl TableForm for ScriptTable {
 
 /// The keys of class 9.
 #[tactic(auto, unfolding(crate::specs::Classes::script_table_keys))]
-pub(crate) fn script_table_keys(alloc: Global, at: &str, table: &Table) -> Result<(), ConfigFault>
+pub(crate) fn script_table_keys(at: &Place<'_>, table: &Table) -> Result<(), ConfigFault>
     ensures { Gives (λ u. u) result (spec.script_table_keys at.now (table_view table.now)) }
 {
-    needed(alloc, at, "script", table)?;
-    list_keys_at::<ScriptTable>(alloc, at, "script", table)?;
-    only(alloc, at, &["class", "name", "fed", "script"], table)
+    needed(at, "script", table)?;
+    list_keys_at::<ScriptTable>(at, "script", table)?;
+    only(at, &["class", "name", "fed", "script"], table)
 }
 
 /// What the table says of class 9.
 #[tactic(auto, unfolding(crate::specs::Classes::script_table_of))]
-pub(crate) fn script_table_of(
-    alloc: Global,
-    at: &str,
-    table: &Table,
-) -> Result<BodyParts, ConfigFault>
+pub(crate) fn script_table_of(at: &Place<'_>, table: &Table) -> Result<BodyParts, ConfigFault>
     ensures { Gives body_text result (spec.script_table_of at.now (table_view table.now)) }
 {
-    let scripts = list_at::<ScriptTable>(alloc, at, "script", table)?;
+    let scripts = list_at::<ScriptTable>(at, "script", table)?;
     Ok(BodyParts::ScriptTable { scripts })
 }

@@ -10,7 +10,7 @@ ghost use Rattle.config_text.specs.Tables as spec;
 use crate::fault::{Code, ConfigFault, fault};
 use crate::lists::array_at;
 use crate::lookup::{array, table_in, value_at};
-use std::alloc::Global;
+use crate::place::Place;
 use toml::value::Array;
 use toml::{Table, Value};
 
@@ -35,30 +35,26 @@ pub(crate) trait TableForm {
     ///
     /// # Errors
     /// C2 at the first of them.
-    fn check_keys(alloc: Global, at: &str, table: &Table) -> Result<(), ConfigFault>
+    fn check_keys(at: &Place<'_>, table: &Table) -> Result<(), ConfigFault>
         ensures { Gives (λ u. u) result (keys at.now (table_view table.now)) };
 
     /// Reads a table.
     ///
     /// # Errors
     /// C3 at the first value of a wrong kind.
-    fn read(alloc: Global, at: &str, table: &Table) -> Result<Self::Parts, ConfigFault>
+    fn read(at: &Place<'_>, table: &Table) -> Result<Self::Parts, ConfigFault>
         ensures { Gives (λ x. x) result (says at.now (table_view table.now)) };
 }
 
 /// The keys of one element, if it is a table.
-fn element_keys<T: TableForm>(
-    alloc: Global,
-    name: &str,
-    i: usize,
-    value: &Value,
-) -> Result<(), ConfigFault>
+fn element_keys<T: TableForm>(name: &Place<'_>, i: usize, value: &Value) -> Result<(), ConfigFault>
     ensures { Gives (λ u. u) result (spec.keys_of T.keys (element_place name.now i) (as_table (view value.now))) }
 {
     match value.as_table() {
         Some(table) => {
-            let at = format!(in alloc; "{name}[{i}].")?;
-            T::check_keys(alloc, at.as_str(), table)
+            let place = name.element(i);
+            let at = place.below(".");
+            T::check_keys(&at, table)
         }
         None => Ok(()),
     }
@@ -66,11 +62,11 @@ fn element_keys<T: TableForm>(
 
 /// The first fault of the keys of each table in an array.
 #[tactic(auto, unfolding(crate::specs::Tables::each_keys))]
-fn each_keys<T: TableForm>(alloc: Global, name: &str, array: &Array) -> Result<(), ConfigFault>
+fn each_keys<T: TableForm>(name: &Place<'_>, array: &Array) -> Result<(), ConfigFault>
     ensures { Gives (λ u. u) result (spec.each_keys T.keys name.now 0 (array_view array.now)) }
 {
     for (i, value) in array.iter().enumerate() {
-        element_keys::<T>(alloc, name, i, value)?;
+        element_keys::<T>(name, i, value)?;
     }
     Ok(())
 }
@@ -81,8 +77,7 @@ fn each_keys<T: TableForm>(alloc: Global, name: &str, array: &Array) -> Result<(
 /// C2 at the first key that is missing or unknown.
 #[tactic(auto, unfolding(crate::specs::Tables::list_keys_at, crate::specs::Tables::each_keys))]
 pub(crate) fn list_keys_at<T: TableForm>(
-    alloc: Global,
-    at: &str,
+    at: &Place<'_>,
     key: &str,
     table: &Table,
 ) -> Result<(), ConfigFault>
@@ -90,8 +85,8 @@ pub(crate) fn list_keys_at<T: TableForm>(
 {
     match array(table, key) {
         Some(items) => {
-            let name = format!(in alloc; "{at}{key}")?;
-            each_keys::<T>(alloc, name.as_str(), items)
+            let name = at.below(key);
+            each_keys::<T>(&name, items)
         }
         None => Ok(()),
     }
@@ -103,8 +98,7 @@ pub(crate) fn list_keys_at<T: TableForm>(
 /// C2 at the first key that is missing or unknown.
 #[tactic(auto, unfolding(crate::specs::Tables::table_keys_at))]
 pub(crate) fn table_keys_at<T: TableForm>(
-    alloc: Global,
-    at: &str,
+    at: &Place<'_>,
     key: &str,
     table: &Table,
 ) -> Result<(), ConfigFault>
@@ -112,46 +106,36 @@ pub(crate) fn table_keys_at<T: TableForm>(
 {
     match table_in(table, key) {
         Some(inner) => {
-            let inner_at = format!(in alloc; "{at}{key}.")?;
-            T::check_keys(alloc, inner_at.as_str(), inner)
+            let name = at.below(key);
+            let inner_at = name.below(".");
+            T::check_keys(&inner_at, inner)
         }
         None => Ok(()),
     }
 }
 
 /// What one element says.
-fn element<T: TableForm>(
-    alloc: Global,
-    name: &str,
-    i: usize,
-    value: &Value,
-) -> Result<T::Parts, ConfigFault>
+fn element<T: TableForm>(name: &Place<'_>, i: usize, value: &Value) -> Result<T::Parts, ConfigFault>
     ensures { Gives (λ x. x) result (spec.table_of T.says (element_place name.now i) (view value.now)) }
 {
     match value.as_table() {
         Some(table) => {
-            let at = format!(in alloc; "{name}[{i}].")?;
-            T::read(alloc, at.as_str(), table)
+            let place = name.element(i);
+            let at = place.below(".");
+            T::read(&at, table)
         }
-        None => {
-            let place = format!(in alloc; "{name}[{i}]")?;
-            Err(fault(alloc, Code::Kind, place.as_str(), ""))
-        }
+        None => Err(fault(Code::Kind, &name.element(i), "")),
     }
 }
 
 /// What each table of an array says.
 #[tactic(auto, unfolding(crate::specs::Lists::each))]
-fn each_table<T: TableForm>(
-    alloc: Global,
-    name: &str,
-    array: &Array,
-) -> Result<Vec<T::Parts>, ConfigFault>
+fn each_table<T: TableForm>(name: &Place<'_>, array: &Array) -> Result<Vec<T::Parts>, ConfigFault>
     ensures { Gives (λ v. v.items) result (each (spec.table_of T.says) name.now 0 (array_view array.now)) }
 {
-    let mut all = Vec::new(alloc);
+    let mut all = Vec::with_capacity(name.alloc(), array.len())?;
     for (i, value) in array.iter().enumerate() {
-        all.push(element::<T>(alloc, name, i, value)?)?;
+        all.push(element::<T>(name, i, value)?)?;
     }
     Ok(all)
 }
@@ -162,16 +146,15 @@ fn each_table<T: TableForm>(
 /// C3 at the key where it is no array, at the first element that is no table, and where a table says so.
 #[tactic(auto, unfolding(crate::specs::Tables::list_at))]
 pub(crate) fn list_at<T: TableForm>(
-    alloc: Global,
-    at: &str,
+    at: &Place<'_>,
     key: &str,
     table: &Table,
 ) -> Result<Vec<T::Parts>, ConfigFault>
     ensures { Gives (λ v. v.items) result (spec.list_at T.says at.now key.now (table_view table.now)) }
 {
-    let items = array_at(alloc, at, key, table)?;
-    let name = format!(in alloc; "{at}{key}")?;
-    each_table::<T>(alloc, name.as_str(), items)
+    let items = array_at(at, key, table)?;
+    let name = at.below(key);
+    each_table::<T>(&name, items)
 }
 
 /// What the tables in the array at a key say, none where it is left out.
@@ -180,8 +163,7 @@ pub(crate) fn list_at<T: TableForm>(
 /// C3 at the key where it is no array, at the first element that is no table, and where a table says so.
 #[tactic(auto, unfolding(crate::specs::Tables::optional_list_at))]
 pub(crate) fn optional_list_at<T: TableForm>(
-    alloc: Global,
-    at: &str,
+    at: &Place<'_>,
     key: &str,
     table: &Table,
 ) -> Result<Vec<T::Parts>, ConfigFault>
@@ -190,12 +172,12 @@ pub(crate) fn optional_list_at<T: TableForm>(
     match value_at(table, key) {
         Some(value) => match value.as_array() {
             Some(items) => {
-                let name = format!(in alloc; "{at}{key}")?;
-                each_table::<T>(alloc, name.as_str(), items)
+                let name = at.below(key);
+                each_table::<T>(&name, items)
             }
-            None => Err(fault(alloc, Code::Kind, at, key)),
+            None => Err(fault(Code::Kind, at, key)),
         },
-        None => Ok(Vec::new(alloc)),
+        None => Ok(Vec::new(at.alloc())),
     }
 }
 
@@ -205,8 +187,7 @@ pub(crate) fn optional_list_at<T: TableForm>(
 /// C3 at the key where it is no table, and where the table says so.
 #[tactic(auto, unfolding(crate::specs::Tables::table_at))]
 pub(crate) fn table_at<T: TableForm>(
-    alloc: Global,
-    at: &str,
+    at: &Place<'_>,
     key: &str,
     table: &Table,
 ) -> Result<T::Parts, ConfigFault>
@@ -214,9 +195,10 @@ pub(crate) fn table_at<T: TableForm>(
 {
     match table_in(table, key) {
         Some(inner) => {
-            let inner_at = format!(in alloc; "{at}{key}.")?;
-            T::read(alloc, inner_at.as_str(), inner)
+            let name = at.below(key);
+            let inner_at = name.below(".");
+            T::read(&inner_at, inner)
         }
-        None => Err(fault(alloc, Code::Kind, at, key)),
+        None => Err(fault(Code::Kind, at, key)),
     }
 }

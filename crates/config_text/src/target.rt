@@ -7,18 +7,18 @@ ghost use Rattle.config_text.specs.Targets as spec;
 use crate::fault::ConfigFault;
 use crate::keys::{needed, only};
 use crate::parts::{ScriptRefParts, TargetParts};
+use crate::place::Place;
 use crate::tables::TableForm;
 use crate::values::{integer_at, natural_at, text_at};
-use std::alloc::Global;
 use toml::Table;
 
 /// The attribute or method that a table names, among other things that it says.
 #[tactic(auto, unfolding(crate::specs::Targets::target_of))]
-pub(crate) fn target_of(alloc: Global, at: &str, table: &Table) -> Result<TargetParts, ConfigFault>
+pub(crate) fn target_of(at: &Place<'_>, table: &Table) -> Result<TargetParts, ConfigFault>
     ensures { Gives (λ x. x) result (spec.target_of at.now (table_view table.now)) }
 {
-    let object = text_at(alloc, at, "object", table)?;
-    let index = natural_at(alloc, 0, 127, at, "index", table)?;
+    let object = text_at(at, "object", table)?;
+    let index = natural_at(0, 127, at, "index", table)?;
     Ok(TargetParts {
         object,
         index: index as u8,
@@ -38,14 +38,14 @@ impl TableForm for TargetTable {
     ghost says = { target_of };
 
     #[tactic(auto, unfolding(crate::specs::Targets::target_keys))]
-    fn check_keys(alloc: Global, at: &str, table: &Table) -> Result<(), ConfigFault> {
-        needed(alloc, at, "object", table)?;
-        needed(alloc, at, "index", table)?;
-        only(alloc, at, &["object", "index"], table)
+    fn check_keys(at: &Place<'_>, table: &Table) -> Result<(), ConfigFault> {
+        needed(at, "object", table)?;
+        needed(at, "index", table)?;
+        only(at, &["object", "index"], table)
     }
 
-    fn read(alloc: Global, at: &str, table: &Table) -> Result<TargetParts, ConfigFault> {
-        target_of(alloc, at, table)
+    fn read(at: &Place<'_>, table: &Table) -> Result<TargetParts, ConfigFault> {
+        target_of(at, table)
     }
 }
 
@@ -62,16 +62,16 @@ impl TableForm for ScriptRefTable {
     ghost says = { script_ref_of };
 
     #[tactic(auto, unfolding(crate::specs::Targets::script_ref_keys))]
-    fn check_keys(alloc: Global, at: &str, table: &Table) -> Result<(), ConfigFault> {
-        needed(alloc, at, "table", table)?;
-        needed(alloc, at, "script", table)?;
-        only(alloc, at, &["table", "script"], table)
+    fn check_keys(at: &Place<'_>, table: &Table) -> Result<(), ConfigFault> {
+        needed(at, "table", table)?;
+        needed(at, "script", table)?;
+        only(at, &["table", "script"], table)
     }
 
     #[tactic(auto, unfolding(crate::specs::Targets::script_ref_of))]
-    fn read(alloc: Global, at: &str, table: &Table) -> Result<ScriptRefParts, ConfigFault> {
-        let name = text_at(alloc, at, "table", table)?;
-        let script = integer_at(alloc, at, "script", table)?;
+    fn read(at: &Place<'_>, table: &Table) -> Result<ScriptRefParts, ConfigFault> {
+        let name = text_at(at, "table", table)?;
+        let script = integer_at(at, "script", table)?;
         Ok(ScriptRefParts {
             table: name,
             script,

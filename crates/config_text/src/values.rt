@@ -10,7 +10,7 @@ ghost use Rattle.config_text.specs.Values as spec;
 
 use crate::fault::{Code, ConfigFault, fault};
 use crate::lookup::{integer, text, value_at};
-use std::alloc::Global;
+use crate::place::Place;
 use toml::Table;
 
 /// The text at a key.
@@ -18,17 +18,12 @@ use toml::Table;
 /// # Errors
 /// C3 at the key where it isn't a text.
 #[tactic(auto, unfolding(crate::specs::Values::text_at))]
-pub(crate) fn text_at(
-    alloc: Global,
-    at: &str,
-    key: &str,
-    table: &Table,
-) -> Result<String, ConfigFault>
+pub(crate) fn text_at(at: &Place<'_>, key: &str, table: &Table) -> Result<String, ConfigFault>
     ensures { Gives (λ s. string_bytes s) result (spec.text_at at.now key.now (table_view table.now)) }
 {
     match text(table, key) {
-        Some(found) => Ok(String::from_str(alloc, found)?),
-        None => Err(fault(alloc, Code::Kind, at, key)),
+        Some(found) => Ok(String::from_str(at.alloc(), found)?),
+        None => Err(fault(Code::Kind, at, key)),
     }
 }
 
@@ -38,8 +33,7 @@ pub(crate) fn text_at(
 /// C3 at the key where it isn't a text.
 #[tactic(auto, unfolding(crate::specs::Values::optional_text_at))]
 pub(crate) fn optional_text_at(
-    alloc: Global,
-    at: &str,
+    at: &Place<'_>,
     key: &str,
     table: &Table,
 ) -> Result<Option<String>, ConfigFault>
@@ -47,8 +41,8 @@ pub(crate) fn optional_text_at(
 {
     match value_at(table, key) {
         Some(value) => match value.as_str() {
-            Some(found) => Ok(Some(String::from_str(alloc, found)?)),
-            None => Err(fault(alloc, Code::Kind, at, key)),
+            Some(found) => Ok(Some(String::from_str(at.alloc(), found)?)),
+            None => Err(fault(Code::Kind, at, key)),
         },
         None => Ok(None),
     }
@@ -74,10 +68,9 @@ fn has_ascii(text: &str, low: usize, high: usize) -> bool
 /// C3 at the key where it is something else.
 #[tactic(auto, unfolding(crate::specs::Values::optional_ascii_at))]
 pub(crate) fn optional_ascii_at(
-    alloc: Global,
     low: usize,
     high: usize,
-    at: &str,
+    at: &Place<'_>,
     key: &str,
     table: &Table,
 ) -> Result<Option<String>, ConfigFault>
@@ -86,9 +79,9 @@ pub(crate) fn optional_ascii_at(
     match value_at(table, key) {
         Some(value) => match value.as_str() {
             Some(found) if has_ascii(found, low, high) => {
-                Ok(Some(String::from_str(alloc, found)?))
+                Ok(Some(String::from_str(at.alloc(), found)?))
             }
-            _ => Err(fault(alloc, Code::Kind, at, key)),
+            _ => Err(fault(Code::Kind, at, key)),
         },
         None => Ok(None),
     }
@@ -119,10 +112,9 @@ pub(crate) fn natural_or_none(low: u64, high: u64, key: &str, table: &Table) -> 
 /// C3 at the key where it is something else.
 #[tactic(auto, unfolding(crate::specs::Values::natural_at))]
 pub(crate) fn natural_at(
-    alloc: Global,
     low: u64,
     high: u64,
-    at: &str,
+    at: &Place<'_>,
     key: &str,
     table: &Table,
 ) -> Result<u64, ConfigFault>
@@ -131,7 +123,7 @@ pub(crate) fn natural_at(
 {
     match natural(integer(table, key), low, high) {
         Some(number) => Ok(number),
-        None => Err(fault(alloc, Code::Kind, at, key)),
+        None => Err(fault(Code::Kind, at, key)),
     }
 }
 
@@ -153,10 +145,9 @@ fn signed(found: Option<i64>, low: i64, high: i64) -> Option<i64>
 /// C3 at the key where it is something else.
 #[tactic(auto, unfolding(crate::specs::Values::signed_at))]
 pub(crate) fn signed_at(
-    alloc: Global,
     low: i64,
     high: i64,
-    at: &str,
+    at: &Place<'_>,
     key: &str,
     table: &Table,
 ) -> Result<i64, ConfigFault>
@@ -165,7 +156,7 @@ pub(crate) fn signed_at(
 {
     match signed(integer(table, key), low, high) {
         Some(number) => Ok(number),
-        None => Err(fault(alloc, Code::Kind, at, key)),
+        None => Err(fault(Code::Kind, at, key)),
     }
 }
 
@@ -174,17 +165,12 @@ pub(crate) fn signed_at(
 /// # Errors
 /// C3 at the key where it is something else.
 #[tactic(auto, unfolding(crate::specs::Values::integer_at))]
-pub(crate) fn integer_at(
-    alloc: Global,
-    at: &str,
-    key: &str,
-    table: &Table,
-) -> Result<i64, ConfigFault>
+pub(crate) fn integer_at(at: &Place<'_>, key: &str, table: &Table) -> Result<i64, ConfigFault>
     ensures { Gives (λ n. n) result (spec.integer_at at.now key.now (table_view table.now)) }
 {
     match integer(table, key) {
         Some(number) => Ok(number),
-        None => Err(fault(alloc, Code::Kind, at, key)),
+        None => Err(fault(Code::Kind, at, key)),
     }
 }
 
@@ -194,8 +180,7 @@ pub(crate) fn integer_at(
 /// C3 at the key where it is something else.
 #[tactic(auto, unfolding(crate::specs::Values::optional_integer_at))]
 pub(crate) fn optional_integer_at(
-    alloc: Global,
-    at: &str,
+    at: &Place<'_>,
     key: &str,
     table: &Table,
 ) -> Result<Option<i64>, ConfigFault>
@@ -204,7 +189,7 @@ pub(crate) fn optional_integer_at(
     match value_at(table, key) {
         Some(value) => match value.as_integer() {
             Some(number) => Ok(Some(number)),
-            None => Err(fault(alloc, Code::Kind, at, key)),
+            None => Err(fault(Code::Kind, at, key)),
         },
         None => Ok(None),
     }
@@ -216,9 +201,8 @@ pub(crate) fn optional_integer_at(
 /// C3 at the key where it is something else.
 #[tactic(auto, unfolding(crate::specs::Values::flag_at))]
 pub(crate) fn flag_at(
-    alloc: Global,
     absent: bool,
-    at: &str,
+    at: &Place<'_>,
     key: &str,
     table: &Table,
 ) -> Result<bool, ConfigFault>
@@ -227,7 +211,7 @@ pub(crate) fn flag_at(
     match value_at(table, key) {
         Some(value) => match value.as_bool() {
             Some(flag) => Ok(flag),
-            None => Err(fault(alloc, Code::Kind, at, key)),
+            None => Err(fault(Code::Kind, at, key)),
         },
         None => Ok(absent),
     }
