@@ -21,8 +21,7 @@ use object_model::plan::{ASSOCIATION, ASSOCIATION_LN, Plan};
 use std::alloc::Global;
 
 /// A fixed attribute of what stands at the cell's name, as the client at this place reads it: the logical name, an
-/// attribute of the current association, or one of an object; null-data where there is none. The error is that memory was
-/// refused.
+/// attribute of the current association, or one of an object; null-data where there is none.
 pub fn fixed_attribute(
     alloc: Global,
     plan: &Plan,
@@ -55,8 +54,7 @@ pub fn fixed_attribute_at(
 }
 
 /// An attribute of the current association of the client at this place: its object_list (2), associated_partners_id (3),
-/// application_context_name (4), authentication_mechanism_name (6) and association_status (8); null-data at any other. The
-/// error is that memory was refused.
+/// application_context_name (4), authentication_mechanism_name (6) and association_status (8); null-data at any other.
 #[tactic(auto, unfolding(meter_theory::specs::Fixed::association_attribute))]
 pub fn association_attribute(
     alloc: Global,
@@ -77,7 +75,7 @@ pub fn association_attribute(
 }
 
 /// The current association first, then the objects on which the client has a right, each with the client's rights
-/// (IEC 62056-6-2, Association LN, object_list). The error is that memory was refused.
+/// (IEC 62056-6-2, Association LN, object_list).
 #[tactic(auto, unfolding(meter_theory::specs::Fixed::object_list))]
 pub fn object_list(alloc: Global, plan: &Plan, client: u8) -> Result<Data, Memory>
     ensures { IfOk result (λ value. tree value ≡ shapes.object_list plan.now client) }

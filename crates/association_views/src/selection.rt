@@ -7,7 +7,7 @@ ghost use Rattle.class_profile.specs.SelectionView.{descriptor_view};
 use class_profile::selection::EntryDescriptor;
 use object_model::argument::Argument;
 
-/// The entry descriptor that a selector's parameter is, or None where it is none. It takes no memory.
+/// The entry descriptor that a selector's parameter is, or None where it is none.
 pub fn descriptor_in(parameter: &Argument) -> Option<EntryDescriptor>
     ensures { option_map descriptor_view result ≡ rights.descriptor_in (argument_of parameter.now) }
 {

@@ -35,16 +35,16 @@ impl<'a> Model for View<'a> {
 }
 
 impl<'a> View<'a> {
-    /// What the client at this place, counted from 0, sees of the plan. Of a client that the plan lacks the association
-    /// has no partners and no mechanism, and lists itself alone (own profile). It takes no memory.
+    /// What the client at this place, counted from 0, sees of the plan. Of a client that the plan lacks the association has
+    /// no partners and no mechanism, and lists itself alone (own profile).
     pub fn of(plan: &'a Plan, client: u8) -> Self
         ensures { result ≡ record { plan = plan.now; client = client } }
     {
         View { plan, client }
     }
 
-    /// A copy of attribute 2, object_list: the current association first, then the objects on which the client has a
-    /// right, each with the client's rights (IEC 62056-6-2, Association LN). The error is that memory was refused.
+    /// A copy of attribute 2, object_list: the current association first, then the objects on which the client has a right,
+    /// each with the client's rights (IEC 62056-6-2, Association LN).
     pub fn object_list(&self, alloc: Global) -> Result<Data, Memory>
         ensures { IfOk result (λ value. tree value ≡ shapes.object_list self.now.plan self.now.client) }
     {

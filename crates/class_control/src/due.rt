@@ -39,8 +39,7 @@ fn due_at(
 }
 
 /// The scripts that are due, in the order of the thresholds, all judged before any is run (own profile): at each threshold
-/// the one of its action, for what was seen of the monitored value and the value now. The only error is that memory was
-/// refused.
+/// the one of its action, for what was seen of the monitored value and the value now.
 pub(crate) fn due_scripts(
     alloc: Global,
     actions: &[UpDown],

@@ -69,7 +69,7 @@ fn matches_date(date: &[u8], moment: Moment) -> bool
 
 /// Whether an element of execution_time names the moment: each field of its time and its date is not specified or is the
 /// moment's, whose hundredths are 0, and day FE is the last and FD the second last of its month (IEC 62056-6-2, date and
-/// time formats). A field that a value lacks, where it is no such element, is taken as 0. It takes no memory.
+/// time formats). A field that a value lacks, where it is no such element, is taken as 0.
 pub fn matches(value: &Data, moment: &Moment) -> bool
     ensures { result ≡ theory.matches (tree value.now) moment.now }
 {
@@ -83,8 +83,8 @@ fn any_matches(values: &[Data], moment: Moment) -> bool
     values.iter().any(|value| matches(value, &moment))
 }
 
-/// Whether a schedule with this execution_time is due at the moment: some element names it (`matches`), and none does
-/// where there is no element (IEC 62056-6-2, Single action schedule). It takes no memory.
+/// Whether a schedule with this execution_time is due at the moment: some element names it (`matches`), and none does where
+/// there is no element (IEC 62056-6-2, Single action schedule).
 pub fn is_due(times: &Data, moment: Moment) -> bool
     ensures { result ≡ theory.is_schedule_due (elements (tree times.now)) moment }
 {

@@ -79,9 +79,9 @@ impl Monitor {
     }
 
     /// The scripts that are due where the monitored value is this, in the order of the thresholds, all judged before any is
-    /// run (own profile): action_up of a threshold where the value last seen lay below it and this one does not, action_down
-    /// the other way, and none where one of them is no number, as before the first evaluation (IEC 62056-6-2, Register
-    /// monitor; the side of equality is own profile). The only error is that memory was refused.
+    /// run (own profile): action_up of a threshold where the value last seen lay below it and this one does not,
+    /// action_down the other way, and none where one of them is no number, as before the first evaluation (IEC 62056-6-2,
+    /// Register monitor; the side of equality is own profile).
     pub fn due(
         &self,
         alloc: Global,

@@ -47,7 +47,7 @@ impl ScriptTablePart {
     ghost use Rattle.class_control.specs.PartView.{script_table_part_of};
 
     /// A copy of a fixed attribute other than the logical name: 2, scripts; null-data at any other index (IEC 62056-6-2,
-    /// Script table). The error is that memory was refused.
+    /// Script table).
     #[tactic(auto, unfolding(meter_theory::specs::Fixed::fixed_in))]
     pub fn fixed(&self, alloc: Global, index: u8) -> Result<Data, Memory>
         ensures { IfOk result (λ value. tree value ≡ fixed_in (script_table_part_of self.now) index) }
@@ -66,7 +66,7 @@ impl MonitorPart {
     ghost use Rattle.class_control.specs.PartView.{monitor_part_of};
 
     /// A copy of a fixed attribute other than the logical name: 3, monitored_value, and 4, actions; null-data at any other
-    /// index (IEC 62056-6-2, Register monitor). The error is that memory was refused.
+    /// index (IEC 62056-6-2, Register monitor).
     #[tactic(auto, unfolding(meter_theory::specs::Fixed::fixed_in))]
     pub fn fixed(&self, alloc: Global, index: u8) -> Result<Data, Memory>
         ensures { IfOk result (λ value. tree value ≡ fixed_in (monitor_part_of self.now) index) }
@@ -86,7 +86,7 @@ impl SchedulePart {
     ghost use Rattle.class_control.specs.PartView.{schedule_part_of};
 
     /// A copy of a fixed attribute other than the logical name: 2, executed_script, and 3, type; null-data at any other
-    /// index (IEC 62056-6-2, Single action schedule). The error is that memory was refused.
+    /// index (IEC 62056-6-2, Single action schedule).
     #[tactic(auto, unfolding(meter_theory::specs::Fixed::fixed_in))]
     pub fn fixed(&self, alloc: Global, index: u8) -> Result<Data, Memory>
         ensures { IfOk result (λ value. tree value ≡ fixed_in (schedule_part_of self.now) index) }

@@ -45,7 +45,7 @@ impl Schedule {
     pub const EXECUTION_TIME: u8 = 4;
 
     /// Whether the script is to be run at the moment: some element of execution_time names it (IEC 62056-6-2, Single action
-    /// schedule). It takes no memory.
+    /// schedule).
     pub fn is_due(&self, moment: Moment) -> bool
         ensures { result ≡ is_schedule_due (elements (tree self.now.times)) moment }
     {

@@ -37,8 +37,7 @@ impl ScriptTable {
     pub const EXECUTE: u8 = 1;
 }
 
-/// Whether a number is that of a script, or 0, that of the null script (IEC 62056-6-2, Script table, execute). It takes no
-/// memory.
+/// Whether a number is that of a script, or 0, that of the null script (IEC 62056-6-2, Script table, execute).
 pub fn knows_script(scripts: &[Script], id: u16) -> bool
     ensures { result ≡ rights.knows_script (map script_of scripts.now) id }
 {

@@ -50,8 +50,7 @@ fn action_data(alloc: Global, action: &Action) -> Result<Data, Memory>
     }
 }
 
-/// A script of a table: a structure of script_identifier and its actions (IEC 62056-6-2, Script table, script). The only
-/// error is that memory was refused.
+/// A script of a table: a structure of script_identifier and its actions (IEC 62056-6-2, Script table, script).
 pub fn script_data(alloc: Global, script: &Script) -> Result<Data, Memory>
     ensures { IfOk result (λ value. tree value ≡ script_value (script_of script.now)) }
 {
@@ -63,8 +62,7 @@ pub fn script_data(alloc: Global, script: &Script) -> Result<Data, Memory>
     structure(alloc, [Data::LongUnsigned(script.id), actions])
 }
 
-/// scripts of a script table: an array of its scripts (IEC 62056-6-2, Script table). The only error is that memory was
-/// refused.
+/// Scripts of a script table: an array of its scripts (IEC 62056-6-2, Script table).
 pub fn scripts_data(alloc: Global, scripts: &[Script]) -> Result<Data, Memory>
     ensures { IfOk result (λ value. tree value ≡ array_of (map script_value (map script_of scripts.now))) }
 {
@@ -75,8 +73,8 @@ pub fn scripts_data(alloc: Global, scripts: &[Script]) -> Result<Data, Memory>
     Ok(Data::Array(Items::new(elements)))
 }
 
-/// monitored_value of a register monitor: a structure of class_id, logical_name and attribute_index (IEC 62056-6-2,
-/// Register monitor, value_definition). The only error is that memory was refused.
+/// Monitored_value of a register monitor: a structure of class_id, logical_name and attribute_index (IEC 62056-6-2,
+/// Register monitor, value_definition).
 pub fn monitored_data(alloc: Global, part: &MonitorPart) -> Result<Data, Memory>
     ensures { IfOk result (λ value. tree value ≡ monitored_value part.now.monitored_value) }
 {
@@ -87,7 +85,7 @@ pub fn monitored_data(alloc: Global, part: &MonitorPart) -> Result<Data, Memory>
 }
 
 /// A script of a table: a structure of the table's logical_name and script_selector (IEC 62056-6-2, Register monitor,
-/// action_item; Single action schedule, executed_script). The only error is that memory was refused.
+/// action_item; Single action schedule, executed_script).
 pub fn script_ref_data(alloc: Global, script: ScriptRef) -> Result<Data, Memory>
     ensures { IfOk result (λ value. tree value ≡ script_ref_value script) }
 {
@@ -95,8 +93,7 @@ pub fn script_ref_data(alloc: Global, script: ScriptRef) -> Result<Data, Memory>
     structure(alloc, [table, Data::LongUnsigned(script.script)])
 }
 
-/// What is run at a threshold: a structure of action_up and action_down (IEC 62056-6-2, Register monitor, action_set). The
-/// only error is that memory was refused.
+/// What is run at a threshold: a structure of action_up and action_down (IEC 62056-6-2, Register monitor, action_set).
 pub fn up_down_data(alloc: Global, action: UpDown) -> Result<Data, Memory>
     ensures { IfOk result (λ value. tree value ≡ up_down_value action) }
 {
@@ -105,8 +102,7 @@ pub fn up_down_data(alloc: Global, action: UpDown) -> Result<Data, Memory>
     structure(alloc, [up, down])
 }
 
-/// actions of a register monitor: an array of what is run at each threshold (IEC 62056-6-2, Register monitor). The only
-/// error is that memory was refused.
+/// Actions of a register monitor: an array of what is run at each threshold (IEC 62056-6-2, Register monitor).
 pub fn actions_data(alloc: Global, actions: &[UpDown]) -> Result<Data, Memory>
     ensures { IfOk result (λ value. tree value ≡ array_of (map up_down_value actions.now)) }
 {

@@ -121,8 +121,8 @@ fn is_date(date: &[u8]) -> bool
     }
 }
 
-/// Whether a value is an element of execution_time: a structure of a time and a date, each an octet-string whose fields
-/// are in their ranges or not specified, hundredths 0 (IEC 62056-6-2, date and time formats). It takes no memory.
+/// Whether a value is an element of execution_time: a structure of a time and a date, each an octet-string whose fields are
+/// in their ranges or not specified, hundredths 0 (IEC 62056-6-2, date and time formats).
 pub fn is_execution_time(value: &Data) -> bool
     ensures { result ≡ theory.is_execution_time (tree value.now) }
 {
@@ -213,10 +213,9 @@ fn is_date_for(execution_type: u8, values: &[Data]) -> bool
     !(execution_type == 2 || execution_type == 4) || have_no_wildcard(values)
 }
 
-/// Whether these are the elements of an execution_time of this type, from 1 to 5: each is one (`is_execution_time`),
-/// type 1 has exactly one and any other at most `MOST_TIMES`, types 2 and 3 have one time of day, and types 2 and 4 no
-/// year, month or day that is not specified (IEC 62056-6-2, Single action schedule, type; own profile). It takes no
-/// memory.
+/// Whether these are the elements of an execution_time of this type, from 1 to 5: each is one (`is_execution_time`), type 1
+/// has exactly one and any other at most `MOST_TIMES`, types 2 and 3 have one time of day, and types 2 and 4 no year, month
+/// or day that is not specified (IEC 62056-6-2, Single action schedule, type; own profile).
 pub fn are_execution_times(execution_type: u8, values: &[Data]) -> bool
     ensures { result ≡ theory.are_execution_times execution_type (map tree values.now) }
 {

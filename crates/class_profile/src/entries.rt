@@ -42,7 +42,7 @@ impl<'a> Model for Entries<'a> {
 }
 
 impl Rows {
-    /// All rows, whole. It takes no memory.
+    /// All rows, whole.
     pub fn all(&self) -> Entries
         ensures { result ≡ array_of self.now }
     {
@@ -55,7 +55,7 @@ impl Rows {
     }
 
     /// The rows and columns that an entry descriptor asks for. No rows are an empty array, no columns empty structures (own
-    /// profile). It takes no memory.
+    /// profile).
     pub fn selected(&self, descriptor: &EntryDescriptor) -> Entries
         ensures { result ≡ entries_of (descriptor_view descriptor.now) (array_of self.now) }
     {
@@ -76,7 +76,7 @@ impl Rows {
 }
 
 impl Profile {
-    /// The entries of the buffer that an entry descriptor asks for. It takes no memory.
+    /// The entries of the buffer that an entry descriptor asks for.
     pub fn entries(&self, descriptor: &EntryDescriptor) -> Entries
         ensures { result ≡ entries_of (descriptor_view descriptor.now) (array_of self.now.buffer) }
     {
@@ -96,7 +96,7 @@ impl Profile {
 }
 
 impl<'a> Entries<'a> {
-    /// A copy of the entries as an array. The only error is that memory was refused.
+    /// A copy of the entries as an array.
     pub fn to_data(&self, alloc: Global) -> Result<Data, Memory>
         ensures { IfOk result (λ copy. tree copy ≡ self.now) }
     {
@@ -135,7 +135,7 @@ fn columns_of(places: (u16, u16), row: &Data) -> &[Data]
     places_between(u32::from(from), u32::from(to), parts_of(row))
 }
 
-/// Puts copies of the rows, or of their columns, behind those of a list. The only error is that memory was refused.
+/// Puts copies of the rows, or of their columns, behind those of a list.
 fn push_rows(
     alloc: Global,
     columns: Option<(u16, u16)>,
@@ -150,7 +150,7 @@ fn push_rows(
     Ok(())
 }
 
-/// A copy of a row, or of its columns. The only error is that memory was refused.
+/// A copy of a row, or of its columns.
 fn copy_of_row(alloc: Global, columns: Option<(u16, u16)>, row: &Data) -> Result<Data, Memory>
     ensures { IfOk result (λ copy. tree copy ≡ shown columns row.now) }
 {
@@ -163,7 +163,7 @@ fn copy_of_row(alloc: Global, columns: Option<(u16, u16)>, row: &Data) -> Result
     }
 }
 
-/// Copies of the values. The only error is that memory was refused.
+/// Copies of the values.
 fn copies_of(alloc: Global, values: &[Data]) -> Result<Vec<Data>, Memory>
     ensures { IfOk result (λ all. map tree all.items ≡ map tree values.now) }
 {

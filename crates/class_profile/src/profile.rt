@@ -42,8 +42,7 @@ pub struct ProfilePart {
 
 impl ProfilePart {
     /// A fixed attribute other than the logical name: 3, capture_objects, 5, sort_method, which is 1, fifo, 6, sort_object,
-    /// which names none, and 8, profile_entries; null-data at any other index (own profile). The only error is that memory
-    /// was refused.
+    /// which names none, and 8, profile_entries; null-data at any other index (own profile).
     #[tactic(auto, unfolding(meter_theory::specs::Fixed::fixed_in))]
     pub fn fixed(&self, alloc: Global, index: u8) -> Result<Data, Memory>
         ensures { IfOk result (λ value. tree value ≡ fixed_in (ProfileGeneric self.now.captured.items self.now.capture_period self.now.profile_entries) index) }
@@ -150,7 +149,7 @@ impl Profile {
         })
     }
 
-    /// Takes a capture back. It takes no memory.
+    /// Takes a capture back.
     pub fn take_back(&mut self, captured: Captured)
         ensures { self.new ≡ before_capture captured self.old }
     {
@@ -158,7 +157,7 @@ impl Profile {
         self.entries_in_use = captured.entries_in_use;
     }
 
-    /// Method 1, reset: no entry is left (IEC 62056-6-2, Profile generic). What was there is moved out. It takes no memory.
+    /// Method 1, reset: no entry is left (IEC 62056-6-2, Profile generic). What was there is moved out.
     pub fn clear(&mut self) -> Cleared
         ensures cleared { (result.buffer ≡ self.old.buffer) × (result.entries_in_use ≡ self.old.entries_in_use) }
         ensures empty { self.new ≡ with_entries [] 0 self.old }
@@ -169,7 +168,7 @@ impl Profile {
         }
     }
 
-    /// Takes a reset back. It takes no memory.
+    /// Takes a reset back.
     pub fn restore(&mut self, cleared: Cleared)
         ensures { self.new ≡ with_entries cleared.buffer cleared.entries_in_use self.old }
     {
@@ -185,7 +184,7 @@ fn one_more(in_use: u32, entries: u32) -> u32
     in_use.saturating_add(1).min(entries)
 }
 
-/// The number of a double-long-unsigned, and 0 for any other value. It takes no memory.
+/// The number of a double-long-unsigned, and 0 for any other value.
 fn count_of(value: &Data) -> u32
     ensures { result ≡ values.count_of (tree value.now) }
 {

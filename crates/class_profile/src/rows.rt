@@ -36,7 +36,7 @@ impl Model for Rows {
 }
 
 impl Rows {
-    /// No entries, in a ring of so many places. The only error is that memory was refused.
+    /// No entries, in a ring of so many places.
     pub fn new(alloc: Global, entries: u32) -> Result<Rows, Memory>
         ensures { IfOk result (λ rows. rows ≡ []) }
     {
@@ -45,7 +45,7 @@ impl Rows {
         })
     }
 
-    /// No entries, and no ring yet. It takes no memory.
+    /// No entries, and no ring yet.
     pub fn none() -> Rows
         ensures { result ≡ [] }
     {
@@ -74,7 +74,7 @@ impl Rows {
         }
     }
 
-    /// Takes back the capture after which the rows are these, given the row that had to go. It takes no memory.
+    /// Takes back the capture after which the rows are these, given the row that had to go.
     pub fn take_back(&mut self, dropped: Option<Data>)
         ensures { self.new ≡ reversal.rows_before (option_map tree dropped) self.old }
     {
@@ -83,7 +83,7 @@ impl Rows {
         }
     }
 
-    /// Moves the rows out, with their ring. It takes no memory.
+    /// Moves the rows out, with their ring.
     pub fn clear(&mut self) -> Rows
         ensures cleared { result ≡ self.old }
         ensures none { self.new ≡ [] }
@@ -91,8 +91,7 @@ impl Rows {
         mem::replace(self, Rows::none())
     }
 
-    /// Takes over the ring of rows that were cleared, where there is none, so that no capture has to ask for one. It takes
-    /// no memory.
+    /// Takes over the ring of rows that were cleared, where there is none, so that no capture has to ask for one.
     pub fn reuse(&mut self, cleared: Rows)
         ensures { self.new ≡ self.old }
     {
@@ -111,7 +110,7 @@ impl Rows {
         }
     }
 
-    /// The rows in two slices: the older ones, and those behind. It takes no memory.
+    /// The rows in two slices: the older ones, and those behind.
     pub fn slices(&self) -> (&[Data], &[Data])
         ensures { map tree result.0.now ++ map tree result.1.now ≡ self.now }
     {
@@ -121,7 +120,7 @@ impl Rows {
         }
     }
 
-    /// A copy in a ring of as many places. The only error is that memory was refused.
+    /// A copy in a ring of as many places.
     pub fn try_clone(&self, alloc: Global) -> Result<Rows, Memory>
         ensures { IfOk result (λ copy. copy ≡ self.now) }
     {
@@ -133,7 +132,7 @@ impl Rows {
         })
     }
 
-    /// A copy of the rows as an array, as attribute 2, buffer, shows them. The only error is that memory was refused.
+    /// A copy of the rows as an array, as attribute 2, buffer, shows them.
     pub fn to_data(&self, alloc: Global) -> Result<Data, Memory>
         ensures { IfOk result (λ copy. tree copy ≡ array_of self.now) }
     {
@@ -166,8 +165,7 @@ fn give_places(
     Ok(())
 }
 
-/// Puts a row behind the others, of which the oldest goes and is handed out where there are `entries` already. It takes no
-/// memory.
+/// Puts a row behind the others, of which the oldest goes and is handed out where there are `entries` already.
 fn push_last(ring: &mut HeapCircularBuffer<Data>, entries: usize, row: Data) -> Option<Data>
     requires has_entries { 1 ≤ entries }
     requires fits { length ring.old.items ≤ entries }
@@ -184,7 +182,7 @@ fn push_last(ring: &mut HeapCircularBuffer<Data>, entries: usize, row: Data) -> 
     oldest
 }
 
-/// The newest row goes, and the dropped one comes back in front. It takes no memory.
+/// The newest row goes, and the dropped one comes back in front.
 fn put_back(ring: &mut HeapCircularBuffer<Data>, dropped: Option<Data>)
     ensures { rows_in (Some ring.new) ≡ reversal.rows_before (option_map tree dropped) (rows_in (Some ring.old)) }
 {
@@ -198,7 +196,7 @@ fn put_back(ring: &mut HeapCircularBuffer<Data>, dropped: Option<Data>)
     }
 }
 
-/// The ring without its rows. It takes no memory.
+/// The ring without its rows.
 fn emptied(ring: Option<HeapCircularBuffer<Data>>) -> Option<HeapCircularBuffer<Data>>
     ensures { rows_in result ≡ [] }
 {
@@ -207,7 +205,7 @@ fn emptied(ring: Option<HeapCircularBuffer<Data>>) -> Option<HeapCircularBuffer<
     Some(ring)
 }
 
-/// A copy of a ring with as many places. The only error is that memory was refused.
+/// A copy of a ring with as many places.
 fn copy_of_ring(
     alloc: Global,
     ring: &HeapCircularBuffer<Data>,
@@ -221,7 +219,7 @@ fn copy_of_ring(
     Ok(copy)
 }
 
-/// Puts copies of the rows behind those of a ring that has room for them. The only error is that memory was refused.
+/// Puts copies of the rows behind those of a ring that has room for them.
 fn put_copies(
     alloc: Global,
     rows: &[Data],

@@ -19,7 +19,7 @@ pub struct EntryDescriptor {
 
 impl EntryDescriptor {
     /// The entry descriptor that a selector's parameter is: a structure of exactly two double-long-unsigned and two
-    /// long-unsigned. It takes no memory.
+    /// long-unsigned.
     pub fn of(parameter: &Data) -> Option<EntryDescriptor>
         ensures { option_map descriptor_view result ≡ theory.descriptor_of (tree parameter.now) }
     {

@@ -2,7 +2,7 @@
 use Rattle.std.specs.Prelude.{Result, ⊤}
 use Rattle.config_text.specs.Fault.{Fault, ◌>>=◌}
 use Rattle.config_text.specs.Parts.{ConfigText}
-use Rattle.config_rules.specs.Passes.{forms, new_objects, known_classes, known_clients, new_clients, known_references, known_indexes, right_values, settable_rights, equal_counts, new_scripts, no_executes, within_limits, new_labels, fed_values, right_times, right_sorting}
+use Rattle.config_rules.specs.Passes.{forms, new_objects, known_classes, known_clients, new_clients, known_references, known_indexes, valid_values, settable_rights, equal_counts, new_scripts, no_executes, within_limits, new_labels, fed_values, valid_times, valid_sorting}
 
 -- the passes over names and indexes, one code after another (own profile)
 unfoldable pub judged_names : ConfigText → Result ⊤ Fault
@@ -18,7 +18,7 @@ judged_names c = do
 -- the passes that are left, over values, limits and labels (own profile)
 unfoldable pub judged_rest : ConfigText → Result ⊤ Fault
 judged_rest c = do
-  values ← right_values c  -- C11
+  values ← valid_values c  -- C11
   rights ← settable_rights c  -- C12
   counts ← equal_counts c  -- C13
   scripts ← new_scripts c  -- C14
@@ -26,8 +26,8 @@ judged_rest c = do
   limits ← within_limits c  -- C16
   labels ← new_labels c  -- C17
   inputs ← fed_values c  -- C18
-  times ← right_times c  -- C19
-  right_sorting c  -- C20
+  times ← valid_times c  -- C19
+  valid_sorting c  -- C20
 
 -- one half, and then the other
 abbrev pub both_halves : ConfigText → Result ⊤ Fault

@@ -9,7 +9,7 @@ use cosem_data::memory::Memory;
 use std::alloc::Global;
 use value_text::value::{bytes_in, value_in};
 
-/// The value that a text is, null-data where it is none. The error is that memory was refused.
+/// The value that a text is, null-data where it is none.
 pub fn value_or_null(alloc: Global, text: &str) -> Result<Data, Memory>
     ensures { IfOk result (λ value. tree value ≡ plan.value_of text.now) }
 {
@@ -19,7 +19,7 @@ pub fn value_or_null(alloc: Global, text: &str) -> Result<Data, Memory>
     }
 }
 
-/// The time and date that a text is, without bytes where it is no hex text. The error is that memory was refused.
+/// The time and date that a text is, without bytes where it is no hex text.
 fn time_or_none(alloc: Global, text: &str) -> Result<Data, Memory>
     ensures { IfOk result (λ value. tree value ≡ plan.time_of text.now) }
 {
@@ -29,7 +29,7 @@ fn time_or_none(alloc: Global, text: &str) -> Result<Data, Memory>
     }
 }
 
-/// The values that texts are. The error is that memory was refused.
+/// The values that texts are.
 pub fn values_of(alloc: Global, texts: &[String]) -> Result<Vec<Data>, Memory>
     ensures { IfOk result (λ values. map tree values.items ≡ map plan.value_of (map string_bytes texts.now)) }
 {
@@ -40,7 +40,7 @@ pub fn values_of(alloc: Global, texts: &[String]) -> Result<Vec<Data>, Memory>
     Ok(values)
 }
 
-/// The times and dates that texts are. The error is that memory was refused.
+/// The times and dates that texts are.
 pub fn times_of(alloc: Global, texts: &[String]) -> Result<Vec<Data>, Memory>
     ensures { IfOk result (λ times. map tree times.items ≡ map plan.time_of (map string_bytes texts.now)) }
 {

@@ -13,8 +13,7 @@ use cosem_data::kind::Kind;
 use cosem_data::memory::Memory;
 use std::alloc::Global;
 
-/// The kind of the value with which an object of class 1 or 3 starts, none of another and where it can't be read. The error
-/// is that memory was refused.
+/// The kind of the value with which an object of class 1 or 3 starts, none of another and where it can't be read.
 fn start_kind_in(alloc: Global, body: &BodyParts) -> Result<Option<Kind>, Memory>
     ensures { IfOk result (λ kind. kind ≡ spec.start_kind_in (body_text body.now)) }
 {
@@ -55,7 +54,7 @@ pub(crate) struct Kinds<'d, 'c> {
 }
 
 impl<'d, 'c> Kinds<'d, 'c> {
-    /// The kinds of a configuration. The error is that memory was refused.
+    /// The kinds of a configuration.
     pub fn new(alloc: Global, directory: &'d Directory<'c>) -> Result<Self, Memory>
         ensures { IfOk result (λ kinds. kinds.directory.now.config.now ≡ directory.now.config.now) }
     {

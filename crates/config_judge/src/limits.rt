@@ -54,7 +54,7 @@ fn at_most(at: &Place<'_>, key: &str, limit: usize, number: usize) -> Result<(),
     fault_if(Code::Limit, at, key, limit < number)
 }
 
-/// Whether a text is no value, or one within the limits. The error is that memory was refused.
+/// Whether a text is no value, or one within the limits.
 fn is_small(alloc: Global, text: &str) -> Result<bool, Memory>
     ensures { IfOk result (λ small. small ≡ passes.is_small (value_in text.now)) }
 {
@@ -148,7 +148,7 @@ fn script_table_limits(at: &Place<'_>, scripts: &[ScriptParts]) -> Result<(), Co
     each_below(&ScriptLimits, at, ".script", scripts)
 }
 
-/// Whether thresholds are within the limits as one array. The error is that memory was refused.
+/// Whether thresholds are within the limits as one array.
 fn are_small_thresholds(alloc: Global, texts: &[String]) -> Result<bool, Memory>
     ensures { IfOk result (λ small. small ≡ is_within_limits (thresholds_value (map string_bytes texts.now))) }
 {
@@ -156,7 +156,7 @@ fn are_small_thresholds(alloc: Global, texts: &[String]) -> Result<bool, Memory>
     Ok(keeps_limits(&array))
 }
 
-/// Whether times are within the limits as one array. The error is that memory was refused.
+/// Whether times are within the limits as one array.
 fn are_small_times(alloc: Global, texts: &[String]) -> Result<bool, Memory>
     ensures { IfOk result (λ small. small ≡ is_within_limits (times_value (map string_bytes texts.now))) }
 {

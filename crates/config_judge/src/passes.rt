@@ -17,9 +17,9 @@ use crate::objects::{known_classes, new_objects};
 use crate::references::known_references;
 use crate::rights::settable_rights;
 use crate::scripts::{new_scripts, no_executes};
-use crate::sorting::right_sorting;
-use crate::times::right_times;
-use crate::values::right_values;
+use crate::sorting::valid_sorting;
+use crate::times::valid_times;
+use crate::values::valid_values;
 use config_text::fault::ConfigFault;
 use std::alloc::Global;
 
@@ -58,7 +58,7 @@ fn judge_values(alloc: Global, directory: &Directory<'_>) -> Result<(), ConfigFa
     ensures { Gives (λ u. u) result (judged_rest directory.now.config.now) }
 {
     let config = directory.config;
-    right_values(alloc, directory)?;
+    valid_values(alloc, directory)?;
     settable_rights(alloc, directory)?;
     equal_counts(alloc, config)?;
     new_scripts(alloc, config)?;
@@ -66,8 +66,8 @@ fn judge_values(alloc: Global, directory: &Directory<'_>) -> Result<(), ConfigFa
     within_limits(alloc, config)?;
     new_labels(alloc, directory)?;
     fed_values(alloc, config)?;
-    right_times(alloc, config)?;
-    right_sorting(alloc, config)
+    valid_times(alloc, config)?;
+    valid_sorting(alloc, config)
 }
 
 /// Judges what the tables of a configuration say.

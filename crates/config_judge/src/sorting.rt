@@ -51,9 +51,9 @@ fn whole_captures(at: &Place<'_>, captures: &[CaptureParts]) -> Result<(), Confi
     each_below(&WholeCapture, at, ".capture", captures)
 }
 
-#[tactic(auto, unfolding(config_rules::specs::Passes::right_sorting_in))]
-fn right_sorting_in(at: &Place<'_>, body: &BodyParts) -> Result<(), ConfigFault>
-    ensures { Gives (λ u. u) result (passes.right_sorting_in at.now (body_text body.now)) }
+#[tactic(auto, unfolding(config_rules::specs::Passes::valid_sorting_in))]
+fn valid_sorting_in(at: &Place<'_>, body: &BodyParts) -> Result<(), ConfigFault>
+    ensures { Gives (λ u. u) result (passes.valid_sorting_in at.now (body_text body.now)) }
 {
     match body {
         BodyParts::ProfileGeneric {
@@ -74,14 +74,14 @@ fn right_sorting_in(at: &Place<'_>, body: &BodyParts) -> Result<(), ConfigFault>
 struct RightSorting;
 
 impl Judge for RightSorting {
-    ghost use Rattle.config_rules.specs.Passes.{right_sorting_in};
+    ghost use Rattle.config_rules.specs.Passes.{valid_sorting_in};
 
     type Part = ObjectParts;
 
-    ghost judges = { λ _ at o. right_sorting_in at o.body };
+    ghost judges = { λ _ at o. valid_sorting_in at o.body };
 
     fn judge(&self, at: &Place<'_>, object: &ObjectParts) -> Result<(), ConfigFault> {
-        right_sorting_in(at, &object.body)
+        valid_sorting_in(at, &object.body)
     }
 }
 
@@ -89,9 +89,9 @@ impl Judge for RightSorting {
 ///
 /// # Errors
 /// C20 at the first data_index other than 0 or sort_method other than 1, fifo.
-#[tactic(auto, unfolding(config_rules::specs::Passes::right_sorting))]
-pub(crate) fn right_sorting(alloc: Global, config: &ConfigParts) -> Result<(), ConfigFault>
-    ensures { Gives (λ u. u) result (passes.right_sorting config.now) }
+#[tactic(auto, unfolding(config_rules::specs::Passes::valid_sorting))]
+pub(crate) fn valid_sorting(alloc: Global, config: &ConfigParts) -> Result<(), ConfigFault>
+    ensures { Gives (λ u. u) result (passes.valid_sorting config.now) }
 {
     let object_place = Place::top(alloc, "object");
     each(&RightSorting, &object_place, config.objects.as_slice())

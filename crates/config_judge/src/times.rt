@@ -19,7 +19,7 @@ use config_text::place::Place;
 use cosem_data::memory::Memory;
 use std::alloc::Global;
 
-/// Whether times fit the type of a schedule. The error is that memory was refused.
+/// Whether times fit the type of a schedule.
 fn do_fit(alloc: Global, execution_type: u8, texts: &[String]) -> Result<bool, Memory>
     ensures { IfOk result (λ fit. fit ≡ are_execution_times execution_type (elements (times_value (map string_bytes texts.now)))) }
 {
@@ -28,20 +28,20 @@ fn do_fit(alloc: Global, execution_type: u8, texts: &[String]) -> Result<bool, M
 }
 
 /// Judges the times of a schedule of a type.
-fn right_times_of(at: &Place<'_>, execution_type: u8, times: &[String]) -> Result<(), ConfigFault>
+fn valid_times_of(at: &Place<'_>, execution_type: u8, times: &[String]) -> Result<(), ConfigFault>
     ensures { Gives (λ u. u) result (faults.fault_if Times (at.now ++ codes ".times") (not (are_execution_times execution_type (elements (times_value (map string_bytes times.now)))))) }
 {
     let fit = do_fit(at.alloc(), execution_type, times)?;
     fault_if(Code::Times, at, ".times", !fit)
 }
 
-#[tactic(auto, unfolding(config_rules::specs::Passes::right_times_in))]
-fn right_times_in(at: &Place<'_>, body: &BodyParts) -> Result<(), ConfigFault>
-    ensures { Gives (λ u. u) result (passes.right_times_in at.now (body_text body.now)) }
+#[tactic(auto, unfolding(config_rules::specs::Passes::valid_times_in))]
+fn valid_times_in(at: &Place<'_>, body: &BodyParts) -> Result<(), ConfigFault>
+    ensures { Gives (λ u. u) result (passes.valid_times_in at.now (body_text body.now)) }
 {
     match body {
         BodyParts::SingleActionSchedule { kind, times, .. } => {
-            right_times_of(at, *kind, times.as_slice())
+            valid_times_of(at, *kind, times.as_slice())
         }
         _ => Ok(()),
     }
@@ -52,14 +52,14 @@ fn right_times_in(at: &Place<'_>, body: &BodyParts) -> Result<(), ConfigFault>
 struct RightTimes;
 
 impl Judge for RightTimes {
-    ghost use Rattle.config_rules.specs.Passes.{right_times_in};
+    ghost use Rattle.config_rules.specs.Passes.{valid_times_in};
 
     type Part = ObjectParts;
 
-    ghost judges = { λ _ at o. right_times_in at o.body };
+    ghost judges = { λ _ at o. valid_times_in at o.body };
 
     fn judge(&self, at: &Place<'_>, object: &ObjectParts) -> Result<(), ConfigFault> {
-        right_times_in(at, &object.body)
+        valid_times_in(at, &object.body)
     }
 }
 
@@ -67,9 +67,9 @@ impl Judge for RightTimes {
 ///
 /// # Errors
 /// C19 at the first times that don't fit the type.
-#[tactic(auto, unfolding(config_rules::specs::Passes::right_times))]
-pub(crate) fn right_times(alloc: Global, config: &ConfigParts) -> Result<(), ConfigFault>
-    ensures { Gives (λ u. u) result (passes.right_times config.now) }
+#[tactic(auto, unfolding(config_rules::specs::Passes::valid_times))]
+pub(crate) fn valid_times(alloc: Global, config: &ConfigParts) -> Result<(), ConfigFault>
+    ensures { Gives (λ u. u) result (passes.valid_times config.now) }
 {
     let object_place = Place::top(alloc, "object");
     each(&RightTimes, &object_place, config.objects.as_slice())

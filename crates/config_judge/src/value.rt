@@ -14,7 +14,7 @@ use cosem_data::memory::Memory;
 use std::alloc::Global;
 use value_text::value::{bytes_in, value_in};
 
-/// The kind of the value that a text is, none where it is no value. The error is that memory was refused.
+/// The kind of the value that a text is, none where it is no value.
 pub(crate) fn kind_in(alloc: Global, text: &str) -> Result<Option<Kind>, Memory>
     ensures { IfOk result (λ kind. kind ≡ spec.kind_in text.now) }
 {
@@ -31,7 +31,7 @@ fn octets(alloc: Global, bytes: &[u8]) -> Result<Data, Memory>
 }
 
 /// A structure of time, the first four bytes, and date, the others (IEC 62056-6-2, Single action schedule,
-/// execution_time_date). The error is that memory was refused.
+/// execution_time_date).
 pub(crate) fn time_and_date(alloc: Global, bytes: &[u8]) -> Result<Data, Memory>
     ensures { IfOk result (λ value. tree value ≡ spec.time_and_date bytes.now) }
 {
@@ -47,8 +47,7 @@ fn are_time_and_date(alloc: Global, bytes: &[u8]) -> Result<bool, Memory>
     Ok(bytes.len() == 9 && is_execution_time(&value))
 }
 
-/// Whether a text is the hex text of nine bytes, a time and a date with each field in its range. The error is that memory was
-/// refused.
+/// Whether a text is the hex text of nine bytes, a time and a date with each field in its range.
 pub(crate) fn is_time_text(alloc: Global, text: &str) -> Result<bool, Memory>
     ensures { IfOk result (λ is. is ≡ spec.is_time_text text.now) }
 {
@@ -58,7 +57,7 @@ pub(crate) fn is_time_text(alloc: Global, text: &str) -> Result<bool, Memory>
     }
 }
 
-/// Whether a text is the hex text of the encoding of one value. The error is that memory was refused.
+/// Whether a text is the hex text of the encoding of one value.
 pub(crate) fn is_value(alloc: Global, text: &str) -> Result<bool, Memory>
     ensures { IfOk result (λ is. is ≡ is_some (value_in text.now)) }
 {

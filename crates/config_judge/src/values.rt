@@ -110,7 +110,7 @@ fn may_stand_at(kinds: &Kinds<'_, '_>, target: &TargetParts, value: &Data) -> bo
     }
 }
 
-/// Whether a text is a value that may stand in what is named. The error is that memory was refused.
+/// Whether a text is a value that may stand in what is named.
 fn is_written(
     alloc: Global,
     kinds: &Kinds<'_, '_>,
@@ -125,7 +125,7 @@ fn is_written(
     }
 }
 
-/// Whether an action has a value that it can write, or a parameter that is a value. The error is that memory was refused.
+/// Whether an action has a value that it can write, or a parameter that is a value.
 fn action_value(alloc: Global, kinds: &Kinds<'_, '_>, action: &ActionParts) -> Result<bool, Memory>
     ensures { IfOk result (λ right. right ≡ passes.action_value kinds.now.directory.now.config.now action.now.service action.now.target action.now.value) }
 {
@@ -144,11 +144,11 @@ struct ActionValue<'k, 'd, 'c> {
 }
 
 impl<'k, 'd, 'c> Judge for ActionValue<'k, 'd, 'c> {
-    ghost use Rattle.config_rules.specs.Passes.{right_action_value};
+    ghost use Rattle.config_rules.specs.Passes.{valid_action_value};
 
     type Part = ActionParts;
 
-    ghost judges = { λ all. right_action_value all.kinds.now.directory.now.config.now };
+    ghost judges = { λ all. valid_action_value all.kinds.now.directory.now.config.now };
 
     fn judge(&self, at: &Place<'_>, action: &ActionParts) -> Result<(), ConfigFault> {
         let right = action_value(at.alloc(), self.kinds, action)?;
@@ -240,13 +240,13 @@ fn monitor_values(
 }
 
 /// The values in an object's body.
-#[tactic(auto, unfolding(config_rules::specs::Passes::right_values_in))]
-fn right_values_in(
+#[tactic(auto, unfolding(config_rules::specs::Passes::valid_values_in))]
+fn valid_values_in(
     kinds: &Kinds<'_, '_>,
     at: &Place<'_>,
     body: &BodyParts,
 ) -> Result<(), ConfigFault>
-    ensures { Gives (λ u. u) result (passes.right_values_in kinds.now.directory.now.config.now at.now (body_text body.now)) }
+    ensures { Gives (λ u. u) result (passes.valid_values_in kinds.now.directory.now.config.now at.now (body_text body.now)) }
 {
     match body {
         BodyParts::Data { value } => data_value(at, value.as_str()),
@@ -275,14 +275,14 @@ struct ObjectValues<'k, 'd, 'c> {
 }
 
 impl<'k, 'd, 'c> Judge for ObjectValues<'k, 'd, 'c> {
-    ghost use Rattle.config_rules.specs.Passes.{right_values_in};
+    ghost use Rattle.config_rules.specs.Passes.{valid_values_in};
 
     type Part = ObjectParts;
 
-    ghost judges = { λ all at o. right_values_in all.kinds.now.directory.now.config.now at o.body };
+    ghost judges = { λ all at o. valid_values_in all.kinds.now.directory.now.config.now at o.body };
 
     fn judge(&self, at: &Place<'_>, object: &ObjectParts) -> Result<(), ConfigFault> {
-        right_values_in(self.kinds, at, &object.body)
+        valid_values_in(self.kinds, at, &object.body)
     }
 }
 
@@ -290,9 +290,9 @@ impl<'k, 'd, 'c> Judge for ObjectValues<'k, 'd, 'c> {
 ///
 /// # Errors
 /// C11 at the first text that isn't hex, isn't one Data, or isn't of the kind that is asked for there.
-#[tactic(auto, unfolding(config_rules::specs::Passes::right_values))]
-pub(crate) fn right_values(alloc: Global, directory: &Directory<'_>) -> Result<(), ConfigFault>
-    ensures { Gives (λ u. u) result (passes.right_values directory.now.config.now) }
+#[tactic(auto, unfolding(config_rules::specs::Passes::valid_values))]
+pub(crate) fn valid_values(alloc: Global, directory: &Directory<'_>) -> Result<(), ConfigFault>
+    ensures { Gives (λ u. u) result (passes.valid_values directory.now.config.now) }
 {
     let kinds = Kinds::new(alloc, directory)?;
     let config = directory.config;

@@ -27,7 +27,7 @@ fn client(alloc: Global, parts: &ClientParts) -> Result<Client, Memory>
     Ok(Client::new(name, parts.sap, password))
 }
 
-/// The clients, in order. The error is that memory was refused.
+/// The clients, in order.
 pub(crate) fn clients_of(alloc: Global, parts: &[ClientParts]) -> Result<Vec<Client>, Memory>
     ensures { IfOk result (λ clients. clients.items ≡ map plan.client_of parts.now) }
 {
@@ -38,7 +38,7 @@ pub(crate) fn clients_of(alloc: Global, parts: &[ClientParts]) -> Result<Vec<Cli
     Ok(clients)
 }
 
-/// The place of the first client with this name, 0 where there is none. It takes no memory.
+/// The place of the first client with this name, 0 where there is none.
 pub(crate) fn client_place(directory: &Directory, name: &str) -> u8
     requires few { length directory.now.config.now.clients ≤ 16 }
     ensures place { result ≡ plan.client_place directory.now.config.now name.now }
@@ -62,7 +62,7 @@ fn right(alloc: Global, directory: &Directory, parts: &RightParts) -> Result<Rig
     Ok(Right::new(client, object, gets, sets, acts))
 }
 
-/// The rights, in order. The error is that memory was refused.
+/// The rights, in order.
 pub(crate) fn rights_of(
     alloc: Global,
     directory: &Directory,

@@ -97,7 +97,7 @@ fn schedule(
 }
 
 /// What a plan fixes of an object, by what the configuration says of its class. A class that isn't known has an empty
-/// script table's part: no configuration without faults has one. The error is that memory was refused.
+/// script table's part: no configuration without faults has one.
 fn part(alloc: Global, directory: &Directory, body: &BodyParts) -> Result<Part, Memory>
     requires { has_room (body_text body.now) ≡ true }
     ensures { IfOk result (λ part. part_of part ≡ plan.part_of directory.now.config.now (body_text body.now)) }
@@ -158,7 +158,7 @@ fn object(alloc: Global, directory: &Directory, parts: &ObjectParts) -> Result<O
     Ok(Object::new(name, parts.fed, part))
 }
 
-/// The objects, in plan order. The error is that memory was refused.
+/// The objects, in plan order.
 pub(crate) fn objects_of(
     alloc: Global,
     directory: &Directory,

@@ -30,7 +30,7 @@ fn plan_parts(alloc: Global, directory: &Directory) -> Result<PlanParts, Memory>
     })
 }
 
-/// The plan of a configuration without faults. The error is that memory was refused.
+/// The plan of a configuration without faults.
 pub(crate) fn plan_of(alloc: Global, directory: &Directory) -> Result<Plan, Memory>
     requires faultless { IsFaultless directory.now.config.now }
     ensures { IfOk result (λ made. made ≡ plan.plan_of directory.now.config.now) }

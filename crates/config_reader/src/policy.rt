@@ -16,7 +16,7 @@ use object_model::plan::Plan;
 use object_model::policy::{Label, Policy, PolicyParts};
 use std::alloc::Global;
 
-/// The clients with these names. It takes no memory.
+/// The clients with these names.
 fn clients_named(directory: &Directory, names: &[String]) -> ClientSet
     requires few { length directory.now.config.now.clients ≤ 16 }
     ensures { HasNamed directory.now.config.now (map string_bytes names.now) result }
@@ -28,7 +28,7 @@ fn clients_named(directory: &Directory, names: &[String]) -> ClientSet
     set
 }
 
-/// Who may influence a cell, and who may learn it. It takes no memory.
+/// Who may influence a cell, and who may learn it.
 fn label_of(directory: &Directory, sets: &SetsParts) -> Label
     requires few { length directory.now.config.now.clients ≤ 16 }
     ensures { IsLabelOf directory.now.config.now sets.now result }
@@ -56,7 +56,7 @@ fn labels_of(
     Ok(table)
 }
 
-/// The policy of a configuration without faults, for its plan. The error is that memory was refused.
+/// The policy of a configuration without faults, for its plan.
 pub(crate) fn policy_of(alloc: Global, directory: &Directory, plan: &Plan) -> Result<Policy, Memory>
     requires faultless { IsFaultless directory.now.config.now }
     ensures { IfOk result (λ policy. IsPolicyOf directory.now.config.now policy) }

@@ -27,7 +27,7 @@ fn parameter_of(alloc: Global, value: &Option<String>) -> Result<Data, Memory>
     }
 }
 
-/// An action of a script (IEC 62056-6-2, Script table, action_specification). The error is that memory was refused.
+/// An action of a script (IEC 62056-6-2, Script table, action_specification).
 fn action(alloc: Global, directory: &Directory, parts: &ActionParts) -> Result<Action, Memory>
     ensures action { IfOk result (λ action. action_of action ≡ plan.action_of directory.now.config.now parts.now.service parts.now.target parts.now.value) }
     ensures index { IfOk result (λ action. has_index action ≡ true) }
@@ -70,7 +70,7 @@ fn script(alloc: Global, directory: &Directory, parts: &ScriptParts) -> Result<S
     })
 }
 
-/// The scripts of a table, in order (IEC 62056-6-2, Script table). The error is that memory was refused.
+/// The scripts of a table, in order (IEC 62056-6-2, Script table).
 pub(crate) fn scripts_of(
     alloc: Global,
     directory: &Directory,

@@ -11,7 +11,7 @@ use cosem_data::name::LogicalName;
 use meter_theory::refs::{ScriptRef, UpDown};
 use std::alloc::Global;
 
-/// The logical name that a text is, six zero bytes where it is none. It takes no memory.
+/// The logical name that a text is, six zero bytes where it is none.
 pub(crate) fn name_of(text: &str) -> LogicalName
     ensures { result ≡ plan.name_of text.now }
 {
@@ -21,7 +21,7 @@ pub(crate) fn name_of(text: &str) -> LogicalName
     }
 }
 
-/// The attribute that is named. It takes no memory.
+/// The attribute that is named.
 pub(crate) fn cell_named(directory: &Directory, target: &TargetParts) -> CellRef
     ensures cell { result ≡ plan.cell_named directory.now.config.now target.now }
     ensures index { result.index < 128 }
@@ -34,7 +34,7 @@ pub(crate) fn cell_named(directory: &Directory, target: &TargetParts) -> CellRef
     }
 }
 
-/// The method that is named. It takes no memory.
+/// The method that is named.
 pub(crate) fn method_named(directory: &Directory, target: &TargetParts) -> MethodRef
     ensures method { result ≡ plan.method_named directory.now.config.now target.now }
     ensures index { result.index < 128 }
@@ -47,7 +47,7 @@ pub(crate) fn method_named(directory: &Directory, target: &TargetParts) -> Metho
     }
 }
 
-/// The captured attributes, in order. The error is that memory was refused.
+/// The captured attributes, in order.
 pub(crate) fn captured(
     alloc: Global,
     directory: &Directory,
@@ -73,7 +73,7 @@ fn script_number(script: i64) -> u16
     }
 }
 
-/// The script that is named. It takes no memory.
+/// The script that is named.
 pub(crate) fn script_named(script: &ScriptRefParts) -> ScriptRef
     ensures { result ≡ plan.script_named script.now }
 {
@@ -83,7 +83,7 @@ pub(crate) fn script_named(script: &ScriptRefParts) -> ScriptRef
     }
 }
 
-/// What is run at each threshold, in order. The error is that memory was refused.
+/// What is run at each threshold, in order.
 pub(crate) fn actions_of(alloc: Global, actions: &[UpDownParts]) -> Result<Vec<UpDown>, Memory>
     ensures { IfOk result (λ list. list.items ≡ map plan.up_down_of actions.now) }
 {

@@ -96,7 +96,7 @@ executes_of c ok o i body is =
 
 pub action_at : (c : ConfigText) → IsRight c → (o : ObjectText) → IsIn c.objects o → (scripts : List ScriptText) → o.body ≡ ScriptTableText scripts →
     (s : ScriptText) → IsIn scripts s → (a : ActionText) → IsIn s.actions a → IsAction c a
-unfolding passes.usable_indexes passes.right_values_in passes.limits_in passes.script_limits
+unfolding passes.usable_indexes passes.valid_values_in passes.limits_in passes.script_limits
 action_at c ok o i scripts is s j a k =
     let refers = subst (EachReference (λ t. (p : ObjectText) × IsTarget c t.object p) (IsScript c)) is (known_of c ok o i) s j a k in
     let indexes = indexes_of c ok o i (ScriptTableText scripts) is in
@@ -104,7 +104,7 @@ action_at c ok o i scripts is s j a k =
     let limits = limits_of c ok o i (ScriptTableText scripts) is in
     let executes = executes_of c ok o i (ScriptTableText scripts) is in
     let index = each_action_ok (λ at x. passes.usable_action c x.service at x.target) indexes.0 scripts indexes.1 s j a k in
-    let value = each_action_ok (passes.right_action_value c) values.0 scripts values.1 s j a k in
+    let value = each_action_ok (passes.valid_action_value c) values.0 scripts values.1 s j a k in
     let plain = each_action_ok (passes.no_execute c) executes.0 scripts executes.1 s j a k in
     let few = then_ok (passes.at_most 64 (limits.0 ++ codes ".script") scripts) (λ _. each passes.script_limits (limits.0 ++ codes ".script") scripts) tt limits.1 in
     let script = each_ok passes.script_limits (limits.0 ++ codes ".script") 0 scripts few.2 s j in

@@ -99,7 +99,7 @@ all_kinds kind k is (text ∷ texts) h =
 pub thresholds_fit : (c : ConfigText) → IsRight c → (o : ObjectText) → IsIn c.objects o → (monitored : TargetText) (ths : List Text) (actions : List UpDownText) →
     o.body ≡ MonitorText monitored ths actions →
     meets (Thresholds (length (map up_down_of actions)) (kind_of (value (start (plan_of c)) (cell_named c monitored)))) (thresholds_value ths) ≡ true
-unfolding passes.right_values_in passes.limits_in passes.equal_counts_in
+unfolding passes.valid_values_in passes.limits_in passes.equal_counts_in
 thresholds_fit c ok o i monitored ths actions is =
     let source = monitor_source c ok o i monitored ths actions is in
     let judged = values_of c ok o i (MonitorText monitored ths actions) is in
@@ -125,7 +125,7 @@ thresholds_fit c ok o i monitored ths actions is =
 -- the execution times of a schedule meet their rule
 pub times_fit : (c : ConfigText) → IsRight c → (o : ObjectText) → IsIn c.objects o → (script : ScriptRefText) (type : ℕ) (times : List Text) →
     o.body ≡ ScheduleText script type times → meets (ExecutionTimes type) (times_value times) ≡ true
-unfolding passes.limits_in passes.right_times_in
+unfolding passes.limits_in passes.valid_times_in
 times_fit c ok o i script type times is =
     let limits = limits_of c ok o i (ScheduleText script type times) is in
     let fits = times_of c ok o i (ScheduleText script type times) is in

@@ -147,7 +147,7 @@ pub record IsJudged (c : ConfigText) : Type 0 where
   pub access : passes.new_clients c ≡ Ok tt
   pub references : passes.known_references c ≡ Ok tt
   pub indexes : passes.known_indexes c ≡ Ok tt
-  pub values : passes.right_values c ≡ Ok tt
+  pub values : passes.valid_values c ≡ Ok tt
   pub rights : passes.settable_rights c ≡ Ok tt
   pub counts : passes.equal_counts c ≡ Ok tt
   pub scripts : passes.new_scripts c ≡ Ok tt
@@ -155,8 +155,8 @@ pub record IsJudged (c : ConfigText) : Type 0 where
   pub limits : passes.within_limits c ≡ Ok tt
   pub labels : passes.new_labels c ≡ Ok tt
   pub inputs : passes.fed_values c ≡ Ok tt
-  pub times : passes.right_times c ≡ Ok tt
-  pub sorting : passes.right_sorting c ≡ Ok tt
+  pub times : passes.valid_times c ≡ Ok tt
+  pub sorting : passes.valid_sorting c ≡ Ok tt
 
 pub passed : (c : ConfigText) → judged c ≡ Ok tt → IsJudged c
 unfolding judged
@@ -168,7 +168,7 @@ passed c h =
     let f = then_ok (passes.new_clients c) _ tt e.2 in
     let g = then_ok (passes.known_references c) _ tt f.2 in
     let i = then_ok (passes.known_indexes c) _ tt g.2 in
-    let j = then_ok (passes.right_values c) _ tt i.2 in
+    let j = then_ok (passes.valid_values c) _ tt i.2 in
     let k = then_ok (passes.settable_rights c) _ tt j.2 in
     let l = then_ok (passes.equal_counts c) _ tt k.2 in
     let m = then_ok (passes.new_scripts c) _ tt l.2 in
@@ -176,7 +176,7 @@ passed c h =
     let o = then_ok (passes.within_limits c) _ tt n.2 in
     let p = then_ok (passes.new_labels c) _ tt o.2 in
     let q = then_ok (passes.fed_values c) _ tt p.2 in
-    let r = then_ok (passes.right_times c) (λ _. passes.right_sorting c) tt q.2 in
+    let r = then_ok (passes.valid_times c) (λ _. passes.valid_sorting c) tt q.2 in
     record {
       forms = a.1;
       objects = b.1;

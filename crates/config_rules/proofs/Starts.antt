@@ -62,11 +62,11 @@ only_one x v w (inr none) = absurd none
 
 -- what the passes found of an object
 
-pub values_of : (c : ConfigText) → IsRight c → (o : ObjectText) → IsIn c.objects o → (body : BodyText) → o.body ≡ body → (at : Text) × (passes.right_values_in c at body ≡ Ok tt)
-unfolding passes.right_values
+pub values_of : (c : ConfigText) → IsRight c → (o : ObjectText) → IsIn c.objects o → (body : BodyText) → o.body ≡ body → (at : Text) × (passes.valid_values_in c at body ≡ Ok tt)
+unfolding passes.valid_values
 values_of c ok o i body is =
-    let r = each_ok (λ at p. passes.right_values_in c at p.body) (codes "object") 0 c.objects ok.judged.values o i in
-    (r.0, subst (λ b. passes.right_values_in c r.0 b ≡ Ok tt) is r.1)
+    let r = each_ok (λ at p. passes.valid_values_in c at p.body) (codes "object") 0 c.objects ok.judged.values o i in
+    (r.0, subst (λ b. passes.valid_values_in c r.0 b ≡ Ok tt) is r.1)
 
 pub limits_of : (c : ConfigText) → IsRight c → (o : ObjectText) → IsIn c.objects o → (body : BodyText) → o.body ≡ body → (at : Text) × (passes.limits_in at body ≡ Ok tt)
 unfolding passes.within_limits
@@ -82,16 +82,16 @@ counts_of c ok o i body is =
     let r = each_ok (λ at p. passes.equal_counts_in at p.body) (codes "object") 0 c.objects ok.judged.counts o i in
     (r.0, subst (λ b. passes.equal_counts_in r.0 b ≡ Ok tt) is r.1)
 
-pub times_of : (c : ConfigText) → IsRight c → (o : ObjectText) → IsIn c.objects o → (body : BodyText) → o.body ≡ body → (at : Text) × (passes.right_times_in at body ≡ Ok tt)
-unfolding passes.right_times
+pub times_of : (c : ConfigText) → IsRight c → (o : ObjectText) → IsIn c.objects o → (body : BodyText) → o.body ≡ body → (at : Text) × (passes.valid_times_in at body ≡ Ok tt)
+unfolding passes.valid_times
 times_of c ok o i body is =
-    let r = each_ok (λ at p. passes.right_times_in at p.body) (codes "object") 0 c.objects ok.judged.times o i in
-    (r.0, subst (λ b. passes.right_times_in r.0 b ≡ Ok tt) is r.1)
+    let r = each_ok (λ at p. passes.valid_times_in at p.body) (codes "object") 0 c.objects ok.judged.times o i in
+    (r.0, subst (λ b. passes.valid_times_in r.0 b ≡ Ok tt) is r.1)
 
 -- the value of Data: readable, and within the limits
 pub data_start : (c : ConfigText) → IsRight c → (o : ObjectText) → IsIn c.objects o → (text : Text) → o.body ≡ DataText text →
     (v : Tree) × (value_in text ≡ Some v) × (value_of text ≡ v) × (is_within_limits v ≡ true)
-unfolding passes.right_values_in passes.limits_in
+unfolding passes.valid_values_in passes.limits_in
 data_start c ok o i text is =
     let judged = values_of c ok o i (DataText text) is in
     let limits = limits_of c ok o i (DataText text) is in
@@ -109,7 +109,7 @@ number_there text h = at (value_in text) h
 pub register_start : (c : ConfigText) → IsRight c → (o : ObjectText) → IsIn c.objects o → (text default : Text) (scaler : ℤ) (unit : ℕ) → o.body ≡ RegisterText text default scaler unit →
     ((v : Tree) × (value_in text ≡ Some v) × (value_of text ≡ v) × (is_within_limits v ≡ true))
     × (meets (OfKind (kind_of (value_of text))) (value_of default) ≡ true)
-unfolding passes.right_values_in passes.limits_in
+unfolding passes.valid_values_in passes.limits_in
 register_start c ok o i text default scaler unit is =
     let judged = values_of c ok o i (RegisterText text default scaler unit) is in
     let limits = limits_of c ok o i (RegisterText text default scaler unit) is in

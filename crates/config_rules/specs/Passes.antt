@@ -157,24 +157,24 @@ action_value c Write t text = written_value c t (option_and_then value_in text)
 action_value c Invoke t None = true
 action_value c Invoke t (Some text) = is_some (value_in text)
 
-abbrev pub right_action_value : ConfigText → Judge ActionText
-right_action_value c at a = fault_if Value (at ++ codes ".value") (not (action_value c a.service a.target a.value))
+abbrev pub valid_action_value : ConfigText → Judge ActionText
+valid_action_value c at a = fault_if Value (at ++ codes ".value") (not (action_value c a.service a.target a.value))
 
-unfoldable pub right_values_in : ConfigText → Judge BodyText
-right_values_in c at (DataText value) = fault_if Value (at ++ codes ".value") (not (is_some (value_in value)))
-right_values_in c at (RegisterText value default scaler unit) = do
+unfoldable pub valid_values_in : ConfigText → Judge BodyText
+valid_values_in c at (DataText value) = fault_if Value (at ++ codes ".value") (not (is_some (value_in value)))
+valid_values_in c at (RegisterText value default scaler unit) = do
   start ← fault_if Value (at ++ codes ".value") (not (is_number (kind_in value)))
   fault_if Value (at ++ codes ".default") (not (is_of_kind (kind_in value) (value_in default)))
-right_values_in c at (ScriptTableText scripts) = each_action (right_action_value c) at scripts
-right_values_in c at (MonitorText monitored thresholds actions) = do
+valid_values_in c at (ScriptTableText scripts) = each_action (valid_action_value c) at scripts
+valid_values_in c at (MonitorText monitored thresholds actions) = do
   source ← fault_if Value (at ++ codes ".monitored.index") (not (may_be_number (kind_named c monitored.object)))
   each (λ at text. fault_if Value at (not (is_of_kind (kind_named c monitored.object) (value_in text)))) (at ++ codes ".thresholds") thresholds
-right_values_in c at (ScheduleText script type times) =
+valid_values_in c at (ScheduleText script type times) =
     each (λ at text. fault_if Value at (not (is_time_text text))) (at ++ codes ".times") times
-right_values_in c at _ = Ok tt
+valid_values_in c at _ = Ok tt
 
-unfoldable pub right_values : ConfigText → Result ⊤ Fault
-right_values c = each (λ at o. right_values_in c at o.body) (codes "object") c.objects
+unfoldable pub valid_values : ConfigText → Result ⊤ Fault
+valid_values c = each (λ at o. valid_values_in c at o.body) (codes "object") c.objects
 
 -- C12 A right to set what isn't a settable cell
 
@@ -274,13 +274,13 @@ fed_values c =
 
 -- C19 Execution times that the type doesn't allow
 
-unfoldable pub right_times_in : Judge BodyText
-right_times_in at (ScheduleText script type times) =
+unfoldable pub valid_times_in : Judge BodyText
+valid_times_in at (ScheduleText script type times) =
     fault_if Times (at ++ codes ".times") (not (are_execution_times type (elements (times_value times))))
-right_times_in at _ = Ok tt
+valid_times_in at _ = Ok tt
 
-unfoldable pub right_times : ConfigText → Result ⊤ Fault
-right_times c = each (λ at o. right_times_in at o.body) (codes "object") c.objects
+unfoldable pub valid_times : ConfigText → Result ⊤ Fault
+valid_times c = each (λ at o. valid_times_in at o.body) (codes "object") c.objects
 
 -- C20 A sort method other than fifo, 1, or a part of an attribute captured
 
@@ -288,14 +288,14 @@ abbrev pub is_other : ℤ → Option ℤ → Bool
 is_other only None = false
 is_other only (Some z) = not (int_le only z && int_le z only)
 
-unfoldable pub right_sorting_in : Judge BodyText
-right_sorting_in at (ProfileText captures period entries sort_method) = do
+unfoldable pub valid_sorting_in : Judge BodyText
+valid_sorting_in at (ProfileText captures period entries sort_method) = do
   parts ← each (λ at x. fault_if Sorting (at ++ codes ".data_index") (is_other (pos 0) x.data_index)) (at ++ codes ".capture") captures
   fault_if Sorting (at ++ codes ".sort_method") (is_other (pos 1) sort_method)
-right_sorting_in at _ = Ok tt
+valid_sorting_in at _ = Ok tt
 
-unfoldable pub right_sorting : ConfigText → Result ⊤ Fault
-right_sorting c = each (λ at o. right_sorting_in at o.body) (codes "object") c.objects
+unfoldable pub valid_sorting : ConfigText → Result ⊤ Fault
+valid_sorting c = each (λ at o. valid_sorting_in at o.body) (codes "object") c.objects
 
 -- The passes, one code after another.
 unfoldable pub judged : ConfigText → Result ⊤ Fault
@@ -307,7 +307,7 @@ judged c = do
   access ← new_clients c  -- C8
   references ← known_references c  -- C9
   indexes ← known_indexes c  -- C10
-  values ← right_values c  -- C11
+  values ← valid_values c  -- C11
   rights ← settable_rights c  -- C12
   counts ← equal_counts c  -- C13
   scripts ← new_scripts c  -- C14
@@ -315,5 +315,5 @@ judged c = do
   limits ← within_limits c  -- C16
   labels ← new_labels c  -- C17
   inputs ← fed_values c  -- C18
-  times ← right_times c  -- C19
-  right_sorting c  -- C20
+  times ← valid_times c  -- C19
+  valid_sorting c  -- C20

@@ -3,7 +3,7 @@ ghost use Rattle.cosem_class.specs.CellSets.{has};
 
 use std::marker::Model;
 
-/// A set of attribute indexes from 0 to 15, as large as any class here needs (own profile). It takes no memory.
+/// A set of attribute indexes from 0 to 15, as large as any class here needs (own profile).
 #[derive(Clone, Copy, Debug, PartialEq, Eq)]
 pub struct CellSet {
     mask: u16,

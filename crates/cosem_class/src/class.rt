@@ -142,7 +142,7 @@ pub trait InterfaceClass<Lent> {
         ensures { AnswersAs result (reading (fixed self.now lent) index (cells self.now index)) };
 
     /// Sets the value of an attribute, as the service SET does, and returns the previous one. `NoIndex` and `NotSettable`
-    /// tell of the index, `Kind` and `Rule` of the value. It takes no memory.
+    /// tell of the index, `Kind` and `Rule` of the value.
     fn write(&mut self, lent: Lent, index: u8, value: Data) -> Result<Data, ClassFault>
         ensures refused { RefusedAs result (refusal (fixed self.old lent) (ops.Write index) (tree value)) }
         ensures fixed { fixed self.new lent ≡ fixed self.old lent }

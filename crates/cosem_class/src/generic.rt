@@ -7,8 +7,8 @@ ghost use Rattle.cosem_class.specs.declared.class.Op.TheVariants as ops;
 use crate::class::InterfaceClass;
 use cosem_data::data::Data;
 
-/// Puts a value that the class does not refuse into an attribute, and returns the previous value. A cell that the write does
-/// not touch stays. It takes no memory.
+/// Puts a value that the class does not refuse into an attribute, and returns the previous value. A cell that the write
+/// does not touch stays.
 pub fn put_into<Lent, C: InterfaceClass<Lent>>(
     object: &mut C,
     lent: Lent,

@@ -15,7 +15,6 @@ pub const MOST_BYTES: usize = 1024;
 pub const MOST_LEVELS: u8 = 14;
 
 /// Whether a value keeps within the limits of a cell: `MOST_BYTES` when encoded, `MOST_LEVELS` of nesting (own profile).
-/// It takes no memory.
 pub fn keeps_limits(value: &Data) -> bool
     ensures { result ≡ is_within_limits (tree value.now) }
 {
@@ -23,7 +22,7 @@ pub fn keeps_limits(value: &Data) -> bool
 }
 
 /// Whether a value may stand in a cell whose kind is kept (own profile). Another tag is `Kind`, and the right tag past the
-/// limits `Rule`. It takes no memory.
+/// limits `Rule`.
 pub fn judge_kind(kind: Kind, value: &Data) -> Result<(), ClassFault>
     ensures { result ≡ answer_of (judged (OfKind kind) (tree value.now)) }
 {

@@ -8,22 +8,21 @@ use cosem_data::memory::Memory;
 use meter_theory::refs::ScalerUnit;
 use std::alloc::Global;
 
-/// A structure of these parts, in this order. The only error is that memory was refused.
+/// A structure of these parts, in this order.
 pub fn structure<const N: usize>(alloc: Global, parts: [Data; N]) -> Result<Data, Memory>
     ensures { IfOk result (λ value. tree value ≡ structure_of (map tree parts.entry)) }
 {
     Ok(Data::Structure(Items::new(Vec::from_array(alloc, parts)?)))
 }
 
-/// An array of these elements, in this order. The only error is that memory was refused.
+/// An array of these elements, in this order.
 pub fn array<const N: usize>(alloc: Global, elements: [Data; N]) -> Result<Data, Memory>
     ensures { IfOk result (λ value. tree value ≡ array_of (map tree elements.entry)) }
 {
     Ok(Data::Array(Items::new(Vec::from_array(alloc, elements)?)))
 }
 
-/// scal_unit_type of a register: a structure of scaler, an integer, and unit, an enum (IEC 62056-6-2, Register). The only
-/// error is that memory was refused.
+/// Scal_unit_type of a register: a structure of scaler, an integer, and unit, an enum (IEC 62056-6-2, Register).
 pub fn scaler_unit_data(alloc: Global, scaler_unit: ScalerUnit) -> Result<Data, Memory>
     ensures { IfOk result (λ value. tree value ≡ scaler_unit_value scaler_unit) }
 {

@@ -90,7 +90,7 @@ fn set(
     Ok(Reply::Code(AccessCode::Success))
 }
 
-/// Puts a value that may stand in its cell. It takes no memory.
+/// Puts a value that may stand in its cell.
 fn put(alloc: Global, plan: &Plan, meter: &mut Meter, cell: CellRef, given: Data)
     requires of_plan { IsState plan.now meter.old }
     requires fits { MayStand plan.now cell (tree given) }

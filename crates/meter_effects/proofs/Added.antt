@@ -16,7 +16,7 @@ use Rattle.meter_theory.specs.Lists.{IsIn, for_some}
 use Rattle.meter_theory.specs.declared.refs.ScriptRef.{ScriptRef}
 use Rattle.meter_theory.specs.declared.refs.ScalerUnit.{ScalerUnit}
 use Rattle.meter_theory.specs.declared.refs.UpDown.{UpDown}
-use Rattle.meter_theory.specs.Rights.{Argument, Given, has_right_tag, script_number}
+use Rattle.meter_theory.specs.Rights.{Argument, Given, has_valid_tag, script_number}
 use Rattle.meter_theory.proofs.Rights.{ruled-cell}
 use Rattle.class_control.specs.MonitorClass.{may_be_seen}
 use Rattle.meter_theory.specs.declared.access.AccessCode.{AccessCode}
@@ -240,7 +240,7 @@ thresholds_fit P s n o monitored th actions k is part = k.settable (thresholds n
 
     there : IsIn (keys s) (thresholds n)
     there = subst (λ ks. IsIn ks (thresholds n)) (sym k.cells)
-        (ruled-cell P (thresholds n) (Given (array no_trees)) (subst (λ r. has_right_tag r (Given (array no_trees)) ≡ true) (sym rule) refl))
+        (ruled-cell P (thresholds n) (Given (array no_trees)) (subst (λ r. has_valid_tag r (Given (array no_trees)) ≡ true) (sym rule) refl))
 
 -- what a monitor has seen is null-data or of the monitored kind
 pub seen_fits : (P : Plan) (s : State) (n : LogicalName) (o : Object) (monitored : CellRef) (th : Tree) (actions : List UpDown) → IsState P s → Some o ≡ object_at P n →

@@ -46,7 +46,7 @@ pub fn apply_all(
     Ok(())
 }
 
-/// Takes effects back, given in their order, the last one first. It takes no memory.
+/// Takes effects back, given in their order, the last one first.
 pub fn undo_all(plan: &Plan, meter: &mut Meter, undos: Vec<Undo>)
     requires { keys meter.old ≡ cells plan.now }
     ensures { meter.new ≡ all_undone undos.items meter.old }

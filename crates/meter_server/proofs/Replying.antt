@@ -1,5 +1,5 @@
 -- Replies to requests, and what a meter becomes by what is asked.
-use Rattle.std.proofs.Common.{◌≡◌, ℕ, Bool, true, false, cond, List, [], ◌∷◌, Option, Some, None, refl, sym, ap, ◌∙◌}
+use Rattle.std.proofs.Common.{◌≡◌, ℕ, Bool, true, false, cond, List, [], ◌∷◌, Option, Some, None, refl, sym, ap}
 use Rattle.std.specs.Option.{option_map}
 use Rattle.std.specs.List.{flat_map, cons_option}
 use Rattle.cosem_data.specs.Tree.{Tree}

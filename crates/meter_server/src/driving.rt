@@ -69,7 +69,7 @@ fn take_offered(
     }
 }
 
-/// The step that a moment offers to an object, if there is one. It takes no memory.
+/// The step that a moment offers to an object, if there is one.
 fn offered(object: &Object, moment: Moment) -> Option<Step>
     ensures { option_map step_of result ≡ spec.offered moment object.now }
 {

@@ -28,7 +28,7 @@ impl Model for Feeder {
 }
 
 impl Feeder {
-    /// A feeder that holds nothing. It takes no memory.
+    /// A feeder that holds nothing.
     pub fn new(alloc: Global) -> Self
         ensures { result ≡ [] }
     {
@@ -37,9 +37,9 @@ impl Feeder {
         }
     }
 
-    /// Takes a piece up to the end of its first line, and gives the part of that line that lies in the piece, and what stands
-    /// behind its newline; `line` lends the whole line. None where no line ends in the piece, and then all of it is held.
-    /// The only error is that memory was refused.
+    /// Takes a piece up to the end of its first line, and gives the part of that line that lies in the piece, and what
+    /// stands behind its newline; `line` lends the whole line. None where no line ends in the piece, and then all of it is
+    /// held.
     pub fn next_line<'p>(&mut self, piece: &'p [u8]) -> Result<Option<(&'p [u8], &'p [u8])>, Memory>
         ensures fed { IfOk result (λ found. Feeds (self.old ++ piece.now) self.new found) }
         ensures shorter { IfOk result (λ found. IfSome found (λ x. length x.1.now < length piece.now)) }

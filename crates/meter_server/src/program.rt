@@ -48,8 +48,7 @@ impl Outcome {
         }
     }
 
-    /// What is told on standard output behind the replies: the verdict on a configuration that was refused. The error is
-    /// that memory was refused.
+    /// What is told on standard output behind the replies: the verdict on a configuration that was refused.
     pub fn output(&self, alloc: Global) -> Result<String, Memory>
         ensures { IfOk result (λ text. string_bytes text ≡ output_of self.now) }
     {
@@ -59,8 +58,7 @@ impl Outcome {
         }
     }
 
-    /// What is told on standard error: any other fault, but for an unreadable line, which standard output has told. The
-    /// error is that memory was refused.
+    /// What is told on standard error: any other fault, but for an unreadable line, which standard output has told.
     pub fn error(&self, alloc: Global) -> Result<String, Memory>
         ensures { IfOk result (λ text. string_bytes text ≡ error_of self.now) }
     {
@@ -77,8 +75,8 @@ impl Outcome {
     }
 }
 
-/// The file of the configuration that a command line names, by its words behind the program's: `demo` alone, or `run` and
-/// a path. None where they are no command. It takes no memory.
+/// The file of the configuration that a command line names, by its words behind the program's: `demo` alone, or `run` and a
+/// path. None where they are no command.
 pub fn file_of(words: &[String]) -> Option<&str>
     ensures { option_map (λ file. file.now) result ≡ file_named (map string_bytes words.now) }
 {

@@ -104,7 +104,7 @@ impl<'a> Model for Solo<'a> {
 }
 
 impl<'a> Solo<'a> {
-    /// A meter that begins at the start of the plan. The only error is that memory was refused.
+    /// A meter that begins at the start of the plan.
     pub fn start(alloc: Global, plan: &'a Plan) -> Result<Self, Memory>
         ensures plan { IfOk result (λ x. x.plan ≡ plan.now) }
         ensures meter { IfOk result (λ x. x.meter ≡ start plan.now) }

@@ -27,8 +27,7 @@ pub(crate) fn fault_line(alloc: Global, fault: &ConfigFault) -> Result<String, M
     }
 }
 
-/// The line that tells a verdict: `config CN at PLACE`, or `config C0` where memory was refused (own profile). The error is
-/// that memory was refused.
+/// The line that tells a verdict: `config CN at PLACE`, or `config C0` where memory was refused (own profile).
 pub fn verdict_text(alloc: Global, verdict: &Verdict) -> Result<String, Memory>
     ensures { IfOk result (λ line. string_bytes line ≡ verdict_line verdict.now) }
 {

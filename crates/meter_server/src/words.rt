@@ -6,7 +6,7 @@ ghost use Rattle.meter_server.specs.Words as spec;
 use civil_moment::moment::Moment;
 use std::str;
 
-/// The moment that a word is, written YYYY-MM-DDTHH:MM:SS, if it is one. It takes no memory.
+/// The moment that a word is, written YYYY-MM-DDTHH:MM:SS, if it is one.
 pub fn moment_in(word: &[u8]) -> Option<Moment>
     ensures { result ≡ spec.moment_in word.now }
 {

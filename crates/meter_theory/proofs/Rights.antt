@@ -16,7 +16,7 @@ use Rattle.cosem_data.specs.declared.cell.MethodRef.{MethodRef}
 use Rattle.meter_theory.specs.declared.access.AccessCode.{AccessCode}
 use Rattle.meter_theory.specs.declared.access.AccessCode.TheVariants.{ReadWriteDenied, ObjectClassInconsistent, TypeUnmatched}
 use Rattle.meter_theory.specs.Access.{is_success}
-use Rattle.meter_theory.specs.Rights.{first_place, Argument, Absent, Given, Unreadable, Descriptor, cell_of, method_of, Selection, may_set, may_act, may_read, class_is, get_answer, set_answer, act_answer, get_places, set_places, act_places, script_number, has_right_tag}
+use Rattle.meter_theory.specs.Rights.{first_place, Argument, Absent, Given, Unreadable, Descriptor, cell_of, method_of, Selection, may_set, may_act, may_read, class_is, get_answer, set_answer, act_answer, get_places, set_places, act_places, script_number, has_valid_tag}
 use Rattle.meter_theory.specs.Steps.{Effect, changed_by, changed, actions_effects, script_in, method_in, method_effects, Step, Get, Set, Act, Input, CaptureAt, Evaluate, ScheduleAt, client_of, given_value, effects_of}
 use Rattle.meter_theory.specs.Labels.{all_scripts, method_changes, method_changes_of, MayChange}
 use Rattle.meter_theory.proofs.Agreement.{object-found}
@@ -69,43 +69,43 @@ cell_is k x n index a b c =
 
 -- a value that a cell takes is for a settable cell
 rule_entry : (P : Plan) (n : LogicalName) (part : Part) (x : CellRef) (v : Argument) → (class_of part == x.class_id) ≡ true → n ≡ x.name →
-    has_right_tag (rule_in P part x.index) v ≡ true → (w : Tree) × IsIn (start_of n part) (x, w)
+    has_valid_tag (rule_in P part x.index) v ≡ true → (w : Tree) × IsIn (start_of n part) (x, w)
 rule_entry P n (Data1 start) x v a b h = at (x.index == 2) refl h
   where
-    at : (t : Bool) → (x.index == 2) ≡ t → has_right_tag (cond t (Some (OfKind (kind_of start))) None) v ≡ true → (w : Tree) × IsIn (start_of n (Data1 start)) (x, w)
+    at : (t : Bool) → (x.index == 2) ≡ t → has_valid_tag (cond t (Some (OfKind (kind_of start))) None) v ≡ true → (w : Tree) × IsIn (start_of n (Data1 start)) (x, w)
     at true p g = (start, inl (ap (λ z. (z, start)) (cell_is 1 x n 2 a b p)))
     at false p g = cc
 rule_entry P n (Register start default scaler_unit) x v a b h = at (x.index == 2) refl h
   where
-    at : (t : Bool) → (x.index == 2) ≡ t → has_right_tag (cond t (Some (OfKind (kind_of start))) None) v ≡ true → (w : Tree) × IsIn (start_of n (Register start default scaler_unit)) (x, w)
+    at : (t : Bool) → (x.index == 2) ≡ t → has_valid_tag (cond t (Some (OfKind (kind_of start))) None) v ≡ true → (w : Tree) × IsIn (start_of n (Register start default scaler_unit)) (x, w)
     at true p g = (start, inl (ap (λ z. (z, start)) (cell_is 3 x n 2 a b p)))
     at false p g = cc
 rule_entry P n (ProfileGeneric captured period entries) x v a b h = at (x.index == 4) refl h
   where
-    at : (t : Bool) → (x.index == 4) ≡ t → has_right_tag (cond t (Some (OfKind DoubleLongUnsigned)) None) v ≡ true → (w : Tree) × IsIn (start_of n (ProfileGeneric captured period entries)) (x, w)
+    at : (t : Bool) → (x.index == 4) ≡ t → has_valid_tag (cond t (Some (OfKind DoubleLongUnsigned)) None) v ≡ true → (w : Tree) × IsIn (start_of n (ProfileGeneric captured period entries)) (x, w)
     at true p g = (counter period, inr (inl (ap (λ z. (z, counter period)) (cell_is 7 x n 4 a b p))))
     at false p g = cc
 rule_entry P n (ScriptTable scripts) x v a b h = cc
 rule_entry P n (RegisterMonitor monitored th actions) x v a b h = at (x.index == 2) refl h
   where
-    at : (t : Bool) → (x.index == 2) ≡ t → has_right_tag (cond t (Some (Thresholds (length actions) (kind_of (value (start P) monitored)))) None) v ≡ true → (w : Tree) × IsIn (start_of n (RegisterMonitor monitored th actions)) (x, w)
+    at : (t : Bool) → (x.index == 2) ≡ t → has_valid_tag (cond t (Some (Thresholds (length actions) (kind_of (value (start P) monitored)))) None) v ≡ true → (w : Tree) × IsIn (start_of n (RegisterMonitor monitored th actions)) (x, w)
     at true p g = (th, inl (ap (λ z. (z, th)) (cell_is 21 x n 2 a b p)))
     at false p g = cc
 rule_entry P n (SingleActionSchedule script type times) x v a b h = at (x.index == 4) refl h
   where
-    at : (t : Bool) → (x.index == 4) ≡ t → has_right_tag (cond t (Some (ExecutionTimes type)) None) v ≡ true → (w : Tree) × IsIn (start_of n (SingleActionSchedule script type times)) (x, w)
+    at : (t : Bool) → (x.index == 4) ≡ t → has_valid_tag (cond t (Some (ExecutionTimes type)) None) v ≡ true → (w : Tree) × IsIn (start_of n (SingleActionSchedule script type times)) (x, w)
     at true p g = (times, inl (ap (λ z. (z, times)) (cell_is 22 x n 4 a b p)))
     at false p g = cc
 
 -- a cell with a rule that a value's tag meets is a cell of the plan
-pub ruled-cell : (P : Plan) (x : CellRef) (v : Argument) → has_right_tag (rule_of P x) v ≡ true → IsIn (cells P) x
+pub ruled-cell : (P : Plan) (x : CellRef) (v : Argument) → has_valid_tag (rule_of P x) v ≡ true → IsIn (cells P) x
 ruled-cell P x v h = at (object_at P x.name) refl h
   where
-    at : (o : Option Object) → object_at P x.name ≡ o → has_right_tag (option_and_then (λ z. cond (class_of z.part == x.class_id) (rule_in P z.part x.index) None) o) v ≡ true → IsIn (cells P) x
+    at : (o : Option Object) → object_at P x.name ≡ o → has_valid_tag (option_and_then (λ z. cond (class_of z.part == x.class_id) (rule_in P z.part x.index) None) o) v ≡ true → IsIn (cells P) x
     at None is b = cc
     at (Some o) is b = of_class (class_of o.part == x.class_id) refl b
       where
-        of_class : (t : Bool) → (class_of o.part == x.class_id) ≡ t → has_right_tag (cond t (rule_in P o.part x.index) None) v ≡ true → IsIn (cells P) x
+        of_class : (t : Bool) → (class_of o.part == x.class_id) ≡ t → has_valid_tag (cond t (rule_in P o.part x.index) None) v ≡ true → IsIn (cells P) x
         of_class false a h = cc
         of_class true a h =
             let entry = rule_entry P x.name o.part x v a refl h in
@@ -115,7 +115,7 @@ ruled-cell P x v h = at (object_at P x.name) refl h
 pub set-cell : (P : Plan) (c : ℕ) (d : Descriptor) (selected : Bool) (v : Argument) → is_success (set_answer P c d selected v) ≡ true → IsIn (cells P) (cell_of d)
 set-cell P c d selected v h =
     ruled-cell P (cell_of d) v
-    (not-false _ (place_passed (set_places P c d selected v) (not (has_right_tag (rule_of P (cell_of d)) v), TypeUnmatched) (inr (inr (inr (inr (inr (inl refl)))))) refl h))
+    (not-false _ (place_passed (set_places P c d selected v) (not (has_valid_tag (rule_of P (cell_of d)) v), TypeUnmatched) (inr (inr (inr (inr (inr (inl refl)))))) refl h))
 
 -- a script's effects are among those of all scripts of its table
 script_among : (P : Plan) (scripts : List Script) (id : ℕ) (x : CellRef) → IsIn (changed (script_in P scripts id)) x → IsIn (changed (all_scripts P scripts)) x

@@ -110,9 +110,9 @@ is_unreadable Unreadable = true
 is_unreadable _ = false
 
 -- a value of the tag that the cell asks for
-abbrev pub has_right_tag : Option Rule → Argument → Bool
-has_right_tag (Some rule) (Given v) = valid_tag rule v
-has_right_tag _ _ = false
+abbrev pub has_valid_tag : Option Rule → Argument → Bool
+has_valid_tag (Some rule) (Given v) = valid_tag rule v
+has_valid_tag _ _ = false
 
 abbrev pub meets_rule : Option Rule → Argument → Bool
 meets_rule (Some rule) (Given v) = meets rule v
@@ -140,7 +140,7 @@ set_places P c d selected v =
     ∷ (not (has_attribute d.index (interface_at P d.name)), ObjectUndefined)
     ∷ (not (may_set P c (cell_of d)), ReadWriteDenied)
     ∷ (selected, ScopeOfAccessViolated)
-    ∷ (not (has_right_tag (rule_of P (cell_of d)) v), TypeUnmatched)
+    ∷ (not (has_valid_tag (rule_of P (cell_of d)) v), TypeUnmatched)
     ∷ (not (meets_rule (rule_of P (cell_of d)) v), OtherReason)
     ∷ []
 

@@ -46,7 +46,7 @@ pub struct Descriptor {
 }
 
 impl Descriptor {
-    /// The attribute; an index below 0 names what its absolute value would. It takes no memory.
+    /// The attribute; an index below 0 names what its absolute value would.
     pub fn attribute(&self) -> CellRef
         ensures { result ≡ cell_of self.now }
     {
@@ -57,7 +57,7 @@ impl Descriptor {
         }
     }
 
-    /// The method; an index below 0 names what its absolute value would. It takes no memory.
+    /// The method; an index below 0 names what its absolute value would.
     pub fn method(&self) -> MethodRef
         ensures { result ≡ method_of self.now }
     {

@@ -10,7 +10,7 @@ use Rattle.meter_theory.specs.Value.{Rule, valid_tag, valid_elements, is_within_
 use Rattle.meter_theory.specs.State.{State, keys}
 use Rattle.meter_theory.specs.Plan as theory
 use Rattle.meter_theory.specs.Plan.{object_at, class_of, rule_in, rule_of, cells}
-use Rattle.meter_theory.specs.Rights.{Given, has_right_tag}
+use Rattle.meter_theory.specs.Rights.{Given, has_valid_tag}
 use Rattle.meter_theory.specs.States.{IsState, MayStand}
 use Rattle.meter_theory.proofs.Rights.{ruled-cell}
 use Rattle.cosem_data.specs.declared.kind.Kind.{Kind}
@@ -20,7 +20,7 @@ use Rattle.object_model.specs.PartView.{monitored_kind, rule_watching}
 pub put-is-there : (P : theory.Plan) (s : State) (x : CellRef) (v : Tree) → IsState P s → MayStand P x v → IsIn (keys s) x
 put-is-there P s x v k may =
     subst (λ ks. IsIn ks x) (sym k.cells)
-    (ruled-cell P x (Given v) (subst (λ r. has_right_tag r (Given v) ≡ true) (sym may.1) (and_parts (valid_tag may.0 v) (is_within_limits v && valid_elements may.0 (elements v)) may.2).0))
+    (ruled-cell P x (Given v) (subst (λ r. has_valid_tag r (Given v) ≡ true) (sym may.1) (and_parts (valid_tag may.0 v) (is_within_limits v && valid_elements may.0 (elements v)) may.2).0))
 
 -- the rule that watches the monitored kind is that of the plan
 pub watching-is_rule : (P : theory.Plan) (part : theory.Part) (index : ℕ) → rule_watching (monitored_kind P part) part index ≡ rule_in P part index

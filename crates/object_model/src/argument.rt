@@ -18,8 +18,8 @@ impl Argument {
     ghost use Rattle.meter_theory.specs.Rights as rights;
     ghost use Rattle.object_model.specs.ArgumentView.{argument_of};
 
-    /// The number of a script in the parameter of execute, a long-unsigned; None for any other (IEC 62056-6-2, Script table,
-    /// execute). It takes no memory.
+    /// The number of a script in the parameter of execute, a long-unsigned; None for any other (IEC 62056-6-2, Script
+    /// table, execute).
     pub fn script_number(&self) -> Option<u16>
         ensures { result ≡ rights.script_number (argument_of self.now) }
     {
@@ -29,7 +29,7 @@ impl Argument {
         }
     }
 
-    /// A copy, which equals the original. The only error is that memory was refused.
+    /// A copy, which equals the original.
     pub fn try_clone(&self, alloc: Global) -> Result<Argument, Memory>
         ensures { IfOk result (λ copy. copy ≡ self.now) }
     {

@@ -26,7 +26,7 @@ impl Model for Client {
 }
 
 impl Client {
-    /// A client with this name, service access point and password. It takes no memory.
+    /// A client with this name, service access point and password.
     pub fn new(name: String, sap: u8, password: Option<String>) -> Self
         ensures { result ≡ record { name = string_bytes name; sap = sap; password = option_map string_bytes password } }
     {

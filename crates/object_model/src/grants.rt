@@ -27,8 +27,7 @@ pub(crate) struct Grants {
 }
 
 impl Grants {
-    /// The masks of these rights, of clients below 16, on names of the index, and on indexes below 16. The error is that memory
-    /// was refused.
+    /// The masks of these rights, of clients below 16, on names of the index, and on indexes below 16.
     pub(crate) fn new(alloc: Global, index: &Index, rights: &[Right]) -> Result<Grants, Memory>
         requires few { length index.now < 2 ^ 16 }
         requires room { (r : theory.Right) → IsIn rights.now r → HasRoom index.now r }
@@ -42,7 +41,7 @@ impl Grants {
         })
     }
 
-    /// The masks of an access. It takes no memory.
+    /// The masks of an access.
     pub(crate) fn masks(&self, access: Access) -> &[u16]
         ensures { result.now ≡ masks_for access self.now }
     {
@@ -67,7 +66,7 @@ fn mask_of(indexes: &[u8]) -> u16
     mask
 }
 
-/// The masks of an access. The error is that memory was refused.
+/// The masks of an access.
 fn masks_of(
     alloc: Global,
     index: &Index,
@@ -90,7 +89,7 @@ fn masks_of(
     Ok(masks)
 }
 
-/// Whether the masks grant this client this index of the object with this number. It takes no memory.
+/// Whether the masks grant this client this index of the object with this number.
 pub(crate) fn is_granted(masks: &[u16], object: Option<u16>, client: u8, index: u8) -> bool
     requires { IfSome object (λ k. k * 16 + 16 ≤ length masks.now) }
     ensures { result ≡ granted_at masks.now object client index }

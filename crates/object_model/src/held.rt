@@ -20,7 +20,7 @@ impl<'a> Held<'a> {
     ghost use Rattle.meter_theory.specs.Value.{count_of};
     ghost use Rattle.object_model.specs.Stored.{held_tree};
 
-    /// The number that it is as a double-long-unsigned, and 0 for any other value. It takes no memory.
+    /// The number that it is as a double-long-unsigned, and 0 for any other value.
     pub fn count(&self) -> u32
         ensures { result ≡ count_of (held_tree self.now) }
     {
@@ -30,7 +30,7 @@ impl<'a> Held<'a> {
         }
     }
 
-    /// A copy of the value. The error is that memory was refused.
+    /// A copy of the value.
     pub fn to_data(&self, alloc: Global) -> Result<Data, Memory>
         ensures { IfOk result (λ value. tree value ≡ held_tree self.now) }
     {

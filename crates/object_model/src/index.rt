@@ -31,7 +31,7 @@ impl Model for Index {
 }
 
 impl Index {
-    /// An index of these names. The error is that memory was refused.
+    /// An index of these names.
     pub(crate) fn new(alloc: Global, names: Vec<LogicalName>) -> Result<Index, Memory>
         requires { length names.items ≤ 2 ^ 16 }
         ensures { IfOk result (λ index. index ≡ names.items) }
@@ -40,14 +40,14 @@ impl Index {
         Ok(Index { names, numbers })
     }
 
-    /// The number of names. It takes no memory.
+    /// The number of names.
     pub(crate) fn len(&self) -> usize
         ensures { result ≡ length self.now }
     {
         self.names.len()
     }
 
-    /// A copy. The error is that memory was refused.
+    /// A copy.
     pub(crate) fn try_clone(&self) -> Result<Index, Memory>
         ensures { IfOk result (λ index. index ≡ self.now) }
     {
@@ -57,8 +57,7 @@ impl Index {
         })
     }
 
-    /// The number of the first name that is this one, or None where there is none; and how many names were compared. It
-    /// takes no memory.
+    /// The number of the first name that is this one, or None where there is none; and how many names were compared.
     pub(crate) fn find(&self, name: &LogicalName) -> (Option<u16>, u32)
         ensures found { result.0 ≡ position_from (λ n. same_name n name.now) 0 self.now }
         ensures counted { (k : ℕ) → length self.now < 2 ^ k → result.1 ≤ k }

@@ -246,8 +246,7 @@ impl<'a> Instance<'a> {
         part.judge(self.monitored_kind(part), index, value)
     }
 
-    /// A copy of a fixed attribute of the object, other than its logical name; null-data where there is none. The error is
-    /// that memory was refused.
+    /// A copy of a fixed attribute of the object, other than its logical name; null-data where there is none.
     pub fn fixed(&self, alloc: Global, index: u8) -> Result<Data, Memory>
         ensures { IfOk result (λ value. tree value ≡ fixed_of (object_at self.now.plan self.now.name) index) }
     {

@@ -74,8 +74,7 @@ impl Meter {
         cells_of(alloc, &self.objects)
     }
 
-    /// A copy of the value in a cell of its plan; null-data where the plan has no such cell. The error is that memory
-    /// was refused.
+    /// A copy of the value in a cell of its plan; null-data where the plan has no such cell.
     pub fn value(&self, alloc: Global, plan: &Plan, cell: &CellRef) -> Result<Data, Memory>
         requires { IsState plan.now self.now }
         ensures { IfOk result (λ v. tree v ≡ value self.now cell.now) }
@@ -100,8 +99,7 @@ impl Meter {
         }
     }
 
-    /// The value in a cell of what stands at its name in the meter's plan, or None where there is no such cell. It takes no
-    /// memory.
+    /// The value in a cell of what stands at its name in the meter's plan, or None where there is no such cell.
     pub fn held(&self, instance: &Instance<'_>, cell: &CellRef) -> Option<Held<'_>>
         requires of_plan { IsState instance.now.plan self.now }
         requires named { cell.now.name ≡ instance.now.name }
@@ -136,7 +134,7 @@ impl Meter {
         }
     }
 
-    /// Takes an effect on a meter of the plan back. It takes no memory.
+    /// Takes an effect on a meter of the plan back.
     pub fn undo(&mut self, plan: &Plan, undo: Undo)
         requires { keys self.old ≡ cells plan.now }
         ensures { self.new ≡ undone undo self.old }
@@ -181,8 +179,7 @@ impl Meter {
         remember_in(&mut self.objects, place, monitor, now)
     }
 
-    /// A profile captures a row of the values of its captured cells (IEC 62056-6-2, Profile generic, capture). The only error
-    /// is that memory was refused.
+    /// A profile captures a row of the values of its captured cells (IEC 62056-6-2, Profile generic, capture).
     fn capture(&mut self, alloc: Global, plan: &Plan, profile: LogicalName) -> Result<Undo, Memory>
         requires of_plan { IsState plan.now self.old }
         requires fits { IsProfile plan.now profile }
@@ -240,7 +237,7 @@ impl Meter {
         }
     }
 
-    /// A copy, which equals the original. The error is that memory was refused.
+    /// A copy, which equals the original.
     pub fn try_clone(&self, alloc: Global) -> Result<Meter, Memory>
         ensures { IfOk result (λ copy. copy ≡ self.now) }
     {

@@ -29,7 +29,7 @@ impl Model for Object {
 }
 
 impl Object {
-    /// An object with this name and part. Inputs from outside go to the value of a fed one. It takes no memory.
+    /// An object with this name and part. Inputs from outside go to the value of a fed one.
     pub fn new(name: LogicalName, fed: bool, part: Part) -> Self
         ensures { result ≡ record { name = name; fed = fed; part = part_of part } }
     {

@@ -55,7 +55,7 @@ pub enum Part {
 }
 
 impl Part {
-    /// Its interface class, with the highest attribute and method (IEC 62056-6-2). It takes no memory.
+    /// Its interface class, with the highest attribute and method (IEC 62056-6-2).
     pub fn interface(&self) -> Interface
         ensures { result ≡ interface_of (part_of self.now) }
     {
@@ -69,16 +69,15 @@ impl Part {
         }
     }
 
-    /// The class_id of its interface class (IEC 62056-6-2). It takes no memory.
+    /// The class_id of its interface class (IEC 62056-6-2).
     pub fn class_id(&self) -> u16
         ensures { result ≡ class_of (part_of self.now) }
     {
         self.interface().class_id
     }
 
-    /// A copy of a fixed attribute other than the logical name, null-data at any other index: of a register attribute 3,
-    /// of a profile 3, 5, 6 and 8, of a script table 2, of a register monitor 3 and 4, of a schedule 2 and 3
-    /// (IEC 62056-6-2). The error is that memory was refused.
+    /// A copy of a fixed attribute other than the logical name, null-data at any other index: of a register attribute 3, of
+    /// a profile 3, 5, 6 and 8, of a script table 2, of a register monitor 3 and 4, of a schedule 2 and 3 (IEC 62056-6-2).
     #[tactic(auto, unfolding(meter_theory::specs::Fixed::fixed_in))]
     pub fn fixed(&self, alloc: Global, index: u8) -> Result<Data, Memory>
         ensures { IfOk result (λ value. tree value ≡ fixed_in (part_of self.now) index) }
@@ -97,7 +96,7 @@ impl Part {
         }
     }
 
-    /// The attribute that a register monitor watches. It takes no memory.
+    /// The attribute that a register monitor watches.
     pub fn monitored(&self) -> Option<CellRef>
         ensures { result ≡ monitored_in (part_of self.now) }
     {
@@ -107,7 +106,7 @@ impl Part {
         }
     }
 
-    /// How many cells an object with this part has, what a register monitor has seen among them. It takes no memory.
+    /// How many cells an object with this part has, what a register monitor has seen among them.
     pub(crate) fn number_of_cells(&self) -> u16
         ensures number { (name : LogicalNameValue) → result ≡ length (start_of name (part_of self.now)) }
         ensures few { result ≤ 3 }
@@ -120,8 +119,8 @@ impl Part {
         }
     }
 
-    /// Whether it is a cell of an object with this part and name: an attribute that can change, or what a register
-    /// monitor has seen. It takes no memory.
+    /// Whether it is a cell of an object with this part and name: an attribute that can change, or what a register monitor
+    /// has seen.
     pub fn has_cell(&self, name: LogicalName, cell: &CellRef) -> bool
         ensures { result ≡ list_any (same_cell cell.now) (keys (start_of name (part_of self.now))) }
     {
@@ -140,7 +139,6 @@ impl Part {
     }
 
     /// The kind of the value with which a cell of an object with this part starts; that of null-data for what is no cell.
-    /// It takes no memory.
     pub fn start_kind(&self, name: LogicalName, cell: &CellRef) -> Kind
         ensures { result ≡ kind_of (value (start_of name (part_of self.now)) cell.now) }
     {
@@ -158,9 +156,9 @@ impl Part {
         }
     }
 
-    /// Whether a value may be put at this index, where a register monitor watches a value of this kind: `TypeUnmatched`
-    /// for another tag and for an index without a settable cell, `OtherReason` for the right tag against the rest of the
-    /// cell's rule (own profile; the codes are those of IEC 62056-5-3, Data-Access-Result). It takes no memory.
+    /// Whether a value may be put at this index, where a register monitor watches a value of this kind: `TypeUnmatched` for
+    /// another tag and for an index without a settable cell, `OtherReason` for the right tag against the rest of the cell's
+    /// rule (own profile; the codes are those of IEC 62056-5-3, Data-Access-Result).
     pub fn judge(&self, monitored: Kind, index: u8, value: &Data) -> Result<(), AccessCode>
         ensures { result ≡ rule_answer (rule_watching monitored (part_of self.now) index) (tree value.now) }
     {

@@ -34,7 +34,7 @@ impl Place {
     }
 }
 
-/// The places of objects, of which there are at most 512. The error is that memory was refused.
+/// The places of objects, of which there are at most 512.
 pub(crate) fn places_of(alloc: Global, objects: &[Object]) -> Result<Vec<Place>, Memory>
     requires { length objects.now ≤ 512 }
     ensures { IfOk result (λ places. ArePlaces objects.now places.items) }

@@ -82,7 +82,7 @@ impl Model for Plan {
 }
 
 impl Plan {
-    /// The plan of these parts, a sound one. The error is that memory was refused.
+    /// The plan of these parts, a sound one.
     pub fn new(alloc: Global, parts: PlanParts) -> Result<Plan, Memory>
         requires { IsSound (plan_of parts) }
         ensures { IfOk result (λ plan. plan ≡ plan_of parts) }
@@ -107,35 +107,35 @@ impl Plan {
         })
     }
 
-    /// What the type keeps, for callers: a plan is sound. It takes no memory.
+    /// What the type keeps, for callers: a plan is sound.
     pub fn known(&self)
         ensures sound { IsSound self.now }
     {
         let _clients = &self.clients;
     }
 
-    /// The client at this place, counted from 0, or None past the last. It takes no memory.
+    /// The client at this place, counted from 0, or None past the last.
     pub fn client(&self, client: u8) -> Option<&Client>
         ensures { option_map (λ c. c.now) result ≡ slice_get self.now.clients client }
     {
         self.clients.get(usize::from(client))
     }
 
-    /// Whether the plan has a client at this place, counted from 0. It takes no memory.
+    /// Whether the plan has a client at this place, counted from 0.
     pub fn is_client(&self, client: u8) -> bool
         ensures { result ≡ is_client self.now client }
     {
         self.client(client).is_some()
     }
 
-    /// The object at this place in plan order, counted from 0, or None past the last. It takes no memory.
+    /// The object at this place in plan order, counted from 0, or None past the last.
     pub fn object(&self, object: u16) -> Option<&Object>
         ensures { option_map (λ o. o.now) result ≡ slice_get self.now.objects object }
     {
         self.objects.get(usize::from(object))
     }
 
-    /// The place of the first client with this name, or None where there is none. It takes no memory.
+    /// The place of the first client with this name, or None where there is none.
     pub fn client_named(&self, name: &[u8]) -> Option<u8>
         ensures { result ≡ client_named self.now name.now }
     {
@@ -145,7 +145,7 @@ impl Plan {
     }
 
     /// The number, from 0, of the object with this logical name, or None where there is none. `compared` rises by one a
-    /// comparison of names, by at most 10, and by at least one where there are objects. It takes no memory.
+    /// comparison of names, by at most 10, and by at least one where there are objects.
     pub fn find(&self, name: &LogicalName, compared: &mut u64) -> Option<u16>
         requires { compared.old + 11 ≤ 2 ^ 64 }
         ensures found { result ≡ position_from (λ o. same_name o.name name.now) 0 self.now.objects }
@@ -166,14 +166,14 @@ impl Plan {
         number
     }
 
-    /// What the plan has at this logical name. It takes no memory.
+    /// What the plan has at this logical name.
     pub fn instance(&self, name: &LogicalName) -> Instance<'_>
         ensures { result ≡ record { plan = self.now; name = name.now } }
     {
         Instance::of(self, *name)
     }
 
-    /// The object with this logical name, or None where there is none. It takes no memory.
+    /// The object with this logical name, or None where there is none.
     pub fn object_at(&self, name: &LogicalName) -> Option<&Object>
         ensures { option_map (λ o. o.now) result ≡ object_at self.now name.now }
     {
@@ -203,21 +203,21 @@ impl Plan {
         self.references.at(object, place)
     }
 
-    /// The objects, in plan order. It takes no memory.
+    /// The objects, in plan order.
     pub fn objects(&self) -> &[Object]
         ensures { result.now ≡ self.now.objects }
     {
         &self.objects
     }
 
-    /// The rights, in the order of the configuration. It takes no memory.
+    /// The rights, in the order of the configuration.
     pub fn rights(&self) -> &[Right]
         ensures { result.now ≡ self.now.rights }
     {
         &self.rights
     }
 
-    /// The kind of the value with which a cell starts; that of null-data for what is no cell. It takes no memory.
+    /// The kind of the value with which a cell starts; that of null-data for what is no cell.
     pub fn start_kind(&self, cell: &CellRef) -> Kind
         ensures { result ≡ kind_of (value (start self.now) cell.now) }
     {
@@ -225,21 +225,21 @@ impl Plan {
             .start_kind(cell.class_id, cell.index)
     }
 
-    /// A meter of this plan, with the start values. The error is that memory was refused.
+    /// A meter of this plan, with the start values.
     pub fn start(&self, alloc: Global) -> Result<Meter, Memory>
         ensures { IfOk result (λ meter. meter ≡ start self.now) }
     {
         Ok(Meter::new(start_objects(alloc, &self.objects)?))
     }
 
-    /// The cells, the attributes that can change, in plan order. The error is that memory was refused.
+    /// The cells, the attributes that can change, in plan order.
     pub fn cells(&self, alloc: Global) -> Result<Vec<CellRef>, Memory>
         ensures { IfOk result (λ list. list.items ≡ cells self.now) }
     {
         self.start(alloc)?.into_cells(alloc)
     }
 
-    /// Whether it is a cell of this plan. It takes no memory.
+    /// Whether it is a cell of this plan.
     pub fn is_cell(&self, cell: &CellRef) -> bool
         ensures { result ≡ is_cell self.now cell.now }
     {

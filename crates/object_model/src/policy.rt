@@ -63,9 +63,9 @@ impl Policy {
         Ok(Policy { table, default })
     }
 
-    /// The label of a cell: that of the first entry of the cell, or else the default. The inner cell of a register
-    /// monitor has no entry of its own, and is labelled by the policy as the cell that the monitor watches (own
-    /// profile): ask for that one. It takes no memory.
+    /// The label of a cell: that of the first entry of the cell, or else the default. The inner cell of a register monitor
+    /// has no entry of its own, and is labelled by the policy as the cell that the monitor watches (own profile): ask for
+    /// that one.
     pub fn label(&self, cell: &CellRef) -> Label
         ensures { result ≡ or_else self.now.default (label_at self.now.table cell.now) }
     {

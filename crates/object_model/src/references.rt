@@ -37,7 +37,7 @@ impl Model for References {
 }
 
 impl References {
-    /// Those of these objects, which refer to names of the index. The error is that memory was refused.
+    /// Those of these objects, which refer to names of the index.
     pub(crate) fn new(
         alloc: Global,
         index: &Index,
@@ -54,7 +54,7 @@ impl References {
         Ok(References { numbers })
     }
 
-    /// The number of that to which the object with this number refers at this place. It takes no memory.
+    /// The number of that to which the object with this number refers at this place.
     pub(crate) fn at(&self, object: u16, place: usize) -> Option<u16>
         ensures { result ≡ option_and_then (λ numbers. slice_get numbers place) (slice_get self.now object) }
     {

@@ -42,8 +42,8 @@ impl Model for Right {
 }
 
 impl Right {
-    /// A right of the client at this place, counted from 0, on the object with this name: the attributes of `gets`
-    /// may be read, those of `sets` written, and the methods of `acts` called. It takes no memory.
+    /// A right of the client at this place, counted from 0, on the object with this name: the attributes of `gets` may be
+    /// read, those of `sets` written, and the methods of `acts` called.
     pub fn new(client: u8, object: LogicalName, gets: Vec<u8>, sets: Vec<u8>, acts: Vec<u8>) -> Self
         ensures { result ≡ record { client = client; object = object; gets = gets.items; sets = sets.items; acts = acts.items } }
     {
@@ -56,21 +56,21 @@ impl Right {
         }
     }
 
-    /// The place of its client, counted from 0. It takes no memory.
+    /// The place of its client, counted from 0.
     pub(crate) fn client(&self) -> u8
         ensures { result ≡ self.now.client }
     {
         self.client
     }
 
-    /// The name of its object. It takes no memory.
+    /// The name of its object.
     pub(crate) fn object(&self) -> &LogicalName
         ensures { result.now ≡ self.now.object }
     {
         &self.object
     }
 
-    /// The indexes that it lists for this access; for the view 0, in each right. It takes no memory.
+    /// The indexes that it lists for this access; for the view 0, in each right.
     pub(crate) fn listed(&self, access: Access) -> &[u8]
         ensures { result.now ≡ listed access self.now }
     {
@@ -82,14 +82,14 @@ impl Right {
         }
     }
 
-    /// Whether it is a right of this client on this object. It takes no memory.
+    /// Whether it is a right of this client on this object.
     pub fn is_for(&self, client: u8, object: &LogicalName) -> bool
         ensures { result ≡ ((self.now.client == client) && same_name self.now.object object.now) }
     {
         self.client == client && self.object == *object
     }
 
-    /// Whether it lists this index for this access. It takes no memory.
+    /// Whether it lists this index for this access.
     pub(crate) fn lists(&self, access: Access, index: u8) -> bool
         ensures { result ≡ lists (listed access self.now) index }
     {

@@ -53,7 +53,7 @@ pub(crate) struct Stored {
 }
 
 impl Stored {
-    /// The object with its start values, if it has cells. The error is that memory was refused.
+    /// The object with its start values, if it has cells.
     pub(crate) fn start(alloc: Global, object: &Object) -> Result<Option<Stored>, Memory>
         ensures { IfOk result (λ stored. pairs_if stored ≡ start_of object.now.name object.now.part) }
     {
@@ -84,7 +84,7 @@ impl Stored {
         }))
     }
 
-    /// A copy. The error is that memory was refused.
+    /// A copy.
     pub(crate) fn try_clone(&self, alloc: Global) -> Result<Stored, Memory>
         ensures { IfOk result (λ copy. stored_pairs copy ≡ stored_pairs self.now) }
     {
@@ -114,7 +114,7 @@ impl Stored {
         })
     }
 
-    /// Whether it is a cell of the object. It takes no memory.
+    /// Whether it is a cell of the object.
     pub(crate) fn has(&self, cell: &CellRef) -> bool
         ensures { result ≡ stores cell.now self.now }
     {
@@ -132,7 +132,7 @@ impl Stored {
         }
     }
 
-    /// The value in a cell of the object. It takes no memory.
+    /// The value in a cell of the object.
     pub(crate) fn held(&self, cell: &CellRef) -> Held<'_>
         requires { stores cell.now self.now ≡ true }
         ensures value { held_tree result ≡ value (stored_pairs self.now) cell.now }
@@ -155,7 +155,7 @@ impl Stored {
         }
     }
 
-    /// Adds its cells behind others. The error is that memory was refused.
+    /// Adds its cells behind others.
     pub(crate) fn push_keys(&self, cells: &mut Vec<CellRef>) -> Result<(), Memory>
         ensures { OnOk result (cells.new.items ≡ cells.old.items ++ keys (stored_pairs self.now)) }
     {
@@ -179,8 +179,8 @@ impl Stored {
         Ok(())
     }
 
-    /// Writes a value that may stand in the cell at this index, by the object's class, to which the plan lends this part and
-    /// the kind that a register monitor watches. It takes no memory.
+    /// Writes a value that may stand in the cell at this index, by the object's class, to which the plan lends this part
+    /// and the kind that a register monitor watches.
     pub(crate) fn write(&mut self, part: &Part, monitored: Kind, index: u8, given: Data) -> Change
         requires fits { (rule : Rule) × (rule_watching monitored (part_of part.now) index ≡ Some rule) × (meets rule (tree given) ≡ true) }
         requires stored { stores (cell (class_of (part_of part.now)) self.old.name index) self.old ≡ true }
@@ -211,7 +211,7 @@ impl Stored {
         }
     }
 
-    /// What a register monitor saw last. It takes no memory.
+    /// What a register monitor saw last.
     pub(crate) fn remember(&mut self, now: Data) -> Change
         requires { stores (theory.seen self.old.name) self.old ≡ true }
         ensures name { self.new.name ≡ self.old.name }
@@ -250,7 +250,7 @@ impl Stored {
         }
     }
 
-    /// Empties a profile. It takes no memory.
+    /// Empties a profile.
     pub(crate) fn clear(&mut self) -> Change
         requires { stores (theory.buffer self.old.name) self.old ≡ true }
         ensures name { self.new.name ≡ self.old.name }
@@ -264,7 +264,7 @@ impl Stored {
         }
     }
 
-    /// Takes a change back. It takes no memory.
+    /// Takes a change back.
     pub(crate) fn restore(&mut self, change: Change)
         requires { stores (cell_changed self.old.name change) self.old ≡ true }
         ensures name { self.new.name ≡ self.old.name }

@@ -7,7 +7,7 @@ ghost use Rattle.value_text.specs.Texts as spec;
 use cosem_data::name::LogicalName;
 use std::str;
 
-/// The logical name that a text is, written A.B.C.D.E.F, if it is one (IEC 62056-6-2, logical_name). It takes no memory.
+/// The logical name that a text is, written A.B.C.D.E.F, if it is one (IEC 62056-6-2, logical_name).
 pub fn name_in(text: &[u8]) -> Option<LogicalName>
     ensures { result ≡ spec.name_in text.now }
 {

@@ -12,7 +12,7 @@ use cosem_data::memory::Memory;
 use hex::FromHexError;
 use std::alloc::Global;
 
-/// The bytes of a hex text, two digits in either case a byte; none where it isn't one. The error is that memory was refused.
+/// The bytes of a hex text, two digits in either case a byte; none where it isn't one.
 pub fn bytes_in(alloc: Global, text: &[u8]) -> Result<Option<Vec<u8>>, Memory>
     ensures { IfOk result (λ found. option_map (λ bytes. bytes.items) found ≡ spec.bytes_in text.now) }
 {
@@ -33,8 +33,7 @@ fn whole(value: Data, rest: &[u8]) -> Option<Data>
     }
 }
 
-/// The value of which the bytes are the encoding, none where they are that of no value or have more behind it. The error is
-/// that memory was refused.
+/// The value of which the bytes are the encoding, none where they are that of no value or have more behind it.
 fn value_of(alloc: Global, bytes: &[u8]) -> Result<Option<Data>, Memory>
     ensures { IfOk result (λ found. option_map tree found ≡ spec.whole (data_at 16 bytes.now)) }
 {
@@ -46,7 +45,7 @@ fn value_of(alloc: Global, bytes: &[u8]) -> Result<Option<Data>, Memory>
 }
 
 /// The value of which a text is the hex text of the encoding (IEC 62056-5-3, type `Data`), none where it is that of no one
-/// value. The error is that memory was refused.
+/// value.
 pub fn value_in(alloc: Global, text: &[u8]) -> Result<Option<Data>, Memory>
     ensures { IfOk result (λ found. option_map tree found ≡ spec.value_in text.now) }
 {

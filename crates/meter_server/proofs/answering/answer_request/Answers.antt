@@ -1,5 +1,4 @@
-use Rattle.std.proofs.Common.{◌≡◌, inr, sym, ap, subst, ◌∙◌, OnOk, OnErr, Result, Ok, Err}
-use Rattle.meter_core.specs.StepView.{shown_of}
+use Rattle.std.proofs.Common.{inr, sym, ap, subst, ◌∙◌, OnOk, OnErr, Result, Ok, Err}
 use Rattle.meter_theory.specs.Steps.{next}
 use Rattle.xdlms_services.specs.declared.request.Request.TheVariants.{Get}
 use Rattle.xdlms_services.specs.declared.writing.Service.TheVariants as services

@@ -1,7 +1,7 @@
-use Rattle.config_rules.specs.Passes.{right_values_in}
-use Rattle.config_judge.proofs.values.right_values_in.Goals as goal
+use Rattle.config_rules.specs.Passes.{valid_values_in}
+use Rattle.config_judge.proofs.values.valid_values_in.Goals as goal
 
 pub returns-in-RegisterMonitor : goal.returns-in-RegisterMonitor
-unfolding right_values_in
+unfolding valid_values_in
 returns-in-RegisterMonitor c =
     rw c.in-RegisterMonitor.is (rw c.as_slice-in-RegisterMonitor.ensures.value at c.monitor_values.ensures)
