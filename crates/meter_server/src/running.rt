@@ -1,12 +1,14 @@
 //! A meter that answers lines.
-ghost use Rattle.std.specs.Prelude.{◌≡◌, ◌+◌, ◌⊎◌, List, ℕ, Some, Ok, Err, IfOk, length};
+ghost use Rattle.std.specs.Prelude.{◌≡◌, ◌+◌, ◌++◌, ◌⊎◌, List, ℕ, Some, Ok, Err, IfOk, OnErr, OnOk, length};
 ghost use Rattle.meter_theory.specs.Plan.{start};
 ghost use Rattle.meter_theory.specs.States.{IsState};
+ghost use Rattle.meter_server.specs.Answering.{next_of, reply_of_ask};
 ghost use Rattle.meter_server.specs.Lines.{with_last};
 ghost use Rattle.meter_server.specs.Running.{RunsLines, IsFirstBad, IsAllReadable, IsOther};
 ghost use Rattle.meter_server.specs.Solo.{TakesLine};
+ghost use Rattle.meter_server.specs.Spelling.{reply_text};
 
-use crate::answering::answer;
+use crate::answering::{Ask, answer};
 use crate::driving::{take_moment, take_step};
 use crate::line::{Line, read_line};
 use crate::lines::{AnswersLines, answer_lines};
@@ -153,9 +155,8 @@ fn take_line(
     match read_line(alloc, plan, line, &mut held.apdu)? {
         Line::Skipped => {}
         Line::Ask(ask) => {
-            held.reply.clear();
-            answer(alloc, plan, &mut held.meter, &ask, &mut held.reply)?;
-            put_reply(&held.reply, waiting)?;
+            let reply = &mut held.reply;
+            answer_ask(alloc, plan, &mut held.meter, &ask, reply, waiting)?;
         }
         Line::Input { cell, value } => {
             take_step(alloc, plan, &mut held.meter, &Step::Input { cell, value })?;
@@ -170,6 +171,26 @@ fn take_line(
         }
     }
     Ok(())
+}
+
+/// Answers the APDU of a client into the buffer for replies, and puts its line behind the texts that wait.
+fn answer_ask(
+    alloc: Global,
+    plan: &Plan,
+    meter: &mut Meter,
+    ask: &Ask<'_>,
+    reply: &mut Vec<u8>,
+    waiting: &mut Vec<u8>,
+) -> Result<(), Memory>
+    requires { IsState plan.now meter.old }
+    ensures state { IsState plan.now meter.new }
+    ensures next { OnOk result (meter.new ≡ next_of plan.now meter.old ask.now) }
+    ensures told { OnOk result (waiting.new.items ≡ waiting.old.items ++ reply_text (reply_of_ask plan.now meter.old ask.now)) }
+    ensures err { OnErr result (waiting.new.items ≡ waiting.old.items) }
+{
+    reply.clear();
+    answer(alloc, plan, meter, ask, reply)?;
+    put_reply(reply, waiting)
 }
 
 /// Answers the lines that the reader gives, by a meter of the plan that begins at its start, and says
