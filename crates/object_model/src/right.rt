@@ -1,6 +1,4 @@
-ghost use Rattle.std.specs.Prelude.{◌≡◌, ◌==◌, ◌&&◌};
-ghost use Rattle.cosem_data.specs.Cells.{same_name};
-ghost use Rattle.meter_theory.specs.Rights.{lists};
+ghost use Rattle.std.specs.Prelude.{◌≡◌};
 ghost use Rattle.object_model.specs.Grants.{listed};
 
 use cosem_data::name::LogicalName;
@@ -80,19 +78,5 @@ impl Right {
             Access::Set => &self.sets,
             Access::Act => &self.acts,
         }
-    }
-
-    /// Whether it is a right of this client on this object.
-    pub fn is_for(&self, client: u8, object: &LogicalName) -> bool
-        ensures { result ≡ ((self.now.client == client) && same_name self.now.object object.now) }
-    {
-        self.client == client && self.object == *object
-    }
-
-    /// Whether it lists this index for this access.
-    pub(crate) fn lists(&self, access: Access, index: u8) -> bool
-        ensures { result ≡ lists (listed access self.now) index }
-    {
-        self.listed(access).iter().any(|i| *i == index)
     }
 }
