@@ -11,8 +11,7 @@ use Rattle.meter_theory.specs.Lists.{IsIn}
 use Rattle.meter_theory.specs.State.{State, keys, value}
 use Rattle.meter_theory.specs.Edges.{Agree, among}
 use Rattle.meter_theory.proofs.Lists.{in_any}
-use Rattle.meter_theory.proofs.State.{value_missing}
-use Rattle.meter_theory.proofs.Depends.{is_touched, same_row}
+use Rattle.meter_theory.proofs.State.{value_missing, is_touched, same_row}
 use Rattle.cosem_class.specs.Objects.{Cells, cells_after, HasSources, AgreeOn, AgreeOnRow}
 use Rattle.meter_effects.specs.Operations.{cells_in, IsOperation, HasAllSources}
 
@@ -35,6 +34,32 @@ is_own class_id name x =
       | true ↦ λ is. inl (same_cell-true x _ is)
       | false ↦ λ is. inr (λ e. false≢true (sym is ∙ subst (λ z. same_cell x z ≡ true) e (same_cell-refl x)))
     ] refl
+
+some_same : {a b : Tree} → Some a ≡ Some b → a ≡ b
+some_same e = cc
+
+-- An operation leaves what it does not touch.
+pub operation-leaves : (class_id : ℕ) (name : LogicalName) (touched : ℕ → Bool) (new_value : List Tree → Cells → ℕ → Option Tree) (captured : List CellRef) (change : State → State) →
+    IsOperation class_id name touched new_value captured change → (s : State) (x : CellRef) → (x ≡ cell class_id name x.index → touched x.index ≡ false) → value (change s) x ≡ value s x
+operation-leaves class_id name touched new_value captured change is s x untouched =
+    elim (is_own class_id name x) [
+      | inl e ↦ subst (λ z. value (change s) z ≡ value s z) (sym e) (own_left (cell class_id name x.index) refl (untouched e))
+      | inr other ↦ is.other_cells s x other
+    ]
+  where
+    own_left : (y : CellRef) → y ≡ cell class_id name x.index → touched x.index ≡ false → value (change s) y ≡ value s y
+    own_left y own none =
+        elim (is_touched (keys s) y) [
+          | inl key ↦ subst (λ z. value (change s) z ≡ value s z) (sym own) (held_left (subst (IsIn (keys s)) own key) none)
+          | inr missing ↦ value_missing (change s) y (λ m. missing (subst (λ ks. IsIn ks y) (is.same_cells s) m)) ∙ sym (value_missing s y missing)
+        ]
+      where
+        held_left : IsIn (keys s) (cell class_id name x.index) → touched x.index ≡ false → value (change s) (cell class_id name x.index) ≡ value s (cell class_id name x.index)
+        held_left key none =
+            some_same (sym (cells_in-there (change s) class_id name x.index (subst (λ ks. IsIn ks (cell class_id name x.index)) (sym (is.same_cells s)) key))
+            ∙ (is.own_cells s x.index key
+            ∙ (ap (λ b. if b then new_value (map (value s) captured) (cells_in s class_id name) x.index else cells_in s class_id name x.index) none
+            ∙ cells_in-there s class_id name x.index key)))
 
 module _ (class_id : ℕ) (name : LogicalName) (touched : ℕ → Bool) (own_sources : ℕ → ℕ → Bool) (row_cells : ℕ → Bool) (new_value : List Tree → Cells → ℕ → Option Tree)
     (keeps : (row other_row : List Tree) (cells others : Cells) (set : ℕ → Bool) → HasSources touched own_sources set → AgreeOnRow touched row_cells set row other_row → AgreeOn set cells others →
@@ -60,9 +85,6 @@ module _ (class_id : ℕ) (name : LogicalName) (touched : ℕ → Bool) (own_sou
       (cells_in-agree s t class_id name set same agree) i inside
       ∙ sym (is.own_cells t i key_t)) in
       some_same (sym in_s ∙ (both ∙ in_t))
-    where
-      some_same : {a b : Tree} → Some a ≡ Some b → a ≡ b
-      some_same e = cc
 
   own_agrees : (i : ℕ) → set (own i) ≡ true → value (change s) (own i) ≡ value (change t) (own i)
   own_agrees i inside =

@@ -1,16 +1,18 @@
 -- An operation of a plan's object over a closed set of cells.
-use Rattle.std.proofs.Common.{◌≡◌, ◌==◌, ℕ, Bool, true, false, ◌&&◌, List, [], Option, Some, None, refl, sym, subst, ◌∙◌, inl, inr, eqb-true}
-use Rattle.std.proofs.lemmas.Bool.{and_parts, or_cases, false≢true}
+use Rattle.std.proofs.Common.{◌≡◌, ◌==◌, ℕ, Bool, true, false, ◌&&◌, ◌||◌, List, ◌∷◌, [], Option, Some, None, refl, sym, ap, subst, ◌∙◌, inl, inr, eqb-true}
+use Rattle.std.proofs.lemmas.Bool.{and_parts, or_cases, false≢true, false_from_ne_true}
 use Rattle.cosem_data.specs.Tree.{Tree, null_data}
 use Rattle.cosem_data.specs.Kinds.{kind_of}
-use Rattle.cosem_data.specs.Cells.{cell}
+use Rattle.cosem_data.specs.Cells.{cell, same_cell}
 use Rattle.cosem_data.specs.declared.cell.CellRef.{CellRef}
+use Rattle.cosem_data.proofs.Same.{same_cell-true}
 use Rattle.cosem_data.specs.declared.name.LogicalName.{LogicalName}
 use Rattle.meter_theory.specs.Lists.{IsIn}
 use Rattle.meter_theory.specs.State.{State, value}
-use Rattle.meter_theory.specs.States.{Fits, MayStand, IsRemembered}
-use Rattle.meter_theory.specs.Plan.{Plan, Object, Part, Data1, Register, ProfileGeneric, ScriptTable, RegisterMonitor, SingleActionSchedule, class_of, start, object_at, buffer}
-use Rattle.meter_theory.specs.Steps.{Captures, captures_of, capture, clear, effect, Effect, Put, Capture, Clear}
+use Rattle.meter_theory.proofs.State.{value-put_other, value-put}
+use Rattle.meter_theory.specs.EffectLaws.{KeepsAgreementOn}
+use Rattle.meter_theory.specs.Plan.{Plan, Object, Part, Data1, Register, ProfileGeneric, ScriptTable, RegisterMonitor, SingleActionSchedule, class_of, start, object_at, buffer, entries_in_use}
+use Rattle.meter_theory.specs.Steps.{Captures, captures_of, capture, clear, effect, changed_by, Effect, Put, Capture, Clear}
 use Rattle.meter_theory.specs.Edges.{IsClosed, EdgeIn, edge, Captured}
 use Rattle.cosem_class.specs.declared.class.Op.{Op}
 use Rattle.cosem_class.specs.declared.class.Op.TheVariants.{Write, Invoke, Remember}
@@ -21,9 +23,10 @@ use Rattle.class_control.specs.ScriptTableClass.{ScriptTableFixed, script_table_
 use Rattle.class_control.specs.MonitorClass.{MonitorFixed, monitor_touched, monitor_new_value}
 use Rattle.class_control.specs.ScheduleClass.{ScheduleFixed, schedule_touched, schedule_new_value}
 use Rattle.object_model.specs.EffectView.{IsProfile}
-use Rattle.meter_effects.specs.Operations.{IsOperation, HasAllSources, KeepsAgreementOn, OperationsKeepAgreement}
+use Rattle.meter_effects.specs.Operations.{IsOperation, HasAllSources, OperationsKeepAgreement}
 use Rattle.meter_effects.specs.PlanOperations.{operations_in, captured_in, IsOperationOf, IsAcceptedOperation}
-use Rattle.meter_effects.proofs.Changes.{clear-is_operation}
+use Rattle.meter_effects.proofs.Agreement.{operation-leaves}
+use Rattle.meter_effects.proofs.Changes.{capture-is_operation, clear-is_operation}
 
 -- no cell depends on another, and none on the row
 without_sources : (touched : ℕ → Bool) (class_id : ℕ) (name : LogicalName) (captured : List CellRef) (set : CellRef → Bool) →
@@ -65,6 +68,29 @@ captured_edge P name (Register first default scaler_unit) x inside = absurd insi
 captured_edge P name (ScriptTable scripts) x inside = absurd inside
 captured_edge P name (RegisterMonitor monitored thresholds actions) x inside = absurd inside
 captured_edge P name (SingleActionSchedule script type times) x inside = absurd inside
+
+-- a method of a profile touches two cells at most
+untouched : (method : ℕ) (name : LogicalName) (x : CellRef) → (IsIn (buffer name ∷ entries_in_use name ∷ []) x → ⊥) → x ≡ cell 7 name x.index → profile_touched (Invoke method) x.index ≡ false
+untouched method name x none is =
+    false_from_ne_true (profile_touched (Invoke method) x.index) (λ there.
+    elim (or_cases (x.index == 2) (x.index == 7) (and_parts ((method == 1) || (method == 2)) _ there).1) [
+      | inl two ↦ none (inl (is ∙ ap (cell 7 name) (eqb-true x.index 2 two)))
+      | inr seven ↦ none (inr (inl (is ∙ ap (cell 7 name) (eqb-true x.index 7 seven))))
+    ])
+
+-- An effect leaves each cell that it does not say.
+pub effect-leaves : (P : Plan) (e : Effect) (s : State) (x : CellRef) → (IsIn (changed_by e) x → ⊥) → value (effect P s e) x ≡ value s x
+effect-leaves P (Put y v) s x none = value-put_other s y x v (false_from_ne_true (same_cell y x) (λ same. none (inl (sym (same_cell-true y x same)))))
+effect-leaves P (Clear n) s x none =
+    let fixed : ProfileFixed = record { name = n; captured = []; period = 0; entries = 0 } in
+    operation-leaves 7 n (profile_touched (Invoke 1)) (profile_new_value fixed (Invoke 1) null_data) [] (λ z. clear z n) (clear-is_operation fixed n null_data) s x (untouched 1 n x none)
+effect-leaves P (Capture n) s x none = at (captures_of (object_at P n))
+  where
+    at : (c : Option Captures) → value (capture s n c) x ≡ value s x
+    at None = refl
+    at (Some c) =
+        let fixed : ProfileFixed = record { name = n; captured = c.captured; period = 0; entries = c.entries } in
+        operation-leaves 7 n (profile_touched (Invoke 2)) (profile_new_value fixed (Invoke 2) null_data) c.captured (λ z. capture z n (Some c)) (capture-is_operation fixed n null_data) s x (untouched 2 n x none)
 
 module _ (data_keeps : OperationsKeepAgreement data_touched (λ _ _ _. false) (λ _ _. false) data_new_value)
     (register_keeps : OperationsKeepAgreement register_touched (λ _ _ _. false) (λ _ _. false) register_new_value)
@@ -114,18 +140,13 @@ module _ (data_keeps : OperationsKeepAgreement data_touched (λ _ _ _. false) (�
       profile_keeps 7 n fixed (Invoke 1) null_data [] (λ s. clear s n) S (clear-is_operation fixed n null_data)
       (profile_sources (Invoke 1) n [] S (λ inside x m. absurd m))
 
-  -- An effect that fits the plan over a closed set.
-  pub effect-keeps : IsClosed P S →
-      ((x : CellRef) (v : Tree) → MayStand P x v → IsAcceptedOperation P (Write x.index) v (λ s. effect P s (Put x v))) →
-      ((o : Object) (x : CellRef) (v : Tree) → IsRemembered P o.name o.part x v → IsOperationOf P o Remember v (λ s. effect P s (Put x v))) →
-      ((n : LogicalName) (argument : Tree) → IsProfile P n → IsAcceptedOperation P (Invoke 2) argument (λ s. effect P s (Capture n))) →
-      (e : Effect) → Fits P e → KeepsAgreementOn S (λ s. effect P s e)
-  effect-keeps closed puts remembers captures (Put x v) (inl may) = accepted-keeps closed (Write x.index) v (λ s. effect P s (Put x v)) (puts x v may)
-  effect-keeps closed puts remembers captures (Put x v) (inr seen) =
-      operation-keeps closed seen.0 Remember v (λ s. effect P s (Put x v)) seen.1 (remembers seen.0 x v seen.2)
-  effect-keeps closed puts remembers captures (Capture n) fits = at (captures_of (object_at P n)) refl
+  -- An effect over a closed set: what a put writes depends on nothing, and a capture and a clear are methods of a profile.
+  pub effect-keeps : IsClosed P S → ((n : LogicalName) (argument : Tree) → IsProfile P n → IsAcceptedOperation P (Invoke 2) argument (λ s. effect P s (Capture n))) →
+      (e : Effect) → KeepsAgreementOn S (λ s. effect P s e)
+  effect-keeps closed captures (Put x v) = λ s t same agree y inside. value-put s t x y v same (agree y inside)
+  effect-keeps closed captures (Capture n) = at (captures_of (object_at P n)) refl
     where
       at : (c : Option Captures) → captures_of (object_at P n) ≡ c → KeepsAgreementOn S (λ s. effect P s (Capture n))
       at None is = subst (λ c. KeepsAgreementOn S (λ s. capture s n c)) (sym is) (λ s t same agree. agree)
       at (Some c) is = accepted-keeps closed (Invoke 2) null_data (λ s. effect P s (Capture n)) (captures n null_data (c, is))
-  effect-keeps closed puts remembers captures (Clear n) fits = clear-keeps n
+  effect-keeps closed captures (Clear n) = clear-keeps n

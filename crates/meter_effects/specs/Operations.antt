@@ -6,7 +6,8 @@ use Rattle.cosem_data.specs.declared.cell.CellRef.{CellRef}
 use Rattle.cosem_data.specs.declared.name.LogicalName.{LogicalName}
 use Rattle.meter_theory.specs.Lists.{IsIn}
 use Rattle.meter_theory.specs.State.{State, keys, value, put}
-use Rattle.meter_theory.specs.Edges.{Agree, among}
+use Rattle.meter_theory.specs.Edges.{among}
+use Rattle.meter_theory.specs.EffectLaws.{KeepsAgreementOn}
 use Rattle.cosem_class.specs.declared.class.Op.{Op}
 use Rattle.cosem_class.specs.declared.class.Op.TheVariants.{Write}
 use Rattle.cosem_class.specs.declared.class.ClassFault.{ClassFault}
@@ -31,10 +32,6 @@ pub record HasAllSources (class_id : ℕ) (name : LogicalName) (touched : ℕ �
   pub own : HasSources touched own_sources (λ index. set (cell class_id name index))
   pub row : (index : ℕ) → touched index ≡ true → row_cells index ≡ true → set (cell class_id name index) ≡ true →
       (x : CellRef) → IsIn captured x → set x ≡ true
-
--- States with the same cells that agree on the set agree on it after the change.
-abbrev pub KeepsAgreementOn : (CellRef → Bool) → (State → State) → Type 0
-KeepsAgreementOn set change = (s t : State) → keys s ≡ keys t → Agree set s t → Agree set (change s) (change t)
 
 -- An operation of an object of the class keeps agreement on each set that has all sources.
 abbrev pub OperationsKeepAgreement : {Fixed : Type 0} → (Op → ℕ → Bool) → (Op → ℕ → ℕ → Bool) → (Op → ℕ → Bool) → NewValue Fixed → Type 0

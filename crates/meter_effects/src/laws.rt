@@ -7,17 +7,17 @@ ghost use Rattle.cosem_data.specs.declared.cell.CellRef.{CellRef};
 ghost use Rattle.cosem_data.specs.declared.name.LogicalName.{LogicalName};
 ghost use Rattle.meter_theory.specs.Lists.{IsIn};
 ghost use Rattle.meter_theory.specs.State.{State};
-ghost use Rattle.meter_theory.specs.States.{MayStand, IsRemembered, Fits};
+ghost use Rattle.meter_theory.specs.States.{MayStand, IsRemembered};
 ghost use Rattle.meter_theory.specs.Plan as plans;
 ghost use Rattle.meter_theory.specs.Plan.{Plan, Object};
 ghost use Rattle.meter_theory.specs.Steps.{Effect, Put, Capture, Clear, effect};
 ghost use Rattle.meter_theory.specs.Edges.{IsClosed};
+ghost use Rattle.meter_theory.specs.EffectLaws.{KeepsAgreementOn};
 ghost use Rattle.meter_theory.specs.declared.refs.ScalerUnit.{ScalerUnit};
 ghost use Rattle.cosem_class.specs.declared.class.Op.{Op};
 ghost use Rattle.cosem_class.specs.declared.class.Op.TheVariants as ops;
-ghost use Rattle.object_model.specs.EffectView.{IsProfile, effect_of, MayTake};
-ghost use Rattle.object_model.specs.declared.effect.Effect as model;
-ghost use Rattle.meter_effects.specs.Operations.{OperationsKeepAgreement, PutsAreWrites, KeepsAgreementOn};
+ghost use Rattle.object_model.specs.EffectView.{IsProfile};
+ghost use Rattle.meter_effects.specs.Operations.{OperationsKeepAgreement, PutsAreWrites};
 ghost use Rattle.meter_effects.specs.PlanOperations.{IsOperationOf, IsAcceptedOperation};
 
 use class_control::monitor::{Monitor, Watch};
@@ -63,12 +63,11 @@ pub fn effects_are_operations()
 }
 
 /// States that agree on a closed set of cells agree on it after each operation of an object of the plan, by the object's
-/// class, and so after each effect that fits the plan, as each does that its meter may take (`take`).
+/// class, and so after each effect.
 pub fn closed_sets_keep_agreement()
     ensures operation { (P : Plan) (S : CellRef → Bool) → IsClosed P S → (o : Object) (op : Op) (argument : Tree) (change : State → State) →
         IsIn P.objects o → IsOperationOf P o op argument change → KeepsAgreementOn S change }
-    ensures effect { (P : Plan) (S : CellRef → Bool) → IsClosed P S → (e : Effect) → Fits P e → KeepsAgreementOn S (λ s. effect P s e) }
-    ensures taken { (P : Plan) (S : CellRef → Bool) → IsClosed P S → (e : model.Effect) → MayTake P e → KeepsAgreementOn S (λ s. effect P s (effect_of e)) }
+    ensures effect { (P : Plan) (S : CellRef → Bool) → IsClosed P S → (e : Effect) → KeepsAgreementOn S (λ s. effect P s e) }
 {
     operations_keep_agreement::<Lent<'static, DataPart>, Data1>();
     operations_keep_agreement::<Lent<'static, RegisterPart>, Register>();

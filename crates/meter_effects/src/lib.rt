@@ -4,4 +4,5 @@
 pub mod effects;
 pub mod laws;
 pub mod own_steps;
+pub mod promises;
 pub mod scripts;

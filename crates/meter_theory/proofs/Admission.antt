@@ -1,7 +1,7 @@
 -- The six tests over lists decide admission, where the plan is sound.
 use Rattle.cosem_data.specs.Cells.{same_name}
 use Rattle.cosem_data.proofs.Same.{same_name-true, same_name-from}
-use Rattle.std.proofs.Common.{[], ◌++◌, ◌∙◌, ◌≡◌, ◌==◌, ◌⊎◌, ◌<◌, ◌+◌, ◌≤◌, ℕ, zero, suc, Bool, true, false, not, ◌&&◌, ◌||◌, List, ◌∷◌, map, refl, sym, ap, subst, inl, inr, Option, Some, None, is_some, eqb-true, eq-eqb, ltb-true, nat_lt, length, arith}
+use Rattle.std.proofs.Common.{[], ◌++◌, ◌∙◌, ◌≡◌, ◌==◌, ◌<◌, ℕ, Bool, true, false, not, ◌&&◌, ◌||◌, List, ◌∷◌, map, refl, sym, ap, subst, inl, inr, Option, Some, None, is_some, eqb-true, eq-eqb, ltb-true, nat_lt, length, arith}
 use Rattle.std.specs.List.{list_any, range_with_len}
 use Rattle.std.proofs.lemmas.Bool.{and_parts, and_from, or_cases, or_left, or_right}
 use Rattle.meter_theory.specs.Lists.{IsIn, for_some}

@@ -5,8 +5,7 @@ use Rattle.cosem_data.specs.Tree.{Tree, null_data, boolean, octet_string, intege
 use Rattle.cosem_axdr.specs.Canonical.{shortest}
 use Rattle.meter_theory.specs.declared.access.AccessCode.TheVariants.{Success, ReadWriteDenied, ObjectUndefined, ObjectClassInconsistent, TypeUnmatched, ScopeOfAccessViolated, OtherReason}
 use Rattle.meter_theory.specs.Value.{counter, array_of, structure_of}
-use Rattle.meter_theory.specs.Times.{matches, are_execution_times}
-use Rattle.meter_theory.specs.State.{value}
+use Rattle.meter_theory.specs.Times.{matches}
 use Rattle.meter_theory.specs.Plan.{data_value, register_value, buffer, capture_period, entries_in_use, thresholds, seen, execution_time, association_name, start, cells}
 use Rattle.meter_theory.specs.Rights.{Absent, Given, Unreadable, Selection}
 use Rattle.meter_theory.specs.Fixed.{fixed, fixed_in, association_attribute, object_list, access_rights}

@@ -1,6 +1,6 @@
 -- Each effect that fits keeps the kinds.
 use Rattle.cosem_data.proofs.Same.{same_cell-true, same_name-true, same_name-from}
-use Rattle.std.proofs.Common.{◌≡◌, ◌==◌, ◌+◌, ◌-◌, min, ℕ, zero, suc, Bool, true, false, cond, List, [], ◌∷◌, ◌++◌, map, length, drop, refl, sym, ap, subst, ◌∙◌, inl, inr, Option, Some, None, option_and_then, eqb-true, eq-eqb, arith, length-drop}
+use Rattle.std.proofs.Common.{◌≡◌, ◌==◌, ◌+◌, ◌-◌, min, ℕ, zero, suc, Bool, true, false, cond, List, [], ◌∷◌, ◌++◌, map, length, drop, refl, sym, ap, subst, ◌∙◌, inl, inr, Option, Some, None, option_and_then, arith, length-drop}
 use Rattle.std.proofs.lemmas.Bool.{and_right, false_from_ne_true}
 use Rattle.meter_theory.specs.Lists.{IsIn, keep_last}
 use Rattle.cosem_data.specs.Tree.{Tree, null_data, array, no_trees, parts, trees}

@@ -1,9 +1,9 @@
 -- Each step keeps the kinds.
-use Rattle.std.proofs.Common.{◌≡◌, ◌==◌, ◌&&◌, ℕ, Bool, true, false, not, cond, List, [], ◌∷◌, flat_map, find, refl, sym, ap, subst, ◌∙◌, inl, inr, Option, Some, None, option_and_then, eqb-true}
+use Rattle.std.proofs.Common.{◌≡◌, ◌==◌, ◌&&◌, ℕ, Bool, true, false, not, cond, List, [], ◌∷◌, flat_map, find, refl, sym, ap, subst, ◌∙◌, inl, inr, Option, Some, None, option_and_then}
 use Rattle.std.proofs.lemmas.Bool.{not-false, and_parts}
 use Rattle.meter_theory.specs.Lists.{IsIn, for_some}
 use Rattle.cosem_data.specs.Tree.{Tree}
-use Rattle.meter_theory.specs.Value.{Rule, OfKind, meets, elements, count_of}
+use Rattle.meter_theory.specs.Value.{Rule, OfKind, elements, count_of}
 use Rattle.cosem_data.specs.Kinds.{kind_of}
 use Rattle.cosem_data.specs.declared.cell.CellRef.{CellRef}
 use Rattle.meter_theory.specs.State.{State, value}

@@ -1,17 +1,17 @@
 -- Every value that a sound plan's meter answers can be written: its lengths and counts fit four bytes.
-use Rattle.cosem_data.proofs.Same.{same_cell-true, same_cell-refl, same_name-true, same_name-from}
+use Rattle.cosem_data.proofs.Same.{same_name-true, same_name-from}
 use Rattle.cosem_data.specs.TreeCode.{parts-trees}
 use Rattle.cosem_axdr.specs.Canonical.{HasLengths, HaveLengths, canonical}
 use Rattle.cosem_axdr.proofs.Room.{small_has_lengths}
-use Rattle.std.proofs.Common.{◌≡◌, ◌==◌, ◌≤◌, ◌<◌, ◌^◌, ◌+◌, ◌-◌, ◌⊎◌, ℕ, zero, suc, Bool, true, false, not, cond, ◌&&◌, nat_le, List, [], ◌∷◌, map, length, take, drop, filter, find, option_map, option_and_then, refl, sym, ap, subst, ◌∙◌, inl, inr, Option, Some, None, eqb-true, arith, lit<, length-drop, length-take}
+use Rattle.std.proofs.Common.{◌≡◌, ◌==◌, ◌≤◌, ◌<◌, ◌^◌, ◌-◌, ℕ, zero, suc, Bool, true, false, cond, ◌&&◌, nat_le, List, [], ◌∷◌, map, length, take, drop, filter, option_map, option_and_then, refl, sym, ap, subst, ◌∙◌, inl, inr, Option, Some, None, eqb-true, arith, lit<, length-drop}
 use Rattle.std.specs.List.{list_all, range_with_len}
 use Rattle.std.specs.Prelude.{slice_get, pos}
-use Rattle.std.proofs.lemmas.Bool.{and_parts, leb-true, cond-true, cond-false}
+use Rattle.std.proofs.lemmas.Bool.{and_parts, leb-true, cond-true}
 use Rattle.std.proofs.lemmas.List.{length-map}
 use Rattle.std.proofs.lemmas.List.FromFn.{length-range_with_len}
-use Rattle.cosem_data.specs.Tree.{Tree, Trees, no_trees, more_trees, null_data, array, structure, boolean, double_long, double_long_unsigned, octet_string, visible_string, integer, long, unsigned, long_unsigned, long64, long64_unsigned, enumerated, trees, parts, depth}
+use Rattle.cosem_data.specs.Tree.{Tree, Trees, no_trees, more_trees, null_data, array, structure, integer, enumerated, trees, parts, depth}
 use Rattle.cosem_data.specs.Kinds.{kind_of}
-use Rattle.cosem_data.specs.Cells.{same_name, same_cell, cell}
+use Rattle.cosem_data.specs.Cells.{same_name, cell}
 use Rattle.cosem_data.specs.declared.name.LogicalName.{LogicalName}
 use Rattle.cosem_data.specs.declared.cell.CellRef.{CellRef}
 use Rattle.cosem_data.specs.declared.kind.Kind.TheVariants.{DoubleLongUnsigned}
@@ -21,18 +21,17 @@ use Rattle.meter_theory.specs.Times.{parts_of}
 use Rattle.meter_theory.specs.Selection.{EntryDescriptor, places_between, columns_of, entries_of}
 use Rattle.meter_theory.specs.State.{State, value}
 use Rattle.meter_theory.specs.declared.refs.UpDown.{UpDown}
-use Rattle.meter_theory.specs.declared.refs.ScriptRef.{ScriptRef}
 use Rattle.meter_theory.specs.declared.refs.Interface.{Interface}
-use Rattle.meter_theory.specs.Plan.{Plan, Client, Object, Part, Data1, Register, ProfileGeneric, ScriptTable, RegisterMonitor, SingleActionSchedule, Script, Action, Write, Invoke, association, association_name, interface_of, interface_at, object_at, class_of, cells, start, start_of, is_cell, rule_in, rule_of, data_value, register_value, buffer, capture_period, entries_in_use, thresholds, seen, execution_time}
-use Rattle.meter_theory.specs.Rights.{Descriptor, cell_of, Selection, class_is, descriptor_in, get_answer, has_right, may_read}
+use Rattle.meter_theory.specs.Plan.{Plan, Client, Object, Part, Data1, Register, ProfileGeneric, ScriptTable, RegisterMonitor, SingleActionSchedule, Script, Action, Write, Invoke, association, association_name, interface_of, interface_at, object_at, class_of, cells, start, start_of, is_cell, rule_in, rule_of, data_value, register_value, buffer, capture_period, thresholds, seen, execution_time}
+use Rattle.meter_theory.specs.Rights.{cell_of, Selection, class_is, descriptor_in, get_answer, has_right, may_read}
 use Rattle.meter_theory.specs.Fixed.{name_value, capture_object, action_value, script_value, up_down_value, fixed_in, fixed_of, attribute_access, method_access, access_selectors, access_rights, listed_object, objects_of, object_list, partners, mechanism_of, of_client, association_attribute, fixed}
 use Rattle.meter_theory.specs.Access.{is_success}
-use Rattle.meter_theory.specs.Replies.{Reply, Value, Code, attribute, selected_by, selected, reply_to}
+use Rattle.meter_theory.specs.Replies.{Value, Code, attribute, selected_by, selected, reply_to}
 use Rattle.meter_theory.specs.Steps.{Step, Get, Set, Act, Input, CaptureAt, Evaluate, ScheduleAt}
-use Rattle.meter_theory.specs.Sound.{IsSound, is_name, has_action_sizes, has_script_sizes, has_part_sizes, has_sizes}
-use Rattle.meter_theory.specs.States.{IsCaptured, AreCaptured, AreRows, IsBuffer, IsCount, IsSeen, Holds, IsState}
-use Rattle.meter_theory.proofs.Lists.{in_map, from_map, from_filter, from_flat_map, none_found}
-use Rattle.meter_theory.proofs.Agreement.{object-found, one_named, not_both}
+use Rattle.meter_theory.specs.Sound.{IsSound, is_name, has_action_sizes, has_script_sizes, has_part_sizes}
+use Rattle.meter_theory.specs.States.{IsCaptured, AreCaptured, AreRows, IsBuffer, IsSeen, Holds, IsState}
+use Rattle.meter_theory.proofs.Lists.{from_map, from_filter, from_flat_map, none_found}
+use Rattle.meter_theory.proofs.Agreement.{object-found, one_named}
 use Rattle.meter_theory.proofs.Rights.{get_class}
 use Rattle.meter_theory.proofs.Theorem.{all_at, is_cell_in}
 

@@ -1,7 +1,5 @@
 pub mod Lists
 pub mod State
-pub mod Depends
-pub mod Classes
 pub mod Agreement
 pub mod Rights
 pub mod Theorem
@@ -10,6 +8,7 @@ pub mod Admission
 pub mod Unequal
 pub mod KeepKinds
 pub mod KeepSteps
+pub mod StepsAgree
 pub mod SoundTest
 pub mod Start
 pub mod Unique

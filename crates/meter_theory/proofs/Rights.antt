@@ -5,7 +5,7 @@ use Rattle.std.specs.List.{list_all}
 use Rattle.std.proofs.lemmas.Bool.{not-false, not-true, and_parts}
 use Rattle.meter_theory.specs.Lists.{IsIn, for_some}
 use Rattle.cosem_data.specs.Tree.{Tree}
-use Rattle.meter_theory.specs.Value.{Rule, counter, OfKind, Thresholds, ExecutionTimes}
+use Rattle.meter_theory.specs.Value.{counter, OfKind, Thresholds, ExecutionTimes}
 use Rattle.cosem_data.specs.Kinds.{kind_of}
 use Rattle.cosem_data.specs.declared.name.LogicalName.{LogicalName}
 use Rattle.cosem_data.specs.declared.cell.CellRef.{CellRef}

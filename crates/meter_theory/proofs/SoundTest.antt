@@ -1,7 +1,7 @@
 -- A plan that passes the test is sound.
 use Rattle.cosem_data.specs.declared.kind.Kind.{Kind}
 use Rattle.cosem_data.proofs.Same.{same_cell-true, same_name-from, same_kind-true}
-use Rattle.std.proofs.Common.{◌≡◌, ◌==◌, ℕ, Bool, true, false, not, ◌&&◌, List, [], ◌∷◌, refl, sym, ap, subst, ◌∙◌, inl, inr, Option, Some, None, is_some, nat_lt, nat_le, length, map, eq-eqb, ltb-true, leb-true}
+use Rattle.std.proofs.Common.{◌≡◌, ◌==◌, Bool, true, not, ◌&&◌, List, ◌∷◌, refl, sym, ap, subst, inl, inr, Option, Some, None, is_some, nat_le, length, map, eq-eqb, leb-true}
 use Rattle.std.specs.List.{list_any, list_all}
 use Rattle.std.proofs.lemmas.Bool.{and_parts, or_cases, not-true}
 use Rattle.meter_theory.specs.Lists.{IsIn, are_distinct}

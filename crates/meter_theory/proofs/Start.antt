@@ -1,17 +1,17 @@
 -- The start values are a state of the declared kinds.
 use Rattle.cosem_data.proofs.Same.{same_cell-true, same_cell-refl}
-use Rattle.std.proofs.Common.{◌≡◌, ◌==◌, ℕ, Bool, true, false, cond, List, [], ◌∷◌, refl, sym, ap, subst, ◌∙◌, inl, inr, Option, Some, None, eq-eqb, arith}
+use Rattle.std.proofs.Common.{◌≡◌, ◌==◌, Bool, true, false, [], ◌∷◌, refl, sym, ap, subst, ◌∙◌, inl, inr, eq-eqb, arith}
 use Rattle.std.proofs.lemmas.Bool.{cond-true, cond-false}
 use Rattle.meter_theory.specs.Lists.{IsIn}
 use Rattle.cosem_data.specs.Tree.{Tree, null_data, array, no_trees}
 use Rattle.cosem_data.specs.Cells.{same_cell}
 use Rattle.cosem_data.specs.declared.name.LogicalName.{LogicalName}
 use Rattle.cosem_data.specs.declared.cell.CellRef.{CellRef}
-use Rattle.meter_theory.specs.Value.{Rule, meets, array_of, counter}
+use Rattle.meter_theory.specs.Value.{array_of, counter}
 use Rattle.meter_theory.specs.State.{State, value}
-use Rattle.meter_theory.specs.Plan.{Plan, Object, Part, Data1, Register, ProfileGeneric, ScriptTable, RegisterMonitor, SingleActionSchedule, cells, start, start_of, rule_of, buffer, entries_in_use, seen}
+use Rattle.meter_theory.specs.Plan.{Plan, Object, Part, Data1, Register, ProfileGeneric, ScriptTable, RegisterMonitor, SingleActionSchedule, start, start_of, buffer, entries_in_use, seen}
 use Rattle.meter_theory.specs.Sound.{IsSound, fits_some}
-use Rattle.meter_theory.specs.States.{IsBuffer, IsCount, IsSeen, Holds, IsState}
+use Rattle.meter_theory.specs.States.{Holds, IsState}
 use Rattle.meter_theory.proofs.Lists.{in_flat_map, from_flat_map}
 use Rattle.meter_theory.proofs.Agreement.{not_both, one_named}
 

@@ -1,12 +1,14 @@
 -- The laws of states: what a put leaves at each cell.
 use Rattle.cosem_data.proofs.Same.{same_cell-true, same_cell-refl}
-use Rattle.std.proofs.Common.{◌≡◌, Bool, true, false, cond, List, [], ◌∷◌, refl, sym, ap, ap₂, subst, ◌∙◌, eqb-true, eq-eqb, inl, inr}
-use Rattle.std.proofs.lemmas.Bool.{false_from_ne_true, and_parts, and_from, cond-true, cond-false}
+use Rattle.std.proofs.Common.{◌≡◌, ◌⊎◌, Bool, true, false, cond, List, [], ◌∷◌, map, refl, sym, ap, ap₂, subst, ◌∙◌, inl, inr}
+use Rattle.std.specs.List.{list_any}
+use Rattle.std.proofs.lemmas.Bool.{false_from_ne_true, cond-true, cond-false}
 use Rattle.meter_theory.specs.Lists.{IsIn}
 use Rattle.cosem_data.specs.Tree.{Tree, null_data}
 use Rattle.cosem_data.specs.declared.cell.CellRef.{CellRef}
 use Rattle.cosem_data.specs.Cells.{same_cell}
 use Rattle.meter_theory.specs.State.{State, keys, value, put}
+use Rattle.meter_theory.proofs.Lists.{any_in, none_in}
 
 pub keys-put : (s : State) (x : CellRef) (v : Tree) → keys (put s x v) ≡ keys s
 keys-put [] x v = refl
@@ -144,3 +146,16 @@ same_state (e ∷ s) (f ∷ t) k d h =
           where
             tails : keys s ≡ keys t
             tails = cc
+
+-- a cell is one of these, or isn't
+pub is_touched : (xs : List CellRef) (x : CellRef) → IsIn xs x ⊎ (IsIn xs x → ⊥)
+is_touched xs x =
+    elim (list_any (same_cell x) xs) as (λ b. list_any (same_cell x) xs ≡ b → IsIn xs x ⊎ (IsIn xs x → ⊥)) [
+      | true ↦ λ p. let r = any_in (same_cell x) xs p in inl (subst (IsIn xs) (sym (same_cell-true x r.0 r.2)) r.1)
+      | false ↦ λ p. inr (λ i. let a : same_cell x x ≡ false = none_in (same_cell x) xs x p i in let b : same_cell x x ≡ true = same_cell-refl x in cc)
+    ] refl
+
+-- one row of the captured cells
+pub same_row : (captured : List CellRef) (s t : State) → ((y : CellRef) → IsIn captured y → value s y ≡ value t y) → map (value s) captured ≡ map (value t) captured
+same_row [] s t h = refl
+same_row (x ∷ xs) s t h = ap₂ (λ v vs. v ∷ vs) (h x (inl refl)) (same_row xs s t (λ y i. h y (inr i)))

@@ -2,18 +2,18 @@
 use Rattle.cosem_data.proofs.Same.{same_cell-true}
 use Rattle.cosem_data.proofs.Bits.{none_above}
 use Rattle.cosem_data.specs.declared.clients.ClientSet.{ClientSet}
-use Rattle.std.proofs.Common.{◌≡◌, ◌==◌, ◌≤◌, ◌<◌, ◌+◌, ℕ, zero, suc, Bool, true, false, not, cond, ◌&&◌, ◌||◌, List, [], ◌∷◌, refl, sym, ap, ap₂, subst, ◌∙◌, inl, inr, Option, Some, None, option_map, eqb-true, eq-eqb, ne_eqb, nat_lt, ltb-true, arith}
+use Rattle.std.proofs.Common.{◌≡◌, ◌==◌, ◌≤◌, ℕ, Bool, true, false, not, cond, ◌&&◌, ◌||◌, List, [], ◌∷◌, refl, sym, ap, ap₂, subst, ◌∙◌, inl, inr, Option, Some, None, option_map, eqb-true, ne_eqb, nat_lt, ltb-true, arith}
 use Rattle.std.specs.List.{list_all, range_with_len}
-use Rattle.std.proofs.lemmas.Bool.{cond-false, not-true, and_parts, and_from, or_cases, or_left, or_right, false_from_ne_true, ltb-false}
-use Rattle.meter_theory.specs.Lists.{IsIn, for_some}
+use Rattle.std.proofs.lemmas.Bool.{cond-false, not-true, and_parts, and_from, or_cases, false_from_ne_true, ltb-false}
+use Rattle.meter_theory.specs.Lists.{IsIn}
 use Rattle.cosem_data.specs.Tree.{Tree}
 use Rattle.cosem_data.specs.declared.name.LogicalName.{LogicalName}
 use Rattle.cosem_data.specs.declared.cell.CellRef.{CellRef}
 use Rattle.meter_theory.specs.State.{State, keys, value}
 use Rattle.cosem_data.specs.Cells.{same_name, same_cell}
-use Rattle.meter_theory.specs.Plan.{Plan, Object, Part, Data1, Register, ProfileGeneric, ScriptTable, RegisterMonitor, SingleActionSchedule, start, start_of, association_name, association, interface_of, interface_at, cells, is_cell, object_at, rule_of}
+use Rattle.meter_theory.specs.Plan.{Plan, Part, Data1, Register, ProfileGeneric, ScriptTable, RegisterMonitor, SingleActionSchedule, start, start_of, association_name, association, interface_of, interface_at, cells, is_cell, object_at, rule_of}
 use Rattle.meter_theory.specs.Access.{is_success}
-use Rattle.meter_theory.specs.Rights.{Argument, Descriptor, cell_of, Selection, class_is, get_answer, set_answer, may_read, may_get, lists, readable_of_association}
+use Rattle.meter_theory.specs.Rights.{cell_of, class_is, get_answer, set_answer, may_read, may_get, lists, readable_of_association}
 use Rattle.meter_theory.specs.Fixed.{fixed}
 use Rattle.meter_theory.specs.Replies.{Value, Code, is_step_of_client, attribute, selected, reply_to, run, replies, replies_of}
 use Rattle.meter_theory.specs.Steps.{Put, Step, Get, Set, Act, Input, CaptureAt, Evaluate, ScheduleAt, client_of, given_value, effects_of, next, is_fed, meets_some}
@@ -21,9 +21,9 @@ use Rattle.meter_theory.specs.Edges.{Agree, IsClosed}
 use Rattle.meter_theory.specs.Labels.{has, within, Labels, Labelling, labelling_of, Admits}
 use Rattle.meter_theory.specs.Safety.{HasCells, is_step_of, Thinned, DifferHidden, Alike, outside, LookAlike, Influence, Secrecy}
 use Rattle.meter_theory.proofs.Lists.{any_in, from_flat_map, from_map, in_range}
-use Rattle.meter_theory.proofs.State.{value_missing}
-use Rattle.meter_theory.proofs.Depends.{is_touched}
-use Rattle.meter_theory.proofs.Agreement.{object-found, AreQuiet, effects-quiet, step-agrees, next-keys, not_both}
+use Rattle.meter_theory.proofs.State.{value_missing, is_touched}
+use Rattle.meter_theory.proofs.Agreement.{AreQuiet, next-keys, not_both}
+use Rattle.meter_theory.proofs.StepsAgree.{StepLaws}
 use Rattle.meter_theory.proofs.Rights.{client-changes, get_allowed, get_class, when, in_given}
 
 -- Sets of clients
@@ -81,17 +81,17 @@ is_cell_in P x h =
 -- Runs that aren't in step
 
 -- Taking out steps that leave S alone leaves S.
-pub thinned-agree : (P : Plan) (S : CellRef → Bool) → IsClosed P S → (K : ℕ → Bool) →
+pub thinned-agree : (P : Plan) → StepLaws P → (S : CellRef → Bool) → IsClosed P S → (K : ℕ → Bool) →
     ((s : State) (step : Step) → is_step_of K (client_of step) ≡ true → AreQuiet S (effects_of P s step)) →
     (l l' : List Step) (s t : State) → keys s ≡ keys t → Agree S s t → Thinned K l l' → Agree S (run P s l) (run P t l')
-thinned-agree P S closed K quiet [] l' s t k agree th = subst (λ m. Agree S s (run P t m)) (sym th) agree
-thinned-agree P S closed K quiet (step ∷ l) l' s t k agree th =
+thinned-agree P steps S closed K quiet [] l' s t k agree th = subst (λ m. Agree S s (run P t m)) (sym th) agree
+thinned-agree P steps S closed K quiet (step ∷ l) l' s t k agree th =
     elim th [
-      | inl out ↦ thinned-agree P S closed K quiet l l' (next P s step) t (next-keys P s step ∙ k)
-          (λ x i. effects-quiet P S (effects_of P s step) s (quiet s step out.0) x i ∙ agree x i) out.1
+      | inl out ↦ thinned-agree P steps S closed K quiet l l' (next P s step) t (next-keys P s step ∙ k)
+          (λ x i. steps.quiet S step s (quiet s step out.0) x i ∙ agree x i) out.1
       | inr kept ↦ subst (λ m. Agree S (run P s (step ∷ l)) (run P t m)) (sym kept.1)
-          (thinned-agree P S closed K quiet l kept.0 (next P s step) (next P t step)
-          (next-keys P s step ∙ (k ∙ sym (next-keys P t step))) (step-agrees P S closed s t k agree step) kept.2)
+          (thinned-agree P steps S closed K quiet l kept.0 (next P s step) (next P t step)
+          (next-keys P s step ∙ (k ∙ sym (next-keys P t step))) (steps.agrees S closed step s t k agree) kept.2)
     ]
 
 is_step-weaker : (K M : ℕ → Bool) → ((c : ℕ) → K c ≡ true → M c ≡ true) → (o : Option ℕ) → is_step_of K o ≡ true → is_step_of M o ≡ true
@@ -202,25 +202,25 @@ pub record AreHidden (P : Plan) (S : CellRef → Bool) (c : ℕ) (step step' : S
   pub quiet : (s : State) → AreQuiet S (effects_of P s step)
   pub quiet' : (s : State) → AreQuiet S (effects_of P s step')
 
-hidden-replies : (P : Plan) (Q : Labelling) (S : CellRef → Bool) (c : ℕ) → IsClosed P S →
+hidden-replies : (P : Plan) → StepLaws P → (Q : Labelling) (S : CellRef → Bool) (c : ℕ) → IsClosed P S →
     ((x : CellRef) → IsIn (cells P) x → may_get P c x ≡ true → S x ≡ true) →
     ((step step' : Step) → DifferHidden P Q c step step' → AreHidden P S c step step') →
     (l l' : List Step) (s t : State) → keys s ≡ keys t → Agree S s t → Alike P Q c l l' → replies_of c l (replies P s l) ≡ replies_of c l' (replies P t l')
-hidden-replies P Q S c closed reads hidden [] [] s t k agree a = refl
-hidden-replies P Q S c closed reads hidden [] (step' ∷ l') s t k agree a = absurd a
-hidden-replies P Q S c closed reads hidden (step ∷ l) [] s t k agree a = absurd a
-hidden-replies P Q S c closed reads hidden (step ∷ l) (step' ∷ l') s t k agree a =
+hidden-replies P steps Q S c closed reads hidden [] [] s t k agree a = refl
+hidden-replies P steps Q S c closed reads hidden [] (step' ∷ l') s t k agree a = absurd a
+hidden-replies P steps Q S c closed reads hidden (step ∷ l) [] s t k agree a = absurd a
+hidden-replies P steps Q S c closed reads hidden (step ∷ l) (step' ∷ l') s t k agree a =
     elim a.0 [
       | inl same ↦ subst (λ z. replies_of c (step ∷ l) (replies P s (step ∷ l)) ≡ replies_of c (z ∷ l') (replies P t (z ∷ l'))) same
           (equal_heads (is_step_of_client c (client_of step)) refl
-          (hidden-replies P Q S c closed reads hidden l l' (next P s step) (next P t step)
-          (next-keys P s step ∙ (k ∙ sym (next-keys P t step))) (step-agrees P S closed s t k agree step) a.1))
+          (hidden-replies P steps Q S c closed reads hidden l l' (next P s step) (next P t step)
+          (next-keys P s step ∙ (k ∙ sym (next-keys P t step))) (steps.agrees S closed step s t k agree) a.1))
       | inr differ ↦
           let h = hidden step step' differ in
           cond-false _ _ _ h.other
-          ∙ (hidden-replies P Q S c closed reads hidden l l' (next P s step) (next P t step')
+          ∙ (hidden-replies P steps Q S c closed reads hidden l l' (next P s step) (next P t step')
           (next-keys P s step ∙ (k ∙ sym (next-keys P t step')))
-          (λ x i. effects-quiet P S (effects_of P s step) s (h.quiet s) x i ∙ (agree x i ∙ sym (effects-quiet P S (effects_of P t step') t (h.quiet' t) x i))) a.1
+          (λ x i. steps.quiet S step s (h.quiet s) x i ∙ (agree x i ∙ sym (steps.quiet S step' t (h.quiet' t) x i))) a.1
           ∙ sym (cond-false _ _ _ h.other'))
     ]
   where
@@ -272,11 +272,11 @@ module _ (P : Plan) (policy : Labelling) (labels : Labels) (a : Admits P policy 
   below_itself : (x : CellRef) → below x x ≡ true
   below_itself x = within_from (Q x).influence (Q x).influence (λ c i. i)
 
-  pub influence-labels : Influence P Q
-  influence-labels = record {
-    thinned = λ s x l l' is i th. thinned-agree P (below x) (below_closed x) (outside Q x) (outside_quiet x) l l' s s refl (λ y h. refl) th x (below_itself x);
+  pub influence-labels : StepLaws P → Influence P Q
+  influence-labels steps = record {
+    thinned = λ s x l l' is i th. thinned-agree P steps (below x) (below_closed x) (outside Q x) (outside_quiet x) l l' s s refl (λ y h. refl) th x (below_itself x);
     changed = λ s x step is i differs. false_from_ne_true _ (λ out.
-        differs (effects-quiet P (below x) (effects_of P s step) s (outside_quiet x s step out) x (below_itself x)));
+        differs (steps.quiet (below x) step s (outside_quiet x s step out) x (below_itself x)));
   }
 
   -- a client outside the policy's set is outside the labels' set
@@ -285,21 +285,21 @@ module _ (P : Plan) (policy : Labelling) (labels : Labels) (a : Admits P policy 
       ap not (false_from_ne_true (has (Q x).influence c) (λ k.
       not_both (has (policy x).influence c) (within_has (Q x).influence (policy x).influence (a.influence_within x i) c k) (not-true (has (policy x).influence c) h)))
 
-  pub influence-policy : Influence P policy
-  influence-policy = record {
-    thinned = λ s x l l' is i th. influence-labels.thinned s x l l' is i (Thinned-weaker (outside policy x) (outside Q x) (outside_both x i) l l' th);
+  pub influence-policy : StepLaws P → Influence P policy
+  influence-policy steps = record {
+    thinned = λ s x l l' is i th. (influence-labels steps).thinned s x l l' is i (Thinned-weaker (outside policy x) (outside Q x) (outside_both x i) l l' th);
     changed = λ s x step is i differs. false_from_ne_true _ (λ out.
-        not_both (is_step_of (outside Q x) (client_of step)) (is_step-weaker (outside policy x) (outside Q x) (outside_both x i) (client_of step) out) (influence-labels.changed s x step is i differs));
+        not_both (is_step_of (outside Q x) (client_of step)) (is_step-weaker (outside policy x) (outside Q x) (outside_both x i) (client_of step) out) ((influence-labels steps).changed s x step is i differs));
   }
 
   -- the cells that c may learn
   pub learnable_closed : (c : ℕ) → IsClosed P (λ x. has (Q x).learn c)
   learnable_closed c e is h = within_has (Q e.target).learn (Q e.source).learn (a.learn_flows e is) c h
 
-  pub secrecy-labels : Secrecy P Q
-  secrecy-labels = record {
+  pub secrecy-labels : StepLaws P → Secrecy P Q
+  secrecy-labels steps = record {
     same_replies = λ c s s' l l' is is' look alike.
-        hidden-replies P Q (λ x. has (Q x).learn c) c (learnable_closed c) (λ x i may. a.readers c x i may) (are_hidden P Q c) l l' s s' (is ∙ sym is') look alike;
+        hidden-replies P steps Q (λ x. has (Q x).learn c) c (learnable_closed c) (λ x i may. a.readers c x i may) (are_hidden P Q c) l l' s s' (is ∙ sym is') look alike;
   }
 
   pub learn_more : (c : ℕ) (x : CellRef) → IsIn (cells P) x → has (Q x).learn c ≡ true → has (policy x).learn c ≡ true
@@ -328,7 +328,7 @@ module _ (P : Plan) (policy : Labelling) (labels : Labels) (a : Admits P policy 
   alike_there c (step ∷ l) [] h = absurd h
   alike_there c (step ∷ l) (step' ∷ l') h = (elim h.0 [ inl e ↦ inl e | inr d ↦ inr (hidden_there c step step' d) ], alike_there c l l' h.1)
 
-  pub secrecy-policy : Secrecy P policy
-  secrecy-policy = record {
-    same_replies = λ c s s' l l' is is' look alike. secrecy-labels.same_replies c s s' l l' is is' (look_there c s s' is is' look) (alike_there c l l' alike);
+  pub secrecy-policy : StepLaws P → Secrecy P policy
+  secrecy-policy steps = record {
+    same_replies = λ c s s' l l' is is' look alike. (secrecy-labels steps).same_replies c s s' l l' is is' (look_there c s s' is is' look) (alike_there c l l' alike);
   }

@@ -6,15 +6,15 @@ use Rattle.cosem_data.specs.declared.cell.CellRef.{CellRef}
 use Rattle.meter_theory.specs.State.{State}
 use Rattle.meter_theory.specs.Plan.{Plan, cells}
 use Rattle.meter_theory.specs.Rights.{may_get}
-use Rattle.meter_theory.specs.Steps.{Step, client_of, effects_of, next}
+use Rattle.meter_theory.specs.Steps.{Step, client_of, next}
 use Rattle.meter_theory.specs.Replies.{is_step_of_client, reply_to, replies, replies_of}
 use Rattle.meter_theory.specs.Edges.{Agree, IsClosed}
 use Rattle.meter_theory.specs.Labels.{Labels, Labelling, labelling_of, has, Admits}
 use Rattle.meter_theory.specs.Safety.{HasCells}
 use Rattle.meter_theory.specs.Unequal.{IsQuiet, AlikeButQuiet, both_end, same_step, hidden_step, quiet_first, quiet_second, UnequalSecrecy}
-use Rattle.meter_theory.proofs.State.{value_missing}
-use Rattle.meter_theory.proofs.Depends.{is_touched}
-use Rattle.meter_theory.proofs.Agreement.{effects-quiet, step-agrees, next-keys}
+use Rattle.meter_theory.proofs.State.{value_missing, is_touched}
+use Rattle.meter_theory.proofs.Agreement.{next-keys}
+use Rattle.meter_theory.proofs.StepsAgree.{StepLaws}
 use Rattle.meter_theory.proofs.Theorem.{reply-same, are_hidden, learnable_closed, learn_more, look_there, hidden_there}
 
 -- the replies of two runs go on alike where a step of one is left out
@@ -30,14 +30,14 @@ quiet_agrees P Q c step quiet s is x h =
           ∙ sym (value_missing s x (λ i. none (subst (λ ks. IsIn ks x) is i)))
     ]
 
-unequal-replies : (P : Plan) (Q : Labelling) (c : ℕ) → IsClosed P (λ x. has (Q x).learn c) →
+unequal-replies : (P : Plan) → StepLaws P → (Q : Labelling) (c : ℕ) → IsClosed P (λ x. has (Q x).learn c) →
     ((x : CellRef) → IsIn (cells P) x → may_get P c x ≡ true → has (Q x).learn c ≡ true) →
     (l l' : List Step) (s t : State) → HasCells P s → HasCells P t → Agree (λ x. has (Q x).learn c) s t → AlikeButQuiet P Q c l l' → replies_of c l (replies P s l) ≡ replies_of c l' (replies P t l')
-unequal-replies P Q c closed reads l l' s t is it agree both_end = refl
-unequal-replies P Q c closed reads l l' s t is it agree (same_step step {l = m} {l' = m'} a) =
+unequal-replies P steps Q c closed reads l l' s t is it agree both_end = refl
+unequal-replies P steps Q c closed reads l l' s t is it agree (same_step step {l = m} {l' = m'} a) =
     equal_heads (is_step_of_client c (client_of step)) refl
-    (unequal-replies P Q c closed reads m m' (next P s step) (next P t step) (next-keys P s step ∙ is) (next-keys P t step ∙ it)
-    (step-agrees P (λ x. has (Q x).learn c) closed s t (is ∙ sym it) agree step) a)
+    (unequal-replies P steps Q c closed reads m m' (next P s step) (next P t step) (next-keys P s step ∙ is) (next-keys P t step ∙ it)
+    (steps.agrees (λ x. has (Q x).learn c) closed step s t (is ∙ sym it) agree) a)
   where
     equal_heads : (b : Bool) → is_step_of_client c (client_of step) ≡ b →
         replies_of c m (replies P (next P s step) m) ≡ replies_of c m' (replies P (next P t step) m') →
@@ -45,24 +45,24 @@ unequal-replies P Q c closed reads l l' s t is it agree (same_step step {l = m} 
         ≡ cond b (reply_to P t step ∷ replies_of c m' (replies P (next P t step) m')) (replies_of c m' (replies P (next P t step) m'))
     equal_heads true p rest = ap₂ (λ r rs. r ∷ rs) (reply-same P (λ x. has (Q x).learn c) c reads s t agree step p) rest
     equal_heads false p rest = rest
-unequal-replies P Q c closed reads l l' s t is it agree (hidden_step step step' {l = m} {l' = m'} d a) =
+unequal-replies P steps Q c closed reads l l' s t is it agree (hidden_step step step' {l = m} {l' = m'} d a) =
     let h = are_hidden P Q c step step' d in
     skip_first P c step m s h.other
-    ∙ (unequal-replies P Q c closed reads m m' (next P s step) (next P t step') (next-keys P s step ∙ is) (next-keys P t step' ∙ it)
-    (λ x i. effects-quiet P (λ y. has (Q y).learn c) (effects_of P s step) s (h.quiet s) x i ∙ (agree x i ∙ sym (effects-quiet P (λ y. has (Q y).learn c) (effects_of P t step') t (h.quiet' t) x i))) a
+    ∙ (unequal-replies P steps Q c closed reads m m' (next P s step) (next P t step') (next-keys P s step ∙ is) (next-keys P t step' ∙ it)
+    (λ x i. steps.quiet (λ y. has (Q y).learn c) step s (h.quiet s) x i ∙ (agree x i ∙ sym (steps.quiet (λ y. has (Q y).learn c) step' t (h.quiet' t) x i))) a
     ∙ sym (skip_first P c step' m' t h.other'))
-unequal-replies P Q c closed reads l l' s t is it agree (quiet_first step {l = m} {l' = m'} q a) =
+unequal-replies P steps Q c closed reads l l' s t is it agree (quiet_first step {l = m} {l' = m'} q a) =
     skip_first P c step m s q.other
-    ∙ unequal-replies P Q c closed reads m l' (next P s step) t (next-keys P s step ∙ is) it (λ x i. quiet_agrees P Q c step q s is x i ∙ agree x i) a
-unequal-replies P Q c closed reads l l' s t is it agree (quiet_second step {l = m} {l' = m'} q a) =
-    unequal-replies P Q c closed reads l m' s (next P t step) is (next-keys P t step ∙ it) (λ x i. agree x i ∙ sym (quiet_agrees P Q c step q t it x i)) a
+    ∙ unequal-replies P steps Q c closed reads m l' (next P s step) t (next-keys P s step ∙ is) it (λ x i. quiet_agrees P Q c step q s is x i ∙ agree x i) a
+unequal-replies P steps Q c closed reads l l' s t is it agree (quiet_second step {l = m} {l' = m'} q a) =
+    unequal-replies P steps Q c closed reads l m' s (next P t step) is (next-keys P t step ∙ it) (λ x i. agree x i ∙ sym (quiet_agrees P Q c step q t it x i)) a
     ∙ sym (skip_first P c step m' t q.other)
 
 module _ (P : Plan) (policy : Labelling) (labels : Labels) (a : Admits P policy labels) where
-  pub unequal-labels : UnequalSecrecy P (labelling_of labels)
-  unequal-labels = record {
+  pub unequal-labels : StepLaws P → UnequalSecrecy P (labelling_of labels)
+  unequal-labels steps = record {
     same_replies = λ c s s' l l' is is' look alike.
-        unequal-replies P (labelling_of labels) c (learnable_closed P policy labels a c) (λ x i may. a.readers c x i may) l l' s s' is is' look alike;
+        unequal-replies P steps (labelling_of labels) c (learnable_closed P policy labels a c) (λ x i may. a.readers c x i may) l l' s s' is is' look alike;
   }
 
   quiet_there : (c : ℕ) (step : Step) → IsQuiet P policy c step → IsQuiet P (labelling_of labels) c step
@@ -78,7 +78,7 @@ module _ (P : Plan) (policy : Labelling) (labels : Labels) (a : Admits P policy 
   there c l l' (quiet_first step {l = m} q r) = quiet_first step (quiet_there c step q) (there c m l' r)
   there c l l' (quiet_second step {l' = m'} q r) = quiet_second step (quiet_there c step q) (there c l m' r)
 
-  pub unequal-policy : UnequalSecrecy P policy
-  unequal-policy = record {
-    same_replies = λ c s s' l l' is is' look alike. unequal-labels.same_replies c s s' l l' is is' (look_there P policy labels a c s s' is is' look) (there c l l' alike);
+  pub unequal-policy : StepLaws P → UnequalSecrecy P policy
+  unequal-policy steps = record {
+    same_replies = λ c s s' l l' is is' look alike. (unequal-labels steps).same_replies c s s' l l' is is' (look_there P policy labels a c s s' is is' look) (there c l l' alike);
   }

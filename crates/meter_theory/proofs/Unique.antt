@@ -1,5 +1,5 @@
 -- A plan and its labels are refused in one way at most.
-use Rattle.std.proofs.Common.{◌≡◌, ◌<◌, ◌⊎◌, ℕ, zero, suc, refl, sym, ap, ap₂, inl, inr, arith}
+use Rattle.std.proofs.Common.{◌≡◌, ◌<◌, ◌⊎◌, ℕ, zero, suc, ap, inl, inr, arith}
 use Rattle.meter_theory.specs.Plan.{Plan, cells}
 use Rattle.meter_theory.specs.Edges.{edges}
 use Rattle.meter_theory.specs.Labels.{Labels, Labelling}

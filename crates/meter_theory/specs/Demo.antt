@@ -1,16 +1,16 @@
 -- The demo configuration: a fed register, an alarm, a table of three scripts, a monitor, a profile and a schedule, with
 -- the rights of four clients, its policy and its labels.
-use Rattle.std.specs.Prelude.{ℕ, pos, true, false, List, [], ◌∷◌, Option, Some, None}
+use Rattle.std.specs.Prelude.{ℕ, pos, true, false, [], ◌∷◌, Some, None}
 use Rattle.std.proofs.Common.{lit<}
 use Rattle.cosem_data.specs.declared.name.LogicalName.{LogicalName}
 use Rattle.cosem_data.specs.declared.clients.ClientSet.{ClientSet}
 use Rattle.cosem_data.specs.Tree.{Tree, null_data, octet_string, unsigned}
 use Rattle.meter_theory.specs.Value.{counter, array_of, structure_of}
 use Rattle.meter_theory.specs.Times.{Moment}
-use Rattle.meter_theory.specs.Plan.{Plan, Client, Data1, Register, ProfileGeneric, ScriptTable, RegisterMonitor, SingleActionSchedule, Write, Invoke, data_value, register_value, buffer, capture_period, entries_in_use, thresholds, seen, execution_time}
-use Rattle.meter_theory.specs.Rights.{Absent, Given, Descriptor}
+use Rattle.meter_theory.specs.Plan.{Plan, Data1, Register, ProfileGeneric, ScriptTable, RegisterMonitor, SingleActionSchedule, Write, Invoke, data_value, register_value, buffer, capture_period, entries_in_use, thresholds, seen, execution_time}
+use Rattle.meter_theory.specs.Rights.{Given, Descriptor}
 use Rattle.meter_theory.specs.Labels.{Label, Labels, Policy}
-use Rattle.meter_theory.specs.Steps.{Step, Get, Set, Act, Input, Evaluate}
+use Rattle.meter_theory.specs.Steps.{Step, Get, Set}
 
 -- the clients, by their places
 abbrev pub public : ℕ

@@ -1,6 +1,6 @@
 -- The attributes that no step changes: shapes by IEC 62056-6-2, choices of this project marked own profile.
-use Rattle.std.specs.Prelude.{ℕ, ℤ, pos, ◌+◌, ◌==◌, Bool, true, false, cond, ◌&&◌, ◌||◌, List, [], ◌∷◌, filter, length, map, get_or, Option, Some, None, is_some, slice_get}
-use Rattle.std.specs.List.{list_any, range_with_len}
+use Rattle.std.specs.Prelude.{ℕ, pos, ◌==◌, Bool, true, cond, ◌&&◌, List, [], ◌∷◌, filter, map, Option, Some, None, slice_get}
+use Rattle.std.specs.List.{range_with_len}
 use Rattle.cosem_data.specs.Tree.{Tree, null_data, boolean, octet_string, integer, unsigned, long_unsigned, enumerated}
 use Rattle.cosem_data.specs.Cells.{same_name, cell}
 use Rattle.cosem_data.specs.declared.name.LogicalName.{LogicalName}
@@ -11,7 +11,7 @@ use Rattle.meter_theory.specs.declared.refs.UpDown.{UpDown}
 use Rattle.meter_theory.specs.declared.refs.ScalerUnit.{ScalerUnit}
 use Rattle.meter_theory.specs.declared.refs.Interface.{Interface}
 use Rattle.meter_theory.specs.Plan.{Plan, Client, Action, Write, Invoke, Script, Part, Data1, Register, ProfileGeneric, ScriptTable, RegisterMonitor, SingleActionSchedule, Object, interface_of, association, association_name, object_at}
-use Rattle.meter_theory.specs.Rights.{may_get, may_set, may_act, may_read, has_right}
+use Rattle.meter_theory.specs.Rights.{may_set, may_act, may_read, has_right}
 
 abbrev pub name_value : LogicalName → Tree
 name_value n = octet_string n.0

@@ -15,7 +15,7 @@ pub mod Labels
 pub mod Check
 pub mod Safety
 pub mod Unequal
-pub mod Classes
+pub mod EffectLaws
 pub mod States
 pub mod Sound
 pub mod Demo

@@ -1,5 +1,5 @@
 -- What a meter answers, and what a list of steps leads to.
-use Rattle.std.specs.Prelude.{ℕ, ◌==◌, Bool, true, false, cond, List, [], ◌∷◌, Option, Some, None}
+use Rattle.std.specs.Prelude.{ℕ, ◌==◌, Bool, false, cond, List, [], ◌∷◌, Option, Some, None}
 use Rattle.cosem_data.specs.Tree.{Tree}
 use Rattle.cosem_data.specs.declared.cell.CellRef.{CellRef}
 use Rattle.meter_theory.specs.declared.access.AccessCode.{AccessCode}
@@ -7,9 +7,9 @@ use Rattle.meter_theory.specs.Access.{is_success}
 use Rattle.meter_theory.specs.Selection.{EntryDescriptor, entries_of}
 use Rattle.meter_theory.specs.State.{State, value}
 use Rattle.meter_theory.specs.Plan.{Plan, is_cell}
-use Rattle.meter_theory.specs.Rights.{Argument, Selection, Descriptor, cell_of, descriptor_in, get_answer, set_answer, act_answer}
+use Rattle.meter_theory.specs.Rights.{Selection, cell_of, descriptor_in, get_answer, set_answer, act_answer}
 use Rattle.meter_theory.specs.Fixed.{fixed}
-use Rattle.meter_theory.specs.Steps.{Step, Get, Set, Act, Input, CaptureAt, Evaluate, ScheduleAt, client_of, next}
+use Rattle.meter_theory.specs.Steps.{Step, Get, Set, Act, client_of, next}
 
 pub data Reply : Type 0 where
   -- the value of an attribute, to a GET

@@ -1,6 +1,6 @@
 -- What a client may do, and the answer to a request, which no state decides
 -- (IEC 62056-5-3, GET, SET and ACTION; IEC 62056-6-2, access rights; the order of the places is own profile).
-use Rattle.std.specs.Prelude.{ℕ, ℤ, pos, ◌==◌, nat_lt, int_le, Bool, true, false, not, ◌&&◌, ◌||◌, cond, List, [], ◌∷◌, length, Option, Some, None, is_some, unsigned_abs, option_and_then}
+use Rattle.std.specs.Prelude.{ℕ, ℤ, pos, ◌==◌, nat_lt, int_le, Bool, true, false, not, ◌&&◌, ◌||◌, cond, List, [], ◌∷◌, length, Option, Some, None, is_some, unsigned_abs}
 use Rattle.std.specs.List.{list_any}
 use Rattle.cosem_data.specs.Tree.{Tree}
 use Rattle.cosem_data.specs.Cells.{same_name, cell}

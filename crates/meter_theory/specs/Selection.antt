@@ -1,5 +1,5 @@
 -- Selective access to a profile's buffer by entry (IEC 62056-6-2, Profile generic, entry_descriptor).
-use Rattle.std.specs.Prelude.{ℕ, ◌-◌, ◌==◌, cond, List, [], ◌∷◌, length, take, drop, map, Option, Some, None, is_some}
+use Rattle.std.specs.Prelude.{ℕ, ◌-◌, ◌==◌, cond, List, [], ◌∷◌, length, take, drop, map, Option, Some, None}
 use Rattle.cosem_data.specs.Tree.{Tree, double_long_unsigned, long_unsigned}
 use Rattle.meter_theory.specs.Times.{parts_of}
 use Rattle.meter_theory.specs.Value.{array_of, structure_of, elements}

@@ -1,5 +1,5 @@
 -- A plan without the faults of a configuration, as far as the promises, the edges and the checker need it.
-use Rattle.std.specs.Prelude.{ℕ, Bool, true, false, not, ◌&&◌, ◌||◌, nat_lt, nat_le, List, [], ◌∷◌, length, map, Option, None, Some, is_some, ◌==◌, ◌≡◌, ◌⊎◌, ◌<◌, ◌≤◌}
+use Rattle.std.specs.Prelude.{ℕ, Bool, true, false, not, ◌&&◌, ◌||◌, nat_lt, nat_le, List, [], ◌∷◌, length, map, Option, None, Some, is_some, ◌==◌, ◌≡◌, ◌⊎◌, ◌≤◌}
 use Rattle.std.specs.List.{list_any, list_all}
 use Rattle.cosem_data.specs.Tree.{Tree}
 use Rattle.cosem_data.specs.Kinds.{kind_of, same_kind}
@@ -12,7 +12,7 @@ use Rattle.meter_theory.specs.declared.refs.ScriptRef.{ScriptRef}
 use Rattle.meter_theory.specs.Lists.{IsIn, AreDistinct, are_distinct, some_passes}
 use Rattle.meter_theory.specs.Value.{Rule, OfKind, meets, is_within_limits}
 use Rattle.meter_theory.specs.State.{value}
-use Rattle.meter_theory.specs.Plan.{Plan, Client, Object, Right, Script, Action, Write, Invoke, Part, Data1, Register, ProfileGeneric, ScriptTable, RegisterMonitor, SingleActionSchedule, association_name, class_of, interface_of, object_at, cells, start, rule_of, entries_in_use}
+use Rattle.meter_theory.specs.Plan.{Plan, Client, Object, Right, Script, Action, Write, Invoke, Part, Register, ProfileGeneric, ScriptTable, RegisterMonitor, SingleActionSchedule, association_name, class_of, interface_of, object_at, cells, start, rule_of, entries_in_use}
 use Rattle.meter_theory.specs.Rights.{knows_script}
 use Rattle.meter_theory.specs.Edges.{scripts_named}
 use Rattle.meter_theory.specs.Steps.{scripts_of, Captures, captures_in}

@@ -1,5 +1,5 @@
 -- What happens to a meter: effects, steps, the state after a step.
-use Rattle.std.specs.Prelude.{ℕ, ◌+◌, ◌==◌, min, Bool, true, false, ◌&&◌, cond, List, [], ◌∷◌, ◌++◌, map, flat_map, find, Option, Some, None, ℤ, int_lt, int_le}
+use Rattle.std.specs.Prelude.{ℕ, ◌+◌, ◌==◌, min, Bool, false, ◌&&◌, cond, List, [], ◌∷◌, ◌++◌, map, flat_map, find, Option, Some, None, ℤ, int_lt, int_le}
 use Rattle.cosem_data.specs.Tree.{Tree, array, no_trees}
 use Rattle.cosem_data.specs.Kinds.{number_of}
 use Rattle.cosem_data.specs.declared.name.LogicalName.{LogicalName}
@@ -11,9 +11,9 @@ use Rattle.meter_theory.specs.Times.{Moment, is_capture_due, is_schedule_due}
 use Rattle.meter_theory.specs.State.{State, value, put}
 use Rattle.meter_theory.specs.declared.refs.ScriptRef.{ScriptRef}
 use Rattle.meter_theory.specs.declared.refs.UpDown.{UpDown}
-use Rattle.meter_theory.specs.Plan.{Plan, Object, Part, Data1, Register, ProfileGeneric, ScriptTable, RegisterMonitor, SingleActionSchedule, Script, Action, Write, Invoke, class_of, object_at, rule_of, register_value, buffer, capture_period, entries_in_use, thresholds, seen, execution_time}
+use Rattle.meter_theory.specs.Plan.{Plan, Object, Part, Register, ProfileGeneric, ScriptTable, RegisterMonitor, SingleActionSchedule, Script, Action, Write, Invoke, class_of, object_at, rule_of, register_value, buffer, capture_period, entries_in_use, thresholds, seen, execution_time}
 use Rattle.meter_theory.specs.Access.{is_success}
-use Rattle.meter_theory.specs.Rights.{Argument, Absent, Given, Unreadable, Descriptor, cell_of, method_of, Selection, set_answer, act_answer, script_number}
+use Rattle.meter_theory.specs.Rights.{Argument, Given, Descriptor, cell_of, method_of, Selection, set_answer, act_answer, script_number}
 
 -- Effects
 

@@ -1,7 +1,7 @@
 -- The parts of values that the definitions look at, and what may stand in a settable cell.
-use Rattle.std.specs.Prelude.{ℕ, ◌==◌, nat_le, Bool, true, false, ◌&&◌, List, [], ◌∷◌, length, get_or, Option, Some, None}
+use Rattle.std.specs.Prelude.{ℕ, ◌==◌, nat_le, Bool, true, ◌&&◌, List, [], length}
 use Rattle.std.specs.List.{list_all}
-use Rattle.cosem_data.specs.Tree.{Tree, null_data, array, structure, double_long_unsigned, long_unsigned, octet_string, no_trees, trees, parts, depth}
+use Rattle.cosem_data.specs.Tree.{Tree, array, structure, double_long_unsigned, trees, parts, depth}
 use Rattle.cosem_data.specs.Kinds.{kind_of, same_kind}
 use Rattle.cosem_data.specs.declared.kind.Kind.{Kind}
 use Rattle.cosem_data.specs.declared.kind.Kind.TheVariants.{Array}

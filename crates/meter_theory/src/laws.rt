@@ -7,9 +7,10 @@ ghost use Rattle.cosem_axdr.specs.Canonical.{HasLengths};
 ghost use Rattle.meter_theory.specs.Lists.{IsIn};
 ghost use Rattle.meter_theory.specs.State.{State, keys, value, put};
 ghost use Rattle.meter_theory.specs.Plan.{Plan, start};
-ghost use Rattle.meter_theory.specs.Steps.{Effect, Step, effect, next};
+ghost use Rattle.meter_theory.specs.Steps.{Step, next};
 ghost use Rattle.meter_theory.specs.Replies.{Value, reply_to, run};
-ghost use Rattle.meter_theory.specs.Edges.{Edge, IsEdge, edges, IsClosed, Agree};
+ghost use Rattle.meter_theory.specs.Edges.{Edge, IsEdge, edges, IsClosed};
+ghost use Rattle.meter_theory.specs.EffectLaws.{KeepsAgreementOn, EffectLaws};
 ghost use Rattle.meter_theory.specs.Labels.{Labels, Labelling, labelling_of, Admits};
 ghost use Rattle.meter_theory.specs.Sound.{IsSound};
 ghost use Rattle.meter_theory.specs.States.{IsState};
@@ -17,28 +18,18 @@ ghost use Rattle.meter_theory.specs.Check.{AllPass, Refusal, Refuses};
 ghost use Rattle.meter_theory.specs.Safety.{Influence, Secrecy};
 ghost use Rattle.meter_theory.specs.Unequal.{UnequalSecrecy};
 
-/// An admitted plan keeps what its policy promises about who influences a cell, and what its labels promise.
-pub fn admitted_is_influence_safe()
-    ensures policy { (P : Plan) (policy : Labelling) (labels : Labels) → Admits P policy labels → Influence P policy }
-    ensures labels { (P : Plan) (policy : Labelling) (labels : Labels) → Admits P policy labels → Influence P (labelling_of labels) }
+/// Where the effects of a plan keep their laws, an admitted plan keeps what its policy, and what its labels, promise
+/// about who influences a cell, and keeps from each client what they hide from it, also over schedules that differ by steps
+/// which the client can't notice.
+pub fn lawful_effects_keep_promises()
+    ensures influence { (P : Plan) (policy : Labelling) (labels : Labels) → EffectLaws P → Admits P policy labels → Influence P policy × Influence P (labelling_of labels) }
+    ensures secrecy { (P : Plan) (policy : Labelling) (labels : Labels) → EffectLaws P → Admits P policy labels → Secrecy P policy × Secrecy P (labelling_of labels) }
+    ensures unequal { (P : Plan) (policy : Labelling) (labels : Labels) → EffectLaws P → Admits P policy labels → UnequalSecrecy P policy × UnequalSecrecy P (labelling_of labels) }
 {}
 
-/// An admitted plan keeps from each client what its policy, and what its labels, hide from it.
-pub fn admitted_is_secret()
-    ensures policy { (P : Plan) (policy : Labelling) (labels : Labels) → Admits P policy labels → Secrecy P policy }
-    ensures labels { (P : Plan) (policy : Labelling) (labels : Labels) → Admits P policy labels → Secrecy P (labelling_of labels) }
-{}
-
-/// The same over schedules that differ by steps which the client can't notice.
-pub fn admitted_is_secret_but_for_quiet_steps()
-    ensures policy { (P : Plan) (policy : Labelling) (labels : Labels) → Admits P policy labels → UnequalSecrecy P policy }
-    ensures labels { (P : Plan) (policy : Labelling) (labels : Labels) → Admits P policy labels → UnequalSecrecy P (labelling_of labels) }
-{}
-
-/// States that agree on a closed set of cells agree on it after each effect, and after each step.
-pub fn closed_sets_keep_agreement()
-    ensures effect { (P : Plan) (S : CellRef → Bool) → IsClosed P S → (e : Effect) (s t : State) → keys s ≡ keys t → Agree S s t → Agree S (effect P s e) (effect P t e) }
-    ensures step { (P : Plan) (S : CellRef → Bool) → IsClosed P S → (step : Step) (s t : State) → keys s ≡ keys t → Agree S s t → Agree S (next P s step) (next P t step) }
+/// Where the effects of a plan keep their laws, states that agree on a closed set of cells agree on it after each step.
+pub fn lawful_effects_keep_agreement()
+    ensures { (P : Plan) (S : CellRef → Bool) → EffectLaws P → IsClosed P S → (step : Step) → KeepsAgreementOn S (λ s. next P s step) }
 {}
 
 /// The list of edges has each edge of a sound plan, and no other.

@@ -1,0 +1,57 @@
+//! What an admitted plan promises. It rests on the laws that the interface classes keep ([`crate::laws`]): these give the
+//! laws of effects, and from them follow influence and secrecy (`meter_theory::laws`). Each function's clauses are its
+//! statement, and what it calls is what it follows from; nothing is done.
+ghost use Rattle.std.specs.Prelude.{Bool};
+ghost use Rattle.cosem_data.specs.declared.cell.CellRef.{CellRef};
+ghost use Rattle.meter_theory.specs.Plan.{Plan};
+ghost use Rattle.meter_theory.specs.Steps.{Step, next};
+ghost use Rattle.meter_theory.specs.Edges.{IsClosed};
+ghost use Rattle.meter_theory.specs.EffectLaws.{KeepsAgreementOn, EffectLaws};
+ghost use Rattle.meter_theory.specs.Labels.{Labels, Labelling, labelling_of, Admits};
+ghost use Rattle.meter_theory.specs.Safety.{Influence, Secrecy};
+ghost use Rattle.meter_theory.specs.Unequal.{UnequalSecrecy};
+
+use crate::laws::closed_sets_keep_agreement;
+use meter_theory::laws::{lawful_effects_keep_agreement, lawful_effects_keep_promises};
+
+/// By the laws of the classes an effect changes only the cells that it says, and keeps agreement on closed sets of cells.
+pub fn effects_are_lawful()
+    ensures { (P : Plan) → EffectLaws P }
+{
+    closed_sets_keep_agreement();
+}
+
+/// States that agree on a closed set of cells agree on it after each step.
+pub fn steps_keep_agreement()
+    ensures { (P : Plan) (S : CellRef → Bool) → IsClosed P S → (step : Step) → KeepsAgreementOn S (λ s. next P s step) }
+{
+    effects_are_lawful();
+    lawful_effects_keep_agreement();
+}
+
+/// An admitted plan keeps what its policy promises about who influences a cell, and what its labels promise.
+pub fn admitted_is_influence_safe()
+    ensures policy { (P : Plan) (policy : Labelling) (labels : Labels) → Admits P policy labels → Influence P policy }
+    ensures labels { (P : Plan) (policy : Labelling) (labels : Labels) → Admits P policy labels → Influence P (labelling_of labels) }
+{
+    effects_are_lawful();
+    lawful_effects_keep_promises();
+}
+
+/// An admitted plan keeps from each client what its policy, and what its labels, hide from it.
+pub fn admitted_is_secret()
+    ensures policy { (P : Plan) (policy : Labelling) (labels : Labels) → Admits P policy labels → Secrecy P policy }
+    ensures labels { (P : Plan) (policy : Labelling) (labels : Labels) → Admits P policy labels → Secrecy P (labelling_of labels) }
+{
+    effects_are_lawful();
+    lawful_effects_keep_promises();
+}
+
+/// The same over schedules that differ by steps which the client can't notice.
+pub fn admitted_is_secret_but_for_quiet_steps()
+    ensures policy { (P : Plan) (policy : Labelling) (labels : Labels) → Admits P policy labels → UnequalSecrecy P policy }
+    ensures labels { (P : Plan) (policy : Labelling) (labels : Labels) → Admits P policy labels → UnequalSecrecy P (labelling_of labels) }
+{
+    effects_are_lawful();
+    lawful_effects_keep_promises();
+}

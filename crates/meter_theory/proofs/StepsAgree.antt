@@ -1,0 +1,189 @@
+-- States that agree on a closed set of cells agree on it after each step, by the laws of the effects.
+use Rattle.std.proofs.Common.{◌≡◌, ◌⊎◌, Bool, true, false, cond, ◌&&◌, List, [], ◌∷◌, flat_map, refl, sym, ap, subst, ◌∙◌, inl, inr, Option, Some, None, subst₂, ℤ, int_lt, int_le}
+use Rattle.meter_theory.specs.Lists.{IsIn, for_some}
+use Rattle.cosem_data.specs.Tree.{Tree}
+use Rattle.meter_theory.specs.Value.{elements, count_of}
+use Rattle.meter_theory.specs.Times.{Moment, is_capture_due, is_schedule_due}
+use Rattle.cosem_data.specs.Kinds.{number_of}
+use Rattle.cosem_data.specs.declared.name.LogicalName.{LogicalName}
+use Rattle.cosem_data.specs.declared.cell.CellRef.{CellRef}
+use Rattle.meter_theory.specs.State.{State, keys, value, put}
+use Rattle.meter_theory.specs.declared.refs.ScriptRef.{ScriptRef}
+use Rattle.meter_theory.specs.declared.refs.UpDown.{UpDown}
+use Rattle.meter_theory.specs.Plan.{Plan, Object, Part, Data1, Register, ProfileGeneric, ScriptTable, RegisterMonitor, SingleActionSchedule, buffer, capture_period, entries_in_use, thresholds, seen, execution_time, object_at}
+use Rattle.meter_theory.specs.Steps.{Effect, Put, Capture, effects, changed_by, changed, effects_of_script, due_scripts, due_at, Step, Get, Set, Act, Input, CaptureAt, Evaluate, ScheduleAt, captured_at, evaluated, scheduled_at, effects_of, next}
+use Rattle.meter_theory.specs.Edges.{Agree, IsClosed, edge, Cause, Monitored, Monitor, Period, Schedule, IsEdge, EdgeIn, script_changes, scripts_named, monitor_changes}
+use Rattle.meter_theory.specs.EffectLaws.{KeepsAgreementOn, EffectLaws}
+use Rattle.meter_theory.proofs.Lists.{in_append_left, in_append_right, in_append_cases, in_flat_map, from_flat_map}
+use Rattle.meter_theory.proofs.Agreement.{object-found, effects-keys, effects-append, AreQuiet, quiet_branch, meets_or_not, effects-agree, effects-quiet, agree_or_quiet}
+
+-- an edge that the object of a name makes
+edge_at : (P : Plan) (n : LogicalName) (o : Object) → object_at P n ≡ Some o → (cause : Cause) (x y : CellRef) → EdgeIn P n o.part cause x y → IsEdge P (edge cause x y)
+edge_at P n o is cause x y e =
+    let at = object-found P n o is in
+    (o, at.0, subst (λ m. EdgeIn P m o.part cause x y) (sym at.1) e)
+
+-- the due scripts are scripts of the monitor
+due_at_in : (action : UpDown) (th before now : Option ℤ) (r : ScriptRef) → IsIn (due_at action th before now) r → IsIn (action.up ∷ action.down ∷ []) r
+due_at_in action None before now r i = absurd i
+due_at_in action (Some th) None now r i = absurd i
+due_at_in action (Some th) (Some before) None r i = absurd i
+due_at_in action (Some th) (Some before) (Some now) r i =
+    either (int_lt before th && int_le th now) (int_le th before && int_lt now th) i
+  where
+    either : (b c : Bool) → IsIn (cond b (action.up ∷ []) (cond c (action.down ∷ []) [])) r → IsIn (action.up ∷ action.down ∷ []) r
+    either true c (inl e) = inl e
+    either true c (inr j) = absurd j
+    either false true (inl e) = inr (inl e)
+    either false true (inr j) = absurd j
+    either false false j = absurd j
+
+due_in : (actions : List UpDown) (ths : List Tree) (before now : Tree) (r : ScriptRef) → IsIn (due_scripts actions ths before now) r → IsIn (scripts_named actions) r
+due_in [] ths before now r i = absurd i
+due_in (action ∷ actions) [] before now r i = absurd i
+due_in (action ∷ actions) (th ∷ ths) before now r i =
+    elim (in_append_cases (due_at action (number_of th) (number_of before) (number_of now)) (due_scripts actions ths before now) r i) [
+      | inl j ↦ in_append_left (action.up ∷ action.down ∷ []) (scripts_named actions) r (due_at_in action (number_of th) (number_of before) (number_of now) r j)
+      | inr j ↦ in_append_right (action.up ∷ action.down ∷ []) (scripts_named actions) r (due_in actions ths before now r j)
+    ]
+
+-- what effects of scripts change is changed by one of the scripts
+changed_by_scripts : (P : Plan) (rs : List ScriptRef) (x : CellRef) → IsIn (changed (flat_map (effects_of_script P) rs)) x → (r : ScriptRef) × IsIn rs r × IsIn (script_changes P r) x
+changed_by_scripts P rs x i =
+    let e = from_flat_map changed_by (flat_map (effects_of_script P) rs) x i in
+    let r = from_flat_map (effects_of_script P) rs e.0 e.1 in
+    (r.0, r.1, in_flat_map changed_by (effects_of_script P r.0) e.0 x r.2 e.2)
+
+due_quiet : (P : Plan) (S : CellRef → Bool) (actions : List UpDown) → ((x : CellRef) → IsIn (monitor_changes P actions) x → S x ≡ false) →
+    (ths : List Tree) (before now : Tree) → AreQuiet S (flat_map (effects_of_script P) (due_scripts actions ths before now))
+due_quiet P S actions quiet ths before now x i =
+    let r = changed_by_scripts P (due_scripts actions ths before now) x i in
+    quiet x (in_flat_map (script_changes P) (scripts_named actions) r.0 x (due_in actions ths before now r.0 r.1) r.2)
+
+module _ (P : Plan) (laws : EffectLaws P) (S : CellRef → Bool) (closed : IsClosed P S) (s t : State) (k : keys s ≡ keys t) (agree : Agree S s t) where
+  captured-agree : (n : LogicalName) (moment : Moment) (o : Object) → object_at P n ≡ Some o → (part : Part) → o.part ≡ part →
+      Agree S (effects P s (captured_at s n moment part)) (effects P t (captured_at t n moment part))
+  captured-agree n moment o is (Data1 start) h = agree
+  captured-agree n moment o is (Register start default scaler_unit) h = agree
+  captured-agree n moment o is (ScriptTable scripts) h = agree
+  captured-agree n moment o is (RegisterMonitor monitored th actions) h = agree
+  captured-agree n moment o is (SingleActionSchedule script type times) h = agree
+  captured-agree n moment o is (ProfileGeneric captured period entries) h =
+      agree_or_quiet P laws S closed _ _ s t k agree (
+      elim (meets_or_not S (buffer n ∷ entries_in_use n ∷ [])) [
+        | inl m ↦ inl (ap (λ v. cond (is_capture_due (count_of v) moment) (Capture n ∷ []) [])
+            (agree (capture_period n) (closed (edge Period (capture_period n) m.0)
+            (edge_at P n o is Period (capture_period n) m.0 (subst (λ p. EdgeIn P n p Period (capture_period n) m.0) (sym h) (refl, m.1))) m.2)))
+        | inr quiet ↦ inr (quiet_branch S _ (Capture n ∷ []) (λ x i. quiet x (one_effect x i)), quiet_branch S _ (Capture n ∷ []) (λ x i. quiet x (one_effect x i)))
+      ])
+    where
+      one_effect : (x : CellRef) → IsIn (changed (Capture n ∷ [])) x → IsIn (buffer n ∷ entries_in_use n ∷ []) x
+      one_effect x (inl e) = inl e
+      one_effect x (inr (inl e)) = inr (inl e)
+      one_effect x (inr (inr e)) = absurd e
+
+  scheduled-agree : (n : LogicalName) (moment : Moment) (o : Object) → object_at P n ≡ Some o → (part : Part) → o.part ≡ part →
+      Agree S (effects P s (scheduled_at P s n moment part)) (effects P t (scheduled_at P t n moment part))
+  scheduled-agree n moment o is (Data1 start) h = agree
+  scheduled-agree n moment o is (Register start default scaler_unit) h = agree
+  scheduled-agree n moment o is (ProfileGeneric captured period entries) h = agree
+  scheduled-agree n moment o is (ScriptTable scripts) h = agree
+  scheduled-agree n moment o is (RegisterMonitor monitored th actions) h = agree
+  scheduled-agree n moment o is (SingleActionSchedule script type times) h =
+      agree_or_quiet P laws S closed _ _ s t k agree (
+      elim (meets_or_not S (script_changes P script)) [
+        | inl m ↦ inl (ap (λ v. cond (is_schedule_due (elements v) moment) (effects_of_script P script) [])
+            (agree (execution_time n) (closed (edge Schedule (execution_time n) m.0)
+            (edge_at P n o is Schedule (execution_time n) m.0 (subst (λ p. EdgeIn P n p Schedule (execution_time n) m.0) (sym h) (refl, m.1))) m.2)))
+        | inr quiet ↦ inr (quiet_branch S _ (effects_of_script P script) quiet, quiet_branch S _ (effects_of_script P script) quiet)
+      ])
+
+  evaluated-agree : (n : LogicalName) (o : Object) → object_at P n ≡ Some o → (part : Part) → o.part ≡ part →
+      Agree S (effects P s (evaluated P s n part)) (effects P t (evaluated P t n part))
+  evaluated-agree n o is (Data1 start) h = agree
+  evaluated-agree n o is (Register start default scaler_unit) h = agree
+  evaluated-agree n o is (ProfileGeneric captured period entries) h = agree
+  evaluated-agree n o is (ScriptTable scripts) h = agree
+  evaluated-agree n o is (SingleActionSchedule script type times) h = agree
+  evaluated-agree n o is (RegisterMonitor monitored th actions) h =
+      subst₂ (Agree S) (sym (effects-append P s es (Put (seen n) now ∷ []))) (sym (effects-append P t fs (Put (seen n) then ∷ []))) after_seen
+    where
+      due_of : State → List Effect
+      due_of u = flat_map (effects_of_script P) (due_scripts actions (elements (value u (thresholds n))) (value u (seen n)) (value u monitored))
+
+      es : List Effect
+      es = due_of s
+
+      fs : List Effect
+      fs = due_of t
+
+      now : Tree
+      now = value s monitored
+
+      then : Tree
+      then = value t monitored
+
+      guard : (y : CellRef) → IsIn (monitored ∷ thresholds n ∷ seen n ∷ []) y → (x : CellRef) → IsIn (monitor_changes P actions) x → S x ≡ true → value s y ≡ value t y
+      guard y i x j e = agree y (closed (edge Monitor y x) (edge_at P n o is Monitor y x (subst (λ p. EdgeIn P n p Monitor y x) (sym h) (i, j))) e)
+
+      of_guards : Tree → Tree → Tree → List Effect
+      of_guards a b c = flat_map (effects_of_script P) (due_scripts actions (elements a) b c)
+
+      same_due : value s (thresholds n) ≡ value t (thresholds n) → value s (seen n) ≡ value t (seen n) → now ≡ then → es ≡ fs
+      same_due p q r =
+          ap (λ v. of_guards v (value s (seen n)) now) p
+          ∙ (ap (λ v. of_guards (value t (thresholds n)) v now) q ∙ ap (λ v. of_guards (value t (thresholds n)) (value t (seen n)) v) r)
+
+      after_scripts : Agree S (effects P s es) (effects P t fs)
+      after_scripts = agree_or_quiet P laws S closed es fs s t k agree (
+          elim (meets_or_not S (monitor_changes P actions)) [
+            | inl m ↦ inl (same_due (guard (thresholds n) (inr (inl refl)) m.0 m.1 m.2) (guard (seen n) (inr (inr (inl refl))) m.0 m.1 m.2) (guard monitored (inl refl) m.0 m.1 m.2))
+            | inr quiet ↦ inr (due_quiet P S actions quiet _ _ _, due_quiet P S actions quiet _ _ _)
+          ])
+
+      -- into seen go two values where it isn't in S, and one where it is
+      after_seen : Agree S (put (effects P s es) (seen n) now) (put (effects P t fs) (seen n) then)
+      after_seen =
+          agree_or_quiet P laws S closed (Put (seen n) now ∷ []) (Put (seen n) then ∷ [])
+          (effects P s es) (effects P t fs) (effects-keys P s es ∙ (k ∙ sym (effects-keys P t fs))) after_scripts
+          (elim (S (seen n)) as (λ b. S (seen n) ≡ b → ((Put (seen n) now ∷ []) ≡ (Put (seen n) then ∷ [])) ⊎ (AreQuiet S (Put (seen n) now ∷ []) × AreQuiet S (Put (seen n) then ∷ []))) [
+            | true ↦ λ p. inl (ap (λ v. Put (seen n) v ∷ []) (agree monitored (closed (edge Monitored monitored (seen n)) (edge_at P n o is Monitored monitored (seen n) (subst (λ q. EdgeIn P n q Monitored monitored (seen n)) (sym h) (refl, refl))) p)))
+            | false ↦ λ p. inr (one_quiet p now, one_quiet p then)
+          ] refl)
+        where
+          one_quiet : S (seen n) ≡ false → (v : Tree) → AreQuiet S (Put (seen n) v ∷ [])
+          one_quiet p v x (inl e) = subst (λ z. S z ≡ false) (sym e) p
+          one_quiet p v x (inr none) = absurd none
+
+  -- States that agree on a closed set agree on it after a step.
+  step-agrees : (step : Step) → Agree S (next P s step) (next P t step)
+  step-agrees (Get c d selection) = agree
+  step-agrees (Set c d selected v) = effects-agree P laws S closed (effects_of P s (Set c d selected v)) s t k agree
+  step-agrees (Act c d argument) = effects-agree P laws S closed (effects_of P s (Act c d argument)) s t k agree
+  step-agrees (Input x v) = effects-agree P laws S closed (effects_of P s (Input x v)) s t k agree
+  step-agrees (CaptureAt n moment) =
+      elim (object_at P n) as (λ o. object_at P n ≡ o → Agree S (effects P s (for_some o (λ z. captured_at s n moment z.part))) (effects P t (for_some o (λ z. captured_at t n moment z.part)))) [
+        | None ↦ λ is. agree
+        | Some o ↦ λ is. captured-agree n moment o is o.part refl
+      ] refl
+  step-agrees (ScheduleAt n moment) =
+      elim (object_at P n) as (λ o. object_at P n ≡ o → Agree S (effects P s (for_some o (λ z. scheduled_at P s n moment z.part))) (effects P t (for_some o (λ z. scheduled_at P t n moment z.part)))) [
+        | None ↦ λ is. agree
+        | Some o ↦ λ is. scheduled-agree n moment o is o.part refl
+      ] refl
+  step-agrees (Evaluate n) =
+      elim (object_at P n) as (λ o. object_at P n ≡ o → Agree S (effects P s (for_some o (λ z. evaluated P s n z.part))) (effects P t (for_some o (λ z. evaluated P t n z.part)))) [
+        | None ↦ λ is. agree
+        | Some o ↦ λ is. evaluated-agree n o is o.part refl
+      ] refl
+
+-- What the theorems need of a plan's steps.
+pub record StepLaws (P : Plan) : Type 0 where
+  pub quiet : (S : CellRef → Bool) (step : Step) (s : State) → AreQuiet S (effects_of P s step) → Agree S (next P s step) s
+  pub agrees : (S : CellRef → Bool) → IsClosed P S → (step : Step) → KeepsAgreementOn S (λ s. next P s step)
+
+pub steps-lawful : (P : Plan) → EffectLaws P → StepLaws P
+steps-lawful P laws = record {
+  quiet = λ S step s. effects-quiet P laws S (effects_of P s step) s;
+  agrees = λ S closed step s t k agree. step-agrees P laws S closed s t k agree step;
+}
