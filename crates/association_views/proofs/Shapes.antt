@@ -22,19 +22,11 @@ sap_within P sound c client is =
 
 pub few_attributes : (part : Part) → (interface_of part).attributes < 128
 few_attributes (Data1 start) = omega arith
-few_attributes (Register start default scaler_unit) = omega arith
-few_attributes (ProfileGeneric captured period entries) = omega arith
-few_attributes (ScriptTable scripts) = omega arith
-few_attributes (RegisterMonitor monitored thresholds actions) = omega arith
-few_attributes (SingleActionSchedule script type times) = omega arith
+few_attributes _ = omega arith
 
 pub few_methods : (part : Part) → (interface_of part).methods < 128
 few_methods (Data1 start) = omega arith
-few_methods (Register start default scaler_unit) = omega arith
-few_methods (ProfileGeneric captured period entries) = omega arith
-few_methods (ScriptTable scripts) = omega arith
-few_methods (RegisterMonitor monitored thresholds actions) = omega arith
-few_methods (SingleActionSchedule script type times) = omega arith
+few_methods _ = omega arith
 
 -- the next index
 pub one_more : (f : ℕ → Tree) (n : ℕ) → map f (range_with_len 1 (n + 1)) ≡ map f (range_with_len 1 n) ++ f (n + 1) ∷ []

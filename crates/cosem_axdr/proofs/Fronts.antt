@@ -31,10 +31,7 @@ used_rest bytes t rest h = ap (drop (length bytes - length rest)) h.front ∙ dr
 
 is_memory : {Y : Type 0} (e : ReadFault) (read : Result Y ReadFault) (y : Y) → Fails e read → read ≡ Ok y → e ≡ Memory
 is_memory Memory read y f is = refl
-is_memory Short read y f is = absurd cc
-is_memory UnknownTag read y f is = absurd cc
-is_memory TooDeep read y f is = absurd cc
-is_memory Length read y f is = absurd cc
+is_memory _ read y f is = absurd cc
 
 pub is_only : (bytes : List ℕ) (r : Result (Data × Bor (List ℕ)) ReadFault) → Gives (λ x. (tree x.0, x.1.now)) r (data_at 16 bytes) → (t : Tree) (rest : List ℕ) → BeginsWith bytes t rest
     → MatchResult r (λ x. (tree x.0 ≡ t) × (x.1.now ≡ rest)) (λ e. e ≡ Memory)

@@ -65,10 +65,7 @@ err_is f g e = cc
 
 is_short : (f : ReadFault) → (f ≡ Short) ⊎ (f ≢ Short)
 is_short Short = inl refl
-is_short UnknownTag = inr (λ e. cc)
-is_short TooDeep = inr (λ e. cc)
-is_short Length = inr (λ e. cc)
-is_short Memory = inr (λ e. cc)
+is_short _ = inr (λ e. cc)
 
 same_steady : {A : Type 0} (r s : Reader A) → ((bytes : List ℕ) → r bytes ≡ s bytes) → IsSteady r → IsSteady s
 same_steady r s same h = record {

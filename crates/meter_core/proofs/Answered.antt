@@ -43,34 +43,16 @@ no_effects xs h = nil_from_length xs (eqb-true (length xs) 0 h)
 
 granted : (code : AccessCode) (unit : Unit {0}) → Ok unit ≡ permitted code → code ≡ codes.Success
 granted codes.Success unit h = refl
-granted codes.TemporaryFailure unit h = cc
-granted codes.ReadWriteDenied unit h = cc
-granted codes.ObjectUndefined unit h = cc
-granted codes.ObjectClassInconsistent unit h = cc
-granted codes.TypeUnmatched unit h = cc
-granted codes.ScopeOfAccessViolated unit h = cc
-granted codes.OtherReason unit h = cc
+granted _ unit h = cc
 
 refused : (code given : AccessCode) → Err given ≡ permitted code → (given ≡ code) × (is_success code ≡ false)
 refused codes.Success given h = cc
-refused codes.TemporaryFailure given h = (cc, refl)
-refused codes.ReadWriteDenied given h = (cc, refl)
-refused codes.ObjectUndefined given h = (cc, refl)
-refused codes.ObjectClassInconsistent given h = (cc, refl)
-refused codes.TypeUnmatched given h = (cc, refl)
-refused codes.ScopeOfAccessViolated given h = (cc, refl)
-refused codes.OtherReason given h = (cc, refl)
+refused _ given h = (cc, refl)
 
 -- what is granted isn't refused
 not_refused : {b : Bool} (code : AccessCode) (unit : Unit {0}) → Ok unit ≡ permitted code → not (is_success code) ≡ true → b ≡ true
 not_refused codes.Success unit h n = cc
-not_refused codes.TemporaryFailure unit h n = cc
-not_refused codes.ReadWriteDenied unit h n = cc
-not_refused codes.ObjectUndefined unit h n = cc
-not_refused codes.ObjectClassInconsistent unit h n = cc
-not_refused codes.TypeUnmatched unit h n = cc
-not_refused codes.ScopeOfAccessViolated unit h n = cc
-not_refused codes.OtherReason unit h n = cc
+not_refused _ unit h n = cc
 
 not-false : (b : Bool) → not b ≡ false → b ≡ true
 not-false true h = refl
@@ -209,19 +191,14 @@ pub own_reply : (P : Plan) (s : State) (step : Step) → client_of step ≡ None
 own_reply P s (Get c d selection) own = cc
 own_reply P s (Set c d chosen v) own = cc
 own_reply P s (Act c d argument) own = cc
-own_reply P s (Input x v) own = refl
-own_reply P s (CaptureAt n t) own = refl
-own_reply P s (Evaluate n) own = refl
-own_reply P s (ScheduleAt n t) own = refl
+own_reply P s _ own = refl
 
 pub own_memory : (P : Plan) (s : State) (step : Step) → client_of step ≡ None → needs_no_memory P s step ≡ true → effects_of P s step ≡ []
-own_memory P s (Get c d selection) own n = cc
-own_memory P s (Set c d chosen v) own n = cc
-own_memory P s (Act c d argument) own n = cc
 own_memory P s (Input x v) own n = no_effects (effects_of P s (Input x v)) n
 own_memory P s (CaptureAt m t) own n = no_effects (effects_of P s (CaptureAt m t)) n
 own_memory P s (Evaluate m) own n = no_effects (effects_of P s (Evaluate m)) n
 own_memory P s (ScheduleAt m t) own n = no_effects (effects_of P s (ScheduleAt m t)) n
+own_memory P s _ own n = cc
 
 stands : (P : Plan) (x : CellRef) (v : Tree) (r : Option Rule) → rule_of P x ≡ r → meets_rule r (Given v) ≡ true → MayStand P x v
 stands P x v None is h = cc
@@ -236,6 +213,5 @@ granted_fits P c d chosen v unit h =
 
 -- nothing is put where no value was given
 pub nothing_given : (P : Plan) (s : State) (x : CellRef) (v : code.Argument) → ((value : Data) → v ≡ arguments.Value value → ⊥) → s ≡ effects P s (given_value x (argument_of v))
-nothing_given P s x arguments.Absent h = refl
 nothing_given P s x (arguments.Value value) h = absurd (h value refl)
-nothing_given P s x arguments.Unreadable h = refl
+nothing_given P s x _ h = refl

@@ -104,10 +104,7 @@ module _ (P : Plan) where
       subst (λ z. IsOperation 21 name (monitor_touched Remember) (monitor_new_value fixed Remember v) [] (λ s. put s z v)) (sym is.0)
       (put-is_operation 21 name 0 v (monitor_touched Remember) (monitor_new_value fixed Remember v) [] (λ s cells i. refl))
   remember-operation name (Data1 first) x v is = absurd is
-  remember-operation name (Register first default scaler_unit) x v is = absurd is
-  remember-operation name (ProfileGeneric captured period entries) x v is = absurd is
-  remember-operation name (ScriptTable scripts) x v is = absurd is
-  remember-operation name (SingleActionSchedule script type times) x v is = absurd is
+  remember-operation name _ x v is = absurd is
 
   -- A reset of a register puts its default.
   pub reset-operation : (o : Object) (first default argument : Tree) (unit : ScalerUnit) → o.part ≡ Register first default unit →
@@ -126,10 +123,7 @@ module _ (P : Plan) where
         (refl, clear-is_operation fixed name argument),
       )
   profile_in name (Data1 first) argument c is = cc
-  profile_in name (Register first default scaler_unit) argument c is = cc
-  profile_in name (ScriptTable scripts) argument c is = cc
-  profile_in name (RegisterMonitor monitored thresholds actions) argument c is = cc
-  profile_in name (SingleActionSchedule script type times) argument c is = cc
+  profile_in name _ argument c is = cc
 
   at_profile : (n : LogicalName) (argument : Tree) (c : Captures) → (found : Option Object) → object_at P n ≡ found → captures_of found ≡ Some c →
       IsAcceptedOperation P (Invoke 2) argument (λ s. capture s n (Some c)) × IsAcceptedOperation P (Invoke 1) argument (λ s. clear s n)

@@ -306,11 +306,7 @@ other_method P m argument o is other =
   where
     in_part : (part : Part) → ((scripts : List Script) → part ≡ ScriptTable scripts → ⊥) → theory.plain_method m.name part m.index ≡ theory.method_in P m part (script_number argument)
     in_part (ScriptTable scripts) apart = absurd (apart scripts refl)
-    in_part (Data1 first) apart = refl
-    in_part (Register first default scaler_unit) apart = refl
-    in_part (ProfileGeneric captured period entries) apart = refl
-    in_part (RegisterMonitor monitored th actions) apart = refl
-    in_part (SingleActionSchedule script type times) apart = refl
+    in_part _ apart = refl
 
 -- a part that is no script table means none
 pub no_table : (q : code_part.Part) → ((p : ScriptTablePart) → q ≡ parts.ScriptTable p → ⊥) → (o : Object) → part_of q ≡ o.part → (scripts : List Script) → o.part ≡ ScriptTable scripts → ⊥

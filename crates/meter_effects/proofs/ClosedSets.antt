@@ -38,19 +38,17 @@ without_sources touched class_id name captured set = record {
 
 -- a cell of a profile depends on itself alone
 own_source-same : (op : Op) (i j : ℕ) → profile_own_sources op i j ≡ true → i ≡ j
-own_source-same (Write index) i j is = cc
 own_source-same (Invoke method) i j is =
     elim (or_cases ((i == 2) && (j == 2)) ((i == 7) && (j == 7)) (and_parts (method == 2) _ is).1) [
       | inl both ↦ let parts = and_parts (i == 2) (j == 2) both in eqb-true i 2 parts.0 ∙ sym (eqb-true j 2 parts.1)
       | inr both ↦ let parts = and_parts (i == 7) (j == 7) both in eqb-true i 7 parts.0 ∙ sym (eqb-true j 7 parts.1)
     ]
-own_source-same Remember i j is = cc
+own_source-same _ i j is = cc
 
 -- and the buffer on the row
 row_cell-buffer : (op : Op) (i : ℕ) → profile_row_cells op i ≡ true → i ≡ 2
-row_cell-buffer (Write index) i is = cc
 row_cell-buffer (Invoke method) i is = eqb-true i 2 (and_parts (method == 2) (i == 2) is).1
-row_cell-buffer Remember i is = cc
+row_cell-buffer _ i is = cc
 
 -- a set that has, with the buffer, the captured cells
 profile_sources : (op : Op) (name : LogicalName) (captured : List CellRef) (set : CellRef → Bool) → (set (buffer name) ≡ true → (x : CellRef) → IsIn captured x → set x ≡ true) →
@@ -63,11 +61,7 @@ profile_sources op name captured set closed = record {
 -- a captured cell has an edge to the buffer
 captured_edge : (P : Plan) (name : LogicalName) (part : Part) (x : CellRef) → IsIn (captured_in part) x → EdgeIn P name part Captured x (buffer name)
 captured_edge P name (ProfileGeneric captured period entries) x inside = (inside, refl)
-captured_edge P name (Data1 first) x inside = absurd inside
-captured_edge P name (Register first default scaler_unit) x inside = absurd inside
-captured_edge P name (ScriptTable scripts) x inside = absurd inside
-captured_edge P name (RegisterMonitor monitored thresholds actions) x inside = absurd inside
-captured_edge P name (SingleActionSchedule script type times) x inside = absurd inside
+captured_edge P name _ x inside = absurd inside
 
 -- a method of a profile touches two cells at most
 untouched : (method : ℕ) (name : LogicalName) (x : CellRef) → (IsIn (buffer name ∷ entries_in_use name ∷ []) x → ⊥) → x ≡ cell 7 name x.index → profile_touched (Invoke method) x.index ≡ false

@@ -54,8 +54,7 @@ may_take-at P (f ∷ es) (suc i) e within is may = may_take-at P es i e (omega a
 pub may_take-fits : (P : Plan) (e : Effect) → MayTake P e → Fits P (effect_of e)
 may_take-fits P (effects.Put cell v) may = inl may
 may_take-fits P (effects.Remember monitor v) may = may
-may_take-fits P (effects.Capture profile) may = tt
-may_take-fits P (effects.Clear profile) may = tt
+may_take-fits P _ may = tt
 
 -- a push that succeeds
 pub pushed : {A U E : Type 0} (r : Result U E) (u : U) (new before after : List A) → r ≡ Ok u → new ≡ (if is_ok r then after else before) → new ≡ after

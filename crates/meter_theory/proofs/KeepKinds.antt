@@ -67,12 +67,9 @@ apart_from_ruled P x y rule h k = false_from_ne_true (same_cell x y) (λ e.
 
 -- what an object holds depends on three of its cells
 holds_same : (P : Plan) (s t : State) (n : LogicalName) (part : Part) → value t (buffer n) ≡ value s (buffer n) → value t (entries_in_use n) ≡ value s (entries_in_use n) → value t (seen n) ≡ value s (seen n) → Holds P s n part → Holds P t n part
-holds_same P s t n (Data1 start) b u e h = tt
-holds_same P s t n (Register start default scaler_unit) b u e h = tt
 holds_same P s t n (ProfileGeneric captured period entries) b u e h = (subst (IsBuffer P captured entries) (sym b) h.0, subst (IsCount entries) (sym u) h.1)
-holds_same P s t n (ScriptTable scripts) b u e h = tt
 holds_same P s t n (RegisterMonitor monitored th actions) b u e h = subst (IsSeen P monitored) (sym e) h
-holds_same P s t n (SingleActionSchedule script type times) b u e h = tt
+holds_same P s t n _ b u e h = tt
 
 -- a value that meets its rule
 pub put-keeps : (P : Plan) (s : State) (x : CellRef) (v : Tree) (rule : Rule) → rule_of P x ≡ Some rule → meets rule v ≡ true → IsState P s → IsState P (put s x v)
@@ -177,14 +174,11 @@ both-keep P s n b u own k = record {
         (subst (IsBuffer P captured entries) (sym (new_buffer first)) fits.0, subst (IsCount entries) (sym (new_in_use second)) fits.1)
 
     at : (o : Object) → IsIn P.objects o → (part : Part) → o.part ≡ part → Holds P new o.name part
-    at o there (Data1 start) h = tt
-    at o there (Register start default scaler_unit) h = tt
     at o there (ProfileGeneric captured period entries) h = profile_at o there captured period entries h (same_name o.name n) refl
-    at o there (ScriptTable scripts) h = tt
     at o there (RegisterMonitor monitored th actions) h =
         let old : Holds P s o.name (RegisterMonitor monitored th actions) = subst (Holds P s o.name) h (k.inner o there) in
         subst (IsSeen P monitored) (sym (seen_stays o.name)) old
-    at o there (SingleActionSchedule script type times) h = tt
+    at o there _ h = tt
 
 pub clear-keeps : (P : Plan) (s : State) (n : LogicalName) → IsState P s → IsState P (clear s n)
 clear-keeps P s n k = both-keep P s n (array no_trees) (counter 0) (λ o there named. own o.part) k
@@ -295,11 +289,7 @@ remembered P s n v cells_are o there named fits p same = subst (λ z. Holds P (p
 
 is_seen_of : (P : Plan) (n : LogicalName) (part : Part) (x : CellRef) (v : Tree) → IsRemembered P n part x v → x ≡ seen n
 is_seen_of P n (RegisterMonitor monitored th actions) x v r = r.0
-is_seen_of P n (Data1 first) x v r = absurd r
-is_seen_of P n (Register first default scaler_unit) x v r = absurd r
-is_seen_of P n (ProfileGeneric captured period entries) x v r = absurd r
-is_seen_of P n (ScriptTable scripts) x v r = absurd r
-is_seen_of P n (SingleActionSchedule script type times) x v r = absurd r
+is_seen_of P n _ x v r = absurd r
 
 -- An effect that fits keeps the kinds.
 pub effect-keeps : (P : Plan) → IsSound P → (s : State) (e : Effect) → Fits P e → IsState P s → IsState P (effect P s e)

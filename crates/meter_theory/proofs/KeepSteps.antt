@@ -41,10 +41,6 @@ module _ (P : Plan) (sound : IsSound P) where
   one_fit e f g (inr none) = absurd none
 
   plain_fit : (n : LogicalName) (o : Object) → object_at P n ≡ Some o → (part : Part) → o.part ≡ part → (index : ℕ) → AllFit P (plain_method n part index)
-  plain_fit n o is (Data1 first) h index e i = absurd i
-  plain_fit n o is (ScriptTable scripts) h index e i = absurd i
-  plain_fit n o is (RegisterMonitor monitored th actions) h index e i = absurd i
-  plain_fit n o is (SingleActionSchedule script type times) h index e i = absurd i
   plain_fit n o is (ProfileGeneric captured period entries) h index e i = at (index == 1) e i
     where
       at : (b : Bool) → AllFit P (cond b (Clear n ∷ []) (Capture n ∷ []))
@@ -57,6 +53,7 @@ module _ (P : Plan) (sound : IsSound P) where
       rule =
           ap (option_and_then (λ z. cond (class_of z.part == 3) (rule_in P z.part 2) None)) is
           ∙ ap (λ p. cond (class_of p == 3) (rule_in P p 2) None) h
+  plain_fit n o is _ h index e i = absurd i
 
   plain_of_fit : (m : MethodRef) → AllFit P (plain_method_of P m)
   plain_of_fit m = elim (object_at P m.name) as (λ o. object_at P m.name ≡ o → AllFit P (for_some o (λ z. plain_method m.name z.part m.index))) [
@@ -117,26 +114,13 @@ module _ (P : Plan) (sound : IsSound P) where
 
   captured_fit : (s : State) (n : LogicalName) (t : Moment) (part : Part) → AllFit P (captured_at s n t part)
   captured_fit s n t (ProfileGeneric captured period entries) = fit_if (is_capture_due (count_of (value s (capture_period n))) t) (Capture n ∷ []) (λ h. one_fit (Capture n) tt)
-  captured_fit s n t (Data1 first) = λ e i. absurd i
-  captured_fit s n t (Register first default scaler_unit) = λ e i. absurd i
-  captured_fit s n t (ScriptTable scripts) = λ e i. absurd i
-  captured_fit s n t (RegisterMonitor monitored th actions) = λ e i. absurd i
-  captured_fit s n t (SingleActionSchedule script type times) = λ e i. absurd i
+  captured_fit s n t _ = λ e i. absurd i
 
   scheduled_fit : (s : State) (n : LogicalName) (t : Moment) (part : Part) → AllFit P (scheduled_at P s n t part)
   scheduled_fit s n t (SingleActionSchedule script type times) = fit_if (is_schedule_due (elements (value s (execution_time n))) t) (effects_of_script P script) (λ h. script_fit script)
-  scheduled_fit s n t (Data1 first) = λ e i. absurd i
-  scheduled_fit s n t (Register first default scaler_unit) = λ e i. absurd i
-  scheduled_fit s n t (ProfileGeneric captured period entries) = λ e i. absurd i
-  scheduled_fit s n t (ScriptTable scripts) = λ e i. absurd i
-  scheduled_fit s n t (RegisterMonitor monitored th actions) = λ e i. absurd i
+  scheduled_fit s n t _ = λ e i. absurd i
 
   evaluated_fit : (s : State) → IsState P s → (n : LogicalName) (o : Object) → object_at P n ≡ Some o → (part : Part) → o.part ≡ part → AllFit P (evaluated P s n part)
-  evaluated_fit s k n o is (Data1 first) h e i = absurd i
-  evaluated_fit s k n o is (Register first default scaler_unit) h e i = absurd i
-  evaluated_fit s k n o is (ProfileGeneric captured period entries) h e i = absurd i
-  evaluated_fit s k n o is (ScriptTable scripts) h e i = absurd i
-  evaluated_fit s k n o is (SingleActionSchedule script type times) h e i = absurd i
   evaluated_fit s k n o is (RegisterMonitor monitored th actions) h e i =
       let rs = due_scripts actions (elements (value s (thresholds n))) (value s (seen n)) (value s monitored) in
       elim (in_append_cases (flat_map (effects_of_script P) rs) (Put (seen n) (value s monitored) ∷ []) e i) [
@@ -155,6 +139,7 @@ module _ (P : Plan) (sound : IsSound P) where
 
       remembers : IsRemembered P o.name o.part (seen n) (value s monitored)
       remembers = subst (λ p. IsRemembered P o.name p (seen n) (value s monitored)) (sym h) (ap seen (sym there.1), of_kind)
+  evaluated_fit s k n o is _ h e i = absurd i
 
   effects_fit : (s : State) → IsState P s → (step : Step) → AllFit P (effects_of P s step)
   effects_fit s k (Get c d selection) = λ e i. absurd i

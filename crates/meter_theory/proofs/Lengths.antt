@@ -155,11 +155,7 @@ listed_writable P c n i h few fewer = (lit< tt, (tt, (tt, (name_writable n h, (r
 
 interface_few : (part : Part) → ((interface_of part).attributes ≤ 8) × ((interface_of part).methods ≤ 8)
 interface_few (Data1 start) = (omega arith, omega arith)
-interface_few (Register start default scaler_unit) = (omega arith, omega arith)
-interface_few (ProfileGeneric captured period entries) = (omega arith, omega arith)
-interface_few (ScriptTable scripts) = (omega arith, omega arith)
-interface_few (RegisterMonitor monitored thresholds actions) = (omega arith, omega arith)
-interface_few (SingleActionSchedule script type times) = (omega arith, omega arith)
+interface_few _ = (omega arith, omega arith)
 
 length-filter : {A : Type 0} (test : A → Bool) (xs : List A) → length (filter test xs) ≤ length xs
 length-filter test [] = omega arith
@@ -269,11 +265,7 @@ cell_writable P sound s k x i =
       where
         same_class : (q : Part) → (class_of q == class_of q) ≡ true
         same_class (Data1 start) = refl
-        same_class (Register start default scaler_unit) = refl
-        same_class (ProfileGeneric captured period entries) = refl
-        same_class (ScriptTable scripts) = refl
-        same_class (RegisterMonitor monitored th actions) = refl
-        same_class (SingleActionSchedule script type times) = refl
+        same_class _ = refl
 
     at : (o : Object) → IsIn P.objects o → (part : Part) → o.part ≡ part → object_at P o.name ≡ Some o → (v : Tree) → IsIn (start_of o.name o.part) (x, v) → HasLengths (value s x)
     at o there part h is v j = of_part part h (subst (λ q. IsIn (start_of o.name q) (x, v)) h j)
@@ -408,9 +400,4 @@ reply-writable P sound s k (Get c d selection) v e = at (is_success (get_answer 
         (selected_writable selection (attribute P s c (cell_of d))
         (attribute_writable P sound s k c (cell_of d) (standing_name P sound d.class_id d.name (get_class P c d selection ok))))
     at false ok is = cc
-reply-writable P sound s k (Set c d selector w) v e = cc
-reply-writable P sound s k (Act c d argument) v e = cc
-reply-writable P sound s k (Input x w) v e = cc
-reply-writable P sound s k (CaptureAt n t) v e = cc
-reply-writable P sound s k (Evaluate n) v e = cc
-reply-writable P sound s k (ScheduleAt n t) v e = cc
+reply-writable P sound s k _ v e = cc

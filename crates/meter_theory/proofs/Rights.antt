@@ -169,7 +169,4 @@ client-changes P s (Act d y argument) c e x i =
     let same : d ≡ c = cc in
     when (is_success (act_answer P d y argument)) (method_effects P (method_of y) argument) x (λ ok j.
     inr (method_of y, subst (λ k. may_act P k (method_of y) ≡ true) same (act_allowed P d y argument ok), methods_among P (method_of y) argument x j)) i
-client-changes P s (Input y v) c e x i = cc
-client-changes P s (CaptureAt n t) c e x i = cc
-client-changes P s (Evaluate n) c e x i = cc
-client-changes P s (ScheduleAt n t) c e x i = cc
+client-changes P s _ c e x i = cc

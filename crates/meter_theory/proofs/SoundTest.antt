@@ -52,14 +52,11 @@ kind_from (Some (Thresholds number tag)) kind h = cc
 kind_from (Some (ExecutionTimes type)) kind h = cc
 
 part_from : (P : Plan) (part : Part) → is_sound_part P part ≡ true → IsSoundPart P part
-part_from P (Data1 first) h = tt
 part_from P (Register first default scaler_unit) h = h
-part_from P (ProfileGeneric captured period entries) h = tt
-part_from P (ScriptTable scripts) h = tt
 part_from P (RegisterMonitor monitored th actions) h =
     let parts = and_parts (list_any (same_cell monitored) (cells P)) (is_kind_rule (rule_of P monitored) (kind_of (value (start P) monitored))) h in
     (is_cell_in P monitored parts.0, kind_from (rule_of P monitored) (kind_of (value (start P) monitored)) parts.1)
-part_from P (SingleActionSchedule script type times) h = tt
+part_from P _ h = tt
 
 -- a test of each action of each script
 action_at : (test : Action → Bool) (objects : List Object) → all_actions test objects ≡ true → (o : Object) → IsIn objects o →

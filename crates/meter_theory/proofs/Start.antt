@@ -70,10 +70,6 @@ other_index x y e apart =
     not_both (x.0.index == y.0.index) (eq-eqb x.0.index y.0.index same) apart
 
 holds_start : (P : Plan) → IsSound P → (o : Object) → IsIn P.objects o → (part : Part) → o.part ≡ part → Holds P (start P) o.name part
-holds_start P sound o there (Data1 first) h = tt
-holds_start P sound o there (Register first default scaler_unit) h = tt
-holds_start P sound o there (ScriptTable scripts) h = tt
-holds_start P sound o there (SingleActionSchedule script type times) h = tt
 holds_start P sound o there (RegisterMonitor monitored th actions) h =
     inl (started P (one_named P sound) o there (seen o.name) null_data
     (subst (λ q. IsIn (start_of o.name q) (seen o.name, null_data)) (sym h) (inr (inl refl)))
@@ -107,6 +103,7 @@ holds_start P sound o there (ProfileGeneric captured period entries) h =
         one w (inr (inl e)) = other_index _ _ e refl
         one w (inr (inr (inl e))) = ap (λ z. z.1) e
         one w (inr (inr (inr none))) = absurd none
+holds_start P sound o there _ h = tt
 
 pub start-is-state : (P : Plan) → IsSound P → IsState P (start P)
 start-is-state P sound = record {

@@ -63,11 +63,6 @@ due_quiet P S actions quiet ths before now x i =
 module _ (P : Plan) (laws : EffectLaws P) (S : CellRef → Bool) (closed : IsClosed P S) (s t : State) (k : keys s ≡ keys t) (agree : Agree S s t) where
   captured-agree : (n : LogicalName) (moment : Moment) (o : Object) → object_at P n ≡ Some o → (part : Part) → o.part ≡ part →
       Agree S (effects P s (captured_at s n moment part)) (effects P t (captured_at t n moment part))
-  captured-agree n moment o is (Data1 start) h = agree
-  captured-agree n moment o is (Register start default scaler_unit) h = agree
-  captured-agree n moment o is (ScriptTable scripts) h = agree
-  captured-agree n moment o is (RegisterMonitor monitored th actions) h = agree
-  captured-agree n moment o is (SingleActionSchedule script type times) h = agree
   captured-agree n moment o is (ProfileGeneric captured period entries) h =
       agree_or_quiet P laws S closed _ _ s t k agree (
       elim (meets_or_not S (buffer n ∷ entries_in_use n ∷ [])) [
@@ -81,14 +76,10 @@ module _ (P : Plan) (laws : EffectLaws P) (S : CellRef → Bool) (closed : IsClo
       one_effect x (inl e) = inl e
       one_effect x (inr (inl e)) = inr (inl e)
       one_effect x (inr (inr e)) = absurd e
+  captured-agree n moment o is _ h = agree
 
   scheduled-agree : (n : LogicalName) (moment : Moment) (o : Object) → object_at P n ≡ Some o → (part : Part) → o.part ≡ part →
       Agree S (effects P s (scheduled_at P s n moment part)) (effects P t (scheduled_at P t n moment part))
-  scheduled-agree n moment o is (Data1 start) h = agree
-  scheduled-agree n moment o is (Register start default scaler_unit) h = agree
-  scheduled-agree n moment o is (ProfileGeneric captured period entries) h = agree
-  scheduled-agree n moment o is (ScriptTable scripts) h = agree
-  scheduled-agree n moment o is (RegisterMonitor monitored th actions) h = agree
   scheduled-agree n moment o is (SingleActionSchedule script type times) h =
       agree_or_quiet P laws S closed _ _ s t k agree (
       elim (meets_or_not S (script_changes P script)) [
@@ -97,14 +88,10 @@ module _ (P : Plan) (laws : EffectLaws P) (S : CellRef → Bool) (closed : IsClo
             (edge_at P n o is Schedule (execution_time n) m.0 (subst (λ p. EdgeIn P n p Schedule (execution_time n) m.0) (sym h) (refl, m.1))) m.2)))
         | inr quiet ↦ inr (quiet_branch S _ (effects_of_script P script) quiet, quiet_branch S _ (effects_of_script P script) quiet)
       ])
+  scheduled-agree n moment o is _ h = agree
 
   evaluated-agree : (n : LogicalName) (o : Object) → object_at P n ≡ Some o → (part : Part) → o.part ≡ part →
       Agree S (effects P s (evaluated P s n part)) (effects P t (evaluated P t n part))
-  evaluated-agree n o is (Data1 start) h = agree
-  evaluated-agree n o is (Register start default scaler_unit) h = agree
-  evaluated-agree n o is (ProfileGeneric captured period entries) h = agree
-  evaluated-agree n o is (ScriptTable scripts) h = agree
-  evaluated-agree n o is (SingleActionSchedule script type times) h = agree
   evaluated-agree n o is (RegisterMonitor monitored th actions) h =
       subst₂ (Agree S) (sym (effects-append P s es (Put (seen n) now ∷ []))) (sym (effects-append P t fs (Put (seen n) then ∷ []))) after_seen
     where
@@ -154,6 +141,7 @@ module _ (P : Plan) (laws : EffectLaws P) (S : CellRef → Bool) (closed : IsClo
           one_quiet : S (seen n) ≡ false → (v : Tree) → AreQuiet S (Put (seen n) v ∷ [])
           one_quiet p v x (inl e) = subst (λ z. S z ≡ false) (sym e) p
           one_quiet p v x (inr none) = absurd none
+  evaluated-agree n o is _ h = agree
 
   -- States that agree on a closed set agree on it after a step.
   step-agrees : (step : Step) → Agree S (next P s step) (next P t step)

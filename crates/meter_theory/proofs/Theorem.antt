@@ -169,12 +169,6 @@ cell_read P c x i class may = at (same_name x.name association_name) class may
 -- the reply to a step of c
 pub reply-same : (P : Plan) (S : CellRef → Bool) (c : ℕ) → ((x : CellRef) → IsIn (cells P) x → may_get P c x ≡ true → S x ≡ true) →
     (s t : State) → Agree S s t → (step : Step) → is_step_of_client c (client_of step) ≡ true → reply_to P s step ≡ reply_to P t step
-reply-same P S c reads s t agree (Set d y selector v) h = refl
-reply-same P S c reads s t agree (Act d y argument) h = refl
-reply-same P S c reads s t agree (Input x v) h = refl
-reply-same P S c reads s t agree (CaptureAt n moment) h = refl
-reply-same P S c reads s t agree (Evaluate n) h = refl
-reply-same P S c reads s t agree (ScheduleAt n moment) h = refl
 reply-same P S c reads s t agree (Get d y selection) h =
     where_allowed (is_success (get_answer P d y selection)) refl
   where
@@ -194,6 +188,7 @@ reply-same P S c reads s t agree (Get d y selection) h =
         ≡ cond b (Value (selected selection (attribute P t d x))) (Code (get_answer P d y selection))
     where_allowed true p = here (get_class P d y selection p) (get_allowed P d y selection p) (is_cell P x) refl
     where_allowed false p = refl
+reply-same P S c reads s t agree _ h = refl
 
 -- what two steps are that differ in what is hidden
 pub record AreHidden (P : Plan) (S : CellRef → Bool) (c : ℕ) (step step' : Step) : Type 0 where

@@ -255,8 +255,7 @@ set-takes f bytes rest r b h e =
 -- an argument stands behind an ACTION's flag 01
 invocation-takes : (a : Argument) (text : List ℕ) → IsArgument a text → IsInvocation a (1 ∷ text)
 invocation-takes Absent text h = absurd h
-invocation-takes (Value d) text h = (text, h, refl)
-invocation-takes Unreadable text h = (text, h, refl)
+invocation-takes _ text h = (text, h, refl)
 
 -- what is read of an ACTION has this form
 act-takes : (f : Front) (bytes rest : List ℕ) (r : Request) → IsBytes rest → Headed 195 f bytes (f.flag ∷ rest) → act_of f rest ≡ Some r → IsRequest r bytes
