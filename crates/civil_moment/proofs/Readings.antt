@@ -133,12 +133,12 @@ numbers_again t is =
 -- ---- moments
 
 -- a text whose numbers are a moment is that moment's
-pub is_found : (text bytes : List ℕ) (made m : Moment) → bytes ≡ text → Some made ≡ numbers_at bytes → m ≡ made → text ≡ moment_text m
-is_found text bytes made m same e q = sym same ∙ numbers_take bytes made (sym e) ∙ sym (ap moment_text q)
+pub is_found : (text : List ℕ) (made m : Moment) → Some made ≡ numbers_at text → m ≡ made → text ≡ moment_text m
+is_found text made m e q = numbers_take text made (sym e) ∙ sym (ap moment_text q)
 
 -- the text of a moment gives that moment's numbers
-pub text_gives : (text bytes : List ℕ) (t : Moment) → bytes ≡ text → IsMoment t → text ≡ moment_text t → numbers_at bytes ≡ Some t
-text_gives text bytes t same is e = ap numbers_at (same ∙ e) ∙ numbers_again t is
+pub text_gives : (text : List ℕ) (t : Moment) → IsMoment t → text ≡ moment_text t → numbers_at text ≡ Some t
+text_gives text t is e = ap numbers_at e ∙ numbers_again t is
 
 pub one_moment : (made m t : Moment) (found : Option Moment) → m ≡ made → Some made ≡ found → found ≡ Some t → m ≡ t
 one_moment made m t found q p r = q ∙ some_is made t (p ∙ r)

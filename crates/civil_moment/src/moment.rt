@@ -139,7 +139,15 @@ impl Moment {
         // The text of a moment is read.
         ensures exact { (t : times.Moment) → times.IsMoment t → text.now ≡ moment_text t → result ≡ Ok t }
     {
-        match Numbers::found(text.as_bytes()) {
+        Moment::read_bytes(text.as_bytes())
+    }
+
+    /// As `Moment::read`, of bytes that need be no text.
+    pub fn read_bytes(text: &[u8]) -> Result<Moment, BadMoment>
+        ensures found { IfOk result (λ m. times.IsMoment m × (text.now ≡ moment_text m)) }
+        ensures exact { (t : times.Moment) → times.IsMoment t → text.now ≡ moment_text t → result ≡ Ok t }
+    {
+        match Numbers::found(text) {
             Some(numbers) => match numbers.moment() {
                 Some(moment) => Ok(moment),
                 None => Err(BadMoment),

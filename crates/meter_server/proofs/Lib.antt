@@ -1,4 +1,4 @@
-pub mod Ascii
+pub mod Moments
 pub mod Replying
 pub mod OwnSteps
 pub mod Breaking

@@ -4,6 +4,7 @@ ghost use Rattle.meter_server.specs.Feeding.{Feeds, SplitsLine, line_with};
 ghost use Rattle.meter_server.specs.Lines.{IsLine};
 
 use cosem_data::memory::Memory;
+use memchr::memchr;
 use std::alloc::Global;
 use std::marker::Model;
 
@@ -85,6 +86,6 @@ fn split_line(text: &[u8]) -> Option<(&[u8], &[u8])>
     ensures split { SplitsLine text.now result }
     ensures shorter { IfSome result (λ x. length x.1.now < length text.now) }
 {
-    let place = text.iter().position(|byte| *byte == END)?;
+    let place = memchr(END, text)?;
     Some((&text[..place], &text[place + 1..]))
 }

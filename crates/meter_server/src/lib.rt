@@ -11,7 +11,6 @@ pub mod program;
 pub mod running;
 mod text;
 pub mod verdict;
-mod words;
 mod writing;
 
 pub use running::{LineFault, run_lines};

@@ -5,9 +5,9 @@ ghost use Rattle.cosem_data.specs.View.{tree};
 ghost use Rattle.meter_theory.specs.Plan.{object_at};
 ghost use Rattle.meter_server.specs.Spelling as spec;
 ghost use Rattle.meter_server.specs.Spelling.{line_of};
+ghost use Rattle.meter_server.specs.Words as words;
 
 use crate::answering::Ask;
-use crate::words::moment_in;
 use civil_moment::moment::Moment;
 use cosem_data::cell::CellRef;
 use cosem_data::data::Data;
@@ -166,6 +166,13 @@ fn evaluation_of(name: Option<LogicalName>) -> Line<'static>
         Some(name) => Line::Evaluate(name),
         None => Line::Unreadable,
     }
+}
+
+/// The moment that a word is, written YYYY-MM-DDTHH:MM:SS, if it is one.
+fn moment_in(word: &[u8]) -> Option<Moment>
+    ensures { result ≡ words.moment_in word.now }
+{
+    Moment::read_bytes(word).ok()
 }
 
 /// What is said by a moment, if it is there.

@@ -146,10 +146,12 @@ fn survives_all(
     plan: &Plan,
     cells: &[CellRef],
     meter: &mut Meter,
+    table: &[Row],
 ) -> Result<(), Fail>
     requires { IsState plan.now meter.old }
 {
-    for (event, want, register, alarm, seen, rows, count) in ROWS {
+    for row in table {
+        let (event, want, register, alarm, seen, rows, count) = *row;
         let reply = taken(rt, alloc, plan, cells, meter, &step(alloc, event)?)?;
         is_this(rt, alloc, &reply, want)?;
         let all = format!(in alloc;
@@ -167,5 +169,5 @@ fn a_refused_growth_leaves_the_meter(rt: HostRuntime) -> Result<(), Fail> {
     let plan = plan_of(rt.alloc(), OCTETS_TEXT)?;
     let mut meter = started(&plan, rt.alloc())?;
     let cells = plan.cells(rt.alloc())?;
-    survives_all(&rt, rt.alloc(), &plan, &cells, &mut meter)
+    survives_all(&rt, rt.alloc(), &plan, &cells, &mut meter, &ROWS)
 }

@@ -1,4 +1,4 @@
--- Moments are ASCII.
+-- What is read as a moment is the moment that a word is.
 use Rattle.std.proofs.Common.{◌≡◌, ℕ, ◌+◌, ◌/◌, ◌%◌, ◌<◌, Bool, true, false, ◌&&◌, cond, ltb, List, [], ◌∷◌, ◌++◌, IfOk, Option, Some, None, Result, Ok, Err, refl, sym, ap, subst, ◌∙◌, arith}
 use Rattle.std.specs.Prelude.{option_and_then}
 use Rattle.std.specs.Result.{result_ok}
@@ -13,28 +13,6 @@ use Rattle.civil_moment.specs.Texts.{two_digits, moment_text, numbers_at}
 use Rattle.civil_moment.proofs.Readings.{numbers_take, numbers_again, month_small, day_small}
 use Rattle.jiff.proofs.SpanFacts.{signed_arith}
 use Rattle.meter_server.specs.Words.{is_moment, moment_in}
-
-two_ascii : (n : ℕ) (rest : List ℕ) → n < 100 → IsAscii rest → IsAscii (two_digits n ++ rest)
-two_ascii n rest small h = IsAscii-cons (48 + n / 10) ((48 + n % 10) ∷ rest) (omega arith) (IsAscii-cons (48 + n % 10) rest (omega arith) h)
-
-marked_ascii : (mark n : ℕ) (rest : List ℕ) → mark < 128 → n < 100 → IsAscii rest → IsAscii (mark ∷ two_digits n ++ rest)
-marked_ascii mark n rest low small h = IsAscii-cons mark (two_digits n ++ rest) low (two_ascii n rest small h)
-
-moment_ascii : (t : Moment) → IsMoment t → IsAscii (moment_text t)
-moment_ascii t is =
-    let until = is.until in
-    let second = 58 ∷ two_digits t.second in
-    let minute = 58 ∷ two_digits t.minute ++ second in
-    let hour = 84 ∷ two_digits t.hour ++ minute in
-    let day = 45 ∷ two_digits t.day ++ hour in
-    let month = 45 ∷ two_digits t.month ++ day in
-    two_ascii (t.year / 100) (two_digits (t.year % 100) ++ month) (omega arith)
-    (two_ascii (t.year % 100) month (omega arith)
-    (marked_ascii 45 t.month day (omega arith) (month_small t is)
-    (marked_ascii 45 t.day hour (omega arith) (day_small t is)
-    (marked_ascii 84 t.hour minute (omega arith) (omega (arith, is.hour))
-    (marked_ascii 58 t.minute second (omega arith) (omega (arith, is.minute))
-    (marked_ascii 58 t.second [] (omega arith) (omega (arith, is.second)) IsAscii-nil))))))
 
 both : (a b : Bool) → a ≡ true → b ≡ true → (a && b) ≡ true
 both true b e f = f
@@ -70,8 +48,6 @@ moment_is t holds =
       second = below t.second 60 e.1;
     }
 
--- Bytes that are no text are no moment
-
 -- where no moment with this text is, none is in it
 none_is : (t : Moment) (b : Bool) → is_moment t ≡ b → (IsMoment t → ⊥) → ◌≡◌ {A = Option Moment} None (cond b (Some t) None)
 none_is t false e h = refl
@@ -81,9 +57,6 @@ no_moment_of : (text : List ℕ) (found : Option Moment) → numbers_at text ≡
     → ◌≡◌ {A = Option Moment} None (option_and_then (λ t. cond (is_moment t) (Some t) None) found)
 no_moment_of text None e h = refl
 no_moment_of text (Some t) e h = none_is t (is_moment t) refl (λ is. h t is (numbers_take text t e))
-
-pub no_moment : (text : List ℕ) → (IsUtf8 text → ⊥) → None ≡ moment_in text
-no_moment text h = no_moment_of text (numbers_at text) refl (λ t is e. h (IsUtf8-from_ascii text (subst IsAscii (sym e) (moment_ascii t is))))
 
 pub moment_read : (text : List ℕ) (r : Result Moment BadMoment) → IfOk r (λ m. IsMoment m × (text ≡ moment_text m))
     → ((t : Moment) → IsMoment t → text ≡ moment_text t → r ≡ Ok t) → result_ok r ≡ moment_in text
