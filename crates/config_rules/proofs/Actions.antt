@@ -18,6 +18,7 @@ use Rattle.meter_theory.specs.Plan as theory
 use Rattle.meter_theory.specs.Plan.{Script, start, rule_of, rule_in, cells, class_of, interface_of}
 use Rattle.meter_theory.specs.Steps.{scripts_of}
 use Rattle.meter_theory.specs.Sound.{IsWrite, has_plain_method, are_indexes}
+use Rattle.meter_theory.specs.declared.limits.TheConstants as limits
 use Rattle.meter_theory.proofs.Lists.{from_map}
 use Rattle.config_text.specs.declared.fault.Code.TheVariants as code
 use Rattle.config_text.specs.declared.service.Service.{Service}
@@ -101,14 +102,14 @@ action_at c ok o i scripts is s j a k =
     let refers = subst (EachReference (λ t. (p : ObjectText) × IsTarget c t.object p) (IsScript c)) is (known_of c ok o i) s j a k in
     let indexes = indexes_of c ok o i (ScriptTableText scripts) is in
     let values = values_of c ok o i (ScriptTableText scripts) is in
-    let limits = limits_of c ok o i (ScriptTableText scripts) is in
+    let sized = limits_of c ok o i (ScriptTableText scripts) is in
     let executes = executes_of c ok o i (ScriptTableText scripts) is in
     let index = each_action_ok (λ at x. passes.usable_action c x.service at x.target) indexes.0 scripts indexes.1 s j a k in
     let value = each_action_ok (passes.valid_action_value c) values.0 scripts values.1 s j a k in
     let plain = each_action_ok (passes.no_execute c) executes.0 scripts executes.1 s j a k in
-    let few = then_ok (passes.at_most 64 (limits.0 ++ codes ".script") scripts) (λ _. each passes.script_limits (limits.0 ++ codes ".script") scripts) tt limits.1 in
-    let script = each_ok passes.script_limits (limits.0 ++ codes ".script") 0 scripts few.2 s j in
-    let actions = then_ok (passes.at_most 32 (script.0 ++ codes ".action") s.actions) (λ _. each (λ at x. passes.small_value (at ++ codes ".value") x.value) (script.0 ++ codes ".action") s.actions) tt script.1 in
+    let few = then_ok (passes.at_most limits.SCRIPTS (sized.0 ++ codes ".script") scripts) (λ _. each passes.script_limits (sized.0 ++ codes ".script") scripts) tt sized.1 in
+    let script = each_ok passes.script_limits (sized.0 ++ codes ".script") 0 scripts few.2 s j in
+    let actions = then_ok (passes.at_most limits.ACTIONS (script.0 ++ codes ".action") s.actions) (λ _. each (λ at x. passes.small_value (at ++ codes ".value") x.value) (script.0 ++ codes ".action") s.actions) tt script.1 in
     let limit = each_ok (λ at x. passes.small_value (at ++ codes ".value") x.value) (script.0 ++ codes ".action") 0 s.actions actions.2 a k in
     record {
       object = refers.0;

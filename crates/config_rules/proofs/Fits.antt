@@ -18,6 +18,7 @@ use Rattle.meter_theory.specs.Value.{Rule, OfKind, Thresholds, ExecutionTimes, c
 use Rattle.meter_theory.specs.Times.{are_execution_times}
 use Rattle.meter_theory.specs.Plan.{start, start_of, rule_of, cells, thresholds}
 use Rattle.meter_theory.specs.Sound.{fits_some}
+use Rattle.meter_theory.specs.declared.limits.TheConstants as limits
 use Rattle.meter_theory.proofs.Agreement.{not_both}
 use Rattle.meter_theory.proofs.Lists.{from_map, from_flat_map}
 use Rattle.config_text.specs.declared.fault.Code.TheVariants.{Limit, Value, Counts, Times, Index, Reference}
@@ -103,14 +104,14 @@ unfolding passes.valid_values_in passes.limits_in passes.equal_counts_in
 thresholds_fit c ok o i monitored ths actions is =
     let source = monitor_source c ok o i monitored ths actions is in
     let judged = values_of c ok o i (MonitorText monitored ths actions) is in
-    let limits = limits_of c ok o i (MonitorText monitored ths actions) is in
+    let sized = limits_of c ok o i (MonitorText monitored ths actions) is in
     let counts = counts_of c ok o i (MonitorText monitored ths actions) is in
     let count : (length ths == length actions) ≡ true = holds Counts (counts.0 ++ codes ".action") (length ths == length actions) counts.1 in
     let texts = then_ok (fault_if Value (judged.0 ++ codes ".monitored.index") (not (may_be_number (kind_named c monitored.object))))
     (λ _. each (λ at text. fault_if Value at (not (is_of_kind (kind_named c monitored.object) (value_in text)))) (judged.0 ++ codes ".thresholds") ths) tt judged.1 in
-    let small = then_ok (fault_if Limit (limits.0 ++ codes ".thresholds") (nat_lt 16 (length ths) || not (is_within_limits (thresholds_value ths))))
-    (λ _. passes.at_most 16 (limits.0 ++ codes ".action") actions) tt limits.1 in
-    let limit = not_not (is_within_limits (thresholds_value ths)) (or_parts (nat_lt 16 (length ths)) (not (is_within_limits (thresholds_value ths))) (not_faulty Limit (limits.0 ++ codes ".thresholds") _ small.1)).1 in
+    let small = then_ok (fault_if Limit (sized.0 ++ codes ".thresholds") (nat_lt limits.THRESHOLDS (length ths) || not (is_within_limits (thresholds_value ths))))
+    (λ _. passes.at_most limits.THRESHOLDS (sized.0 ++ codes ".action") actions) tt sized.1 in
+    let limit = not_not (is_within_limits (thresholds_value ths)) (or_parts (nat_lt limits.THRESHOLDS (length ths)) (not (is_within_limits (thresholds_value ths))) (not_faulty Limit (sized.0 ++ codes ".thresholds") _ small.1)).1 in
     let each_kind : (text : Text) → IsIn ths text → is_of_kind (kind_named c monitored.object) (value_in text) ≡ true = λ text j.
     let r = each_ok (λ at z. fault_if Value at (not (is_of_kind (kind_named c monitored.object) (value_in z)))) (judged.0 ++ codes ".thresholds") 0 ths texts.2 text j in
     holds Value r.0 (is_of_kind (kind_named c monitored.object) (value_in text)) r.1 in
@@ -127,9 +128,9 @@ pub times_fit : (c : ConfigText) → IsRight c → (o : ObjectText) → IsIn c.o
     o.body ≡ ScheduleText script type times → meets (ExecutionTimes type) (times_value times) ≡ true
 unfolding passes.limits_in passes.valid_times_in
 times_fit c ok o i script type times is =
-    let limits = limits_of c ok o i (ScheduleText script type times) is in
+    let sized = limits_of c ok o i (ScheduleText script type times) is in
     let fits = times_of c ok o i (ScheduleText script type times) is in
-    let limit = not_not (is_within_limits (times_value times)) (or_parts (nat_lt 16 (length times)) (not (is_within_limits (times_value times))) (not_faulty Limit (limits.0 ++ codes ".times") _ limits.1)).1 in
+    let limit = not_not (is_within_limits (times_value times)) (or_parts (nat_lt limits.EXECUTION_TIMES (length times)) (not (is_within_limits (times_value times))) (not_faulty Limit (sized.0 ++ codes ".times") _ sized.1)).1 in
     and_from (is_within_limits (times_value times)) _ limit (holds Times (fits.0 ++ codes ".times") (are_execution_times type (elements (times_value times))) fits.1)
 
 -- cells of two indexes are two

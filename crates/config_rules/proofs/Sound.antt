@@ -15,6 +15,7 @@ use Rattle.meter_theory.specs.Value.{OfKind, counter, is_within_limits}
 use Rattle.meter_theory.specs.Plan.{start_of, cells, entries_in_use, class_of, association_name}
 use Rattle.meter_theory.specs.Steps.{scripts_of, Captures, captures_in}
 use Rattle.meter_theory.specs.Sound.{IsSound, IsCapturable, IsSoundPart, is_name, has_action_sizes, has_script_sizes, has_part_sizes, has_sizes, has_sap, has_script, is_right, scripts_run_by}
+use Rattle.meter_theory.specs.declared.limits.TheConstants as limits
 use Rattle.meter_theory.proofs.Rights.{cell_of_found}
 use Rattle.meter_theory.proofs.Lists.{in_map, from_map, from_flat_map}
 use Rattle.config_text.specs.declared.fault.Code.TheVariants as code
@@ -175,31 +176,31 @@ unfolding passes.limits_in passes.script_limits
 part_sizes c ok o i (DataText value) is = refl
 part_sizes c ok o i (RegisterText value default scaler unit) is = refl
 part_sizes c ok o i (ProfileText all period entries sort_method) is =
-    let limits = limits_of c ok o i (ProfileText all period entries sort_method) is in
+    let sized = limits_of c ok o i (ProfileText all period entries sort_method) is in
     let names = subst (EachReference (λ t. IsName t.object) (λ r. IsName r.table)) is (ok.names.references o i) in
-    let both = then_ok (passes.at_most 32 (limits.0 ++ codes ".capture") all) (λ _. fault_if code.Limit (limits.0 ++ codes ".entries") (nat_lt 1000 entries)) tt limits.1 in
+    let both = then_ok (passes.at_most limits.CAPTURE_OBJECTS (sized.0 ++ codes ".capture") all) (λ _. fault_if code.Limit (sized.0 ++ codes ".entries") (nat_lt limits.PROFILE_ENTRIES entries)) tt sized.1 in
     let one = (and_parts (o.class == 7) (nat_le 1 entries) (subst (λ b. is_body_of o.class b ≡ true) is (ok.read.bodies o i))).1 in
-    and_from (nat_le (length (map (λ y. cell_named c y.target) all)) 32) _ (few_of_map (λ y. cell_named c y.target) 32 all (at_most_ok 32 (limits.0 ++ codes ".capture") all both.1))
+    and_from (nat_le (length (map (λ y. cell_named c y.target) all)) limits.CAPTURE_OBJECTS) _ (few_of_map (λ y. cell_named c y.target) limits.CAPTURE_OBJECTS all (at_most_ok limits.CAPTURE_OBJECTS (sized.0 ++ codes ".capture") all both.1))
     (and_from (list_all (λ x. is_name x.name) (map (λ y. cell_named c y.target) all)) _ (each_of_map (λ x. is_name x.name) (λ y. cell_named c y.target) all (λ y j. six y.target.object (names y j)))
-    (and_from (nat_le 1 entries) (nat_le entries 1000) one (le-leb entries 1000 (ltb-false 1000 entries (not_faulty code.Limit (limits.0 ++ codes ".entries") (nat_lt 1000 entries) both.2)))))
+    (and_from (nat_le 1 entries) (nat_le entries limits.PROFILE_ENTRIES) one (le-leb entries limits.PROFILE_ENTRIES (ltb-false limits.PROFILE_ENTRIES entries (not_faulty code.Limit (sized.0 ++ codes ".entries") (nat_lt limits.PROFILE_ENTRIES entries) both.2)))))
 part_sizes c ok o i (ScriptTableText scripts) is =
-    let limits = limits_of c ok o i (ScriptTableText scripts) is in
+    let sized = limits_of c ok o i (ScriptTableText scripts) is in
     let names = subst (EachReference (λ t. IsName t.object) (λ r. IsName r.table)) is (ok.names.references o i) in
-    let few = then_ok (passes.at_most 64 (limits.0 ++ codes ".script") scripts) (λ _. each passes.script_limits (limits.0 ++ codes ".script") scripts) tt limits.1 in
-    and_from (nat_le (length (map (script_of c) scripts)) 64) (list_all has_script_sizes (map (script_of c) scripts)) (few_of_map (script_of c) 64 scripts (at_most_ok 64 (limits.0 ++ codes ".script") scripts few.1))
+    let few = then_ok (passes.at_most limits.SCRIPTS (sized.0 ++ codes ".script") scripts) (λ _. each passes.script_limits (sized.0 ++ codes ".script") scripts) tt sized.1 in
+    and_from (nat_le (length (map (script_of c) scripts)) limits.SCRIPTS) (list_all has_script_sizes (map (script_of c) scripts)) (few_of_map (script_of c) limits.SCRIPTS scripts (at_most_ok limits.SCRIPTS (sized.0 ++ codes ".script") scripts few.1))
     (each_of_map has_script_sizes (script_of c) scripts (λ s j.
-    let script = each_ok passes.script_limits (limits.0 ++ codes ".script") 0 scripts few.2 s j in
-    let actions = then_ok (passes.at_most 32 (script.0 ++ codes ".action") s.actions) (λ _. each (λ at x. passes.small_value (at ++ codes ".value") x.value) (script.0 ++ codes ".action") s.actions) tt script.1 in
-    and_from (nat_le (length (map (λ a. action_of c a.service a.target a.value) s.actions)) 32) _ (few_of_map (λ a. action_of c a.service a.target a.value) 32 s.actions (at_most_ok 32 (script.0 ++ codes ".action") s.actions actions.1))
+    let script = each_ok passes.script_limits (sized.0 ++ codes ".script") 0 scripts few.2 s j in
+    let actions = then_ok (passes.at_most limits.ACTIONS (script.0 ++ codes ".action") s.actions) (λ _. each (λ at x. passes.small_value (at ++ codes ".value") x.value) (script.0 ++ codes ".action") s.actions) tt script.1 in
+    and_from (nat_le (length (map (λ a. action_of c a.service a.target a.value) s.actions)) limits.ACTIONS) _ (few_of_map (λ a. action_of c a.service a.target a.value) limits.ACTIONS s.actions (at_most_ok limits.ACTIONS (script.0 ++ codes ".action") s.actions actions.1))
     (each_of_map has_action_sizes (λ a. action_of c a.service a.target a.value) s.actions (λ a k.
     action_sizes c a (action_at c ok o i scripts is s j a k) (names s j a k) a.service refl))))
 part_sizes c ok o i (MonitorText monitored ths actions) is =
-    let limits = limits_of c ok o i (MonitorText monitored ths actions) is in
+    let sized = limits_of c ok o i (MonitorText monitored ths actions) is in
     let names = subst (EachReference (λ t. IsName t.object) (λ r. IsName r.table)) is (ok.names.references o i) in
-    let few = then_ok (fault_if code.Limit (limits.0 ++ codes ".thresholds") (nat_lt 16 (length ths) || not (is_within_limits (thresholds_value ths))))
-    (λ _. passes.at_most 16 (limits.0 ++ codes ".action") actions) tt limits.1 in
+    let few = then_ok (fault_if code.Limit (sized.0 ++ codes ".thresholds") (nat_lt limits.THRESHOLDS (length ths) || not (is_within_limits (thresholds_value ths))))
+    (λ _. passes.at_most limits.THRESHOLDS (sized.0 ++ codes ".action") actions) tt sized.1 in
     and_from (is_name (name_of monitored.object)) _ (six monitored.object names.0)
-    (and_from (nat_le (length (map up_down_of actions)) 16) _ (few_of_map up_down_of 16 actions (at_most_ok 16 (limits.0 ++ codes ".action") actions few.2))
+    (and_from (nat_le (length (map up_down_of actions)) limits.THRESHOLDS) _ (few_of_map up_down_of limits.THRESHOLDS actions (at_most_ok limits.THRESHOLDS (sized.0 ++ codes ".action") actions few.2))
     (each_of_map (λ a. is_name a.up.table && is_name a.down.table) up_down_of actions (λ a j.
     and_from (is_name (name_of a.up.table)) (is_name (name_of a.down.table)) (six a.up.table (names.1 a j).0) (six a.down.table (names.1 a j).1))))
 part_sizes c ok o i (ScheduleText script type times) is =
@@ -209,12 +210,12 @@ part_sizes c ok o i UnknownText is = refl
 -- The whole
 
 -- the configuration's own limits
-few : (c : ConfigText) → IsRight c → (nat_le (length c.clients) 16 ≡ true) × (nat_le (length c.objects) 512 ≡ true)
+few : (c : ConfigText) → IsRight c → (nat_le (length c.clients) limits.CLIENTS ≡ true) × (nat_le (length c.objects) limits.OBJECTS ≡ true)
 unfolding passes.within_limits
 few c ok =
-    let clients = then_ok (passes.at_most 16 (codes "client") c.clients) _ tt ok.judged.limits in
-    let objects = then_ok (passes.at_most 512 (codes "object") c.objects) (λ _. each (λ at p. passes.limits_in at p.body) (codes "object") c.objects) tt clients.2 in
-    (at_most_ok 16 (codes "client") c.clients clients.1, at_most_ok 512 (codes "object") c.objects objects.1)
+    let clients = then_ok (passes.at_most limits.CLIENTS (codes "client") c.clients) _ tt ok.judged.limits in
+    let objects = then_ok (passes.at_most limits.OBJECTS (codes "object") c.objects) (λ _. each (λ at p. passes.limits_in at p.body) (codes "object") c.objects) tt clients.2 in
+    (at_most_ok limits.CLIENTS (codes "client") c.clients clients.1, at_most_ok limits.OBJECTS (codes "object") c.objects objects.1)
 
 -- The plan of a configuration without a fault is sound.
 pub plan_is_sound : (c : ConfigText) → IsRead c → judged c ≡ Ok tt → IsSound (plan_of c)
@@ -222,8 +223,8 @@ plan_is_sound c read h = record {
   names = plan_names c ok.names ok.new;
   apart = λ o i. let p = from_map (object_of c) c.objects o i in
       subst (λ z. same_name z.name association_name ≡ false) (sym p.2) (names_apart c ok.names ok.judged.objects p.0 p.1);
-  few_clients = leb-true (length (map client_of c.clients)) 16 (few_of_map client_of 16 c.clients (few c ok).0);
-  few_objects = leb-true (length (map (object_of c) c.objects)) 512 (few_of_map (object_of c) 512 c.objects (few c ok).1);
+  few_clients = leb-true (length (map client_of c.clients)) limits.CLIENTS (few_of_map client_of limits.CLIENTS c.clients (few c ok).0);
+  few_objects = leb-true (length (map (object_of c) c.objects)) limits.OBJECTS (few_of_map (object_of c) limits.OBJECTS c.objects (few c ok).1);
   sizes = λ o i. let p = from_map (object_of c) c.objects o i in
       subst (λ z. has_sizes z ≡ true) (sym p.2)
       (and_from (is_name (name_of p.0.name)) (has_part_sizes (part_of c p.0.body)) (six p.0.name (ok.names.objects p.0 p.1)) (part_sizes c ok p.0 p.1 p.0.body refl));

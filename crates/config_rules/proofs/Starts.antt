@@ -10,6 +10,7 @@ use Rattle.meter_theory.specs.Lists.{IsIn}
 use Rattle.meter_theory.specs.State.{value}
 use Rattle.meter_theory.specs.Value.{OfKind, meets, is_within_limits}
 use Rattle.meter_theory.specs.Plan.{start, start_of, rule_in, rule_of, class_of, object_at}
+use Rattle.meter_theory.specs.declared.limits.TheConstants as limits
 use Rattle.meter_theory.proofs.Lists.{in_map, one_of_key}
 use Rattle.config_text.specs.declared.fault.Code.TheVariants.{Limit, Value}
 use Rattle.config_text.specs.Fault.{fault_if}
@@ -71,8 +72,8 @@ values_of c ok o i body is =
 pub limits_of : (c : ConfigText) → IsRight c → (o : ObjectText) → IsIn c.objects o → (body : BodyText) → o.body ≡ body → (at : Text) × (passes.limits_in at body ≡ Ok tt)
 unfolding passes.within_limits
 limits_of c ok o i body is =
-    let clients = then_ok (passes.at_most 16 (codes "client") c.clients) _ tt ok.judged.limits in
-    let few = then_ok (passes.at_most 512 (codes "object") c.objects) (λ _. each (λ at p. passes.limits_in at p.body) (codes "object") c.objects) tt clients.2 in
+    let clients = then_ok (passes.at_most limits.CLIENTS (codes "client") c.clients) _ tt ok.judged.limits in
+    let few = then_ok (passes.at_most limits.OBJECTS (codes "object") c.objects) (λ _. each (λ at p. passes.limits_in at p.body) (codes "object") c.objects) tt clients.2 in
     let r = each_ok (λ at p. passes.limits_in at p.body) (codes "object") 0 c.objects few.2 o i in
     (r.0, subst (λ b. passes.limits_in r.0 b ≡ Ok tt) is r.1)
 
@@ -94,9 +95,9 @@ pub data_start : (c : ConfigText) → IsRight c → (o : ObjectText) → IsIn c.
 unfolding passes.valid_values_in passes.limits_in
 data_start c ok o i text is =
     let judged = values_of c ok o i (DataText text) is in
-    let limits = limits_of c ok o i (DataText text) is in
+    let sized = limits_of c ok o i (DataText text) is in
     let v = value_there text (holds Value (judged.0 ++ codes ".value") (is_some (value_in text)) judged.1) in
-    (v.0, v.1, v.2, small_there text v.0 v.1 (holds Limit (limits.0 ++ codes ".value") (passes.is_small (option_and_then value_in (Some text))) limits.1))
+    (v.0, v.1, v.2, small_there text v.0 v.1 (holds Limit (sized.0 ++ codes ".value") (passes.is_small (option_and_then value_in (Some text))) sized.1))
 
 number_there : (text : Text) → is_number (kind_in text) ≡ true → is_some (value_in text) ≡ true
 number_there text h = at (value_in text) h
@@ -112,13 +113,13 @@ pub register_start : (c : ConfigText) → IsRight c → (o : ObjectText) → IsI
 unfolding passes.valid_values_in passes.limits_in
 register_start c ok o i text default scaler unit is =
     let judged = values_of c ok o i (RegisterText text default scaler unit) is in
-    let limits = limits_of c ok o i (RegisterText text default scaler unit) is in
+    let sized = limits_of c ok o i (RegisterText text default scaler unit) is in
     let first = then_ok (fault_if Value (judged.0 ++ codes ".value") (not (is_number (kind_in text)))) (λ _. fault_if Value (judged.0 ++ codes ".default") (not (is_of_kind (kind_in text) (value_in default)))) tt judged.1 in
-    let small = then_ok (passes.small_value (limits.0 ++ codes ".value") (Some text)) (λ _. passes.small_value (limits.0 ++ codes ".default") (Some default)) tt limits.1 in
+    let small = then_ok (passes.small_value (sized.0 ++ codes ".value") (Some text)) (λ _. passes.small_value (sized.0 ++ codes ".default") (Some default)) tt sized.1 in
     let v = value_there text (number_there text (holds Value (judged.0 ++ codes ".value") (is_number (kind_in text)) first.1)) in
     let kind = holds Value (judged.0 ++ codes ".default") (is_of_kind (kind_in text) (value_in default)) first.2 in
-    let limit = holds Limit (limits.0 ++ codes ".default") (passes.is_small (option_and_then value_in (Some default))) small.2 in (
-      (v.0, v.1, v.2, small_there text v.0 v.1 (holds Limit (limits.0 ++ codes ".value") (passes.is_small (option_and_then value_in (Some text))) small.1)),
+    let limit = holds Limit (sized.0 ++ codes ".default") (passes.is_small (option_and_then value_in (Some default))) small.2 in (
+      (v.0, v.1, v.2, small_there text v.0 v.1 (holds Limit (sized.0 ++ codes ".value") (passes.is_small (option_and_then value_in (Some text))) small.1)),
       subst (λ z. meets (OfKind (kind_of z)) (value_of default) ≡ true) (sym v.2)
           (at v.0 (value_in default) refl (subst (λ r. is_of_kind (option_map kind_of r) (value_in default) ≡ true) v.1 kind) limit),
     )

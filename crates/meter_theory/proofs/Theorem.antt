@@ -2,18 +2,18 @@
 use Rattle.cosem_data.proofs.Same.{same_cell-true}
 use Rattle.cosem_data.proofs.Bits.{none_above}
 use Rattle.cosem_data.specs.declared.clients.ClientSet.{ClientSet}
-use Rattle.std.proofs.Common.{◌≡◌, ◌==◌, ◌≤◌, ◌<◌, ◌+◌, ℕ, zero, suc, Bool, true, false, not, cond, ◌&&◌, ◌||◌, List, [], ◌∷◌, refl, sym, ap, ap₂, subst, ◌∙◌, inl, inr, Option, Some, None, option_map, eqb-true, eq-eqb, ne_eqb, nat_lt, ltb-true, arith}
+use Rattle.std.proofs.Common.{◌≡◌, ◌==◌, ◌≤◌, ℕ, Bool, true, false, not, cond, ◌&&◌, ◌||◌, List, [], ◌∷◌, refl, sym, ap, ap₂, subst, ◌∙◌, inl, inr, Option, Some, None, option_map, eqb-true, ne_eqb, nat_lt, ltb-true, arith}
 use Rattle.std.specs.List.{list_all, range_with_len}
-use Rattle.std.proofs.lemmas.Bool.{cond-false, not-true, and_parts, and_from, or_cases, or_left, or_right, false_from_ne_true, ltb-false}
-use Rattle.meter_theory.specs.Lists.{IsIn, for_some}
+use Rattle.std.proofs.lemmas.Bool.{cond-false, not-true, and_parts, and_from, or_cases, false_from_ne_true, ltb-false}
+use Rattle.meter_theory.specs.Lists.{IsIn}
 use Rattle.cosem_data.specs.Tree.{Tree}
 use Rattle.cosem_data.specs.declared.name.LogicalName.{LogicalName}
 use Rattle.cosem_data.specs.declared.cell.CellRef.{CellRef}
 use Rattle.meter_theory.specs.State.{State, keys, value}
 use Rattle.cosem_data.specs.Cells.{same_name, same_cell}
-use Rattle.meter_theory.specs.Plan.{Plan, Object, Part, Data1, Register, ProfileGeneric, ScriptTable, RegisterMonitor, SingleActionSchedule, start, start_of, association_name, association, interface_of, interface_at, cells, is_cell, object_at, rule_of}
+use Rattle.meter_theory.specs.Plan.{Plan, Part, Data1, Register, ProfileGeneric, ScriptTable, RegisterMonitor, SingleActionSchedule, start, start_of, association_name, association, interface_of, interface_at, cells, is_cell, object_at, rule_of}
 use Rattle.meter_theory.specs.Access.{is_success}
-use Rattle.meter_theory.specs.Rights.{Argument, Descriptor, cell_of, Selection, class_is, get_answer, set_answer, may_read, may_get, lists, readable_of_association}
+use Rattle.meter_theory.specs.Rights.{cell_of, class_is, get_answer, set_answer, may_read, may_get, lists, readable_of_association}
 use Rattle.meter_theory.specs.Fixed.{fixed}
 use Rattle.meter_theory.specs.Replies.{Value, Code, is_step_of_client, attribute, selected, reply_to, run, replies, replies_of}
 use Rattle.meter_theory.specs.Steps.{Put, Step, Get, Set, Act, Input, CaptureAt, Evaluate, ScheduleAt, client_of, given_value, effects_of, next, is_fed, meets_some}
@@ -23,8 +23,9 @@ use Rattle.meter_theory.specs.Safety.{HasCells, is_step_of, Thinned, DifferHidde
 use Rattle.meter_theory.proofs.Lists.{any_in, from_flat_map, from_map, in_range}
 use Rattle.meter_theory.proofs.State.{value_missing}
 use Rattle.meter_theory.proofs.Depends.{is_touched}
-use Rattle.meter_theory.proofs.Agreement.{object-found, AreQuiet, effects-quiet, step-agrees, next-keys, not_both}
+use Rattle.meter_theory.proofs.Agreement.{AreQuiet, effects-quiet, step-agrees, next-keys, not_both}
 use Rattle.meter_theory.proofs.Rights.{client-changes, get_allowed, get_class, when, in_given}
+use Rattle.meter_theory.specs.declared.limits.TheConstants as limits
 
 -- Sets of clients
 
@@ -42,15 +43,15 @@ all_from test [] h = refl
 all_from test (x ∷ xs) h = and_from (test x) (list_all test xs) (h x (inl refl)) (all_from test xs (λ y i. h y (inr i)))
 
 -- a client past the sixteen places is in no set
-outside_range : (cs : ClientSet) (c : ℕ) → 16 ≤ c → has cs c ≡ false
+outside_range : (cs : ClientSet) (c : ℕ) → limits.CLIENTS ≤ c → has cs c ≡ false
 outside_range cs c high = none_above cs.mask c cs.in_range high
 
 pub within_has : (cs ds : ClientSet) → within cs ds ≡ true → (c : ℕ) → has cs c ≡ true → has ds c ≡ true
 unfolding within
 within_has cs ds h c i =
-    elim (nat_lt c 16) as (λ b. nat_lt c 16 ≡ b → has ds c ≡ true) [
-      | true ↦ λ low. one (all_at (λ k. not (has cs k) || has ds k) (range_with_len 0 16) c h (in_range 0 16 c (omega arith) (ltb-true c 16 low)))
-      | false ↦ λ high. not_both (has cs c) i (outside_range cs c (ltb-false c 16 high))
+    elim (nat_lt c limits.CLIENTS) as (λ b. nat_lt c limits.CLIENTS ≡ b → has ds c ≡ true) [
+      | true ↦ λ low. one (all_at (λ k. not (has cs k) || has ds k) (range_with_len 0 limits.CLIENTS) c h (in_range 0 limits.CLIENTS c (omega arith) (ltb-true c limits.CLIENTS low)))
+      | false ↦ λ high. not_both (has cs c) i (outside_range cs c (ltb-false c limits.CLIENTS high))
     ] refl
   where
     one : (not (has cs c) || has ds c) ≡ true → has ds c ≡ true
@@ -62,7 +63,7 @@ within_has cs ds h c i =
 
 pub within_from : (cs ds : ClientSet) → ((c : ℕ) → has cs c ≡ true → has ds c ≡ true) → within cs ds ≡ true
 unfolding within
-within_from cs ds h = all_from (λ k. not (has cs k) || has ds k) (range_with_len 0 16) (λ c i. at c (has cs c) refl)
+within_from cs ds h = all_from (λ k. not (has cs k) || has ds k) (range_with_len 0 limits.CLIENTS) (λ c i. at c (has cs c) refl)
   where
     at : (c : ℕ) (b : Bool) → has cs c ≡ b → (not b || has ds c) ≡ true
     at c true p = h c p
