@@ -1,6 +1,6 @@
 -- What each settable cell starts with meets its rule.
-use Rattle.std.proofs.Common.{◌≡◌, ℕ, ◌==◌, true, not, List, [], ◌∷◌, ◌++◌, map, length, refl, sym, ap, subst, ◌∙◌, inl, inr, Option, Some, None, is_some, eqb-true, eq-eqb, nat_lt, Ok}
-use Rattle.std.specs.Prelude.{codes, ◌&&◌, ◌||◌}
+use Rattle.std.proofs.Common.{◌≡◌, ℕ, ◌==◌, true, not, List, [], ◌∷◌, map, length, refl, sym, ap, subst, ◌∙◌, inl, inr, Option, Some, None, is_some, eqb-true, eq-eqb, nat_lt, Ok}
+use Rattle.std.specs.Prelude.{◌&&◌, ◌||◌}
 use Rattle.std.proofs.lemmas.Bool.{or_parts, and_from, not-false}
 use Rattle.std.proofs.lemmas.List.{length-map}
 use Rattle.std.specs.List.{list_all}
@@ -19,7 +19,7 @@ use Rattle.meter_theory.specs.Plan.{start, start_of, rule_in, rule_of, class_of,
 use Rattle.meter_theory.specs.Sound.{fits_some}
 use Rattle.meter_theory.specs.declared.limits.TheConstants as limits
 use Rattle.meter_theory.proofs.Lists.{from_map, from_flat_map}
-use Rattle.config_text.specs.declared.fault.Code.TheVariants.{Limit, Value, Reference}
+use Rattle.config_text.specs.declared.fault.Code.TheVariants.{Limit, Value}
 use Rattle.config_text.specs.Fault.{fault_if}
 use Rattle.config_text.specs.Parts.{Text, ConfigText, ObjectText, TargetText, ScriptRefText, UpDownText, BodyText, DataText, RegisterText, ProfileText, ScriptTableText, MonitorText, ScheduleText, UnknownText}
 use Rattle.config_rules.specs.Names.{object_named}
@@ -27,7 +27,6 @@ use Rattle.value_text.specs.Texts.{value_in}
 use Rattle.config_rules.specs.Values.{is_of_kind, kind_named, may_be_number}
 use Rattle.config_rules.specs.PlanOf.{part_of, object_of, plan_of, name_of, value_of, or_else, thresholds_value, times_value, cell_named, up_down_of}
 use Rattle.config_rules.specs.Passes as passes
-use Rattle.config_rules.specs.Walks.{Judge, each, references}
 use Rattle.config_rules.proofs.Named.{IsName}
 use Rattle.config_rules.proofs.Passed.{then_ok, holds, not_faulty, each_ok, references_ok, EachReference}
 use Rattle.config_rules.proofs.Cells.{IsRight, IsTarget, target_of}
@@ -39,21 +38,14 @@ use Rattle.config_rules.proofs.Monitored.{IsKept, monitored_cell}
 pub known_of : (c : ConfigText) → IsRight c → (o : ObjectText) → IsIn c.objects o → EachReference (λ t. (p : ObjectText) × IsTarget c t.object p) (IsScript c) o.body
 unfolding passes.known_references
 known_of c ok o i =
-    let objects = then_ok (each (λ at p. references target script at p.body) (codes "object") c.objects) _ tt ok.judged.references in
-    let at = each_ok (λ at p. references target script at p.body) (codes "object") 0 c.objects objects.1 o i in
-    both o.body (references_ok (λ t. is_some (object_named c t.object) ≡ true) (λ r. (place : Text) × (script place r ≡ Ok tt)) target script
-    (λ place t h. holds Reference (place ++ codes ".object") (is_some (object_named c t.object)) h) (λ place r h. (place, h)) at.0 o.body at.1) (ok.names.references o i)
+    let at = each_ok _ _ _ _ (then_ok _ _ tt ok.judged.references).1 o i in
+    both o.body (references_ok (λ t. is_some (object_named c t.object) ≡ true) (λ r. (place : Text) × (passes.known_script c place r ≡ Ok tt)) _ _
+    (λ place t h. holds _ _ _ h) (λ place r h. (place, h)) at.0 o.body at.1) (ok.names.references o i)
   where
-    target : Judge TargetText
-    target at t = passes.known_object c at t.object
-
-    script : Judge ScriptRefText
-    script = passes.known_script c
-
-    run : (r : ScriptRefText) → (place : Text) × (script place r ≡ Ok tt) → IsName r.table → IsScript c r
+    run : (r : ScriptRefText) → (place : Text) × (passes.known_script c place r ≡ Ok tt) → IsName r.table → IsScript c r
     run r h n = known_script c ok h.0 r n h.1
 
-    both : (body : BodyText) → EachReference (λ t. is_some (object_named c t.object) ≡ true) (λ r. (place : Text) × (script place r ≡ Ok tt)) body →
+    both : (body : BodyText) → EachReference (λ t. is_some (object_named c t.object) ≡ true) (λ r. (place : Text) × (passes.known_script c place r ≡ Ok tt)) body →
         EachReference (λ t. IsName t.object) (λ r. IsName r.table) body → EachReference (λ t. (p : ObjectText) × IsTarget c t.object p) (IsScript c) body
     both (DataText value) h n = tt
     both (RegisterText value default scaler unit) h n = tt
