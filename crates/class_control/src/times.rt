@@ -7,9 +7,7 @@ ghost use Rattle.cosem_data.specs.View.{tree};
 ghost use Rattle.meter_theory.specs.Times as theory;
 
 use cosem_data::data::Data;
-
-/// The most elements of an execution_time, of a type other than 1 (own profile).
-pub const MOST_TIMES: usize = 16;
+use meter_theory::limits::EXECUTION_TIMES;
 
 /// A field of a time or a date that is not specified (IEC 62056-6-2, date and time formats).
 pub(crate) const ANY: u8 = 0xFF;
@@ -188,14 +186,14 @@ fn are_equal_times(values: &[Data]) -> bool
     }
 }
 
-/// Whether a type allows so many elements: type 1 one, any other at most `MOST_TIMES` (own profile).
+/// Whether a type allows so many elements: type 1 one, any other at most `EXECUTION_TIMES` (own profile).
 fn is_number_for(execution_type: u8, number: usize) -> bool
     ensures { result ≡ theory.is_number_for execution_type number }
 {
     if execution_type == 1 {
         number == 1
     } else {
-        number <= MOST_TIMES
+        number <= EXECUTION_TIMES
     }
 }
 
@@ -214,7 +212,7 @@ fn is_date_for(execution_type: u8, values: &[Data]) -> bool
 }
 
 /// Whether these are the elements of an execution_time of this type, from 1 to 5: each is one (`is_execution_time`), type 1
-/// has exactly one and any other at most `MOST_TIMES`, types 2 and 3 have one time of day, and types 2 and 4 no year, month
+/// has exactly one and any other at most `EXECUTION_TIMES`, types 2 and 3 have one time of day, and types 2 and 4 no year, month
 /// or day that is not specified (IEC 62056-6-2, Single action schedule, type; own profile).
 pub fn are_execution_times(execution_type: u8, values: &[Data]) -> bool
     ensures { result ≡ theory.are_execution_times execution_type (map tree values.now) }

@@ -2,6 +2,7 @@ ghost use Rattle.std.specs.Prelude.{◌≡◌, ◌≤◌, ℕ, [], length, min, 
 ghost use Rattle.cosem_data.specs.View.{tree};
 ghost use Rattle.meter_theory.specs.Value.{array_of, structure_of, counter};
 ghost use Rattle.meter_theory.specs.Value as values;
+ghost use Rattle.meter_theory.specs.declared.limits.TheConstants.{PROFILE_ENTRIES};
 ghost use Rattle.meter_theory.specs.Steps.{buffer_after, in_use_after};
 ghost use Rattle.meter_theory.specs.Plan.{ProfileGeneric};
 ghost use Rattle.meter_theory.specs.Fixed.{fixed_in};
@@ -30,14 +31,14 @@ pub struct ProfilePart {
     pub captured: Vec<CellRef>,
     /// The start of attribute 4, capture_period, in seconds; 0 where no clock captures.
     pub capture_period: u32,
-    /// Attribute 8, profile_entries, from 1 to 1000 (the limit is own profile).
+    /// Attribute 8, profile_entries, from 1 to `PROFILE_ENTRIES` (the limit is own profile).
     pub profile_entries: u32,
     // An attribute_index is an integer of eight bits.
     pub ghost indexes_fit: { HaveAttributeIndexes captured.items },
     // There is room for an entry.
     pub ghost has_entries: { 1 ≤ profile_entries },
     // There are as many entries as a meter keeps at most.
-    pub ghost entries_fit: { profile_entries ≤ 1000 },
+    pub ghost entries_fit: { profile_entries ≤ PROFILE_ENTRIES },
 }
 
 impl ProfilePart {

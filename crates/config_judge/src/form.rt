@@ -6,6 +6,7 @@ ghost use Rattle.config_rules.specs.Names as spec;
 ghost use Rattle.value_text.specs.Texts.{name_in};
 
 use cosem_data::name::LogicalName;
+use meter_theory::limits::NAME_CHARACTERS;
 
 /// Whether a text is a logical name: six numbers from 0 to 255 without leading zeros, joined by dots (IEC 62056-6-2,
 /// logical_name).
@@ -31,10 +32,10 @@ fn is_step_word(text: &str) -> bool
     text == "in" || text == "at" || text == "eval"
 }
 
-/// Whether a text is a client's name: 1 to 16 characters of a to z, 0 to 9 and _, and no word that begins a step of the
+/// Whether a text is a client's name: 1 to `NAME_CHARACTERS` of a to z, 0 to 9 and _, and no word that begins a step of the
 /// meter itself, which are `in`, `at` and `eval` (own profile).
 pub(crate) fn is_client_name(text: &str) -> bool
     ensures { result ≡ spec.is_client_name text.now }
 {
-    1 <= text.len() && text.len() <= 16 && has_name_bytes(text) && !is_step_word(text)
+    1 <= text.len() && text.len() <= NAME_CHARACTERS && has_name_bytes(text) && !is_step_word(text)
 }

@@ -14,7 +14,6 @@ ghost use Rattle.config_judge.specs.Lines.{followed_by};
 use crate::arrays::{times_of, values_of};
 use crate::judged::fault_if;
 use crate::walk::{Judge, each, each_below};
-use class_control::times::MOST_TIMES;
 use config_text::fault::{Code, ConfigFault};
 use config_text::parts::{
     ActionParts, BodyParts, CaptureParts, ConfigParts, ObjectParts, ScriptParts, UpDownParts,
@@ -23,29 +22,12 @@ use config_text::place::Place;
 use cosem_class::judge::keeps_limits;
 use cosem_data::data::{Data, Items};
 use cosem_data::memory::Memory;
+use meter_theory::limits::{
+    ACTIONS, CAPTURE_OBJECTS, CLIENTS, EXECUTION_TIMES, OBJECTS, PROFILE_ENTRIES, SCRIPTS,
+    THRESHOLDS,
+};
 use std::alloc::Global;
 use value_text::value;
-
-/// The most clients of a meter (own profile).
-pub(crate) const MOST_CLIENTS: usize = 16;
-
-/// The most objects of a meter (own profile).
-pub(crate) const MOST_OBJECTS: usize = 512;
-
-/// The most scripts of a script table (own profile).
-pub(crate) const MOST_SCRIPTS: usize = 64;
-
-/// The most actions of a script (own profile).
-pub(crate) const MOST_ACTIONS: usize = 32;
-
-/// The most attributes that a profile captures (own profile).
-pub(crate) const MOST_CAPTURES: usize = 32;
-
-/// The most entries of a profile (own profile).
-pub(crate) const MOST_ENTRIES: u64 = 1000;
-
-/// The most thresholds of a register monitor, and so the most of its actions (own profile).
-pub(crate) const MOST_THRESHOLDS: usize = 16;
 
 /// A number of elements against a limit.
 fn at_most(at: &Place<'_>, key: &str, limit: usize, number: usize) -> Result<(), ConfigFault>
@@ -112,7 +94,7 @@ impl Judge for ScriptLimits {
 
     #[tactic(auto, unfolding(config_rules::specs::Passes::script_limits))]
     fn judge(&self, at: &Place<'_>, script: &ScriptParts) -> Result<(), ConfigFault> {
-        at_most(at, ".action", MOST_ACTIONS, script.actions.len())?;
+        at_most(at, ".action", ACTIONS, script.actions.len())?;
         each_below(&SmallAction, at, ".action", script.actions.as_slice())
     }
 }
@@ -132,19 +114,19 @@ fn profile_limits(
     captures: &[CaptureParts],
     entries: u64,
 ) -> Result<(), ConfigFault>
-    ensures { Gives (λ u. u) result (followed_by (faults.fault_if Limit (at.now ++ codes ".capture") (nat_lt 32 (length captures.now)))
-        (faults.fault_if Limit (at.now ++ codes ".entries") (nat_lt 1000 entries))) }
+    ensures { Gives (λ u. u) result (followed_by (faults.fault_if Limit (at.now ++ codes ".capture") (nat_lt CAPTURE_OBJECTS (length captures.now)))
+        (faults.fault_if Limit (at.now ++ codes ".entries") (nat_lt PROFILE_ENTRIES entries))) }
 {
-    at_most(at, ".capture", MOST_CAPTURES, captures.len())?;
-    fault_if(Code::Limit, at, ".entries", MOST_ENTRIES < entries)
+    at_most(at, ".capture", CAPTURE_OBJECTS, captures.len())?;
+    fault_if(Code::Limit, at, ".entries", PROFILE_ENTRIES < entries)
 }
 
 /// The sizes of a script table.
 fn script_table_limits(at: &Place<'_>, scripts: &[ScriptParts]) -> Result<(), ConfigFault>
-    ensures { Gives (λ u. u) result (followed_by (faults.fault_if Limit (at.now ++ codes ".script") (nat_lt 64 (length scripts.now)))
+    ensures { Gives (λ u. u) result (followed_by (faults.fault_if Limit (at.now ++ codes ".script") (nat_lt SCRIPTS (length scripts.now)))
         (walks.each passes.script_limits (at.now ++ codes ".script") scripts.now)) }
 {
-    at_most(at, ".script", MOST_SCRIPTS, scripts.len())?;
+    at_most(at, ".script", SCRIPTS, scripts.len())?;
     each_below(&ScriptLimits, at, ".script", scripts)
 }
 
@@ -167,10 +149,10 @@ fn are_small_times(alloc: Global, texts: &[String]) -> Result<bool, Memory>
 /// The number and the size of thresholds.
 fn threshold_limits(at: &Place<'_>, texts: &[String]) -> Result<(), ConfigFault>
     ensures { Gives (λ u. u) result (faults.fault_if Limit (at.now ++ codes ".thresholds")
-        (nat_lt 16 (length (map string_bytes texts.now)) || not (is_within_limits (thresholds_value (map string_bytes texts.now))))) }
+        (nat_lt THRESHOLDS (length (map string_bytes texts.now)) || not (is_within_limits (thresholds_value (map string_bytes texts.now))))) }
 {
     let small = are_small_thresholds(at.alloc(), texts)?;
-    let many = MOST_THRESHOLDS < texts.len();
+    let many = THRESHOLDS < texts.len();
     fault_if(Code::Limit, at, ".thresholds", many || !small)
 }
 
@@ -181,20 +163,20 @@ fn monitor_limits(
     actions: &[UpDownParts],
 ) -> Result<(), ConfigFault>
     ensures { Gives (λ u. u) result (followed_by (faults.fault_if Limit (at.now ++ codes ".thresholds")
-        (nat_lt 16 (length (map string_bytes thresholds.now)) || not (is_within_limits (thresholds_value (map string_bytes thresholds.now)))))
-        (faults.fault_if Limit (at.now ++ codes ".action") (nat_lt 16 (length actions.now)))) }
+        (nat_lt THRESHOLDS (length (map string_bytes thresholds.now)) || not (is_within_limits (thresholds_value (map string_bytes thresholds.now)))))
+        (faults.fault_if Limit (at.now ++ codes ".action") (nat_lt THRESHOLDS (length actions.now)))) }
 {
     threshold_limits(at, thresholds)?;
-    at_most(at, ".action", MOST_THRESHOLDS, actions.len())
+    at_most(at, ".action", THRESHOLDS, actions.len())
 }
 
 /// The number and the size of times.
 fn time_limits(at: &Place<'_>, texts: &[String]) -> Result<(), ConfigFault>
     ensures { Gives (λ u. u) result (faults.fault_if Limit (at.now ++ codes ".times")
-        (nat_lt 16 (length (map string_bytes texts.now)) || not (is_within_limits (times_value (map string_bytes texts.now))))) }
+        (nat_lt EXECUTION_TIMES (length (map string_bytes texts.now)) || not (is_within_limits (times_value (map string_bytes texts.now))))) }
 {
     let small = are_small_times(at.alloc(), texts)?;
-    let many = MOST_TIMES < texts.len();
+    let many = EXECUTION_TIMES < texts.len();
     fault_if(Code::Limit, at, ".times", many || !small)
 }
 
@@ -249,8 +231,8 @@ pub(crate) fn within_limits(alloc: Global, config: &ConfigParts) -> Result<(), C
     ensures { Gives (λ u. u) result (passes.within_limits config.now) }
 {
     let client_place = Place::top(alloc, "client");
-    at_most(&client_place, "", MOST_CLIENTS, config.clients.len())?;
+    at_most(&client_place, "", CLIENTS, config.clients.len())?;
     let object_place = Place::top(alloc, "object");
-    at_most(&object_place, "", MOST_OBJECTS, config.objects.len())?;
+    at_most(&object_place, "", OBJECTS, config.objects.len())?;
     each(&ObjectLimits, &object_place, config.objects.as_slice())
 }

@@ -1,4 +1,4 @@
--- A configuration without faults has few clients, and its profiles keep from 1 to 1000 entries.
+-- A configuration without faults has few clients, and its profiles keep some entries, within the limit.
 use Rattle.std.proofs.Common.{◌≡◌, ◌≤◌, nat_le, Bool, true, ◌&&◌, List, [], ◌∷◌, length, map, refl, subst, inl, inr}
 use Rattle.std.specs.List.{list_all}
 use Rattle.std.proofs.lemmas.Bool.{and_from, and_parts}
@@ -7,6 +7,7 @@ use Rattle.cosem_data.specs.declared.cell.CellRef.{CellRef}
 use Rattle.meter_theory.specs.Lists.{IsIn}
 use Rattle.meter_theory.proofs.Lists.{in_map}
 use Rattle.meter_theory.specs.Sound.{is_name, has_part_sizes}
+use Rattle.meter_theory.specs.declared.limits.TheConstants as limits
 use Rattle.config_text.specs.Parts.{ConfigText, BodyText, DataText, RegisterText, ProfileText, ScriptTableText, MonitorText, ScheduleText, UnknownText}
 use Rattle.config_rules.specs.Faultless.{IsFaultless}
 use Rattle.config_rules.specs.PlanOf.{object_of, part_of, cell_named, name_of, client_of}
@@ -22,8 +23,8 @@ room_in c (DataText value) h = refl
 room_in c (RegisterText value default scaler unit) h = refl
 room_in c (ProfileText captures period entries sort_method) h =
     let taken : List CellRef = map (λ x. cell_named c x.target) captures in
-    (and_parts (list_all (λ x. is_name x.name) taken) (nat_le 1 entries && nat_le entries 1000)
-    (and_parts (nat_le (length taken) 32) (list_all (λ x. is_name x.name) taken && (nat_le 1 entries && nat_le entries 1000)) h).1).1
+    (and_parts (list_all (λ x. is_name x.name) taken) (nat_le 1 entries && nat_le entries limits.PROFILE_ENTRIES)
+    (and_parts (nat_le (length taken) limits.CAPTURE_OBJECTS) (list_all (λ x. is_name x.name) taken && (nat_le 1 entries && nat_le entries limits.PROFILE_ENTRIES)) h).1).1
 room_in c (ScriptTableText scripts) h = refl
 room_in c (MonitorText monitored thresholds actions) h = refl
 room_in c (ScheduleText script type times) h = refl
@@ -33,5 +34,5 @@ pub profiles_have_room : (c : ConfigText) → IsFaultless c → list_all (λ o. 
 profiles_have_room c f = all_from (λ o. has_room o.body) c.objects (λ o i.
     room_in c o.body (and_parts (is_name (name_of o.name)) (has_part_sizes (part_of c o.body)) ((plan_is_sound c f.read f.judged).sizes (object_of c o) (in_map (object_of c) c.objects o i))).1)
 
-pub few_clients : (c : ConfigText) → IsFaultless c → length c.clients ≤ 16
-few_clients c f = subst (λ n. n ≤ 16) (length-map c.clients client_of) (plan_is_sound c f.read f.judged).few_clients
+pub few_clients : (c : ConfigText) → IsFaultless c → length c.clients ≤ limits.CLIENTS
+few_clients c f = subst (λ n. n ≤ limits.CLIENTS) (length-map c.clients client_of) (plan_is_sound c f.read f.judged).few_clients

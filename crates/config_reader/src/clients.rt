@@ -1,5 +1,6 @@
 //! The clients of a configuration and their rights.
 ghost use Rattle.std.specs.Prelude.{◌≡◌, ◌≤◌, ◌<◌, IfOk, map, length, option_map, string_bytes};
+ghost use Rattle.meter_theory.specs.declared.limits.TheConstants.{CLIENTS};
 ghost use Rattle.config_rules.specs.PlanOf as plan;
 
 use crate::targets::name_of;
@@ -40,9 +41,9 @@ pub(crate) fn clients_of(alloc: Global, parts: &[ClientParts]) -> Result<Vec<Cli
 
 /// The place of the first client with this name, 0 where there is none.
 pub(crate) fn client_place(directory: &Directory, name: &str) -> u8
-    requires few { length directory.now.config.now.clients ≤ 16 }
+    requires few { length directory.now.config.now.clients ≤ CLIENTS }
     ensures place { result ≡ plan.client_place directory.now.config.now name.now }
-    ensures below { result < 16 }
+    ensures below { result < CLIENTS }
 {
     match directory.client_place(name) {
         Some(place) => place as u8,
@@ -51,7 +52,7 @@ pub(crate) fn client_place(directory: &Directory, name: &str) -> u8
 }
 
 fn right(alloc: Global, directory: &Directory, parts: &RightParts) -> Result<Right, Memory>
-    requires few { length directory.now.config.now.clients ≤ 16 }
+    requires few { length directory.now.config.now.clients ≤ CLIENTS }
     ensures { IfOk result (λ right. right ≡ plan.right_of directory.now.config.now parts.now) }
 {
     let client = client_place(directory, parts.client.as_str());
@@ -68,7 +69,7 @@ pub(crate) fn rights_of(
     directory: &Directory,
     parts: &[RightParts],
 ) -> Result<Vec<Right>, Memory>
-    requires few { length directory.now.config.now.clients ≤ 16 }
+    requires few { length directory.now.config.now.clients ≤ CLIENTS }
     ensures { IfOk result (λ rights. rights.items ≡ map (plan.right_of directory.now.config.now) parts.now) }
 {
     let mut rights = Vec::new(alloc);

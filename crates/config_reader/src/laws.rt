@@ -1,6 +1,7 @@
 //! What holds of every configuration that could be read, and of every one without faults.
 ghost use Rattle.std.specs.Prelude.{◌≡◌, ◌≤◌, Ok, length, true};
 ghost use Rattle.std.specs.List.{list_all};
+ghost use Rattle.meter_theory.specs.declared.limits.TheConstants.{CLIENTS};
 ghost use Rattle.config_text.specs.Document.{tables_of};
 ghost use Rattle.config_text.specs.Parts.{Text, ConfigText};
 ghost use Rattle.config_rules.specs.Faultless.{IsFaultless};
@@ -17,9 +18,9 @@ pub fn configurations_are_read()
     // The proof is the function's contract.
 }
 
-/// A configuration without faults has at most 16 clients, and each profile keeps from 1 to 1000 entries.
+/// A configuration without faults has at most `CLIENTS` clients, and each profile keeps from 1 to `PROFILE_ENTRIES` entries.
 pub fn faultless_configurations_have_room()
-    ensures clients { (c : ConfigText) → IsFaultless c → length c.clients ≤ 16 }
+    ensures clients { (c : ConfigText) → IsFaultless c → length c.clients ≤ CLIENTS }
     ensures profiles { (c : ConfigText) → IsFaultless c → list_all (λ o. has_room o.body) c.objects ≡ true }
 {
     // The proof is the function's contract.

@@ -4,6 +4,7 @@ ghost use Rattle.std.specs.List.{list_all};
 ghost use Rattle.cosem_data.specs.View.{tree};
 ghost use Rattle.config_text.specs.BodyView.{body_text};
 ghost use Rattle.meter_theory.specs.Plan as theory;
+ghost use Rattle.meter_theory.specs.declared.limits.TheConstants.{PROFILE_ENTRIES};
 ghost use Rattle.object_model.specs.PartView.{part_of};
 ghost use Rattle.config_rules.specs.PlanOf as plan;
 ghost use Rattle.config_reader.specs.Room.{has_room};
@@ -51,7 +52,7 @@ fn profile(
     entries: u64,
 ) -> Result<Part, Memory>
     requires some { 1 ≤ entries }
-    requires few { entries ≤ 1000 }
+    requires few { entries ≤ PROFILE_ENTRIES }
     ensures { IfOk result (λ part. part_of part ≡ theory.ProfileGeneric (map (λ x. plan.cell_named directory.now.config.now x.target) captures.now) capture_period entries) }
 {
     let captured = captured(alloc, directory, captures)?;

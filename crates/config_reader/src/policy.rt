@@ -1,5 +1,6 @@
 //! The policy of a configuration without faults: who may influence each cell, and who may learn it (own profile).
 ghost use Rattle.std.specs.Prelude.{◌≡◌, ◌≤◌, IfOk, length, map, string_bytes};
+ghost use Rattle.meter_theory.specs.declared.limits.TheConstants.{CLIENTS};
 ghost use Rattle.object_model.specs.PolicyView as model;
 ghost use Rattle.config_rules.specs.Faultless.{AreLabelsOf, HasNamed, IsFaultless, IsLabelOf, IsPolicyOf};
 ghost use Rattle.config_rules.specs.PlanOf as theory;
@@ -18,7 +19,7 @@ use std::alloc::Global;
 
 /// The clients with these names.
 fn clients_named(directory: &Directory, names: &[String]) -> ClientSet
-    requires few { length directory.now.config.now.clients ≤ 16 }
+    requires few { length directory.now.config.now.clients ≤ CLIENTS }
     ensures { HasNamed directory.now.config.now (map string_bytes names.now) result }
 {
     let mut set = ClientSet::new();
@@ -30,7 +31,7 @@ fn clients_named(directory: &Directory, names: &[String]) -> ClientSet
 
 /// Who may influence a cell, and who may learn it.
 fn label_of(directory: &Directory, sets: &SetsParts) -> Label
-    requires few { length directory.now.config.now.clients ≤ 16 }
+    requires few { length directory.now.config.now.clients ≤ CLIENTS }
     ensures { IsLabelOf directory.now.config.now sets.now result }
 {
     Label {
@@ -45,7 +46,7 @@ fn labels_of(
     directory: &Directory,
     labels: &[LabelParts],
 ) -> Result<Vec<(CellRef, Label)>, Memory>
-    requires few { length directory.now.config.now.clients ≤ 16 }
+    requires few { length directory.now.config.now.clients ≤ CLIENTS }
     ensures { IfOk result (λ table. AreLabelsOf directory.now.config.now labels.now table.items) }
 {
     let mut table = Vec::new(alloc);

@@ -1,6 +1,6 @@
 -- What the actions of scripts write and call is there.
-use Rattle.std.proofs.Common.{◌≡◌, ℕ, ◌==◌, Bool, true, false, cond, not, List, [], ◌∷◌, ◌++◌, map, length, refl, sym, ap, subst, ◌∙◌, Option, Some, None, eqb-true, eq-eqb, nat_le, Ok}
-use Rattle.std.specs.Prelude.{option_map, option_and_then, codes, ◌&&◌}
+use Rattle.std.proofs.Common.{◌≡◌, ℕ, ◌==◌, Bool, true, false, cond, not, List, [], ◌∷◌, map, length, refl, sym, ap, subst, ◌∙◌, Option, Some, None, eqb-true, eq-eqb, nat_le, Ok}
+use Rattle.std.specs.Prelude.{option_map, option_and_then, ◌&&◌}
 use Rattle.std.proofs.lemmas.Bool.{and_parts, and_from, false≢true}
 use Rattle.std.proofs.lemmas.List.{length-map}
 use Rattle.std.specs.List.{list_all}
@@ -15,26 +15,25 @@ use Rattle.meter_theory.specs.State.{value}
 use Rattle.meter_theory.specs.Value.{Rule, OfKind, Thresholds, meets, is_within_limits, elements}
 use Rattle.meter_theory.specs.Times.{are_execution_times}
 use Rattle.meter_theory.specs.Plan as theory
-use Rattle.meter_theory.specs.Plan.{Script, start, rule_of, rule_in, cells, class_of, interface_of}
+use Rattle.meter_theory.specs.Plan.{Script, Action, start, rule_of, rule_in, cells, class_of, interface_of}
 use Rattle.meter_theory.specs.Steps.{scripts_of}
 use Rattle.meter_theory.specs.Sound.{IsWrite, has_plain_method, are_indexes}
+use Rattle.meter_theory.specs.declared.limits.TheConstants as limits
 use Rattle.meter_theory.proofs.Lists.{from_map}
-use Rattle.config_text.specs.declared.fault.Code.TheVariants as code
 use Rattle.config_text.specs.declared.service.Service.{Service}
 use Rattle.config_text.specs.declared.service.Service.TheVariants as services
 use Rattle.config_text.specs.Parts.{Text, ConfigText, ObjectText, ActionText, ScriptText, BodyText, DataText, RegisterText, ProfileText, ScriptTableText, MonitorText, ScheduleText, UnknownText}
-use Rattle.config_rules.specs.Names.{settable, target_is, object_named, class_named, scripts_in, is_index, methods}
+use Rattle.config_rules.specs.Names.{object_named, class_named, is_index, methods}
 use Rattle.value_text.specs.Texts.{value_in}
 use Rattle.config_rules.specs.Values.{kind_in, has_kind, kind_named, may_stand, may_stand_at}
 use Rattle.config_rules.specs.PlanOf.{part_of, plan_of, value_of, or_else, cell_named, method_named, up_down_of, script_of, action_of, parameter_of}
 use Rattle.config_rules.specs.Passes as passes
-use Rattle.config_rules.specs.Walks.{each, each_action}
 use Rattle.config_rules.proofs.Passed.{then_ok, holds, not_faulty, each_ok, each_action_ok, EachReference}
 use Rattle.config_rules.proofs.Cells.{IsRight, IsTarget, settable_cell, rule_at}
-use Rattle.config_rules.proofs.Starts.{values_of, limits_of, data_start, register_start}
+use Rattle.config_rules.proofs.Starts.{IsStart, of_body, data_start, register_start}
 use Rattle.config_rules.proofs.Scripts.{IsScript}
 use Rattle.config_rules.proofs.Indexes.{method_of}
-use Rattle.config_rules.proofs.Fits.{known_of, indexes_of, monitor_source}
+use Rattle.config_rules.proofs.Fits.{known_of, monitor_source}
 
 chosen : (b : Bool) (r rule : Rule) → cond b (Some r) None ≡ Some rule → r ≡ rule
 chosen true r rule h = cc
@@ -44,21 +43,18 @@ kind_meets : (k : Kind) (v : Tree) → same_kind (kind_of v) k ≡ true → is_w
 kind_meets k v kind limit = and_from (same_kind (kind_of v) k) (is_within_limits v && true) kind (and_from (is_within_limits v) true limit refl)
 
 -- of the kind of a start value
-start_meets : (text : Text) (w v : Tree) → value_in text ≡ Some w → value_of text ≡ w → has_kind (kind_in text) v ≡ true → is_within_limits v ≡ true →
-    meets (OfKind (kind_of (value_of text))) v ≡ true
-start_meets text w v is same kind limit =
-    subst (λ z. meets (OfKind (kind_of z)) v ≡ true) (sym same)
-    (kind_meets (kind_of w) v (subst (λ r. has_kind (option_map kind_of r) v ≡ true) is kind) limit)
+start_meets : (text : Text) (v : Tree) → IsStart text → has_kind (kind_in text) v ≡ true → is_within_limits v ≡ true → meets (OfKind (kind_of (value_of text))) v ≡ true
+start_meets text v w kind limit =
+    subst (λ z. meets (OfKind (kind_of z)) v ≡ true) (sym w.2)
+    (kind_meets (kind_of w.0) v (subst (λ r. has_kind (option_map kind_of r) v ≡ true) w.1 kind) limit)
 
 -- what may stand in a body, within the limits, meets the rule of its part
 meets_rule : (c : ConfigText) → IsRight c → (o : ObjectText) → IsIn c.objects o → (body : BodyText) → o.body ≡ body → (index : ℕ) (rule : Rule) → rule_in (plan_of c) (part_of c body) index ≡ Some rule →
     (v : Tree) → may_stand c body v ≡ true → is_within_limits v ≡ true → meets rule v ≡ true
 meets_rule c ok o i (DataText text) is index rule h v stands limit =
-    let d = data_start c ok o i text is in
-    subst (λ r. meets r v ≡ true) (chosen (index == 2) _ rule h) (start_meets text d.0 v d.1 d.2 stands limit)
+    subst (λ r. meets r v ≡ true) (chosen (index == 2) _ rule h) (start_meets text v (data_start c ok o i text is) stands limit)
 meets_rule c ok o i (RegisterText text default scaler unit) is index rule h v stands limit =
-    let d = (register_start c ok o i text default scaler unit is).0 in
-    subst (λ r. meets r v ≡ true) (chosen (index == 2) _ rule h) (start_meets text d.0 v d.1 d.2 stands limit)
+    subst (λ r. meets r v ≡ true) (chosen (index == 2) _ rule h) (start_meets text v (register_start c ok o i text default scaler unit is).0 stands limit)
 meets_rule c ok o i (ProfileText captures period entries sort_method) is index rule h v stands limit =
     subst (λ r. meets r v ≡ true) (chosen (index == 4) _ rule h) (kind_meets DoubleLongUnsigned v stands limit)
 meets_rule c ok o i (ScriptTableText scripts) is index rule h v stands limit = cc
@@ -88,35 +84,21 @@ pub record IsAction (c : ConfigText) (a : ActionText) : Type 0 where
   pub plain : (passes.is_invoke a.service && (class_named c a.target.object == 9)) ≡ false
   pub limit : passes.is_small (option_and_then value_in a.value) ≡ true
 
-executes_of : (c : ConfigText) → IsRight c → (o : ObjectText) → IsIn c.objects o → (body : BodyText) → o.body ≡ body → (at : Text) × (each_action (passes.no_execute c) at (scripts_in body) ≡ Ok tt)
-unfolding passes.no_executes
-executes_of c ok o i body is =
-    let r = each_ok (λ at p. each_action (passes.no_execute c) at (scripts_in p.body)) (codes "object") 0 c.objects ok.judged.executes o i in
-    (r.0, subst (λ b. each_action (passes.no_execute c) r.0 (scripts_in b) ≡ Ok tt) is r.1)
-
 pub action_at : (c : ConfigText) → IsRight c → (o : ObjectText) → IsIn c.objects o → (scripts : List ScriptText) → o.body ≡ ScriptTableText scripts →
     (s : ScriptText) → IsIn scripts s → (a : ActionText) → IsIn s.actions a → IsAction c a
 unfolding passes.usable_indexes passes.valid_values_in passes.limits_in passes.script_limits
 action_at c ok o i scripts is s j a k =
     let refers = subst (EachReference (λ t. (p : ObjectText) × IsTarget c t.object p) (IsScript c)) is (known_of c ok o i) s j a k in
-    let indexes = indexes_of c ok o i (ScriptTableText scripts) is in
-    let values = values_of c ok o i (ScriptTableText scripts) is in
-    let limits = limits_of c ok o i (ScriptTableText scripts) is in
-    let executes = executes_of c ok o i (ScriptTableText scripts) is in
-    let index = each_action_ok (λ at x. passes.usable_action c x.service at x.target) indexes.0 scripts indexes.1 s j a k in
-    let value = each_action_ok (passes.valid_action_value c) values.0 scripts values.1 s j a k in
-    let plain = each_action_ok (passes.no_execute c) executes.0 scripts executes.1 s j a k in
-    let few = then_ok (passes.at_most 64 (limits.0 ++ codes ".script") scripts) (λ _. each passes.script_limits (limits.0 ++ codes ".script") scripts) tt limits.1 in
-    let script = each_ok passes.script_limits (limits.0 ++ codes ".script") 0 scripts few.2 s j in
-    let actions = then_ok (passes.at_most 32 (script.0 ++ codes ".action") s.actions) (λ _. each (λ at x. passes.small_value (at ++ codes ".value") x.value) (script.0 ++ codes ".action") s.actions) tt script.1 in
-    let limit = each_ok (λ at x. passes.small_value (at ++ codes ".value") x.value) (script.0 ++ codes ".action") 0 s.actions actions.2 a k in
+    let found = of_body c ok o i (ScriptTableText scripts) is in
+    let few = then_ok (passes.at_most limits.SCRIPTS _ scripts) _ tt found.limits.1 in
+    let actions = then_ok (passes.at_most limits.ACTIONS _ s.actions) _ tt (each_ok _ _ _ _ few.2 s j).1 in
     record {
       object = refers.0;
       target = refers.1;
-      index = index;
-      value = holds code.Value (value.0 ++ codes ".value") (passes.action_value c a.service a.target a.value) value.1;
-      plain = not_faulty code.Execute (plain.0 ++ codes ".object") (passes.is_invoke a.service && (class_named c a.target.object == 9)) plain.1;
-      limit = holds code.Limit (limit.0 ++ codes ".value") (passes.is_small (option_and_then value_in a.value)) limit.1;
+      index = each_action_ok _ _ scripts found.indexes.1 s j a k;
+      value = holds _ _ _ (each_action_ok _ _ scripts found.values.1 s j a k).1;
+      plain = not_faulty _ _ _ (each_action_ok _ _ scripts found.executes.1 s j a k).1;
+      limit = holds _ _ _ (each_ok _ _ _ _ actions.2 a k).1;
     }
 
 -- the value that is written
@@ -149,7 +131,7 @@ action_writes : (c : ConfigText) → IsRight c → (a : ActionText) → IsAction
 action_writes c ok a act services.Invoke is x v e = cc
 action_writes c ok a act services.Write is x v e =
     let index = subst (λ s. passes.usable_action c s act.index.0 a.target ≡ Ok tt) is act.index.1 in
-    let place = settable_cell c ok a.target act.object act.target (holds code.Index (act.index.0 ++ codes ".index") (target_is c settable a.target) index) in
+    let place = settable_cell c ok a.target act.object act.target (holds _ _ _ index) in
     let written = written_value c a act.object act.target.is (subst (λ s. passes.action_value c s a.target a.value ≡ true) is act.value) act.limit in
     let cell_is : x ≡ cell_named c a.target = cc in
     let value_is : v ≡ parameter_of a.value = cc in
@@ -162,26 +144,13 @@ action_writes c ok a act services.Write is x v e =
           (parameter_of a.value) written.stands written.limit);
     }
 
-pub writes : (c : ConfigText) → IsRight c → (o : ObjectText) → IsIn c.objects o → (body : BodyText) → o.body ≡ body → (script : Script) → IsIn (scripts_of (part_of c body)) script →
-    (x : CellRef) (v : Tree) → IsIn script.actions (theory.Write x v) → IsWrite (plan_of c) x v
-writes c ok o i (DataText value) is script j x v k = absurd j
-writes c ok o i (RegisterText value default scaler unit) is script j x v k = absurd j
-writes c ok o i (ProfileText captures period entries sort_method) is script j x v k = absurd j
-writes c ok o i (ScriptTableText scripts) is script j x v k =
-    let s = from_map (script_of c) scripts script j in
-    let a = from_map (λ z. action_of c z.service z.target z.value) s.0.actions (theory.Write x v) (subst (λ z. IsIn z.actions (theory.Write x v)) s.2 k) in
-    action_writes c ok a.0 (action_at c ok o i scripts is s.0 s.1 a.0 a.1) a.0.service refl x v a.2
-writes c ok o i (MonitorText monitored ths actions) is script j x v k = absurd j
-writes c ok o i (ScheduleText r type times) is script j x v k = absurd j
-writes c ok o i UnknownText is script j x v k = absurd j
-
 -- a script's action that calls: a method of its object, which executes no script
 action_calls : (c : ConfigText) (a : ActionText) → IsAction c a → (service : Service) → a.service ≡ service → (m : MethodRef) (v : Tree) →
     theory.Invoke m v ≡ action_of c service a.target a.value → has_plain_method (plan_of c) m ≡ true
 action_calls c a act services.Write is m v e = cc
 action_calls c a act services.Invoke is m v e =
     let index = subst (λ s. passes.usable_action c s act.index.0 a.target ≡ Ok tt) is act.index.1 in
-    let method = holds code.Index (act.index.0 ++ codes ".index") (is_index methods (class_named c a.target.object) a.target.index) index in
+    let method : is_index methods (class_named c a.target.object) a.target.index ≡ true = holds _ _ _ index in
     let plain : (class_named c a.target.object == 9) ≡ false = subst (λ s. (passes.is_invoke s && (class_named c a.target.object == 9)) ≡ false) is act.plain in
     let there = method_of c act.object.body a.target.index (subst (λ k. is_index methods k a.target.index ≡ true) act.target.class method) in
     let method_is : m ≡ method_named c a.target = cc in
@@ -192,15 +161,24 @@ action_calls c a act services.Invoke is m v e =
     (and_from (not (class_named c a.target.object == 9)) _ (ap not plain)
     (and_from (nat_le 1 a.target.index && nat_le a.target.index (interface_of (part_of c act.object.body)).methods) true there refl))))
 
-pub calls : (c : ConfigText) → IsRight c → (o : ObjectText) → IsIn c.objects o → (body : BodyText) → o.body ≡ body → (script : Script) → IsIn (scripts_of (part_of c body)) script →
-    (m : MethodRef) (v : Tree) → IsIn script.actions (theory.Invoke m v) → has_plain_method (plan_of c) m ≡ true
-calls c ok o i (DataText value) is script j m v k = absurd j
-calls c ok o i (RegisterText value default scaler unit) is script j m v k = absurd j
-calls c ok o i (ProfileText captures period entries sort_method) is script j m v k = absurd j
-calls c ok o i (ScriptTableText scripts) is script j m v k =
+-- an action of a script of the plan
+action_of_plan : (c : ConfigText) → IsRight c → (o : ObjectText) → IsIn c.objects o → (body : BodyText) → o.body ≡ body → (script : Script) → IsIn (scripts_of (part_of c body)) script →
+    (action : Action) → IsIn script.actions action → (a : ActionText) × IsAction c a × (action ≡ action_of c a.service a.target a.value)
+action_of_plan c ok o i (DataText value) is script j action k = absurd j
+action_of_plan c ok o i (RegisterText value default scaler unit) is script j action k = absurd j
+action_of_plan c ok o i (ProfileText captures period entries sort_method) is script j action k = absurd j
+action_of_plan c ok o i (ScriptTableText scripts) is script j action k =
     let s = from_map (script_of c) scripts script j in
-    let a = from_map (λ z. action_of c z.service z.target z.value) s.0.actions (theory.Invoke m v) (subst (λ z. IsIn z.actions (theory.Invoke m v)) s.2 k) in
-    action_calls c a.0 (action_at c ok o i scripts is s.0 s.1 a.0 a.1) a.0.service refl m v a.2
-calls c ok o i (MonitorText monitored ths actions) is script j m v k = absurd j
-calls c ok o i (ScheduleText r type times) is script j m v k = absurd j
-calls c ok o i UnknownText is script j m v k = absurd j
+    let a = from_map (λ z. action_of c z.service z.target z.value) s.0.actions action (subst (λ z. IsIn z.actions action) s.2 k) in
+    (a.0, action_at c ok o i scripts is s.0 s.1 a.0 a.1, a.2)
+action_of_plan c ok o i (MonitorText monitored ths actions) is script j action k = absurd j
+action_of_plan c ok o i (ScheduleText r type times) is script j action k = absurd j
+action_of_plan c ok o i UnknownText is script j action k = absurd j
+
+pub writes : (c : ConfigText) → IsRight c → (o : ObjectText) → IsIn c.objects o → (script : Script) → IsIn (scripts_of (part_of c o.body)) script →
+    (x : CellRef) (v : Tree) → IsIn script.actions (theory.Write x v) → IsWrite (plan_of c) x v
+writes c ok o i script j x v k = let a = action_of_plan c ok o i o.body refl script j (theory.Write x v) k in action_writes c ok a.0 a.1 a.0.service refl x v a.2
+
+pub calls : (c : ConfigText) → IsRight c → (o : ObjectText) → IsIn c.objects o → (script : Script) → IsIn (scripts_of (part_of c o.body)) script →
+    (m : MethodRef) (v : Tree) → IsIn script.actions (theory.Invoke m v) → has_plain_method (plan_of c) m ≡ true
+calls c ok o i script j m v k = let a = action_of_plan c ok o i o.body refl script j (theory.Invoke m v) k in action_calls c a.0 a.1 a.0.service refl m v a.2

@@ -1,7 +1,7 @@
 -- The cells that a configuration names are cells of its plan, with their rules.
-use Rattle.std.proofs.Common.{◌≡◌, ℕ, ◌==◌, Bool, true, false, cond, not, List, refl, sym, ap, subst, ◌∙◌, inl, inr, Option, Some, None, is_some, eqb-true, eq-eqb, ◌++◌}
-use Rattle.std.specs.Prelude.{option_map, option_and_then, codes}
-use Rattle.std.proofs.lemmas.Bool.{or_cases, and_parts, cond-true, false≢true}
+use Rattle.std.proofs.Common.{◌≡◌, ℕ, ◌==◌, true, false, cond, not, refl, sym, ap, subst, ◌∙◌, inl, inr, Option, Some, None, is_some, eqb-true, eq-eqb, ◌++◌}
+use Rattle.std.specs.Prelude.{◌||◌, option_map, option_and_then, codes}
+use Rattle.std.proofs.lemmas.Bool.{or_cases, and_parts, cond-true, false≢true, not-true}
 use Rattle.cosem_data.specs.Tree.{Tree}
 use Rattle.cosem_data.specs.Cells.{cell}
 use Rattle.cosem_data.specs.declared.name.LogicalName.{LogicalName}
@@ -20,59 +20,27 @@ use Rattle.config_rules.proofs.Passed.{holds, each_ok, IsJudged}
 use Rattle.config_rules.proofs.Named.{IsName, AreNames, AreNew, names_ok, names_new, finds, found_named, object_at_named}
 
 -- a settable cell of an object: its rule, and its start value
-abbrev pub IsSettable : Plan → ConfigText → BodyText → LogicalName → ℕ → ℕ → Type 0
-IsSettable P c body n class index =
-    ((rule : Rule) × (rule_in P (part_of c body) index ≡ Some rule)) × ((v : Tree) × IsIn (start_of n (part_of c body)) (cell class n index, v))
+abbrev pub IsSettable : Plan → ConfigText → BodyText → LogicalName → ℕ → Type 0
+IsSettable P c body n index =
+    ((rule : Rule) × (rule_in P (part_of c body) index ≡ Some rule)) × ((v : Tree) × IsIn (start_of n (part_of c body)) (cell (class_of (part_of c body)) n index, v))
 
 -- the index at which the test of a list with one fitting pair holds
-second_of : (index place : ℕ) → (place == index) ≡ true → index ≡ place
-second_of index place h = sym (eqb-true place index h)
-
-settable_in_1 : (index : ℕ) → is_among settable 1 index ≡ true → index ≡ 2
-settable_in_1 index h = elim (or_cases (2 == index) false h) [ inl e ↦ second_of index 2 e | inr e ↦ absurd (false≢true e) ]
-
-settable_in_3 : (index : ℕ) → is_among settable 3 index ≡ true → index ≡ 2
-settable_in_3 index h = elim (or_cases (2 == index) false h) [ inl e ↦ second_of index 2 e | inr e ↦ absurd (false≢true e) ]
-
-settable_in_7 : (index : ℕ) → is_among settable 7 index ≡ true → index ≡ 4
-settable_in_7 index h = elim (or_cases (4 == index) false h) [ inl e ↦ second_of index 4 e | inr e ↦ absurd (false≢true e) ]
-
-settable_in_21 : (index : ℕ) → is_among settable 21 index ≡ true → index ≡ 2
-settable_in_21 index h = elim (or_cases (2 == index) false h) [ inl e ↦ second_of index 2 e | inr e ↦ absurd (false≢true e) ]
-
-settable_in_22 : (index : ℕ) → is_among settable 22 index ≡ true → index ≡ 4
-settable_in_22 index h = elim (or_cases (4 == index) false h) [ inl e ↦ second_of index 4 e | inr e ↦ absurd (false≢true e) ]
-
-move : (P : Plan) (c : ConfigText) (body : BodyText) (n : LogicalName) (class index k place : ℕ) → class ≡ k → index ≡ place → IsSettable P c body n k place → IsSettable P c body n class index
-move P c body n class index k place is e s = subst (λ z. IsSettable P c body n z index) (sym is) (subst (λ i. IsSettable P c body n k i) (sym e) s)
-
-among_at : (pairs : List (ℕ × ℕ)) (class index k : ℕ) → class ≡ k → is_among pairs class index ≡ true → is_among pairs k index ≡ true
-among_at pairs class index k is h = subst (λ z. is_among pairs z index ≡ true) is h
+pub only_place : (place index : ℕ) → ((place == index) || false) ≡ true → index ≡ place
+only_place place index h = elim (or_cases (place == index) false h) [ inl e ↦ sym (eqb-true place index e) | inr e ↦ absurd (false≢true e) ]
 
 -- what is settable by the table of the classes is a settable cell
-pub settable_body : (P : Plan) (c : ConfigText) (n : LogicalName) (class index : ℕ) (body : BodyText) → is_body_of class body ≡ true → is_known_class class ≡ true →
-    is_among settable class index ≡ true → IsSettable P c body n class index
-settable_body P c n class index (DataText value) b k s =
-    let is = eqb-true class 1 b in move P c (DataText value) n class index 1 2 is (settable_in_1 index (among_at settable class index 1 is s)) ((_, refl), (_, inl refl))
-settable_body P c n class index (RegisterText value default scaler unit) b k s =
-    let is = eqb-true class 3 b in
-    move P c (RegisterText value default scaler unit) n class index 3 2 is (settable_in_3 index (among_at settable class index 3 is s)) ((_, refl), (_, inl refl))
-settable_body P c n class index (ProfileText captures period entries sort_method) b k s =
-    let is = eqb-true class 7 (and_parts (class == 7) _ b).0 in
-    move P c (ProfileText captures period entries sort_method) n class index 7 4 is (settable_in_7 index (among_at settable class index 7 is s)) ((_, refl), (_, inr (inl refl)))
-settable_body P c n class index (ScriptTableText scripts) b k s =
-    let is = eqb-true class 9 b in absurd (false≢true (among_at settable class index 9 is s))
-settable_body P c n class index (MonitorText monitored thresholds actions) b k s =
-    let is = eqb-true class 21 b in
-    move P c (MonitorText monitored thresholds actions) n class index 21 2 is (settable_in_21 index (among_at settable class index 21 is s)) ((_, refl), (_, inl refl))
-settable_body P c n class index (ScheduleText script type times) b k s =
-    let is = eqb-true class 22 b in
-    move P c (ScheduleText script type times) n class index 22 4 is (settable_in_22 index (among_at settable class index 22 is s)) ((_, refl), (_, inl refl))
-settable_body P c n class index UnknownText b k s = absurd (false≢true (sym (not-true-false (is_known_class class) b) ∙ k))
-  where
-    not-true-false : (t : Bool) → not t ≡ true → t ≡ false
-    not-true-false true h = cc
-    not-true-false false h = refl
+settable_body : (P : Plan) (c : ConfigText) (n : LogicalName) (index : ℕ) (body : BodyText) → is_among settable (class_of (part_of c body)) index ≡ true → IsSettable P c body n index
+settable_body P c n index (DataText value) s = subst (IsSettable P c (DataText value) n) (sym (only_place 2 index s)) ((_, refl), (_, inl refl))
+settable_body P c n index (RegisterText value default scaler unit) s =
+    subst (IsSettable P c (RegisterText value default scaler unit) n) (sym (only_place 2 index s)) ((_, refl), (_, inl refl))
+settable_body P c n index (ProfileText captures period entries sort_method) s =
+    subst (IsSettable P c (ProfileText captures period entries sort_method) n) (sym (only_place 4 index s)) ((_, refl), (_, inr (inl refl)))
+settable_body P c n index (ScriptTableText scripts) s = absurd (false≢true s)
+settable_body P c n index (MonitorText monitored thresholds actions) s =
+    subst (IsSettable P c (MonitorText monitored thresholds actions) n) (sym (only_place 2 index s)) ((_, refl), (_, inl refl))
+settable_body P c n index (ScheduleText script type times) s =
+    subst (IsSettable P c (ScheduleText script type times) n) (sym (only_place 4 index s)) ((_, refl), (_, inl refl))
+settable_body P c n index UnknownText s = absurd (false≢true s)
 
 -- the class of a part is that of its body
 pub class_is : (c : ConfigText) (class : ℕ) (body : BodyText) → is_body_of class body ≡ true → is_known_class class ≡ true → class ≡ class_of (part_of c body)
@@ -82,11 +50,7 @@ class_is c class (ProfileText captures period entries sort_method) b k = eqb-tru
 class_is c class (ScriptTableText scripts) b k = eqb-true class 9 b
 class_is c class (MonitorText monitored thresholds actions) b k = eqb-true class 21 b
 class_is c class (ScheduleText script type times) b k = eqb-true class 22 b
-class_is c class UnknownText b k = absurd (false≢true (sym (not-true-false (is_known_class class) b) ∙ k))
-  where
-    not-true-false : (t : Bool) → not t ≡ true → t ≡ false
-    not-true-false true h = cc
-    not-true-false false h = refl
+class_is c class UnknownText b k = absurd (false≢true (sym (not-true (is_known_class class) b) ∙ k))
 
 -- What a configuration with its passes passed has, part by part.
 pub record IsRight (c : ConfigText) : Type 0 where
@@ -153,16 +117,6 @@ rule_at c text o t index =
 pub settable_cell : (c : ConfigText) → IsRight c → (t : TargetText) (o : ObjectText) → IsTarget c t.object o → target_is c settable t ≡ true →
     IsIn (cells (plan_of c)) (cell_named c t) × ((rule : Rule) × (rule_of (plan_of c) (cell_named c t) ≡ Some rule))
 settable_cell c ok t o target h =
-    let s = settable_body (plan_of c) c (name_of t.object) (class_named c t.object) t.index o.body body known h in (
-      cell_of_found (plan_of c) (name_of t.object) (object_of c o) target.planned (cell_named c t) s.1.0 s.1.1,
-      (s.0.0, rule_at c t.object o target t.index ∙ s.0.1),
-    )
-  where
-    class : class_named c t.object ≡ o.class
-    class = ap class_in target.is
-
-    body : is_body_of (class_named c t.object) o.body ≡ true
-    body = subst (λ k. is_body_of k o.body ≡ true) (sym class) (ok.read.bodies o target.there)
-
-    known : is_known_class (class_named c t.object) ≡ true
-    known = subst (λ k. is_known_class k ≡ true) (sym class) (ok.known o target.there)
+    let s = settable_body (plan_of c) c (name_of t.object) t.index o.body (subst (λ k. is_among settable k t.index ≡ true) target.class h) in
+    let there = subst (λ k. IsIn (start_of (name_of t.object) (part_of c o.body)) (cell k (name_of t.object) t.index, s.1.0)) (sym target.class) s.1.1 in
+    (cell_of_found (plan_of c) (name_of t.object) (object_of c o) target.planned (cell_named c t) s.1.0 there, (s.0.0, rule_at c t.object o target t.index ∙ s.0.1))

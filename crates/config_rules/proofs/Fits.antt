@@ -1,7 +1,7 @@
 -- What each settable cell starts with meets its rule.
-use Rattle.std.proofs.Common.{◌≡◌, ℕ, ◌==◌, true, false, not, List, [], ◌∷◌, ◌++◌, map, length, refl, sym, ap, subst, ◌∙◌, inl, inr, Option, Some, None, is_some, eqb-true, eq-eqb, nat_lt, Ok}
-use Rattle.std.specs.Prelude.{codes, ◌&&◌, ◌||◌}
-use Rattle.std.proofs.lemmas.Bool.{or_parts, and_from}
+use Rattle.std.proofs.Common.{◌≡◌, ℕ, ◌==◌, true, not, List, [], ◌∷◌, map, length, refl, sym, ap, subst, ◌∙◌, inl, inr, Option, Some, None, is_some, eqb-true, eq-eqb, nat_lt, Ok}
+use Rattle.std.specs.Prelude.{◌&&◌, ◌||◌}
+use Rattle.std.proofs.lemmas.Bool.{or_parts, and_from, not-false}
 use Rattle.std.proofs.lemmas.List.{length-map}
 use Rattle.std.specs.List.{list_all}
 use Rattle.cosem_data.specs.Tree.{Tree, null_data}
@@ -14,25 +14,23 @@ use Rattle.cosem_data.specs.declared.cell.CellRef.{CellRef}
 use Rattle.cosem_data.proofs.Same.{same_kind-refl}
 use Rattle.meter_theory.specs.Lists.{IsIn}
 use Rattle.meter_theory.specs.State.{value}
-use Rattle.meter_theory.specs.Value.{Rule, OfKind, Thresholds, ExecutionTimes, counter, meets, is_within_limits, elements}
-use Rattle.meter_theory.specs.Times.{are_execution_times}
-use Rattle.meter_theory.specs.Plan.{start, start_of, rule_of, cells, thresholds}
+use Rattle.meter_theory.specs.Value.{Rule, OfKind, Thresholds, ExecutionTimes, counter, meets, is_within_limits}
+use Rattle.meter_theory.specs.Plan.{start, start_of, rule_in, rule_of, class_of, cells}
 use Rattle.meter_theory.specs.Sound.{fits_some}
-use Rattle.meter_theory.proofs.Agreement.{not_both}
+use Rattle.meter_theory.specs.declared.limits.TheConstants as limits
 use Rattle.meter_theory.proofs.Lists.{from_map, from_flat_map}
-use Rattle.config_text.specs.declared.fault.Code.TheVariants.{Limit, Value, Counts, Times, Index, Reference}
+use Rattle.config_text.specs.declared.fault.Code.TheVariants.{Limit, Value}
 use Rattle.config_text.specs.Fault.{fault_if}
 use Rattle.config_text.specs.Parts.{Text, ConfigText, ObjectText, TargetText, ScriptRefText, UpDownText, BodyText, DataText, RegisterText, ProfileText, ScriptTableText, MonitorText, ScheduleText, UnknownText}
-use Rattle.config_rules.specs.Names.{target_is, monitorable, object_named}
+use Rattle.config_rules.specs.Names.{object_named}
 use Rattle.value_text.specs.Texts.{value_in}
 use Rattle.config_rules.specs.Values.{is_of_kind, kind_named, may_be_number}
 use Rattle.config_rules.specs.PlanOf.{part_of, object_of, plan_of, name_of, value_of, or_else, thresholds_value, times_value, cell_named, up_down_of}
 use Rattle.config_rules.specs.Passes as passes
-use Rattle.config_rules.specs.Walks.{Judge, each, references}
 use Rattle.config_rules.proofs.Named.{IsName}
-use Rattle.config_rules.proofs.Passed.{then_ok, holds, not_not, not_faulty, each_ok, references_ok, EachReference}
+use Rattle.config_rules.proofs.Passed.{then_ok, holds, not_faulty, each_ok, references_ok, EachReference}
 use Rattle.config_rules.proofs.Cells.{IsRight, IsTarget, target_of}
-use Rattle.config_rules.proofs.Starts.{values_of, limits_of, counts_of, times_of, data_start, register_start, rule_body, start_body, only_one}
+use Rattle.config_rules.proofs.Starts.{IsStart, values_at, of_body, data_start, register_start, rule_body, start_body}
 use Rattle.config_rules.proofs.Scripts.{IsScript, known_script}
 use Rattle.config_rules.proofs.Monitored.{IsKept, monitored_cell}
 
@@ -40,21 +38,14 @@ use Rattle.config_rules.proofs.Monitored.{IsKept, monitored_cell}
 pub known_of : (c : ConfigText) → IsRight c → (o : ObjectText) → IsIn c.objects o → EachReference (λ t. (p : ObjectText) × IsTarget c t.object p) (IsScript c) o.body
 unfolding passes.known_references
 known_of c ok o i =
-    let objects = then_ok (each (λ at p. references target script at p.body) (codes "object") c.objects) _ tt ok.judged.references in
-    let at = each_ok (λ at p. references target script at p.body) (codes "object") 0 c.objects objects.1 o i in
-    both o.body (references_ok (λ t. is_some (object_named c t.object) ≡ true) (λ r. (place : Text) × (script place r ≡ Ok tt)) target script
-    (λ place t h. holds Reference (place ++ codes ".object") (is_some (object_named c t.object)) h) (λ place r h. (place, h)) at.0 o.body at.1) (ok.names.references o i)
+    let at = each_ok _ _ _ _ (then_ok _ _ tt ok.judged.references).1 o i in
+    both o.body (references_ok (λ t. is_some (object_named c t.object) ≡ true) (λ r. (place : Text) × (passes.known_script c place r ≡ Ok tt)) _ _
+    (λ place t h. holds _ _ _ h) (λ place r h. (place, h)) at.0 o.body at.1) (ok.names.references o i)
   where
-    target : Judge TargetText
-    target at t = passes.known_object c at t.object
-
-    script : Judge ScriptRefText
-    script = passes.known_script c
-
-    run : (r : ScriptRefText) → (place : Text) × (script place r ≡ Ok tt) → IsName r.table → IsScript c r
+    run : (r : ScriptRefText) → (place : Text) × (passes.known_script c place r ≡ Ok tt) → IsName r.table → IsScript c r
     run r h n = known_script c ok h.0 r n h.1
 
-    both : (body : BodyText) → EachReference (λ t. is_some (object_named c t.object) ≡ true) (λ r. (place : Text) × (script place r ≡ Ok tt)) body →
+    both : (body : BodyText) → EachReference (λ t. is_some (object_named c t.object) ≡ true) (λ r. (place : Text) × (passes.known_script c place r ≡ Ok tt)) body →
         EachReference (λ t. IsName t.object) (λ r. IsName r.table) body → EachReference (λ t. (p : ObjectText) × IsTarget c t.object p) (IsScript c) body
     both (DataText value) h n = tt
     both (RegisterText value default scaler unit) h n = tt
@@ -65,22 +56,13 @@ known_of c ok o i =
     both (ScheduleText r type times) h n = run r h n
     both UnknownText h n = tt
 
--- what the passes found of the indexes in an object
-pub indexes_of : (c : ConfigText) → IsRight c → (o : ObjectText) → IsIn c.objects o → (body : BodyText) → o.body ≡ body → (at : Text) × (passes.usable_indexes c at body ≡ Ok tt)
-unfolding passes.known_indexes
-indexes_of c ok o i body is =
-    let objects = then_ok (each (λ at p. passes.usable_indexes c at p.body) (codes "object") c.objects) (λ _. each (passes.right_indexes c) (codes "right") c.rights) tt ok.judged.indexes in
-    let r = each_ok (λ at p. passes.usable_indexes c at p.body) (codes "object") 0 c.objects objects.1 o i in
-    (r.0, subst (λ b. passes.usable_indexes c r.0 b ≡ Ok tt) is r.1)
-
 -- the cell that a monitor monitors
 pub monitor_source : (c : ConfigText) → IsRight c → (o : ObjectText) → IsIn c.objects o → (monitored : TargetText) (ths : List Text) (actions : List UpDownText) →
     o.body ≡ MonitorText monitored ths actions → (v : Tree) × IsKept c monitored v
 unfolding passes.usable_indexes
 monitor_source c ok o i monitored ths actions is =
     let refers = subst (EachReference (λ t. (p : ObjectText) × IsTarget c t.object p) (IsScript c)) is (known_of c ok o i) in
-    let index = indexes_of c ok o i (MonitorText monitored ths actions) is in
-    monitored_cell c ok monitored refers.0.0 refers.0.1 (holds Index ((index.0 ++ codes ".monitored") ++ codes ".index") (target_is c monitorable monitored) index.1)
+    monitored_cell c ok monitored refers.0.0 refers.0.1 (holds _ _ _ (of_body c ok o i (MonitorText monitored ths actions) is).indexes.1)
 
 -- values that are each of a kind
 all_kinds : (kind : Kind) (k : Option Kind) → k ≡ Some kind → (texts : List Text) → ((text : Text) → IsIn texts text → is_of_kind k (value_in text) ≡ true) →
@@ -102,18 +84,13 @@ pub thresholds_fit : (c : ConfigText) → IsRight c → (o : ObjectText) → IsI
 unfolding passes.valid_values_in passes.limits_in passes.equal_counts_in
 thresholds_fit c ok o i monitored ths actions is =
     let source = monitor_source c ok o i monitored ths actions is in
-    let judged = values_of c ok o i (MonitorText monitored ths actions) is in
-    let limits = limits_of c ok o i (MonitorText monitored ths actions) is in
-    let counts = counts_of c ok o i (MonitorText monitored ths actions) is in
-    let count : (length ths == length actions) ≡ true = holds Counts (counts.0 ++ codes ".action") (length ths == length actions) counts.1 in
-    let texts = then_ok (fault_if Value (judged.0 ++ codes ".monitored.index") (not (may_be_number (kind_named c monitored.object))))
-    (λ _. each (λ at text. fault_if Value at (not (is_of_kind (kind_named c monitored.object) (value_in text)))) (judged.0 ++ codes ".thresholds") ths) tt judged.1 in
-    let small = then_ok (fault_if Limit (limits.0 ++ codes ".thresholds") (nat_lt 16 (length ths) || not (is_within_limits (thresholds_value ths))))
-    (λ _. passes.at_most 16 (limits.0 ++ codes ".action") actions) tt limits.1 in
-    let limit = not_not (is_within_limits (thresholds_value ths)) (or_parts (nat_lt 16 (length ths)) (not (is_within_limits (thresholds_value ths))) (not_faulty Limit (limits.0 ++ codes ".thresholds") _ small.1)).1 in
+    let found = of_body c ok o i (MonitorText monitored ths actions) is in
+    let count : (length ths == length actions) ≡ true = holds _ _ _ found.counts.1 in
+    let small = then_ok (fault_if Limit _ (nat_lt limits.THRESHOLDS (length ths) || not (is_within_limits (thresholds_value ths)))) _ tt found.limits.1 in
+    let limit = not-false (is_within_limits (thresholds_value ths)) (or_parts (nat_lt limits.THRESHOLDS (length ths)) _ (not_faulty _ _ _ small.1)).1 in
+    let texts = then_ok (fault_if Value _ (not (may_be_number (kind_named c monitored.object)))) _ tt found.values.1 in
     let each_kind : (text : Text) → IsIn ths text → is_of_kind (kind_named c monitored.object) (value_in text) ≡ true = λ text j.
-    let r = each_ok (λ at z. fault_if Value at (not (is_of_kind (kind_named c monitored.object) (value_in z)))) (judged.0 ++ codes ".thresholds") 0 ths texts.2 text j in
-    holds Value r.0 (is_of_kind (kind_named c monitored.object) (value_in text)) r.1 in
+    holds _ _ _ (each_ok _ _ _ _ texts.2 text j).1 in
     let kinds = all_kinds (kind_of source.0) (kind_named c monitored.object) source.1.kind ths each_kind in
     subst (λ z. meets (Thresholds (length (map up_down_of actions)) (kind_of z)) (thresholds_value ths) ≡ true) (sym source.1.starts)
     (and_from (is_within_limits (thresholds_value ths)) _ limit
@@ -127,95 +104,63 @@ pub times_fit : (c : ConfigText) → IsRight c → (o : ObjectText) → IsIn c.o
     o.body ≡ ScheduleText script type times → meets (ExecutionTimes type) (times_value times) ≡ true
 unfolding passes.limits_in passes.valid_times_in
 times_fit c ok o i script type times is =
-    let limits = limits_of c ok o i (ScheduleText script type times) is in
-    let fits = times_of c ok o i (ScheduleText script type times) is in
-    let limit = not_not (is_within_limits (times_value times)) (or_parts (nat_lt 16 (length times)) (not (is_within_limits (times_value times))) (not_faulty Limit (limits.0 ++ codes ".times") _ limits.1)).1 in
-    and_from (is_within_limits (times_value times)) _ limit (holds Times (fits.0 ++ codes ".times") (are_execution_times type (elements (times_value times))) fits.1)
+    let found = of_body c ok o i (ScheduleText script type times) is in
+    let limit = not-false (is_within_limits (times_value times)) (or_parts (nat_lt limits.EXECUTION_TIMES (length times)) _ (not_faulty _ _ _ found.limits.1)).1 in
+    and_from (is_within_limits (times_value times)) _ limit (holds _ _ _ found.times.1)
 
--- cells of two indexes are two
-other_index : {A : Type 0} (x y : CellRef × Tree) → x ≡ y → (x.0.index == y.0.index) ≡ false → A
-other_index x y e apart =
-    let same : x.0.index ≡ y.0.index = ap (λ z. z.0.index) e in
-    not_both (x.0.index == y.0.index) (eq-eqb x.0.index y.0.index same) apart
+kind_fits : (text : Text) → IsStart text → meets (OfKind (kind_of (value_of text))) (value_of text) ≡ true
+kind_fits text v =
+    let limit : is_within_limits (value_of text) ≡ true = subst (λ z. is_within_limits z ≡ true) (sym v.2) v.3 in
+    and_from (same_kind (kind_of (value_of text)) (kind_of (value_of text))) _ (same_kind-refl (kind_of (value_of text))) (and_from (is_within_limits (value_of text)) true limit refl)
 
-kind_fits : (v : Tree) → is_within_limits v ≡ true → meets (OfKind (kind_of v)) v ≡ true
-kind_fits v limit = and_from (same_kind (kind_of v) (kind_of v)) (is_within_limits v && true) (same_kind-refl (kind_of v)) (and_from (is_within_limits v) true limit refl)
-
--- a counter takes five bytes
-counter_fits : (n : ℕ) → meets (OfKind DoubleLongUnsigned) (counter n) ≡ true
-counter_fits n = refl
+-- the start of a cell is what its rule asks for
+abbrev pub Fits : ConfigText → CellRef → Type 0
+Fits c x = fits_some (rule_of (plan_of c) x) (value (start (plan_of c)) x) ≡ true
 
 -- a cell that can't be set
-unruled : (c : ConfigText) (x : CellRef) (v : Tree) → rule_of (plan_of c) x ≡ None → fits_some (rule_of (plan_of c) x) v ≡ true
-unruled c x v is = subst (λ r. fits_some r v ≡ true) (sym is) refl
+unruled : (c : ConfigText) → IsRight c → (o : ObjectText) → IsIn c.objects o → (body : BodyText) → o.body ≡ body → (index : ℕ) → rule_in (plan_of c) (part_of c body) index ≡ None →
+    (x : CellRef) → x ≡ cell (class_of (part_of c body)) (name_of o.name) index → Fits c x
+unruled c ok o i body is index none x e =
+    subst (Fits c) (sym e) (subst (λ r. fits_some r (value (start (plan_of c)) (cell (class_of (part_of c body)) (name_of o.name) index)) ≡ true) (sym (rule_body c ok o i body is index ∙ none)) refl)
 
-ruled : (c : ConfigText) (x : CellRef) (rule : Rule) (v : Tree) → rule_of (plan_of c) x ≡ Some rule → value (start (plan_of c)) x ≡ v → meets rule v ≡ true →
-    fits_some (rule_of (plan_of c) x) (value (start (plan_of c)) x) ≡ true
-ruled c x rule v is starts fits = subst (λ r. fits_some r (value (start (plan_of c)) x) ≡ true) (sym is) (subst (λ w. meets rule w ≡ true) (sym starts) fits)
+ruled : (c : ConfigText) → IsRight c → (o : ObjectText) → IsIn c.objects o → (body : BodyText) → o.body ≡ body → (index : ℕ) (rule : Rule) (v : Tree) →
+    rule_in (plan_of c) (part_of c body) index ≡ Some rule → IsIn (start_of (name_of o.name) (part_of c body)) (cell (class_of (part_of c body)) (name_of o.name) index, v) →
+    values_at index (start_of (name_of o.name) (part_of c body)) ≡ v ∷ [] → meets rule v ≡ true →
+    (x : CellRef) → x ≡ cell (class_of (part_of c body)) (name_of o.name) index → Fits c x
+ruled c ok o i body is index rule v has there alone fits x e =
+    let y : CellRef = cell (class_of (part_of c body)) (name_of o.name) index in
+    subst (Fits c) (sym e) (subst (λ r. fits_some r (value (start (plan_of c)) y) ≡ true) (sym (rule_body c ok o i body is index ∙ has))
+    (subst (λ w. meets rule w ≡ true) (sym (start_body c ok o i body is index v there alone)) fits))
 
 -- each cell of an object starts as it may
 cell_fits : (c : ConfigText) → IsRight c → (o : ObjectText) → IsIn c.objects o → (body : BodyText) → o.body ≡ body → (x : CellRef) (v : Tree) →
-    IsIn (start_of (name_of o.name) (part_of c body)) (x, v) → fits_some (rule_of (plan_of c) x) (value (start (plan_of c)) x) ≡ true
+    IsIn (start_of (name_of o.name) (part_of c body)) (x, v) → Fits c x
 cell_fits c ok o i (DataText text) is x v (inl e) =
-    let d = data_start c ok o i text is in
-    subst (λ z. fits_some (rule_of (plan_of c) z) (value (start (plan_of c)) z) ≡ true) (sym (ap (λ z. z.0) e))
-    (ruled c (cell 1 (name_of o.name) 2) (OfKind (kind_of (value_of text))) (value_of text) (rule_body c ok o i (DataText text) is 2)
-    (start_body c ok o i (DataText text) is (cell 1 (name_of o.name) 2) (value_of text) (inl refl) (λ w j. only_one _ (value_of text) w j))
-    (kind_fits (value_of text) (subst (λ z. is_within_limits z ≡ true) (sym d.2) d.3)))
+    ruled c ok o i (DataText text) is 2 _ (value_of text) refl (inl refl) refl (kind_fits text (data_start c ok o i text is)) x (ap (λ z. z.0) e)
 cell_fits c ok o i (DataText text) is x v (inr none) = absurd none
 cell_fits c ok o i (RegisterText text default scaler unit) is x v (inl e) =
-    let d = (register_start c ok o i text default scaler unit is).0 in
-    subst (λ z. fits_some (rule_of (plan_of c) z) (value (start (plan_of c)) z) ≡ true) (sym (ap (λ z. z.0) e))
-    (ruled c (cell 3 (name_of o.name) 2) (OfKind (kind_of (value_of text))) (value_of text) (rule_body c ok o i (RegisterText text default scaler unit) is 2)
-    (start_body c ok o i (RegisterText text default scaler unit) is (cell 3 (name_of o.name) 2) (value_of text) (inl refl) (λ w j. only_one _ (value_of text) w j))
-    (kind_fits (value_of text) (subst (λ z. is_within_limits z ≡ true) (sym d.2) d.3)))
+    ruled c ok o i (RegisterText text default scaler unit) is 2 _ (value_of text) refl (inl refl) refl (kind_fits text (register_start c ok o i text default scaler unit is).0) x (ap (λ z. z.0) e)
 cell_fits c ok o i (RegisterText text default scaler unit) is x v (inr none) = absurd none
-cell_fits c ok o i (ProfileText captures period entries sort_method) is x v (inl e) =
-    subst (λ z. fits_some (rule_of (plan_of c) z) (value (start (plan_of c)) z) ≡ true) (sym (ap (λ z. z.0) e))
-    (unruled c (cell 7 (name_of o.name) 2) _ (rule_body c ok o i (ProfileText captures period entries sort_method) is 2))
+cell_fits c ok o i (ProfileText captures period entries sort_method) is x v (inl e) = unruled c ok o i (ProfileText captures period entries sort_method) is 2 refl x (ap (λ z. z.0) e)
 cell_fits c ok o i (ProfileText captures period entries sort_method) is x v (inr (inl e)) =
-    subst (λ z. fits_some (rule_of (plan_of c) z) (value (start (plan_of c)) z) ≡ true) (sym (ap (λ z. z.0) e))
-    (ruled c (cell 7 (name_of o.name) 4) (OfKind DoubleLongUnsigned) (counter period) (rule_body c ok o i (ProfileText captures period entries sort_method) is 4)
-    (start_body c ok o i (ProfileText captures period entries sort_method) is (cell 7 (name_of o.name) 4) (counter period) (inr (inl refl)) one)
-    (counter_fits period))
-  where
-    one : (w : Tree) → IsIn (start_of (name_of o.name) (part_of c (ProfileText captures period entries sort_method))) (cell 7 (name_of o.name) 4, w) → w ≡ counter period
-    one w (inl e) = other_index _ _ e refl
-    one w (inr (inl e)) = ap (λ z. z.1) e
-    one w (inr (inr (inl e))) = other_index _ _ e refl
-    one w (inr (inr (inr none))) = absurd none
-cell_fits c ok o i (ProfileText captures period entries sort_method) is x v (inr (inr (inl e))) =
-    subst (λ z. fits_some (rule_of (plan_of c) z) (value (start (plan_of c)) z) ≡ true) (sym (ap (λ z. z.0) e))
-    (unruled c (cell 7 (name_of o.name) 7) _ (rule_body c ok o i (ProfileText captures period entries sort_method) is 7))
+    ruled c ok o i (ProfileText captures period entries sort_method) is 4 (OfKind DoubleLongUnsigned) (counter period) refl (inr (inl refl)) refl refl x (ap (λ z. z.0) e)
+cell_fits c ok o i (ProfileText captures period entries sort_method) is x v (inr (inr (inl e))) = unruled c ok o i (ProfileText captures period entries sort_method) is 7 refl x (ap (λ z. z.0) e)
 cell_fits c ok o i (ProfileText captures period entries sort_method) is x v (inr (inr (inr none))) = absurd none
 cell_fits c ok o i (ScriptTableText scripts) is x v none = absurd none
 cell_fits c ok o i (MonitorText monitored ths actions) is x v (inl e) =
-    subst (λ z. fits_some (rule_of (plan_of c) z) (value (start (plan_of c)) z) ≡ true) (sym (ap (λ z. z.0) e))
-    (ruled c (cell 21 (name_of o.name) 2) _ (thresholds_value ths) (rule_body c ok o i (MonitorText monitored ths actions) is 2)
-    (start_body c ok o i (MonitorText monitored ths actions) is (cell 21 (name_of o.name) 2) (thresholds_value ths) (inl refl) one)
-    (thresholds_fit c ok o i monitored ths actions is))
-  where
-    one : (w : Tree) → IsIn (start_of (name_of o.name) (part_of c (MonitorText monitored ths actions))) (cell 21 (name_of o.name) 2, w) → w ≡ thresholds_value ths
-    one w (inl e) = ap (λ z. z.1) e
-    one w (inr (inl e)) = other_index _ _ e refl
-    one w (inr (inr none)) = absurd none
-cell_fits c ok o i (MonitorText monitored ths actions) is x v (inr (inl e)) =
-    subst (λ z. fits_some (rule_of (plan_of c) z) (value (start (plan_of c)) z) ≡ true) (sym (ap (λ z. z.0) e))
-    (unruled c (cell 21 (name_of o.name) 0) _ (rule_body c ok o i (MonitorText monitored ths actions) is 0))
+    ruled c ok o i (MonitorText monitored ths actions) is 2 _ (thresholds_value ths) refl (inl refl) refl (thresholds_fit c ok o i monitored ths actions is) x (ap (λ z. z.0) e)
+cell_fits c ok o i (MonitorText monitored ths actions) is x v (inr (inl e)) = unruled c ok o i (MonitorText monitored ths actions) is 0 refl x (ap (λ z. z.0) e)
 cell_fits c ok o i (MonitorText monitored ths actions) is x v (inr (inr none)) = absurd none
 cell_fits c ok o i (ScheduleText script type times) is x v (inl e) =
-    subst (λ z. fits_some (rule_of (plan_of c) z) (value (start (plan_of c)) z) ≡ true) (sym (ap (λ z. z.0) e))
-    (ruled c (cell 22 (name_of o.name) 4) (ExecutionTimes type) (times_value times) (rule_body c ok o i (ScheduleText script type times) is 4)
-    (start_body c ok o i (ScheduleText script type times) is (cell 22 (name_of o.name) 4) (times_value times) (inl refl) (λ w j. only_one _ (times_value times) w j))
-    (times_fit c ok o i script type times is))
+    ruled c ok o i (ScheduleText script type times) is 4 (ExecutionTimes type) (times_value times) refl (inl refl) refl (times_fit c ok o i script type times is) x (ap (λ z. z.0) e)
 cell_fits c ok o i (ScheduleText script type times) is x v (inr none) = absurd none
 cell_fits c ok o i UnknownText is x v none = absurd none
 
 -- Each cell of the plan starts as it may.
-pub starts : (c : ConfigText) → IsRight c → (x : CellRef) → IsIn (cells (plan_of c)) x → fits_some (rule_of (plan_of c) x) (value (start (plan_of c)) x) ≡ true
+pub starts : (c : ConfigText) → IsRight c → (x : CellRef) → IsIn (cells (plan_of c)) x → Fits c x
 starts c ok x i =
     let entry = from_map (λ e. e.0) (start (plan_of c)) x i in
     let object = from_flat_map (λ p. start_of p.name p.part) (plan_of c).objects entry.0 entry.1 in
     let text = from_map (object_of c) c.objects object.0 object.1 in
-    subst (λ z. fits_some (rule_of (plan_of c) z) (value (start (plan_of c)) z) ≡ true) (sym entry.2)
+    subst (Fits c) (sym entry.2)
     (cell_fits c ok text.0 text.1 text.0.body refl entry.0.0 entry.0.1 (subst (λ p. IsIn (start_of p.name p.part) entry.0) text.2 object.2))

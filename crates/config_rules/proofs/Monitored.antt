@@ -1,21 +1,21 @@
 -- What a register monitor monitors: a cell that keeps the kind of its start value.
-use Rattle.std.proofs.Common.{◌≡◌, ℕ, ◌==◌, true, false, refl, sym, ap, subst, ◌∙◌, inl, inr, Some, eqb-true}
-use Rattle.std.specs.Prelude.{option_map}
-use Rattle.std.proofs.lemmas.Bool.{or_cases, false≢true}
+use Rattle.std.proofs.Common.{◌≡◌, ◌==◌, true, false, [], ◌∷◌, refl, sym, ap, subst, ◌∙◌, inl, Some}
+use Rattle.std.specs.Prelude.{◌||◌, option_map}
+use Rattle.std.proofs.lemmas.Bool.{false≢true}
 use Rattle.cosem_data.specs.Tree.{Tree}
 use Rattle.cosem_data.specs.Kinds.{kind_of}
 use Rattle.cosem_data.specs.Cells.{cell}
 use Rattle.meter_theory.specs.Lists.{IsIn}
 use Rattle.meter_theory.specs.State.{value}
 use Rattle.meter_theory.specs.Value.{OfKind}
-use Rattle.meter_theory.specs.Plan.{start, start_of, rule_of, class_of, cells}
+use Rattle.meter_theory.specs.Plan.{start, start_of, rule_in, rule_of, class_of, cells}
 use Rattle.meter_theory.proofs.Rights.{cell_of_found}
-use Rattle.config_text.specs.Parts.{ConfigText, ObjectText, TargetText, BodyText, DataText, RegisterText, ProfileText, ScriptTableText, MonitorText, ScheduleText, UnknownText}
+use Rattle.config_text.specs.Parts.{Text, ConfigText, ObjectText, TargetText, BodyText, DataText, RegisterText, ProfileText, ScriptTableText, MonitorText, ScheduleText, UnknownText}
 use Rattle.config_rules.specs.Names.{is_among, monitorable, class_named, target_is}
-use Rattle.config_rules.specs.Values.{kind_named, start_kind, start_kind_in}
+use Rattle.config_rules.specs.Values.{kind_in, kind_named, start_kind, start_kind_in}
 use Rattle.config_rules.specs.PlanOf.{part_of, plan_of, name_of, value_of, cell_named}
-use Rattle.config_rules.proofs.Cells.{IsRight, IsTarget}
-use Rattle.config_rules.proofs.Starts.{rule_body, start_body, only_one, data_start, register_start, planned_body}
+use Rattle.config_rules.proofs.Cells.{IsRight, IsTarget, only_place}
+use Rattle.config_rules.proofs.Starts.{IsStart, values_at, rule_body, start_body, data_start, register_start, planned_body}
 
 -- a cell whose start value is v, with the rule that its kind is kept
 pub record IsKept (c : ConfigText) (t : TargetText) (v : Tree) : Type 0 where
@@ -23,12 +23,6 @@ pub record IsKept (c : ConfigText) (t : TargetText) (v : Tree) : Type 0 where
   pub starts : value (start (plan_of c)) (cell_named c t) ≡ v
   pub rule : rule_of (plan_of c) (cell_named c t) ≡ Some (OfKind (kind_of v))
   pub cell : IsIn (cells (plan_of c)) (cell_named c t)
-
-monitorable_in_1 : (index : ℕ) → is_among monitorable 1 index ≡ true → index ≡ 2
-monitorable_in_1 index h = elim (or_cases (2 == index) false h) [ inl e ↦ sym (eqb-true 2 index e) | inr e ↦ absurd (false≢true e) ]
-
-monitorable_in_3 : (index : ℕ) → is_among monitorable 3 index ≡ true → index ≡ 2
-monitorable_in_3 index h = elim (or_cases (2 == index) false h) [ inl e ↦ sym (eqb-true 2 index e) | inr e ↦ absurd (false≢true e) ]
 
 pub monitored_cell : (c : ConfigText) → IsRight c → (t : TargetText) (o : ObjectText) → IsTarget c t.object o → target_is c monitorable t ≡ true → (v : Tree) × IsKept c t v
 monitored_cell c ok t o target h = at o.body refl
@@ -43,40 +37,25 @@ monitored_cell c ok t o target h = at o.body refl
     cell_is : (body : BodyText) → o.body ≡ body → t.index ≡ 2 → cell (class_of (part_of c body)) (name_of o.name) 2 ≡ cell_named c t
     cell_is body is two = λ k. cell (sym (class_at body is) k) (name_of (target.name k)) (sym two k)
 
-    kept : (body : BodyText) → o.body ≡ body → t.index ≡ 2 → (v : Tree) → start_kind_in body ≡ Some (kind_of v) →
-        value (start (plan_of c)) (cell (class_of (part_of c body)) (name_of o.name) 2) ≡ v →
-        rule_of (plan_of c) (cell (class_of (part_of c body)) (name_of o.name) 2) ≡ Some (OfKind (kind_of v)) →
-        IsIn (cells (plan_of c)) (cell (class_of (part_of c body)) (name_of o.name) 2) → IsKept c t v
-    kept body is two v kind starts rule there =
-        let e = cell_is body is two in
-        record {
-          kind = ap start_kind target.is ∙ (ap start_kind_in is ∙ kind);
-          starts = subst (λ x. value (start (plan_of c)) x ≡ v) e starts;
-          rule = subst (λ x. rule_of (plan_of c) x ≡ Some (OfKind (kind_of v))) e rule;
-          cell = subst (IsIn (cells (plan_of c))) e there;
-        }
+    kept : (body : BodyText) → o.body ≡ body → (text : Text) → ((2 == t.index) || false) ≡ true → IsStart text → start_kind_in body ≡ kind_in text →
+        rule_in (plan_of c) (part_of c body) 2 ≡ Some (OfKind (kind_of (value_of text))) →
+        IsIn (start_of (name_of o.name) (part_of c body)) (cell (class_of (part_of c body)) (name_of o.name) 2, value_of text) →
+        values_at 2 (start_of (name_of o.name) (part_of c body)) ≡ value_of text ∷ [] → (v : Tree) × IsKept c t v
+    kept body is text two v kind rule there alone =
+        let e = cell_is body is (only_place 2 t.index two) in (
+          v.0,
+          record {
+            kind = ap start_kind target.is ∙ (ap start_kind_in is ∙ (kind ∙ ap (option_map kind_of) v.1));
+            starts = subst (λ x. value (start (plan_of c)) x ≡ v.0) e (start_body c ok o target.there body is 2 (value_of text) there alone ∙ v.2);
+            rule = subst (λ x. rule_of (plan_of c) x ≡ Some (OfKind (kind_of v.0))) e (rule_body c ok o target.there body is 2 ∙ (rule ∙ ap (λ z. Some (OfKind (kind_of z))) v.2));
+            cell = subst (IsIn (cells (plan_of c))) e (cell_of_found (plan_of c) (name_of o.name) _ (planned_body c ok o target.there body is) _ (value_of text) there);
+          },
+        )
 
     at : (body : BodyText) → o.body ≡ body → (v : Tree) × IsKept c t v
-    at (DataText text) is =
-        let v = data_start c ok o target.there text is in
-        let rule = rule_body c ok o target.there (DataText text) is 2 in
-        let place : IsIn (start_of (name_of o.name) (part_of c (DataText text))) (cell 1 (name_of o.name) 2, value_of text) = inl refl in (
-          v.0,
-          kept (DataText text) is (monitorable_in_1 t.index (among_at (DataText text) is)) v.0 (ap (option_map kind_of) v.1)
-              (start_body c ok o target.there (DataText text) is (cell 1 (name_of o.name) 2) (value_of text) place (λ w j. only_one _ (value_of text) w j) ∙ v.2)
-              (rule ∙ ap (λ z. Some (OfKind (kind_of z))) v.2)
-              (cell_of_found (plan_of c) (name_of o.name) _ (planned_body c ok o target.there (DataText text) is) (cell 1 (name_of o.name) 2) (value_of text) place),
-        )
+    at (DataText text) is = kept (DataText text) is text (among_at (DataText text) is) (data_start c ok o target.there text is) refl refl (inl refl) refl
     at (RegisterText text default scaler unit) is =
-        let v = (register_start c ok o target.there text default scaler unit is).0 in
-        let rule = rule_body c ok o target.there (RegisterText text default scaler unit) is 2 in
-        let place : IsIn (start_of (name_of o.name) (part_of c (RegisterText text default scaler unit))) (cell 3 (name_of o.name) 2, value_of text) = inl refl in (
-          v.0,
-          kept (RegisterText text default scaler unit) is (monitorable_in_3 t.index (among_at (RegisterText text default scaler unit) is)) v.0 (ap (option_map kind_of) v.1)
-              (start_body c ok o target.there (RegisterText text default scaler unit) is (cell 3 (name_of o.name) 2) (value_of text) place (λ w j. only_one _ (value_of text) w j) ∙ v.2)
-              (rule ∙ ap (λ z. Some (OfKind (kind_of z))) v.2)
-              (cell_of_found (plan_of c) (name_of o.name) _ (planned_body c ok o target.there (RegisterText text default scaler unit) is) (cell 3 (name_of o.name) 2) (value_of text) place),
-        )
+        kept (RegisterText text default scaler unit) is text (among_at (RegisterText text default scaler unit) is) (register_start c ok o target.there text default scaler unit is).0 refl refl (inl refl) refl
     at (ProfileText captures period entries sort_method) is = absurd (false≢true (among_at (ProfileText captures period entries sort_method) is))
     at (ScriptTableText scripts) is = absurd (false≢true (among_at (ScriptTableText scripts) is))
     at (MonitorText monitored thresholds actions) is = absurd (false≢true (among_at (MonitorText monitored thresholds actions) is))

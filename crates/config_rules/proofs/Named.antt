@@ -1,6 +1,5 @@
 -- Names of objects: as texts, and as logical names.
-use Rattle.std.proofs.Common.{◌≡◌, ℕ, ◌==◌, Bool, true, false, cond, List, [], ◌∷◌, ◌++◌, map, length, find, refl, sym, ap, subst, ◌∙◌, inl, inr, Option, Some, None, is_some, Result, Ok}
-use Rattle.std.specs.Bool.{⊤}
+use Rattle.std.proofs.Common.{◌≡◌, ℕ, ◌==◌, Bool, true, false, cond, List, [], ◌∷◌, ◌++◌, map, length, find, refl, sym, ap, subst, ◌∙◌, inl, inr, Option, Some, None, is_some, Ok}
 use Rattle.std.specs.Prelude.{option_map, codes, if◌then◌else◌}
 use Rattle.std.specs.Str.{bytes_eq}
 use Rattle.std.specs.List.{list_any}
@@ -16,19 +15,14 @@ use Rattle.cosem_data.proofs.Same.{same_name-from, same_name-true}
 use Rattle.meter_theory.specs.Lists.{IsIn, AreDistinct}
 use Rattle.meter_theory.specs.Plan.{object_at, association_name}
 use Rattle.meter_theory.proofs.Lists.{none_in, found, none_found, in_map, from_map, one_of_key}
-use Rattle.config_text.specs.declared.fault.Code.TheVariants.{Form, ObjectTwice}
-use Rattle.config_text.specs.Fault.{Fault}
-use Rattle.config_text.specs.Parts.{Text, ConfigText, ObjectText, TargetText, ScriptRefText, RightText}
+use Rattle.config_text.specs.declared.fault.Code.TheVariants.{ObjectTwice}
+use Rattle.config_text.specs.Parts.{Text, ConfigText, ObjectText, RightText}
 use Rattle.value_text.specs.Texts.{name_in}
 use Rattle.config_rules.specs.Names.{object_named}
 use Rattle.config_rules.specs.PlanOf.{name_of, no_name, or_else, object_of, plan_of}
 use Rattle.config_rules.specs.Passes as passes
-use Rattle.config_rules.specs.Walks.{Judge, each, references}
+use Rattle.config_rules.specs.Walks.{each}
 use Rattle.config_rules.proofs.Passed.{then_ok, holds, not_faulty, each_ok, each_new_distinct, each_new_in, references_ok, EachReference, AsksNewKey}
-
-some_of : {A : Type 0} (r : Option A) → is_some r ≡ true → (x : A) × (r ≡ Some x)
-some_of None h = cc
-some_of (Some x) h = (x, refl)
 
 -- the text is a logical name
 abbrev pub IsName : Text → Type 0
@@ -109,7 +103,7 @@ pub record AreNames (c : ConfigText) : Type 0 where
   pub rights : (r : RightText) → IsIn c.rights r → IsName r.object
 
 is_name_at : (at text : Text) → passes.logical_form at text ≡ Ok tt → IsName text
-is_name_at at text h = named text (holds Form at (is_some (name_in text)) h)
+is_name_at at text h = named text (holds _ _ _ h)
 
 pub names_ok : (c : ConfigText) → passes.forms c ≡ Ok tt → AreNames c
 unfolding passes.forms passes.object_forms passes.right_forms
@@ -117,26 +111,15 @@ names_ok c h =
     let clients = then_ok (each (λ at client. passes.client_form (at ++ codes ".name") client.name) (codes "client") c.clients) _ tt h in
     let objects = then_ok (each passes.object_forms (codes "object") c.objects) _ tt clients.2 in
     let rights = then_ok (each passes.right_forms (codes "right") c.rights) _ tt objects.2 in
-    let parts : (o : ObjectText) → IsIn c.objects o → (at : Text) × (passes.object_forms at o ≡ Ok tt) = each_ok passes.object_forms (codes "object") 0 c.objects objects.1 in
+    let parts : (o : ObjectText) → IsIn c.objects o → IsName o.name × EachReference (λ t. IsName t.object) (λ r. IsName r.table) o.body = λ o i.
+    let at = each_ok _ _ _ _ objects.1 o i in
+    let both = then_ok (passes.logical_form _ o.name) _ tt at.1 in
+    (is_name_at _ o.name both.1, references_ok _ _ _ _ (λ place t. is_name_at _ t.object) (λ place r. is_name_at _ r.table) at.0 o.body both.2) in
     record {
-      objects = λ o i. let at = parts o i in
-          is_name_at (at.0 ++ codes ".name") o.name (then_ok (passes.logical_form (at.0 ++ codes ".name") o.name) (λ _. rest at.0 o) tt at.1).1;
-      references = λ o i. let at = parts o i in
-          references_ok (λ t. IsName t.object) (λ r. IsName r.table) target script
-          (λ place t ok. is_name_at (place ++ codes ".object") t.object ok) (λ place r ok. is_name_at (place ++ codes ".table") r.table ok)
-          at.0 o.body (then_ok (passes.logical_form (at.0 ++ codes ".name") o.name) (λ _. rest at.0 o) tt at.1).2;
-      rights = λ r i. let at = each_ok passes.right_forms (codes "right") 0 c.rights rights.1 r i in
-          is_name_at (at.0 ++ codes ".object") r.object (then_ok (passes.client_form (at.0 ++ codes ".client") r.client) (λ _. passes.logical_form (at.0 ++ codes ".object") r.object) tt at.1).2;
+      objects = λ o i. (parts o i).0;
+      references = λ o i. (parts o i).1;
+      rights = λ r i. is_name_at _ r.object (then_ok (passes.client_form _ r.client) _ tt (each_ok _ _ _ _ rights.1 r i).1).2;
     }
-  where
-    target : Judge TargetText
-    target at t = passes.logical_form (at ++ codes ".object") t.object
-
-    script : Judge ScriptRefText
-    script at r = passes.logical_form (at ++ codes ".table") r.table
-
-    rest : Text → ObjectText → Result ⊤ Fault
-    rest at o = references target script at o.body
 
 -- each object has a name of its own, as a text
 abbrev pub AreNew : ConfigText → Type 0

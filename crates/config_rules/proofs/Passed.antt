@@ -1,9 +1,8 @@
 -- What a pass that found nothing says of each part.
 use Rattle.std.proofs.Common.{◌≡◌, ◌⊎◌, ℕ, ◌+◌, Bool, true, false, not, List, [], ◌∷◌, ◌++◌, map, length, refl, sym, ap, subst, ◌∙◌, inl, inr, Result, Ok, Err}
-use Rattle.std.specs.Bool.{⊤}
 use Rattle.std.specs.Prelude.{codes}
 use Rattle.std.specs.List.{list_all}
-use Rattle.std.proofs.lemmas.Bool.{and_from}
+use Rattle.std.proofs.lemmas.Bool.{and_from, not-false}
 use Rattle.std.proofs.lemmas.List.{append_assoc, append-nil}
 use Rattle.meter_theory.specs.Lists.{IsIn, AreDistinct}
 use Rattle.meter_theory.proofs.Lists.{in_append_cases, in_map, from_map}
@@ -23,13 +22,9 @@ pub not_faulty : (code : Code) (place : Text) (b : Bool) → fault_if code place
 not_faulty code place true h = cc
 not_faulty code place false h = refl
 
-pub not_not : (b : Bool) → not b ≡ false → b ≡ true
-not_not true h = refl
-not_not false h = cc
-
 -- the test whose failure is the fault
 pub holds : (code : Code) (place : Text) (b : Bool) → fault_if code place (not b) ≡ Ok tt → b ≡ true
-holds code place b h = not_not b (not_faulty code place (not b) h)
+holds code place b h = not-false b (not_faulty code place (not b) h)
 
 -- each element was judged at some place, and found right
 pub each_ok : {A : Type 0} (judge : Judge A) (name : Text) (i : ℕ) (xs : List A) → each_from judge name i xs ≡ Ok tt → (x : A) → IsIn xs x → (at : Text) × (judge at x ≡ Ok tt)
@@ -38,12 +33,9 @@ each_ok judge name i [] h x none = absurd none
 each_ok judge name i (y ∷ ys) h x there =
     let r = then_ok (judge (element_place name i) y) (λ _. each_from judge name (i + 1) ys) tt h in
     elim there [
-      | inl e ↦ (element_place name i, subst (λ z. judge (element_place name i) z ≡ Ok tt) (sym e) (one r.0 r.1))
+      | inl e ↦ (element_place name i, subst (λ z. judge (element_place name i) z ≡ Ok tt) (sym e) r.1)
       | inr j ↦ each_ok judge name (i + 1) ys r.2 x j
     ]
-  where
-    one : (u : ⊤) → judge (element_place name i) y ≡ Ok u → judge (element_place name i) y ≡ Ok tt
-    one u e = e
 
 -- each element passed the test whose failure is the fault
 pub each_holds : {A : Type 0} (code : Code) (test : A → Bool) (name : Text) (i : ℕ) (xs : List A) → each_from (λ at x. fault_if code at (not (test x))) name i xs ≡ Ok tt →
@@ -161,22 +153,22 @@ pub record IsJudged (c : ConfigText) : Type 0 where
 pub passed : (c : ConfigText) → judged c ≡ Ok tt → IsJudged c
 unfolding judged
 passed c h =
-    let a = then_ok (passes.forms c) _ tt h in
-    let b = then_ok (passes.new_objects c) _ tt a.2 in
-    let d = then_ok (passes.known_classes c) _ tt b.2 in
-    let e = then_ok (passes.known_clients c) _ tt d.2 in
-    let f = then_ok (passes.new_clients c) _ tt e.2 in
-    let g = then_ok (passes.known_references c) _ tt f.2 in
-    let i = then_ok (passes.known_indexes c) _ tt g.2 in
-    let j = then_ok (passes.valid_values c) _ tt i.2 in
-    let k = then_ok (passes.settable_rights c) _ tt j.2 in
-    let l = then_ok (passes.equal_counts c) _ tt k.2 in
-    let m = then_ok (passes.new_scripts c) _ tt l.2 in
-    let n = then_ok (passes.no_executes c) _ tt m.2 in
-    let o = then_ok (passes.within_limits c) _ tt n.2 in
-    let p = then_ok (passes.new_labels c) _ tt o.2 in
-    let q = then_ok (passes.fed_values c) _ tt p.2 in
-    let r = then_ok (passes.valid_times c) (λ _. passes.valid_sorting c) tt q.2 in
+    let a = then_ok _ _ tt h in
+    let b = then_ok _ _ tt a.2 in
+    let d = then_ok _ _ tt b.2 in
+    let e = then_ok _ _ tt d.2 in
+    let f = then_ok _ _ tt e.2 in
+    let g = then_ok _ _ tt f.2 in
+    let i = then_ok _ _ tt g.2 in
+    let j = then_ok _ _ tt i.2 in
+    let k = then_ok _ _ tt j.2 in
+    let l = then_ok _ _ tt k.2 in
+    let m = then_ok _ _ tt l.2 in
+    let n = then_ok _ _ tt m.2 in
+    let o = then_ok _ _ tt n.2 in
+    let p = then_ok _ _ tt o.2 in
+    let q = then_ok _ _ tt p.2 in
+    let r = then_ok _ _ tt q.2 in
     record {
       forms = a.1;
       objects = b.1;

@@ -1,5 +1,5 @@
 -- Rights are those of clients of the plan, on what its objects have.
-use Rattle.std.proofs.Common.{◌≡◌, ◌<◌, ◌+◌, ℕ, arith, Bool, true, false, cond, List, [], ◌∷◌, ◌++◌, map, length, refl, sym, subst, Some, is_some, nat_lt, Ok}
+use Rattle.std.proofs.Common.{◌≡◌, ◌<◌, ◌+◌, ℕ, arith, Bool, true, false, cond, List, [], ◌∷◌, map, length, refl, sym, subst, Some, nat_lt, Ok}
 use Rattle.std.specs.Prelude.{codes, ◌&&◌, ◌||◌}
 use Rattle.std.proofs.lemmas.Bool.{and_from, lt-ltb}
 use Rattle.std.proofs.lemmas.List.{length-map}
@@ -10,7 +10,7 @@ use Rattle.meter_theory.specs.Plan.{class_of, interface_of}
 use Rattle.meter_theory.specs.Sound.{is_right, are_indexes}
 use Rattle.config_text.specs.declared.fault.Code.TheVariants as code
 use Rattle.config_text.specs.Parts.{Text, ConfigText, ClientText, ObjectText, RightText}
-use Rattle.config_rules.specs.Names.{object_named, class_named, has_client, is_index, attributes, methods}
+use Rattle.config_rules.specs.Names.{class_named, is_index, attributes, methods}
 use Rattle.config_rules.specs.PlanOf.{part_of, plan_of, or_else, right_of, client_of, client_place}
 use Rattle.config_rules.specs.Passes as passes
 use Rattle.config_rules.specs.Passes.{judged}
@@ -35,9 +35,8 @@ place_below name (x ∷ xs) i h = at (λ rest. place_below name xs (i + 1) rest)
 known_right : (c : ConfigText) → IsRight c → (r : RightText) → IsIn c.rights r → client_place c r.client < length c.clients
 unfolding passes.known_clients
 known_right c ok r i =
-    let rights = then_ok (each (λ at z. passes.known_client c (at ++ codes ".client") z.client) (codes "right") c.rights) _ tt ok.judged.clients in
-    let at = each_ok (λ at z. passes.known_client c (at ++ codes ".client") z.client) (codes "right") 0 c.rights rights.1 r i in
-    let place = place_below r.client c.clients 0 (holds code.ClientUnknown (at.0 ++ codes ".client") (has_client c r.client) at.1) in
+    let at = each_ok _ _ _ _ (then_ok _ _ tt ok.judged.clients).1 r i in
+    let place = place_below r.client c.clients 0 (holds _ _ _ at.1) in
     subst (λ k. or_else 0 k < length c.clients) (sym place.1) (omega (arith, place.2))
 
 -- a right is on an object of the plan, and on what this has
@@ -45,21 +44,19 @@ pub right_is : (c : ConfigText) → IsRight c → (r : RightText) → IsIn c.rig
 unfolding passes.known_references passes.known_indexes passes.right_indexes
 right_is c ok r i =
     let objects = then_ok (each (λ at o. references (λ at t. passes.known_object c at t.object) (passes.known_script c) at o.body) (codes "object") c.objects) _ tt ok.judged.references in
-    let rights = then_ok (each (λ at z. passes.known_object c at z.object) (codes "right") c.rights) _ tt objects.2 in
-    let at = each_ok (λ at z. passes.known_object c at z.object) (codes "right") 0 c.rights rights.1 r i in
-    let o = target_of c ok r.object (ok.names.rights r i) (holds code.Reference (at.0 ++ codes ".object") (is_some (object_named c r.object)) at.1) in
-    let usable = then_ok (each (λ at p. passes.usable_indexes c at p.body) (codes "object") c.objects) (λ _. each (passes.right_indexes c) (codes "right") c.rights) tt ok.judged.indexes in
-    let judged = each_ok (passes.right_indexes c) (codes "right") 0 c.rights usable.2 r i in
-    let gets = then_ok (each (passes.right_index attributes (class_named c r.object)) (judged.0 ++ codes ".get") r.gets) _ tt judged.1 in
-    let sets = then_ok (each (passes.right_index attributes (class_named c r.object)) (judged.0 ++ codes ".set") r.sets)
-    (λ _. each (passes.right_index methods (class_named c r.object)) (judged.0 ++ codes ".act") r.acts) tt gets.2 in
+    let at = each_ok (λ at z. passes.known_object c at z.object) _ _ _ (then_ok _ _ tt objects.2).1 r i in
+    let o = target_of c ok r.object (ok.names.rights r i) (holds _ _ _ at.1) in
+    let usable = then_ok _ (λ _. each (passes.right_indexes c) (codes "right") c.rights) tt ok.judged.indexes in
+    let judged = each_ok (passes.right_indexes c) _ _ _ usable.2 r i in
+    let gets = then_ok _ _ tt judged.1 in
+    let sets = then_ok _ _ tt gets.2 in
     and_from (nat_lt (client_place c r.client) (length (map client_of c.clients))) _
     (lt-ltb (client_place c r.client) (length (map client_of c.clients)) (subst (λ n. client_place c r.client < n) (sym (length-map c.clients client_of)) (known_right c ok r i)))
     (subst (λ found. some_passes (λ p. are_indexes (interface_of p.part).attributes r.gets && (are_indexes (interface_of p.part).attributes r.sets && are_indexes (interface_of p.part).methods r.acts)) found ≡ true) (sym o.1.planned)
-    (and_from (are_indexes (interface_of (part_of c o.0.body)).attributes r.gets) _ (attributes_of c o.0.body r.gets (at_class o.0 o.1 attributes r.gets (judged.0 ++ codes ".get") gets.1))
+    (and_from (are_indexes (interface_of (part_of c o.0.body)).attributes r.gets) _ (attributes_of c o.0.body r.gets (at_class o.0 o.1 attributes r.gets _ gets.1))
     (and_from (are_indexes (interface_of (part_of c o.0.body)).attributes r.sets) (are_indexes (interface_of (part_of c o.0.body)).methods r.acts)
-    (attributes_of c o.0.body r.sets (at_class o.0 o.1 attributes r.sets (judged.0 ++ codes ".set") sets.1))
-    (methods_of c o.0.body r.acts (at_class o.0 o.1 methods r.acts (judged.0 ++ codes ".act") sets.2)))))
+    (attributes_of c o.0.body r.sets (at_class o.0 o.1 attributes r.sets _ sets.1))
+    (methods_of c o.0.body r.acts (at_class o.0 o.1 methods r.acts _ sets.2)))))
   where
     at_class : (o : ObjectText) → IsTarget c r.object o → (highest : List (ℕ × ℕ)) (indexes : List ℕ) (place : Text) → each (passes.right_index highest (class_named c r.object)) place indexes ≡ Ok tt →
         list_all (is_index highest (class_of (part_of c o.body))) indexes ≡ true

@@ -2,7 +2,7 @@
 use Rattle.std.proofs.Common.{◌≡◌, ℕ, ◌==◌, Bool, true, false, cond, not, List, [], ◌∷◌, ◌++◌, map, refl, sym, ap, subst, ◌∙◌, Option, Some, None, is_some, eq-eqb, Ok}
 use Rattle.std.specs.Prelude.{ℤ, pos, negsuc, int_le, unsigned_abs, codes, ◌&&◌, ◌||◌}
 use Rattle.std.specs.List.{list_any}
-use Rattle.std.proofs.lemmas.Bool.{or_parts, false≢true}
+use Rattle.std.proofs.lemmas.Bool.{and_from, or_parts, false≢true}
 use Rattle.meter_theory.specs.Lists.{IsIn, AreDistinct, some_passes}
 use Rattle.meter_theory.specs.Plan.{class_of}
 use Rattle.meter_theory.specs.Rights.{knows_script}
@@ -24,7 +24,17 @@ use Rattle.config_rules.proofs.Cells.{IsRight, target_of}
 abbrev pub IsScript : ConfigText → ScriptRefText → Type 0
 IsScript c r = has_script (plan_of c) (script_named r) ≡ true
 
--- the scripts of a table have the numbers of their texts
+-- the scripts of a part are those of its body
+scripts_are : (c : ConfigText) (body : BodyText) → scripts_of (part_of c body) ≡ map (script_of c) (scripts_in body)
+scripts_are c (DataText value) = refl
+scripts_are c (RegisterText value default scaler unit) = refl
+scripts_are c (ProfileText captures period entries sort_method) = refl
+scripts_are c (ScriptTableText scripts) = refl
+scripts_are c (MonitorText monitored thresholds actions) = refl
+scripts_are c (ScheduleText script type times) = refl
+scripts_are c UnknownText = refl
+
+-- they have the numbers of their texts
 same_numbers : (c : ConfigText) (scripts : List ScriptText) → map (λ s. s.id) (map (script_of c) scripts) ≡ map (λ s. s.id) scripts
 same_numbers c [] = refl
 same_numbers c (s ∷ scripts) = ap (λ ids. s.id ∷ ids) (same_numbers c scripts)
@@ -46,27 +56,18 @@ known_number c scripts (negsuc n) h = absurd (false≢true h)
 pub known_script : (c : ConfigText) → IsRight c → (at : Text) (r : ScriptRefText) → IsName r.table → passes.known_script c at r ≡ Ok tt → IsScript c r
 unfolding passes.known_script
 known_script c ok at r name h =
-    let both = then_ok (fault_if Reference (at ++ codes ".table") (not (class_named c r.table == 9)))
-    (λ _. fault_if Reference (at ++ codes ".script") (not (passes.has_script (passes.scripts_of (object_named c r.table)) r.script))) tt h in
-    let class = holds Reference (at ++ codes ".table") (class_named c r.table == 9) both.1 in
-    let number = holds Reference (at ++ codes ".script") (passes.has_script (passes.scripts_of (object_named c r.table)) r.script) both.2 in
+    let both = then_ok (fault_if Reference _ (not (class_named c r.table == 9))) _ tt h in
+    let class : (class_named c r.table == 9) ≡ true = holds _ _ _ both.1 in
+    let number : passes.has_script (passes.scripts_of (object_named c r.table)) r.script ≡ true = holds _ _ _ both.2 in
     let table = target_of c ok r.table name (there (object_named c r.table) class) in
     subst (λ found. some_passes (λ o. (class_of o.part == 9) && knows_script (scripts_of o.part) (script_number r.script)) found ≡ true) (sym table.1.planned)
-    (runs table.0.body (subst (λ k. (k == 9) ≡ true) table.1.class class) (subst (λ found. passes.has_script (passes.scripts_of found) r.script ≡ true) table.1.is number))
+    (and_from (class_of (part_of c table.0.body) == 9) _ (subst (λ k. (k == 9) ≡ true) table.1.class class)
+    (subst (λ scripts. knows_script scripts (script_number r.script) ≡ true) (sym (scripts_are c table.0.body))
+    (known_number c (scripts_in table.0.body) r.script (subst (λ found. passes.has_script (passes.scripts_of found) r.script ≡ true) table.1.is number))))
   where
     there : (found : Option ObjectText) → (class_in found == 9) ≡ true → is_some found ≡ true
     there None k = absurd (false≢true k)
     there (Some o) k = refl
-
-    runs : (body : BodyText) → (class_of (part_of c body) == 9) ≡ true → passes.has_script (scripts_in body) r.script ≡ true →
-        ((class_of (part_of c body) == 9) && knows_script (scripts_of (part_of c body)) (script_number r.script)) ≡ true
-    runs (DataText value) k known = absurd (false≢true k)
-    runs (RegisterText value default scaler unit) k known = absurd (false≢true k)
-    runs (ProfileText captures period entries sort_method) k known = absurd (false≢true k)
-    runs (ScriptTableText scripts) k known = known_number c scripts r.script known
-    runs (MonitorText monitored thresholds actions) k known = absurd (false≢true k)
-    runs (ScheduleText script type times) k known = absurd (false≢true k)
-    runs UnknownText k known = known_number c [] r.script known
 
 -- Numbers
 
@@ -89,14 +90,6 @@ own_numbers at scripts h = (not_null, each_new_distinct (λ s. s.id) passes.new_
 pub script_numbers : (c : ConfigText) → IsRight c → (o : ObjectText) → IsIn c.objects o → AreDistinct (0 ∷ map (λ s. s.id) (scripts_of (part_of c o.body)))
 unfolding passes.new_scripts
 script_numbers c ok o i =
-    let r = each_ok (λ at p. each_new passes.new_script (at ++ codes ".script") (scripts_in p.body)) (codes "object") 0 c.objects ok.judged.scripts o i in
-    numbered o.body (own_numbers r.0 (scripts_in o.body) r.1)
-  where
-    numbered : (body : BodyText) → AreDistinct (0 ∷ map (λ s. s.id) (scripts_in body)) → AreDistinct (0 ∷ map (λ s. s.id) (scripts_of (part_of c body)))
-    numbered (DataText value) h = h
-    numbered (RegisterText value default scaler unit) h = h
-    numbered (ProfileText captures period entries sort_method) h = h
-    numbered (ScriptTableText scripts) h = subst (λ ids. AreDistinct (0 ∷ ids)) (sym (same_numbers c scripts)) h
-    numbered (MonitorText monitored thresholds actions) h = h
-    numbered (ScheduleText script type times) h = h
-    numbered UnknownText h = h
+    let r = each_ok _ _ _ _ ok.judged.scripts o i in
+    let same = ap (map (λ s. s.id)) (scripts_are c o.body) ∙ same_numbers c (scripts_in o.body) in
+    subst (λ ids. AreDistinct (0 ∷ ids)) (sym same) (own_numbers r.0 (scripts_in o.body) r.1)

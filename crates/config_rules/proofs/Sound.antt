@@ -1,5 +1,5 @@
 -- The plan of a configuration in which the passes find nothing is sound.
-use Rattle.std.proofs.Common.{◌≡◌, ℕ, ◌==◌, Bool, true, false, not, List, [], ◌∷◌, ◌++◌, map, length, refl, sym, ap, subst, ◌∙◌, inl, inr, Option, Some, None, is_some, eqb-true, eq-eqb, nat_lt, nat_le, leb-true, Ok}
+use Rattle.std.proofs.Common.{◌≡◌, ℕ, ◌==◌, Bool, true, false, not, List, [], ◌∷◌, map, length, refl, sym, ap, subst, ◌∙◌, inl, inr, Option, Some, None, is_some, eqb-true, eq-eqb, nat_lt, nat_le, leb-true, Ok}
 use Rattle.std.specs.Prelude.{option_and_then, codes, ◌&&◌, ◌||◌}
 use Rattle.std.proofs.lemmas.Bool.{or_cases, and_parts, and_from, false≢true, ltb-false, le-leb}
 use Rattle.std.proofs.lemmas.List.{length-map}
@@ -15,6 +15,7 @@ use Rattle.meter_theory.specs.Value.{OfKind, counter, is_within_limits}
 use Rattle.meter_theory.specs.Plan.{start_of, cells, entries_in_use, class_of, association_name}
 use Rattle.meter_theory.specs.Steps.{scripts_of, Captures, captures_in}
 use Rattle.meter_theory.specs.Sound.{IsSound, IsCapturable, IsSoundPart, is_name, has_action_sizes, has_script_sizes, has_part_sizes, has_sizes, has_sap, has_script, is_right, scripts_run_by}
+use Rattle.meter_theory.specs.declared.limits.TheConstants as limits
 use Rattle.meter_theory.proofs.Rights.{cell_of_found}
 use Rattle.meter_theory.proofs.Lists.{in_map, from_map, from_flat_map}
 use Rattle.config_text.specs.declared.fault.Code.TheVariants as code
@@ -28,15 +29,14 @@ use Rattle.config_rules.specs.PlanOf.{part_of, object_of, plan_of, name_of, valu
 use Rattle.config_rules.specs.Read.{IsRead, is_body_of}
 use Rattle.config_rules.specs.Passes as passes
 use Rattle.config_rules.specs.Passes.{judged}
-use Rattle.config_rules.specs.Walks.{each}
 use Rattle.config_rules.proofs.Passed.{then_ok, holds, not_faulty, each_ok, EachReference, passed}
 use Rattle.config_rules.proofs.Named.{IsName, names_apart, plan_names, six_bytes, name_of_is}
 use Rattle.config_rules.proofs.Cells.{IsRight, IsTarget, right, settable_cell}
-use Rattle.config_rules.proofs.Starts.{limits_of, register_start}
+use Rattle.config_rules.proofs.Starts.{of_body, register_start}
 use Rattle.config_rules.proofs.Scripts.{IsScript, script_numbers}
 use Rattle.config_rules.proofs.Actions.{IsAction, action_at, written_value, writes, calls}
 use Rattle.config_rules.proofs.Rights.{right_is}
-use Rattle.config_rules.proofs.Fits.{known_of, indexes_of, monitor_source, starts}
+use Rattle.config_rules.proofs.Fits.{known_of, monitor_source, starts}
 
 -- Captures
 
@@ -90,9 +90,8 @@ captures c ok o i (ProfileText all period entries sort_method) is taken e x j =
     let same : record { captured = map (λ y. cell_named c y.target) all; entries = entries } ≡ taken = cc in
     let y = from_map (λ z. cell_named c z.target) all x (subst (λ z. IsIn z.captured x) (sym same) j) in
     let refers = subst (EachReference (λ t. (p : ObjectText) × IsTarget c t.object p) (IsScript c)) is (known_of c ok o i) y.0 y.1 in
-    let indexes = indexes_of c ok o i (ProfileText all period entries sort_method) is in
-    let index = each_ok (λ at z. passes.usable c capturable at z.target) (indexes.0 ++ codes ".capture") 0 all indexes.1 y.0 y.1 in
-    let r = captured_cell c ok y.0.target refers.0 refers.1 (holds code.Index (index.0 ++ codes ".index") (target_is c capturable y.0.target) index.1) in
+    let index = each_ok _ _ _ _ (of_body c ok o i (ProfileText all period entries sort_method) is).indexes.1 y.0 y.1 in
+    let r = captured_cell c ok y.0.target refers.0 refers.1 (holds _ _ _ index.1) in
     (subst (IsIn (cells (plan_of c))) (sym y.2) r.0, subst (IsCapturable (plan_of c)) (sym y.2) r.1)
 captures c ok o i (ScriptTableText scripts) is taken e x j = cc
 captures c ok o i (MonitorText monitored ths actions) is taken e x j = cc
@@ -175,31 +174,26 @@ unfolding passes.limits_in passes.script_limits
 part_sizes c ok o i (DataText value) is = refl
 part_sizes c ok o i (RegisterText value default scaler unit) is = refl
 part_sizes c ok o i (ProfileText all period entries sort_method) is =
-    let limits = limits_of c ok o i (ProfileText all period entries sort_method) is in
     let names = subst (EachReference (λ t. IsName t.object) (λ r. IsName r.table)) is (ok.names.references o i) in
-    let both = then_ok (passes.at_most 32 (limits.0 ++ codes ".capture") all) (λ _. fault_if code.Limit (limits.0 ++ codes ".entries") (nat_lt 1000 entries)) tt limits.1 in
+    let both = then_ok (passes.at_most limits.CAPTURE_OBJECTS _ all) _ tt (of_body c ok o i (ProfileText all period entries sort_method) is).limits.1 in
     let one = (and_parts (o.class == 7) (nat_le 1 entries) (subst (λ b. is_body_of o.class b ≡ true) is (ok.read.bodies o i))).1 in
-    and_from (nat_le (length (map (λ y. cell_named c y.target) all)) 32) _ (few_of_map (λ y. cell_named c y.target) 32 all (at_most_ok 32 (limits.0 ++ codes ".capture") all both.1))
+    and_from (nat_le (length (map (λ y. cell_named c y.target) all)) limits.CAPTURE_OBJECTS) _ (few_of_map (λ y. cell_named c y.target) limits.CAPTURE_OBJECTS all (at_most_ok _ _ all both.1))
     (and_from (list_all (λ x. is_name x.name) (map (λ y. cell_named c y.target) all)) _ (each_of_map (λ x. is_name x.name) (λ y. cell_named c y.target) all (λ y j. six y.target.object (names y j)))
-    (and_from (nat_le 1 entries) (nat_le entries 1000) one (le-leb entries 1000 (ltb-false 1000 entries (not_faulty code.Limit (limits.0 ++ codes ".entries") (nat_lt 1000 entries) both.2)))))
+    (and_from (nat_le 1 entries) (nat_le entries limits.PROFILE_ENTRIES) one (le-leb entries limits.PROFILE_ENTRIES (ltb-false limits.PROFILE_ENTRIES entries (not_faulty _ _ _ both.2)))))
 part_sizes c ok o i (ScriptTableText scripts) is =
-    let limits = limits_of c ok o i (ScriptTableText scripts) is in
     let names = subst (EachReference (λ t. IsName t.object) (λ r. IsName r.table)) is (ok.names.references o i) in
-    let few = then_ok (passes.at_most 64 (limits.0 ++ codes ".script") scripts) (λ _. each passes.script_limits (limits.0 ++ codes ".script") scripts) tt limits.1 in
-    and_from (nat_le (length (map (script_of c) scripts)) 64) (list_all has_script_sizes (map (script_of c) scripts)) (few_of_map (script_of c) 64 scripts (at_most_ok 64 (limits.0 ++ codes ".script") scripts few.1))
+    let few = then_ok (passes.at_most limits.SCRIPTS _ scripts) _ tt (of_body c ok o i (ScriptTableText scripts) is).limits.1 in
+    and_from (nat_le (length (map (script_of c) scripts)) limits.SCRIPTS) (list_all has_script_sizes (map (script_of c) scripts)) (few_of_map (script_of c) limits.SCRIPTS scripts (at_most_ok _ _ scripts few.1))
     (each_of_map has_script_sizes (script_of c) scripts (λ s j.
-    let script = each_ok passes.script_limits (limits.0 ++ codes ".script") 0 scripts few.2 s j in
-    let actions = then_ok (passes.at_most 32 (script.0 ++ codes ".action") s.actions) (λ _. each (λ at x. passes.small_value (at ++ codes ".value") x.value) (script.0 ++ codes ".action") s.actions) tt script.1 in
-    and_from (nat_le (length (map (λ a. action_of c a.service a.target a.value) s.actions)) 32) _ (few_of_map (λ a. action_of c a.service a.target a.value) 32 s.actions (at_most_ok 32 (script.0 ++ codes ".action") s.actions actions.1))
+    let actions = then_ok (passes.at_most limits.ACTIONS _ s.actions) _ tt (each_ok _ _ _ _ few.2 s j).1 in
+    and_from (nat_le (length (map (λ a. action_of c a.service a.target a.value) s.actions)) limits.ACTIONS) _ (few_of_map (λ a. action_of c a.service a.target a.value) limits.ACTIONS s.actions (at_most_ok _ _ s.actions actions.1))
     (each_of_map has_action_sizes (λ a. action_of c a.service a.target a.value) s.actions (λ a k.
     action_sizes c a (action_at c ok o i scripts is s j a k) (names s j a k) a.service refl))))
 part_sizes c ok o i (MonitorText monitored ths actions) is =
-    let limits = limits_of c ok o i (MonitorText monitored ths actions) is in
     let names = subst (EachReference (λ t. IsName t.object) (λ r. IsName r.table)) is (ok.names.references o i) in
-    let few = then_ok (fault_if code.Limit (limits.0 ++ codes ".thresholds") (nat_lt 16 (length ths) || not (is_within_limits (thresholds_value ths))))
-    (λ _. passes.at_most 16 (limits.0 ++ codes ".action") actions) tt limits.1 in
+    let few = then_ok (fault_if code.Limit _ (nat_lt limits.THRESHOLDS (length ths) || not (is_within_limits (thresholds_value ths)))) _ tt (of_body c ok o i (MonitorText monitored ths actions) is).limits.1 in
     and_from (is_name (name_of monitored.object)) _ (six monitored.object names.0)
-    (and_from (nat_le (length (map up_down_of actions)) 16) _ (few_of_map up_down_of 16 actions (at_most_ok 16 (limits.0 ++ codes ".action") actions few.2))
+    (and_from (nat_le (length (map up_down_of actions)) limits.THRESHOLDS) _ (few_of_map up_down_of limits.THRESHOLDS actions (at_most_ok _ _ actions few.2))
     (each_of_map (λ a. is_name a.up.table && is_name a.down.table) up_down_of actions (λ a j.
     and_from (is_name (name_of a.up.table)) (is_name (name_of a.down.table)) (six a.up.table (names.1 a j).0) (six a.down.table (names.1 a j).1))))
 part_sizes c ok o i (ScheduleText script type times) is =
@@ -209,12 +203,11 @@ part_sizes c ok o i UnknownText is = refl
 -- The whole
 
 -- the configuration's own limits
-few : (c : ConfigText) → IsRight c → (nat_le (length c.clients) 16 ≡ true) × (nat_le (length c.objects) 512 ≡ true)
+few : (c : ConfigText) → IsRight c → (nat_le (length c.clients) limits.CLIENTS ≡ true) × (nat_le (length c.objects) limits.OBJECTS ≡ true)
 unfolding passes.within_limits
 few c ok =
-    let clients = then_ok (passes.at_most 16 (codes "client") c.clients) _ tt ok.judged.limits in
-    let objects = then_ok (passes.at_most 512 (codes "object") c.objects) (λ _. each (λ at p. passes.limits_in at p.body) (codes "object") c.objects) tt clients.2 in
-    (at_most_ok 16 (codes "client") c.clients clients.1, at_most_ok 512 (codes "object") c.objects objects.1)
+    let clients = then_ok (passes.at_most limits.CLIENTS (codes "client") c.clients) _ tt ok.judged.limits in
+    (at_most_ok _ _ c.clients clients.1, at_most_ok _ _ c.objects (then_ok (passes.at_most limits.OBJECTS (codes "object") c.objects) _ tt clients.2).1)
 
 -- The plan of a configuration without a fault is sound.
 pub plan_is_sound : (c : ConfigText) → IsRead c → judged c ≡ Ok tt → IsSound (plan_of c)
@@ -222,8 +215,8 @@ plan_is_sound c read h = record {
   names = plan_names c ok.names ok.new;
   apart = λ o i. let p = from_map (object_of c) c.objects o i in
       subst (λ z. same_name z.name association_name ≡ false) (sym p.2) (names_apart c ok.names ok.judged.objects p.0 p.1);
-  few_clients = leb-true (length (map client_of c.clients)) 16 (few_of_map client_of 16 c.clients (few c ok).0);
-  few_objects = leb-true (length (map (object_of c) c.objects)) 512 (few_of_map (object_of c) 512 c.objects (few c ok).1);
+  few_clients = leb-true (length (map client_of c.clients)) limits.CLIENTS (few_of_map client_of limits.CLIENTS c.clients (few c ok).0);
+  few_objects = leb-true (length (map (object_of c) c.objects)) limits.OBJECTS (few_of_map (object_of c) limits.OBJECTS c.objects (few c ok).1);
   sizes = λ o i. let p = from_map (object_of c) c.objects o i in
       subst (λ z. has_sizes z ≡ true) (sym p.2)
       (and_from (is_name (name_of p.0.name)) (has_part_sizes (part_of c p.0.body)) (six p.0.name (ok.names.objects p.0 p.1)) (part_sizes c ok p.0 p.1 p.0.body refl));
@@ -232,9 +225,9 @@ plan_is_sound c read h = record {
       subst (λ z. is_right (plan_of c) z ≡ true) (sym p.2) (right_is c ok p.0 p.1);
   starts = starts c ok;
   writes = λ o i script j x v k. let p = from_map (object_of c) c.objects o i in
-      writes c ok p.0 p.1 p.0.body refl script (subst (λ z. IsIn (scripts_of z.part) script) p.2 j) x v k;
+      writes c ok p.0 p.1 script (subst (λ z. IsIn (scripts_of z.part) script) p.2 j) x v k;
   calls = λ o i script j m v k. let p = from_map (object_of c) c.objects o i in
-      calls c ok p.0 p.1 p.0.body refl script (subst (λ z. IsIn (scripts_of z.part) script) p.2 j) m v k;
+      calls c ok p.0 p.1 script (subst (λ z. IsIn (scripts_of z.part) script) p.2 j) m v k;
   scripts = λ o i. let p = from_map (object_of c) c.objects o i in
       subst (λ z. AreDistinct (0 ∷ map (λ s. s.id) (scripts_of z.part))) (sym p.2) (script_numbers c ok p.0 p.1);
   references = λ o i r j. let p = from_map (object_of c) c.objects o i in

@@ -1,5 +1,5 @@
 -- Each settable cell starts with a value that meets its rule.
-use Rattle.std.proofs.Common.{◌≡◌, ℕ, ◌==◌, true, cond, not, [], ◌∷◌, ◌++◌, ℤ, refl, sym, ap, subst, ◌∙◌, inl, inr, Option, Some, None, is_some, eq-eqb, Ok}
+use Rattle.std.proofs.Common.{◌≡◌, ℕ, ◌==◌, true, false, cond, List, not, [], ◌∷◌, ℤ, refl, sym, ap, subst, ◌∙◌, inl, inr, Option, Some, None, is_some, eq-eqb, Ok}
 use Rattle.std.specs.Prelude.{option_map, option_and_then, codes, ◌&&◌}
 use Rattle.std.proofs.lemmas.Bool.{and_from, cond-true}
 use Rattle.cosem_data.specs.Tree.{Tree, null_data}
@@ -10,30 +10,29 @@ use Rattle.meter_theory.specs.Lists.{IsIn}
 use Rattle.meter_theory.specs.State.{value}
 use Rattle.meter_theory.specs.Value.{OfKind, meets, is_within_limits}
 use Rattle.meter_theory.specs.Plan.{start, start_of, rule_in, rule_of, class_of, object_at}
+use Rattle.meter_theory.specs.declared.limits.TheConstants as limits
 use Rattle.meter_theory.proofs.Lists.{in_map, one_of_key}
-use Rattle.config_text.specs.declared.fault.Code.TheVariants.{Limit, Value}
+use Rattle.config_text.specs.declared.fault.Code.TheVariants.{Value}
 use Rattle.config_text.specs.Fault.{fault_if}
 use Rattle.config_text.specs.Parts.{Text, ConfigText, ObjectText, BodyText, DataText, RegisterText}
 use Rattle.value_text.specs.Texts.{value_in}
 use Rattle.config_rules.specs.Values.{kind_in, is_number, is_of_kind}
 use Rattle.config_rules.specs.PlanOf.{part_of, object_of, plan_of, name_of, value_of, or_else}
 use Rattle.config_rules.specs.Passes as passes
-use Rattle.config_rules.specs.Walks.{each}
+use Rattle.config_rules.specs.Names.{scripts_in}
+use Rattle.config_rules.specs.Walks.{each_action}
 use Rattle.config_rules.proofs.Passed.{then_ok, holds, each_ok}
 use Rattle.config_rules.proofs.Named.{plan_names}
 use Rattle.config_rules.proofs.Cells.{IsRight, target_itself}
 use Rattle.meter_theory.proofs.Start.{started}
 
 -- a value that is there and keeps within the limits
-pub value_there : (text : Text) → is_some (value_in text) ≡ true → (v : Tree) × (value_in text ≡ Some v) × (value_of text ≡ v)
+value_there : (text : Text) → is_some (value_in text) ≡ true → (v : Tree) × (value_in text ≡ Some v) × (value_of text ≡ v)
 value_there text h = at (value_in text) refl h
   where
     at : (r : Option Tree) → value_in text ≡ r → is_some r ≡ true → (v : Tree) × (value_in text ≡ Some v) × (value_of text ≡ v)
     at None is e = cc
     at (Some v) is e = (v, is, ap (or_else null_data) is)
-
-pub small_there : (text : Text) (v : Tree) → value_in text ≡ Some v → passes.is_small (option_and_then value_in (Some text)) ≡ true → is_within_limits v ≡ true
-small_there text v is h = subst (λ r. passes.is_small r ≡ true) is h
 
 -- the object of the plan for an object with this body
 pub planned_body : (c : ConfigText) → IsRight c → (o : ObjectText) → IsIn c.objects o → (body : BodyText) → o.body ≡ body →
@@ -46,57 +45,69 @@ rule_body c ok o i body is index =
     ap (λ r. option_and_then (λ p. cond (class_of p.part == class_of (part_of c body)) (rule_in (plan_of c) p.part index) None) r) (planned_body c ok o i body is)
     ∙ cond-true (class_of (part_of c body) == class_of (part_of c body)) (rule_in (plan_of c) (part_of c body) index) None (eq-eqb (class_of (part_of c body)) (class_of (part_of c body)) refl)
 
--- the start value of a cell that stands once among its object's
-pub start_body : (c : ConfigText) → IsRight c → (o : ObjectText) → IsIn c.objects o → (body : BodyText) → o.body ≡ body → (x : CellRef) (v : Tree) →
-    IsIn (start_of (name_of o.name) (part_of c body)) (x, v) → ((w : Tree) → IsIn (start_of (name_of o.name) (part_of c body)) (x, w) → w ≡ v) →
-    value (start (plan_of c)) x ≡ v
-start_body c ok o i body is x v there alone =
+-- the values that stand at an index
+abbrev pub values_at : ℕ → List (CellRef × Tree) → List Tree
+values_at index [] = []
+values_at index (e ∷ es) = cond (e.0.index == index) (e.1 ∷ values_at index es) (values_at index es)
+
+in_values : (es : List (CellRef × Tree)) (x : CellRef) (w : Tree) → IsIn es (x, w) → IsIn (values_at x.index es) w
+in_values [] x w none = absurd none
+in_values (e ∷ es) x w (inl is) =
+    subst (λ b. IsIn (cond b (e.1 ∷ values_at x.index es) (values_at x.index es)) w) (sym (eq-eqb e.0.index x.index (ap (λ z. z.0.index) (sym is)))) (inl (ap (λ z. z.1) is))
+in_values (e ∷ es) x w (inr j) =
+    let rest = in_values es x w j in
+    elim (e.0.index == x.index) as (λ b. IsIn (cond b (e.1 ∷ values_at x.index es) (values_at x.index es)) w) [ true ↦ inr rest | false ↦ rest ]
+
+-- the start value of a cell whose index no other of its object has
+pub start_body : (c : ConfigText) → IsRight c → (o : ObjectText) → IsIn c.objects o → (body : BodyText) → o.body ≡ body → (index : ℕ) (v : Tree) →
+    IsIn (start_of (name_of o.name) (part_of c body)) (cell (class_of (part_of c body)) (name_of o.name) index, v) →
+    values_at index (start_of (name_of o.name) (part_of c body)) ≡ v ∷ [] → value (start (plan_of c)) (cell (class_of (part_of c body)) (name_of o.name) index) ≡ v
+start_body c ok o i body is index v there alone =
     started (plan_of c) (one_of_key (λ p. p.name) (plan_of c).objects (plan_names c ok.names ok.new)) (object_of c o) (in_map (object_of c) c.objects o i) x v
     (subst (λ b. IsIn (start_of (name_of o.name) (part_of c b)) (x, v)) (sym is) there)
-    (λ w j. alone w (subst (λ b. IsIn (start_of (name_of o.name) (part_of c b)) (x, w)) is j))
+    (λ w j. only w (subst (λ vs. IsIn vs w) alone (in_values (start_of (name_of o.name) (part_of c body)) x w (subst (λ b. IsIn (start_of (name_of o.name) (part_of c b)) (x, w)) is j))))
+  where
+    x : CellRef
+    x = cell (class_of (part_of c body)) (name_of o.name) index
 
--- the only cell of an object
-pub only_one : (x : CellRef) (v w : Tree) → IsIn {A = CellRef × Tree} ((x, v) ∷ []) (x, w) → w ≡ v
-only_one x v w (inl e) = ap (λ z. z.1) e
-only_one x v w (inr none) = absurd none
+    only : (w : Tree) → IsIn (v ∷ []) w → w ≡ v
+    only w (inl e) = e
+    only w (inr none) = absurd none
 
--- what the passes found of an object
+-- what the passes found of an object with this body, each at its place
+pub record IsPassed (c : ConfigText) (body : BodyText) : Type 0 where
+  pub indexes : (at : Text) × (passes.usable_indexes c at body ≡ Ok tt)
+  pub values : (at : Text) × (passes.valid_values_in c at body ≡ Ok tt)
+  pub counts : (at : Text) × (passes.equal_counts_in at body ≡ Ok tt)
+  pub executes : (at : Text) × (each_action (passes.no_execute c) at (scripts_in body) ≡ Ok tt)
+  pub limits : (at : Text) × (passes.limits_in at body ≡ Ok tt)
+  pub times : (at : Text) × (passes.valid_times_in at body ≡ Ok tt)
 
-pub values_of : (c : ConfigText) → IsRight c → (o : ObjectText) → IsIn c.objects o → (body : BodyText) → o.body ≡ body → (at : Text) × (passes.valid_values_in c at body ≡ Ok tt)
-unfolding passes.valid_values
-values_of c ok o i body is =
-    let r = each_ok (λ at p. passes.valid_values_in c at p.body) (codes "object") 0 c.objects ok.judged.values o i in
-    (r.0, subst (λ b. passes.valid_values_in c r.0 b ≡ Ok tt) is r.1)
+pub of_body : (c : ConfigText) → IsRight c → (o : ObjectText) → IsIn c.objects o → (body : BodyText) → o.body ≡ body → IsPassed c body
+unfolding passes.known_indexes passes.valid_values passes.equal_counts passes.no_executes passes.within_limits passes.valid_times
+of_body c ok o i body is =
+    let clients = then_ok (passes.at_most limits.CLIENTS (codes "client") c.clients) _ tt ok.judged.limits in
+    let objects = then_ok (passes.at_most limits.OBJECTS (codes "object") c.objects) _ tt clients.2 in
+    subst (IsPassed c) is (record {
+      indexes = each_ok _ _ _ _ (then_ok _ _ tt ok.judged.indexes).1 o i;
+      values = each_ok _ _ _ _ ok.judged.values o i;
+      counts = each_ok _ _ _ _ ok.judged.counts o i;
+      executes = each_ok _ _ _ _ ok.judged.executes o i;
+      limits = each_ok _ _ _ _ objects.2 o i;
+      times = each_ok _ _ _ _ ok.judged.times o i;
+    })
 
-pub limits_of : (c : ConfigText) → IsRight c → (o : ObjectText) → IsIn c.objects o → (body : BodyText) → o.body ≡ body → (at : Text) × (passes.limits_in at body ≡ Ok tt)
-unfolding passes.within_limits
-limits_of c ok o i body is =
-    let clients = then_ok (passes.at_most 16 (codes "client") c.clients) _ tt ok.judged.limits in
-    let few = then_ok (passes.at_most 512 (codes "object") c.objects) (λ _. each (λ at p. passes.limits_in at p.body) (codes "object") c.objects) tt clients.2 in
-    let r = each_ok (λ at p. passes.limits_in at p.body) (codes "object") 0 c.objects few.2 o i in
-    (r.0, subst (λ b. passes.limits_in r.0 b ≡ Ok tt) is r.1)
+-- a text whose value is there, and within the limits
+abbrev pub IsStart : Text → Type 0
+IsStart text = (v : Tree) × (value_in text ≡ Some v) × (value_of text ≡ v) × (is_within_limits v ≡ true)
 
-pub counts_of : (c : ConfigText) → IsRight c → (o : ObjectText) → IsIn c.objects o → (body : BodyText) → o.body ≡ body → (at : Text) × (passes.equal_counts_in at body ≡ Ok tt)
-unfolding passes.equal_counts
-counts_of c ok o i body is =
-    let r = each_ok (λ at p. passes.equal_counts_in at p.body) (codes "object") 0 c.objects ok.judged.counts o i in
-    (r.0, subst (λ b. passes.equal_counts_in r.0 b ≡ Ok tt) is r.1)
+is_start : (text : Text) → is_some (value_in text) ≡ true → passes.is_small (option_and_then value_in (Some text)) ≡ true → IsStart text
+is_start text there small = let v = value_there text there in (v.0, v.1, v.2, subst (λ r. passes.is_small r ≡ true) v.1 small)
 
-pub times_of : (c : ConfigText) → IsRight c → (o : ObjectText) → IsIn c.objects o → (body : BodyText) → o.body ≡ body → (at : Text) × (passes.valid_times_in at body ≡ Ok tt)
-unfolding passes.valid_times
-times_of c ok o i body is =
-    let r = each_ok (λ at p. passes.valid_times_in at p.body) (codes "object") 0 c.objects ok.judged.times o i in
-    (r.0, subst (λ b. passes.valid_times_in r.0 b ≡ Ok tt) is r.1)
-
--- the value of Data: readable, and within the limits
-pub data_start : (c : ConfigText) → IsRight c → (o : ObjectText) → IsIn c.objects o → (text : Text) → o.body ≡ DataText text →
-    (v : Tree) × (value_in text ≡ Some v) × (value_of text ≡ v) × (is_within_limits v ≡ true)
+-- the value of Data
+pub data_start : (c : ConfigText) → IsRight c → (o : ObjectText) → IsIn c.objects o → (text : Text) → o.body ≡ DataText text → IsStart text
 unfolding passes.valid_values_in passes.limits_in
-data_start c ok o i text is =
-    let judged = values_of c ok o i (DataText text) is in
-    let limits = limits_of c ok o i (DataText text) is in
-    let v = value_there text (holds Value (judged.0 ++ codes ".value") (is_some (value_in text)) judged.1) in
-    (v.0, v.1, v.2, small_there text v.0 v.1 (holds Limit (limits.0 ++ codes ".value") (passes.is_small (option_and_then value_in (Some text))) limits.1))
+data_start c ok o i text is = let found = of_body c ok o i (DataText text) is in is_start text (holds _ _ _ found.values.1) (holds _ _ _ found.limits.1)
 
 number_there : (text : Text) → is_number (kind_in text) ≡ true → is_some (value_in text) ≡ true
 number_there text h = at (value_in text) h
@@ -107,20 +118,16 @@ number_there text h = at (value_in text) h
 
 -- the value of a register, and what a reset puts: of one kind, and within the limits
 pub register_start : (c : ConfigText) → IsRight c → (o : ObjectText) → IsIn c.objects o → (text default : Text) (scaler : ℤ) (unit : ℕ) → o.body ≡ RegisterText text default scaler unit →
-    ((v : Tree) × (value_in text ≡ Some v) × (value_of text ≡ v) × (is_within_limits v ≡ true))
-    × (meets (OfKind (kind_of (value_of text))) (value_of default) ≡ true)
+    IsStart text × (meets (OfKind (kind_of (value_of text))) (value_of default) ≡ true)
 unfolding passes.valid_values_in passes.limits_in
 register_start c ok o i text default scaler unit is =
-    let judged = values_of c ok o i (RegisterText text default scaler unit) is in
-    let limits = limits_of c ok o i (RegisterText text default scaler unit) is in
-    let first = then_ok (fault_if Value (judged.0 ++ codes ".value") (not (is_number (kind_in text)))) (λ _. fault_if Value (judged.0 ++ codes ".default") (not (is_of_kind (kind_in text) (value_in default)))) tt judged.1 in
-    let small = then_ok (passes.small_value (limits.0 ++ codes ".value") (Some text)) (λ _. passes.small_value (limits.0 ++ codes ".default") (Some default)) tt limits.1 in
-    let v = value_there text (number_there text (holds Value (judged.0 ++ codes ".value") (is_number (kind_in text)) first.1)) in
-    let kind = holds Value (judged.0 ++ codes ".default") (is_of_kind (kind_in text) (value_in default)) first.2 in
-    let limit = holds Limit (limits.0 ++ codes ".default") (passes.is_small (option_and_then value_in (Some default))) small.2 in (
-      (v.0, v.1, v.2, small_there text v.0 v.1 (holds Limit (limits.0 ++ codes ".value") (passes.is_small (option_and_then value_in (Some text))) small.1)),
+    let found = of_body c ok o i (RegisterText text default scaler unit) is in
+    let right = then_ok (fault_if Value _ (not (is_number (kind_in text)))) _ tt found.values.1 in
+    let small = then_ok (passes.small_value _ (Some text)) _ tt found.limits.1 in
+    let v = is_start text (number_there text (holds _ _ _ right.1)) (holds _ _ _ small.1) in (
+      v,
       subst (λ z. meets (OfKind (kind_of z)) (value_of default) ≡ true) (sym v.2)
-          (at v.0 (value_in default) refl (subst (λ r. is_of_kind (option_map kind_of r) (value_in default) ≡ true) v.1 kind) limit),
+          (at v.0 (value_in default) refl (subst (λ r. is_of_kind (option_map kind_of r) (value_in default) ≡ true) v.1 (holds _ _ _ right.2)) (holds _ _ _ small.2)),
     )
   where
     at : (v : Tree) (r : Option Tree) → value_in default ≡ r → is_of_kind (Some (kind_of v)) r ≡ true → passes.is_small r ≡ true → meets (OfKind (kind_of v)) (value_of default) ≡ true

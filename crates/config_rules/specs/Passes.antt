@@ -6,6 +6,7 @@ use Rattle.std.specs.Str.{bytes_eq}
 use Rattle.cosem_data.specs.Tree.{Tree}
 use Rattle.meter_theory.specs.Value.{is_within_limits, elements}
 use Rattle.meter_theory.specs.Times.{are_execution_times}
+use Rattle.meter_theory.specs.declared.limits.TheConstants as limits
 use Rattle.config_text.specs.Fault.{Fault, fault_if, ◌>>=◌}
 use Rattle.config_text.specs.declared.fault.Code.TheVariants.{Form, ObjectTwice, ClassUnknown, ClientUnknown, ClientTwice, Reference, Index, Value, NotSettable, Counts, ScriptId, Execute, Limit, Label, Fed, Times, Sorting}
 use Rattle.config_text.specs.declared.service.Service.{Service}
@@ -227,7 +228,7 @@ small_value at text = fault_if Limit at (not (is_small (option_and_then value_in
 
 unfoldable pub script_limits : Judge ScriptText
 script_limits at s = do
-  few ← at_most 32 (at ++ codes ".action") s.actions
+  few ← at_most limits.ACTIONS (at ++ codes ".action") s.actions
   each (λ at a. small_value (at ++ codes ".value") a.value) (at ++ codes ".action") s.actions
 
 unfoldable pub limits_in : Judge BodyText
@@ -236,22 +237,22 @@ limits_in at (RegisterText value default scaler unit) = do
   start ← small_value (at ++ codes ".value") (Some value)
   small_value (at ++ codes ".default") (Some default)
 limits_in at (ProfileText captures period entries sort_method) = do
-  few ← at_most 32 (at ++ codes ".capture") captures
-  fault_if Limit (at ++ codes ".entries") (nat_lt 1000 entries)
+  few ← at_most limits.CAPTURE_OBJECTS (at ++ codes ".capture") captures
+  fault_if Limit (at ++ codes ".entries") (nat_lt limits.PROFILE_ENTRIES entries)
 limits_in at (ScriptTableText scripts) = do
-  few ← at_most 64 (at ++ codes ".script") scripts
+  few ← at_most limits.SCRIPTS (at ++ codes ".script") scripts
   each script_limits (at ++ codes ".script") scripts
 limits_in at (MonitorText monitored thresholds actions) = do
-  few ← fault_if Limit (at ++ codes ".thresholds") (nat_lt 16 (length thresholds) || not (is_within_limits (thresholds_value thresholds)))
-  at_most 16 (at ++ codes ".action") actions
+  few ← fault_if Limit (at ++ codes ".thresholds") (nat_lt limits.THRESHOLDS (length thresholds) || not (is_within_limits (thresholds_value thresholds)))
+  at_most limits.THRESHOLDS (at ++ codes ".action") actions
 limits_in at (ScheduleText script type times) =
-    fault_if Limit (at ++ codes ".times") (nat_lt 16 (length times) || not (is_within_limits (times_value times)))
+    fault_if Limit (at ++ codes ".times") (nat_lt limits.EXECUTION_TIMES (length times) || not (is_within_limits (times_value times)))
 limits_in at UnknownText = Ok tt
 
 unfoldable pub within_limits : ConfigText → Result ⊤ Fault
 within_limits c = do
-  clients ← at_most 16 (codes "client") c.clients
-  few ← at_most 512 (codes "object") c.objects
+  clients ← at_most limits.CLIENTS (codes "client") c.clients
+  few ← at_most limits.OBJECTS (codes "object") c.objects
   each (λ at o. limits_in at o.body) (codes "object") c.objects
 
 -- C17 A label on what is no cell, or a second one for a cell
@@ -312,7 +313,7 @@ judged c = do
   counts ← equal_counts c  -- C13
   scripts ← new_scripts c  -- C14
   executes ← no_executes c  -- C15
-  limits ← within_limits c  -- C16
+  sizes ← within_limits c  -- C16
   labels ← new_labels c  -- C17
   inputs ← fed_values c  -- C18
   times ← valid_times c  -- C19

@@ -7,18 +7,13 @@ use crate::class::ClassFault;
 use cosem_axdr::limits::is_encoded_within;
 use cosem_data::data::Data;
 use cosem_data::kind::Kind;
+use meter_theory::limits::{VALUE_BYTES, VALUE_LEVELS};
 
-/// The most bytes that a value in a cell may take when encoded, its tag included (own profile).
-pub const MOST_BYTES: usize = 1024;
-
-/// How deep a value that a cell may hold is nested at most (own profile).
-pub const MOST_LEVELS: u8 = 14;
-
-/// Whether a value keeps within the limits of a cell: `MOST_BYTES` when encoded, `MOST_LEVELS` of nesting (own profile).
+/// Whether a value keeps within the limits of a cell: `VALUE_BYTES` when encoded, `VALUE_LEVELS` of nesting (own profile).
 pub fn keeps_limits(value: &Data) -> bool
     ensures { result ≡ is_within_limits (tree value.now) }
 {
-    is_encoded_within(value, MOST_BYTES) && value.is_nested_within(MOST_LEVELS)
+    is_encoded_within(value, VALUE_BYTES) && value.is_nested_within(VALUE_LEVELS)
 }
 
 /// Whether a value may stand in a cell whose kind is kept (own profile). Another tag is `Kind`, and the right tag past the

@@ -11,6 +11,7 @@ use Rattle.cosem_data.specs.declared.name.LogicalName.{LogicalName}
 use Rattle.meter_theory.specs.Lists.{for_some}
 use Rattle.meter_theory.specs.Plan.{Plan, Object, ScriptTable, object_at}
 use Rattle.meter_theory.specs.Sound.{IsSound, has_part_sizes, has_script_sizes, has_action_sizes, is_name}
+use Rattle.meter_theory.specs.declared.limits.TheConstants as limits
 use Rattle.meter_theory.proofs.Agreement.{object-found}
 use Rattle.class_control.specs.ActionView.{action_of}
 use Rattle.class_control.specs.ScriptView.{script_of}
@@ -89,20 +90,20 @@ are_targets i o scripts start script is part starts = λ k action h.
     ∙ slice_get-map target (flat_map (λ s. map action_of s.actions.items) scripts) (start + k)
     ∙ ap (option_map target) (starts k action h)
 
-few-actions : (scripts : List Script) → list_all has_script_sizes (map script_of scripts) ≡ true → All (λ s. length s.actions.items ≤ 32) scripts
-few-actions [] h = All-nil (λ s. length s.actions.items ≤ 32)
+few-actions : (scripts : List Script) → list_all has_script_sizes (map script_of scripts) ≡ true → All (λ s. length s.actions.items ≤ limits.ACTIONS) scripts
+few-actions [] h = All-nil (λ s. length s.actions.items ≤ limits.ACTIONS)
 few-actions (s ∷ scripts) h =
     let parts = and_parts (has_script_sizes (script_of s)) (list_all has_script_sizes (map script_of scripts)) h in
-    let few = leb-true (length (map action_of s.actions.items)) 32 (and_parts (nat_le (length (map action_of s.actions.items)) 32) (list_all has_action_sizes (map action_of s.actions.items)) parts.0).0 in
-    All-cons (λ s. length s.actions.items ≤ 32) s scripts (omega (arith, few, length-map s.actions.items action_of)) (few-actions scripts parts.1)
+    let few = leb-true (length (map action_of s.actions.items)) limits.ACTIONS (and_parts (nat_le (length (map action_of s.actions.items)) limits.ACTIONS) (list_all has_action_sizes (map action_of s.actions.items)) parts.0).0 in
+    All-cons (λ s. length s.actions.items ≤ limits.ACTIONS) s scripts (omega (arith, few, length-map s.actions.items action_of)) (few-actions scripts parts.1)
 
 -- a table of a sound plan has few scripts, of few actions
 pub are_few : (P : Plan) (n : LogicalName) (o : Object) (scripts : List Script) → IsSound P → Some o ≡ object_at P n → o.part ≡ ScriptTable (map script_of scripts) → AreFew scripts
 are_few P n o scripts sound is part =
     let sizes = and_parts (is_name o.name) (has_part_sizes o.part) (sound.sizes o (object-found P n o (sym is)).0) in
-    let parts = and_parts (nat_le (length (map script_of scripts)) 64) (list_all has_script_sizes (map script_of scripts)) (ap has_part_sizes (sym part) ∙ sizes.1) in
+    let parts = and_parts (nat_le (length (map script_of scripts)) limits.SCRIPTS) (list_all has_script_sizes (map script_of scripts)) (ap has_part_sizes (sym part) ∙ sizes.1) in
     record {
-      few = omega (arith, leb-true (length (map script_of scripts)) 64 parts.0, length-map scripts script_of);
+      few = omega (arith, leb-true (length (map script_of scripts)) limits.SCRIPTS parts.0, length-map scripts script_of);
       short = few-actions scripts parts.1;
     }
 

@@ -4,6 +4,7 @@ use Rattle.meter_theory.specs.declared.refs.ScriptRef.{ScriptRef}
 use Rattle.meter_theory.specs.Plan.{Plan, Action, object_at}
 use Rattle.meter_theory.specs.Plan as theory
 use Rattle.meter_theory.specs.Steps.{scripts_of}
+use Rattle.meter_theory.specs.declared.limits.TheConstants as limits
 use Rattle.class_control.specs.ActionView.{action_of}
 use Rattle.class_control.specs.declared.script.Script.{Script}
 use Rattle.object_model.specs.InstanceView.{AtName}
@@ -20,8 +21,8 @@ AreTargets i start actions =
 
 -- as many scripts and actions as the limits allow: own profile
 pub record AreFew (scripts : List Script) : Type 0 where
-  pub few : length scripts ≤ 64
-  pub short : All (λ s. length s.actions.items ≤ 32) scripts
+  pub few : length scripts ≤ limits.SCRIPTS
+  pub short : All (λ s. length s.actions.items ≤ limits.ACTIONS) scripts
 
 -- among the actions of the scripts those of this one begin at this place: own profile
 abbrev pub StartsAt : List Script → ℕ → Script → Type 0

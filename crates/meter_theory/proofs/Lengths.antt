@@ -16,6 +16,7 @@ use Rattle.cosem_data.specs.declared.name.LogicalName.{LogicalName}
 use Rattle.cosem_data.specs.declared.cell.CellRef.{CellRef}
 use Rattle.cosem_data.specs.declared.kind.Kind.TheVariants.{DoubleLongUnsigned}
 use Rattle.meter_theory.specs.Lists.{IsIn}
+use Rattle.meter_theory.specs.declared.limits.TheConstants as limits
 use Rattle.meter_theory.specs.Value.{Rule, OfKind, Thresholds, ExecutionTimes, array_of, structure_of, elements, counter, valid_tag, valid_elements, is_within_limits, meets}
 use Rattle.meter_theory.specs.Times.{parts_of}
 use Rattle.meter_theory.specs.Selection.{EntryDescriptor, places_between, columns_of, entries_of}
@@ -65,7 +66,7 @@ name_writable n h = let six : length n.0 ≡ 6 = eqb-true (length n.0) 6 h in om
 -- what is within the limits
 small_writable : (v : Tree) → is_within_limits v ≡ true → HasLengths v
 small_writable v h =
-    small_has_lengths v 1024 (leb-true (length (canonical v)) 1024 (and_parts (nat_le (length (canonical v)) 1024) (nat_le (depth v) 14) h).0) (lit< tt)
+    small_has_lengths v limits.VALUE_BYTES (leb-true (length (canonical v)) limits.VALUE_BYTES (and_parts (nat_le (length (canonical v)) limits.VALUE_BYTES) (nat_le (depth v) limits.VALUE_LEVELS) h).0) (lit< tt)
 
 meeting_writable : (rule : Rule) (v : Tree) → meets rule v ≡ true → HasLengths v
 meeting_writable rule v h =
@@ -89,8 +90,8 @@ action_writable (Invoke m parameter) h =
 
 script_writable : (s : Script) → has_script_sizes s ≡ true → HasLengths (script_value s)
 script_writable s h =
-    let both = and_parts (nat_le (length s.actions) 32) (list_all has_action_sizes s.actions) h in
-    (lit< tt, (tt, (map_writable action_value s.actions 32 (leb-true (length s.actions) 32 both.0) (lit< tt) (λ a i. action_writable a (all_at has_action_sizes s.actions a both.1 i)), tt)))
+    let both = and_parts (nat_le (length s.actions) limits.ACTIONS) (list_all has_action_sizes s.actions) h in
+    (lit< tt, (tt, (map_writable action_value s.actions limits.ACTIONS (leb-true (length s.actions) limits.ACTIONS both.0) (lit< tt) (λ a i. action_writable a (all_at has_action_sizes s.actions a both.1 i)), tt)))
 
 up_down_writable : (a : UpDown) → (is_name a.up.table && is_name a.down.table) ≡ true → HasLengths (up_down_value a)
 up_down_writable a h =
@@ -108,23 +109,23 @@ part_writable (Data1 start) h index = tt
 part_writable (Register start default scaler_unit) h index =
     either_writable (index == 3) _ null_data (λ e. (lit< tt, (tt, (tt, tt)))) tt
 part_writable (ProfileGeneric captured period entries) h index =
-    let a = and_parts (nat_le (length captured) 32) (list_all (λ x. is_name x.name) captured && (nat_le 1 entries && nat_le entries 1000)) h in
-    let b = and_parts (list_all (λ x. is_name x.name) captured) (nat_le 1 entries && nat_le entries 1000) a.1 in
+    let a = and_parts (nat_le (length captured) limits.CAPTURE_OBJECTS) (list_all (λ x. is_name x.name) captured && (nat_le 1 entries && nat_le entries limits.PROFILE_ENTRIES)) h in
+    let b = and_parts (list_all (λ x. is_name x.name) captured) (nat_le 1 entries && nat_le entries limits.PROFILE_ENTRIES) a.1 in
     either_writable (index == 3) (array_of (map capture_object captured)) _
-    (λ e. map_writable capture_object captured 32 (leb-true (length captured) 32 a.0) (lit< tt) (λ x i. capture_writable x (all_at (λ z. is_name z.name) captured x b.0 i)))
+    (λ e. map_writable capture_object captured limits.CAPTURE_OBJECTS (leb-true (length captured) limits.CAPTURE_OBJECTS a.0) (lit< tt) (λ x i. capture_writable x (all_at (λ z. is_name z.name) captured x b.0 i)))
     (either_writable (index == 5) (enumerated 1) _ (λ e. tt)
     (either_writable (index == 6) _ _ (λ e. (lit< tt, (tt, (lit< tt, (tt, (tt, tt))))))
     (either_writable (index == 8) (counter entries) null_data (λ e. tt) tt)))
 part_writable (ScriptTable scripts) h index =
-    let a = and_parts (nat_le (length scripts) 64) (list_all has_script_sizes scripts) h in
+    let a = and_parts (nat_le (length scripts) limits.SCRIPTS) (list_all has_script_sizes scripts) h in
     either_writable (index == 2) (array_of (map script_value scripts)) null_data
-    (λ e. map_writable script_value scripts 64 (leb-true (length scripts) 64 a.0) (lit< tt) (λ s i. script_writable s (all_at has_script_sizes scripts s a.1 i))) tt
+    (λ e. map_writable script_value scripts limits.SCRIPTS (leb-true (length scripts) limits.SCRIPTS a.0) (lit< tt) (λ s i. script_writable s (all_at has_script_sizes scripts s a.1 i))) tt
 part_writable (RegisterMonitor monitored th actions) h index =
-    let a = and_parts (is_name monitored.name) (nat_le (length actions) 16 && list_all (λ u. is_name u.up.table && is_name u.down.table) actions) h in
-    let b = and_parts (nat_le (length actions) 16) (list_all (λ u. is_name u.up.table && is_name u.down.table) actions) a.1 in
+    let a = and_parts (is_name monitored.name) (nat_le (length actions) limits.THRESHOLDS && list_all (λ u. is_name u.up.table && is_name u.down.table) actions) h in
+    let b = and_parts (nat_le (length actions) limits.THRESHOLDS) (list_all (λ u. is_name u.up.table && is_name u.down.table) actions) a.1 in
     either_writable (index == 3) _ _ (λ e. (lit< tt, (tt, (name_writable monitored.name a.0, (tt, tt)))))
     (either_writable (index == 4) (array_of (map up_down_value actions)) null_data
-    (λ e. map_writable up_down_value actions 16 (leb-true (length actions) 16 b.0) (lit< tt) (λ u i. up_down_writable u (all_at (λ z. is_name z.up.table && is_name z.down.table) actions u b.1 i))) tt)
+    (λ e. map_writable up_down_value actions limits.THRESHOLDS (leb-true (length actions) limits.THRESHOLDS b.0) (lit< tt) (λ u i. up_down_writable u (all_at (λ z. is_name z.up.table && is_name z.down.table) actions u b.1 i))) tt)
 part_writable (SingleActionSchedule script type times) h index =
     either_writable (index == 2) _ _ (λ e. (lit< tt, (name_writable script.table h, (tt, tt))))
     (either_writable (index == 3) (enumerated type) null_data (λ e. tt) tt)
@@ -224,14 +225,14 @@ values_writable P (x ∷ xs) (v ∷ vs) h =
     let rest = values_writable P xs vs h.1 in
     (ap suc rest.0, λ t i. elim i [ inl e ↦ subst HasLengths (sym e) (captured_writable P x v h.0) | inr j ↦ rest.1 t j ])
 
-rows_writable : (P : Plan) (captured : List CellRef) → length captured ≤ 32 → (rows : List Tree) → AreRows P captured rows → AllWritable rows
+rows_writable : (P : Plan) (captured : List CellRef) → length captured ≤ limits.CAPTURE_OBJECTS → (rows : List Tree) → AreRows P captured rows → AllWritable rows
 rows_writable P captured few [] h t i = absurd i
 rows_writable P captured few (row ∷ rows) h t (inl e) =
     let values = values_writable P captured h.0.0 h.0.2 in
     subst HasLengths (sym (e ∙ h.0.1)) (structure_writable h.0.0 (let f = values.0 in omega (arith, f)) values.1)
 rows_writable P captured few (row ∷ rows) h t (inr i) = rows_writable P captured few rows h.1 t i
 
-buffer_writable : (P : Plan) (captured : List CellRef) (entries : ℕ) (v : Tree) → length captured ≤ 32 → entries ≤ 1000 → IsBuffer P captured entries v → HasLengths v
+buffer_writable : (P : Plan) (captured : List CellRef) (entries : ℕ) (v : Tree) → length captured ≤ limits.CAPTURE_OBJECTS → entries ≤ limits.PROFILE_ENTRIES → IsBuffer P captured entries v → HasLengths v
 buffer_writable P captured entries v few small h =
     subst HasLengths (sym h.1) (array_writable h.0 (let f = h.2 in omega (arith, f)) (rows_writable P captured few h.0 h.3))
 
@@ -279,12 +280,12 @@ cell_writable P sound s k x i =
         of_part (Register start default scaler_unit) h (inl e) = ruled (register_value o.name) (OfKind (kind_of start)) (ap (λ z. z.0) e) (rule_at o (Register start default scaler_unit) h is 2)
         of_part (Register start default scaler_unit) h (inr none) = absurd none
         of_part (ProfileGeneric captured period entries) h (inl e) =
-            let a = and_parts (nat_le (length captured) 32) (list_all (λ z. is_name z.name) captured && (nat_le 1 entries && nat_le entries 1000)) (sizes (ProfileGeneric captured period entries) h) in
-            let b = and_parts (list_all (λ z. is_name z.name) captured) (nat_le 1 entries && nat_le entries 1000) a.1 in
-            let d = and_parts (nat_le 1 entries) (nat_le entries 1000) b.1 in
+            let a = and_parts (nat_le (length captured) limits.CAPTURE_OBJECTS) (list_all (λ z. is_name z.name) captured && (nat_le 1 entries && nat_le entries limits.PROFILE_ENTRIES)) (sizes (ProfileGeneric captured period entries) h) in
+            let b = and_parts (list_all (λ z. is_name z.name) captured) (nat_le 1 entries && nat_le entries limits.PROFILE_ENTRIES) a.1 in
+            let d = and_parts (nat_le 1 entries) (nat_le entries limits.PROFILE_ENTRIES) b.1 in
             let held : Holds P s o.name (ProfileGeneric captured period entries) = subst (Holds P s o.name) h (k.inner o there) in
             subst (λ z. HasLengths (value s z)) (sym (ap (λ z. z.0) e))
-            (buffer_writable P captured entries (value s (buffer o.name)) (leb-true (length captured) 32 a.0) (leb-true entries 1000 d.1) held.0)
+            (buffer_writable P captured entries (value s (buffer o.name)) (leb-true (length captured) limits.CAPTURE_OBJECTS a.0) (leb-true entries limits.PROFILE_ENTRIES d.1) held.0)
         of_part (ProfileGeneric captured period entries) h (inr (inl e)) = ruled (capture_period o.name) (OfKind DoubleLongUnsigned) (ap (λ z. z.0) e) (rule_at o (ProfileGeneric captured period entries) h is 4)
         of_part (ProfileGeneric captured period entries) h (inr (inr (inl e))) =
             let held : Holds P s o.name (ProfileGeneric captured period entries) = subst (Holds P s o.name) h (k.inner o there) in

@@ -16,6 +16,7 @@ use Rattle.meter_theory.specs.Steps.{scripts_of, Captures, captures_in}
 use Rattle.meter_theory.specs.Sound.{IsWrite, IsCapturable, IsSoundPart, IsSound, writes_some, is_write, is_call, all_actions, have_script_numbers, captured_in, is_capturable, captures_cells, has_references, scripts_run_by, has_script, is_right, is_kind_rule, is_sound_part, has_sizes, has_sap, fits_some, is_sized, is_started, is_sound}
 use Rattle.meter_theory.proofs.Lists.{any_in, distinct_from}
 use Rattle.meter_theory.proofs.Theorem.{all_at, is_cell_in}
+use Rattle.meter_theory.specs.declared.limits.TheConstants as limits
 
 write_from : (P : Plan) (x : CellRef) (v : Tree) → is_write P (Write x v) ≡ true → IsWrite P x v
 write_from P x v h =
@@ -85,15 +86,15 @@ sound_from P h =
     let calls = and_parts (all_actions (is_call P) P.objects) _ writes.1 in
     let numbers = and_parts (have_script_numbers P.objects) _ calls.1 in
     let runs = and_parts (list_all (λ o. list_all (has_script P) (scripts_run_by o.part)) P.objects) _ numbers.1 in
-    let few_clients = and_parts (nat_le (length P.clients) 16) _ sized.0 in
-    let few_objects = and_parts (nat_le (length P.objects) 512) _ few_clients.1 in
+    let few_clients = and_parts (nat_le (length P.clients) limits.CLIENTS) _ sized.0 in
+    let few_objects = and_parts (nat_le (length P.objects) limits.OBJECTS) _ few_clients.1 in
     let sizes = and_parts (list_all has_sizes P.objects) _ few_objects.1 in
     let saps = and_parts (list_all has_sap P.clients) _ sizes.1 in
     record {
       names = distinct_from same_name same_name-from (map (λ o. o.name) P.objects) named.0;
       apart = λ o i. not-true (same_name o.name association_name) (all_at (λ z. not (same_name z.name association_name)) P.objects o saps.1 i);
-      few_clients = leb-true (length P.clients) 16 few_clients.0;
-      few_objects = leb-true (length P.objects) 512 few_objects.0;
+      few_clients = leb-true (length P.clients) limits.CLIENTS few_clients.0;
+      few_objects = leb-true (length P.objects) limits.OBJECTS few_objects.0;
       sizes = λ o i. all_at has_sizes P.objects o sizes.0 i;
       saps = λ client i. all_at has_sap P.clients client saps.0 i;
       rights = λ r i. all_at (is_right P) P.rights r granted.0 i;

@@ -25,6 +25,7 @@ use Rattle.meter_theory.proofs.State.{value_missing, is_touched}
 use Rattle.meter_theory.proofs.Agreement.{AreQuiet, next-keys, not_both}
 use Rattle.meter_theory.proofs.StepsAgree.{StepLaws}
 use Rattle.meter_theory.proofs.Rights.{client-changes, get_allowed, get_class, when, in_given}
+use Rattle.meter_theory.specs.declared.limits.TheConstants as limits
 
 -- Sets of clients
 
@@ -42,15 +43,15 @@ all_from test [] h = refl
 all_from test (x ∷ xs) h = and_from (test x) (list_all test xs) (h x (inl refl)) (all_from test xs (λ y i. h y (inr i)))
 
 -- a client past the sixteen places is in no set
-outside_range : (cs : ClientSet) (c : ℕ) → 16 ≤ c → has cs c ≡ false
+outside_range : (cs : ClientSet) (c : ℕ) → limits.CLIENTS ≤ c → has cs c ≡ false
 outside_range cs c high = none_above cs.mask c cs.in_range high
 
 pub within_has : (cs ds : ClientSet) → within cs ds ≡ true → (c : ℕ) → has cs c ≡ true → has ds c ≡ true
 unfolding within
 within_has cs ds h c i =
-    elim (nat_lt c 16) as (λ b. nat_lt c 16 ≡ b → has ds c ≡ true) [
-      | true ↦ λ low. one (all_at (λ k. not (has cs k) || has ds k) (range_with_len 0 16) c h (in_range 0 16 c (omega arith) (ltb-true c 16 low)))
-      | false ↦ λ high. not_both (has cs c) i (outside_range cs c (ltb-false c 16 high))
+    elim (nat_lt c limits.CLIENTS) as (λ b. nat_lt c limits.CLIENTS ≡ b → has ds c ≡ true) [
+      | true ↦ λ low. one (all_at (λ k. not (has cs k) || has ds k) (range_with_len 0 limits.CLIENTS) c h (in_range 0 limits.CLIENTS c (omega arith) (ltb-true c limits.CLIENTS low)))
+      | false ↦ λ high. not_both (has cs c) i (outside_range cs c (ltb-false c limits.CLIENTS high))
     ] refl
   where
     one : (not (has cs c) || has ds c) ≡ true → has ds c ≡ true
@@ -62,7 +63,7 @@ within_has cs ds h c i =
 
 pub within_from : (cs ds : ClientSet) → ((c : ℕ) → has cs c ≡ true → has ds c ≡ true) → within cs ds ≡ true
 unfolding within
-within_from cs ds h = all_from (λ k. not (has cs k) || has ds k) (range_with_len 0 16) (λ c i. at c (has cs c) refl)
+within_from cs ds h = all_from (λ k. not (has cs k) || has ds k) (range_with_len 0 limits.CLIENTS) (λ c i. at c (has cs c) refl)
   where
     at : (c : ℕ) (b : Bool) → has cs c ≡ b → (not b || has ds c) ≡ true
     at c true p = h c p

@@ -5,6 +5,7 @@ use Rattle.std.proofs.Common.{lit<}
 use Rattle.cosem_data.specs.declared.clients.ClientSet.{ClientSet}
 use Rattle.cosem_data.specs.Clients.{has_client}
 use Rattle.meter_theory.specs.Lists.{IsIn, for_some}
+use Rattle.meter_theory.specs.declared.limits.TheConstants as limits
 use Rattle.cosem_data.specs.declared.cell.CellRef.{CellRef}
 use Rattle.cosem_data.specs.Cells.{same_cell}
 use Rattle.meter_theory.specs.Plan.{Plan, Object, Script, Part, ScriptTable, RegisterMonitor, object_at, cells}
@@ -19,7 +20,7 @@ has cs c = has_client cs c
 
 -- each client of the one set is in the other
 unfoldable pub within : ClientSet → ClientSet → Bool
-within cs ds = list_all (λ c. not (has cs c) || has ds c) (range_with_len 0 16)
+within cs ds = list_all (λ c. not (has cs c) || has ds c) (range_with_len 0 limits.CLIENTS)
 
 abbrev pub nobody : ClientSet
 nobody = record { mask = 0; in_range = lit< tt }

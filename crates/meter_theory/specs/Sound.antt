@@ -8,6 +8,7 @@ use Rattle.cosem_data.specs.declared.kind.Kind.{Kind}
 use Rattle.cosem_data.specs.declared.name.LogicalName.{LogicalName}
 use Rattle.cosem_data.specs.declared.cell.CellRef.{CellRef}
 use Rattle.cosem_data.specs.declared.cell.MethodRef.{MethodRef}
+use Rattle.meter_theory.specs.declared.limits.TheConstants as limits
 use Rattle.meter_theory.specs.declared.refs.ScriptRef.{ScriptRef}
 use Rattle.meter_theory.specs.Lists.{IsIn, AreDistinct, are_distinct, some_passes}
 use Rattle.meter_theory.specs.Value.{Rule, OfKind, meets, is_within_limits}
@@ -46,16 +47,16 @@ has_action_sizes (Write x v) = is_name x.name && is_within_limits v
 has_action_sizes (Invoke m parameter) = is_name m.name && is_within_limits parameter
 
 abbrev pub has_script_sizes : Script → Bool
-has_script_sizes s = nat_le (length s.actions) 32 && list_all has_action_sizes s.actions
+has_script_sizes s = nat_le (length s.actions) limits.ACTIONS && list_all has_action_sizes s.actions
 
 -- as many parts as the limits allow (own profile), and names of six bytes
 abbrev pub has_part_sizes : Part → Bool
 has_part_sizes (ProfileGeneric captured period entries) =
-    nat_le (length captured) 32 && (list_all (λ x. is_name x.name) captured && (nat_le 1 entries && nat_le entries 1000))
-has_part_sizes (ScriptTable scripts) = nat_le (length scripts) 64 && list_all has_script_sizes scripts
+    nat_le (length captured) limits.CAPTURE_OBJECTS && (list_all (λ x. is_name x.name) captured && (nat_le 1 entries && nat_le entries limits.PROFILE_ENTRIES))
+has_part_sizes (ScriptTable scripts) = nat_le (length scripts) limits.SCRIPTS && list_all has_script_sizes scripts
 has_part_sizes (RegisterMonitor monitored th actions) =
     is_name monitored.name
-    && (nat_le (length actions) 16 && list_all (λ a. is_name a.up.table && is_name a.down.table) actions)
+    && (nat_le (length actions) limits.THRESHOLDS && list_all (λ a. is_name a.up.table && is_name a.down.table) actions)
 has_part_sizes (SingleActionSchedule script type times) = is_name script.table
 has_part_sizes _ = true
 
@@ -102,8 +103,8 @@ pub record IsSound (P : Plan) : Type 0 where
   -- and none has that of the current association
   pub apart : (o : Object) → IsIn P.objects o → same_name o.name association_name ≡ false
   -- the limits on numbers of clients, objects and parts
-  pub few_clients : length P.clients ≤ 16
-  pub few_objects : length P.objects ≤ 512
+  pub few_clients : length P.clients ≤ limits.CLIENTS
+  pub few_objects : length P.objects ≤ limits.OBJECTS
   pub sizes : (o : Object) → IsIn P.objects o → has_sizes o ≡ true
   pub saps : (client : Client) → IsIn P.clients client → has_sap client ≡ true
   -- each right is a client's of the plan, on what an object of it has
@@ -169,8 +170,8 @@ is_sound_part P _ = true
 -- the limits, and that no object is named as the current association
 abbrev pub is_sized : Plan → Bool
 is_sized P =
-    nat_le (length P.clients) 16
-    && (nat_le (length P.objects) 512
+    nat_le (length P.clients) limits.CLIENTS
+    && (nat_le (length P.objects) limits.OBJECTS
     && (list_all has_sizes P.objects
     && (list_all has_sap P.clients
     && list_all (λ o. not (same_name o.name association_name)) P.objects)))

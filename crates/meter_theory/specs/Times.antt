@@ -5,6 +5,7 @@ use Rattle.std.specs.List.{list_all, list_any}
 use Rattle.std.specs.Str.{bytes_eq}
 use Rattle.jiff_core.specs.Calendar.{days_from_civil, days_in_month, weekday_number, IsCivilDate}
 use Rattle.cosem_data.specs.Tree.{Tree, null_data, structure, octet_string, parts}
+use Rattle.meter_theory.specs.declared.limits.TheConstants as limits
 
 -- a civil date and a time of day, in whole seconds
 pub record Moment : Type 0 where
@@ -112,9 +113,9 @@ abbrev pub are_equal_times : List Tree → Bool
 are_equal_times [] = true
 are_equal_times (v ∷ vs) = list_all (λ w. bytes_eq (time_bytes v) (time_bytes w)) vs
 
--- how many elements a type allows (own profile: at most 16)
+-- how many elements a type allows (own profile: a limit)
 abbrev pub is_number_for : ℕ → ℕ → Bool
-is_number_for type number = cond (type == 1) (number == 1) (nat_le number 16)
+is_number_for type number = cond (type == 1) (number == 1) (nat_le number limits.EXECUTION_TIMES)
 
 -- types 2 and 3 ask for one time of day
 abbrev pub is_time_for : ℕ → List Tree → Bool

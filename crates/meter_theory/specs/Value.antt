@@ -6,6 +6,7 @@ use Rattle.cosem_data.specs.Kinds.{kind_of, same_kind}
 use Rattle.cosem_data.specs.declared.kind.Kind.{Kind}
 use Rattle.cosem_data.specs.declared.kind.Kind.TheVariants.{Array}
 use Rattle.cosem_axdr.specs.Canonical.{canonical}
+use Rattle.meter_theory.specs.declared.limits.TheConstants as limits
 use Rattle.meter_theory.specs.Times.{are_execution_times}
 
 abbrev pub array_of : List Tree → Tree
@@ -27,9 +28,9 @@ count_of _ = 0
 abbrev pub counter : ℕ → Tree
 counter n = double_long_unsigned n
 
--- At most 1,024 bytes when encoded, nested at most 14 deep (own profile).
+-- no more bytes when encoded than a limit, and nested no deeper (own profile)
 abbrev pub is_within_limits : Tree → Bool
-is_within_limits v = nat_le (length (canonical v)) 1024 && nat_le (depth v) 14
+is_within_limits v = nat_le (length (canonical v)) limits.VALUE_BYTES && nat_le (depth v) limits.VALUE_LEVELS
 
 -- What may stand in a settable cell.
 pub data Rule : Type 0 where

@@ -9,4 +9,5 @@
 
 pub mod access;
 pub mod laws;
+pub mod limits;
 pub mod refs;

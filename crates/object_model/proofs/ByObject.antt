@@ -14,6 +14,7 @@ use Rattle.meter_theory.specs.State.{State, keys, value}
 use Rattle.meter_theory.specs.Plan.{Plan, Object, Part, Data1, Register, ProfileGeneric, ScriptTable, RegisterMonitor, SingleActionSchedule, start, start_of, is_cell, object_at, buffer, capture_period, entries_in_use, thresholds, seen}
 use Rattle.meter_theory.specs.Lists.{IsIn}
 use Rattle.meter_theory.specs.Sound.{IsSound}
+use Rattle.meter_theory.specs.declared.limits.TheConstants.{OBJECTS}
 use Rattle.meter_theory.proofs.Lists.{none_found}
 use Rattle.meter_theory.proofs.Agreement.{object-found, one_named}
 
@@ -218,7 +219,7 @@ unnumbered (o ∷ os) name start h = at (λ g. unnumbered os name (start + 1) g)
     at later true g = cc
     at later false g = later g
 
-pub few-names : (names : List LogicalName) (os : List Object) → names ≡ map (λ o. o.name) os → length os ≤ 512 → length names < 2 ^ 10
+pub few-names : (names : List LogicalName) (os : List Object) → names ≡ map (λ o. o.name) os → length os ≤ OBJECTS → length names < 2 ^ 10
 few-names names os e h = let same : length names ≡ length os = ap length e ∙ simp length-map in omega arith
 
 -- what stands at the place of a name is what is found

@@ -14,6 +14,7 @@ use Rattle.cosem_data.proofs.Same.{same_name-true, same_name-from}
 use Rattle.meter_theory.specs.Lists.{IsIn}
 use Rattle.meter_theory.specs.Plan.{Right}
 use Rattle.meter_theory.specs.Rights.{lists}
+use Rattle.meter_theory.specs.declared.limits.TheConstants.{CLIENTS}
 use Rattle.object_model.specs.declared.right.Access.{Access}
 use Rattle.object_model.specs.Index.{name_at}
 use Rattle.object_model.specs.Grants.{listed, has_bit, granted_at, grants, AreMasksOf}
@@ -88,7 +89,7 @@ at-position (n ∷ ns) name start p h = at (λ g. at-position ns name (start + 1
 
 pub one-more : (names : List LogicalName) (access : Access) (rights : List Right) (masks : List ℕ) (i : ℕ) (r : Right) (k mask at : ℕ) →
     i < length rights → r ≡ get_or rights i r → AreMasksOf names access (take i rights) masks → Some k ≡ position_from (λ n. same_name n r.object) 0 names →
-    r.client < 16 → ((j : ℕ) → lists (listed access r) j ≡ has_bit mask j) → at ≡ k * 16 + r.client →
+    r.client < CLIENTS → ((j : ℕ) → lists (listed access r) j ≡ has_bit mask j) → at ≡ k * CLIENTS + r.client →
     AreMasksOf names access (take (i + 1) rights) (set masks at (bit_or (get_or masks at 0) mask))
 one-more names access rights masks i r k mask at h is before found small listed_is here = record {
   size = simp length-set before.size;
@@ -108,12 +109,12 @@ one-more names access rights masks i r k mask at h is before found small listed_
     written : get_or after at 0 ≡ bit_or (get_or masks at 0) mask
     written = get_or-set_same masks at (bit_or (get_or masks at 0) mask) 0 (omega (arith, before.size, stands.1, stands.2))
 
-    apart : (m c j : ℕ) → (c < 16 → m * 16 + c ≢ at) → (nat_lt c 16 && has_bit (get_or masks (m * 16 + c) 0) j) ≡ (nat_lt c 16 && has_bit (get_or after (m * 16 + c) 0) j)
-    apart m c j other = by (cases_lt c 16)
+    apart : (m c j : ℕ) → (c < CLIENTS → m * CLIENTS + c ≢ at) → (nat_lt c CLIENTS && has_bit (get_or masks (m * CLIENTS + c) 0) j) ≡ (nat_lt c CLIENTS && has_bit (get_or after (m * CLIENTS + c) 0) j)
+    apart m c j other = by (cases_lt c CLIENTS)
       where
-        by : (c < 16) ⊎ (16 ≤ c) → (nat_lt c 16 && has_bit (get_or masks (m * 16 + c) 0) j) ≡ (nat_lt c 16 && has_bit (get_or after (m * 16 + c) 0) j)
-        by (inl low) = ap (λ z. nat_lt c 16 && has_bit z j) (sym (get_or-set_other masks at (m * 16 + c) (bit_or (get_or masks at 0) mask) 0 (other low)))
-        by (inr high) = ap (λ b. b && has_bit (get_or masks (m * 16 + c) 0) j) (lt_not c 16 high) ∙ sym (ap (λ b. b && has_bit (get_or after (m * 16 + c) 0) j) (lt_not c 16 high))
+        by : (c < CLIENTS) ⊎ (CLIENTS ≤ c) → (nat_lt c CLIENTS && has_bit (get_or masks (m * CLIENTS + c) 0) j) ≡ (nat_lt c CLIENTS && has_bit (get_or after (m * CLIENTS + c) 0) j)
+        by (inl low) = ap (λ z. nat_lt c CLIENTS && has_bit z j) (sym (get_or-set_other masks at (m * CLIENTS + c) (bit_or (get_or masks at 0) mask) 0 (other low)))
+        by (inr high) = ap (λ b. b && has_bit (get_or masks (m * CLIENTS + c) 0) j) (lt_not c CLIENTS high) ∙ sym (ap (λ b. b && has_bit (get_or after (m * CLIENTS + c) 0) j) (lt_not c CLIENTS high))
 
     core : (name : LogicalName) (c j : ℕ) (q : Option ℕ) → position_from (λ n. same_name n name) 0 names ≡ q →
         (granted_at masks q c j || grants access name c j r) ≡ granted_at after q c j
@@ -130,15 +131,15 @@ one-more names access rights masks i r k mask at h is before found small listed_
         other = at-position names name 0 m (sym e)
 
         by : (a : Bool) → (r.client == c) ≡ a → (b : Bool) → same_name r.object name ≡ b →
-            ((nat_lt c 16 && has_bit (get_or masks (m * 16 + c) 0) j) || ((a && b) && lists (listed access r) j)) ≡ (nat_lt c 16 && has_bit (get_or after (m * 16 + c) 0) j)
+            ((nat_lt c CLIENTS && has_bit (get_or masks (m * CLIENTS + c) 0) j) || ((a && b) && lists (listed access r) j)) ≡ (nat_lt c CLIENTS && has_bit (get_or after (m * CLIENTS + c) 0) j)
         by false d b s =
-            or_false (nat_lt c 16 && has_bit (get_or masks (m * 16 + c) 0) j)
+            or_false (nat_lt c CLIENTS && has_bit (get_or masks (m * CLIENTS + c) 0) j)
             ∙ apart m c j (λ low g. false≢true (sym d ∙ tested (omega (arith, g, here, small, low))))
           where
             tested : r.client ≡ c → (r.client == c) ≡ true
             tested g = grind (arith, nat_tests)
         by true d false s =
-            or_false (nat_lt c 16 && has_bit (get_or masks (m * 16 + c) 0) j)
+            or_false (nat_lt c CLIENTS && has_bit (get_or masks (m * CLIENTS + c) 0) j)
             ∙ apart m c j (λ low g. let same : m ≡ k = omega (arith, g, here, small, low) in
             false≢true (sym s ∙ same_name-from r.object name (sym stands.3 ∙ ap (name_at names) (omega (arith, stands.1, same, other.1)) ∙ other.3)))
         by true d true s =
@@ -146,15 +147,15 @@ one-more names access rights masks i r k mask at h is before found small listed_
             let named : r.object ≡ name = same_name-true r.object name s in
             let one : Some k ≡ Some m = found ∙ ap (λ z. position_from (λ n. same_name n z) 0 names) named ∙ e in
             let number : k ≡ m = cc in
-            let place : m * 16 + c ≡ at = omega (arith, mine, number, here) in
-            ap (λ t. (t && has_bit (get_or masks (m * 16 + c) 0) j) || lists (listed access r) j) (lt_is c 16 (omega (arith, mine, small)))
-            ∙ ap (λ t. has_bit (get_or masks (m * 16 + c) 0) j || t) (listed_is j)
-            ∙ sym (has_bit-or (get_or masks (m * 16 + c) 0) mask j)
+            let place : m * CLIENTS + c ≡ at = omega (arith, mine, number, here) in
+            ap (λ t. (t && has_bit (get_or masks (m * CLIENTS + c) 0) j) || lists (listed access r) j) (lt_is c CLIENTS (omega (arith, mine, small)))
+            ∙ ap (λ t. has_bit (get_or masks (m * CLIENTS + c) 0) j || t) (listed_is j)
+            ∙ sym (has_bit-or (get_or masks (m * CLIENTS + c) 0) mask j)
             ∙ ap (λ z. has_bit z j) (ap (λ z. bit_or (get_or masks z 0) mask) place ∙ sym written ∙ ap (λ z. get_or after z 0) (sym place))
-            ∙ sym (ap (λ t. t && has_bit (get_or after (m * 16 + c) 0) j) (lt_is c 16 (omega (arith, mine, small))))
+            ∙ sym (ap (λ t. t && has_bit (get_or after (m * CLIENTS + c) 0) j) (lt_is c CLIENTS (omega (arith, mine, small))))
 
-pub room : (names : List LogicalName) (name : LogicalName) (size : ℕ) (q : Option ℕ) → size ≡ length names * 16 → q ≡ position_from (λ n. same_name n name) 0 names →
-    IfSome q (λ k. k * 16 + 16 ≤ size)
+pub room : (names : List LogicalName) (name : LogicalName) (size : ℕ) (q : Option ℕ) → size ≡ length names * CLIENTS → q ≡ position_from (λ n. same_name n name) 0 names →
+    IfSome q (λ k. k * CLIENTS + CLIENTS ≤ size)
 room names name size None fits is = tt
 room names name size (Some k) fits is = let at = at-position names name 0 k is in omega (arith, at.1, at.2)
 

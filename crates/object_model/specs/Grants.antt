@@ -6,6 +6,7 @@ use Rattle.cosem_data.specs.Cells.{same_name}
 use Rattle.cosem_data.specs.declared.name.LogicalName.{LogicalName}
 use Rattle.meter_theory.specs.Plan.{Right}
 use Rattle.meter_theory.specs.Rights.{lists}
+use Rattle.meter_theory.specs.declared.limits.TheConstants as limits
 use Rattle.object_model.specs.declared.grants.Grants.{Grants}
 use Rattle.object_model.specs.declared.right.Access.{Access}
 use Rattle.object_model.specs.declared.right.Access.TheVariants.{View, Get, Set, Act}
@@ -25,10 +26,10 @@ place_in names name = position_from (λ n. same_name n name) 0 names
 abbrev pub has_bit : ℕ → ℕ → Bool
 has_bit mask index = nat_lt index 16 && (bit_at mask index == 1)
 
--- masks for sixteen clients an object, of which one is asked: own profile
+-- masks for as many clients an object as a meter has at most, of which one is asked: own profile
 abbrev pub granted_at : List ℕ → Option ℕ → ℕ → ℕ → Bool
 granted_at masks None client index = false
-granted_at masks (Some k) client index = nat_lt client 16 && has_bit (slice_index masks (k * 16 + client)) index
+granted_at masks (Some k) client index = nat_lt client limits.CLIENTS && has_bit (slice_index masks (k * limits.CLIENTS + client)) index
 
 -- what the masks grant a client on what has this name: own profile
 abbrev pub granted : List LogicalName → List ℕ → LogicalName → ℕ → ℕ → Bool
@@ -40,14 +41,14 @@ grants access name client index r = ((r.client == client) && same_name r.object 
 
 -- the masks have room for the right: own profile
 pub record HasRoom (names : List LogicalName) (r : Right) : Type 0 where
-  pub client : r.client < 16
+  pub client : r.client < limits.CLIENTS
   pub number : ℕ
   pub object : place_in names r.object ≡ Some number
   pub indexes : (access : Access) → All (λ i. i < 16) (listed access r)
 
 -- the masks say what the rights say: own profile
 pub record AreMasksOf (names : List LogicalName) (access : Access) (rights : List Right) (masks : List ℕ) : Type 0 where
-  pub size : length masks ≡ length names * 16
+  pub size : length masks ≡ length names * limits.CLIENTS
   pub agrees : (name : LogicalName) (client index : ℕ) → list_any (grants access name client index) rights ≡ granted names masks name client index
 
 -- the masks of an access: own profile

@@ -9,15 +9,13 @@ ghost use Rattle.object_model.specs.Grants.{granted_at, has_bit, masks_for, AreM
 use crate::index::Index;
 use crate::right::{Access, Right};
 use cosem_data::memory::Memory;
+use meter_theory::limits::CLIENTS;
 use std::alloc::Global;
-
-/// The clients that a mask is kept for.
-const CLIENTS: usize = 16;
 
 /// The indexes that a mask has.
 const INDEXES: u8 = 16;
 
-/// The masks of each access: for each object, and for each of sixteen clients, the indexes that are granted.
+/// The masks of each access: for each object, and for each of as many clients as a meter has at most, the indexes that are granted.
 #[derive(Drop)]
 pub(crate) struct Grants {
     pub(crate) views: Vec<u16>,
@@ -27,7 +25,7 @@ pub(crate) struct Grants {
 }
 
 impl Grants {
-    /// The masks of these rights, of clients below 16, on names of the index, and on indexes below 16.
+    /// The masks of these rights, of clients below `CLIENTS`, on names of the index, and on indexes below 16.
     pub(crate) fn new(alloc: Global, index: &Index, rights: &[Right]) -> Result<Grants, Memory>
         requires few { length index.now < 2 ^ 16 }
         requires room { (r : theory.Right) → IsIn rights.now r → HasRoom index.now r }
@@ -91,7 +89,7 @@ fn masks_of(
 
 /// Whether the masks grant this client this index of the object with this number.
 pub(crate) fn is_granted(masks: &[u16], object: Option<u16>, client: u8, index: u8) -> bool
-    requires { IfSome object (λ k. k * 16 + 16 ≤ length masks.now) }
+    requires { IfSome object (λ k. k * CLIENTS + CLIENTS ≤ length masks.now) }
     ensures { result ≡ granted_at masks.now object client index }
 {
     let Some(object) = object else {

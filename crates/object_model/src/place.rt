@@ -1,5 +1,6 @@
 //! Where the cells of a plan's objects stand.
 ghost use Rattle.std.specs.Prelude.{◌≡◌, ◌==◌, ◌<◌, ◌≤◌, ◌+◌, ◌^◌, length, cond, IfOk};
+ghost use Rattle.meter_theory.specs.declared.limits.TheConstants.{OBJECTS};
 ghost use Rattle.object_model.specs.Tables.{ArePlaces};
 
 use crate::object::Object;
@@ -34,9 +35,9 @@ impl Place {
     }
 }
 
-/// The places of objects, of which there are at most 512.
+/// The places of objects, of which there are at most `OBJECTS`.
 pub(crate) fn places_of(alloc: Global, objects: &[Object]) -> Result<Vec<Place>, Memory>
-    requires { length objects.now ≤ 512 }
+    requires { length objects.now ≤ OBJECTS }
     ensures { IfOk result (λ places. ArePlaces objects.now places.items) }
 {
     let mut places = Vec::with_capacity(alloc, objects.len())?;

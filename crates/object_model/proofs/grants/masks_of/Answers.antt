@@ -3,6 +3,7 @@ use Rattle.std.specs.Prelude.{slice_set, slice_index_or}
 use Rattle.std.proofs.lemmas.List.{get_or_default}
 use Rattle.std.proofs.lemmas.List.Elements.{All-get_or}
 use Rattle.meter_theory.specs.Rights.{lists}
+use Rattle.meter_theory.specs.declared.limits.TheConstants.{CLIENTS}
 use Rattle.object_model.specs.Grants.{place_in, listed, AreMasksOf}
 use Rattle.object_model.proofs.Granted.{one-more, at-position, item-in}
 use Rattle.object_model.proofs.grants.masks_of.Goals as goal
@@ -32,13 +33,13 @@ loop-right-preserved c =
     let found : Some c.in-Some.object ≡ place_in c.args.index.now c.right-item.result.object =
     sym c.in-Some.is ∙ c.find-found.ensures.found ∙ ap (place_in c.args.index.now) c.object.ensures in
     let at = at-position c.args.index.now c.right-item.result.object 0 c.in-Some.object found in
-    let within : c.from.result * 16 + c.from-in-loop-right.result < length c.loop-right.masks.items =
+    let within : c.from.result * CLIENTS + c.from-in-loop-right.result < length c.loop-right.masks.items =
     omega (arith, at.1, at.2, c.loop-right.invariant.size, c.from.ensures, c.from-in-loop-right.ensures, c.client.ensures, room.client) in
     subst (λ old. AreMasksOf c.args.index.now c.args.access (take (c.loop-right.right-index + 1) c.args.rights.now)
-    (slice_set c.loop-right.masks.items (c.from.result * 16 + c.from-in-loop-right.result) (bit_or old c.mask_of.result)))
-    (sym (c.index_mut.ensures.value ∙ get_or_default c.loop-right.masks.items (c.from.result * 16 + c.from-in-loop-right.result) c.index_mut.result.now 0 within))
+    (slice_set c.loop-right.masks.items (c.from.result * CLIENTS + c.from-in-loop-right.result) (bit_or old c.mask_of.result)))
+    (sym (c.index_mut.ensures.value ∙ get_or_default c.loop-right.masks.items (c.from.result * CLIENTS + c.from-in-loop-right.result) c.index_mut.result.now 0 within))
     (one-more c.args.index.now c.args.access c.args.rights.now c.loop-right.masks.items c.loop-right.right-index c.right-item.result
-    c.in-Some.object c.mask_of.result (c.from.result * 16 + c.from-in-loop-right.result) c.loop-right-test.true c.right-item.is c.loop-right.invariant found
+    c.in-Some.object c.mask_of.result (c.from.result * CLIENTS + c.from-in-loop-right.result) c.loop-right-test.true c.right-item.is c.loop-right.invariant found
     room.client
     (λ j. ap (λ xs. lists xs j) (sym c.listed.ensures) ∙ c.mask_of.ensures j)
     (omega (arith, c.client.ensures, c.from-in-loop-right.ensures, c.from.ensures)))
