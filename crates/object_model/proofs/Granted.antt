@@ -6,7 +6,7 @@ use Rattle.std.proofs.lemmas.Bool.{false≢true, cases_lt}
 use Rattle.std.proofs.lemmas.Bool.Decides.{nat_tests}
 use Rattle.std.proofs.lemmas.List.{get_or-set_same, get_or-set_other}
 use Rattle.std.proofs.lemmas.List.Folds.{list_any_more}
-use Rattle.std.proofs.lemmas.Nat.Bits.{bit_at_or, bit_at-lt, bit_at_set_same, bit_at_set_other, bit_at-zero}
+use Rattle.std.proofs.lemmas.Nat.Bits.{bit_at_or, bit_at-lt, bit_at_set_same, bit_at_set_other}
 use Rattle.std.proofs.Math.ListN.{length-set}
 use Rattle.cosem_data.specs.Cells.{same_name}
 use Rattle.cosem_data.specs.declared.name.LogicalName.{LogicalName}
@@ -36,13 +36,6 @@ lt_is i n h = grind (arith, nat_tests)
 
 lt_not : (i n : ℕ) → n ≤ i → nat_lt i n ≡ false
 lt_not i n h = grind (arith, nat_tests)
-
-pub no_bits : (i : ℕ) → has_bit 0 i ≡ false
-no_bits i = at (nat_lt i 16)
-  where
-    at : (b : Bool) → (b && (bit_at 0 i == 1)) ≡ false
-    at true = ap (λ n. n == 1) (bit_at-zero i)
-    at false = refl
 
 ored : (x y : ℕ) → x < 2 → y < 2 → (max x y == 1) ≡ ((x == 1) || (y == 1))
 ored x y h g = grind (arith, nat_tests)

@@ -247,13 +247,3 @@ stays names numbers known i x within is = record {
     complete : (k : ℕ) → (k ≡ known) ⊎ (k < known) → (j : ℕ) × (j < length numbers) × (entry names numbers j ≡ name_at names k)
     complete k (inl same) = (i, within, order-equal (entry names numbers i) (name_at names known) is ∙ ap (name_at names) (sym same))
     complete k (inr low) = x.complete k low
-
--- of no names
-pub empty : (names : List LogicalName) → IsIndexOf names [] 0
-empty names = record {
-  few = omega arith;
-  below = λ i h. absurd (omega arith);
-  first = λ i h. absurd (omega arith);
-  sorted = record { small = omega arith; within = λ i h. absurd (omega arith); sorted = λ i j l h. absurd (omega arith) };
-  complete = λ k h. absurd (omega arith);
-}
