@@ -159,11 +159,7 @@ watched P n part m source is watches there = at (object_at P n) is there
         let same : m ≡ monitored = cc in
         let here : source ≡ record { plan = P; name = monitored.name } = cc in
         ap₂ (λ (x : CellRef) (i : AtName). kind_of (value (start i.plan) (cell x.class_id i.name x.index))) same here
-    of (Data1 first) e h = cc
-    of (Register first default scaler_unit) e h = cc
-    of (ProfileGeneric captured period entries) e h = cc
-    of (ScriptTable scripts) e h = cc
-    of (SingleActionSchedule script type times) e h = cc
+    of p e h = cc
 
     at : (f : Option Object) → option_map (λ o. o.part) f ≡ Some part → Some source ≡ option_map (λ name. record { plan = P; name = name }) (slice_get (for_some f (λ o. references o.part)) 0) →
         kind_of (value (start source.plan) (cell m.class_id source.name m.index)) ≡ monitored_kind P part

@@ -6,7 +6,7 @@ use Rattle.std.proofs.lemmas.Bool.{and_parts}
 use Rattle.std.proofs.lemmas.List.Elements.{All-nil, All-cons}
 use Rattle.cosem_data.specs.Cells.{same_name}
 use Rattle.meter_theory.specs.Lists.{IsIn, some_passes}
-use Rattle.meter_theory.specs.Plan.{Plan, Object, Right, Part, Data1, Register, ProfileGeneric, ScriptTable, RegisterMonitor, SingleActionSchedule, interface_of, object_at}
+use Rattle.meter_theory.specs.Plan.{Plan, Object, Right, Part, Data1, interface_of, object_at}
 use Rattle.meter_theory.specs.Sound.{IsSound, are_indexes}
 use Rattle.object_model.specs.declared.right.Access.{Access}
 use Rattle.object_model.specs.declared.right.Access.TheVariants.{View, Get, Set, Act}
@@ -33,11 +33,7 @@ small highest (i ∷ is) few h =
 
 few_indexes : (p : Part) → ((interface_of p).attributes ≤ 8) × ((interface_of p).methods ≤ 8)
 few_indexes (Data1 start) = (omega arith, omega arith)
-few_indexes (Register start default scaler_unit) = (omega arith, omega arith)
-few_indexes (ProfileGeneric captured period entries) = (omega arith, omega arith)
-few_indexes (ScriptTable scripts) = (omega arith, omega arith)
-few_indexes (RegisterMonitor monitored th actions) = (omega arith, omega arith)
-few_indexes (SingleActionSchedule script type times) = (omega arith, omega arith)
+few_indexes p = (omega arith, omega arith)
 
 pub has-room : (P : Plan) → IsSound P → (r : Right) → IsIn P.rights r → HasRoom (map (λ o. o.name) P.objects) r
 has-room P sound r i = at (object_at P r.object) refl granted.1
