@@ -1,5 +1,5 @@
 -- What a put leaves, in an object and in a state.
-use Rattle.std.proofs.Common.{◌≡◌, ℕ, ◌<◌, ◌+◌, suc, cond, Bool, true, false, List, [], ◌∷◌, length, sym, subst, Some, None, arith}
+use Rattle.std.proofs.Common.{◌≡◌, ℕ, ◌<◌, ◌+◌, suc, cond, Bool, true, false, List, [], ◌∷◌, length, sym, subst, Some, arith}
 use Rattle.std.specs.List.{position_from}
 use Rattle.std.specs.Prelude.{◌&&◌}
 use Rattle.std.proofs.lemmas.Bool.{and_parts}
@@ -22,15 +22,9 @@ put-is-there P s x v k may =
 
 -- a place that is found lies in the list
 pub position-within : {A : Type 0} (test : A → Bool) (i : ℕ) (xs : List A) (k : ℕ) → Some k ≡ position_from test i xs → k < i + length xs
-position-within test i [] k e = absurd (some_none e)
-  where
-    some_none : Some k ≡ None → ⊥
-    some_none h = cc
+position-within test i [] k e = cc
 position-within test i (x ∷ xs) k e = at (test x) (λ h. position-within test (i + 1) xs k h) e
   where
     at : (b : Bool) → (Some k ≡ position_from test (i + 1) xs → k < i + 1 + length xs) → Some k ≡ cond b (Some i) (position_from test (i + 1) xs) → k < i + suc (length xs)
-    at true rest h = let same : k ≡ i = some_same h in omega (arith, same)
-      where
-        some_same : Some k ≡ Some i → k ≡ i
-        some_same g = cc
-    at false rest h = let less = rest h in omega (arith, less)
+    at true rest h = let same : k ≡ i = cc in omega arith
+    at false rest h = let less = rest h in omega arith

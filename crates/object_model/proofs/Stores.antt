@@ -1,5 +1,5 @@
 -- The stored objects of a meter, as a state.
-use Rattle.std.proofs.Common.{◌≡◌, ◌+◌, ◌<◌, ℕ, suc, refl, ap, sym, ◌∙◌, arith, Bool, true, false, ◌||◌, ◌&&◌, cond, Option, Some, None, is_some, List, [], ◌∷◌, ◌++◌, flat_map, length, get_or}
+use Rattle.std.proofs.Common.{◌≡◌, ◌+◌, ℕ, refl, ap, sym, ◌∙◌, Bool, true, false, ◌||◌, ◌&&◌, cond, Option, Some, None, is_some, List, [], ◌∷◌, ◌++◌, flat_map}
 use Rattle.std.proofs.lemmas.Bool.{or_parts, cond-true, cond-false}
 use Rattle.std.specs.List.{list_any, position_from}
 use Rattle.cosem_data.specs.Tree.{Tree, null_data}
@@ -16,7 +16,7 @@ use Rattle.object_model.specs.declared.stored.Cells.{Cells}
 use Rattle.object_model.specs.declared.stored.Cells.TheVariants as cells
 use Rattle.object_model.specs.declared.stored.Stored.{Stored}
 use Rattle.object_model.specs.Stored.{pairs_of, stored_pairs, stores}
-use Rattle.object_model.proofs.ByObject.{list_any-keys, one, same_cell-turned, same_cell-apart, value-first, value-second, value-absent}
+use Rattle.object_model.proofs.ByObject.{list_any-keys, one, same_cell-turned, same_cell-apart, value-absent}
 
 -- one pair of a state
 
@@ -44,21 +44,6 @@ put-second x v (e ∷ s) t h =
     put-past e.0 x e.1 v (s ++ t) parts.0 ∙ ap (λ z. e ∷ z) (put-second x v s t parts.1)
 
 -- where a cell is stored
-
-pub place-value : (os : List Stored) (x : CellRef) (start p : ℕ) → Some p ≡ position_from (stores x) start os →
-    (k : ℕ) × (p ≡ start + k) × (k < length os) × ((d : Stored) → stores x (get_or os k d) ≡ true) × ((d : Stored) → value (flat_map stored_pairs os) x ≡ value (stored_pairs (get_or os k d)) x)
-place-value [] x start p h = cc
-place-value (o ∷ os) x start p h = at (λ g. place-value os x (start + 1) p g) (stores x o) refl h
-  where
-    at : (Some p ≡ position_from (stores x) (start + 1) os →
-        (k : ℕ) × (p ≡ start + 1 + k) × (k < length os) × ((d : Stored) → stores x (get_or os k d) ≡ true) × ((d : Stored) → value (flat_map stored_pairs os) x ≡ value (stored_pairs (get_or os k d)) x)) →
-        (b : Bool) → stores x o ≡ b → Some p ≡ cond b (Some start) (position_from (stores x) (start + 1) os) →
-        (k : ℕ) × (p ≡ start + k) × (k < length (o ∷ os)) × ((d : Stored) → stores x (get_or (o ∷ os) k d) ≡ true)
-        × ((d : Stored) → value (flat_map stored_pairs (o ∷ os)) x ≡ value (stored_pairs (get_or (o ∷ os) k d)) x)
-    at later true is g = let same : p ≡ start = cc in (0, omega arith, omega arith, (λ d. is), (λ d. value-first x (stored_pairs o) (flat_map stored_pairs os) is))
-    at later false is g =
-        let rest = later g in
-        (suc rest.0, omega (arith, rest.1), omega (arith, rest.2), rest.3, (λ d. value-second x (stored_pairs o) (flat_map stored_pairs os) is ∙ rest.4 d))
 
 -- an object has the cell where it is found, and else none has it
 pub is_some-stored : (os : List Stored) (x : CellRef) (start : ℕ) → is_some (position_from (stores x) start os) ≡ list_any (same_cell x) (keys (flat_map stored_pairs os))
