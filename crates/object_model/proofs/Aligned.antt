@@ -1,99 +1,54 @@
 -- The objects of a meter stand as the objects of its plan that have cells.
-use Rattle.std.proofs.Common.{◌≡◌, ◌==◌, ◌+◌, ◌<◌, nat_lt, ltb-false, ℕ, zero, suc, refl, ap, ap₂, sym, subst, ◌∙◌, inl, inr, arith, Bool, true, false, not, cond, Option, Some, None, List, [], ◌∷◌, ◌++◌, map, flat_map, filter, take, length, get_or}
+use Rattle.std.proofs.Common.{◌≡◌, ◌==◌, ◌+◌, ◌<◌, ℕ, zero, suc, refl, ap, ap₂, sym, subst, ◌∙◌, inl, inr, arith, Bool, true, false, not, cond, Option, Some, None, List, [], ◌∷◌, ◌++◌, map, flat_map, take, length, get_or, option_and_then}
+use Rattle.std.specs.Prelude.{option_map, slice_get}
 use Rattle.std.specs.List.{position_from}
-use Rattle.std.proofs.lemmas.List.{length-map}
-use Rattle.std.proofs.lemmas.Bool.{cond-true, cond-false, false≢true}
-use Rattle.cosem_data.specs.Cells.{same_name, cell}
+use Rattle.std.proofs.lemmas.Bool.{cond-false, false_from_ne_true}
+use Rattle.cosem_data.specs.Cells.{same_name}
 use Rattle.cosem_data.specs.declared.name.LogicalName.{LogicalName}
 use Rattle.cosem_data.specs.declared.cell.CellRef.{CellRef}
-use Rattle.std.specs.Prelude.{option_map}
 use Rattle.cosem_data.proofs.Same.{same_name-true, same_name-from}
-use Rattle.meter_theory.specs.Lists.{IsIn, AreDistinct}
-use Rattle.meter_theory.specs.Plan.{Object, Part, Data1, Register, ProfileGeneric, ScriptTable, RegisterMonitor, SingleActionSchedule, class_of, start_of}
+use Rattle.meter_theory.specs.Lists.{IsIn, AreDistinct, some_passes}
+use Rattle.meter_theory.specs.Plan.{Object, Part, Data1, ScriptTable, class_of, start_of, data_value}
 use Rattle.meter_theory.specs.State.{State, keys}
+use Rattle.meter_theory.proofs.Lists.{from_filter, from_map, in_map, none_found}
 use Rattle.object_model.specs.declared.stored.Cells.{Cells}
 use Rattle.object_model.specs.declared.stored.Cells.TheVariants as cells
 use Rattle.object_model.specs.declared.stored.Stored.{Stored}
-use Rattle.object_model.specs.Stored.{pairs_of, stored_pairs, stores}
 use Rattle.object_model.specs.declared.place.Place.{Place}
-use Rattle.object_model.proofs.ByObject.{numbered, unnumbered}
+use Rattle.object_model.specs.Stored.{pairs_of, stored_pairs, stores}
 use Rattle.object_model.specs.Tables.{has_cells, with_cells, place_of}
-use Rattle.meter_theory.proofs.Lists.{found, from_filter, none_found, one_of_key}
-use Rattle.object_model.proofs.Stores.{stored-name, place-value}
+use Rattle.object_model.proofs.Positions.{first, first-none, in-at}
+use Rattle.object_model.proofs.Stores.{stored-name}
 
--- the cells of an object by its class, and of each the first
-abbrev first_index : ℕ → ℕ
-first_index class = cond (class == 22) 4 2
-
-abbrev other_cells : ℕ → LogicalName → List CellRef
-other_cells class n = cond (class == 7) (cell class n 4 ∷ cell class n 7 ∷ []) (cond (class == 21) (cell class n 0 ∷ []) [])
-
-abbrev cells_of : ℕ → LogicalName → List CellRef
-cells_of class n = cell class n (first_index class) ∷ other_cells class n
-
-abbrev class_in : Cells → ℕ
-class_in (cells.Data object) = 1
-class_in (cells.Register object) = 3
-class_in (cells.ProfileGeneric object) = 7
-class_in (cells.RegisterMonitor object) = 21
-class_in (cells.SingleActionSchedule object) = 22
-
-stored-cells : (n : LogicalName) (c : Cells) → keys (pairs_of n c) ≡ cells_of (class_in c) n
-stored-cells n (cells.Data object) = refl
-stored-cells n (cells.Register object) = refl
-stored-cells n (cells.ProfileGeneric object) = refl
-stored-cells n (cells.RegisterMonitor object) = refl
-stored-cells n (cells.SingleActionSchedule object) = refl
-
-planned-cells : (n : LogicalName) (p : Part) → not (class_of p == 9) ≡ true → keys (start_of n p) ≡ cells_of (class_of p) n
-planned-cells n (Data1 start) h = refl
-planned-cells n (Register start default scaler_unit) h = refl
-planned-cells n (ProfileGeneric captured period entries) h = refl
-planned-cells n (ScriptTable scripts) h = cc
-planned-cells n (RegisterMonitor monitored th actions) h = refl
-planned-cells n (SingleActionSchedule script type times) h = refl
-
-no-cells : (n : LogicalName) (p : Part) → not (class_of p == 9) ≡ false → start_of n p ≡ []
-no-cells n (Data1 start) h = cc
-no-cells n (Register start default scaler_unit) h = cc
-no-cells n (ProfileGeneric captured period entries) h = cc
-no-cells n (ScriptTable scripts) h = refl
-no-cells n (RegisterMonitor monitored th actions) h = cc
-no-cells n (SingleActionSchedule script type times) h = cc
-
-keys-append : (s t : State) → keys (s ++ t) ≡ keys s ++ keys t
-keys-append [] t = refl
-keys-append (e ∷ s) t = ap (λ ks. e.0 ∷ ks) (keys-append s t)
-
-heads : {A : Type 0} (x y : A) (xs ys : List A) → x ∷ xs ≡ y ∷ ys → (x ≡ y) × (xs ≡ ys)
-heads x y xs ys e = (cc, cc)
-
-cancelled : {A : Type 0} (xs ys zs : List A) → xs ++ ys ≡ xs ++ zs → ys ≡ zs
-cancelled [] ys zs e = e
-cancelled (x ∷ xs) ys zs e = cancelled xs ys zs (heads x x (xs ++ ys) (xs ++ zs) e).1
-
--- two objects' cells in front of others are of one class and name
-same-front : (c d : ℕ) (n m : LogicalName) (xs ys : List CellRef) → cells_of c n ++ xs ≡ cells_of d m ++ ys → (n ≡ m) × (xs ≡ ys)
-same-front c d n m xs ys e =
-    let both = heads (cell c n (first_index c)) (cell d m (first_index d)) (other_cells c n ++ xs) (other_cells d m ++ ys) e in
-    let name : n ≡ m = ap (λ x. x.name) both.0 in
-    let class : c ≡ d = ap (λ x. x.class_id) both.0 in
-    (name, cancelled (other_cells d m) xs ys (ap (λ z. other_cells d z ++ xs) (sym name) ∙ ap (λ z. other_cells z n ++ xs) (sym class) ∙ both.1))
-
-abbrev pub stored_names : List Stored → List LogicalName
+abbrev stored_names : List Stored → List LogicalName
 stored_names ms = map (λ m. m.name) ms
 
-abbrev pub names_of : List Object → List LogicalName
+abbrev names_of : List Object → List LogicalName
 names_of os = map (λ o. o.name) os
 
+-- the cells of an object, in front of others
+
+no-cells : (n : LogicalName) (p : Part) → not (class_of p == 9) ≡ false → start_of n p ≡ []
+no-cells n (ScriptTable scripts) h = refl
+no-cells n p h = cc
+
+some-stored : (n : LogicalName) (c : Cells) (s : State) → keys (pairs_of n c ++ s) ≡ [] → ⊥
+some-stored n (cells.Data object) s e = cc
+some-stored n c s e = cc
+
+some-planned : (n : LogicalName) (p : Part) (t : State) → not (class_of p == 9) ≡ true → [] ≡ keys (start_of n p ++ t) → ⊥
+some-planned n (ScriptTable scripts) t h e = cc
+some-planned n p t h e = cc
+
+same-front : (n m : LogicalName) (c : Cells) (p : Part) (s t : State) → not (class_of p == 9) ≡ true → keys (pairs_of n c ++ s) ≡ keys (start_of m p ++ t) → (n ≡ m) × (keys s ≡ keys t)
+same-front n m (cells.Data object) (Data1 start) s t h e = (ap (λ ks. (get_or ks 0 (data_value n)).name) e, cc)
+same-front n m c (ScriptTable scripts) s t h e = (cc, cc)
+same-front n m c p s t h e = (ap (λ ks. (get_or ks 0 (data_value n)).name) e, let class = ap (λ ks. (get_or ks 0 (data_value n)).class_id == class_of p) e in cc)
+
 -- a meter with the cells of a plan has the objects that have cells, one after another
-pub aligned : (ms : List Stored) (os : List Object) → keys (flat_map stored_pairs ms) ≡ keys (flat_map (λ o. start_of o.name o.part) os) → stored_names ms ≡ names_of (with_cells os)
+aligned : (ms : List Stored) (os : List Object) → keys (flat_map stored_pairs ms) ≡ keys (flat_map (λ o. start_of o.name o.part) os) → stored_names ms ≡ names_of (with_cells os)
 aligned [] [] e = refl
-aligned (m ∷ ms) [] e =
-    absurd (none (sym (keys-append (stored_pairs m) (flat_map stored_pairs ms) ∙ ap (λ ks. ks ++ keys (flat_map stored_pairs ms)) (stored-cells m.name m.cells)) ∙ e))
-  where
-    none : cells_of (class_in m.cells) m.name ++ keys (flat_map stored_pairs ms) ≡ [] → ⊥
-    none h = cc
+aligned (m ∷ ms) [] e = absurd (some-stored m.name m.cells (flat_map stored_pairs ms) e)
 aligned ms (o ∷ os) e = at (λ ns g. aligned ns os g) (has_cells o) refl
   where
     rest : State
@@ -102,177 +57,84 @@ aligned ms (o ∷ os) e = at (λ ns g. aligned ns os g) (has_cells o) refl
     at : ((ns : List Stored) → keys (flat_map stored_pairs ns) ≡ keys rest → stored_names ns ≡ names_of (with_cells os)) → (b : Bool) → has_cells o ≡ b →
         stored_names ms ≡ names_of (cond b (o ∷ with_cells os) (with_cells os))
     at later false h = later ms (e ∙ ap (λ s. keys (s ++ rest)) (no-cells o.name o.part h))
-    at later true h = by ms (e ∙ keys-append (start_of o.name o.part) rest ∙ ap (λ ks. ks ++ keys rest) (planned-cells o.name o.part h))
+    at later true h = by ms e
       where
-        by : (ns : List Stored) → keys (flat_map stored_pairs ns) ≡ cells_of (class_of o.part) o.name ++ keys rest → stored_names ns ≡ o.name ∷ names_of (with_cells os)
-        by [] g = cc
+        by : (ns : List Stored) → keys (flat_map stored_pairs ns) ≡ keys (start_of o.name o.part ++ rest) → stored_names ns ≡ o.name ∷ names_of (with_cells os)
+        by [] g = absurd (some-planned o.name o.part rest h g)
         by (m ∷ ns) g =
-            let front = same-front (class_in m.cells) (class_of o.part) m.name o.name (keys (flat_map stored_pairs ns)) (keys rest)
-            (sym (keys-append (stored_pairs m) (flat_map stored_pairs ns) ∙ ap (λ ks. ks ++ keys (flat_map stored_pairs ns)) (stored-cells m.name m.cells)) ∙ g) in
+            let front = same-front m.name o.name m.cells o.part (flat_map stored_pairs ns) rest h g in
             ap₂ (λ n names. n ∷ names) front.0 (later ns front.1)
 
--- Distinct names
+-- the name of an object with cells is that of an object
+in-filter : (os : List Object) (n : LogicalName) → IsIn (names_of (with_cells os)) n → IsIn (names_of os) n
+in-filter os n i =
+    let o = from_map (λ o. o.name) (with_cells os) n i in
+    subst (IsIn (names_of os)) (sym o.2) (in_map (λ o. o.name) os o.0 (from_filter has_cells os o.0 o.1).0)
 
-in-filter : {A K : Type 0} (key : A → K) (test : A → Bool) (xs : List A) (k : K) → IsIn (map key (filter test xs)) k → IsIn (map key xs) k
-in-filter key test [] k i = i
-in-filter key test (x ∷ xs) k i = at (λ j. in-filter key test xs k j) (test x) i
+-- what has another name stores no cell of this one
+
+other-stored : (x : CellRef) (m : Stored) → (x.name ≡ m.name → ⊥) → stores x m ≡ false
+other-stored x m other = false_from_ne_true (stores x m) (λ e. other (stored-name x m e))
+
+unnamed : (ms : List Stored) (x : CellRef) (start : ℕ) → (IsIn (stored_names ms) x.name → ⊥) → position_from (stores x) start ms ≡ None
+unnamed [] x start none = refl
+unnamed (m ∷ ms) x start none =
+    cond-false (stores x m) (Some start) (position_from (stores x) (start + 1) ms) (other-stored x m (λ e. none (inl e))) ∙ unnamed ms x (start + 1) (λ i. none (inr i))
+
+unnamed-at : (ms : List Stored) (x : CellRef) (k : ℕ) → (IsIn (stored_names ms) x.name → ⊥) → some_passes (stores x) (slice_get ms k) ≡ false
+unnamed-at [] x k none = refl
+unnamed-at (m ∷ ms) x zero none = other-stored x m (λ e. none (inl e))
+unnamed-at (m ∷ ms) x (suc k) none = unnamed-at ms x k (λ i. none (inr i))
+
+-- this place, if the object at that one stores the cell
+abbrev pub there : CellRef → List Stored → ℕ → ℕ → Option ℕ
+there x ms k place = cond (some_passes (stores x) (slice_get ms k)) (Some place) None
+
+abbrev pub by_owner : CellRef → List Stored → Place → Option ℕ
+by_owner x ms p = there x ms p.owner p.owner
+
+-- a cell is stored where the object of its name has its cells, or nowhere
+stored-there : (ms : List Stored) (os : List Object) → stored_names ms ≡ names_of (with_cells os) → AreDistinct (names_of os) → (x : CellRef) (start k : ℕ) → k < length os →
+    ((d : Object) → (get_or os k d).name ≡ x.name) → position_from (stores x) start ms ≡ there x ms (place_of os k).owner (start + (place_of os k).owner)
+stored-there ms [] same n x start k h named = absurd (omega arith)
+stored-there ms (o ∷ os) same n x start zero h named = at (has_cells o) ms same
   where
-    at : (IsIn (map key (filter test xs)) k → IsIn (map key xs) k) → (b : Bool) → IsIn (map key (cond b (x ∷ filter test xs) (filter test xs))) k → IsIn (map key (x ∷ xs)) k
-    at later true (inl e) = inl e
-    at later true (inr j) = inr (later j)
-    at later false j = inr (later j)
+    none : (ns : List Stored) → stored_names ns ≡ names_of (with_cells os) → IsIn (stored_names ns) x.name → ⊥
+    none ns e i = n.0 (subst (IsIn (names_of os)) (sym (named o)) (in-filter os x.name (subst (λ names. IsIn names x.name) e i)))
 
-distinct-filter : {A K : Type 0} (key : A → K) (test : A → Bool) (xs : List A) → AreDistinct (map key xs) → AreDistinct (map key (filter test xs))
-distinct-filter key test [] d = tt
-distinct-filter key test (x ∷ xs) d = at (distinct-filter key test xs d.1) (test x)
+    at : (b : Bool) (ns : List Stored) → stored_names ns ≡ names_of (cond b (o ∷ with_cells os) (with_cells os)) → position_from (stores x) start ns ≡ there x ns 0 (start + 0)
+    at true [] e = cc
+    at true (m ∷ ns) e = ap₂ (λ here later. cond (stores x m) here later) (ap Some (omega arith)) (unnamed ns x (start + 1) (none ns cc))
+    at false ns e = unnamed ns x start (none ns e) ∙ sym (cond-false (some_passes (stores x) (slice_get ns 0)) (Some (start + 0)) None (unnamed-at ns x 0 (none ns e)))
+stored-there ms (o ∷ os) same n x start (suc k) h named = at (λ ns i e. stored-there ns os e n.1 x i k (omega arith) named) (has_cells o) ms same
   where
-    at : AreDistinct (map key (filter test xs)) → (b : Bool) → AreDistinct (map key (cond b (x ∷ filter test xs) (filter test xs)))
-    at later true = ((λ i. d.0 (in-filter key test xs (key x) i)), later)
-    at later false = later
+    owner : ℕ
+    owner = (place_of os k).owner
 
-in-at : {A : Type 0} (xs : List A) (k : ℕ) (d : A) → k < length xs → IsIn xs (get_or xs k d)
-in-at [] k d h = absurd (omega arith)
-in-at (x ∷ xs) zero d h = inl refl
-in-at (x ∷ xs) (suc k) d h = inr (in-at xs k d (omega arith))
+    apart : (m : Stored) → m.name ≡ o.name → x.name ≡ m.name → ⊥
+    apart m e g = n.0 (subst (IsIn (names_of os)) (named o ∙ g ∙ e) (in_map (λ p. p.name) os (get_or os k o) (in-at os k o (omega arith))))
 
-one-place : {A : Type 0} (xs : List A) → AreDistinct xs → (p q : ℕ) (d : A) → p < length xs → q < length xs → get_or xs p d ≡ get_or xs q d → p ≡ q
-one-place [] n p q d h g e = absurd (omega arith)
-one-place (x ∷ xs) n zero zero d h g e = refl
-one-place (x ∷ xs) n zero (suc q) d h g e = absurd (n.0 (subst (IsIn xs) (sym e) (in-at xs q d (omega arith))))
-one-place (x ∷ xs) n (suc p) zero d h g e = absurd (n.0 (subst (IsIn xs) e (in-at xs p d (omega arith))))
-one-place (x ∷ xs) n (suc p) (suc q) d h g e = ap suc (one-place xs n.1 p q d (omega arith) (omega arith) e)
+    at : ((ns : List Stored) (i : ℕ) → stored_names ns ≡ names_of (with_cells os) → position_from (stores x) i ns ≡ there x ns owner (i + owner)) →
+        (b : Bool) (ns : List Stored) → stored_names ns ≡ names_of (cond b (o ∷ with_cells os) (with_cells os)) →
+        position_from (stores x) start ns
+        ≡ there x ns (length (cond b (o ∷ with_cells (take k os)) (with_cells (take k os)))) (start + length (cond b (o ∷ with_cells (take k os)) (with_cells (take k os))))
+    at later true [] e = cc
+    at later true (m ∷ ns) e =
+        cond-false (stores x m) (Some start) (position_from (stores x) (start + 1) ns) (other-stored x m (apart m cc))
+        ∙ later ns (start + 1) (cc) ∙ ap (there x ns owner) (omega arith)
+    at later false ns e = later ns start e
 
-name-at : {A K : Type 0} (key : A → K) (xs : List A) (k : ℕ) (d : A) (c : K) → k < length xs → get_or (map key xs) k c ≡ key (get_or xs k d)
-name-at key [] k d c h = absurd (omega arith)
-name-at key (x ∷ xs) zero d c h = refl
-name-at key (x ∷ xs) (suc k) d c h = name-at key xs k d c (omega arith)
-
-same-size : (ms : List Stored) (os : List Object) → stored_names ms ≡ names_of os → length ms ≡ length os
-same-size ms os e = sym (length-map ms (λ m. m.name)) ∙ ap length e ∙ length-map os (λ o. o.name)
-
--- an object with cells stands at its place among those that have some
-owner-at : (os : List Object) (k : ℕ) (d e : Object) → k < length os → has_cells (get_or os k d) ≡ true →
-    ((place_of os k).owner < length (with_cells os)) × (get_or (with_cells os) (place_of os k).owner e ≡ get_or os k d)
-owner-at [] k d e h has = absurd (omega arith)
-owner-at (o ∷ os) zero d e h has = rw has (omega arith, refl)
-owner-at (o ∷ os) (suc k) d e h has = at (owner-at os k d e (omega arith) has) (has_cells o)
+-- what a plan says of a cell's name is where the cell is stored
+pub where-stored : (ms : List Stored) (os : List Object) → keys (flat_map stored_pairs ms) ≡ keys (flat_map (λ o. start_of o.name o.part) os) → AreDistinct (names_of os) →
+    (x : CellRef) (n : LogicalName) → x.name ≡ n →
+    position_from (stores x) 0 ms ≡ option_and_then (by_owner x ms) (option_map (place_of os) (position_from (λ o. same_name o.name n) 0 os))
+where-stored ms os e d x n named = at (position_from (λ o. same_name o.name n) 0 os) refl
   where
-    at : ((place_of os k).owner < length (with_cells os)) × (get_or (with_cells os) (place_of os k).owner e ≡ get_or os k d) → (b : Bool) →
-        (length (cond b (o ∷ with_cells (take k os)) (with_cells (take k os))) < length (cond b (o ∷ with_cells os) (with_cells os)))
-        × (get_or (cond b (o ∷ with_cells os) (with_cells os)) (length (cond b (o ∷ with_cells (take k os)) (with_cells (take k os)))) e ≡ get_or os k d)
-    at later true = (omega (arith, later.0), later.1)
-    at later false = later
-
--- Where a cell is stored
-
--- what stores the cell is the first that does
-pub first-stored : (ms : List Stored) → AreDistinct (stored_names ms) → (x : CellRef) (start k : ℕ) (d : Stored) → k < length ms → stores x (get_or ms k d) ≡ true →
-    position_from (stores x) start ms ≡ Some (start + k)
-first-stored [] n x start k d h has = absurd (omega arith)
-first-stored (m ∷ ms) n x start zero d h has = cond-true (stores x m) (Some start) (position_from (stores x) (start + 1) ms) has ∙ ap Some (omega arith)
-first-stored (m ∷ ms) n x start (suc k) d h has =
-    cond-false (stores x m) (Some start) (position_from (stores x) (start + 1) ms) (at (stores x m) refl)
-    ∙ first-stored ms n.1 x (start + 1) k d (omega arith) has ∙ ap Some (omega arith)
-  where
-    at : (b : Bool) → stores x m ≡ b → stores x m ≡ false
-    at false e = e
-    at true e =
-        absurd (n.0 (subst (IsIn (stored_names ms)) (sym (stored-name x (get_or ms k d) has) ∙ stored-name x m e)
-        (subst (IsIn (stored_names ms)) (name-at (λ z. z.name) ms k d m.name (omega arith)) (in-at (stored_names ms) k m.name (omega (arith, length-map ms (λ z. z.name)))))))
-
--- a place that is found is one that stores the cell
-pub found-stored : (ms : List Stored) (x : CellRef) (p : ℕ) → position_from (stores x) 0 ms ≡ Some p → (p < length ms) × ((d : Stored) → stores x (get_or ms p d) ≡ true)
-found-stored ms x p e =
-    let at = place-value ms x 0 p (sym e) in
-    (omega (arith, at.1, at.2), λ d. subst (λ k. stores x (get_or ms k d) ≡ true) (omega (arith, at.1)) (at.3 d))
-
--- the object of what stores a cell
-owner-of : (ms : List Stored) (os : List Object) → stored_names ms ≡ names_of (with_cells os) → (x : CellRef) (p : ℕ) (e : Object) → position_from (stores x) 0 ms ≡ Some p →
-    (p < length (with_cells os)) × ((get_or (with_cells os) p e).name ≡ x.name)
-owner-of ms os same x p e is =
-    let at = found-stored ms x p is in
-    let within : p < length (with_cells os) = omega (arith, at.0, same-size ms (with_cells os) same) in
-    (within, sym (name-at (λ o. o.name) (with_cells os) p e x.name within) ∙ ap (λ names. get_or names p x.name) (sym same) ∙ named ms at.0 at.1)
-  where
-    named : (ns : List Stored) → p < length ns → ((d : Stored) → stores x (get_or ns p d) ≡ true) → get_or (stored_names ns) p x.name ≡ x.name
-    named [] h has = absurd (omega arith)
-    named (m ∷ ns) h has = name-at (λ z. z.name) (m ∷ ns) p m x.name h ∙ sym (stored-name x (get_or (m ∷ ns) p m) (has m))
-
-nothing-where : {A : Type 0} (r : Option A) → ((a : A) → r ≡ Some a → ⊥) → r ≡ None
-nothing-where None h = refl
-nothing-where (Some a) h = absurd (h a refl)
-
--- where the object of the cell's name doesn't store it, nothing does
-pub elsewhere : (ms : List Stored) (os : List Object) → stored_names ms ≡ names_of (with_cells os) → AreDistinct (names_of os) → (x : CellRef) (k : ℕ) (d : Object) → k < length os →
-    (get_or os k d).name ≡ x.name → ((e : Stored) → (place_of os k).owner < length ms → stores x (get_or ms (place_of os k).owner e) ≡ false) → position_from (stores x) 0 ms ≡ None
-elsewhere ms os same n x k d h named lacks = nothing-where (position_from (stores x) 0 ms) (λ p is.
-    let owner = owner-of ms os same x p d is in
-    let there : IsIn os (get_or (with_cells os) p d) = (from_filter has_cells os (get_or (with_cells os) p d) (in-at (with_cells os) p d owner.0)).0 in
-    let has : has_cells (get_or (with_cells os) p d) ≡ true = (from_filter has_cells os (get_or (with_cells os) p d) (in-at (with_cells os) p d owner.0)).1 in
-    let one : get_or (with_cells os) p d ≡ get_or os k d = one_of_key (λ o. o.name) os n (get_or (with_cells os) p d) (get_or os k d) there (in-at os k d h) (owner.1 ∙ sym named) in
-    let at = owner-at os k d d h (ap has_cells (sym one) ∙ has) in
-    let place : p ≡ (place_of os k).owner = one-place (names_of (with_cells os)) (distinct-filter (λ o. o.name) has_cells os n) p (place_of os k).owner x.name
-    (omega (arith, owner.0, length-map (with_cells os) (λ o. o.name))) (omega (arith, at.0, length-map (with_cells os) (λ o. o.name)))
-    (name-at (λ o. o.name) (with_cells os) p d x.name owner.0 ∙ ap (λ o. o.name) (one ∙ sym at.1) ∙ sym (name-at (λ o. o.name) (with_cells os) (place_of os k).owner d x.name at.0)) in
-    let stored = found-stored ms x p is in
-    clash ms stored.0 stored.1 (λ e g. ap (λ q. stores x (get_or ms q e)) place ∙ lacks e (omega (arith, place, g))))
-  where
-    clash : (ns : List Stored) → {p : ℕ} → p < length ns → ((e : Stored) → stores x (get_or ns p e) ≡ true) → ((e : Stored) → p < length ns → stores x (get_or ns p e) ≡ false) → ⊥
-    clash [] h has none = omega arith
-    clash (m ∷ ns) h has none = false≢true (sym (none m h) ∙ has m)
-
--- where no object has the cell's name, nothing stores it
-pub nowhere-named : (ms : List Stored) (os : List Object) → stored_names ms ≡ names_of (with_cells os) → (x : CellRef) → ((o : Object) → IsIn os o → o.name ≡ x.name → ⊥) →
-    position_from (stores x) 0 ms ≡ None
-nowhere-named ms os same x none = nothing-where (position_from (stores x) 0 ms) (λ p is.
-    by (with_cells os) (omega (arith, (found-stored ms x p is).0, same-size ms (with_cells os) same)) (λ e. owner-of ms os same x p e is) (λ o i. (from_filter has_cells os o i).0))
-  where
-    by : (qs : List Object) → {p : ℕ} → p < length qs → ((e : Object) → (p < length qs) × ((get_or qs p e).name ≡ x.name)) → ((o : Object) → IsIn qs o → IsIn os o) → ⊥
-    by [] some at within = omega arith
-    by (q ∷ qs) {p} some at within = let there = at q in none (get_or (q ∷ qs) p q) (within (get_or (q ∷ qs) p q) (in-at (q ∷ qs) p q there.0)) there.1
-
--- What a plan says of a name
-
-pub planned : (os : List Object) (n : LogicalName) (place : Place) → option_map (place_of os) (position_from (λ o. same_name o.name n) 0 os) ≡ Some place →
-    (k : ℕ) × (k < length os) × ((d : Object) → (get_or os k d).name ≡ n) × (place ≡ place_of os k)
-planned os n place e = at (position_from (λ o. same_name o.name n) 0 os) refl e
-  where
-    at : (r : Option ℕ) → position_from (λ o. same_name o.name n) 0 os ≡ r → option_map (place_of os) r ≡ Some place →
-        (k : ℕ) × (k < length os) × ((d : Object) → (get_or os k d).name ≡ n) × (place ≡ place_of os k)
-    at None is g = cc
-    at (Some p) is g =
-        let there = numbered os n 0 p (sym is) in
-        let here : there.0 ≡ p = omega (arith, there.1) in
-        (there.0, there.2, (λ d. same_name-true (get_or os there.0 d).name n (found (λ o. same_name o.name n) os (get_or os there.0 d) (there.3 d)).1), cc)
-
-pub unplanned : (os : List Object) (n : LogicalName) → option_map (place_of os) (position_from (λ o. same_name o.name n) 0 os) ≡ None → (o : Object) → IsIn os o → o.name ≡ n → ⊥
-unplanned os n e o i named = at (position_from (λ q. same_name q.name n) 0 os) refl e
-  where
-    at : (r : Option ℕ) → position_from (λ q. same_name q.name n) 0 os ≡ r → option_map (place_of os) r ≡ None → ⊥
-    at None is g = none_found (λ q. same_name q.name n) os o (unnumbered os n 0 (sym is)) i (same_name-from o.name n named)
-    at (Some p) is g = some_none g
-      where
-        some_none : {A : Type 0} {a : A} → Some a ≡ None → ⊥
-        some_none h = cc
-
-pub distinct-stored : (ms : List Stored) (os : List Object) → stored_names ms ≡ names_of (with_cells os) → AreDistinct (names_of os) → AreDistinct (stored_names ms)
-distinct-stored ms os same n = subst AreDistinct (sym same) (distinct-filter (λ o. o.name) has_cells os n)
-
--- the object at the place doesn't store the cell
-pub lacks-here : (ms : List Stored) (os : List Object) → stored_names ms ≡ names_of (with_cells os) → AreDistinct (names_of os) → (x : CellRef) (k : ℕ) → k < length os →
-    ((d : Object) → (get_or os k d).name ≡ x.name) → (m : Stored) → get_or ms (place_of os k).owner m ≡ m → stores x m ≡ false → position_from (stores x) 0 ms ≡ None
-lacks-here ms [] same n x k h named m here lacks = absurd (omega arith)
-lacks-here ms (o ∷ os) same n x k h named m here lacks =
-    elsewhere ms (o ∷ os) same n x k o h (named o) (λ e g. ap (stores x) (any-default ms (place_of (o ∷ os) k).owner e m g ∙ here) ∙ lacks)
-  where
-    any-default : (ns : List Stored) (i : ℕ) (a b : Stored) → i < length ns → get_or ns i a ≡ get_or ns i b
-    any-default [] i a b g = absurd (omega arith)
-    any-default (q ∷ ns) zero a b g = refl
-    any-default (q ∷ ns) (suc i) a b g = any-default ns i a b (omega arith)
-
--- there is no object at the place
-pub lacks-past : (ms : List Stored) (os : List Object) → stored_names ms ≡ names_of (with_cells os) → AreDistinct (names_of os) → (x : CellRef) (k : ℕ) → k < length os →
-    ((d : Object) → (get_or os k d).name ≡ x.name) → nat_lt (place_of os k).owner (length ms) ≡ false → position_from (stores x) 0 ms ≡ None
-lacks-past ms [] same n x k h named past = absurd (omega arith)
-lacks-past ms (o ∷ os) same n x k h named past =
-    elsewhere ms (o ∷ os) same n x k o h (named o) (λ e g. let far = ltb-false (place_of (o ∷ os) k).owner (length ms) past in absurd (omega (arith, far, g)))
+    at : (q : Option ℕ) → position_from (λ o. same_name o.name n) 0 os ≡ q → position_from (stores x) 0 ms ≡ option_and_then (by_owner x ms) (option_map (place_of os) q)
+    at (Some k) is =
+        let here = first (λ o. same_name o.name n) os k is in
+        stored-there ms os (aligned ms os e) d x 0 k here.within (λ o. same_name-true (get_or os k o).name n (here.passes o) ∙ sym named)
+        ∙ ap (there x ms (place_of os k).owner) (omega arith)
+    at None is = unnamed ms x 0 (λ i.
+        let o = from_map (λ o. o.name) os x.name (in-filter os x.name (subst (λ names. IsIn names x.name) (aligned ms os e) i)) in
+        none_found (λ o. same_name o.name n) os o.0 (first-none (λ o. same_name o.name n) os is) o.1 (same_name-from o.0.name n (sym o.2 ∙ named)))

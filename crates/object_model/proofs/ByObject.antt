@@ -1,9 +1,7 @@
 -- The cells of a plan, object by object.
 use Rattle.std.proofs.Math.ListN.{length-map}
-use Rattle.std.proofs.Common.{◌≡◌, ◌≤◌, ◌^◌, refl, ap, sym, ◌∙◌, inl, inr, arith, ℕ, suc, ◌+◌, ◌<◌, length, map, get_or, Bool, true, false, ◌||◌, cond, find, Option, Some, None, is_some, List, [], ◌∷◌, ◌++◌, flat_map}
+use Rattle.std.proofs.Common.{◌≡◌, ◌≤◌, ◌^◌, refl, ap, sym, ◌∙◌, inl, inr, arith, ℕ, ◌+◌, ◌<◌, length, map, Bool, true, false, ◌||◌, cond, find, Option, Some, None, is_some, List, [], ◌∷◌, ◌++◌, flat_map}
 use Rattle.std.proofs.lemmas.Bool.{or_parts, cond-true, cond-false, false≢true}
-use Rattle.std.specs.Prelude.{slice_get}
-use Rattle.std.proofs.lemmas.Option.{slice_get-get_or}
 use Rattle.std.specs.List.{list_any, position_from}
 use Rattle.cosem_data.specs.Cells.{same_cell, same_name, cell}
 use Rattle.cosem_data.specs.declared.name.LogicalName.{LogicalName}
@@ -199,30 +197,5 @@ pub position-map : (os : List Object) (name : LogicalName) (start : ℕ) → pos
 position-map [] name start = refl
 position-map (o ∷ os) name start = ap (cond (same_name o.name name) (Some start)) (position-map os name (start + 1))
 
-pub numbered : (os : List Object) (name : LogicalName) (start p : ℕ) → Some p ≡ position_from (λ o. same_name o.name name) start os →
-    (k : ℕ) × (p ≡ start + k) × (k < length os) × ((d : Object) → find (λ o. same_name o.name name) os ≡ Some (get_or os k d))
-numbered [] name start p h = cc
-numbered (o ∷ os) name start p h = at (λ g. numbered os name (start + 1) p g) (same_name o.name name) h
-  where
-    at : (Some p ≡ position_from (λ q. same_name q.name name) (start + 1) os → (k : ℕ) × (p ≡ start + 1 + k) × (k < length os) × ((d : Object) → find (λ q. same_name q.name name) os ≡ Some (get_or os k d))) →
-        (b : Bool) → Some p ≡ cond b (Some start) (position_from (λ q. same_name q.name name) (start + 1) os) →
-        (k : ℕ) × (p ≡ start + k) × (k < length (o ∷ os)) × ((d : Object) → cond b (Some o) (find (λ q. same_name q.name name) os) ≡ Some (get_or (o ∷ os) k d))
-    at later true g = let same : p ≡ start = cc in (0, omega arith, omega arith, λ d. refl)
-    at later false g = let rest = later g in (suc rest.0, omega (arith, rest.1), omega (arith, rest.2), rest.3)
-
-pub unnumbered : (os : List Object) (name : LogicalName) (start : ℕ) → None ≡ position_from (λ o. same_name o.name name) start os → find (λ o. same_name o.name name) os ≡ None
-unnumbered [] name start h = refl
-unnumbered (o ∷ os) name start h = at (λ g. unnumbered os name (start + 1) g) (same_name o.name name) h
-  where
-    at : (None ≡ position_from (λ q. same_name q.name name) (start + 1) os → find (λ q. same_name q.name name) os ≡ None) →
-        (b : Bool) → None ≡ cond b (Some start) (position_from (λ q. same_name q.name name) (start + 1) os) → cond b (Some o) (find (λ q. same_name q.name name) os) ≡ None
-    at later true g = cc
-    at later false g = later g
-
 pub few-names : (names : List LogicalName) (os : List Object) → names ≡ map (λ o. o.name) os → length os ≤ OBJECTS → length names < 2 ^ 10
 few-names names os e h = let same : length names ≡ length os = ap length e ∙ simp length-map in omega arith
-
--- what stands at the place of a name is what is found
-pub found-at : (os : List Object) (k : ℕ) → k < length os → (r : Option Object) → ((d : Object) → r ≡ Some (get_or os k d)) → slice_get os k ≡ r
-found-at [] k h r is = absurd (omega arith)
-found-at (o ∷ os) k h r is = slice_get-get_or (o ∷ os) k o h ∙ sym (is o)

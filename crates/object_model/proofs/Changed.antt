@@ -102,11 +102,8 @@ count-with_rows n m = at m.cells
     both false = refl
 
     at : (c : Cells) → list_any (same_cell (entries_in_use n)) (keys (pairs_of m.name c)) ≡ list_any (same_cell (buffer n)) (keys (pairs_of m.name c))
-    at (cells.Data object) = refl
-    at (cells.Register object) = refl
     at (cells.ProfileGeneric object) = both (same_name n m.name)
-    at (cells.RegisterMonitor object) = refl
-    at (cells.SingleActionSchedule object) = refl
+    at c = refl
 
 -- A change of the object as one of the whole
 
@@ -189,13 +186,7 @@ on_err (Err e) q = q
 
 pub changed-name : (n : LogicalName) (change : Change) → (cell_changed n change).name ≡ n
 changed-name n (changes.Data held) = refl
-changed-name n (changes.Register held) = refl
-changed-name n (changes.Period held) = refl
-changed-name n (changes.Captured c) = refl
-changed-name n (changes.Cleared c) = refl
-changed-name n (changes.Thresholds held) = refl
-changed-name n (changes.Seen held) = refl
-changed-name n (changes.Times held) = refl
+changed-name n change = refl
 
 -- a cell that nothing stores can't be put into
 pub absent : (ms : List Stored) (x : CellRef) (v : Tree) → position_from (stores x) 0 ms ≡ None → put (flat_map stored_pairs ms) x v ≡ flat_map stored_pairs ms

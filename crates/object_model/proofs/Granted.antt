@@ -1,23 +1,23 @@
 -- Masks of indexes, and what the rights grant.
-use Rattle.std.proofs.Common.{◌≡◌, ◌≢◌, ◌==◌, ◌<◌, ◌≤◌, ◌+◌, ◌*◌, ◌^◌, ◌%◌, ℕ, suc, Bool, true, false, ◌&&◌, ◌||◌, nat_lt, cond, List, [], ◌∷◌, length, take, Option, Some, None, refl, sym, ap, ◌∙◌, inl, inr, ◌⊎◌, arith, get_or, set, max, eqb-true, bit_or, zero}
+use Rattle.std.proofs.Common.{◌≡◌, ◌≢◌, ◌==◌, ◌<◌, ◌≤◌, ◌+◌, ◌*◌, ◌^◌, ◌%◌, ℕ, Bool, true, false, ◌&&◌, ◌||◌, nat_lt, List, length, take, Option, Some, None, refl, sym, ap, ◌∙◌, inl, inr, ◌⊎◌, arith, get_or, set, max, eqb-true, bit_or}
 use Rattle.std.specs.List.{position_from, list_any}
 use Rattle.std.specs.Int.{bit_at, w16}
 use Rattle.std.proofs.lemmas.Bool.{false≢true, cases_lt}
 use Rattle.std.proofs.lemmas.Bool.Decides.{nat_tests}
 use Rattle.std.proofs.lemmas.List.{get_or-set_same, get_or-set_other}
 use Rattle.std.proofs.lemmas.List.Folds.{list_any_more}
-use Rattle.std.proofs.lemmas.Nat.Bits.{bit_at_or, bit_at-lt, bit_at_set_same, bit_at_set_other, bit_at-zero}
+use Rattle.std.proofs.lemmas.Nat.Bits.{bit_at_or, bit_at-lt, bit_at_set_same, bit_at_set_other}
 use Rattle.std.proofs.Math.ListN.{length-set}
 use Rattle.cosem_data.specs.Cells.{same_name}
 use Rattle.cosem_data.specs.declared.name.LogicalName.{LogicalName}
 use Rattle.cosem_data.proofs.Same.{same_name-true, same_name-from}
-use Rattle.meter_theory.specs.Lists.{IsIn}
 use Rattle.meter_theory.specs.Plan.{Right}
 use Rattle.meter_theory.specs.Rights.{lists}
 use Rattle.meter_theory.specs.declared.limits.TheConstants.{CLIENTS}
 use Rattle.object_model.specs.declared.right.Access.{Access}
 use Rattle.object_model.specs.Index.{name_at}
-use Rattle.object_model.specs.Grants.{listed, has_bit, granted_at, grants, AreMasksOf}
+use Rattle.object_model.specs.Grants.{listed, has_bit, granted_at, grants, place_in, AreMasksOf}
+use Rattle.object_model.proofs.Positions.{first}
 use Rattle.std.specs.Prelude.{IfSome}
 
 or_true : (b : Bool) → (b || true) ≡ true
@@ -37,13 +37,6 @@ lt_is i n h = grind (arith, nat_tests)
 
 lt_not : (i n : ℕ) → n ≤ i → nat_lt i n ≡ false
 lt_not i n h = grind (arith, nat_tests)
-
-pub no_bits : (i : ℕ) → has_bit 0 i ≡ false
-no_bits i = at (nat_lt i 16)
-  where
-    at : (b : Bool) → (b && (bit_at 0 i == 1)) ≡ false
-    at true = ap (λ n. n == 1) (bit_at-zero i)
-    at false = refl
 
 ored : (x y : ℕ) → x < 2 → y < 2 → (max x y == 1) ≡ ((x == 1) || (y == 1))
 ored x y h g = grind (arith, nat_tests)
@@ -76,16 +69,10 @@ mask-more xs k m h small before i =
     list_any_more (λ j. j == i) xs k 0 h ∙ ap (λ b. b || (get_or xs k 0 == i)) (before i) ∙ sym (has_bit-set m (get_or xs k 0) i small)
 
 -- where a name stands
-pub at-position : (names : List LogicalName) (name : LogicalName) (start p : ℕ) → Some p ≡ position_from (λ n. same_name n name) start names →
-    (k : ℕ) × (p ≡ start + k) × (k < length names) × (name_at names k ≡ name)
-at-position [] name start p h = cc
-at-position (n ∷ ns) name start p h = at (λ g. at-position ns name (start + 1) p g) (same_name n name) refl h
-  where
-    at : (Some p ≡ position_from (λ m. same_name m name) (start + 1) ns → (k : ℕ) × (p ≡ start + 1 + k) × (k < length ns) × (name_at ns k ≡ name)) →
-        (b : Bool) → same_name n name ≡ b → Some p ≡ cond b (Some start) (position_from (λ m. same_name m name) (start + 1) ns) →
-        (k : ℕ) × (p ≡ start + k) × (k < length (n ∷ ns)) × (name_at (n ∷ ns) k ≡ name)
-    at later true e g = let same : p ≡ start = cc in (0, omega arith, omega arith, same_name-true n name e)
-    at later false e g = let rest = later g in (suc rest.0, omega (arith, rest.1), omega (arith, rest.2), rest.3)
+pub at-position : (names : List LogicalName) (name : LogicalName) (k : ℕ) → Some k ≡ place_in names name → (k < length names) × (name_at names k ≡ name)
+at-position names name k is =
+    let at = first (λ n. same_name n name) names k (sym is) in
+    (at.within, same_name-true (name_at names k) name (at.passes _))
 
 pub one-more : (names : List LogicalName) (access : Access) (rights : List Right) (masks : List ℕ) (i : ℕ) (r : Right) (k mask at : ℕ) →
     i < length rights → r ≡ get_or rights i r → AreMasksOf names access (take i rights) masks → Some k ≡ position_from (λ n. same_name n r.object) 0 names →
@@ -100,14 +87,14 @@ one-more names access rights masks i r k mask at h is before found small listed_
       ∙ core name client index (position_from (λ n. same_name n name) 0 names) refl;
 }
   where
-    stands : (n : ℕ) × (k ≡ 0 + n) × (n < length names) × (name_at names n ≡ r.object)
-    stands = at-position names r.object 0 k found
+    stands : (k < length names) × (name_at names k ≡ r.object)
+    stands = at-position names r.object k found
 
     after : List ℕ
     after = set masks at (bit_or (get_or masks at 0) mask)
 
     written : get_or after at 0 ≡ bit_or (get_or masks at 0) mask
-    written = get_or-set_same masks at (bit_or (get_or masks at 0) mask) 0 (omega (arith, before.size, stands.1, stands.2))
+    written = get_or-set_same masks at (bit_or (get_or masks at 0) mask) 0 (omega (arith, before.size, stands.0))
 
     apart : (m c j : ℕ) → (c < CLIENTS → m * CLIENTS + c ≢ at) → (nat_lt c CLIENTS && has_bit (get_or masks (m * CLIENTS + c) 0) j) ≡ (nat_lt c CLIENTS && has_bit (get_or after (m * CLIENTS + c) 0) j)
     apart m c j other = by (cases_lt c CLIENTS)
@@ -127,8 +114,8 @@ one-more names access rights masks i r k mask at h is before found small listed_
         by false s = and_false (r.client == c) (lists (listed access r) j)
     core name c j (Some m) e = by (r.client == c) refl (same_name r.object name) refl
       where
-        other : (n : ℕ) × (m ≡ 0 + n) × (n < length names) × (name_at names n ≡ name)
-        other = at-position names name 0 m (sym e)
+        other : (m < length names) × (name_at names m ≡ name)
+        other = at-position names name m (sym e)
 
         by : (a : Bool) → (r.client == c) ≡ a → (b : Bool) → same_name r.object name ≡ b →
             ((nat_lt c CLIENTS && has_bit (get_or masks (m * CLIENTS + c) 0) j) || ((a && b) && lists (listed access r) j)) ≡ (nat_lt c CLIENTS && has_bit (get_or after (m * CLIENTS + c) 0) j)
@@ -141,7 +128,7 @@ one-more names access rights masks i r k mask at h is before found small listed_
         by true d false s =
             or_false (nat_lt c CLIENTS && has_bit (get_or masks (m * CLIENTS + c) 0) j)
             ∙ apart m c j (λ low g. let same : m ≡ k = omega (arith, g, here, small, low) in
-            false≢true (sym s ∙ same_name-from r.object name (sym stands.3 ∙ ap (name_at names) (omega (arith, stands.1, same, other.1)) ∙ other.3)))
+            false≢true (sym s ∙ same_name-from r.object name (sym stands.1 ∙ ap (name_at names) (sym same) ∙ other.1)))
         by true d true s =
             let mine : r.client ≡ c = eqb-true r.client c d in
             let named : r.object ≡ name = same_name-true r.object name s in
@@ -157,10 +144,4 @@ one-more names access rights masks i r k mask at h is before found small listed_
 pub room : (names : List LogicalName) (name : LogicalName) (size : ℕ) (q : Option ℕ) → size ≡ length names * CLIENTS → q ≡ position_from (λ n. same_name n name) 0 names →
     IfSome q (λ k. k * CLIENTS + CLIENTS ≤ size)
 room names name size None fits is = tt
-room names name size (Some k) fits is = let at = at-position names name 0 k is in omega (arith, at.1, at.2)
-
--- an element at a place is of the list
-pub item-in : {A : Type 0} (xs : List A) (i : ℕ) (x : A) → i < length xs → x ≡ get_or xs i x → IsIn xs x
-item-in [] i x h is = absurd (omega arith)
-item-in (y ∷ ys) zero x h is = inl is
-item-in (y ∷ ys) (suc i) x h is = inr (item-in ys i x (omega arith) is)
+room names name size (Some k) fits is = let at = at-position names name k is in omega (arith, at.0)

@@ -11,7 +11,7 @@ use Rattle.meter_theory.specs.Lists.{IsIn}
 use Rattle.meter_theory.specs.State.{State, keys, value}
 use Rattle.meter_theory.specs.States.{IsState, IsBuffer, IsCount, Holds, IsRemembered, Fits}
 use Rattle.meter_theory.specs.Steps.{Put, Captures, captures_in, captures_of}
-use Rattle.meter_theory.specs.Plan.{Plan, Object, Part, Data1, Register, ProfileGeneric, ScriptTable, RegisterMonitor, SingleActionSchedule, object_at, start_of, buffer, entries_in_use, seen}
+use Rattle.meter_theory.specs.Plan.{Plan, Object, Part, ProfileGeneric, RegisterMonitor, object_at, start_of, buffer, entries_in_use, seen}
 use Rattle.meter_theory.proofs.Lists.{in_any}
 use Rattle.meter_theory.proofs.Agreement.{object-found}
 use Rattle.meter_theory.proofs.Rights.{cell_of_object}
@@ -31,11 +31,7 @@ remembered-there P s n v k (inr fits) = at fits.0.part refl fits.2
         subst (IsIn (keys s)) (sym here)
         (subst (λ ks. IsIn ks (seen fits.0.name)) (sym k.cells)
         (cell_of_object P fits.0 (seen fits.0.name) null_data fits.1 (subst (λ q. IsIn (start_of fits.0.name q) (seen fits.0.name, null_data)) (sym is) (inr (inl refl)))))
-    at (Data1 first) is r = absurd (subst (λ q. IsRemembered P fits.0.name q (seen n) v) is r)
-    at (Register first default scaler_unit) is r = absurd (subst (λ q. IsRemembered P fits.0.name q (seen n) v) is r)
-    at (ProfileGeneric captured period entries) is r = absurd (subst (λ q. IsRemembered P fits.0.name q (seen n) v) is r)
-    at (ScriptTable scripts) is r = absurd (subst (λ q. IsRemembered P fits.0.name q (seen n) v) is r)
-    at (SingleActionSchedule script type times) is r = absurd (subst (λ q. IsRemembered P fits.0.name q (seen n) v) is r)
+    at p is r = absurd (subst (λ q. IsRemembered P fits.0.name q (seen n) v) is r)
 
 -- a cell of the state is stored somewhere
 pub stored-somewhere : (ms : List Stored) (x : CellRef) → IsIn (keys (flat_map stored_pairs ms)) x → position_from (stores x) 0 ms ≡ None → ⊥
@@ -51,11 +47,7 @@ profile_holds P s n c k is = at (object_at P n) refl is
     in_part (ProfileGeneric captured period entries) e holds =
         let same : c ≡ record { captured = captured; entries = entries } = cc in
         subst (λ (z : Captures). IsBuffer P z.captured z.entries (value s (buffer n)) × IsCount z.entries (value s (entries_in_use n))) (sym same) holds
-    in_part (Data1 first) e holds = cc
-    in_part (Register first default scaler_unit) e holds = cc
-    in_part (ScriptTable scripts) e holds = cc
-    in_part (RegisterMonitor monitored th actions) e holds = cc
-    in_part (SingleActionSchedule script type times) e holds = cc
+    in_part p e holds = cc
 
     at : (o : Option Object) → object_at P n ≡ o → Some c ≡ captures_of o → IsBuffer P c.captured c.entries (value s (buffer n)) × IsCount c.entries (value s (entries_in_use n))
     at None found e = cc
@@ -72,11 +64,7 @@ profile-there P s n k is = at (object_at P n) refl is.1
         subst (λ m. IsIn (keys s) (buffer m)) named
         (subst (λ ks. IsIn ks (buffer o.name)) (sym k.cells)
         (cell_of_object P o (buffer o.name) (array no_trees) i (subst (λ q. IsIn (start_of o.name q) (buffer o.name, array no_trees)) (sym here) (inl refl))))
-    in_part o i named (Data1 first) here e = cc
-    in_part o i named (Register first default scaler_unit) here e = cc
-    in_part o i named (ScriptTable scripts) here e = cc
-    in_part o i named (RegisterMonitor monitored th actions) here e = cc
-    in_part o i named (SingleActionSchedule script type times) here e = cc
+    in_part o i named p here e = cc
 
     at : (o : Option Object) → object_at P n ≡ o → captures_of o ≡ Some is.0 → IsIn (keys s) (buffer n)
     at None found e = cc

@@ -1,5 +1,6 @@
 pub mod ByObject
 pub mod Puts
+mod Positions
 mod Labels
 mod Granted
 mod Searches

@@ -6,7 +6,7 @@ use Rattle.std.proofs.lemmas.Grind.{flat_map-append}
 use Rattle.std.proofs.lemmas.Bool.{cases_lt}
 use Rattle.std.proofs.lemmas.List.Filters.{length-filter_more}
 use Rattle.cosem_data.specs.declared.name.LogicalName.{LogicalName}
-use Rattle.meter_theory.specs.Plan.{Object, Part, Data1, Register, ProfileGeneric, ScriptTable, RegisterMonitor, SingleActionSchedule, class_of, start_of}
+use Rattle.meter_theory.specs.Plan.{Object, Part, ScriptTable, class_of, start_of}
 use Rattle.object_model.specs.Tables.{has_cells, with_cells, place_of}
 use Rattle.object_model.specs.declared.place.Place.{Place}
 
@@ -21,12 +21,8 @@ pub record ArePlaced (objects : List Object) (places : List Place) (next : Place
 
 -- an object has cells where their number is not 0
 counted : (n : LogicalName) (p : Part) → ◌≡◌ {A = ℕ} (cond (not (class_of p == 9)) 1 0) (cond (length (start_of n p) == 0) 0 1)
-counted n (Data1 start) = refl
-counted n (Register start default scaler_unit) = refl
-counted n (ProfileGeneric captured period entries) = refl
 counted n (ScriptTable scripts) = refl
-counted n (RegisterMonitor monitored th actions) = refl
-counted n (SingleActionSchedule script type times) = refl
+counted n p = refl
 
 pub owner-more : (os : List Object) (i cells : ℕ) (d : Object) → i < length os → cells ≡ length (start_of (get_or os i d).name (get_or os i d).part) →
     (place_of os (i + 1)).owner ≡ (place_of os i).owner + cond (cells == 0) 0 1

@@ -1,10 +1,10 @@
 -- That to which the objects of a sound plan refer.
-use Rattle.std.proofs.Common.{◌≡◌, ◌<◌, ◌∙◌, arith, length, get_or, ℕ, Bool, true, refl, sym, ap, ap₂, subst, inl, inr, map, List, Option, Some, None}
+use Rattle.std.proofs.Common.{◌≡◌, ◌<◌, ◌∙◌, length, get_or, ℕ, Bool, true, refl, sym, ap, ap₂, subst, inl, inr, map, List, Option, Some, None}
 use Rattle.std.specs.List.{position_from}
 use Rattle.std.specs.Prelude.{option_map, option_and_then, slice_get}
 use Rattle.std.proofs.lemmas.Bool.{false≢true}
 use Rattle.std.proofs.lemmas.Option.{slice_get-map}
-use Rattle.cosem_data.proofs.Same.{same_cell-refl}
+use Rattle.cosem_data.proofs.Same.{same_cell-refl, same_name-true}
 use Rattle.cosem_data.specs.Cells.{cell, same_cell, same_name}
 use Rattle.cosem_data.specs.Kinds.{kind_of}
 use Rattle.cosem_data.specs.declared.cell.CellRef.{CellRef}
@@ -15,14 +15,13 @@ use Rattle.meter_theory.specs.Plan.{Plan, Object, Action, Script, Write, Invoke,
 use Rattle.meter_theory.specs.State.{value}
 use Rattle.meter_theory.specs.Sound.{IsSound, IsSoundPart, scripts_run_by}
 use Rattle.meter_theory.specs.Steps.{scripts_of, captures_in}
-use Rattle.meter_theory.proofs.Agreement.{object-found}
 use Rattle.meter_theory.proofs.Lists.{from_map, from_flat_map, in_any}
 use Rattle.object_model.specs.Grants.{place_in}
 use Rattle.object_model.specs.InstanceView.{AtName}
 use Rattle.object_model.specs.PartView.{monitored_in, monitored_kind}
 use Rattle.object_model.specs.Tables.{target, references, references_at, AreReferences}
-use Rattle.object_model.proofs.ByObject.{cell-none, found-at, numbered, position-map, unnumbered}
-use Rattle.object_model.proofs.Room.{placed}
+use Rattle.object_model.proofs.ByObject.{cell-none, position-map}
+use Rattle.object_model.proofs.Positions.{first, first-none, placed}
 
 abbrev IsHeld : Plan → LogicalName → Type 0
 IsHeld P n = (o : Object) × (object_at P n ≡ Some o)
@@ -68,7 +67,7 @@ reference-held P sound o there n (SingleActionSchedule script type times) is (in
 pub reference-placed : (P : Plan) → IsSound P → (o : Object) → IsIn P.objects o → (n : LogicalName) → IsIn (references o.part) n → (k : ℕ) × (place_in (map (λ o. o.name) P.objects) n ≡ Some k)
 reference-placed P sound o there n i =
     let held = reference-held P sound o there n o.part refl i in
-    let at = placed (λ o. same_name o.name n) P.objects held.0 0 held.1 in
+    let at = placed (λ o. same_name o.name n) P.objects held.0 held.1 in
     (at.0, position-map P.objects n 0 ∙ at.1)
 
 -- what stands in the table of references
@@ -97,11 +96,7 @@ reference-at P names numbers number place named is =
 reference-of : (P : Plan) (n : LogicalName) (k place : ℕ) → Some k ≡ position_from (λ o. same_name o.name n) 0 P.objects →
     option_and_then (λ o. slice_get (references o.part) place) (slice_get P.objects k) ≡ slice_get (references_at P n) place
 reference-of P n k place is =
-    let at = numbered P.objects n 0 k is in
-    let here : at.0 ≡ k = omega (arith, at.1) in
-    ap (λ i. option_and_then (λ o. slice_get (references o.part) place) (slice_get P.objects i)) (sym here)
-    ∙ ap (option_and_then (λ o. slice_get (references o.part) place)) (found-at P.objects at.0 at.2 _ at.3)
-    ∙ of (object_at P n)
+    ap (option_and_then (λ o. slice_get (references o.part) place)) (sym (first (λ o. same_name o.name n) P.objects k (sym is)).found) ∙ of (object_at P n)
   where
     of : (f : Option Object) → option_and_then (λ o. slice_get (references o.part) place) f ≡ slice_get (for_some f (λ o. references o.part)) place
     of None = refl
@@ -109,7 +104,7 @@ reference-of P n k place is =
 
 -- what has no number refers to nothing
 pub reference-none : (P : Plan) (n : LogicalName) (place : ℕ) → None ≡ position_from (λ o. same_name o.name n) 0 P.objects → slice_get (references_at P n) place ≡ None
-reference-none P n place is = ap (λ f. slice_get (for_some f (λ o. references o.part)) place) (unnumbered P.objects n 0 is)
+reference-none P n place is = ap (λ f. slice_get (for_some f (λ o. references o.part)) place) (first-none (λ o. same_name o.name n) P.objects (sym is))
 
 -- nor what has no reference at a place
 pub unreferred : (P : Plan) (n : LogicalName) (number place : ℕ) → Some number ≡ position_from (λ o. same_name o.name n) 0 P.objects →
@@ -138,15 +133,8 @@ is_reference P n number place k from h = at (option_and_then (λ o. slice_get (r
     at None is g = cc
     at (Some m) is g =
         let number : Some k ≡ position_from (λ o. same_name o.name m) 0 P.objects = cc in
-        let found = numbered P.objects m 0 k number in
-        let here : found.0 ≡ k = omega (arith, found.1) in
-        record {
-          name = m;
-          there = is;
-          number = number;
-          within = omega (arith, here, found.2);
-          named = λ d. ap (λ i. (get_or P.objects i d).name) (sym here) ∙ (object-found P m (get_or P.objects found.0 d) (found.3 d)).1;
-        }
+        let at = first (λ o. same_name o.name m) P.objects k (sym number) in
+        record { name = m; there = is; number = number; within = at.within; named = λ d. same_name-true (get_or P.objects k d).name m (at.passes d) }
 
 -- what a register monitor refers to first is what it watches
 pub watched : (P : Plan) (n : LogicalName) (part : Part) (m : CellRef) (source : AtName) → option_map (λ o. o.part) (object_at P n) ≡ Some part → Some m ≡ monitored_in part →
@@ -159,11 +147,7 @@ watched P n part m source is watches there = at (object_at P n) is there
         let same : m ≡ monitored = cc in
         let here : source ≡ record { plan = P; name = monitored.name } = cc in
         ap₂ (λ (x : CellRef) (i : AtName). kind_of (value (start i.plan) (cell x.class_id i.name x.index))) same here
-    of (Data1 first) e h = cc
-    of (Register first default scaler_unit) e h = cc
-    of (ProfileGeneric captured period entries) e h = cc
-    of (ScriptTable scripts) e h = cc
-    of (SingleActionSchedule script type times) e h = cc
+    of p e h = cc
 
     at : (f : Option Object) → option_map (λ o. o.part) f ≡ Some part → Some source ≡ option_map (λ name. record { plan = P; name = name }) (slice_get (for_some f (λ o. references o.part)) 0) →
         kind_of (value (start source.plan) (cell m.class_id source.name m.index)) ≡ monitored_kind P part

@@ -1,27 +1,17 @@
 -- The rights of a sound plan have room in the masks.
-use Rattle.std.proofs.Common.{◌≡◌, ◌<◌, ◌≤◌, ◌+◌, ℕ, Bool, true, false, ◌&&◌, cond, List, [], ◌∷◌, length, map, find, Option, Some, None, refl, ◌∙◌, arith, nat_lt, nat_le, ltb-true, leb-true}
+use Rattle.std.proofs.Common.{◌≡◌, ◌<◌, ◌≤◌, ℕ, Bool, true, ◌&&◌, List, [], ◌∷◌, length, map, Option, Some, None, refl, ◌∙◌, arith, nat_lt, nat_le, ltb-true, leb-true}
 use Rattle.std.specs.Prelude.{All}
-use Rattle.std.specs.List.{position_from}
 use Rattle.std.proofs.lemmas.Bool.{and_parts}
 use Rattle.std.proofs.lemmas.List.Elements.{All-nil, All-cons}
 use Rattle.cosem_data.specs.Cells.{same_name}
 use Rattle.meter_theory.specs.Lists.{IsIn, some_passes}
-use Rattle.meter_theory.specs.Plan.{Plan, Object, Right, Part, Data1, Register, ProfileGeneric, ScriptTable, RegisterMonitor, SingleActionSchedule, interface_of, object_at}
+use Rattle.meter_theory.specs.Plan.{Plan, Object, Right, Part, Data1, interface_of, object_at}
 use Rattle.meter_theory.specs.Sound.{IsSound, are_indexes}
 use Rattle.object_model.specs.declared.right.Access.{Access}
 use Rattle.object_model.specs.declared.right.Access.TheVariants.{View, Get, Set, Act}
 use Rattle.object_model.specs.Grants.{listed, HasRoom}
 use Rattle.object_model.proofs.ByObject.{position-map}
-
--- what is found has a place
-pub placed : {A : Type 0} (test : A → Bool) (xs : List A) (x : A) (i : ℕ) → find test xs ≡ Some x → (k : ℕ) × (position_from test i xs ≡ Some k)
-placed test [] x i h = cc
-placed test (y ∷ xs) x i h = at (λ g. placed test xs x (i + 1) g) (test y) h
-  where
-    at : (find test xs ≡ Some x → (k : ℕ) × (position_from test (i + 1) xs ≡ Some k)) → (b : Bool) → cond b (Some y) (find test xs) ≡ Some x →
-        (k : ℕ) × (cond b (Some i) (position_from test (i + 1) xs) ≡ Some k)
-    at later true g = (i, refl)
-    at later false g = later g
+use Rattle.object_model.proofs.Positions.{placed}
 
 small : (highest : ℕ) (indexes : List ℕ) → highest ≤ 8 → are_indexes highest indexes ≡ true → All (λ i. i < 16) indexes
 small highest [] few h = All-nil (λ i. i < 16)
@@ -33,11 +23,7 @@ small highest (i ∷ is) few h =
 
 few_indexes : (p : Part) → ((interface_of p).attributes ≤ 8) × ((interface_of p).methods ≤ 8)
 few_indexes (Data1 start) = (omega arith, omega arith)
-few_indexes (Register start default scaler_unit) = (omega arith, omega arith)
-few_indexes (ProfileGeneric captured period entries) = (omega arith, omega arith)
-few_indexes (ScriptTable scripts) = (omega arith, omega arith)
-few_indexes (RegisterMonitor monitored th actions) = (omega arith, omega arith)
-few_indexes (SingleActionSchedule script type times) = (omega arith, omega arith)
+few_indexes p = (omega arith, omega arith)
 
 pub has-room : (P : Plan) → IsSound P → (r : Right) → IsIn P.rights r → HasRoom (map (λ o. o.name) P.objects) r
 has-room P sound r i = at (object_at P r.object) refl granted.1
@@ -51,7 +37,7 @@ has-room P sound r i = at (object_at P r.object) refl granted.1
     at : (f : Option Object) → object_at P r.object ≡ f → some_passes test f ≡ true → HasRoom (map (λ o. o.name) P.objects) r
     at None is h = cc
     at (Some o) is h =
-        let found = placed (λ p. same_name p.name r.object) P.objects o 0 is in
+        let found = placed (λ p. same_name p.name r.object) P.objects o is in
         let client = ltb-true r.client (length P.clients) granted.0 in
         record {
           client = omega (arith, client, sound.few_clients);

@@ -1,12 +1,12 @@
 -- What a binary search knows, and an index that grows by a number.
-use Rattle.std.proofs.Common.{◌≡◌, ◌≢◌, ◌<◌, ◌≤◌, ◌+◌, ◌*◌, ◌^◌, ◌-◌, ◌/◌, ℕ, zero, suc, Bool, true, false, cond, List, [], ◌∷◌, length, Some, None, refl, sym, ap, ◌∙◌, inl, inr, ◌⊎◌, arith, get_or}
+use Rattle.std.proofs.Common.{◌≡◌, ◌≢◌, ◌<◌, ◌≤◌, ◌+◌, ◌*◌, ◌^◌, ◌-◌, ◌/◌, ℕ, false, List, length, Some, None, sym, ap, ◌∙◌, inl, inr, ◌⊎◌, arith, get_or}
 use Rattle.std.specs.Prelude.{insert}
 use Rattle.std.specs.List.{position_from}
 use Rattle.std.specs.Ordering.{ordering_reverse, is_eq}
 use Rattle.std.specs.declared.cmp.Ordering.TheVariants.{Less, Equal, Greater}
 use Rattle.std.proofs.lemmas.Cmp.{nat_list_cmp_total, tied_itself}
 use Rattle.std.proofs.lemmas.Map.Text.{is_eq-slice_cmp}
-use Rattle.std.proofs.lemmas.Bool.{cond-true, cond-false, cases_lt}
+use Rattle.std.proofs.lemmas.Bool.{cases_lt, false_from_ne_true}
 use Rattle.std.proofs.lemmas.Grind.{pow_more}
 use Rattle.std.proofs.lemmas.List.Edits.{length-insert, get_or-insert_at, get_or-insert_below, get_or-insert_above}
 use Rattle.std.proofs.Math.Nat.{pow-le-pow_right, mul-le-mul_right, eq-or-lt_of_le}
@@ -14,6 +14,7 @@ use Rattle.cosem_data.specs.Cells.{same_name}
 use Rattle.cosem_data.specs.declared.name.LogicalName.{LogicalName}
 use Rattle.cosem_data.proofs.Same.{same_name-true, same_name-from}
 use Rattle.object_model.specs.Index.{name_at, entry, order, IsSorted, IsIndexOf}
+use Rattle.object_model.proofs.Positions.{is-first, is-nowhere}
 
 pub record IsSearched (names : List LogicalName) (numbers : List ℕ) (name : LogicalName) (low high compared : ℕ) : Type 0 where
   pub ordered : low ≤ high
@@ -108,46 +109,23 @@ goes-down names numbers name low high compared s some i middle at is = record {
         (less-trans name (entry names numbers middle) (entry names numbers j) (greater-less (entry names numbers middle) name is) (s.sorted middle j less g))
     above j g (inl same) = ap (λ z. order (entry names numbers z) name) (sym same) ∙ is
 
--- the first number of a name is the first position of it
-pub first-position : (names : List LogicalName) (name : LogicalName) (k start : ℕ) → k < length names → name_at names k ≡ name →
-    ((j : ℕ) → j < k → name_at names j ≢ name) → Some (start + k) ≡ position_from (λ n. same_name n name) start names
-first-position [] name k start within is before = absurd (omega arith)
-first-position (n ∷ ns) name zero start within is before =
-    ap Some (omega arith) ∙ sym (cond-true (same_name n name) (Some start) (position_from (λ m. same_name m name) (start + 1) ns) (same_name-from n name is))
-first-position (n ∷ ns) name (suc k) start within is before =
-    let other : same_name n name ≡ false = apart n (before 0 (omega arith)) in
-    ap Some (omega arith) ∙ first-position ns name k (start + 1) (omega arith) is (λ j h. before (suc j) (omega arith))
-    ∙ sym (cond-false (same_name n name) (Some start) (position_from (λ m. same_name m name) (start + 1) ns) other)
-  where
-    apart : (m : LogicalName) → m ≢ name → same_name m name ≡ false
-    apart m h = at (same_name m name) refl
-      where
-        at : (b : Bool) → same_name m name ≡ b → b ≡ false
-        at true e = absurd (h (same_name-true m name e))
-        at false e = refl
-
-pub no-position : (names : List LogicalName) (name : LogicalName) (start : ℕ) → ((j : ℕ) → j < length names → name_at names j ≢ name) →
-    None ≡ position_from (λ n. same_name n name) start names
-no-position [] name start none = refl
-no-position (n ∷ ns) name start none = at (no-position ns name (start + 1) (λ j h. none (suc j) (omega arith))) (same_name n name) refl
-  where
-    at : None ≡ position_from (λ m. same_name m name) (start + 1) ns → (b : Bool) → same_name n name ≡ b →
-        None ≡ cond b (Some start) (position_from (λ m. same_name m name) (start + 1) ns)
-    at later true e = absurd (none 0 (omega arith) (same_name-true n name e))
-    at later false e = later
+other-name : (a b : LogicalName) → a ≢ b → same_name a b ≡ false
+other-name a b h = false_from_ne_true (same_name a b) (λ e. h (same_name-true a b e))
 
 -- an index finds its names
 pub found-first : (names : List LogicalName) (numbers : List ℕ) (name : LogicalName) (i : ℕ) → IsIndexOf names numbers (length names) → i < length numbers →
     order (entry names numbers i) name ≡ Equal → Some (get_or numbers i 0) ≡ position_from (λ n. same_name n name) 0 names
 found-first names numbers name i x within is =
     let same : entry names numbers i ≡ name = order-equal (entry names numbers i) name is in
-    ap Some (omega arith) ∙ first-position names name (get_or numbers i 0) 0 (x.below i within) same (λ j h e. x.first i within j h (e ∙ sym same))
+    is-first (λ n. same_name n name) names (get_or numbers i 0) _ (x.below i within)
+    (λ j h. other-name (name_at names j) name (λ e. x.first i within j h (e ∙ sym same))) (same_name-from (entry names numbers i) name same)
 
 pub found-none : (names : List LogicalName) (numbers : List ℕ) (name : LogicalName) (place : ℕ) → IsIndexOf names numbers (length names) →
     ((j : ℕ) → j < place → order (entry names numbers j) name ≡ Less) → ((j : ℕ) → place ≤ j → j < length numbers → order (entry names numbers j) name ≡ Greater) →
     None ≡ position_from (λ n. same_name n name) 0 names
 found-none names numbers name place x less greater =
-    no-position names name 0 (λ k h e. let at = x.complete k h in apart at.0 at.1 (cases_lt at.0 place) (at.2 ∙ e))
+    is-nowhere (λ n. same_name n name) names _
+    (λ k h. other-name (name_at names k) name (λ e. let at = x.complete k h in apart at.0 at.1 (cases_lt at.0 place) (at.2 ∙ e)))
   where
     apart : (i : ℕ) → i < length numbers → (i < place) ⊎ (place ≤ i) → entry names numbers i ≢ name
     apart i within (inl below) = less-apart (entry names numbers i) name (less i below)
@@ -247,13 +225,3 @@ stays names numbers known i x within is = record {
     complete : (k : ℕ) → (k ≡ known) ⊎ (k < known) → (j : ℕ) × (j < length numbers) × (entry names numbers j ≡ name_at names k)
     complete k (inl same) = (i, within, order-equal (entry names numbers i) (name_at names known) is ∙ ap (name_at names) (sym same))
     complete k (inr low) = x.complete k low
-
--- of no names
-pub empty : (names : List LogicalName) → IsIndexOf names [] 0
-empty names = record {
-  few = omega arith;
-  below = λ i h. absurd (omega arith);
-  first = λ i h. absurd (omega arith);
-  sorted = record { small = omega arith; within = λ i h. absurd (omega arith); sorted = λ i j l h. absurd (omega arith) };
-  complete = λ k h. absurd (omega arith);
-}

@@ -1,9 +1,9 @@
 -- The stored objects of a meter, as a state.
-use Rattle.std.proofs.Common.{◌≡◌, ◌+◌, ◌<◌, ℕ, zero, suc, refl, ap, sym, ◌∙◌, arith, Bool, true, false, ◌||◌, ◌&&◌, cond, Option, Some, None, is_some, List, [], ◌∷◌, ◌++◌, flat_map, length, get_or, set}
-use Rattle.std.proofs.lemmas.Bool.{or_parts, cond-true, cond-false, false≢true}
+use Rattle.std.proofs.Common.{◌≡◌, ◌+◌, ℕ, refl, ap, sym, ◌∙◌, Bool, true, false, ◌||◌, ◌&&◌, cond, Option, Some, None, is_some, List, [], ◌∷◌, ◌++◌, flat_map}
+use Rattle.std.proofs.lemmas.Bool.{or_parts, cond-true, cond-false}
 use Rattle.std.specs.List.{list_any, position_from}
 use Rattle.cosem_data.specs.Tree.{Tree, null_data}
-use Rattle.cosem_data.specs.Cells.{same_cell, same_name}
+use Rattle.cosem_data.specs.Cells.{same_cell}
 use Rattle.cosem_data.specs.declared.name.LogicalName.{LogicalName}
 use Rattle.cosem_data.specs.declared.cell.CellRef.{CellRef}
 use Rattle.cosem_data.proofs.Same.{same_cell-true, same_name-from}
@@ -16,25 +16,15 @@ use Rattle.object_model.specs.declared.stored.Cells.{Cells}
 use Rattle.object_model.specs.declared.stored.Cells.TheVariants as cells
 use Rattle.object_model.specs.declared.stored.Stored.{Stored}
 use Rattle.object_model.specs.Stored.{pairs_of, stored_pairs, stores}
-use Rattle.object_model.proofs.ByObject.{list_any-keys, one, same_cell-turned, same_cell-apart, value-first, value-second, value-absent}
+use Rattle.object_model.proofs.ByObject.{list_any-keys, one, same_cell-turned, same_cell-apart, value-absent}
 
 -- one pair of a state
-
-pub last : (b : Bool) → (b || false) ≡ true → b ≡ true
-last true h = refl
-last false h = cc
 
 pub put-here : (c x : CellRef) (w v : Tree) (s : State) → same_cell x c ≡ true → put ((c, w) ∷ s) x v ≡ (c, v) ∷ s
 put-here c x w v s h = cond-true (same_cell c x) ((c, v) ∷ s) ((c, w) ∷ put s x v) (same_cell-turned x c h)
 
 pub put-past : (c x : CellRef) (w v : Tree) (s : State) → same_cell x c ≡ false → put ((c, w) ∷ s) x v ≡ (c, w) ∷ put s x v
 put-past c x w v s h = cond-false (same_cell c x) ((c, v) ∷ s) ((c, w) ∷ put s x v) (same_cell-apart x c h)
-
-pub value-here : (c x : CellRef) (w : Tree) (s : State) → same_cell x c ≡ true → value ((c, w) ∷ s) x ≡ w
-value-here c x w s h = cond-true (same_cell c x) w (value s x) (same_cell-turned x c h)
-
-pub value-past : (c x : CellRef) (w : Tree) (s : State) → same_cell x c ≡ false → value ((c, w) ∷ s) x ≡ value s x
-value-past c x w s h = cond-false (same_cell c x) w (value s x) (same_cell-apart x c h)
 
 -- two states in a row
 
@@ -54,35 +44,6 @@ put-second x v (e ∷ s) t h =
     put-past e.0 x e.1 v (s ++ t) parts.0 ∙ ap (λ z. e ∷ z) (put-second x v s t parts.1)
 
 -- where a cell is stored
-
-pub place-value : (os : List Stored) (x : CellRef) (start p : ℕ) → Some p ≡ position_from (stores x) start os →
-    (k : ℕ) × (p ≡ start + k) × (k < length os) × ((d : Stored) → stores x (get_or os k d) ≡ true) × ((d : Stored) → value (flat_map stored_pairs os) x ≡ value (stored_pairs (get_or os k d)) x)
-place-value [] x start p h = cc
-place-value (o ∷ os) x start p h = at (λ g. place-value os x (start + 1) p g) (stores x o) refl h
-  where
-    at : (Some p ≡ position_from (stores x) (start + 1) os →
-        (k : ℕ) × (p ≡ start + 1 + k) × (k < length os) × ((d : Stored) → stores x (get_or os k d) ≡ true) × ((d : Stored) → value (flat_map stored_pairs os) x ≡ value (stored_pairs (get_or os k d)) x)) →
-        (b : Bool) → stores x o ≡ b → Some p ≡ cond b (Some start) (position_from (stores x) (start + 1) os) →
-        (k : ℕ) × (p ≡ start + k) × (k < length (o ∷ os)) × ((d : Stored) → stores x (get_or (o ∷ os) k d) ≡ true)
-        × ((d : Stored) → value (flat_map stored_pairs (o ∷ os)) x ≡ value (stored_pairs (get_or (o ∷ os) k d)) x)
-    at later true is g = let same : p ≡ start = cc in (0, omega arith, omega arith, (λ d. is), (λ d. value-first x (stored_pairs o) (flat_map stored_pairs os) is))
-    at later false is g =
-        let rest = later g in
-        (suc rest.0, omega (arith, rest.1), omega (arith, rest.2), rest.3, (λ d. value-second x (stored_pairs o) (flat_map stored_pairs os) is ∙ rest.4 d))
-
-pub place-put : (os : List Stored) (x : CellRef) (v : Tree) (start p : ℕ) → Some p ≡ position_from (stores x) start os → (k : ℕ) → p ≡ start + k → (d new : Stored) →
-    stored_pairs new ≡ put (stored_pairs (get_or os k d)) x v → flat_map stored_pairs (set os k new) ≡ put (flat_map stored_pairs os) x v
-place-put [] x v start p h k e d new is = cc
-place-put (o ∷ os) x v start p h k e d new is = at (λ g j f i. place-put os x v (start + 1) p g j f d new i) (stores x o) refl h k e is
-  where
-    at : (Some p ≡ position_from (stores x) (start + 1) os → (j : ℕ) → p ≡ start + 1 + j → stored_pairs new ≡ put (stored_pairs (get_or os j d)) x v →
-        flat_map stored_pairs (set os j new) ≡ put (flat_map stored_pairs os) x v) →
-        (b : Bool) → stores x o ≡ b → Some p ≡ cond b (Some start) (position_from (stores x) (start + 1) os) → (j : ℕ) → p ≡ start + j →
-        stored_pairs new ≡ put (stored_pairs (get_or (o ∷ os) j d)) x v → flat_map stored_pairs (set (o ∷ os) j new) ≡ put (flat_map stored_pairs (o ∷ os)) x v
-    at later true has g zero f i = ap (λ s. s ++ flat_map stored_pairs os) i ∙ sym (put-first x v (stored_pairs o) (flat_map stored_pairs os) has)
-    at later true has g (suc j) f i = let same : p ≡ start = cc in absurd (omega arith)
-    at later false has g zero f i = let there = place-value os x (start + 1) p g in absurd (omega (arith, there.1))
-    at later false has g (suc j) f i = ap (λ s. stored_pairs o ++ s) (later g j (omega arith) i) ∙ sym (put-second x v (stored_pairs o) (flat_map stored_pairs os) has)
 
 -- an object has the cell where it is found, and else none has it
 pub is_some-stored : (os : List Stored) (x : CellRef) (start : ℕ) → is_some (position_from (stores x) start os) ≡ list_any (same_cell x) (keys (flat_map stored_pairs os))
@@ -130,13 +91,6 @@ stores-named x n (cells.SingleActionSchedule object) h = one x 22 n 4 h
 pub stored-name : (x : CellRef) (o : Stored) → stores x o ≡ true → x.name ≡ o.name
 stored-name x o h = stores-named x o.name o.cells h
 
-not-named : (x : CellRef) (o : Stored) → same_name o.name x.name ≡ false → stores x o ≡ false
-not-named x o h = at (stores x o) refl
-  where
-    at : (b : Bool) → stores x o ≡ b → b ≡ false
-    at true e = absurd (false≢true (sym h ∙ same_name-from o.name x.name (sym (stores-named x o.name o.cells e))))
-    at false e = refl
-
 -- words for the cells of a class
 
 pub never_both : (b : Bool) → (b && false) ≡ false
@@ -150,9 +104,6 @@ same_value a b e = cc
 pub put-seen : (n : LogicalName) (limits last now : Tree) → put ((thresholds n, limits) ∷ (seen n, last) ∷ []) (seen n) now ≡ (thresholds n, limits) ∷ (seen n, now) ∷ []
 put-seen n limits last now = rw (same_name-from n n refl) refl
 
-pub put-thresholds : (n : LogicalName) (limits last given : Tree) → put ((thresholds n, limits) ∷ (seen n, last) ∷ []) (thresholds n) given ≡ (thresholds n, given) ∷ (seen n, last) ∷ []
-put-thresholds n limits last given = rw (same_name-from n n refl) refl
-
 pub put-buffer : (n : LogicalName) (rows period in_use given : Tree) →
     put ((buffer n, rows) ∷ (capture_period n, period) ∷ (entries_in_use n, in_use) ∷ []) (buffer n) given ≡ (buffer n, given) ∷ (capture_period n, period) ∷ (entries_in_use n, in_use) ∷ []
 put-buffer n rows period in_use given = rw (same_name-from n n refl) refl
@@ -163,9 +114,6 @@ put-in_use n rows period in_use given = rw (same_name-from n n refl) refl
 
 pub value-buffer : (n : LogicalName) (rows period in_use : Tree) → value ((buffer n, rows) ∷ (capture_period n, period) ∷ (entries_in_use n, in_use) ∷ []) (buffer n) ≡ rows
 value-buffer n rows period in_use = rw (same_name-from n n refl) refl
-
-pub value-in_use : (n : LogicalName) (rows period in_use : Tree) → value ((buffer n, rows) ∷ (capture_period n, period) ∷ (entries_in_use n, in_use) ∷ []) (entries_in_use n) ≡ in_use
-value-in_use n rows period in_use = rw (same_name-from n n refl) refl
 
 -- a capture that is taken back
 pub undone-captured : (n : LogicalName) (rows : List Tree) (period in_use count : Tree) (dropped : Option Tree) → (s : State) →

@@ -1,9 +1,10 @@
 //! A meter: a value for each cell of its plan.
-ghost use Rattle.std.specs.Prelude.{◌≡◌, flat_map, is_some, length, map, true, false, None, Some, IfOk, IfSome, IfNone, IsOk, OnOk, OnErr};
+ghost use Rattle.std.specs.Prelude.{◌≡◌, cond, flat_map, is_some, length, map, slice_get, true, false, None, Some, IfOk, IfSome, IfNone, IsOk, OnOk, OnErr};
 ghost use Rattle.std.specs.List.{position_from};
 ghost use Rattle.cosem_data.specs.View.{tree};
 ghost use Rattle.cosem_data.specs.Tree.{null_data};
 ghost use Rattle.cosem_data.specs.declared.name.LogicalName.{LogicalName as NameValue};
+ghost use Rattle.meter_theory.specs.Lists.{some_passes};
 ghost use Rattle.meter_theory.specs.Plan as plans;
 ghost use Rattle.meter_theory.specs.Plan.{cells, class_of, is_cell, object_at};
 ghost use Rattle.meter_theory.specs.State as state;
@@ -254,10 +255,15 @@ fn place_of(instance: &Instance<'_>, objects: &[Stored], cell: &CellRef) -> Opti
     ensures { result ≡ position_from (stores cell.now) 0 objects.now }
 {
     instance.plan().known();
-    let Some(place) = instance.place() else {
-        return None;
-    };
+    let place = instance.place()?;
     let owner = usize::from(place.owner);
+    if_stored(objects, owner, cell)
+}
+
+/// This place, if the object there has the cell.
+fn if_stored(objects: &[Stored], owner: usize, cell: &CellRef) -> Option<usize>
+    ensures { result ≡ cond (some_passes (stores cell.now) (slice_get objects.now owner)) (Some owner) None }
+{
     match objects.get(owner) {
         Some(object) if object.has(cell) => Some(owner),
         _ => None,

@@ -5,7 +5,8 @@ use Rattle.std.proofs.lemmas.List.Elements.{All-get_or}
 use Rattle.meter_theory.specs.Rights.{lists}
 use Rattle.meter_theory.specs.declared.limits.TheConstants.{CLIENTS}
 use Rattle.object_model.specs.Grants.{place_in, listed, AreMasksOf}
-use Rattle.object_model.proofs.Granted.{one-more, at-position, item-in}
+use Rattle.object_model.proofs.Granted.{one-more, at-position}
+use Rattle.object_model.proofs.Positions.{item-in}
 use Rattle.object_model.proofs.grants.masks_of.Goals as goal
 
 pub unreachable-requires : goal.unreachable-requires
@@ -24,17 +25,17 @@ pub index_mut-requires : goal.index_mut-requires
 index_mut-requires c =
     let room = c.requires.room c.right-item.result (item-in c.args.rights.now c.loop-right.right-index c.right-item.result c.loop-right-test.true c.right-item.is) in
     let found : Some c.in-Some.object ≡ place_in c.args.index.now c.object.result.now = sym c.in-Some.is ∙ c.find-found.ensures.found in
-    let at = at-position c.args.index.now c.object.result.now 0 c.in-Some.object found in
-    omega (arith, at.1, at.2, c.loop-right.invariant.size, c.from.ensures, c.from-in-loop-right.ensures, c.client.ensures, room.client)
+    let at = at-position c.args.index.now c.object.result.now c.in-Some.object found in
+    omega (arith, at.0, c.loop-right.invariant.size, c.from.ensures, c.from-in-loop-right.ensures, c.client.ensures, room.client)
 
 pub loop-right-preserved : goal.loop-right-preserved
 loop-right-preserved c =
     let room = c.requires.room c.right-item.result (item-in c.args.rights.now c.loop-right.right-index c.right-item.result c.loop-right-test.true c.right-item.is) in
     let found : Some c.in-Some.object ≡ place_in c.args.index.now c.right-item.result.object =
     sym c.in-Some.is ∙ c.find-found.ensures.found ∙ ap (place_in c.args.index.now) c.object.ensures in
-    let at = at-position c.args.index.now c.right-item.result.object 0 c.in-Some.object found in
+    let at = at-position c.args.index.now c.right-item.result.object c.in-Some.object found in
     let within : c.from.result * CLIENTS + c.from-in-loop-right.result < length c.loop-right.masks.items =
-    omega (arith, at.1, at.2, c.loop-right.invariant.size, c.from.ensures, c.from-in-loop-right.ensures, c.client.ensures, room.client) in
+    omega (arith, at.0, c.loop-right.invariant.size, c.from.ensures, c.from-in-loop-right.ensures, c.client.ensures, room.client) in
     subst (λ old. AreMasksOf c.args.index.now c.args.access (take (c.loop-right.right-index + 1) c.args.rights.now)
     (slice_set c.loop-right.masks.items (c.from.result * CLIENTS + c.from-in-loop-right.result) (bit_or old c.mask_of.result)))
     (sym (c.index_mut.ensures.value ∙ get_or_default c.loop-right.masks.items (c.from.result * CLIENTS + c.from-in-loop-right.result) c.index_mut.result.now 0 within))

@@ -6,12 +6,12 @@ use Rattle.meter_theory.specs.Steps as theory
 use Rattle.meter_theory.specs.Value.{counter}
 use Rattle.object_model.specs.Stored.{stored_pairs, stores}
 use Rattle.object_model.specs.Undone.{change_undone, cell_changed}
-use Rattle.object_model.proofs.Aligned.{found-stored}
+use Rattle.object_model.proofs.Positions.{first}
 use Rattle.object_model.proofs.Changed.{split, same-name, both-in, undone-in, keys-both}
 use Rattle.object_model.proofs.meter.clear_in.Goals as goal
 
 pub index_mut-requires : goal.index_mut-requires
-index_mut-requires c = let at = (found-stored c.args.objects.now.items (buffer c.args.name) c.args.place c.requires.place).0 in omega (arith, at)
+index_mut-requires c = let at = first (stores (buffer c.args.name)) c.args.objects.now.items c.args.place c.requires.place in omega (arith, at.within)
 
 pub clear-change-requires : goal.clear-change-requires
 clear-change-requires c =

@@ -1,12 +1,12 @@
 use Rattle.std.proofs.Common.{arith, ◌∙◌, ap, ap₂}
 use Rattle.object_model.specs.Stored.{stored_pairs, stores}
 use Rattle.object_model.specs.Undone.{change_undone, cell_changed, changed_cell}
-use Rattle.object_model.proofs.Aligned.{found-stored}
+use Rattle.object_model.proofs.Positions.{first}
 use Rattle.object_model.proofs.Changed.{split, same-name, undo-in, changed-name}
 use Rattle.object_model.proofs.meter.restore_in.Goals as goal
 
 pub index_mut-requires : goal.index_mut-requires
-index_mut-requires c = let at = (found-stored c.args.objects.now.items (changed_cell c.args.undo) c.args.place c.requires.place).0 in omega (arith, at)
+index_mut-requires c = let at = first (stores (changed_cell c.args.undo)) c.args.objects.now.items c.args.place c.requires.place in omega (arith, at.within)
 
 pub restore-requires : goal.restore-requires
 restore-requires c =

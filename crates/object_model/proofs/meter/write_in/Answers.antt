@@ -5,12 +5,12 @@ use Rattle.meter_theory.specs.State.{put, keys}
 use Rattle.meter_theory.proofs.State.{keys-put}
 use Rattle.object_model.specs.Stored.{stored_pairs, stores}
 use Rattle.object_model.specs.Undone.{change_undone, cell_changed}
-use Rattle.object_model.proofs.Aligned.{found-stored}
+use Rattle.object_model.proofs.Positions.{first}
 use Rattle.object_model.proofs.Changed.{split, same-name, put-in, undone-in}
 use Rattle.object_model.proofs.meter.write_in.Goals as goal
 
 pub index_mut-requires : goal.index_mut-requires
-index_mut-requires c = let at = (found-stored c.args.objects.now.items c.args.cell.now c.args.place c.requires.place).0 in omega (arith, at)
+index_mut-requires c = let at = first (stores c.args.cell.now) c.args.objects.now.items c.args.place c.requires.place in omega (arith, at.within)
 
 pub write-change-requires-clause-stored : goal.write-change-requires-clause-stored
 write-change-requires-clause-stored c =

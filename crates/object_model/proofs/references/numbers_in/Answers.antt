@@ -1,7 +1,7 @@
 use Rattle.std.proofs.Common.{◌≡◌, ◌∙◌, sym, Some, None}
 use Rattle.std.proofs.lemmas.List.{get_or_default}
 use Rattle.object_model.specs.Index.{name_at}
-use Rattle.object_model.proofs.Granted.{item-in}
+use Rattle.object_model.proofs.Positions.{item-in}
 use Rattle.object_model.proofs.references.numbers_in.Goals as goal
 
 pub unreachable-requires : goal.unreachable-requires

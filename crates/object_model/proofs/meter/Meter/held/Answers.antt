@@ -6,14 +6,14 @@ use Rattle.meter_theory.specs.State.{keys, value}
 use Rattle.meter_theory.specs.Plan.{cells}
 use Rattle.object_model.specs.declared.stored.Stored.{Stored}
 use Rattle.object_model.specs.Stored.{stored_pairs, stores}
-use Rattle.object_model.proofs.Aligned.{found-stored}
+use Rattle.object_model.proofs.Positions.{first}
 use Rattle.object_model.proofs.Stores.{is_some-stored, nowhere-value}
 use Rattle.object_model.proofs.Changed.{split, value-in}
 use Rattle.object_model.proofs.meter.Meter.held.Goals as goal
 
 pub index-requires : goal.index-requires
-index-requires c = let at = (found-stored c.self.inside.objects.items c.args.cell.now c.in-Some.place
-    (ap (position_from (stores c.args.cell.now) 0) (sym c.deref.ensures.value) ∙ sym c.place_of.ensures ∙ c.in-Some.is)).0 in omega (arith, at)
+index-requires c = let at = first (stores c.args.cell.now) c.self.inside.objects.items c.in-Some.place
+    (ap (position_from (stores c.args.cell.now) 0) (sym c.deref.ensures.value) ∙ sym c.place_of.ensures ∙ c.in-Some.is) in omega (arith, at.within)
 
 pub held-requires : goal.held-requires
 held-requires c =

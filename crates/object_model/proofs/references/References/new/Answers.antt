@@ -1,7 +1,7 @@
 use Rattle.std.proofs.Common.{◌∙◌, ap, subst}
 use Rattle.meter_theory.specs.Lists.{IsIn}
 use Rattle.object_model.specs.Tables.{references}
-use Rattle.object_model.proofs.Granted.{item-in}
+use Rattle.object_model.proofs.Positions.{item-in}
 use Rattle.object_model.proofs.references.References.new.Goals as goal
 
 pub numbers_in-requires : goal.numbers_in-requires
