@@ -1,7 +1,8 @@
 -- One label more of a configuration.
 use Rattle.std.proofs.Common.{◌≡◌, ◌<◌, ℕ, zero, suc, ◌+◌, List, [], ◌∷◌, ◌++◌, length, take, get_or, sym, ap, subst, ◌∙◌, arith}
 use Rattle.cosem_data.specs.declared.cell.CellRef.{CellRef}
-use Rattle.meter_theory.specs.Labels.{Label, Labels}
+use Rattle.meter_theory.specs.declared.flow.Label.{Label}
+use Rattle.meter_theory.specs.Labels.{Labels}
 use Rattle.config_text.specs.Parts.{ConfigText, LabelText}
 use Rattle.config_rules.specs.Faultless.{AreLabelsOf, IsLabelOf}
 use Rattle.config_rules.specs.PlanOf.{cell_named}

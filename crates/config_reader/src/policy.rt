@@ -13,8 +13,9 @@ use config_text::parts::{LabelParts, SetsParts};
 use cosem_data::cell::CellRef;
 use cosem_data::clients::ClientSet;
 use cosem_data::memory::Memory;
+use meter_theory::flow::Label;
 use object_model::plan::Plan;
-use object_model::policy::{Label, Policy, PolicyParts};
+use object_model::policy::{Policy, PolicyParts};
 use std::alloc::Global;
 
 /// The clients with these names.

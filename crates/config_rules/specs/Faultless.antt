@@ -3,7 +3,8 @@ use Rattle.std.specs.Prelude.{◌≡◌, ℕ, Ok, List, [], ◌∷◌, ◌==◌}
 use Rattle.std.specs.List.{list_any}
 use Rattle.cosem_data.specs.Clients.{has_client}
 use Rattle.cosem_data.specs.declared.clients.ClientSet.{ClientSet}
-use Rattle.meter_theory.specs.Labels.{Label, Labels, Policy}
+use Rattle.meter_theory.specs.declared.flow.Label.{Label}
+use Rattle.meter_theory.specs.Labels.{Labels, Policy}
 use Rattle.config_text.specs.Parts.{Text, SetsText, LabelText, ConfigText}
 use Rattle.config_rules.specs.Passes.{judged}
 use Rattle.config_rules.specs.PlanOf.{cell_named, client_place}

@@ -13,7 +13,8 @@ use Rattle.meter_theory.proofs.State.{value-put_other, value-put}
 use Rattle.meter_theory.specs.EffectLaws.{KeepsAgreementOn}
 use Rattle.meter_theory.specs.Plan.{Plan, Object, Part, Data1, Register, ProfileGeneric, ScriptTable, RegisterMonitor, SingleActionSchedule, class_of, start, object_at, buffer, entries_in_use}
 use Rattle.meter_theory.specs.Steps.{Captures, captures_of, capture, clear, effect, changed_by, Effect, Put, Capture, Clear}
-use Rattle.meter_theory.specs.Edges.{IsClosed, EdgeIn, edge, Captured}
+use Rattle.meter_theory.specs.declared.flow.Cause.TheVariants.{Captured}
+use Rattle.meter_theory.specs.Edges.{IsClosed, EdgeIn, edge}
 use Rattle.cosem_class.specs.declared.class.Op.{Op}
 use Rattle.cosem_class.specs.declared.class.Op.TheVariants.{Write, Invoke, Remember}
 use Rattle.cosem_class.specs.DataClass.{DataFixed, data_touched, data_new_value}

@@ -14,7 +14,10 @@ use Rattle.meter_theory.specs.declared.refs.UpDown.{UpDown}
 use Rattle.meter_theory.specs.Plan.{Plan, Object, Script, Action, Write, Invoke, Part, Data1, Register, ProfileGeneric, ScriptTable, RegisterMonitor, SingleActionSchedule, cells, start, start_of, buffer, capture_period, entries_in_use, thresholds, seen, execution_time, object_at}
 use Rattle.cosem_data.specs.declared.cell.MethodRef.{MethodRef}
 use Rattle.meter_theory.specs.Steps.{Effect, Put, Capture, Clear, changed_by, changed, plain_method, plain_method_of, action_effects, actions_effects, script_in, scripts_of}
-use Rattle.meter_theory.specs.Edges.{Cause, Monitored, Monitor, Captured, Period, Schedule, Edge, edge, EdgeIn, IsEdge, script_changes, scripts_named, monitor_changes, among, in_plan_order, edges_in, same_cause, same_edge, first_of_each, edges}
+use Rattle.meter_theory.specs.declared.flow.Cause.{Cause}
+use Rattle.meter_theory.specs.declared.flow.Edge.{Edge}
+use Rattle.meter_theory.specs.declared.flow.Cause.TheVariants.{Monitored, Monitor, Captured, Period, Schedule}
+use Rattle.meter_theory.specs.Edges.{edge, EdgeIn, IsEdge, script_changes, scripts_named, monitor_changes, among, in_plan_order, edges_in, same_cause, same_edge, first_of_each, edges}
 use Rattle.meter_theory.specs.Sound.{IsSound}
 use Rattle.meter_theory.proofs.Lists.{any_in, in_any, found, in_append_left, in_append_right, in_append_cases, in_flat_map, from_flat_map, in_map, from_map, in_filter, from_filter}
 use Rattle.meter_theory.proofs.Agreement.{object-found}

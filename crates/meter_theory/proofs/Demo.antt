@@ -11,7 +11,8 @@ use Rattle.meter_theory.specs.Rights.{Absent, Given, Unreadable, Selection}
 use Rattle.meter_theory.specs.Fixed.{fixed, fixed_in, association_attribute, object_list, access_rights}
 use Rattle.meter_theory.specs.Steps.{Step, Get, Set, Act, Input, Evaluate, ScheduleAt}
 use Rattle.meter_theory.specs.Replies.{Value, Code, Quiet, run, replies, replies_of}
-use Rattle.meter_theory.specs.Edges.{edge, edges, Monitored, Monitor, Captured, Period, Schedule}
+use Rattle.meter_theory.specs.declared.flow.Cause.TheVariants.{Monitored, Monitor, Captured, Period, Schedule}
+use Rattle.meter_theory.specs.Edges.{edge, edges}
 use Rattle.meter_theory.specs.Labels.{labelling_of_policy, within, Admits}
 use Rattle.meter_theory.specs.Sound.{is_sound}
 use Rattle.meter_theory.specs.Check.{clients_with_cells, is_labelled, keeps_policy, admits_changer, admits_reader, influence_flows, learn_flows, AllPass}

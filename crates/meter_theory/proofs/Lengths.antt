@@ -28,7 +28,7 @@ use Rattle.meter_theory.specs.Rights.{cell_of, Selection, class_is, descriptor_i
 use Rattle.meter_theory.specs.Fixed.{name_value, capture_object, action_value, script_value, up_down_value, fixed_in, fixed_of, attribute_access, method_access, access_selectors, access_rights, listed_object, objects_of, object_list, partners, mechanism_of, of_client, association_attribute, fixed}
 use Rattle.meter_theory.specs.Access.{is_success}
 use Rattle.meter_theory.specs.Replies.{Value, Code, attribute, selected_by, selected, reply_to}
-use Rattle.meter_theory.specs.Steps.{Step, Get, Set, Act, Input, CaptureAt, Evaluate, ScheduleAt}
+use Rattle.meter_theory.specs.Steps.{Step, Get}
 use Rattle.meter_theory.specs.Sound.{IsSound, is_name, has_action_sizes, has_script_sizes, has_part_sizes}
 use Rattle.meter_theory.specs.States.{IsCaptured, AreCaptured, AreRows, IsBuffer, IsSeen, Holds, IsState}
 use Rattle.meter_theory.proofs.Lists.{from_map, from_filter, from_flat_map, none_found}

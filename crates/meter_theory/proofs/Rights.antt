@@ -17,7 +17,7 @@ use Rattle.meter_theory.specs.declared.access.AccessCode.{AccessCode}
 use Rattle.meter_theory.specs.declared.access.AccessCode.TheVariants.{ReadWriteDenied, ObjectClassInconsistent, TypeUnmatched}
 use Rattle.meter_theory.specs.Access.{is_success}
 use Rattle.meter_theory.specs.Rights.{first_place, Argument, Absent, Given, Unreadable, Descriptor, cell_of, method_of, Selection, may_set, may_act, may_read, class_is, get_answer, set_answer, act_answer, get_places, set_places, act_places, script_number, has_valid_tag}
-use Rattle.meter_theory.specs.Steps.{Effect, changed_by, changed, actions_effects, script_in, method_in, method_effects, Step, Get, Set, Act, Input, CaptureAt, Evaluate, ScheduleAt, client_of, given_value, effects_of}
+use Rattle.meter_theory.specs.Steps.{Effect, changed_by, changed, actions_effects, script_in, method_in, method_effects, Step, Get, Set, Act, client_of, given_value, effects_of}
 use Rattle.meter_theory.specs.Labels.{all_scripts, method_changes, method_changes_of, MayChange}
 use Rattle.meter_theory.proofs.Agreement.{object-found}
 use Rattle.meter_theory.proofs.Lists.{in_map, found, in_flat_map, from_flat_map}

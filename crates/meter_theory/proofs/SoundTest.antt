@@ -11,7 +11,7 @@ use Rattle.cosem_data.specs.Kinds.{kind_of}
 use Rattle.cosem_data.specs.declared.cell.CellRef.{CellRef}
 use Rattle.cosem_data.specs.Cells.{same_name, same_cell}
 use Rattle.meter_theory.specs.State.{value}
-use Rattle.meter_theory.specs.Plan.{Plan, Object, Script, Action, Write, Invoke, Part, Data1, Register, ProfileGeneric, ScriptTable, RegisterMonitor, SingleActionSchedule, association_name, cells, start, rule_of, entries_in_use}
+use Rattle.meter_theory.specs.Plan.{Plan, Object, Script, Action, Write, Invoke, Part, Register, RegisterMonitor, association_name, cells, start, rule_of, entries_in_use}
 use Rattle.meter_theory.specs.Steps.{scripts_of, Captures, captures_in}
 use Rattle.meter_theory.specs.Sound.{IsWrite, IsCapturable, IsSoundPart, IsSound, writes_some, is_write, is_call, all_actions, have_script_numbers, captured_in, is_capturable, captures_cells, has_references, scripts_run_by, has_script, is_right, is_kind_rule, is_sound_part, has_sizes, has_sap, fits_some, is_sized, is_started, is_sound}
 use Rattle.meter_theory.proofs.Lists.{any_in, distinct_from}

@@ -10,9 +10,11 @@ use Rattle.cosem_data.specs.declared.cell.CellRef.{CellRef}
 use Rattle.meter_theory.specs.State.{State, keys, value, put}
 use Rattle.meter_theory.specs.declared.refs.ScriptRef.{ScriptRef}
 use Rattle.meter_theory.specs.declared.refs.UpDown.{UpDown}
-use Rattle.meter_theory.specs.Plan.{Plan, Object, Part, Data1, Register, ProfileGeneric, ScriptTable, RegisterMonitor, SingleActionSchedule, buffer, capture_period, entries_in_use, thresholds, seen, execution_time, object_at}
+use Rattle.meter_theory.specs.Plan.{Plan, Object, Part, ProfileGeneric, RegisterMonitor, SingleActionSchedule, buffer, capture_period, entries_in_use, thresholds, seen, execution_time, object_at}
 use Rattle.meter_theory.specs.Steps.{Effect, Put, Capture, effects, changed_by, changed, effects_of_script, due_scripts, due_at, Step, Get, Set, Act, Input, CaptureAt, Evaluate, ScheduleAt, captured_at, evaluated, scheduled_at, effects_of, next}
-use Rattle.meter_theory.specs.Edges.{Agree, IsClosed, edge, Cause, Monitored, Monitor, Period, Schedule, IsEdge, EdgeIn, script_changes, scripts_named, monitor_changes}
+use Rattle.meter_theory.specs.declared.flow.Cause.{Cause}
+use Rattle.meter_theory.specs.declared.flow.Cause.TheVariants.{Monitored, Monitor, Period, Schedule}
+use Rattle.meter_theory.specs.Edges.{Agree, IsClosed, edge, IsEdge, EdgeIn, script_changes, scripts_named, monitor_changes}
 use Rattle.meter_theory.specs.EffectLaws.{KeepsAgreementOn, EffectLaws}
 use Rattle.meter_theory.proofs.Lists.{in_append_left, in_append_right, in_append_cases, in_flat_map, from_flat_map}
 use Rattle.meter_theory.proofs.Agreement.{object-found, effects-keys, effects-append, AreQuiet, quiet_branch, meets_or_not, effects-agree, effects-quiet, agree_or_quiet}

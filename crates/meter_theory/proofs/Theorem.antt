@@ -16,7 +16,7 @@ use Rattle.meter_theory.specs.Access.{is_success}
 use Rattle.meter_theory.specs.Rights.{cell_of, class_is, get_answer, set_answer, may_read, may_get, lists, readable_of_association}
 use Rattle.meter_theory.specs.Fixed.{fixed}
 use Rattle.meter_theory.specs.Replies.{Value, Code, is_step_of_client, attribute, selected, reply_to, run, replies, replies_of}
-use Rattle.meter_theory.specs.Steps.{Put, Step, Get, Set, Act, Input, CaptureAt, Evaluate, ScheduleAt, client_of, given_value, effects_of, next, is_fed, meets_some}
+use Rattle.meter_theory.specs.Steps.{Put, Step, Get, Set, Input, client_of, given_value, effects_of, next, is_fed, meets_some}
 use Rattle.meter_theory.specs.Edges.{Agree, IsClosed}
 use Rattle.meter_theory.specs.Labels.{has, within, Labels, Labelling, labelling_of, Admits}
 use Rattle.meter_theory.specs.Safety.{HasCells, is_step_of, Thinned, DifferHidden, Alike, outside, LookAlike, Influence, Secrecy}

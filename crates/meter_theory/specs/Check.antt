@@ -5,7 +5,8 @@ use Rattle.meter_theory.specs.Lists.{IsIn}
 use Rattle.cosem_data.specs.declared.cell.CellRef.{CellRef}
 use Rattle.meter_theory.specs.Plan.{Plan, cells}
 use Rattle.meter_theory.specs.Rights.{may_get, may_set}
-use Rattle.meter_theory.specs.Edges.{Edge, edges, among}
+use Rattle.meter_theory.specs.declared.flow.Edge.{Edge}
+use Rattle.meter_theory.specs.Edges.{edges, among}
 use Rattle.meter_theory.specs.Labels.{Labels, Labelling, label_at, labelling_of, within, has, method_changes_of}
 
 -- the client has a right that changes the cell

@@ -9,7 +9,8 @@ use Rattle.meter_theory.specs.Value.{counter, array_of, structure_of}
 use Rattle.meter_theory.specs.Times.{Moment}
 use Rattle.meter_theory.specs.Plan.{Plan, Data1, Register, ProfileGeneric, ScriptTable, RegisterMonitor, SingleActionSchedule, Write, Invoke, data_value, register_value, buffer, capture_period, entries_in_use, thresholds, seen, execution_time}
 use Rattle.meter_theory.specs.Rights.{Given, Descriptor}
-use Rattle.meter_theory.specs.Labels.{Label, Labels, Policy}
+use Rattle.meter_theory.specs.declared.flow.Label.{Label}
+use Rattle.meter_theory.specs.Labels.{Labels, Policy}
 use Rattle.meter_theory.specs.Steps.{Step, Get, Set}
 
 -- the clients, by their places

@@ -8,6 +8,9 @@ use Rattle.cosem_data.specs.Cells.{same_cell}
 use Rattle.meter_theory.specs.State.{State, value}
 use Rattle.meter_theory.specs.declared.refs.ScriptRef.{ScriptRef}
 use Rattle.meter_theory.specs.declared.refs.UpDown.{UpDown}
+use Rattle.meter_theory.specs.declared.flow.Cause.{Cause}
+use Rattle.meter_theory.specs.declared.flow.Cause.TheVariants.{Monitored, Monitor, Captured, Period, Schedule}
+use Rattle.meter_theory.specs.declared.flow.Edge.{Edge}
 use Rattle.meter_theory.specs.Plan.{Plan, Object, Part, ProfileGeneric, RegisterMonitor, SingleActionSchedule, buffer, capture_period, entries_in_use, thresholds, seen, execution_time, cells}
 use Rattle.meter_theory.specs.Steps.{changed, effects_of_script}
 
@@ -22,20 +25,6 @@ scripts_named actions = flat_map (λ a. a.up ∷ a.down ∷ []) actions
 -- the cells that a monitor's scripts change
 abbrev pub monitor_changes : Plan → List UpDown → List CellRef
 monitor_changes P actions = flat_map (script_changes P) (scripts_named actions)
-
--- why there is an edge
-pub data Cause : Type 0 where
-  Monitored : Cause
-  Monitor : Cause
-  Captured : Cause
-  Period : Cause
-  Schedule : Cause
-
--- from a cell to one that its value may reach or decide
-pub record Edge : Type 0 where
-  pub source : CellRef
-  pub target : CellRef
-  pub cause : Cause
 
 -- An edge from x to y for this cause, which an object of this name makes.
 abbrev pub EdgeIn : Plan → LogicalName → Part → Cause → CellRef → CellRef → Type 0

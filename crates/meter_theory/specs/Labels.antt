@@ -12,7 +12,9 @@ use Rattle.meter_theory.specs.Plan.{Plan, Object, Script, Part, ScriptTable, Reg
 use Rattle.cosem_data.specs.declared.cell.MethodRef.{MethodRef}
 use Rattle.meter_theory.specs.Rights.{may_get, may_set, may_act}
 use Rattle.meter_theory.specs.Steps.{changed, actions_effects, plain_method, Effect}
-use Rattle.meter_theory.specs.Edges.{Edge, IsEdge}
+use Rattle.meter_theory.specs.declared.flow.Edge.{Edge}
+use Rattle.meter_theory.specs.declared.flow.Label.{Label}
+use Rattle.meter_theory.specs.Edges.{IsEdge}
 
 -- the client is in the set
 abbrev pub has : ClientSet → ℕ → Bool
@@ -24,11 +26,6 @@ within cs ds = list_all (λ c. not (has cs c) || has ds c) (range_with_len 0 lim
 
 abbrev pub nobody : ClientSet
 nobody = record { mask = 0; in_range = lit< tt }
-
--- who may influence a cell, and who may learn it
-pub record Label : Type 0 where
-  pub influence : ClientSet
-  pub learn : ClientSet
 
 -- a certificate: a label for each cell of a list of cells, in its order
 abbrev pub Labels : Type 0

@@ -2,7 +2,8 @@
 use Rattle.std.proofs.Common.{◌≡◌, Bool, true, false, refl, sym, ap, ◌∙◌, cond, [], ◌∷◌, Option, Some, None, option_map, find}
 use Rattle.cosem_data.specs.Cells.{same_cell}
 use Rattle.cosem_data.specs.declared.cell.CellRef.{CellRef}
-use Rattle.meter_theory.specs.Labels.{Label, Labels, label_at, or_else}
+use Rattle.meter_theory.specs.declared.flow.Label.{Label}
+use Rattle.meter_theory.specs.Labels.{Labels, label_at, or_else}
 
 abbrev label_in : Option (CellRef × Label) → Option Label
 label_in e = option_map (λ p. p.1) e

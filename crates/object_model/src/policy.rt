@@ -6,28 +6,9 @@ ghost use Rattle.object_model.specs.PolicyView.{policy_of};
 
 use crate::plan::Plan;
 use cosem_data::cell::CellRef;
-use cosem_data::clients::ClientSet;
 use cosem_data::memory::Memory;
+use meter_theory::flow::Label;
 use std::marker::Model;
-
-/// Who may influence what a cell holds, and who may learn it: clients by their places in the plan (own profile).
-#[derive(Clone, Copy, Debug, PartialEq, Eq)]
-pub struct Label {
-    /// The clients that may influence it.
-    pub influence: ClientSet,
-    /// The clients that may learn it.
-    pub learn: ClientSet,
-}
-
-impl Model for Label {
-    ghost use Rattle.meter_theory.specs.Labels as theory;
-
-    ghost Value = { theory.Label };
-
-    ghost view = { λ l. record { influence = l.influence; learn = l.learn } };
-
-    ghost inverse = { λ l. record { influence = l.influence; learn = l.learn } };
-}
 
 /// What makes a policy.
 #[derive(Drop)]

@@ -1,0 +1,39 @@
+//! From which cell to which a value may flow, and who may influence and learn a cell.
+use cosem_data::cell::CellRef;
+use cosem_data::clients::ClientSet;
+
+/// Why a value may flow from a cell to another (own profile).
+#[derive(Clone, Copy, Debug, PartialEq, Eq, Drop)]
+pub enum Cause {
+    /// A register monitor keeps what it has seen of its monitored value.
+    Monitored,
+    /// A register monitor runs the scripts that change the target: its monitored value, its thresholds and what it has seen
+    /// decide which.
+    Monitor,
+    /// A profile captures the source into its buffer.
+    Captured,
+    /// A profile's capture period decides when its buffer and its entries in use change.
+    Period,
+    /// A schedule's execution time decides when the script runs that changes the target.
+    Schedule,
+}
+
+/// From a cell to one that its value may reach or decide (own profile).
+#[derive(Clone, Copy, Debug, PartialEq, Eq, Drop)]
+pub struct Edge {
+    /// The cell whose value may flow.
+    pub source: CellRef,
+    /// The cell to which it may flow.
+    pub target: CellRef,
+    /// Why it may.
+    pub cause: Cause,
+}
+
+/// Who may influence what a cell holds, and who may learn it: clients by their places in the plan (own profile).
+#[derive(Clone, Copy, Debug, PartialEq, Eq, Drop)]
+pub struct Label {
+    /// The clients that may influence it.
+    pub influence: ClientSet,
+    /// The clients that may learn it.
+    pub learn: ClientSet,
+}
