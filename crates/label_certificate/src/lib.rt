@@ -1,0 +1,4 @@
+//! Labels of cells as a certificate: the least sets of clients along arrows, and the texts in which labels are kept.
+#![tactic(auto)]
+
+pub mod closing;
