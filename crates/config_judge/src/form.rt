@@ -2,7 +2,7 @@
 
 ghost use Rattle.std.specs.Prelude.{◌≡◌, is_some};
 ghost use Rattle.std.specs.List.{list_all};
-ghost use Rattle.config_rules.specs.Names as spec;
+ghost use Rattle.meter_theory.specs.ClientNames as spec;
 ghost use Rattle.value_text.specs.Texts.{name_in};
 
 use cosem_data::name::LogicalName;

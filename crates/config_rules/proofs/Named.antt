@@ -12,11 +12,13 @@ use Rattle.cosem_data.specs.Cells.{same_name}
 use Rattle.cosem_data.specs.declared.name.LogicalName.{LogicalName}
 use Rattle.cosem_data.proofs.Decimals.{name_takes}
 use Rattle.cosem_data.proofs.Same.{same_name-from, same_name-true}
+use Rattle.meter_theory.specs.ClientNames.{is_client_name}
 use Rattle.meter_theory.specs.Lists.{IsIn, AreDistinct}
 use Rattle.meter_theory.specs.Plan.{object_at, association_name}
 use Rattle.meter_theory.proofs.Lists.{none_in, found, none_found, in_map, from_map, one_of_key}
-use Rattle.config_text.specs.declared.fault.Code.TheVariants.{ObjectTwice}
-use Rattle.config_text.specs.Parts.{Text, ConfigText, ObjectText, RightText}
+use Rattle.config_text.specs.Fault.{fault_if}
+use Rattle.config_text.specs.declared.fault.Code.TheVariants.{ObjectTwice, ClientTwice}
+use Rattle.config_text.specs.Parts.{Text, ConfigText, ClientText, ObjectText, RightText}
 use Rattle.value_text.specs.Texts.{name_in}
 use Rattle.config_rules.specs.Names.{object_named}
 use Rattle.config_rules.specs.PlanOf.{name_of, no_name, or_else, object_of, plan_of}
@@ -101,6 +103,7 @@ pub record AreNames (c : ConfigText) : Type 0 where
   pub objects : (o : ObjectText) → IsIn c.objects o → IsName o.name
   pub references : (o : ObjectText) → IsIn c.objects o → EachReference (λ t. IsName t.object) (λ r. IsName r.table) o.body
   pub rights : (r : RightText) → IsIn c.rights r → IsName r.object
+  pub clients : (client : ClientText) → IsIn c.clients client → is_client_name client.name ≡ true
 
 is_name_at : (at text : Text) → passes.logical_form at text ≡ Ok tt → IsName text
 is_name_at at text h = named text (holds _ _ _ h)
@@ -119,6 +122,7 @@ names_ok c h =
       objects = λ o i. (parts o i).0;
       references = λ o i. (parts o i).1;
       rights = λ r i. is_name_at _ r.object (then_ok (passes.client_form _ r.client) _ tt (each_ok _ _ _ _ rights.1 r i).1).2;
+      clients = λ client i. holds _ _ _ (each_ok _ _ _ _ clients.1 client i).1;
     }
 
 -- each object has a name of its own, as a text
@@ -134,6 +138,17 @@ names_new c h = each_new_distinct (λ o. o.name) passes.new_object other (codes 
     other earlier at o ok y i e =
         let none = (or_parts (bytes_eq (codes "0.0.40.0.0.255") o.name) (list_any (λ z. bytes_eq z.name o.name) earlier) (not_faulty ObjectTwice (at ++ codes ".name") _ ok)).1 in
         absurd (false≢true (sym (none_in (λ z. bytes_eq z.name o.name) earlier y none i) ∙ (bytes_eq-Decides y.name o.name).1 e))
+
+-- no two clients have one name
+pub client_names_new : (c : ConfigText) → passes.new_clients c ≡ Ok tt → AreDistinct (map (λ client. client.name) c.clients)
+unfolding passes.new_clients passes.new_client
+client_names_new c h = each_new_distinct (λ client. client.name) passes.new_client other (codes "client") c.clients h
+  where
+    other : AsksNewKey (λ client. client.name) passes.new_client
+    other earlier at client ok y i e =
+        let first = then_ok (fault_if ClientTwice (at ++ codes ".name") (list_any (λ z. bytes_eq z.name client.name) earlier)) _ tt ok in
+        let none = not_faulty ClientTwice (at ++ codes ".name") _ first.1 in
+        absurd (false≢true (sym (none_in (λ z. bytes_eq z.name client.name) earlier y none i) ∙ (bytes_eq-Decides y.name client.name).1 e))
 
 is_association : name_of (codes "0.0.40.0.0.255") ≡ association_name
 unfolding name_at

@@ -8,6 +8,7 @@ use Rattle.cosem_data.specs.Tree.{Tree, null_data}
 use Rattle.cosem_data.specs.Kinds.{kind_of}
 use Rattle.cosem_data.specs.Cells.{cell, same_name}
 use Rattle.cosem_data.specs.declared.cell.CellRef.{CellRef}
+use Rattle.meter_theory.specs.ClientNames.{is_client_name}
 use Rattle.meter_theory.specs.Lists.{IsIn, AreDistinct}
 use Rattle.meter_theory.specs.declared.refs.ScriptRef.{ScriptRef}
 use Rattle.meter_theory.specs.State.{value}
@@ -22,7 +23,7 @@ use Rattle.config_text.specs.declared.fault.Code.TheVariants as code
 use Rattle.config_text.specs.declared.service.Service.{Service}
 use Rattle.config_text.specs.declared.service.Service.TheVariants as services
 use Rattle.config_text.specs.Fault.{fault_if}
-use Rattle.config_text.specs.Parts.{Text, ConfigText, ObjectText, TargetText, ActionText, UpDownText, BodyText, DataText, RegisterText, ProfileText, ScriptTableText, MonitorText, ScheduleText, UnknownText}
+use Rattle.config_text.specs.Parts.{Text, ConfigText, ClientText, ObjectText, TargetText, ActionText, UpDownText, BodyText, DataText, RegisterText, ProfileText, ScriptTableText, MonitorText, ScheduleText, UnknownText}
 use Rattle.config_rules.specs.Names.{is_among, settable, capturable, target_is, class_named}
 use Rattle.value_text.specs.Texts.{value_in}
 use Rattle.config_rules.specs.PlanOf.{part_of, object_of, plan_of, name_of, value_of, or_else, cell_named, up_down_of, script_of, action_of, parameter_of, thresholds_value, right_of, client_of, script_named}
@@ -30,7 +31,7 @@ use Rattle.config_rules.specs.Read.{IsRead, is_body_of}
 use Rattle.config_rules.specs.Passes as passes
 use Rattle.config_rules.specs.Passes.{judged}
 use Rattle.config_rules.proofs.Passed.{then_ok, holds, not_faulty, each_ok, EachReference, passed}
-use Rattle.config_rules.proofs.Named.{IsName, names_apart, plan_names, six_bytes, name_of_is}
+use Rattle.config_rules.proofs.Named.{IsName, client_names_new, names_apart, plan_names, six_bytes, name_of_is}
 use Rattle.config_rules.proofs.Cells.{IsRight, IsTarget, right, settable_cell}
 use Rattle.config_rules.proofs.Starts.{of_body, register_start}
 use Rattle.config_rules.proofs.Scripts.{IsScript, script_numbers}
@@ -209,6 +210,11 @@ few c ok =
     let clients = then_ok (passes.at_most limits.CLIENTS (codes "client") c.clients) _ tt ok.judged.limits in
     (at_most_ok _ _ c.clients clients.1, at_most_ok _ _ c.objects (then_ok (passes.at_most limits.OBJECTS (codes "object") c.objects) _ tt clients.2).1)
 
+-- a plan's clients have the names of the configuration's
+names_of_clients : (clients : List ClientText) → map (λ client. client.name) (map client_of clients) ≡ map (λ client. client.name) clients
+names_of_clients [] = refl
+names_of_clients (client ∷ clients) = ap (λ names. client.name ∷ names) (names_of_clients clients)
+
 -- The plan of a configuration without a fault is sound.
 pub plan_is_sound : (c : ConfigText) → IsRead c → judged c ≡ Ok tt → IsSound (plan_of c)
 plan_is_sound c read h = record {
@@ -221,6 +227,9 @@ plan_is_sound c read h = record {
       subst (λ z. has_sizes z ≡ true) (sym p.2)
       (and_from (is_name (name_of p.0.name)) (has_part_sizes (part_of c p.0.body)) (six p.0.name (ok.names.objects p.0 p.1)) (part_sizes c ok p.0 p.1 p.0.body refl));
   saps = λ client i. let p = from_map client_of c.clients client i in subst (λ z. has_sap z ≡ true) (sym p.2) (read.saps p.0 p.1);
+  client_names = λ client i. let p = from_map client_of c.clients client i in
+      subst (λ z. is_client_name z.name ≡ true) (sym p.2) (ok.names.clients p.0 p.1);
+  clients_apart = subst AreDistinct (sym (names_of_clients c.clients)) (client_names_new c ok.judged.access);
   rights = λ r i. let p = from_map (right_of c) c.rights r i in
       subst (λ z. is_right (plan_of c) z ≡ true) (sym p.2) (right_is c ok p.0 p.1);
   starts = starts c ok;

@@ -4,6 +4,7 @@ use Rattle.std.specs.Prelude.{ℕ, ℤ, pos, ◌==◌, nat_lt, int_le, Bool, tru
 use Rattle.std.specs.List.{list_any}
 use Rattle.std.specs.Str.{bytes_eq}
 use Rattle.cosem_data.specs.Tree.{Tree}
+use Rattle.meter_theory.specs.ClientNames.{is_client_name}
 use Rattle.meter_theory.specs.Value.{is_within_limits, elements}
 use Rattle.meter_theory.specs.Times.{are_execution_times}
 use Rattle.meter_theory.specs.declared.limits.TheConstants as limits
@@ -12,7 +13,7 @@ use Rattle.config_text.specs.declared.fault.Code.TheVariants.{Form, ObjectTwice,
 use Rattle.config_text.specs.declared.service.Service.{Service}
 use Rattle.config_text.specs.declared.service.Service.TheVariants.{Write, Invoke}
 use Rattle.config_text.specs.Parts.{Text, ClientText, ObjectText, TargetText, ScriptRefText, ActionText, ScriptText, RightText, SetsText, LabelText, ConfigText, BodyText, DataText, RegisterText, ProfileText, ScriptTableText, MonitorText, ScheduleText, UnknownText}
-use Rattle.config_rules.specs.Names.{is_client_name, object_named, has_client, class_named, scripts_in, is_known_class, is_index, attributes, methods, target_is, settable, capturable, monitorable, is_among, cells}
+use Rattle.config_rules.specs.Names.{object_named, has_client, class_named, scripts_in, is_known_class, is_index, attributes, methods, target_is, settable, capturable, monitorable, is_among, cells}
 use Rattle.value_text.specs.Texts.{name_in, value_in}
 use Rattle.config_rules.specs.Values.{kind_in, kind_named, is_of_kind, is_number, may_be_number, may_stand_at, is_time_text}
 use Rattle.config_rules.specs.PlanOf.{thresholds_value, times_value}

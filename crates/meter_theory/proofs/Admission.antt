@@ -13,11 +13,12 @@ use Rattle.meter_theory.specs.Rights.{has_right, lists, may_get, may_set}
 use Rattle.meter_theory.specs.Steps.{changed_by, actions_effects, scripts_of}
 use Rattle.meter_theory.specs.Edges.{among, edges}
 use Rattle.meter_theory.specs.declared.flow.Label.{Label}
-use Rattle.meter_theory.specs.Labels.{Labels, Labelling, label_at, labelling_of, has, within, MayChange, method_changes, method_changes_of, all_scripts, Admits}
+use Rattle.meter_theory.specs.Labels.{Labels, Labelling, label_at, labelling_of, has, within, MayChange, method_changes, method_changes_of, all_scripts, Admits, AreLeast}
 use Rattle.meter_theory.specs.Sound.{IsSound}
 use Rattle.meter_theory.specs.Check.{may_change, clients_with_cells, is_labelled, keeps_policy, admits_changer, admits_reader, influence_flows, learn_flows, Pass, FirstFailure, Refusal, NotLabelled, PastPolicy, Changer, Reader, InfluenceEscapes, LearnEscapes, Refuses, AllPass}
 use Rattle.meter_theory.proofs.Lists.{any_in, in_any, in_append_right, in_flat_map, from_flat_map, in_map, from_map, in_range}
 use Rattle.meter_theory.proofs.Agreement.{object-found, not_both}
+use Rattle.meter_theory.proofs.Theorem.{within_trans}
 use Rattle.meter_theory.proofs.Check.{among_in, in_among, plain_cells, actions_cells, edge-listed, listed-edge}
 
 -- not a, or b
@@ -47,7 +48,7 @@ known_client P sound c name test h =
     let b = and_parts (r.0.client == c) (same_name r.0.object name) a.0 in
     subst (λ d. d < length P.clients) (eqb-true r.0.client c b.0) (ltb-true r.0.client (length P.clients) (and_parts (nat_lt r.0.client (length P.clients)) _ (sound.rights r.0 r.1)).0)
 
-changer_from : (P : Plan) (c : ℕ) (x : CellRef) → IsIn (cells P) x → may_change P c x ≡ true → MayChange P c x
+pub changer_from : (P : Plan) (c : ℕ) (x : CellRef) → IsIn (cells P) x → may_change P c x ≡ true → MayChange P c x
 changer_from P c x there h =
     elim (or_cases (may_set P c x) (list_any (λ r. (r.client == c) && list_any (λ i. among (method_changes_of P (record { class_id = 0; name = r.object; index = i })) x) r.acts) P.rights) h) [
       | inl e ↦ inl (there, e)
@@ -65,7 +66,7 @@ changer_from P c x there h =
           )
     ]
 
-changer_found : (P : Plan) (c : ℕ) (x : CellRef) → MayChange P c x → may_change P c x ≡ true
+pub changer_found : (P : Plan) (c : ℕ) (x : CellRef) → MayChange P c x → may_change P c x ≡ true
 changer_found P c x (inl h) = or_left (may_set P c x) (list_any (λ r. (r.client == c) && list_any (λ i. among (method_changes_of P (record { class_id = 0; name = r.object; index = i })) x) r.acts) P.rights) h.1
 changer_found P c x (inr h) =
     let m = h.0 in
@@ -85,7 +86,7 @@ changer_found P c x (inr h) =
     (in_among (method_changes_of P (record { class_id = 0; name = r.0.object; index = i.0 })) x there))))
 
 -- what a method changes is cells of the plan
-method_cells : (P : Plan) → IsSound P → (m : MethodRef) (x : CellRef) → IsIn (method_changes_of P m) x → IsIn (cells P) x
+pub method_cells : (P : Plan) → IsSound P → (m : MethodRef) (x : CellRef) → IsIn (method_changes_of P m) x → IsIn (cells P) x
 method_cells P sound m x i =
     elim (object_at P m.name) as (λ o. object_at P m.name ≡ o → IsIn (for_some o (λ z. method_changes P m z.part)) x → IsIn (cells P) x) [
       | None ↦ λ is j. absurd j
@@ -109,15 +110,17 @@ some_label (Some l) h = (l, refl)
 
 pub passes-admits : (P : Plan) (policy : Labelling) (labels : Labels) → IsSound P → AllPass P policy labels → Admits P policy labels
 passes-admits P policy labels sound a = record {
-  labelled = λ x i. some_label (label_at labels x) (a.labelled x i);
+  covers = record {
+    labelled = λ x i. some_label (label_at labels x) (a.labelled x i);
+    changers = λ c x may. implies-true (may_change P c x) (has (labelling_of labels x).influence c)
+        (a.changers (c, x) (in_pairs P c x (changer_known c x may) (changed_cell c x may))) (changer_found P c x may);
+    readers = λ c x i may. implies-true (may_get P c x) (has (labelling_of labels x).learn c)
+        (a.readers (c, x) (in_pairs P c x (known_client P sound c x.name (λ r. lists r.gets x.index) may) i)) may;
+    influence_flows = λ e is. a.influence e (edge-listed P sound e is);
+    learn_flows = λ e is. a.learn e (edge-listed P sound e is);
+  };
   influence_within = λ x i. (and_parts (within (labelling_of labels x).influence (policy x).influence) (within (labelling_of labels x).learn (policy x).learn) (a.policy_kept x i)).0;
   learn_within = λ x i. (and_parts (within (labelling_of labels x).influence (policy x).influence) (within (labelling_of labels x).learn (policy x).learn) (a.policy_kept x i)).1;
-  changers = λ c x may. implies-true (may_change P c x) (has (labelling_of labels x).influence c)
-      (a.changers (c, x) (in_pairs P c x (changer_known c x may) (changed_cell c x may))) (changer_found P c x may);
-  readers = λ c x i may. implies-true (may_get P c x) (has (labelling_of labels x).learn c)
-      (a.readers (c, x) (in_pairs P c x (known_client P sound c x.name (λ r. lists r.gets x.index) may) i)) may;
-  influence_flows = λ e is. a.influence e (edge-listed P sound e is);
-  learn_flows = λ e is. a.learn e (edge-listed P sound e is);
 }
   where
     changer_known : (c : ℕ) (x : CellRef) → MayChange P c x → c < length P.clients
@@ -130,12 +133,20 @@ passes-admits P policy labels sound a = record {
 
 pub admits-passes : (P : Plan) (policy : Labelling) (labels : Labels) → IsSound P → Admits P policy labels → AllPass P policy labels
 admits-passes P policy labels sound a = record {
-  labelled = λ x i. let l = a.labelled x i in subst (λ o. is_some o ≡ true) (sym l.1) refl;
+  labelled = λ x i. let l = a.covers.labelled x i in subst (λ o. is_some o ≡ true) (sym l.1) refl;
   policy_kept = λ x i. and_from (within (labelling_of labels x).influence (policy x).influence) (within (labelling_of labels x).learn (policy x).learn) (a.influence_within x i) (a.learn_within x i);
-  changers = λ cx i. true-implies (may_change P cx.0 cx.1) (has (labelling_of labels cx.1).influence cx.0) (λ may. a.changers cx.0 cx.1 (changer_from P cx.0 cx.1 (from_pairs P cx i) may));
-  readers = λ cx i. true-implies (may_get P cx.0 cx.1) (has (labelling_of labels cx.1).learn cx.0) (λ may. a.readers cx.0 cx.1 (from_pairs P cx i) may);
-  influence = λ e i. a.influence_flows e (listed-edge P sound e i);
-  learn = λ e i. a.learn_flows e (listed-edge P sound e i);
+  changers = λ cx i. true-implies (may_change P cx.0 cx.1) (has (labelling_of labels cx.1).influence cx.0) (λ may. a.covers.changers cx.0 cx.1 (changer_from P cx.0 cx.1 (from_pairs P cx i) may));
+  readers = λ cx i. true-implies (may_get P cx.0 cx.1) (has (labelling_of labels cx.1).learn cx.0) (λ may. a.covers.readers cx.0 cx.1 (from_pairs P cx i) may);
+  influence = λ e i. a.covers.influence_flows e (listed-edge P sound e i);
+  learn = λ e i. a.covers.learn_flows e (listed-edge P sound e i);
+}
+
+-- where some labels are admitted for a policy, the least are
+pub least-admits : (P : Plan) (policy : Labelling) (least labels : Labels) → AreLeast P least → Admits P policy labels → Admits P policy least
+least-admits P policy least labels l a = record {
+  covers = l.covers;
+  influence_within = λ x i. within_trans (labelling_of least x).influence (labelling_of labels x).influence (policy x).influence (l.least labels a.covers x i).0 (a.influence_within x i);
+  learn_within = λ x i. within_trans (labelling_of least x).learn (labelling_of labels x).learn (policy x).learn (l.least labels a.covers x i).1 (a.learn_within x i);
 }
 
 -- what fails first does fail

@@ -4,6 +4,9 @@ use Rattle.cosem_data.proofs.Same.{same_cell-true, same_name-from, same_kind-tru
 use Rattle.std.proofs.Common.{◌≡◌, ◌==◌, Bool, true, not, ◌&&◌, List, ◌∷◌, refl, sym, ap, subst, inl, inr, Option, Some, None, is_some, nat_le, length, map, eq-eqb, leb-true}
 use Rattle.std.specs.List.{list_any, list_all}
 use Rattle.std.proofs.lemmas.Bool.{and_parts, or_cases, not-true}
+use Rattle.std.specs.Str.{bytes_eq}
+use Rattle.std.proofs.lemmas.Slice.Eq.{bytes_eq-Decides}
+use Rattle.meter_theory.specs.ClientNames.{is_client_name}
 use Rattle.meter_theory.specs.Lists.{IsIn, are_distinct}
 use Rattle.cosem_data.specs.Tree.{Tree}
 use Rattle.meter_theory.specs.Value.{Rule, OfKind, Thresholds, ExecutionTimes}
@@ -90,6 +93,8 @@ sound_from P h =
     let few_objects = and_parts (nat_le (length P.objects) limits.OBJECTS) _ few_clients.1 in
     let sizes = and_parts (list_all has_sizes P.objects) _ few_objects.1 in
     let saps = and_parts (list_all has_sap P.clients) _ sizes.1 in
+    let parts = and_parts (list_all (λ o. is_sound_part P o.part) P.objects) _ referred.1 in
+    let names = and_parts (list_all (λ client. is_client_name client.name) P.clients) _ parts.1 in
     record {
       names = distinct_from same_name same_name-from (map (λ o. o.name) P.objects) named.0;
       apart = λ o i. not-true (same_name o.name association_name) (all_at (λ z. not (same_name z.name association_name)) P.objects o saps.1 i);
@@ -97,6 +102,8 @@ sound_from P h =
       few_objects = leb-true (length P.objects) limits.OBJECTS few_objects.0;
       sizes = λ o i. all_at has_sizes P.objects o sizes.0 i;
       saps = λ client i. all_at has_sap P.clients client saps.0 i;
+      client_names = λ client i. all_at (λ z. is_client_name z.name) P.clients client names.0 i;
+      clients_apart = distinct_from bytes_eq (λ a b e. (bytes_eq-Decides a b).1 e) (map (λ client. client.name) P.clients) names.1;
       rights = λ r i. all_at (is_right P) P.rights r granted.0 i;
       starts = λ x i. all_at (λ z. fits_some (rule_of P z) (value (start P) z)) (cells P) x started.0 i;
       writes = λ o i s j x v k. write_from P x v (action_at (is_write P) P.objects writes.0 o i s j (Write x v) k);
@@ -105,5 +112,5 @@ sound_from P h =
           (all_at (λ z. are_distinct (λ a b. a == b) (0 ∷ map (λ s. s.id) (scripts_of z.part))) P.objects o numbers.0 i);
       references = λ o i r j. all_at (has_script P) (scripts_run_by o.part) r (all_at (λ z. list_all (has_script P) (scripts_run_by z.part)) P.objects o runs.0 i) j;
       captures = capture_from P runs.1;
-      parts = λ o i. part_from P o.part (all_at (λ z. is_sound_part P z.part) P.objects o referred.1 i);
+      parts = λ o i. part_from P o.part (all_at (λ z. is_sound_part P z.part) P.objects o parts.0 i);
     }

@@ -255,13 +255,13 @@ module _ (P : Plan) (policy : Labelling) (labels : Labels) (a : Admits P policy 
   below x y = within (Q y).influence (Q x).influence
 
   below_closed : (x : CellRef) → IsClosed P (below x)
-  below_closed x e is h = within_trans (Q e.source).influence (Q e.target).influence (Q x).influence (a.influence_flows e is) h
+  below_closed x e is h = within_trans (Q e.source).influence (Q e.target).influence (Q x).influence (a.covers.influence_flows e is) h
 
   outside_quiet : (x : CellRef) (s : State) (step : Step) → is_step_of (outside Q x) (client_of step) ≡ true → AreQuiet (below x) (effects_of P s step)
   outside_quiet x s step out y i =
       let who = client_there (outside Q x) (client_of step) out in
       false_from_ne_true (below x y) (λ h.
-      let may : has (Q y).influence who.0 ≡ true = a.changers who.0 y (client-changes P s step who.0 who.1 y i) in
+      let may : has (Q y).influence who.0 ≡ true = a.covers.changers who.0 y (client-changes P s step who.0 who.1 y i) in
       let inside : has (Q x).influence who.0 ≡ true = within_has (Q y).influence (Q x).influence h who.0 may in
       not_both (has (Q x).influence who.0) inside (not-true (has (Q x).influence who.0) who.2))
 
@@ -290,12 +290,12 @@ module _ (P : Plan) (policy : Labelling) (labels : Labels) (a : Admits P policy 
 
   -- the cells that c may learn
   pub learnable_closed : (c : ℕ) → IsClosed P (λ x. has (Q x).learn c)
-  learnable_closed c e is h = within_has (Q e.target).learn (Q e.source).learn (a.learn_flows e is) c h
+  learnable_closed c e is h = within_has (Q e.target).learn (Q e.source).learn (a.covers.learn_flows e is) c h
 
   pub secrecy-labels : StepLaws P → Secrecy P Q
   secrecy-labels steps = record {
     same_replies = λ c s s' l l' is is' look alike.
-        hidden-replies P steps Q (λ x. has (Q x).learn c) c (learnable_closed c) (λ x i may. a.readers c x i may) (are_hidden P Q c) l l' s s' (is ∙ sym is') look alike;
+        hidden-replies P steps Q (λ x. has (Q x).learn c) c (learnable_closed c) (λ x i may. a.covers.readers c x i may) (are_hidden P Q c) l l' s s' (is ∙ sym is') look alike;
   }
 
   pub learn_more : (c : ℕ) (x : CellRef) → IsIn (cells P) x → has (Q x).learn c ≡ true → has (policy x).learn c ≡ true

@@ -62,7 +62,7 @@ module _ (P : Plan) (policy : Labelling) (labels : Labels) (a : Admits P policy 
   pub unequal-labels : StepLaws P → UnequalSecrecy P (labelling_of labels)
   unequal-labels steps = record {
     same_replies = λ c s s' l l' is is' look alike.
-        unequal-replies P steps (labelling_of labels) c (learnable_closed P policy labels a c) (λ x i may. a.readers c x i may) l l' s s' is is' look alike;
+        unequal-replies P steps (labelling_of labels) c (learnable_closed P policy labels a c) (λ x i may. a.covers.readers c x i may) l l' s s' is is' look alike;
   }
 
   quiet_there : (c : ℕ) (step : Step) → IsQuiet P policy c step → IsQuiet P (labelling_of labels) c step

@@ -83,12 +83,28 @@ method_changes_of P m = for_some (object_at P m.name) (λ o. method_changes P m 
 abbrev pub MayChange : Plan → ℕ → CellRef → Type 0
 MayChange P c x = (IsIn (cells P) x × (may_set P c x ≡ true)) ⊎ ((m : MethodRef) × (may_act P c m ≡ true) × IsIn (method_changes_of P m) x)
 
--- An admissible labelling of a plan, within a policy.
-pub record Admits (P : Plan) (policy : Labelling) (labels : Labels) : Type 0 where
+-- What a plan asks of labels: every cell has one, who has a right that changes a cell may influence it, who may read it may
+-- learn it, and no client is lost along an edge.
+pub record Covers (P : Plan) (labels : Labels) : Type 0 where
   pub labelled : (x : CellRef) → IsIn (cells P) x → (l : Label) × (label_at labels x ≡ Some l)
-  pub influence_within : (x : CellRef) → IsIn (cells P) x → within (labelling_of labels x).influence (policy x).influence ≡ true
-  pub learn_within : (x : CellRef) → IsIn (cells P) x → within (labelling_of labels x).learn (policy x).learn ≡ true
   pub changers : (c : ℕ) (x : CellRef) → MayChange P c x → has (labelling_of labels x).influence c ≡ true
   pub readers : (c : ℕ) (x : CellRef) → IsIn (cells P) x → may_get P c x ≡ true → has (labelling_of labels x).learn c ≡ true
   pub influence_flows : (e : Edge) → IsEdge P e → within (labelling_of labels e.source).influence (labelling_of labels e.target).influence ≡ true
   pub learn_flows : (e : Edge) → IsEdge P e → within (labelling_of labels e.target).learn (labelling_of labels e.source).learn ≡ true
+
+-- An admissible labelling of a plan: what the plan asks for, within a policy.
+pub record Admits (P : Plan) (policy : Labelling) (labels : Labels) : Type 0 where
+  pub covers : Covers P labels
+  pub influence_within : (x : CellRef) → IsIn (cells P) x → within (labelling_of labels x).influence (policy x).influence ≡ true
+  pub learn_within : (x : CellRef) → IsIn (cells P) x → within (labelling_of labels x).learn (policy x).learn ≡ true
+
+-- each set of the one labelling of the plan's cells lies within that of the other
+abbrev pub LieWithin : Plan → Labels → Labels → Type 0
+LieWithin P labels others = (x : CellRef) → IsIn (cells P) x →
+    (within (labelling_of labels x).influence (labelling_of others x).influence ≡ true)
+    × (within (labelling_of labels x).learn (labelling_of others x).learn ≡ true)
+
+-- The least labels: they cover the plan, and lie within all that do.
+pub record AreLeast (P : Plan) (labels : Labels) : Type 0 where
+  pub covers : Covers P labels
+  pub least : (others : Labels) → Covers P others → LieWithin P labels others

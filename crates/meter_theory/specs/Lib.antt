@@ -1,6 +1,7 @@
 pub mod Lists
 pub mod Access
 pub mod Times
+pub mod ClientNames
 pub mod Value
 pub mod Selection
 pub mod State

@@ -1,6 +1,7 @@
 -- A plan without the faults of a configuration, as far as the promises, the edges and the checker need it.
 use Rattle.std.specs.Prelude.{ℕ, Bool, true, false, not, ◌&&◌, ◌||◌, nat_lt, nat_le, List, [], ◌∷◌, length, map, Option, None, Some, is_some, ◌==◌, ◌≡◌, ◌⊎◌, ◌≤◌}
 use Rattle.std.specs.List.{list_any, list_all}
+use Rattle.std.specs.Str.{bytes_eq}
 use Rattle.cosem_data.specs.Tree.{Tree}
 use Rattle.cosem_data.specs.Kinds.{kind_of, same_kind}
 use Rattle.cosem_data.specs.Cells.{same_name, same_cell}
@@ -11,6 +12,7 @@ use Rattle.cosem_data.specs.declared.cell.MethodRef.{MethodRef}
 use Rattle.meter_theory.specs.declared.limits.TheConstants as limits
 use Rattle.meter_theory.specs.declared.refs.ScriptRef.{ScriptRef}
 use Rattle.meter_theory.specs.Lists.{IsIn, AreDistinct, are_distinct, some_passes}
+use Rattle.meter_theory.specs.ClientNames.{is_client_name}
 use Rattle.meter_theory.specs.Value.{Rule, OfKind, meets, is_within_limits}
 use Rattle.meter_theory.specs.State.{value}
 use Rattle.meter_theory.specs.Plan.{Plan, Client, Object, Right, Script, Action, Write, Invoke, Part, Register, ProfileGeneric, ScriptTable, RegisterMonitor, SingleActionSchedule, association_name, class_of, interface_of, object_at, cells, start, rule_of, entries_in_use}
@@ -107,6 +109,9 @@ pub record IsSound (P : Plan) : Type 0 where
   pub few_objects : length P.objects ≤ limits.OBJECTS
   pub sizes : (o : Object) → IsIn P.objects o → has_sizes o ≡ true
   pub saps : (client : Client) → IsIn P.clients client → has_sap client ≡ true
+  -- each client has a name of its own, which a client may have
+  pub client_names : (client : Client) → IsIn P.clients client → is_client_name client.name ≡ true
+  pub clients_apart : AreDistinct (map (λ client. client.name) P.clients)
   -- each right is a client's of the plan, on what an object of it has
   pub rights : (r : Right) → IsIn P.rights r → is_right P r ≡ true
   -- each settable cell starts with a value that meets its rule
@@ -167,6 +172,10 @@ is_sound_part P (RegisterMonitor monitored th actions) =
     list_any (same_cell monitored) (cells P) && is_kind_rule (rule_of P monitored) (kind_of (value (start P) monitored))
 is_sound_part P _ = true
 
+-- each client has a name of its own, which a client may have
+abbrev pub has_client_names : Plan → Bool
+has_client_names P = list_all (λ client. is_client_name client.name) P.clients && are_distinct bytes_eq (map (λ client. client.name) P.clients)
+
 -- the limits, and that no object is named as the current association
 abbrev pub is_sized : Plan → Bool
 is_sized P =
@@ -195,4 +204,5 @@ is_sound P =
     && (are_distinct same_name (map (λ o. o.name) P.objects)
     && (list_all (is_right P) P.rights
     && (has_references P
-    && list_all (λ o. is_sound_part P o.part) P.objects))))
+    && (list_all (λ o. is_sound_part P o.part) P.objects
+    && has_client_names P)))))

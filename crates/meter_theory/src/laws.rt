@@ -1,21 +1,22 @@
 //! Theorems about meters and plans: each function's clauses are its statement, and its body is empty.
-ghost use Rattle.std.specs.Prelude.{◌≡◌, ◌↔◌, Bool, List, false};
+ghost use Rattle.std.specs.Prelude.{◌≡◌, ◌↔◌, ℕ, Bool, List, true, false};
 ghost use Rattle.cosem_data.specs.Cells.{same_cell};
 ghost use Rattle.cosem_data.specs.Tree.{Tree};
 ghost use Rattle.cosem_data.specs.declared.cell.CellRef.{CellRef};
+ghost use Rattle.cosem_data.specs.declared.cell.MethodRef.{MethodRef};
 ghost use Rattle.cosem_axdr.specs.Canonical.{HasLengths};
 ghost use Rattle.meter_theory.specs.Lists.{IsIn};
 ghost use Rattle.meter_theory.specs.State.{State, keys, value, put};
-ghost use Rattle.meter_theory.specs.Plan.{Plan, start};
+ghost use Rattle.meter_theory.specs.Plan.{Plan, cells, start};
 ghost use Rattle.meter_theory.specs.Steps.{Step, next};
 ghost use Rattle.meter_theory.specs.Replies.{Value, reply_to, run};
 ghost use Rattle.meter_theory.specs.declared.flow.Edge.{Edge};
 ghost use Rattle.meter_theory.specs.Edges.{IsEdge, edges, IsClosed};
 ghost use Rattle.meter_theory.specs.EffectLaws.{KeepsAgreementOn, EffectLaws};
-ghost use Rattle.meter_theory.specs.Labels.{Labels, Labelling, labelling_of, Admits};
+ghost use Rattle.meter_theory.specs.Labels.{Labels, Labelling, labelling_of, Admits, AreLeast, MayChange, method_changes_of};
 ghost use Rattle.meter_theory.specs.Sound.{IsSound};
 ghost use Rattle.meter_theory.specs.States.{IsState};
-ghost use Rattle.meter_theory.specs.Check.{AllPass, Refusal, Refuses};
+ghost use Rattle.meter_theory.specs.Check.{AllPass, Refusal, Refuses, may_change};
 ghost use Rattle.meter_theory.specs.Safety.{Influence, Secrecy};
 ghost use Rattle.meter_theory.specs.Unequal.{UnequalSecrecy};
 
@@ -43,6 +44,19 @@ pub fn tests_decide_admission()
     ensures decided { (P : Plan) (policy : Labelling) (labels : Labels) → IsSound P → (AllPass P policy labels ↔ Admits P policy labels) }
     ensures refused { (P : Plan) (policy : Labelling) (labels : Labels) (r : Refusal) → IsSound P → Refuses P policy labels r → Admits P policy labels → ⊥ }
     ensures unique { (P : Plan) (policy : Labelling) (labels : Labels) (r q : Refusal) → Refuses P policy labels r → Refuses P policy labels q → r ≡ q }
+{}
+
+/// Where the least labels of a plan are refused for a policy, no labels are admitted for it: the configuration or the policy
+/// has to change.
+pub fn least_labels_decide()
+    ensures admits { (P : Plan) (policy : Labelling) (least labels : Labels) → AreLeast P least → Admits P policy labels → Admits P policy least }
+    ensures refused { (P : Plan) (policy : Labelling) (least labels : Labels) (r : Refusal) → IsSound P → AreLeast P least → Refuses P policy least r → Admits P policy labels → ⊥ }
+{}
+
+/// The test of the rights that change a cell tells who has one, and a right to a method changes cells of the plan alone.
+pub fn rights_to_change_are_tested()
+    ensures tested { (P : Plan) (c : ℕ) (x : CellRef) → IsIn (cells P) x → (may_change P c x ≡ true ↔ MayChange P c x) }
+    ensures cells { (P : Plan) (m : MethodRef) (x : CellRef) → IsSound P → IsIn (method_changes_of P m) x → IsIn (cells P) x }
 {}
 
 /// A state is a map with fixed cells.
