@@ -8,7 +8,7 @@ use Rattle.cosem_data.specs.Digits.{◌>>=◌}
 use Rattle.cosem_data.specs.Names.{name_text}
 use Rattle.cosem_data.specs.declared.name.LogicalName.{LogicalName}
 use Rattle.value_text.specs.Texts.{name_in}
-use Rattle.label_certificate.specs.ClientNames.{is_client_name}
+use Rattle.meter_theory.specs.ClientNames.{is_client_name}
 
 -- what a line says: a cell by its class, its name and its attribute, which is none for what a register monitor has seen; and names of clients (own profile)
 pub record LabelLine : Type 0 where

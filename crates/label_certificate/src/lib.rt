@@ -2,4 +2,6 @@
 #![tactic(auto)]
 
 pub mod closing;
-pub mod line;
+pub mod fault;
+pub mod labels;
+mod line;

@@ -1,7 +1,7 @@
 //! The form of one line of a text of labels.
 ghost use Rattle.std.specs.Prelude.{◌≡◌, ◌<◌, ◌^◌, ◌==◌, ◌∷◌, length, option_map, position, IfSome};
 ghost use Rattle.std.specs.List.{list_all};
-ghost use Rattle.label_certificate.specs.ClientNames as names;
+ghost use Rattle.meter_theory.specs.ClientNames as names;
 ghost use Rattle.label_certificate.specs.LabelLine as spec;
 ghost use Rattle.label_certificate.specs.LabelLine.{label_line_at, names_of, parts};
 ghost use Rattle.label_certificate.specs.LineView.{line_of, parts_left};
