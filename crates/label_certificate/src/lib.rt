@@ -1,0 +1,7 @@
+//! Labels of cells as a certificate: the least sets of clients along arrows, and the texts in which labels are kept.
+#![tactic(auto)]
+
+pub mod closing;
+pub mod fault;
+pub mod labels;
+mod line;

@@ -1,0 +1,202 @@
+//! The form of one line of a text of labels.
+ghost use Rattle.std.specs.Prelude.{◌≡◌, ◌<◌, ◌^◌, ◌==◌, ◌∷◌, length, option_map, position, IfSome};
+ghost use Rattle.std.specs.List.{list_all};
+ghost use Rattle.meter_theory.specs.ClientNames as names;
+ghost use Rattle.label_certificate.specs.LabelLine as spec;
+ghost use Rattle.label_certificate.specs.LabelLine.{label_line_at, names_of, parts};
+ghost use Rattle.label_certificate.specs.LineView.{line_of, parts_left};
+
+use cosem_data::name::LogicalName;
+use meter_theory::limits::NAME_CHARACTERS;
+use value_text::name::name_in;
+
+/// What stands in the place of an attribute's number for what a register monitor has seen.
+const SEEN: &[u8] = b"seen";
+
+/// What stands in the place of names where there are none.
+const NOBODY: &[u8] = b"-";
+
+/// What stands before the names of those that may influence a cell.
+const INFLUENCE: &[u8] = b"influence=";
+
+/// What stands before the names of those that may learn a cell.
+const LEARN: &[u8] = b"learn=";
+
+/// The words that begin a step of the meter itself: no client has such a name.
+const IN: &[u8] = b"in";
+
+const AT: &[u8] = b"at";
+
+const EVALUATE: &[u8] = b"eval";
+
+const SPACE: u8 = b' ';
+
+const SLASH: u8 = b'/';
+
+const COMMA: u8 = b',';
+
+/// One line of a text of labels, its names where they stand in the text (own profile).
+#[derive(Clone, Copy, Debug)]
+pub(crate) struct Line<'a> {
+    /// The interface class of the cell's object.
+    pub(crate) class_id: u16,
+    /// The cell's object.
+    pub(crate) name: LogicalName,
+    /// The attribute by its number, or None for what a register monitor has seen.
+    pub(crate) attribute: Option<u8>,
+    /// The names of the clients that may influence the cell, joined by commas, or `-`.
+    pub(crate) influence: &'a [u8],
+    /// The names of the clients that may learn the cell, joined by commas, or `-`.
+    pub(crate) learn: &'a [u8],
+}
+
+/// The place of the first separator.
+fn place_of(separator: u8, text: &[u8]) -> Option<usize>
+    ensures first { result ≡ position (λ b. b == separator) text.now }
+    ensures within { IfSome result (λ k. k < length text.now) }
+{
+    text.iter().position(|byte| *byte == separator)
+}
+
+/// The first part of a text up to a separator, and what stands behind that, if there is one.
+pub(crate) fn first_part(separator: u8, text: &[u8]) -> (&[u8], Option<&[u8]>)
+    ensures split { parts separator text.now ≡ result.0.now ∷ parts_left separator result.1 }
+    ensures shorter { IfSome result.1 (λ rest. length rest.now < length text.now) }
+{
+    match place_of(separator, text) {
+        Some(place) => (&text[..place], Some(&text[place + 1..])),
+        None => (text, None),
+    }
+}
+
+/// The parts of a text that is three with a separator between them.
+fn three(separator: u8, text: &[u8]) -> Option<(&[u8], &[u8], &[u8])>
+    ensures { option_map (λ p. (p.0.now, p.1.now, p.2.now)) result ≡ spec.three (parts separator text.now) }
+{
+    let (first, rest) = first_part(separator, text);
+    let (second, rest) = first_part(separator, rest?);
+    let (third, rest) = first_part(separator, rest?);
+    match rest {
+        None => Some((first, second, third)),
+        Some(_) => None,
+    }
+}
+
+/// The value with one digit more, if it is a digit and the value stays below the bound.
+fn with_digit(bound: u32, value: u32, digit: u8) -> Option<u32>
+    requires small { value < 2 ^ 17 }
+    ensures value { result ≡ spec.with_digit bound value digit }
+    ensures below { IfSome result (λ more. more < bound) }
+{
+    if !digit.is_ascii_digit() {
+        return None;
+    }
+    let more = 10 * value + u32::from(digit - b'0');
+    if more < bound { Some(more) } else { None }
+}
+
+/// The number below a bound that a text is in decimal, without leading zeros.
+fn number_in(bound: u32, text: &[u8]) -> Option<u32>
+    requires positive { 0 < bound }
+    requires small { bound < 2 ^ 17 }
+    ensures number { result ≡ spec.number_in bound text.now }
+    ensures below { IfSome result (λ n. n < bound) }
+{
+    let (first, rest) = text.split_first()?;
+    if *first == b'0' && !rest.is_empty() {
+        return None;
+    }
+    let mut value = 0;
+    for digit in text {
+        value = with_digit(bound, value, *digit)?;
+    }
+    Some(value)
+}
+
+/// The class that a text is in decimal.
+fn class_in(text: &[u8]) -> Option<u16>
+    ensures { result ≡ spec.number_in (2 ^ 16) text.now }
+{
+    let number = number_in(1 << 16, text)?;
+    Some(number as u16)
+}
+
+/// The attribute that a text is: its number, or `seen`.
+fn attribute_in(text: &[u8]) -> Option<Option<u8>>
+    ensures { result ≡ spec.attribute_in text.now }
+{
+    if text == SEEN {
+        return Some(None);
+    }
+    let number = number_in(1 << 8, text)?;
+    Some(Some(number as u8))
+}
+
+/// Whether a text has a to z, 0 to 9 and _ alone.
+fn has_name_bytes(text: &[u8]) -> bool
+    ensures { result ≡ list_all names.is_name_byte text.now }
+{
+    text.iter()
+        .all(|byte| matches!(byte, b'a'..=b'z' | b'0'..=b'9' | b'_'))
+}
+
+/// Whether a text is a word that begins a step of the meter itself.
+fn is_step_word(text: &[u8]) -> bool
+    ensures { result ≡ names.is_step_word text.now }
+{
+    text == IN || text == AT || text == EVALUATE
+}
+
+/// Whether a client may have this name.
+fn is_client_name(name: &[u8]) -> bool
+    ensures { result ≡ names.is_client_name name.now }
+{
+    1 <= name.len() && name.len() <= NAME_CHARACTERS && has_name_bytes(name) && !is_step_word(name)
+}
+
+/// Whether each of the names in a text is one that a client may have.
+fn are_names(text: &[u8]) -> bool
+    ensures { result ≡ spec.are_client_names (spec.names_of text.now) }
+{
+    if text == NOBODY {
+        return true;
+    }
+    let mut left = Some(text);
+    while let Some(names) = left {
+        let (name, behind) = first_part(COMMA, names);
+        if !is_client_name(name) {
+            return false;
+        }
+        left = behind;
+    }
+    true
+}
+
+/// The names behind a word, if clients may have them.
+fn names_after<'a>(word: &[u8], text: &'a [u8]) -> Option<&'a [u8]>
+    ensures { option_map (λ names. names_of names.now) result ≡ spec.names_after word.now text.now }
+{
+    let names = text.strip_prefix(word)?;
+    if are_names(names) { Some(names) } else { None }
+}
+
+/// What a line says, if it has the form `CELL influence=NAMES learn=NAMES`.
+#[tactic(auto, unfolding(crate::specs::LabelLine::label_line_at))]
+pub(crate) fn line_in(line: &[u8]) -> Option<Line<'_>>
+    ensures { option_map line_of result ≡ label_line_at line.now }
+{
+    let (cell, influence, learn) = three(SPACE, line)?;
+    let (class_id, name, attribute) = three(SLASH, cell)?;
+    let class_id = class_in(class_id)?;
+    let name = name_in(name)?;
+    let attribute = attribute_in(attribute)?;
+    let influence = names_after(INFLUENCE, influence)?;
+    let learn = names_after(LEARN, learn)?;
+    Some(Line {
+        class_id,
+        name,
+        attribute,
+        influence,
+        learn,
+    })
+}
