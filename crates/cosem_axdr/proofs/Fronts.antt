@@ -1,13 +1,13 @@
 -- How many bytes the value in front takes.
-use Rattle.std.proofs.Common.{◌≡◌, ℕ, ◌-◌, ◌≤◌, List, ◌++◌, length, take, drop, Result, Ok, Err, sym, ap, subst, refl, ◌∙◌, arith}
+use Rattle.std.proofs.Common.{◌≡◌, ℕ, ◌-◌, ◌≤◌, List, ◌++◌, length, Result, Ok, Err, ap, refl, arith}
 use Rattle.std.specs.Prelude.{◌≢◌, IfOk, MatchResult}
 use Rattle.std.specs.Borrow.{Bor}
-use Rattle.std.proofs.lemmas.List.{take_at, drop_at, length-append}
+use Rattle.std.proofs.lemmas.List.{length-append}
 use Rattle.cosem_data.specs.Tree.{Tree, depth}
 use Rattle.cosem_data.specs.View.{tree}
 use Rattle.cosem_data.specs.declared.data.Data.{Data}
 use Rattle.cosem_axdr.specs.declared.fault.ReadFault.{ReadFault}
-use Rattle.cosem_axdr.specs.declared.fault.ReadFault.TheVariants.{Short, UnknownTag, TooDeep, Length, Memory}
+use Rattle.cosem_axdr.specs.declared.fault.ReadFault.TheVariants.{Memory}
 use Rattle.cosem_axdr.specs.Grammar.{IsEncoding, BeginsWith, BeginsWithNone}
 use Rattle.cosem_axdr.specs.Reading.{Fails, Gives, data_at}
 use Rattle.cosem_axdr.proofs.Numbers.{IsBytes}
@@ -19,15 +19,6 @@ is_found bytes (Err f) fits e = tt
 
 used : (bytes : List ℕ) (t : Tree) (rest : List ℕ) (h : BeginsWith bytes t rest) → length h.text ≡ length bytes - length rest
 used bytes t rest h = omega (arith, length-append h.text rest, ap length h.front)
-
-pub used_le : (bytes : List ℕ) (t : Tree) (rest : List ℕ) → BeginsWith bytes t rest → length rest ≤ length bytes
-used_le bytes t rest h = omega (arith, length-append h.text rest, ap length h.front)
-
-pub used_front : (bytes : List ℕ) (t : Tree) (rest : List ℕ) → BeginsWith bytes t rest → IsEncoding t (take (length bytes - length rest) bytes)
-used_front bytes t rest h = subst (IsEncoding t) (sym (ap (take (length bytes - length rest)) h.front ∙ take_at h.text rest (length bytes - length rest) (used bytes t rest h))) h.is
-
-pub used_rest : (bytes : List ℕ) (t : Tree) (rest : List ℕ) → BeginsWith bytes t rest → drop (length bytes - length rest) bytes ≡ rest
-used_rest bytes t rest h = ap (drop (length bytes - length rest)) h.front ∙ drop_at h.text rest (length bytes - length rest) (used bytes t rest h)
 
 is_memory : {Y : Type 0} (e : ReadFault) (read : Result Y ReadFault) (y : Y) → Fails e read → read ≡ Ok y → e ≡ Memory
 is_memory Memory read y f is = refl

@@ -9,7 +9,7 @@ use Rattle.cosem_data.specs.Kinds.{tag_of}
 use Rattle.cosem_data.specs.declared.kind.Kind.{Kind}
 use Rattle.cosem_data.specs.declared.kind.Kind.TheVariants.{NullData, Array, Structure, Boolean, DoubleLong, DoubleLongUnsigned, OctetString, VisibleString, Integer, Long, Unsigned, LongUnsigned, Long64, Long64Unsigned, Enumerated}
 use Rattle.cosem_axdr.specs.declared.fault.ReadFault.{ReadFault}
-use Rattle.cosem_axdr.specs.declared.fault.ReadFault.TheVariants.{Short, UnknownTag, TooDeep, Length, Memory}
+use Rattle.cosem_axdr.specs.declared.fault.ReadFault.TheVariants.{Short, UnknownTag, TooDeep, Length}
 use Rattle.cosem_axdr.specs.Reading.{◌>>=◌, Reader, unsigned_at, signed_at, three_at, length_at, string_at, kind_of_tag, parts_at, read_map, content_at, kind_content_at, value_with, items_at, data_at}
 use Rattle.cosem_axdr.specs.Laws.{IsBadByte}
 use Rattle.cosem_axdr.proofs.Values.{tag_takes}

@@ -9,9 +9,9 @@ use cosem_data::clients::ClientSet;
 #[derive(Clone, Copy, Debug, Drop)]
 pub struct Arrow {
     /// The set whose clients flow.
-    pub from: u16,
+    pub from: usize,
     /// The set to which they flow.
-    pub to: u16,
+    pub to: usize,
 }
 
 /// Gives each set the clients of each set from which there is a way to it: what comes out are the least sets above these in
@@ -39,7 +39,7 @@ fn pass_all(arrows: &[Arrow], sets: &mut [ClientSet]) -> bool
     let mut changed = false;
     for arrow in arrows {
         let Arrow { from, to } = *arrow;
-        if pass(sets, usize::from(from), usize::from(to)) {
+        if pass(sets, from, to) {
             changed = true;
         }
     }

@@ -3,5 +3,7 @@
 
 pub mod closing;
 pub mod fault;
+pub mod granted;
 pub mod labels;
+pub mod least;
 mod line;

@@ -57,9 +57,6 @@ adds_one P before after e is may = record {
   fits = λ all. subst (MayTakeAll P) (sym is) (may_take-push P before e all may);
 }
 
-pub adds_none : (P : Plan) (es : List Effect) → Adds P [] es es
-adds_none P es = record { effects = sym (append-nil (map effect_of es)); fits = λ all. all }
-
 -- what was added to no effects
 pub stands_for : (P : Plan) (added meant : List theory.Effect) (before list : List Effect) → before ≡ [] → added ≡ meant → Adds P added before list → StandsFor P meant list
 stands_for P added meant before list none is adds = record {
@@ -181,22 +178,6 @@ script_writes P r s sound is = at (object_at P r.table) refl is
     at None there e = cc
     at (Some o) there e = λ x v i. sound.writes o (object-found P r.table o there).0 s (found (λ k. k.id == r.script) (theory.scripts_of o.part) s (sym e)).0 x v i
 
-pub script_effects-some : (P : Plan) (r : ScriptRef) (s : Script) → Some s ≡ named_script P r → theory.actions_effects P s.actions ≡ theory.effects_of_script P r
-script_effects-some P r s is = at (object_at P r.table) is
-  where
-    at : (o : Option Object) → Some s ≡ option_and_then (λ z. find (λ k. k.id == r.script) (theory.scripts_of z.part)) o →
-        theory.actions_effects P s.actions ≡ for_some o (λ z. theory.script_in P (theory.scripts_of z.part) r.script)
-    at None e = cc
-    at (Some o) e = ap (λ f. for_some f (λ z. theory.actions_effects P z.actions)) e
-
-pub script_effects-none : (P : Plan) (r : ScriptRef) → None ≡ named_script P r → theory.effects_of_script P r ≡ []
-script_effects-none P r is = at (object_at P r.table) is
-  where
-    at : (o : Option Object) → None ≡ option_and_then (λ z. find (λ k. k.id == r.script) (theory.scripts_of z.part)) o →
-        for_some o (λ z. theory.script_in P (theory.scripts_of z.part) r.script) ≡ []
-    at None e = refl
-    at (Some o) e = ap (λ f. for_some f (λ z. theory.actions_effects P z.actions)) (sym e)
-
 -- Own steps
 
 -- a capture that is due
@@ -215,11 +196,6 @@ capture_meant P s n t c is due = at (object_at P n) is
     at : (o : Option Object) → Some c ≡ captures_of o → theory.Capture n ∷ [] ≡ for_some o (λ z. theory.captured_at s n t z.part)
     at None e = cc
     at (Some o) e = in_part o.part e
-
--- the profile that a name leads to
-pub profile_named : {A : Type 0} (f : A → Captures) (r : Option A) (captures : Option Captures) → option_map f r ≡ captures → is_some r ≡ true → (c : Captures) × (Some c ≡ captures)
-profile_named f None captures is some = cc
-profile_named f (Some a) captures is some = (f a, is)
 
 -- what an evaluation means
 pub evaluation_meant : (P : Plan) (s : State) (n : LogicalName) (o : Object) (monitored : CellRef) (th : Tree) (actions : List UpDown) → Some o ≡ object_at P n → o.part ≡ RegisterMonitor monitored th actions →
@@ -241,17 +217,6 @@ thresholds_fit P s n o monitored th actions k is part = k.settable (thresholds n
     there : IsIn (keys s) (thresholds n)
     there = subst (λ ks. IsIn ks (thresholds n)) (sym k.cells)
         (ruled-cell P (thresholds n) (Given (array no_trees)) (subst (λ r. has_valid_tag r (Given (array no_trees)) ≡ true) (sym rule) refl))
-
--- what a monitor has seen is null-data or of the monitored kind
-pub seen_fits : (P : Plan) (s : State) (n : LogicalName) (o : Object) (monitored : CellRef) (th : Tree) (actions : List UpDown) → IsState P s → Some o ≡ object_at P n →
-    o.part ≡ RegisterMonitor monitored th actions → may_be_seen (kind_of (value (start P) monitored)) (value s (seen n)) ≡ true
-seen_fits P s n o monitored th actions k is part =
-    let there = object-found P n o (sym is) in
-    at (value s (seen n)) (subst (λ p. Holds P s n p) part (subst (λ m. Holds P s m o.part) there.1 (k.inner o there.0)))
-  where
-    at : (v : Tree) → IsSeen P monitored v → may_be_seen (kind_of (value (start P) monitored)) v ≡ true
-    at v (inl null) = ap (may_be_seen (kind_of (value (start P) monitored))) null
-    at v (inr fits) = or_right (same_kind (kind_of v) NullData) (meets (OfKind (kind_of (value (start P) monitored))) v) fits
 
 -- the monitored value keeps its kind
 pub monitored_fits : (P : Plan) (s : State) (n : LogicalName) (o : Object) (monitored : CellRef) (th : Tree) (actions : List UpDown) → IsSound P → IsState P s → Some o ≡ object_at P n →
@@ -291,10 +256,6 @@ input_meant P s x v both = sym (cond-true (theory.is_fed P x && meets_some (rule
 
 pub input_may : (P : Plan) (x : CellRef) (v : Tree) → (theory.is_fed P x && meets_some (rule_of P x) v) ≡ true → MayStand P x v
 input_may P x v both = meets-may_stand P x v (and_parts (theory.is_fed P x) (meets_some (rule_of P x) v) both).1
-
--- one that is not
-pub no_input_meant : (P : Plan) (s : State) (x : CellRef) (v : Tree) → (theory.is_fed P x && meets_some (rule_of P x) v) ≡ false → [] ≡ theory.effects_of P s (theory.Input x v)
-no_input_meant P s x v other = sym (cond-false (theory.is_fed P x && meets_some (rule_of P x) v) (theory.Put x v ∷ []) [] other)
 
 -- the method of an object other than a script table
 pub other_method : (P : Plan) (m : MethodRef) (argument : Argument) (o : Object) → Some o ≡ object_at P m.name → ((scripts : List Script) → o.part ≡ ScriptTable scripts → ⊥) →

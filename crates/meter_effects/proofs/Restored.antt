@@ -35,21 +35,6 @@ keys-undone undo s = at undo.change
     at (changes.Seen held) = keys-put s _ _
     at (changes.Times held) = keys-put s _ _
 
--- one effect more
-pub effects_more : (P : Plan) (s now new : State) (es : List Effect) (i : ℕ) (e : Effect) → i < length es → e ≡ get_or es i e →
-    now ≡ theory.effects P s (map effect_of (take i es)) → new ≡ theory.effect P now (effect_of e) → new ≡ theory.effects P s (map effect_of (take (i + 1) es))
-effects_more P s now new es i e within is before after =
-    after
-    ∙ (ap₂ (λ t d. theory.effect P t (effect_of d)) before is
-    ∙ (sym (effects-append P s (map effect_of (take i es)) (effect_of (get_or es i e) ∷ []))
-    ∙ ap (theory.effects P s) (sym (map_more effect_of es i e within))))
-
--- the effect of a list at a place may be taken
-pub may_take-at : (P : Plan) (es : List Effect) (i : ℕ) (e : Effect) → i < length es → e ≡ get_or es i e → MayTakeAll P es → MayTake P e
-may_take-at P [] i e within is may = absurd (omega arith)
-may_take-at P (f ∷ es) zero e within is may = subst (MayTake P) (sym is) may.0
-may_take-at P (f ∷ es) (suc i) e within is may = may_take-at P es i e (omega arith) is may.1
-
 -- and keeps the kinds
 pub may_take-fits : (P : Plan) (e : Effect) → MayTake P e → Fits P (effect_of e)
 may_take-fits P (effects.Put cell v) may = inl may

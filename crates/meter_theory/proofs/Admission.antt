@@ -41,7 +41,7 @@ from_pairs P cx i =
     subst (IsIn (cells P)) (sym (ap (λ z. z.1) x.2)) x.1
 
 -- a right is a client's
-known_client : (P : Plan) → IsSound P → (c : ℕ) (name : LogicalName) (test : Right → Bool) → has_right P c name test ≡ true → c < length P.clients
+pub known_client : (P : Plan) → IsSound P → (c : ℕ) (name : LogicalName) (test : Right → Bool) → has_right P c name test ≡ true → c < length P.clients
 known_client P sound c name test h =
     let r = any_in (λ z. ((z.client == c) && same_name z.object name) && test z) P.rights h in
     let a = and_parts ((r.0.client == c) && same_name r.0.object name) (test r.0) r.2 in

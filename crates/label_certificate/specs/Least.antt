@@ -1,0 +1,20 @@
+-- Labels from sets of clients by the numbers of cells.
+use Rattle.std.specs.Prelude.{List, [], ◌∷◌}
+use Rattle.cosem_data.specs.declared.cell.CellRef.{CellRef}
+use Rattle.cosem_data.specs.declared.clients.ClientSet.{ClientSet}
+use Rattle.meter_theory.specs.Labels.{Labels}
+use Rattle.flow_edges.specs.declared.table.Link.{Link}
+use Rattle.label_certificate.specs.declared.closing.Arrow.{Arrow}
+
+-- who influences the source of an edge influences its target: own profile
+abbrev pub along : Link → Arrow
+along l = record { from = l.source; to = l.target }
+
+-- who learns the target of an edge learns its source: own profile
+abbrev pub against : Link → Arrow
+against l = record { from = l.target; to = l.source }
+
+-- each cell with the sets that have its number: own profile
+abbrev pub labels_of_sets : List CellRef → (influence learn : List ClientSet) → Labels
+labels_of_sets (x ∷ xs) (i ∷ is) (l ∷ ls) = (x, record { influence = i; learn = l }) ∷ labels_of_sets xs is ls
+labels_of_sets _ _ _ = []

@@ -1,0 +1,130 @@
+//! What the rights of a plan ask of the labels of its cells.
+ghost use Rattle.std.specs.Prelude.{◌≡◌, ℕ, length, IfOk, OnOk};
+ghost use Rattle.cosem_data.specs.Cells.{cell};
+ghost use Rattle.meter_theory.specs.Plan as theory;
+ghost use Rattle.meter_theory.specs.Labels.{has, method_changes_of};
+ghost use Rattle.meter_theory.specs.Rights.{may_act, may_get, may_set};
+ghost use Rattle.label_certificate.specs.Granted.{AreGranted, AreJoined, AreOwn, by_clients, may_call_for, methods_of};
+
+use cosem_data::cell::{CellRef, MethodRef};
+use cosem_data::clients::ClientSet;
+use cosem_data::memory::Memory;
+use flow_edges::changes::push_method_changes;
+use meter_theory::flow::Label;
+use meter_theory::limits::CLIENTS;
+use object_model::instance::Instance;
+use object_model::object::Object;
+use object_model::plan::Plan;
+use std::alloc::Global;
+
+/// For each cell of a plan, in plan order, the clients that have a right to change it, and those that may read it (own
+/// profile). The only error is want of memory.
+pub fn granted_labels(alloc: Global, plan: &Plan) -> Result<Vec<Label>, Memory>
+    ensures { IfOk result (λ labels. AreGranted plan.now labels.items) }
+{
+    plan.known();
+    let mut labels = own_labels(alloc, plan)?;
+    for object in plan.objects() {
+        join_methods(alloc, plan, object, &mut labels)?;
+    }
+    Ok(labels)
+}
+
+/// For each cell the clients that may set it, and those that may read it.
+fn own_labels(alloc: Global, plan: &Plan) -> Result<Vec<Label>, Memory>
+    ensures { IfOk result (λ labels. AreOwn plan.now labels.items) }
+{
+    let mut labels = Vec::new(alloc);
+    for cell in &plan.cells(alloc)? {
+        let instance = plan.instance(&cell.name);
+        labels.push(own_label(&instance, cell.index))?;
+    }
+    Ok(labels)
+}
+
+/// The clients that may set, and those that may read, the attribute with this index.
+fn own_label(instance: &Instance<'_>, index: u8) -> Label
+    ensures influence { (class_id c : ℕ) → has result.influence c ≡ may_set instance.now.plan c (cell class_id instance.now.name index) }
+    ensures learn { (class_id c : ℕ) → has result.learn c ≡ may_get instance.now.plan c (cell class_id instance.now.name index) }
+{
+    let mut influence = ClientSet::new();
+    let mut learn = ClientSet::new();
+    for client in 0..CLIENTS as u8 {
+        if instance.may_set(client, index) {
+            influence = influence.with(client);
+        }
+        if instance.may_get(client, index) {
+            learn = learn.with(client);
+        }
+    }
+    Label { influence, learn }
+}
+
+/// Lets the clients that may call a method of the object influence the cells that it changes.
+fn join_methods(
+    alloc: Global,
+    plan: &Plan,
+    object: &Object,
+    labels: &mut [Label],
+) -> Result<(), Memory>
+    requires { length labels.old ≡ length (theory.cells plan.now) }
+    ensures { OnOk result (AreJoined plan.now (may_call_for plan.now (methods_of object.now)) labels.old labels.new) }
+{
+    let instance = plan.instance(&object.name());
+    let interface = object.part().interface();
+    for index in 1..=interface.methods {
+        let method = MethodRef {
+            class_id: interface.class_id,
+            name: object.name(),
+            index,
+        };
+        join_method(alloc, plan, &method, callers(&instance, index), labels)?;
+    }
+    Ok(())
+}
+
+/// The clients that may call the method with this index.
+fn callers(instance: &Instance<'_>, index: u8) -> ClientSet
+    ensures { (class_id c : ℕ) → has result c ≡ may_act instance.now.plan c (record { class_id = class_id; name = instance.now.name; index = index }) }
+{
+    let mut clients = ClientSet::new();
+    for client in 0..CLIENTS as u8 {
+        if instance.may_act(client, index) {
+            clients = clients.with(client);
+        }
+    }
+    clients
+}
+
+/// Lets these clients influence the cells that a method changes. Where there are none, the method isn't looked at.
+fn join_method(
+    alloc: Global,
+    plan: &Plan,
+    method: &MethodRef,
+    clients: ClientSet,
+    labels: &mut [Label],
+) -> Result<(), Memory>
+    requires { length labels.old ≡ length (theory.cells plan.now) }
+    ensures { OnOk result (AreJoined plan.now (by_clients clients (method_changes_of plan.now method.now)) labels.old labels.new) }
+{
+    if clients.within(ClientSet::new()) {
+        return Ok(());
+    }
+    let mut changed = Vec::new(alloc);
+    push_method_changes(plan, method, &mut changed)?;
+    join(plan, &changed, clients, labels);
+    Ok(())
+}
+
+/// Lets these clients influence these cells.
+fn join(plan: &Plan, changed: &[CellRef], clients: ClientSet, labels: &mut [Label])
+    requires { length labels.old ≡ length (theory.cells plan.now) }
+    ensures { AreJoined plan.now (by_clients clients changed.now) labels.old labels.new }
+{
+    for cell in changed {
+        if let Some(number) = plan.cell_number(cell) {
+            let label = &mut labels[usize::from(number)];
+            label.influence = label.influence.union(clients);
+        }
+    }
+}
