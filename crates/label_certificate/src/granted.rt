@@ -36,28 +36,49 @@ fn own_labels(alloc: Global, plan: &Plan) -> Result<Vec<Label>, Memory>
 {
     let mut labels = Vec::new(alloc);
     for cell in &plan.cells(alloc)? {
-        let instance = plan.instance(&cell.name);
-        labels.push(own_label(&instance, cell.index))?;
+        labels.push(own_label(plan, cell))?;
     }
     Ok(labels)
 }
 
-/// The clients that may set, and those that may read, the attribute with this index.
-fn own_label(instance: &Instance<'_>, index: u8) -> Label
-    ensures influence { (class_id c : ℕ) → has result.influence c ≡ may_set instance.now.plan c (cell class_id instance.now.name index) }
-    ensures learn { (class_id c : ℕ) → has result.learn c ≡ may_get instance.now.plan c (cell class_id instance.now.name index) }
+/// The clients that may set a cell, and those that may read it.
+fn own_label(plan: &Plan, cell: &CellRef) -> Label
+    ensures influence { (c : ℕ) → has result.influence c ≡ may_set plan.now c cell.now }
+    ensures learn { (c : ℕ) → has result.learn c ≡ may_get plan.now c cell.now }
 {
-    let mut influence = ClientSet::new();
-    let mut learn = ClientSet::new();
+    let instance = plan.instance(&cell.name);
+    Label {
+        influence: setters(&instance, cell.index),
+        learn: readers(&instance, cell.index),
+    }
+}
+
+/// The clients that may set the attribute with this index.
+fn setters(instance: &Instance<'_>, index: u8) -> ClientSet
+    ensures { (class_id c : ℕ) → has result c ≡ may_set instance.now.plan c (cell class_id instance.now.name index) }
+{
+    instance.plan().known();
+    let mut clients = ClientSet::new();
     for client in 0..CLIENTS as u8 {
         if instance.may_set(client, index) {
-            influence = influence.with(client);
-        }
-        if instance.may_get(client, index) {
-            learn = learn.with(client);
+            clients = clients.with(client);
         }
     }
-    Label { influence, learn }
+    clients
+}
+
+/// The clients that may read the attribute with this index.
+fn readers(instance: &Instance<'_>, index: u8) -> ClientSet
+    ensures { (class_id c : ℕ) → has result c ≡ may_get instance.now.plan c (cell class_id instance.now.name index) }
+{
+    instance.plan().known();
+    let mut clients = ClientSet::new();
+    for client in 0..CLIENTS as u8 {
+        if instance.may_get(client, index) {
+            clients = clients.with(client);
+        }
+    }
+    clients
 }
 
 /// Lets the clients that may call a method of the object influence the cells that it changes.
@@ -72,13 +93,14 @@ fn join_methods(
 {
     let instance = plan.instance(&object.name());
     let interface = object.part().interface();
-    for index in 1..=interface.methods {
+    for place in 0..interface.methods {
         let method = MethodRef {
             class_id: interface.class_id,
             name: object.name(),
-            index,
+            index: place + 1,
         };
-        join_method(alloc, plan, &method, callers(&instance, index), labels)?;
+        let clients = callers(&instance, method.index);
+        join_method(alloc, plan, &method, clients, labels)?;
     }
     Ok(())
 }
@@ -87,6 +109,7 @@ fn join_methods(
 fn callers(instance: &Instance<'_>, index: u8) -> ClientSet
     ensures { (class_id c : ℕ) → has result c ≡ may_act instance.now.plan c (record { class_id = class_id; name = instance.now.name; index = index }) }
 {
+    instance.plan().known();
     let mut clients = ClientSet::new();
     for client in 0..CLIENTS as u8 {
         if instance.may_act(client, index) {
@@ -121,6 +144,7 @@ fn join(plan: &Plan, changed: &[CellRef], clients: ClientSet, labels: &mut [Labe
     requires { length labels.old ≡ length (theory.cells plan.now) }
     ensures { AreJoined plan.now (by_clients clients changed.now) labels.old labels.new }
 {
+    plan.known();
     for cell in changed {
         if let Some(number) = plan.cell_number(cell) {
             let label = &mut labels[usize::from(number)];

@@ -5,5 +5,4 @@ pub mod closing;
 pub mod fault;
 pub mod granted;
 pub mod labels;
-pub mod least;
 mod line;

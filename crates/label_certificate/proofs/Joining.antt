@@ -1,10 +1,12 @@
 -- The clients that rights let influence cells, method by method.
 use Rattle.std.specs.Prelude.{◌≡◌, ◌≢◌, ℕ, zero, suc, ◌+◌, ◌<◌, ◌≤◌, ◌==◌, nat_lt, nat_le, Bool, true, false, ◌&&◌, ◌||◌, ◌⊎◌, ◌↔◌, List, [], ◌∷◌, ◌++◌, map, flat_map, take, length, get_or, set, Option, Some, None}
 use Rattle.std.specs.List.{list_any, position_from, range_with_len}
-use Rattle.std.proofs.Common.{refl, sym, ap, ap₂, subst, ◌∙◌, arith, inl, inr, leb-true}
-use Rattle.std.proofs.lemmas.Bool.{and_parts, and_from, or_cases, or_left, or_right}
-use Rattle.std.proofs.lemmas.List.{length-set, get_or-set_same, get_or-set_other, take_more}
+use Rattle.std.proofs.Common.{refl, sym, ap, ap₂, subst, ◌∙◌, arith, inl, inr, leb-true, eqb-true}
+use Rattle.std.proofs.lemmas.Bool.{ltb-false, and_parts, and_from, or_cases, or_left, or_right}
+use Rattle.std.proofs.lemmas.List.{length-set, get_or-set_same, get_or-set_other, get_or_append_left}
+use Rattle.std.proofs.Math.Seq.{get_or-append_seam}
 use Rattle.std.proofs.lemmas.List.Folds.{list_any-append}
+use Rattle.std.proofs.lemmas.List.FromFn.{map-range_with_len_more}
 use Rattle.cosem_data.specs.Cells.{same_cell, same_name}
 use Rattle.cosem_data.specs.declared.cell.CellRef.{CellRef}
 use Rattle.cosem_data.specs.declared.cell.MethodRef.{MethodRef}
@@ -14,9 +16,12 @@ use Rattle.meter_theory.specs.Lists.{IsIn, some_passes}
 use Rattle.meter_theory.specs.Edges.{among}
 use Rattle.meter_theory.specs.Labels.{MayChange, has, method_changes_of}
 use Rattle.meter_theory.specs.Plan.{Plan, Object, Right, cells, interface_of, object_at}
-use Rattle.meter_theory.specs.Rights.{lists, may_act, may_get, may_set}
+use Rattle.meter_theory.specs.Rights.{has_right, lists, may_act, may_get, may_set}
 use Rattle.meter_theory.specs.Sound.{IsSound, are_indexes, is_right}
 use Rattle.meter_theory.specs.declared.flow.Label.{Label}
+use Rattle.meter_theory.specs.declared.limits.TheConstants.{CLIENTS}
+use Rattle.cosem_data.specs.declared.name.LogicalName.{LogicalName}
+use Rattle.meter_theory.proofs.Admission.{known_client}
 use Rattle.meter_theory.proofs.Agreement.{object-found}
 use Rattle.meter_theory.proofs.Check.{among_in, in_among}
 use Rattle.meter_theory.proofs.Lists.{any_in, in_any, in_flat_map, in_map, in_range}
@@ -24,6 +29,11 @@ use Rattle.meter_theory.proofs.Theorem.{all_at}
 use Rattle.flow_edges.specs.Table.{cell_at, AreCells}
 use Rattle.flow_edges.proofs.Sources.{numbered, unnumbered}
 use Rattle.label_certificate.specs.Granted.{IsGranted, AreGranted, AreOwn, AreJoined, by_clients, label_in, may_call_for, methods_of}
+
+-- the labels of the first cells have the clients that may set, and those that may read them
+abbrev pub IsOwnTo : Plan → ℕ → List Label → Type 0
+IsOwnTo P k labels = (i : ℕ) → i < k → (c : ℕ) →
+    (has (label_in labels i).influence c ≡ may_set P c (cell_at (cells P) i)) × (has (label_in labels i).learn c ≡ may_get P c (cell_at (cells P) i))
 
 or-assoc : (a b c : Bool) → ((a || b) || c) ≡ (a || (b || c))
 or-assoc true b c = refl
@@ -221,3 +231,61 @@ all-granted P own labels sound first joined = record {
               let p = and_parts (may_act P c m.0) (among (method_changes_of P m.0) (cell_at (cells P) i)) m.2 in
               inr (m.0, p.0, among_in (method_changes_of P m.0) (cell_at (cells P) i) p.1)
         ]
+
+-- all clients that there are were asked
+pub asked-all : (P : Plan) → IsSound P → (name : LogicalName) (test : Right → Bool) (set : ClientSet) (n : ℕ) → CLIENTS ≤ n →
+    ((c : ℕ) → has set c ≡ (nat_lt c n && has_right P c name test)) → (c : ℕ) → has set c ≡ has_right P c name test
+asked-all P sound name test set n all is c = at (nat_lt c n) refl (has_right P c name test) refl
+  where
+    at : (b : Bool) → nat_lt c n ≡ b → (h : Bool) → has_right P c name test ≡ h → has set c ≡ has_right P c name test
+    at true e h k = is c ∙ ap (λ z. z && has_right P c name test) e
+    at false e false k = is c ∙ (ap (λ z. z && has_right P c name test) e ∙ sym k)
+    at false e true k = absurd (omega (arith, all, ltb-false c n e, known_client P sound c name test k, sound.few_clients))
+
+-- one label more
+pub owned-more : (P : Plan) (labels : List Label) (k : ℕ) (x : CellRef) (l : Label) → length labels ≡ k → x ≡ cell_at (cells P) k →
+    ((c : ℕ) → has l.influence c ≡ may_set P c x) → ((c : ℕ) → has l.learn c ≡ may_get P c x) → IsOwnTo P k labels → IsOwnTo P (k + 1) (labels ++ l ∷ [])
+owned-more P labels k x l size is influence learn own i less c = at (same_or_not i k)
+  where
+    at : (i ≡ k) ⊎ (i ≢ k) → (has (label_in (labels ++ l ∷ []) i).influence c ≡ may_set P c (cell_at (cells P) i)) × (has (label_in (labels ++ l ∷ []) i).learn c ≡ may_get P c (cell_at (cells P) i))
+    at (inl same) =
+        let here : label_in (labels ++ l ∷ []) i ≡ l = ap (label_in (labels ++ l ∷ [])) (same ∙ sym size) ∙ get_or-append_seam labels l [] _ in
+        let there : x ≡ cell_at (cells P) i = is ∙ ap (cell_at (cells P)) (sym same) in
+        (ap (λ z. has z.influence c) here ∙ (influence c ∙ ap (may_set P c) there), ap (λ z. has z.learn c) here ∙ (learn c ∙ ap (may_get P c) there))
+    at (inr other) =
+        let within : i < length labels = omega (arith, less, other, size) in
+        let here : label_in (labels ++ l ∷ []) i ≡ label_in labels i = get_or_append_left labels (l ∷ []) _ i within in
+        let old = own i (omega (arith, less, other)) c in
+        (ap (λ z. has z.influence c) here ∙ old.0, ap (λ z. has z.learn c) here ∙ old.1)
+
+-- the method with an index of an object with this name
+abbrev pub method_at : (class_id : ℕ) → LogicalName → ℕ → MethodRef
+method_at class_id n i = record { class_id = class_id; name = n; index = i }
+
+-- one method more
+pub joined-method : (P : Plan) (class_id k : ℕ) (n : LogicalName) (m : MethodRef) (clients : ClientSet) (old now new : List Label) → m.name ≡ n → m.index ≡ k + 1 →
+    ((c : ℕ) → has clients c ≡ may_act P c m) → AreJoined P (may_call_for P (map (method_at class_id n) (range_with_len 1 k))) old now →
+    AreJoined P (by_clients clients (method_changes_of P m)) now new → AreJoined P (may_call_for P (map (method_at class_id n) (range_with_len 1 (k + 1)))) old new
+joined-method P class_id k n m clients old now new name index called first next =
+    joined-both P (may_call_for P (map (method_at class_id n) (range_with_len 1 k))) (by_clients clients (method_changes_of P m)) (may_call_for P (map (method_at class_id n) (range_with_len 1 (k + 1)))) old now new both first next
+  where
+    or-nothing : (a : Bool) → (a || false) ≡ a
+    or-nothing true = refl
+    or-nothing false = refl
+
+    one : (c : ℕ) (x : CellRef) → may_call_for P (method_at class_id n (k + 1) ∷ []) c x ≡ by_clients clients (method_changes_of P m) c x
+    one c x =
+        or-nothing (may_act P c (method_at class_id n (k + 1)) && among (method_changes_of P (method_at class_id n (k + 1))) x)
+        ∙ (ap₂ (λ o i. may_act P c (method_at class_id o i) && among (method_changes_of P (method_at class_id o i)) x) (sym name) (sym index)
+        ∙ ap (λ b. b && among (method_changes_of P m) x) (sym (called c)))
+
+    both : (c : ℕ) (x : CellRef) → may_call_for P (map (method_at class_id n) (range_with_len 1 (k + 1))) c x
+        ≡ (may_call_for P (map (method_at class_id n) (range_with_len 1 k)) c x || by_clients clients (method_changes_of P m) c x)
+    both c x =
+        ap (λ ms. may_call_for P ms c x) (map-range_with_len_more (method_at class_id n) 1 k (k + 1) (omega arith))
+        ∙ (calls-both P (map (method_at class_id n) (range_with_len 1 k)) (method_at class_id n (k + 1) ∷ []) c x
+        ∙ ap (λ b. may_call_for P (map (method_at class_id n) (range_with_len 1 k)) c x || b) (one c x))
+
+pub none-else : {A : Type 0} (o : Option A) → ((a : A) → o ≡ Some a → ⊥) → o ≡ None
+none-else None h = refl
+none-else (Some a) h = absurd (h a refl)

@@ -1,0 +1,13 @@
+use Rattle.std.proofs.Common.{◌≡◌, subst}
+use Rattle.cosem_data.specs.Cells.{cell}
+use Rattle.meter_theory.specs.Labels.{has}
+use Rattle.meter_theory.specs.Rights.{may_get, may_set}
+use Rattle.label_certificate.proofs.granted.own_label.Goals as goal
+
+pub returns-clause-influence : goal.returns-clause-influence
+returns-clause-influence c = λ d.
+    subst (λ i. has c.setters.result d ≡ may_set i.plan d (cell 0 i.name c.args.cell.now.index)) c.instance-instance.ensures (c.setters.ensures 0 d)
+
+pub returns-clause-learn : goal.returns-clause-learn
+returns-clause-learn c = λ d.
+    subst (λ i. has c.readers.result d ≡ may_get i.plan d (cell 0 i.name c.args.cell.now.index)) c.instance-instance.ensures (c.readers.ensures 0 d)

@@ -1,0 +1,10 @@
+use Rattle.std.proofs.Common.{subst}
+use Rattle.meter_theory.specs.Sound.{IsSound}
+use Rattle.meter_theory.specs.Rights.{lists}
+use Rattle.label_certificate.proofs.Joining.{asked-all}
+use Rattle.label_certificate.proofs.granted.readers.Goals as goal
+
+pub returns : goal.returns
+returns c = λ class_id.
+    asked-all c.args.instance.now.plan (subst IsSound c.plan.ensures c.known.ensures.sound) c.args.instance.now.name (λ r. lists r.gets c.args.index) c.loop-client.clients c.loop-client.client c.loop-client-test.false
+    (c.loop-client.invariant class_id)
