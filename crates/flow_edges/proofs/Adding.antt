@@ -1,19 +1,14 @@
 -- Gathering in loops.
-use Rattle.std.specs.Prelude.{◌≡◌, ◌≢◌, ℕ, ◌+◌, ◌<◌, ◌≤◌, Bool, true, false, cond, ◌||◌, List, [], ◌∷◌, ◌++◌, map, flat_map, filter, take, length, get_or, set, replicate}
-use Rattle.std.specs.List.{list_any}
-use Rattle.std.proofs.Common.{refl, sym, ap, ap₂, subst, ◌∙◌, zero, suc, arith, inl, inr, ◌⊎◌}
-use Rattle.std.proofs.lemmas.List.{take_more, map_more, append_assoc, append-nil, get_or-map}
+use Rattle.std.specs.Prelude.{◌≡◌, ℕ, ◌+◌, ◌<◌, Bool, true, false, cond, List, [], ◌∷◌, ◌++◌, map, flat_map, filter, take, length, get_or}
+use Rattle.std.proofs.Common.{refl, sym, ap, subst, ◌∙◌}
+use Rattle.std.proofs.lemmas.List.{append-nil, get_or-map}
 use Rattle.std.proofs.lemmas.List.Elements.{filter_more}
-use Rattle.std.proofs.lemmas.List.Folds.{list_any-append}
 use Rattle.std.proofs.lemmas.Grind.{flat_map-append}
-use Rattle.cosem_data.specs.Cells.{same_cell}
 use Rattle.cosem_data.specs.declared.cell.CellRef.{CellRef}
-use Rattle.cosem_data.proofs.Same.{same_cell-true, same_cell-refl}
-use Rattle.meter_theory.specs.Edges.{among, first_of_each}
 use Rattle.meter_theory.specs.declared.flow.Edge.{Edge}
 use Rattle.flow_edges.specs.declared.table.Link.{Link}
 use Rattle.flow_edges.specs.Table.{cell_at, edge_at, no_cell}
-use Rattle.flow_edges.specs.Table.{CellEdges, AreCells}
+use Rattle.flow_edges.specs.Table.{CellEdges}
 use Rattle.flow_edges.specs.Gather.{add_edge, gather, IsGathered}
 use Rattle.flow_edges.proofs.Gathered.{gather-append}
 
@@ -22,9 +17,9 @@ gathered_none a = record { cells = refl; edges = refl }
 
 pub gathered_join : (a b d : CellEdges) (es fs : List Edge) → IsGathered a b es → IsGathered b d fs → IsGathered a d (es ++ fs)
 gathered_join a b d es fs p q = record {
-    cells = q.cells ∙ p.cells;
-    edges = q.edges ∙ (ap (λ z. gather z fs) p.edges ∙ sym (gather-append a.edges es fs));
-  }
+  cells = q.cells ∙ p.cells;
+  edges = q.edges ∙ (ap (λ z. gather z fs) p.edges ∙ sym (gather-append a.edges es fs));
+}
 
 pub gathered-is : (a b : CellEdges) (es fs : List Edge) → es ≡ fs → IsGathered a b es → IsGathered a b fs
 gathered-is a b es fs e h = subst (IsGathered a b) e h

@@ -1,5 +1,5 @@
 -- Gathering edges one after another leaves out those that were found before, as the definition does.
-use Rattle.std.proofs.Common.{◌≡◌, Bool, true, false, cond, List, [], ◌∷◌, ◌++◌, refl, sym, ap, ap₂, subst, ◌∙◌}
+use Rattle.std.proofs.Common.{◌≡◌, Bool, true, false, cond, List, [], ◌∷◌, ◌++◌, refl, sym, ap, ◌∙◌}
 use Rattle.std.specs.Prelude.{◌||◌}
 use Rattle.std.specs.List.{list_any}
 use Rattle.std.proofs.lemmas.List.{append_assoc, append-nil}
@@ -43,8 +43,8 @@ gather-first found earlier (e ∷ es) same =
     step found earlier e es same (list_any (same_edge e) found) refl
     (gather-first found earlier es same)
     (gather-first (found ++ e ∷ []) (e ∷ earlier) es (λ f.
-        list_any-append (same_edge f) found (e ∷ [])
-        ∙ (or-swap (list_any (same_edge f) found) (same_edge f e) ∙ ap (λ b. same_edge f e || b) (same f))))
+    list_any-append (same_edge f) found (e ∷ [])
+    ∙ (or-swap (list_any (same_edge f) found) (same_edge f e) ∙ ap (λ b. same_edge f e || b) (same f))))
 
 -- from nothing: the list of the definition
 pub gather-all : (es : List Edge) → gather [] es ≡ first_of_each [] es

@@ -1,17 +1,16 @@
 -- The marks tell which edges were found.
-use Rattle.std.proofs.Common.{◌≡◌, ◌≢◌, ◌<◌, ◌≤◌, ◌+◌, ◌*◌, ◌⊎◌, ℕ, zero, suc, Bool, true, false, cond, List, [], ◌∷◌, ◌++◌, map, length, get_or, set, refl, sym, ap, ap₂, subst, ◌∙◌, arith, inl, inr}
+use Rattle.std.proofs.Common.{◌≡◌, ◌≢◌, ◌<◌, ◌≤◌, ◌+◌, ◌*◌, ℕ, suc, Bool, true, false, List, [], ◌∷◌, ◌++◌, map, length, get_or, set, refl, sym, ap, ap₂, subst, ◌∙◌, arith}
 use Rattle.std.specs.Prelude.{◌||◌, ◌&&◌, ◌/◌}
 use Rattle.std.specs.List.{list_any}
-use Rattle.std.proofs.Math.Nat.{mul-le-mul_left, mul-le-mul_right}
+use Rattle.std.proofs.Math.Nat.{mul-le-mul_right}
 use Rattle.std.proofs.lemmas.Nat.{div-mul-add}
 use Rattle.std.proofs.lemmas.Bool.{and_parts, cond-true, cond-false}
-use Rattle.std.proofs.lemmas.List.{append_assoc, append-nil, map-append, get_or-set_same, get_or-set_other, length-set, get_or_default}
+use Rattle.std.proofs.lemmas.List.{map-append, get_or-set_same, get_or-set_other, length-set, get_or_default}
 use Rattle.std.proofs.lemmas.List.Folds.{list_any-append}
 use Rattle.cosem_data.specs.Cells.{same_cell}
 use Rattle.cosem_data.specs.declared.cell.CellRef.{CellRef}
-use Rattle.cosem_data.proofs.Same.{same_cell-true, same_cell-refl}
+use Rattle.cosem_data.proofs.Same.{same_cell-refl}
 use Rattle.meter_theory.specs.Edges.{same_cause, same_edge}
-use Rattle.meter_theory.specs.declared.flow.Edge.{Edge}
 use Rattle.flow_edges.specs.declared.table.Link.{Link}
 use Rattle.meter_theory.specs.declared.flow.Cause.{Cause}
 use Rattle.meter_theory.specs.declared.flow.Cause.TheVariants as causes
@@ -102,11 +101,11 @@ within_more cells (k ∷ ls) l h p = (h.0, within_more cells ls l h.1 p)
 pub marked-more : (cells : List CellRef) (links : List Link) (marks : List Bool) (l : Link) → IsMarked cells links marks → IsLink cells l →
     IsMarked cells (links ++ l ∷ []) (set marks (place_of (length cells) l) true)
 marked-more cells links marks l m fits = record {
-      cells_apart = m.cells_apart;
-      within = within_more cells links l m.within fits;
-      long = length-set marks (place_of (length cells) l) true ∙ m.long;
-      marked = λ k p. at k p (same_edge (edge_at cells k) (edge_at cells l)) refl;
-    }
+  cells_apart = m.cells_apart;
+  within = within_more cells links l m.within fits;
+  long = length-set marks (place_of (length cells) l) true ∙ m.long;
+  marked = λ k p. at k p (same_edge (edge_at cells k) (edge_at cells l)) refl;
+}
   where
     there : place_of (length cells) l < length marks
     there = subst (λ z. place_of (length cells) l < z) (sym m.long) (place_within (length cells) (cause_number l.cause) l.source l.target (cause_below l.cause) fits.0 fits.1)

@@ -1,11 +1,11 @@
 -- The edges that each kind of object adds.
-use Rattle.std.specs.Prelude.{◌≡◌, ℕ, List, [], ◌∷◌, ◌++◌, map, flat_map, filter, length}
-use Rattle.std.proofs.Common.{refl, sym, ap, ap₂, subst, ◌∙◌}
+use Rattle.std.specs.Prelude.{◌≡◌, ℕ, List, [], ◌∷◌, ◌++◌, map, flat_map, filter}
+use Rattle.std.proofs.Common.{refl, ap, ap₂, ◌∙◌}
 use Rattle.std.proofs.lemmas.List.{append_assoc}
 use Rattle.cosem_data.specs.Tree.{Tree}
 use Rattle.cosem_data.specs.declared.cell.CellRef.{CellRef}
 use Rattle.cosem_data.specs.declared.name.LogicalName.{LogicalName}
-use Rattle.meter_theory.specs.Edges.{among, edge, edges_in, in_plan_order, monitor_changes, script_changes}
+use Rattle.meter_theory.specs.Edges.{among, edge, edges_in, monitor_changes, script_changes}
 use Rattle.meter_theory.specs.Plan.{Plan, ProfileGeneric, RegisterMonitor, SingleActionSchedule, buffer, capture_period, cells, entries_in_use, execution_time, seen, thresholds}
 use Rattle.meter_theory.specs.declared.flow.Cause.{Cause}
 use Rattle.meter_theory.specs.declared.flow.Cause.TheVariants.{Captured, Monitor, Monitored, Period, Schedule}
@@ -32,7 +32,7 @@ pub profile-added : (P : Plan) (n : LogicalName) (captured : List CellRef) (peri
 profile-added P n captured period_start entries a b d e rows period in_use r p u first next last =
     gathered-is a e _ _
     (append_assoc (map (λ x. edge Captured x (cell_at a.cells rows)) captured) (edge Period (cell_at a.cells period) (cell_at a.cells rows) ∷ [])
-      (edge Period (cell_at a.cells period) (cell_at a.cells in_use) ∷ [])
+    (edge Period (cell_at a.cells period) (cell_at a.cells in_use) ∷ [])
     ∙ ap₂ (λ x y. map (λ z. edge Captured z x) captured ++ edge Period y x ∷ edge Period y (cell_at a.cells in_use) ∷ []) r p
     ∙ ap (λ x. map (λ z. edge Captured z (buffer n)) captured ++ edge Period (capture_period n) (buffer n) ∷ edge Period (capture_period n) x ∷ []) u)
     (gathered_add a d e _ (link Period period in_use) (gathered_add a b d _ (link Period period rows) first next) last)

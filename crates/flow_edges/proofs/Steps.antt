@@ -1,15 +1,9 @@
 -- Steps of loops, and what is found in lists.
-use Rattle.std.specs.Prelude.{◌≡◌, ℕ, ◌+◌, ◌<◌, ◌≤◌, ◌==◌, Bool, true, false, cond, List, [], ◌∷◌, ◌++◌, map, flat_map, find, take, length, get_or, Option, Some, None, option_map}
-use Rattle.std.specs.List.{list_any}
-use Rattle.std.proofs.Common.{refl, sym, ap, ap₂, subst, ◌∙◌, zero, suc, arith, inl, inr, Bor}
-use Rattle.std.proofs.lemmas.List.{take_more, map_more, append_assoc, append-nil, flat_map_more}
+use Rattle.std.specs.Prelude.{◌≡◌, ℕ, ◌+◌, ◌<◌, ◌==◌, Bool, true, false, cond, List, [], ◌∷◌, ◌++◌, map, flat_map, find, take, length, get_or, Option, Some, None, option_map}
+use Rattle.std.proofs.Common.{refl, sym, ap, ◌∙◌, zero, suc, arith, Bor}
+use Rattle.std.proofs.lemmas.List.{take_more, append_assoc, flat_map_more}
 use Rattle.std.proofs.lemmas.Grind.{flat_map-append}
-use Rattle.cosem_data.specs.Cells.{same_cell}
 use Rattle.cosem_data.specs.declared.cell.CellRef.{CellRef}
-use Rattle.cosem_data.proofs.Same.{same_cell-true, same_cell-refl}
-use Rattle.meter_theory.specs.Lists.{IsIn}
-use Rattle.meter_theory.proofs.Lists.{in_any}
-use Rattle.meter_theory.specs.Plan.{Script}
 use Rattle.class_control.specs.declared.script.Script as code
 use Rattle.class_control.specs.ScriptView.{script_of}
 use Rattle.flow_edges.specs.declared.table.Link.{Link}

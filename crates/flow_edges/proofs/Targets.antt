@@ -39,7 +39,7 @@ marked cs before n x marks are there is so_far =
         ap (λ z. get_or (set marks n true) z d) same
         ∙ (get_or-set_same marks n true d (subst (λ z. n < z) (sym long) there)
         ∙ (or-true (among before (cell_at cs k)) (same_cell (cell_at cs k) x)
-          (subst (λ z. same_cell z x ≡ true) (sym (ap (cell_at cs) same ∙ is)) (same_cell-refl x)) ∙ sym (right k d h)))
+        (subst (λ z. same_cell z x ≡ true) (sym (ap (cell_at cs) same ∙ is)) (same_cell-refl x)) ∙ sym (right k d h)))
     at k d h (inr other) =
         get_or-set_other marks n k true d other
         ∙ (ap (λ z. get_or z k d) so_far

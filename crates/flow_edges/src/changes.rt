@@ -91,11 +91,7 @@ fn script_in(scripts: &[Script], id: u16) -> Option<&Script>
 }
 
 /// Adds the cells that each of these scripts changes.
-fn push_all_scripts(
-    plan: &Plan,
-    scripts: &[Script],
-    cells: &mut Vec<CellRef>,
-) -> Result<(), Memory>
+fn push_all_scripts(plan: &Plan, scripts: &[Script], cells: &mut Vec<CellRef>) -> Result<(), Memory>
     ensures { OnOk result (cells.new.items ≡ cells.old.items ++ changed (all_scripts plan.now (map script_of scripts.now))) }
 {
     for script in scripts {

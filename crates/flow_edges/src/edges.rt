@@ -161,7 +161,12 @@ fn number_of(plan: &Plan, cell: &CellRef) -> usize
 }
 
 /// For each cell of the plan whether it is one of these.
-fn marks_of(alloc: Global, plan: &Plan, cells: usize, changed: &[CellRef]) -> Result<Vec<bool>, Memory>
+fn marks_of(
+    alloc: Global,
+    plan: &Plan,
+    cells: usize,
+    changed: &[CellRef],
+) -> Result<Vec<bool>, Memory>
     requires { cells ≡ length (plans.cells plan.now) }
     ensures { IfOk result (λ marks. marks.items ≡ map (theory.among changed.now) (plans.cells plan.now)) }
 {

@@ -123,11 +123,7 @@ fn number_of(cause: Cause) -> usize
 }
 
 /// The edges that links stand for.
-fn edges_between(
-    alloc: Global,
-    cells: &[CellRef],
-    links: &[Link],
-) -> Result<Vec<Edge>, Memory>
+fn edges_between(alloc: Global, cells: &[CellRef], links: &[Link]) -> Result<Vec<Edge>, Memory>
     requires { AreWithin cells.now links.now }
     ensures { IfOk result (λ list. list.items ≡ map (edge_at cells.now) links.now) }
 {

@@ -1,4 +1,4 @@
-use Rattle.std.proofs.Common.{◌≡◌, ◌<◌, length, sym, ap, subst, ◌∙◌, get_or, map, take, ◌++◌, ◌∷◌, [], ◌+◌, true, false, Bool, List}
+use Rattle.std.proofs.Common.{◌≡◌, ◌<◌, length, sym, subst, ◌∙◌, map, take, ◌+◌, true, false, Bool, List}
 use Rattle.std.specs.Prelude.{filter, flat_map}
 use Rattle.std.proofs.lemmas.List.{append-nil}
 use Rattle.cosem_data.specs.declared.cell.CellRef.{CellRef}
@@ -23,10 +23,16 @@ loop-target-preserved c =
       | then-is_target+in_ok-add_each w ↦
           let new = w.add_each.new.table in
           let step : IsGathered mid new (f (cell_at a.cells i)) = subst (λ cs. IsGathered mid new (map (λ s. theory.edge c.args.cause (cell_at cs s) (cell_at cs i)) c.args.sources.now)) c.loop-target.invariant.0 w.in_ok-add_each.ensures in
-          subst Goal (sym w.table-is) (step.cells ∙ c.loop-target.invariant.0, λ p h.
-          gathered-is a new _ _ (filter_step p a.cells c.args.targets.now i true f less h w.if-is_target.true)
-          (gathered_join a mid new _ _ (c.loop-target.invariant.1 p h) step))
+          subst Goal (sym w.table-is) (
+            step.cells ∙ c.loop-target.invariant.0,
+            λ p h.
+                gathered-is a new _ _ (filter_step p a.cells c.args.targets.now i true f less h w.if-is_target.true)
+                (gathered_join a mid new _ _ (c.loop-target.invariant.1 p h) step),
+          )
       | else-is_target w ↦
-          subst Goal (sym w.table-is) (c.loop-target.invariant.0, λ p h.
-          gathered-is a mid _ _ (sym (append-nil (flat_map f (filter p (take i a.cells)))) ∙ filter_step p a.cells c.args.targets.now i false f less h w.if-is_target.false) (c.loop-target.invariant.1 p h))
+          subst Goal (sym w.table-is) (
+            c.loop-target.invariant.0,
+            λ p h.
+                gathered-is a mid _ _ (sym (append-nil (flat_map f (filter p (take i a.cells)))) ∙ filter_step p a.cells c.args.targets.now i false f less h w.if-is_target.false) (c.loop-target.invariant.1 p h),
+          )
     ]

@@ -1,12 +1,11 @@
-use Rattle.std.proofs.Common.{◌≡◌, ◌<◌, length, sym, ap, subst, ◌∙◌, get_or, map, take, ◌++◌, ◌∷◌, []}
+use Rattle.std.proofs.Common.{◌≡◌, sym, ap, ◌∙◌, get_or, map, take, ◌++◌, ◌∷◌, []}
 use Rattle.std.proofs.lemmas.List.{map_more, get_or_default}
 use Rattle.cosem_data.specs.declared.cell.CellRef.{CellRef}
-use Rattle.meter_theory.specs.Lists.{IsIn}
 use Rattle.meter_theory.specs.Edges as theory
 use Rattle.meter_theory.specs.declared.flow.Edge.{Edge}
 use Rattle.flow_edges.specs.declared.table.Link.{Link}
 use Rattle.meter_theory.specs.declared.flow.Cause.TheVariants.{Captured}
-use Rattle.flow_edges.specs.Table.{cell_at, edge_at, no_cell}
+use Rattle.flow_edges.specs.Table.{cell_at, no_cell}
 use Rattle.object_model.proofs.Positions.{item-in}
 use Rattle.flow_edges.proofs.Adding.{gathered_add, gathered-is}
 use Rattle.flow_edges.proofs.edges.add_captured.Goals as goal

@@ -1,8 +1,8 @@
-use Rattle.std.proofs.Common.{◌≡◌, ◌<◌, length, sym, ap, subst, ◌∙◌, get_or, map, take, arith, refl}
+use Rattle.std.proofs.Common.{◌<◌, length, sym, subst, get_or}
 use Rattle.std.proofs.lemmas.List.{map_more, get_or_default}
 use Rattle.meter_theory.specs.Edges as theory
 use Rattle.flow_edges.specs.declared.table.Link.{Link}
-use Rattle.flow_edges.specs.Table.{cell_at, edge_at}
+use Rattle.flow_edges.specs.Table.{cell_at}
 use Rattle.object_model.proofs.Positions.{item-in}
 use Rattle.flow_edges.proofs.Adding.{gathered_add, gathered-is}
 use Rattle.flow_edges.proofs.edges.add_each.Goals as goal

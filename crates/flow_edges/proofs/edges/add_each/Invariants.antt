@@ -1,4 +1,4 @@
-use Rattle.std.proofs.Common.{◌≡◌, map, take}
+use Rattle.std.proofs.Common.{map, take}
 use Rattle.meter_theory.specs.Edges as theory
 use Rattle.flow_edges.specs.Table.{cell_at}
 use Rattle.flow_edges.specs.Gather.{IsGathered}

@@ -8,7 +8,7 @@ use Rattle.meter_theory.specs.declared.flow.Cause.TheVariants.{Monitored}
 use Rattle.flow_edges.specs.Table.{cell_at, edge_at}
 use Rattle.flow_edges.proofs.Adding.{gathered_one}
 use Rattle.flow_edges.proofs.Objects.{monitor-added}
-use Rattle.flow_edges.proofs.Sources.{monitored-cell, own-cell}
+use Rattle.flow_edges.proofs.Sources.{own-cell}
 use Rattle.flow_edges.proofs.edges.add_monitor.Goals as goal
 
 pub number_of-limits-requires : goal.number_of-limits-requires
@@ -33,6 +33,6 @@ returns c =
     (c.add_all.ensures (among changes)
     (c.deref-3.ensures.value ∙ c.in_ok-targets.ensures
     ∙ ap₂ (λ xs cs. map (among xs) cs)
-      (c.deref-2.ensures.value ∙ c.in_ok-push_monitor_changes.ensures
-      ∙ ap₂ (λ xs actions. xs ++ monitor_changes c.args.plan.now actions) c.new-changed.ensures.items c.deref.ensures.value)
-      (sym c.requires.cells ∙ sym same)))
+    (c.deref-2.ensures.value ∙ c.in_ok-push_monitor_changes.ensures
+    ∙ ap₂ (λ xs actions. xs ++ monitor_changes c.args.plan.now actions) c.new-changed.ensures.items c.deref.ensures.value)
+    (sym c.requires.cells ∙ sym same)))

@@ -2,7 +2,7 @@ use Rattle.std.proofs.Common.{◌∙◌, ap, sym, subst, refl, inl, inr, map}
 use Rattle.std.proofs.lemmas.Result.{on_ok_weaker}
 use Rattle.meter_theory.specs.Edges.{edge}
 use Rattle.meter_theory.specs.Lists.{IsIn}
-use Rattle.meter_theory.specs.Plan.{ProfileGeneric, buffer, capture_period, cells, entries_in_use}
+use Rattle.meter_theory.specs.Plan.{buffer, capture_period, cells, entries_in_use}
 use Rattle.meter_theory.specs.declared.flow.Cause.TheVariants.{Captured}
 use Rattle.flow_edges.specs.Table.{cell_at}
 use Rattle.flow_edges.proofs.Adding.{gathered-is}

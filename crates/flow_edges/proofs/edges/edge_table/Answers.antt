@@ -1,8 +1,8 @@
-use Rattle.std.proofs.Common.{◌≡◌, ◌∙◌, ap, ap₂, sym, subst, flat_map, take, List, []}
+use Rattle.std.proofs.Common.{◌∙◌, ap₂, sym, subst, flat_map, take, List, []}
 use Rattle.std.proofs.lemmas.List.{take_all}
 use Rattle.meter_theory.specs.Edges.{edges_in, first_of_each}
 use Rattle.meter_theory.specs.Lists.{IsIn}
-use Rattle.meter_theory.specs.Plan.{Object, cells}
+use Rattle.meter_theory.specs.Plan.{Object}
 use Rattle.meter_theory.specs.declared.flow.Edge.{Edge}
 use Rattle.object_model.proofs.Positions.{item-in}
 use Rattle.flow_edges.specs.Table.{AreCells}

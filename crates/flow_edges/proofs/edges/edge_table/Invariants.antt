@@ -1,4 +1,4 @@
-use Rattle.std.proofs.Common.{◌≡◌, take, flat_map}
+use Rattle.std.proofs.Common.{take, flat_map}
 use Rattle.meter_theory.specs.Edges as theory
 use Rattle.flow_edges.specs.Gather.{IsGathered}
 use Rattle.flow_edges.proofs.edges.edge_table.Given as goal
