@@ -7,26 +7,26 @@ use Rattle.std.proofs.lemmas.Grind.{flat_map-append}
 use Rattle.cosem_data.specs.declared.cell.CellRef.{CellRef}
 use Rattle.meter_theory.specs.declared.flow.Edge.{Edge}
 use Rattle.flow_edges.specs.declared.table.Link.{Link}
-use Rattle.flow_edges.specs.Table.{cell_at, edge_at, no_cell}
-use Rattle.flow_edges.specs.Table.{CellEdges}
+use Rattle.flow_edges.specs.Table.{cell_at, edge_at, no_cell, CellEdges}
 use Rattle.flow_edges.specs.Gather.{add_edge, gather, IsGathered}
 use Rattle.flow_edges.proofs.Gathered.{gather-append}
 
-pub gathered_none : (a : CellEdges) → IsGathered a a []
-gathered_none a = record { cells = refl; edges = refl }
-
+-- edges that are gathered behind others are gathered with them
 pub gathered_join : (a b d : CellEdges) (es fs : List Edge) → IsGathered a b es → IsGathered b d fs → IsGathered a d (es ++ fs)
 gathered_join a b d es fs p q = record {
   cells = q.cells ∙ p.cells;
   edges = q.edges ∙ (ap (λ z. gather z fs) p.edges ∙ sym (gather-append a.edges es fs));
 }
 
+-- the same edges in other words
 pub gathered-is : (a b : CellEdges) (es fs : List Edge) → es ≡ fs → IsGathered a b es → IsGathered a b fs
 gathered-is a b es fs e h = subst (IsGathered a b) e h
 
+-- what one more edge makes
 abbrev pub with_edge : CellEdges → Edge → CellEdges
 with_edge b e = record { cells = b.cells; edges = add_edge b.edges e }
 
+-- which is gathered then
 pub gathered_one : (b d : CellEdges) (e : Edge) → d ≡ with_edge b e → IsGathered b d (e ∷ [])
 gathered_one b d e is = record { cells = ap (λ (f : CellEdges). f.cells) is; edges = ap (λ (f : CellEdges). f.edges) is }
 

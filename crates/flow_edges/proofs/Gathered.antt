@@ -10,9 +10,11 @@ use Rattle.cosem_data.specs.declared.cell.CellRef.{CellRef}
 use Rattle.flow_edges.specs.Gather.{add_edge, gather, IsGathered}
 use Rattle.flow_edges.specs.Table.{CellEdges}
 
+-- edges between cells
 abbrev pub joined : List CellRef → List Edge → CellEdges
 joined cells edges = record { cells = cells; edges = edges }
 
+-- edges behind others are gathered after them
 pub gather-append : (found es fs : List Edge) → gather found (es ++ fs) ≡ gather (gather found es) fs
 gather-append found [] fs = refl
 gather-append found (e ∷ es) fs = gather-append (add_edge found e) es fs

@@ -14,8 +14,7 @@ use Rattle.meter_theory.specs.Edges.{same_cause, same_edge}
 use Rattle.flow_edges.specs.declared.table.Link.{Link}
 use Rattle.meter_theory.specs.declared.flow.Cause.{Cause}
 use Rattle.meter_theory.specs.declared.flow.Cause.TheVariants as causes
-use Rattle.flow_edges.specs.Table.{cell_at, cause_number, edge_at, place_of}
-use Rattle.flow_edges.specs.Table.{AreCells, IsLink, AreWithin, IsMarked, CellEdges}
+use Rattle.flow_edges.specs.Table.{cell_at, cause_number, edge_at, place_of, AreCells, AreWithin, CellEdges, IsLink, IsMarked}
 use Rattle.flow_edges.specs.Gather.{add_edge}
 use Rattle.flow_edges.proofs.Gathered.{joined}
 
@@ -26,6 +25,7 @@ digits n a b s t p q e =
     let same : a * n ≡ b * n = ap (λ z. z * n) left in
     (left, omega arith)
 
+-- causes with one number are one, and one cause has one number
 same_number-same : (a b : Cause) → cause_number a ≡ cause_number b → same_cause a b ≡ true
 same_number-same causes.Monitored causes.Monitored e = refl
 same_number-same causes.Monitor causes.Monitor e = refl
@@ -130,10 +130,6 @@ marked-more cells links marks l m fits = record {
       where
         not_both : same_edge (edge_at cells k) (edge_at cells l) ≡ true → ⊥
         not_both h = cc
-
--- no link yet, and no mark
-pub nothing_marked : (cells : List CellRef) → AreCells cells → (marks : List Bool) → length marks ≡ 5 * (length cells * length cells) → ((i : ℕ) → get_or marks i false ≡ false) → IsMarked cells [] marks
-nothing_marked cells are marks long none = record { cells_apart = are; within = tt; long = long; marked = λ l p. none (place_of (length cells) l) }
 
 -- an edge that was found before changes nothing
 pub found_before : (f : CellEdges) (cells : List CellRef) (links : List Link) (l : Link) → record { cells = cells; edges = map (edge_at cells) links } ≡ f →

@@ -1,15 +1,14 @@
--- Steps of loops, and what is found in lists.
+-- Steps of loops over objects, scripts and links.
 use Rattle.std.specs.Prelude.{◌≡◌, ℕ, ◌+◌, ◌<◌, ◌==◌, Bool, true, false, cond, List, [], ◌∷◌, ◌++◌, map, flat_map, find, take, length, get_or, Option, Some, None, option_map}
 use Rattle.std.proofs.Common.{refl, sym, ap, ◌∙◌, zero, suc, arith, Bor}
-use Rattle.std.proofs.lemmas.List.{take_more, append_assoc, flat_map_more}
-use Rattle.std.proofs.lemmas.Grind.{flat_map-append}
+use Rattle.std.proofs.lemmas.List.{take_more, flat_map_more}
 use Rattle.cosem_data.specs.declared.cell.CellRef.{CellRef}
 use Rattle.class_control.specs.declared.script.Script as code
 use Rattle.class_control.specs.ScriptView.{script_of}
 use Rattle.flow_edges.specs.declared.table.Link.{Link}
 use Rattle.flow_edges.specs.Table.{IsLink, AreWithin}
 
--- one element more
+-- the lists of one element more
 pub flat_more : {B E : Type 0} (f : B → List E) (xs : List B) (i : ℕ) (x : B) → i < length xs → x ≡ get_or xs i x →
     flat_map f (take i xs) ++ f x ≡ flat_map f (take (i + 1) xs)
 flat_more f xs i x within is =
@@ -17,26 +16,7 @@ flat_more f xs i x within is =
     ∙ (flat_map_more f [] (take i xs) (get_or xs i x)
     ∙ ap (flat_map f) (sym (take_more xs i x within)))
 
--- the same where each element makes a list, of which each makes one
-pub double_more : {B D E : Type 0} (f : D → List E) (g : B → List D) (xs : List B) (i : ℕ) (x : B) → i < length xs → x ≡ get_or xs i x →
-    flat_map f (flat_map g (take i xs)) ++ flat_map f (g x) ≡ flat_map f (flat_map g (take (i + 1) xs))
-double_more f g xs i x within is =
-    sym (flat_map-append f (flat_map g (take i xs)) (g x)) ∙ ap (flat_map f) (flat_more g xs i x within is)
-
-pub mapped : {A B D : Type 0} (g : B → List D) (h : A → B) (xs : List A) → flat_map (λ x. g (h x)) xs ≡ flat_map g (map h xs)
-mapped g h [] = refl
-mapped g h (x ∷ xs) = ap (λ ys. g (h x) ++ ys) (mapped g h xs)
-
-pub double_more_map : {A B D E : Type 0} (f : D → List E) (g : B → List D) (h : A → B) (xs : List A) (i : ℕ) (x : A) → i < length xs → x ≡ get_or xs i x →
-    flat_map f (flat_map g (map h (take i xs))) ++ flat_map f (g (h x)) ≡ flat_map f (flat_map g (map h (take (i + 1) xs)))
-double_more_map f g h xs i x within is =
-    ap (λ ys. flat_map f ys ++ flat_map f (g (h x))) (sym (mapped g h (take i xs)))
-    ∙ (double_more f (λ z. g (h z)) xs i x within is ∙ ap (flat_map f) (mapped g h (take (i + 1) xs)))
-
--- and behind what stood before
-pub added : {E : Type 0} (old now new here next there : List E) → now ≡ old ++ here → new ≡ now ++ next → here ++ next ≡ there → new ≡ old ++ there
-added old now new here next there p q r = q ∙ (ap (λ z. z ++ next) p ∙ (append_assoc old here next ∙ ap (λ z. old ++ z) r))
-
+-- what is found among images is the image of what is found
 find-map : {A B : Type 0} (f : A → B) (test : B → Bool) (xs : List A) → option_map f (find (λ x. test (f x)) xs) ≡ find test (map f xs)
 find-map f test [] = refl
 find-map f test (x ∷ xs) = elim (test (f x)) as (λ b. option_map f (cond b (Some x) (find (λ z. test (f z)) xs)) ≡ cond b (Some (f x)) (find test (map f xs))) [

@@ -6,6 +6,7 @@ use Rattle.meter_theory.specs.Lists.{IsIn}
 use Rattle.meter_theory.specs.Plan.{cells, seen, thresholds}
 use Rattle.meter_theory.specs.declared.flow.Cause.TheVariants.{Monitored}
 use Rattle.flow_edges.specs.Table.{cell_at, edge_at}
+use Rattle.flow_edges.specs.declared.table.Link.{Link}
 use Rattle.flow_edges.proofs.Adding.{gathered_one}
 use Rattle.flow_edges.proofs.Objects.{monitor-added}
 use Rattle.flow_edges.proofs.Sources.{own-cell}
@@ -22,7 +23,8 @@ returns c =
     let part = c.args.part.now in
     let a = c.args.table.now in
     let changes = monitor_changes c.args.plan.now part.actions.items in
-    let same : c.add.new.self.cells ≡ a.cells = (gathered_one a c.add.new.self (edge_at a.cells (record { source = c.number_of-monitored.result; target = c.number_of-last.result; cause = Monitored })) c.in_ok-add.ensures.ok).cells in
+    let first : Link = record { source = c.number_of-monitored.result; target = c.number_of-last.result; cause = Monitored } in
+    let same : c.add.new.self.cells ≡ a.cells = (gathered_one a c.add.new.self (edge_at a.cells first) c.in_ok-add.ensures.ok).cells in
     on_ok_weaker c.add_all.result
     (monitor-added c.args.plan.now c.args.name part.monitored_value (tree part.start) part.actions.items a c.add.new.self c.add_all.new.table
     c.number_of-monitored.result c.number_of-limits.result c.number_of-last.result c.requires.cells
