@@ -1,0 +1,7 @@
+pub mod Steps
+pub mod Marks
+pub mod Gathered
+pub mod Adding
+pub mod Targets
+pub mod Objects
+pub mod Sources

@@ -1,0 +1,228 @@
+//! The edges of a plan.
+ghost use Rattle.std.specs.Prelude.{◌≡◌, ◌<◌, ◌∷◌, ◌++◌, [], ℕ, Bool, List, IfOk, OnOk, length, map, filter, flat_map};
+ghost use Rattle.class_control.specs.PartView.{monitor_part_of, schedule_part_of};
+ghost use Rattle.cosem_data.specs.declared.cell.CellRef.{CellRef as CellValue};
+ghost use Rattle.meter_theory.specs.Lists.{IsIn};
+ghost use Rattle.meter_theory.specs.Plan as plans;
+ghost use Rattle.meter_theory.specs.Edges as theory;
+ghost use Rattle.meter_theory.specs.declared.flow.Cause.TheVariants as causes;
+ghost use Rattle.flow_edges.specs.Gather.{IsGathered};
+ghost use Rattle.flow_edges.specs.Sources.{HasPart};
+ghost use Rattle.flow_edges.specs.Table.{cell_at};
+
+use crate::changes::{push_monitor_changes, push_script_changes};
+use crate::table::EdgeTable;
+use class_control::parts::{MonitorPart, SchedulePart};
+use class_profile::profile::ProfilePart;
+use cosem_data::cell::CellRef;
+use cosem_data::memory::Memory;
+use cosem_data::name::LogicalName;
+use meter_theory::flow::{Cause, Edge};
+use object_model::cells::{
+    buffer, capture_period, entries_in_use, execution_time, seen, thresholds,
+};
+use object_model::object::Object;
+use object_model::part::Part;
+use object_model::plan::Plan;
+use std::alloc::Global;
+
+/// The edges of a plan, each once, object by object in plan order (own profile). The only error is want of memory.
+pub fn edges(alloc: Global, plan: &Plan) -> Result<Vec<Edge>, Memory>
+    ensures { IfOk result (λ list. list.items ≡ theory.edges plan.now) }
+{
+    edge_table(alloc, plan)?.into_edges(alloc)
+}
+
+/// The edges of a plan between the numbers of its cells. The only error is want of memory.
+pub fn edge_table(alloc: Global, plan: &Plan) -> Result<EdgeTable, Memory>
+    ensures { IfOk result (λ table. table ≡ record { cells = plans.cells plan.now; edges = theory.edges plan.now }) }
+{
+    plan.known();
+    let mut table = EdgeTable::new(alloc, plan.cells(alloc)?)?;
+    for object in plan.objects() {
+        add_object(alloc, plan, object, &mut table)?;
+    }
+    Ok(table)
+}
+
+/// Adds the edges that an object of the plan makes.
+fn add_object(
+    alloc: Global,
+    plan: &Plan,
+    object: &Object,
+    table: &mut EdgeTable,
+) -> Result<(), Memory>
+    requires cells { table.old.cells ≡ plans.cells plan.now }
+    requires object { IsIn plan.now.objects object.now }
+    ensures { OnOk result (IsGathered table.old table.new (theory.edges_in plan.now object.now.name object.now.part)) }
+{
+    let name = object.name();
+    match object.part() {
+        Part::RegisterMonitor(part) => add_monitor(alloc, plan, name, part, table),
+        Part::ProfileGeneric(part) => add_profile(plan, name, part, table),
+        Part::SingleActionSchedule(part) => add_schedule(alloc, plan, name, part, table),
+        _ => Ok(()),
+    }
+}
+
+/// Adds the edges that a profile makes: from what it captures to its buffer, and from its capture period.
+fn add_profile(
+    plan: &Plan,
+    name: LogicalName,
+    part: &ProfilePart,
+    table: &mut EdgeTable,
+) -> Result<(), Memory>
+    requires cells { table.old.cells ≡ plans.cells plan.now }
+    requires part { HasPart plan.now name (plans.ProfileGeneric part.now.captured.items part.now.capture_period part.now.profile_entries) }
+    ensures { OnOk result (IsGathered table.old table.new (theory.edges_in plan.now name (plans.ProfileGeneric part.now.captured.items part.now.capture_period part.now.profile_entries))) }
+{
+    plan.known();
+    let rows = number_of(plan, &buffer(name));
+    let period = number_of(plan, &capture_period(name));
+    let in_use = number_of(plan, &entries_in_use(name));
+    add_captured(plan, &part.captured, rows, table)?;
+    table.add(Cause::Period, period, rows)?;
+    table.add(Cause::Period, period, in_use)
+}
+
+/// Adds an edge from each captured cell to the buffer with this number.
+fn add_captured(
+    plan: &Plan,
+    captured: &[CellRef],
+    buffer: usize,
+    table: &mut EdgeTable,
+) -> Result<(), Memory>
+    requires cells { table.old.cells ≡ plans.cells plan.now }
+    requires captured { (x : CellValue) → IsIn captured.now x → IsIn (plans.cells plan.now) x }
+    requires buffer { buffer < length table.old.cells }
+    ensures { OnOk result (IsGathered table.old table.new (map (λ x. theory.edge causes.Captured x (cell_at table.old.cells buffer)) captured.now)) }
+{
+    for source in captured {
+        let source = number_of(plan, source);
+        table.add(Cause::Captured, source, buffer)?;
+    }
+    Ok(())
+}
+
+/// Adds the edges that a schedule makes: from its execution time to each cell that its script changes.
+fn add_schedule(
+    alloc: Global,
+    plan: &Plan,
+    name: LogicalName,
+    part: &SchedulePart,
+    table: &mut EdgeTable,
+) -> Result<(), Memory>
+    requires cells { table.old.cells ≡ plans.cells plan.now }
+    requires part { HasPart plan.now name (schedule_part_of part.now) }
+    ensures { OnOk result (IsGathered table.old table.new (theory.edges_in plan.now name (schedule_part_of part.now))) }
+{
+    plan.known();
+    let times = number_of(plan, &execution_time(name));
+    let mut changed = Vec::new(alloc);
+    push_script_changes(plan, part.executed_script, &mut changed)?;
+    let targets = marks_of(alloc, plan, table.cells().len(), &changed)?;
+    add_all(Cause::Schedule, &[times], &targets, table)
+}
+
+/// Adds the edges that a register monitor makes: to what it has seen, and from what decides which of its scripts run to each
+/// cell that they change.
+fn add_monitor(
+    alloc: Global,
+    plan: &Plan,
+    name: LogicalName,
+    part: &MonitorPart,
+    table: &mut EdgeTable,
+) -> Result<(), Memory>
+    requires cells { table.old.cells ≡ plans.cells plan.now }
+    requires part { HasPart plan.now name (monitor_part_of part.now) }
+    ensures { OnOk result (IsGathered table.old table.new (theory.edges_in plan.now name (monitor_part_of part.now))) }
+{
+    plan.known();
+    let monitored = number_of(plan, &part.monitored_value);
+    let limits = number_of(plan, &thresholds(name));
+    let last = number_of(plan, &seen(name));
+    table.add(Cause::Monitored, monitored, last)?;
+    let mut changed = Vec::new(alloc);
+    push_monitor_changes(plan, &part.actions, &mut changed)?;
+    let targets = marks_of(alloc, plan, table.cells().len(), &changed)?;
+    add_all(Cause::Monitor, &[monitored, limits, last], &targets, table)
+}
+
+/// The number of one of the cells of a plan.
+fn number_of(plan: &Plan, cell: &CellRef) -> usize
+    requires { IsIn (plans.cells plan.now) cell.now }
+    ensures within { result < length (plans.cells plan.now) }
+    ensures there { cell_at (plans.cells plan.now) result ≡ cell.now }
+{
+    match plan.cell_number(cell) {
+        Some(number) => usize::from(number),
+        None => unreachable!(),
+    }
+}
+
+/// For each cell of the plan whether it is one of these.
+fn marks_of(
+    alloc: Global,
+    plan: &Plan,
+    cells: usize,
+    changed: &[CellRef],
+) -> Result<Vec<bool>, Memory>
+    requires { cells ≡ length (plans.cells plan.now) }
+    ensures { IfOk result (λ marks. marks.items ≡ map (theory.among changed.now) (plans.cells plan.now)) }
+{
+    let mut marks = vec![in alloc; false; cells]?;
+    for cell in changed {
+        mark(plan, cell, &mut marks);
+    }
+    Ok(marks)
+}
+
+/// Marks one more cell, if it is one of the plan.
+fn mark(plan: &Plan, cell: &CellRef, marks: &mut Vec<bool>)
+    requires { length marks.old.items ≡ length (plans.cells plan.now) }
+    ensures { (before : List CellValue) → marks.old.items ≡ map (theory.among before) (plans.cells plan.now) →
+        marks.new.items ≡ map (theory.among (before ++ cell.now ∷ [])) (plans.cells plan.now) }
+{
+    plan.known();
+    let Some(number) = plan.cell_number(cell) else {
+        return;
+    };
+    marks[usize::from(number)] = true;
+}
+
+/// Adds the edges from each source to each target.
+fn add_all(
+    cause: Cause,
+    sources: &[usize],
+    targets: &[bool],
+    table: &mut EdgeTable,
+) -> Result<(), Memory>
+    requires sources { (s : ℕ) → IsIn sources.now s → s < length table.old.cells }
+    requires targets { length targets.now ≡ length table.old.cells }
+    ensures { (p : CellValue → Bool) → targets.now ≡ map p table.old.cells → OnOk result (IsGathered table.old table.new
+        (flat_map (λ y. map (λ s. theory.edge cause (cell_at table.old.cells s) y) sources.now) (filter p table.old.cells))) }
+{
+    for (target, is_target) in targets.iter().enumerate() {
+        if *is_target {
+            add_each(cause, sources, target, table)?;
+        }
+    }
+    Ok(())
+}
+
+/// Adds an edge from each source to one target.
+fn add_each(
+    cause: Cause,
+    sources: &[usize],
+    target: usize,
+    table: &mut EdgeTable,
+) -> Result<(), Memory>
+    requires sources { (s : ℕ) → IsIn sources.now s → s < length table.old.cells }
+    requires target { target < length table.old.cells }
+    ensures { OnOk result (IsGathered table.old table.new (map (λ s. theory.edge cause (cell_at table.old.cells s) (cell_at table.old.cells target)) sources.now)) }
+{
+    for source in sources {
+        table.add(cause, *source, target)?;
+    }
+    Ok(())
+}

@@ -1,0 +1,6 @@
+//! From which cell to which a value may flow: the edges of a plan, each once, in one order.
+#![tactic(auto)]
+
+pub mod changes;
+pub mod edges;
+pub mod table;
