@@ -76,12 +76,12 @@ attribute_of index = if index == 0 then None else Some index
 -- the line of a cell and its label, with the names of clients in plan order (own profile)
 abbrev pub label_line : Plan → CellRef × Label → LabelLine
 label_line P entry = record {
-    class_id = entry.0.class_id;
-    name = entry.0.name;
-    attribute = attribute_of entry.0.index;
-    influence = names_in_set P entry.1.influence;
-    learn = names_in_set P entry.1.learn;
-  }
+  class_id = entry.0.class_id;
+  name = entry.0.name;
+  attribute = attribute_of entry.0.index;
+  influence = names_in_set P entry.1.influence;
+  learn = names_in_set P entry.1.learn;
+}
 
 -- a line for each label, in their order (own profile)
 abbrev pub text_of_labels : Plan → Labels → List ℕ

@@ -4,4 +4,5 @@
 pub mod closing;
 pub mod fault;
 pub mod labels;
+pub mod laws;
 mod line;
