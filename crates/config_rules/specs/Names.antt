@@ -1,5 +1,5 @@
 -- Names in the texts of a configuration, and what they name.
-use Rattle.std.specs.Prelude.{ℕ, ◌==◌, nat_le, Bool, not, ◌&&◌, ◌||◌, List, [], ◌∷◌, find, Option, Some, None}
+use Rattle.std.specs.Prelude.{ℕ, ◌==◌, nat_le, Bool, ◌&&◌, List, [], ◌∷◌, find, Option, Some, None}
 use Rattle.std.specs.List.{list_any}
 use Rattle.std.specs.Str.{bytes_eq}
 use Rattle.config_text.specs.Parts.{Text, ConfigText, ObjectText, TargetText, ScriptText, BodyText, ScriptTableText}
