@@ -6,3 +6,4 @@ pub mod fault;
 pub mod labels;
 pub mod laws;
 mod line;
+pub mod reading;
