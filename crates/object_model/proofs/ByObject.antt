@@ -109,7 +109,7 @@ one x class n index h = at (same_cell x (cell class n index)) refl h
     at true e g = ap (λ y. y.name) (same_cell-true x (cell class n index) e)
     at false e g = cc
 
-keys-named : (x : CellRef) (n : LogicalName) (p : Part) → list_any (same_cell x) (keys (start_of n p)) ≡ true → x.name ≡ n
+pub keys-named : (x : CellRef) (n : LogicalName) (p : Part) → list_any (same_cell x) (keys (start_of n p)) ≡ true → x.name ≡ n
 keys-named x n (Data1 start) h = one x 1 n 2 h
 keys-named x n (Register start default scaler_unit) h = one x 3 n 2 h
 keys-named x n (ProfileGeneric captured period entries) h = three (same_cell x (buffer n)) refl (same_cell x (capture_period n)) refl h

@@ -1,6 +1,7 @@
 pub mod ByObject
 pub mod Puts
-mod Positions
+pub mod Positions
+pub mod Numbers
 mod Labels
 mod Granted
 mod Searches

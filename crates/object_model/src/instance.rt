@@ -2,11 +2,11 @@
 ghost use Rattle.std.specs.Prelude.{◌≡◌, ℕ, true, option_map, slice_get, IfOk, Some};
 ghost use Rattle.cosem_data.specs.View.{tree};
 ghost use Rattle.std.specs.List.{position_from};
-ghost use Rattle.cosem_data.specs.Cells.{cell, same_name};
+ghost use Rattle.cosem_data.specs.Cells.{cell, same_cell, same_name};
 ghost use Rattle.cosem_data.specs.Kinds.{kind_of};
 ghost use Rattle.cosem_class.specs.Judged.{rule_answer};
 ghost use Rattle.meter_theory.specs.Fixed.{fixed_of};
-ghost use Rattle.meter_theory.specs.Plan.{interface_at, is_cell, object_at, rule_of, start};
+ghost use Rattle.meter_theory.specs.Plan.{cells, interface_at, is_cell, object_at, rule_of, start};
 ghost use Rattle.meter_theory.specs.Rights.{has_right, in_view, lists, may_read};
 ghost use Rattle.meter_theory.specs.State.{value};
 ghost use Rattle.meter_theory.specs.Steps.{captures_of};
@@ -215,6 +215,20 @@ impl<'a> Instance<'a> {
                 .has_cell(object.name(), &self.cell(class_id, index)),
             None => false,
         }
+    }
+
+    /// The number, from 0 in plan order, of the cell with this class_id and index of the object with this name, or None where
+    /// it is no cell.
+    pub fn cell_number(&self, class_id: u16, index: u8) -> Option<u16>
+        ensures { result ≡ position_from (same_cell (cell class_id self.now.name index)) 0 (cells self.now.plan) }
+    {
+        self.plan.known();
+        let object = self.object()?;
+        let place = self.place()?;
+        let own = object
+            .part()
+            .cell_place(object.name(), &self.cell(class_id, index))?;
+        Some(place.first_cell + own)
     }
 
     /// The kind of the value with which a cell starts; that of null-data for what is no cell.

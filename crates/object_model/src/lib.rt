@@ -9,6 +9,7 @@ mod grants;
 pub mod held;
 mod index;
 pub mod instance;
+pub mod laws;
 pub mod meter;
 pub mod object;
 pub mod part;

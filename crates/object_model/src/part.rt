@@ -1,7 +1,7 @@
 //! What a plan fixes of an object by its interface class.
 ghost use Rattle.std.specs.Prelude.{◌≡◌, ◌≤◌, length, IfOk, Some};
 ghost use Rattle.cosem_data.specs.declared.name.LogicalName.{LogicalName as LogicalNameValue};
-ghost use Rattle.std.specs.List.{list_any};
+ghost use Rattle.std.specs.List.{list_any, position_from};
 ghost use Rattle.cosem_data.specs.View.{tree};
 ghost use Rattle.cosem_data.specs.Cells.{same_cell};
 ghost use Rattle.cosem_data.specs.Kinds.{kind_of};
@@ -124,17 +124,24 @@ impl Part {
     pub fn has_cell(&self, name: LogicalName, cell: &CellRef) -> bool
         ensures { result ≡ list_any (same_cell cell.now) (keys (start_of name (part_of self.now))) }
     {
+        self.cell_place(name, cell).is_some()
+    }
+
+    /// Where a cell stands among those of an object with this part and name, counted from 0, or None where it is none of
+    /// them.
+    pub(crate) fn cell_place(&self, name: LogicalName, cell: &CellRef) -> Option<u16>
+        ensures { result ≡ position_from (same_cell cell.now) 0 (keys (start_of name (part_of self.now))) }
+    {
         match self {
-            Part::Data(_) => *cell == data_value(name),
-            Part::Register(_) => *cell == register_value(name),
-            Part::ProfileGeneric(_) => {
-                *cell == buffer(name)
-                    || *cell == capture_period(name)
-                    || *cell == entries_in_use(name)
-            }
-            Part::ScriptTable(_) => false,
-            Part::RegisterMonitor(_) => { *cell == thresholds(name) || *cell == seen(name) }
-            Part::SingleActionSchedule(_) => *cell == execution_time(name),
+            Part::Data(_) => place_among(&[data_value(name)], cell),
+            Part::Register(_) => place_among(&[register_value(name)], cell),
+            Part::ProfileGeneric(_) => place_among(
+                &[buffer(name), capture_period(name), entries_in_use(name)],
+                cell,
+            ),
+            Part::ScriptTable(_) => None,
+            Part::RegisterMonitor(_) => place_among(&[thresholds(name), seen(name)], cell),
+            Part::SingleActionSchedule(_) => place_among(&[execution_time(name)], cell),
         }
     }
 
@@ -174,6 +181,22 @@ impl Part {
             _ => Err(AccessCode::TypeUnmatched),
         }
     }
+}
+
+/// Where a cell stands among those of one object, counted from 0.
+fn place_among(cells: &[CellRef], cell: &CellRef) -> Option<u16>
+    requires { length cells.now ≤ 3 }
+    ensures { result ≡ position_from (same_cell cell.now) 0 cells.now }
+{
+    let place = position_of(cells, cell)?;
+    Some(place as u16)
+}
+
+/// The first place of a cell in a list.
+fn position_of(cells: &[CellRef], cell: &CellRef) -> Option<usize>
+    ensures { result ≡ position_from (same_cell cell.now) 0 cells.now }
+{
+    cells.iter().position(|other| *cell == *other)
 }
 
 fn coded(answer: Result<(), ClassFault>) -> Result<(), AccessCode>

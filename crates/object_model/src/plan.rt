@@ -1,7 +1,7 @@
 ghost use Rattle.std.specs.Prelude.{◌≡◌, ◌<◌, ◌≤◌, ◌+◌, ◌^◌, ℕ, length, option_map, option_and_then, map, flat_map, IfOk, Some, slice_get};
 ghost use Rattle.std.specs.List.{position_from};
 ghost use Rattle.std.specs.Str.{bytes_eq};
-ghost use Rattle.cosem_data.specs.Cells.{same_name};
+ghost use Rattle.cosem_data.specs.Cells.{same_cell, same_name};
 ghost use Rattle.cosem_data.specs.Kinds.{kind_of};
 ghost use Rattle.meter_theory.specs.Plan.{cells, client_named, is_cell, object_at, start, start_of};
 ghost use Rattle.meter_theory.specs.Rights.{is_client};
@@ -237,6 +237,14 @@ impl Plan {
         ensures { IfOk result (λ list. list.items ≡ cells self.now) }
     {
         self.start(alloc)?.into_cells(alloc)
+    }
+
+    /// The number, from 0 in plan order, of a cell, or None for what is no cell of this plan.
+    pub fn cell_number(&self, cell: &CellRef) -> Option<u16>
+        ensures { result ≡ position_from (same_cell cell.now) 0 (cells self.now) }
+    {
+        self.instance(&cell.name)
+            .cell_number(cell.class_id, cell.index)
     }
 
     /// Whether it is a cell of this plan.
