@@ -1,5 +1,8 @@
 -- Labels that are read line by line.
-use Rattle.std.proofs.Common.{◌≡◌, ℕ, ◌+◌, ◌<◌, ◌≤◌, Bool, true, false, cond, eqb, List, [], ◌∷◌, ◌++◌, length, append_assoc, Result, Ok, Err, refl, sym, ap, ◌∙◌, arith}
+use Rattle.std.proofs.Common.{◌≡◌, Option, None, Some, ℕ, ◌+◌, ◌<◌, ◌≤◌, true, false, cond, eqb, List, [], ◌∷◌, ◌++◌, length, append_assoc, Result, Ok, Err, refl, sym, ap, ◌∙◌, arith}
+use Rattle.std.specs.Borrow.{Bor}
+use Rattle.std.specs.Option.{option_map_or}
+use Rattle.std.specs.Prelude.{IfSome}
 use Rattle.cosem_data.specs.declared.cell.CellRef.{CellRef}
 use Rattle.meter_theory.specs.Labels.{Labels}
 use Rattle.meter_theory.specs.Plan.{Plan}
@@ -46,3 +49,8 @@ read-rest P number least front rest some = ap (λ b. behind_labels front (cond b
 -- nothing does
 pub read-end : (P : Plan) (number least : ℕ) (front : Labels) (rest : List ℕ) → eqb (length rest) 0 ≡ true → behind_labels front (labels_from P number least (rest ∷ [])) ≡ Ok (front ++ [])
 read-end P number least front rest none = ap (λ b. behind_labels front (cond b (Ok []) (Err (Form, number)))) none
+
+-- what is left of a text is shorter, its newline counted
+pub shorter_left : (left : Option (Bor (List ℕ))) (n : ℕ) → IfSome left (λ rest. length rest.now < n) → option_map_or (λ rest. length rest.now + 1) left 0 ≤ n
+shorter_left None n h = omega arith
+shorter_left (Some rest) n h = omega (arith, h)

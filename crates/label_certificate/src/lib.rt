@@ -7,3 +7,4 @@ pub mod labels;
 pub mod laws;
 mod line;
 pub mod reading;
+pub mod writing;

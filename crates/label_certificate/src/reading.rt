@@ -5,7 +5,7 @@ ghost use Rattle.meter_theory.specs.declared.limits.TheConstants.{CLIENTS};
 ghost use Rattle.label_certificate.specs.Faults.{Gives};
 ghost use Rattle.label_certificate.specs.LabelLine.{names_of};
 ghost use Rattle.label_certificate.specs.LabelText as spec;
-ghost use Rattle.label_certificate.specs.LabelText.{AreInPlanOrder, cell_place, judged, labels_of_text};
+ghost use Rattle.label_certificate.specs.LabelText.{AreInPlanOrder, judged, labels_of_text};
 ghost use Rattle.label_certificate.specs.LineView.{line_of};
 ghost use Rattle.label_certificate.specs.Members.{places_of};
 ghost use Rattle.label_certificate.specs.ReadingView.{set_of};
@@ -115,15 +115,8 @@ fn place_of(plan: &Plan, line: &Line<'_>, cell: &CellRef) -> Option<u16>
 {
     match line.attribute {
         Some(0) => None,
-        _ => cell_number(plan, cell),
+        _ => plan.cell_number(cell),
     }
-}
-
-/// The place of a cell in plan order.
-fn cell_number(plan: &Plan, cell: &CellRef) -> Option<u16>
-    ensures { result ≡ cell_place plan.now cell.now }
-{
-    None
 }
 
 /// The clients that a text names, and whether they stand in plan order, each once; None where the plan lacks one.

@@ -1,5 +1,4 @@
-use Rattle.std.proofs.Common.{◌≡◌, ◌∷◌, ◌+◌, ◌&&◌, true, sym, ap, ◌∙◌}
-use Rattle.meter_theory.specs.Labels.{nobody}
+use Rattle.std.proofs.Common.{◌≡◌, ◌∷◌, ◌+◌, true, sym, ap, ◌∙◌}
 use Rattle.label_certificate.specs.LabelLine.{names_of}
 use Rattle.label_certificate.specs.LineView.{parts_left}
 use Rattle.label_certificate.specs.Members.{places_of}

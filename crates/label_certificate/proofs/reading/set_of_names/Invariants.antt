@@ -1,4 +1,4 @@
-use Rattle.std.proofs.Common.{◌≡◌, ◌+◌, ◌≤◌, length, option_map}
+use Rattle.std.proofs.Common.{◌≡◌, ◌+◌, length, option_map}
 use Rattle.std.specs.Option.{option_map_or}
 use Rattle.label_certificate.specs.LabelLine.{names_of}
 use Rattle.label_certificate.specs.LineView.{parts_left}
