@@ -26,7 +26,7 @@ same_bit m n p q e = grind (arith, eqb-true, eq-eqb)
 pub same_members : (a b : ClientSet) → ((k : ℕ) → has_client a k ≡ has_client b k) → a ≡ b
 same_members a b h = same_mask a b (same_from_bits a.mask b.mask (λ k. same_bit (bit_at a.mask k) (bit_at b.mask k) (bit_at-lt a.mask k) (bit_at-lt b.mask k) (h k)))
 
-nobody_in : (k : ℕ) → has_client nobody k ≡ false
+pub nobody_in : (k : ℕ) → has_client nobody k ≡ false
 nobody_in k = ap (λ n. eqb n 1) (bit_at-zero k)
 
 -- the empty set is nobody

@@ -71,7 +71,7 @@ name_read text bytes h =
     let e = bind_some (dotted_at d.0.1) _ bytes d.2 in
     let f = bind_some (field_at e.0.1) _ bytes e.2 in
     let made = six f.0.1 (a.0.0 ∷ b.0.0 ∷ c.0.0 ∷ d.0.0 ∷ e.0.0 ∷ f.0.0 ∷ []) bytes f.2 in
-    subst IsNameRead made (record {
+    subst IsNameRead {x = a.0.0 ∷ b.0.0 ∷ c.0.0 ∷ d.0.0 ∷ e.0.0 ∷ f.0.0 ∷ []} made (record {
       long = refl;
       small = (dotted_small text a.0 a.1, (dotted_small a.0.1 b.0 b.1, (dotted_small b.0.1 c.0 c.1, (dotted_small c.0.1 d.0 d.1, (dotted_small d.0.1 e.0 e.1, (field_small e.0.1 f.0 f.1, tt))))));
     })
