@@ -1,5 +1,5 @@
 -- The text of labels: one line a cell. All of it is own profile.
-use Rattle.std.specs.Prelude.{◌≡◌, ℕ, ◌+◌, ◌==◌, ◌<◌, ◌≤◌, Bool, true, false, ◌&&◌, nat_le, List, [], ◌∷◌, ◌++◌, length, flat_map, Option, Some, None, Result, Ok, Err, if◌then◌else◌}
+use Rattle.std.specs.Prelude.{◌≡◌, ℕ, ◌+◌, ◌==◌, ◌<◌, ◌≤◌, Bool, true, false, ◌&&◌, nat_le, List, [], ◌∷◌, ◌++◌, length, flat_map, All, Option, Some, None, Result, Ok, Err, if◌then◌else◌}
 use Rattle.std.specs.List.{position_from}
 use Rattle.cosem_data.specs.Cells.{cell, same_cell}
 use Rattle.cosem_data.specs.Clients.{has_client}
@@ -76,12 +76,12 @@ attribute_of index = if index == 0 then None else Some index
 -- the line of a cell and its label, with the names of clients in plan order (own profile)
 abbrev pub label_line : Plan → CellRef × Label → LabelLine
 label_line P entry = record {
-    class_id = entry.0.class_id;
-    name = entry.0.name;
-    attribute = attribute_of entry.0.index;
-    influence = names_in_set P entry.1.influence;
-    learn = names_in_set P entry.1.learn;
-  }
+  class_id = entry.0.class_id;
+  name = entry.0.name;
+  attribute = attribute_of entry.0.index;
+  influence = names_in_set P entry.1.influence;
+  learn = names_in_set P entry.1.learn;
+}
 
 -- a line for each label, in their order (own profile)
 abbrev pub text_of_labels : Plan → Labels → List ℕ
@@ -105,3 +105,7 @@ HasClientsOf P set = (client : ℕ) → has_client set client ≡ true → clien
 -- the sets of the labels have clients of the plan only (own profile)
 abbrev pub HaveClientsOf : Plan → Labels → Type 0
 HaveClientsOf P labels = (entry : CellRef × Label) → IsIn labels entry → HasClientsOf P entry.1.influence × HasClientsOf P entry.1.learn
+
+-- the names of the labels' cells are of bytes (own profile)
+abbrev pub HaveByteNames : Labels → Type 0
+HaveByteNames labels = (entry : CellRef × Label) → IsIn labels entry → All (λ b. b < 256) entry.0.name.0

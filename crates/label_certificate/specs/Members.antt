@@ -1,5 +1,5 @@
 -- Sets of clients from their places, and the names of a set's clients. All of it is own profile.
-use Rattle.std.specs.Prelude.{ℕ, zero, suc, ◌+◌, ◌*◌, ◌^◌, ◌%◌, Bool, true, ◌&&◌, nat_le, cond, List, [], ◌∷◌, Option, Some, None}
+use Rattle.std.specs.Prelude.{ℕ, ◌+◌, ◌^◌, ◌%◌, Bool, true, ◌&&◌, nat_le, cond, List, [], ◌∷◌, Option, Some}
 use Rattle.std.specs.Int.Bits.{bit_or}
 use Rattle.std.proofs.Math.Nat.{mod-lt}
 use Rattle.std.proofs.lemmas.Nat.{or_lt}
@@ -7,7 +7,6 @@ use Rattle.std.proofs.Common.{lit<}
 use Rattle.cosem_data.specs.Digits.{◌>>=◌}
 use Rattle.cosem_data.specs.Clients.{has_client}
 use Rattle.cosem_data.specs.declared.clients.ClientSet.{ClientSet}
-use Rattle.meter_theory.specs.Labels.{nobody}
 use Rattle.meter_theory.specs.Plan.{Client, Plan, client_named}
 
 -- the set with the client at this place; no set has clients from 16 on (own profile)

@@ -38,7 +38,7 @@ impl LabelCode {
 pub enum LabelFault {
     /// The first line with a fault, counted from 1, and the first code that it meets.
     Line { code: LabelCode, line: u64 },
-    /// Memory was refused.
+    /// 5: memory was refused.
     Memory,
 }
 

@@ -5,4 +5,7 @@ pub mod closing;
 pub mod fault;
 pub mod granted;
 pub mod labels;
+pub mod laws;
 mod line;
+pub mod reading;
+pub mod writing;

@@ -154,16 +154,28 @@ fn is_client_name(name: &[u8]) -> bool
     1 <= name.len() && name.len() <= NAME_CHARACTERS && has_name_bytes(name) && !is_step_word(name)
 }
 
+/// What there is of names in a text, to be taken one by one.
+pub(crate) fn names_left(text: &[u8]) -> Option<&[u8]>
+    ensures { parts_left 44 result ≡ names_of text.now }
+{
+    if text == NOBODY { None } else { Some(text) }
+}
+
+/// The first of names, and what is left of them.
+pub(crate) fn first_name(names: &[u8]) -> (&[u8], Option<&[u8]>)
+    ensures split { parts 44 names.now ≡ result.0.now ∷ parts_left 44 result.1 }
+    ensures shorter { IfSome result.1 (λ rest. length rest.now < length names.now) }
+{
+    first_part(COMMA, names)
+}
+
 /// Whether each of the names in a text is one that a client may have.
 fn are_names(text: &[u8]) -> bool
-    ensures { result ≡ spec.are_client_names (spec.names_of text.now) }
+    ensures { result ≡ spec.are_client_names (names_of text.now) }
 {
-    if text == NOBODY {
-        return true;
-    }
-    let mut left = Some(text);
+    let mut left = names_left(text);
     while let Some(names) = left {
-        let (name, behind) = first_part(COMMA, names);
+        let (name, behind) = first_name(names);
         if !is_client_name(name) {
             return false;
         }
