@@ -1,7 +1,8 @@
 -- Labels from sets that are closed along the edges cover a plan, and are the least that do.
-use Rattle.std.specs.Prelude.{◌≡◌, ℕ, zero, suc, ◌+◌, ◌<◌, ◌⊎◌, Bool, true, false, cond, List, [], ◌∷◌, map, length, get_or, Some}
+use Rattle.std.specs.Prelude.{◌≡◌, ℕ, zero, suc, ◌+◌, ◌<◌, ◌⊎◌, Bool, true, false, cond, List, [], ◌∷◌, ◌++◌, map, take, length, get_or, Some, Result, Ok, Err, IfOk}
 use Rattle.std.proofs.Common.{refl, sym, ap, ap₂, subst, ◌∙◌, arith, inl, inr}
 use Rattle.std.proofs.lemmas.List.{length-map, get_or-map}
+use Rattle.std.proofs.Math.Seq.{take-append_seam}
 use Rattle.cosem_data.specs.Cells.{same_cell}
 use Rattle.cosem_data.specs.Clients.{has_client}
 use Rattle.cosem_data.specs.declared.cell.CellRef.{CellRef}
@@ -22,16 +23,11 @@ use Rattle.meter_theory.proofs.Theorem.{within_from, within_has}
 use Rattle.flow_edges.specs.declared.table.Link.{Link}
 use Rattle.flow_edges.specs.Table.{AreCells, AreWithin, IsLink, cell_at, edge_at}
 use Rattle.label_certificate.specs.Closing.{Below, IsClosedBy, IsSub, set_at}
+use Rattle.label_certificate.proofs.Members.{nobody_in}
+use Rattle.std.proofs.lemmas.Bool.{false≢true}
 use Rattle.label_certificate.specs.declared.closing.Arrow.{Arrow}
 use Rattle.label_certificate.specs.Granted.{AreGranted, label_in}
-use Rattle.label_certificate.specs.Least.{against, along, labels_of_sets}
-
--- what closing gives: the least sets above the first, closed along these arrows
-pub record AreClosed (arrows : List Arrow) (start sets : List ClientSet) : Type 0 where
-  pub above : Below start sets
-  pub closed : IsClosedBy arrows sets
-  pub least : (f : List ClientSet) → IsClosedBy arrows f → Below start f → Below sets f
-  pub size : length sets ≡ length start
+use Rattle.label_certificate.specs.Least.{AreClosed, against, along, labels_of_sets}
 
 -- the place of an element
 place_in : (xs : List CellRef) (x : CellRef) → IsIn xs x → (k : ℕ) × (k < length xs) × (cell_at xs k ≡ x)
@@ -78,13 +74,14 @@ past-nobody (s ∷ sets) zero h = absurd (omega arith)
 past-nobody (s ∷ sets) (suc k) h = past-nobody sets k (omega arith)
 
 has-nobody : (c : ℕ) → has_client nobody c ≡ true → ⊥
+has-nobody c h = absurd (false≢true (sym (nobody_in c) ∙ h))
 
 module _ (P : Plan) (sound : IsSound P) (are : AreCells (cells P)) (links : List Link) (granted : List Label) (influence learn : List ClientSet)
     (linked : map (edge_at (cells P)) links ≡ edges P) (inside : AreWithin (cells P) links) (g : AreGranted P granted)
     (i : AreClosed (map along links) (map (λ l. l.influence) granted) influence)
     (l : AreClosed (map against links) (map (λ l. l.learn) granted) learn) where
 
-  labels : Labels
+  abbrev pub labels : Labels
   labels = labels_of_sets (cells P) influence learn
 
   influence_size : length influence ≡ length (cells P)
@@ -144,10 +141,10 @@ module _ (P : Plan) (sound : IsSound P) (are : AreCells (cells P)) (links : List
 
   module _ (others : Labels) (o : Covers P others) where
 
-    other_influence : List ClientSet
+    abbrev other_influence : List ClientSet
     other_influence = map (λ x. (labelling_of others x).influence) (cells P)
 
-    other_learn : List ClientSet
+    abbrev other_learn : List ClientSet
     other_learn = map (λ x. (labelling_of others x).learn) (cells P)
 
     influence_is : (k : ℕ) → k < length (cells P) → set_at other_influence k ≡ (labelling_of others (cell_at (cells P) k)).influence
@@ -217,3 +214,45 @@ labels-cells [] is ls m n = refl
 labels-cells (x ∷ xs) [] ls m n = cc
 labels-cells (x ∷ xs) (i ∷ is) [] m n = cc
 labels-cells (x ∷ xs) (i ∷ is) (l ∷ ls) m n = ap (λ ys. x ∷ ys) (labels-cells xs is ls (omega arith) (omega arith))
+
+-- one label more
+pub labels-more : (xs : List CellRef) (is ls : List ClientSet) (k : ℕ) (x : CellRef) (i l : ClientSet) → k < length xs → length is ≡ length xs → length ls ≡ length xs →
+    x ≡ get_or xs k x → i ≡ get_or is k i → l ≡ get_or ls k l →
+    labels_of_sets (take k xs) (take k is) (take k ls) ++ (x, record { influence = i; learn = l }) ∷ [] ≡ labels_of_sets (take (suc k) xs) (take (suc k) is) (take (suc k) ls)
+labels-more [] is ls k x i l h m n p q r = absurd (omega arith)
+labels-more (y ∷ xs) [] ls k x i l h m n p q r = cc
+labels-more (y ∷ xs) (j ∷ is) [] k x i l h m n p q r = cc
+labels-more (y ∷ xs) (j ∷ is) (o ∷ ls) zero x i l h m n p q r =
+    ap (λ z. (z, record { influence = i; learn = l }) ∷ []) p ∙ ap₂ (λ a b. (y, record { influence = a; learn = b }) ∷ []) q r
+labels-more (y ∷ xs) (j ∷ is) (o ∷ ls) (suc k) x i l h m n p q r =
+    ap (λ z. (y, record { influence = j; learn = o }) ∷ z) (labels-more xs is ls k x i l (omega arith) (omega arith) (omega arith) p q r)
+
+-- a link in the list of links is between numbers of cells
+pub links-within : (cs : List CellRef) (links : List Link) (n : ℕ) → AreWithin cs links → n ≡ length cs → (l : Link) → IsIn links l → (l.source < n) × (l.target < n)
+links-within cs links n w e l there = let k = link_in cs links l w there in (subst (λ m. l.source < m) (sym e) k.0, subst (λ m. l.target < m) (sym e) k.1)
+
+pub along-within : (links : List Link) (n : ℕ) → ((l : Link) → IsIn links l → (l.source < n) × (l.target < n)) → (a : Arrow) → IsIn (map along links) a → (a.from < n) × (a.to < n)
+along-within links n h a there = let k = from_map along links a there in subst (λ z. (z.from < n) × (z.to < n)) (sym k.2) (h k.0 k.1)
+
+pub against-within : (links : List Link) (n : ℕ) → ((l : Link) → IsIn links l → (l.source < n) × (l.target < n)) → (a : Arrow) → IsIn (map against links) a → (a.from < n) × (a.to < n)
+against-within links n h a there = let k = from_map against links a there in let ends = h k.0 k.1 in subst (λ z. (z.from < n) × (z.to < n)) (sym k.2) (ends.1, ends.0)
+
+-- the same of a list to which the label was pushed
+pub pushed-more : (xs : List CellRef) (is ls : List ClientSet) (k : ℕ) (e : CellRef × Label) (old new : Labels) → k < length xs → length is ≡ length xs → length ls ≡ length xs →
+    new ≡ old ++ e ∷ [] → old ≡ labels_of_sets (take k xs) (take k is) (take k ls) → e.0 ≡ get_or xs k e.0 → e.1.influence ≡ get_or is k e.1.influence → e.1.learn ≡ get_or ls k e.1.learn →
+    new ≡ labels_of_sets (take (k + 1) xs) (take (k + 1) is) (take (k + 1) ls)
+pushed-more xs is ls k e old new h m n pushed before p q r =
+    let next : suc k ≡ k + 1 = omega arith in
+    subst (λ j. new ≡ labels_of_sets (take j xs) (take j is) (take j ls)) next
+    (pushed ∙ (ap (λ z. z ++ e ∷ []) before ∙ labels-more xs is ls k e.0 e.1.influence e.1.learn h m n p q r))
+
+-- what was written through a slice of a whole list
+pub written-back : {A : Type 0} (new rest : List A) (n : ℕ) → n ≡ length new → take n (new ++ rest) ≡ new
+written-back new rest n e = ap (λ k. take k (new ++ rest)) e ∙ take-append_seam new rest
+
+pub if-ok-then : {A E : Type 0} {F G : A → Type 0} (r : Result A E) → ((x : A) → F x → G x) → IfOk r F → IfOk r G
+if-ok-then (Ok x) f h = f x h
+if-ok-then (Err e) f h = tt
+
+pub sizes : (labels : List Label) (f : Label → ClientSet) (sets : List ClientSet) → length sets ≡ length (map f labels) → length sets ≡ length labels
+sizes labels f sets e = e ∙ length-map labels f

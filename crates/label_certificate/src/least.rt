@@ -1,9 +1,8 @@
 //! The least labels of a plan.
 ghost use Rattle.std.specs.Prelude.{◌≡◌, length, map, IfOk};
-ghost use Rattle.flow_edges.specs.Table.{AreWithin};
 ghost use Rattle.meter_theory.specs.Labels.{AreLeast};
 ghost use Rattle.meter_theory.specs.Plan as theory;
-ghost use Rattle.label_certificate.specs.Least.{against, along, labels_of_sets};
+ghost use Rattle.label_certificate.specs.Least.{AreClosed, AreLinks, against, along, labels_of_sets};
 
 use crate::closing::{Arrow, close};
 use crate::granted::granted_labels;
@@ -14,7 +13,6 @@ use cosem_data::memory::Memory;
 use flow_edges::edges::edge_table;
 use flow_edges::table::Link;
 use meter_theory::flow::Label;
-use meter_theory::laws::{edges_are_listed, rights_to_change_are_tested};
 use object_model::plan::Plan;
 use std::alloc::Global;
 
@@ -25,16 +23,41 @@ pub fn make_labels(alloc: Global, plan: &Plan) -> Result<Labels, Memory>
     ensures cells { IfOk result (λ labels. map (λ entry. entry.0) labels ≡ theory.cells plan.now) }
 {
     plan.known();
-    edges_are_listed();
-    rights_to_change_are_tested();
     let table = edge_table(alloc, plan)?;
     table.known();
     let granted = granted_labels(alloc, plan)?;
-    let mut influence = influence_sets(alloc, &granted)?;
-    let mut learn = learn_sets(alloc, &granted)?;
-    close(&arrows_along(alloc, table.links())?, &mut influence);
-    close(&arrows_against(alloc, table.links())?, &mut learn);
+    let links = table.links();
+    let influence = flow_along(alloc, links, &granted)?;
+    let learn = flow_against(alloc, links, &granted)?;
     labels_from(alloc, table.cells(), &influence, &learn)
+}
+
+/// The least sets above those that may influence, in which no client is lost from the source of an edge to its target.
+fn flow_along(
+    alloc: Global,
+    links: &[Link],
+    granted: &[Label],
+) -> Result<Vec<ClientSet>, Memory>
+    requires { AreLinks (length granted.now) links.now }
+    ensures { IfOk result (λ sets. AreClosed (map along links.now) (map (λ label. label.influence) granted.now) sets.items) }
+{
+    let mut sets = influence_sets(alloc, granted)?;
+    close(&arrows_along(alloc, links)?, &mut sets);
+    Ok(sets)
+}
+
+/// The least sets above those that may learn, in which no client is lost from the target of an edge to its source.
+fn flow_against(
+    alloc: Global,
+    links: &[Link],
+    granted: &[Label],
+) -> Result<Vec<ClientSet>, Memory>
+    requires { AreLinks (length granted.now) links.now }
+    ensures { IfOk result (λ sets. AreClosed (map against links.now) (map (λ label. label.learn) granted.now) sets.items) }
+{
+    let mut sets = learn_sets(alloc, granted)?;
+    close(&arrows_against(alloc, links)?, &mut sets);
+    Ok(sets)
 }
 
 /// The clients that may influence, of each label.
@@ -94,17 +117,17 @@ fn labels_from(
     influence: &[ClientSet],
     learn: &[ClientSet],
 ) -> Result<Labels, Memory>
+    requires influence { length influence.now ≡ length cells.now }
+    requires learn { length learn.now ≡ length cells.now }
     ensures { IfOk result (λ labels. labels ≡ labels_of_sets cells.now influence.now learn.now) }
 {
     let mut entries = Vec::with_capacity(alloc, cells.len())?;
-    for (cell, (influence, learn)) in cells.iter().zip(influence.iter().zip(learn)) {
-        entries.push((
-            *cell,
-            Label {
-                influence: *influence,
-                learn: *learn,
-            },
-        ))?;
+    for (number, cell) in cells.iter().enumerate() {
+        let label = Label {
+            influence: influence[number],
+            learn: learn[number],
+        };
+        entries.push((*cell, label))?;
     }
     Ok(Labels::new(entries))
 }

@@ -6,6 +6,7 @@ pub mod fault;
 pub mod granted;
 pub mod labels;
 pub mod laws;
+pub mod least;
 mod line;
 pub mod reading;
 pub mod writing;

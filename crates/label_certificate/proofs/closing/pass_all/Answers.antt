@@ -1,8 +1,6 @@
-use Rattle.std.proofs.Common.{◌≡◌, ◌<◌, sym, subst, length, arith, get_or}
-use Rattle.std.proofs.Common.{◌+◌}
+use Rattle.std.proofs.Common.{◌≡◌, ◌+◌, ◌<◌, sym, subst, get_or, length, arith}
 use Rattle.std.proofs.lemmas.List.{get_or_default}
 use Rattle.label_certificate.specs.declared.closing.Arrow.{Arrow}
-use Rattle.label_certificate.specs.Closing.{IsSub, set_at}
 use Rattle.label_certificate.proofs.Passing.{IsPassed}
 use Rattle.label_certificate.proofs.Sets.{item_in, passed-grown, passed-still}
 use Rattle.label_certificate.proofs.closing.pass_all.Goals as goal
@@ -17,7 +15,7 @@ pass-requires-clause-from c =
     let i = c.loop-arrow.arrow-index in
     let fits = c.requires (get_or xs i none) (item_in xs i (get_or xs i none) c.loop-arrow-test.true (get_or_default xs i none (get_or xs i none) c.loop-arrow-test.true)) in
     let low : (get_or xs i none).from < length c.args.sets.now = fits.0 in
-    omega (arith, c.from.ensures)
+    omega (arith, low, c.loop-arrow.auto.sets)
 
 pub pass-requires-clause-to : goal.pass-requires-clause-to
 pass-requires-clause-to c =
@@ -25,7 +23,7 @@ pass-requires-clause-to c =
     let i = c.loop-arrow.arrow-index in
     let fits = c.requires (get_or xs i none) (item_in xs i (get_or xs i none) c.loop-arrow-test.true (get_or_default xs i none (get_or xs i none) c.loop-arrow-test.true)) in
     let low : (get_or xs i none).to < length c.args.sets.now = fits.1 in
-    omega (arith, c.from-in-loop-arrow.ensures)
+    omega (arith, low, c.loop-arrow.auto.sets)
 
 pub loop-arrow-preserved : goal.loop-arrow-preserved
 loop-arrow-preserved c =
@@ -36,15 +34,9 @@ loop-arrow-preserved c =
     let old = c.args.sets.now in
     let sets = c.loop-arrow.sets in
     let new = c.pass.new.sets in
-    let from = c.from.ensures in
-    let to = c.from-in-loop-arrow.ensures in
     elim c.if-pass.branch [
       | then-pass w ↦ subst (IsPassed xs (i + 1) old new) (sym w.changed-is)
-          (passed-grown xs i x old sets new c.loop-arrow.changed c.loop-arrow-test.true is c.loop-arrow.invariant c.pass.ensures.above
-          (λ f sub. c.pass.ensures.least f (subst (λ p. IsSub (set_at f p) (set_at f c.from-in-loop-arrow.result)) (sym from) (subst (λ p. IsSub (set_at f x.from) (set_at f p)) (sym to) sub)))
-          (c.pass.ensures.grown w.if-pass.true))
+          (passed-grown xs i x old sets new c.loop-arrow.changed c.loop-arrow-test.true is c.loop-arrow.invariant c.pass.ensures.above c.pass.ensures.least (c.pass.ensures.grown w.if-pass.true))
       | else-pass w ↦ subst (IsPassed xs (i + 1) old new) (sym w.changed-is)
-          (passed-still xs i x old sets new c.loop-arrow.changed c.loop-arrow-test.true is c.loop-arrow.invariant
-          (subst (λ p. IsSub (set_at new p) (set_at new x.to)) from (subst (λ p. IsSub (set_at new c.from.result) (set_at new p)) to c.pass.ensures.passed))
-          (c.pass.ensures.still w.if-pass.false))
+          (passed-still xs i x old sets new c.loop-arrow.changed c.loop-arrow-test.true is c.loop-arrow.invariant c.pass.ensures.passed (c.pass.ensures.still w.if-pass.false))
     ]
