@@ -22,7 +22,7 @@ use Rattle.meter_theory.proofs.Lists.{from_map, in_map}
 use Rattle.meter_theory.proofs.Theorem.{within_from, within_has}
 use Rattle.flow_edges.specs.declared.table.Link.{Link}
 use Rattle.flow_edges.specs.Table.{AreCells, AreWithin, IsLink, cell_at, edge_at}
-use Rattle.label_certificate.specs.Closing.{Below, IsClosedBy, IsSub, set_at}
+use Rattle.label_certificate.specs.Closing.{Below, IsClosedBy, set_at}
 use Rattle.label_certificate.proofs.Members.{nobody_in}
 use Rattle.std.proofs.lemmas.Bool.{false≢true}
 use Rattle.label_certificate.specs.declared.closing.Arrow.{Arrow}
@@ -80,7 +80,6 @@ module _ (P : Plan) (sound : IsSound P) (are : AreCells (cells P)) (links : List
     (linked : map (edge_at (cells P)) links ≡ edges P) (inside : AreWithin (cells P) links) (g : AreGranted P granted)
     (i : AreClosed (map along links) (map (λ l. l.influence) granted) influence)
     (l : AreClosed (map against links) (map (λ l. l.learn) granted) learn) where
-
   abbrev pub labels : Labels
   labels = labels_of_sets (cells P) influence learn
 
@@ -140,7 +139,6 @@ module _ (P : Plan) (sound : IsSound P) (are : AreCells (cells P)) (links : List
   }
 
   module _ (others : Labels) (o : Covers P others) where
-
     abbrev other_influence : List ClientSet
     other_influence = map (λ x. (labelling_of others x).influence) (cells P)
 
@@ -202,11 +200,12 @@ module _ (P : Plan) (sound : IsSound P) (are : AreCells (cells P)) (links : List
   pub are-least : AreLeast P labels
   are-least = record {
     covers = covers;
-    least = λ others o x there. let k = place_in (cells P) x there in
-        (subst (λ z. within (labelling_of labels z).influence (labelling_of others z).influence ≡ true) k.2
+    least = λ others o x there. let k = place_in (cells P) x there in (
+      subst (λ z. within (labelling_of labels z).influence (labelling_of others z).influence ≡ true) k.2
           (subst (λ z. within z.influence (labelling_of others (cell_at (cells P) k.0)).influence ≡ true) (sym (label_is k.0 k.1)) (least_influence others o k.0 k.1)),
-        subst (λ z. within (labelling_of labels z).learn (labelling_of others z).learn ≡ true) k.2
-          (subst (λ z. within z.learn (labelling_of others (cell_at (cells P) k.0)).learn ≡ true) (sym (label_is k.0 k.1)) (least_learn others o k.0 k.1)));
+      subst (λ z. within (labelling_of labels z).learn (labelling_of others z).learn ≡ true) k.2
+          (subst (λ z. within z.learn (labelling_of others (cell_at (cells P) k.0)).learn ≡ true) (sym (label_is k.0 k.1)) (least_learn others o k.0 k.1)),
+    );
   }
 
 pub labels-cells : (xs : List CellRef) (is ls : List ClientSet) → length is ≡ length xs → length ls ≡ length xs → map (λ e. e.0) (labels_of_sets xs is ls) ≡ xs

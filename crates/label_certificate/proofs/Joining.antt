@@ -1,6 +1,6 @@
 -- The clients that rights let influence cells, method by method.
-use Rattle.std.specs.Prelude.{◌≡◌, ◌≢◌, ℕ, zero, suc, ◌+◌, ◌<◌, ◌≤◌, ◌==◌, nat_lt, nat_le, Bool, true, false, ◌&&◌, ◌||◌, ◌⊎◌, ◌↔◌, List, [], ◌∷◌, ◌++◌, map, flat_map, take, length, get_or, set, Option, Some, None}
-use Rattle.std.specs.List.{list_any, position_from, range_with_len}
+use Rattle.std.specs.Prelude.{◌≡◌, ◌≢◌, ℕ, zero, suc, ◌+◌, ◌<◌, ◌≤◌, ◌==◌, nat_lt, nat_le, Bool, true, false, ◌&&◌, ◌||◌, ◌⊎◌, List, [], ◌∷◌, ◌++◌, map, flat_map, length, set, Option, Some, None}
+use Rattle.std.specs.List.{position_from, range_with_len}
 use Rattle.std.proofs.Common.{refl, sym, ap, ap₂, subst, ◌∙◌, arith, inl, inr, leb-true, eqb-true}
 use Rattle.std.proofs.lemmas.Bool.{ltb-false, and_parts, and_from, or_cases, or_left, or_right}
 use Rattle.std.proofs.lemmas.List.{length-set, get_or-set_same, get_or-set_other, get_or_append_left}
@@ -17,7 +17,7 @@ use Rattle.meter_theory.specs.Edges.{among}
 use Rattle.meter_theory.specs.Labels.{MayChange, has, method_changes_of}
 use Rattle.meter_theory.specs.Plan.{Plan, Object, Right, cells, interface_of, object_at}
 use Rattle.meter_theory.specs.Rights.{has_right, lists, may_act, may_get, may_set}
-use Rattle.meter_theory.specs.Sound.{IsSound, are_indexes, is_right}
+use Rattle.meter_theory.specs.Sound.{IsSound, are_indexes}
 use Rattle.meter_theory.specs.declared.flow.Label.{Label}
 use Rattle.meter_theory.specs.declared.limits.TheConstants.{CLIENTS}
 use Rattle.cosem_data.specs.declared.name.LogicalName.{LogicalName}
@@ -28,7 +28,7 @@ use Rattle.meter_theory.proofs.Lists.{any_in, in_any, in_flat_map, in_map, in_ra
 use Rattle.meter_theory.proofs.Theorem.{all_at}
 use Rattle.flow_edges.specs.Table.{cell_at, AreCells}
 use Rattle.flow_edges.proofs.Sources.{numbered, unnumbered}
-use Rattle.label_certificate.specs.Granted.{IsGranted, AreGranted, AreOwn, AreJoined, by_clients, label_in, may_call_for, methods_of}
+use Rattle.label_certificate.specs.Granted.{AreGranted, AreOwn, AreJoined, by_clients, label_in, may_call_for, methods_of}
 
 -- the labels of the first cells have the clients that may set, and those that may read them
 abbrev pub IsOwnTo : Plan → ℕ → List Label → Type 0
@@ -122,7 +122,7 @@ joined-at P clients y n old l are is size influence learn = record {
         ∙ (influence c
         ∙ (ap (λ z. has (label_in old z).influence c || has clients c) (sym same)
         ∙ ap (λ b. has (label_in old i).influence c || b)
-          (sym (ap (λ b. has clients c && b) (subst (λ z. same_cell z y ≡ true) (sym (ap (cell_at (cells P)) same ∙ here.1)) (same_cell-refl y)) ∙ both (has clients c)))))
+        (sym (ap (λ b. has clients c && b) (subst (λ z. same_cell z y ≡ true) (sym (ap (cell_at (cells P)) same ∙ here.1)) (same_cell-refl y)) ∙ both (has clients c)))))
     at i h c (inr other) =
         ap (λ z. has z.influence c) (get_or-set_other old n i l _ other)
         ∙ (neither (has (label_in old i).influence c) (has clients c)
@@ -205,8 +205,10 @@ pub all-granted : (P : Plan) (own labels : List Label) → IsSound P → AreOwn 
 all-granted P own labels sound first joined = record {
   size = joined.size ∙ first.size;
   each = λ i h. record {
-    influence = λ c. (λ e. given i h c (joined.influence i h c ∙ ap (λ b. b || may_call_for P (flat_map methods_of P.objects) c (cell_at (cells P) i)) (first.influence i h c)) e,
-        λ may. (joined.influence i h c ∙ ap (λ b. b || may_call_for P (flat_map methods_of P.objects) c (cell_at (cells P) i)) (first.influence i h c)) ∙ may_from c (cell_at (cells P) i) may);
+    influence = λ c. (
+      λ e. given i h c (joined.influence i h c ∙ ap (λ b. b || may_call_for P (flat_map methods_of P.objects) c (cell_at (cells P) i)) (first.influence i h c)) e,
+      λ may. (joined.influence i h c ∙ ap (λ b. b || may_call_for P (flat_map methods_of P.objects) c (cell_at (cells P) i)) (first.influence i h c)) ∙ may_from c (cell_at (cells P) i) may,
+    );
     learn = λ c. ap (λ z. has z c) (joined.learn i) ∙ first.learn i h c;
   };
 }

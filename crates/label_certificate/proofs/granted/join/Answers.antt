@@ -1,4 +1,4 @@
-use Rattle.std.proofs.Common.{◌≡◌, ◌<◌, ◌∙◌, take, get_or, set, ap, subst, sym, refl, length, arith, Some}
+use Rattle.std.proofs.Common.{◌≡◌, ◌∙◌, take, get_or, ap, subst, sym, length, arith, Some}
 use Rattle.std.specs.Prelude.{◌||◌}
 use Rattle.std.proofs.lemmas.List.{take_more, get_or_default}
 use Rattle.meter_theory.specs.Labels.{has}
@@ -30,7 +30,7 @@ loop-cell-preserved c =
           (subst (AreJoined P _ c.loop-cell.labels) (sym w.labels-is)
           (joined-at P clients _ w.from.result c.loop-cell.labels _ (are-cells P c.known.ensures.sound) (sym c.cell_number.ensures ∙ (w.in-Some.is ∙ ap Some (sym w.from.ensures))) size
           (λ k. w.union-label.ensures k ∙ ap (λ l. has l.influence k || has clients k) same) (ap (λ l. l.learn) same))))
-      | in_default w ↦ 
+      | in_default w ↦
           subst (λ ys. AreJoined P (by_clients clients ys) c.args.labels.now c.match-cell_number.labels) (sym (take_more c.args.changed.now idx _ c.loop-cell-test.true))
           (joined-more P clients (take idx c.args.changed.now) _ c.args.labels.now c.loop-cell.labels c.match-cell_number.labels c.loop-cell.invariant
           (subst (AreJoined P _ c.loop-cell.labels) (sym w.labels-is) (joined-nowhere P clients _ c.loop-cell.labels (sym c.cell_number.ensures ∙ none-else c.cell_number.result w.in_default.not-Some))))

@@ -48,7 +48,7 @@ returns-clause-cells c =
     if-ok-then c.labels_from.result (λ labels same.
     ap (map (λ entry. entry.0)) same
     ∙ (labels-cells c.cells.result.now c.deref-3.result.now c.deref-4.result.now
-      (ap length c.deref-3.ensures.value ∙ (influence ∙ (ap length c.deref.ensures.value ∙ (c.in_ok-granted.ensures.size ∙ sym all))))
-      (ap length c.deref-4.ensures.value ∙ (learn ∙ (ap length c.deref-2.ensures.value ∙ (c.in_ok-granted.ensures.size ∙ sym all))))
+    (ap length c.deref-3.ensures.value ∙ (influence ∙ (ap length c.deref.ensures.value ∙ (c.in_ok-granted.ensures.size ∙ sym all))))
+    (ap length c.deref-4.ensures.value ∙ (learn ∙ (ap length c.deref-2.ensures.value ∙ (c.in_ok-granted.ensures.size ∙ sym all))))
     ∙ (c.cells.ensures ∙ ap (λ t. t.cells) is)))
     c.labels_from.ensures
