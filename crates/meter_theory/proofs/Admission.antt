@@ -15,7 +15,9 @@ use Rattle.meter_theory.specs.Edges.{among, edges}
 use Rattle.meter_theory.specs.declared.flow.Label.{Label}
 use Rattle.meter_theory.specs.Labels.{Labels, Labelling, label_at, labelling_of, has, within, MayChange, method_changes, method_changes_of, all_scripts, Admits, AreLeast}
 use Rattle.meter_theory.specs.Sound.{IsSound}
-use Rattle.meter_theory.specs.Check.{may_change, clients_with_cells, is_labelled, keeps_policy, admits_changer, admits_reader, influence_flows, learn_flows, Pass, FirstFailure, Refusal, NotLabelled, PastPolicy, Changer, Reader, InfluenceEscapes, LearnEscapes, Refuses, AllPass}
+use Rattle.meter_theory.specs.Check.{may_change, clients_with_cells, is_labelled, keeps_policy, admits_changer, admits_reader, influence_flows, learn_flows, Pass, FirstFailure, Refuses, AllPass}
+use Rattle.meter_theory.specs.declared.flow.Refusal.{Refusal}
+use Rattle.meter_theory.specs.declared.flow.Refusal.TheVariants.{NotLabelled, PastPolicy, Changer, Reader, InfluenceEscapes, LearnEscapes}
 use Rattle.meter_theory.proofs.Lists.{any_in, in_any, in_append_right, in_flat_map, from_flat_map, in_map, from_map, in_range}
 use Rattle.meter_theory.proofs.Agreement.{object-found, not_both}
 use Rattle.meter_theory.proofs.Theorem.{within_trans}

@@ -9,8 +9,6 @@ pub mod Unequal
 pub mod KeepKinds
 pub mod KeepSteps
 pub mod StepsAgree
-pub mod SoundTest
 pub mod Start
 pub mod Unique
 pub mod Lengths
-pub mod Demo

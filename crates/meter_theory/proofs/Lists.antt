@@ -2,7 +2,7 @@
 use Rattle.std.proofs.Common.{◌≡◌, ◌⊎◌, ◌+◌, ◌≤◌, ◌<◌, ℕ, zero, suc, Bool, true, false, not, cond, List, [], ◌∷◌, ◌++◌, map, flat_map, filter, find, Some, None, refl, sym, ap, subst, ◌∙◌, inl, inr, arith}
 use Rattle.std.specs.List.{list_any, range_with_len}
 use Rattle.std.proofs.lemmas.Bool.{and_parts, not-true, or_left, or_right, or_parts, or_cases}
-use Rattle.meter_theory.specs.Lists.{IsIn, AreDistinct, are_distinct}
+use Rattle.meter_theory.specs.Lists.{IsIn, AreDistinct}
 
 pub in_append_left : {A : Type 0} (xs ys : List A) (x : A) → IsIn xs x → IsIn (xs ++ ys) x
 in_append_left [] ys x h = absurd h
@@ -144,13 +144,3 @@ one_of_key key (z ∷ xs) d x y (inl a) (inl b) e = a ∙ sym b
 one_of_key key (z ∷ xs) d x y (inl a) (inr b) e = absurd (d.0 (subst (IsIn (map key xs)) (sym e ∙ ap key a) (in_map key xs y b)))
 one_of_key key (z ∷ xs) d x y (inr a) (inl b) e = absurd (d.0 (subst (IsIn (map key xs)) (e ∙ ap key b) (in_map key xs x a)))
 one_of_key key (z ∷ xs) d x y (inr a) (inr b) e = one_of_key key xs d.1 x y a b e
-
--- elements that no test of two finds equal are distinct
-pub distinct_from : {A : Type 0} (same : A → A → Bool) → ((x y : A) → x ≡ y → same x y ≡ true) → (xs : List A) → are_distinct same xs ≡ true → AreDistinct xs
-distinct_from same is [] h = tt
-distinct_from same is (x ∷ xs) h =
-    let parts = and_parts (not (list_any (same x) xs)) (are_distinct same xs) h in
-    ((λ i. other (in_any (same x) xs x i (is x x refl)) (not-true (list_any (same x) xs) parts.0)), distinct_from same is xs parts.1)
-  where
-    other : {b : Bool} → b ≡ true → b ≡ false → ⊥
-    other e f = cc

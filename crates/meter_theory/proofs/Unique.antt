@@ -3,7 +3,9 @@ use Rattle.std.proofs.Common.{◌≡◌, ◌<◌, ◌⊎◌, ℕ, zero, suc, ap,
 use Rattle.meter_theory.specs.Plan.{Plan, cells}
 use Rattle.meter_theory.specs.Edges.{edges}
 use Rattle.meter_theory.specs.Labels.{Labels, Labelling}
-use Rattle.meter_theory.specs.Check.{clients_with_cells, is_labelled, keeps_policy, admits_changer, admits_reader, influence_flows, learn_flows, Pass, Refusal, NotLabelled, PastPolicy, Changer, Reader, InfluenceEscapes, LearnEscapes, Refuses}
+use Rattle.meter_theory.specs.Check.{clients_with_cells, is_labelled, keeps_policy, admits_changer, admits_reader, influence_flows, learn_flows, Pass, Refuses}
+use Rattle.meter_theory.specs.declared.flow.Refusal.{Refusal}
+use Rattle.meter_theory.specs.declared.flow.Refusal.TheVariants.{NotLabelled, PastPolicy, Changer, Reader, InfluenceEscapes, LearnEscapes}
 use Rattle.meter_theory.proofs.Admission.{not_all, first_once}
 
 -- the place of its clause

@@ -6,6 +6,8 @@ use Rattle.cosem_data.specs.declared.cell.CellRef.{CellRef}
 use Rattle.meter_theory.specs.Plan.{Plan, cells}
 use Rattle.meter_theory.specs.Rights.{may_get, may_set}
 use Rattle.meter_theory.specs.declared.flow.Edge.{Edge}
+use Rattle.meter_theory.specs.declared.flow.Refusal.{Refusal}
+use Rattle.meter_theory.specs.declared.flow.Refusal.TheVariants.{NotLabelled, PastPolicy, Changer, Reader, InfluenceEscapes, LearnEscapes}
 use Rattle.meter_theory.specs.Edges.{edges, among}
 use Rattle.meter_theory.specs.Labels.{Labels, Labelling, label_at, labelling_of, within, has, method_changes_of}
 
@@ -49,14 +51,6 @@ pub record FirstFailure {A : Type 0} (test : A → Bool) (xs : List A) (x : A) :
   pub whole : xs ≡ before ++ x ∷ after
   pub earlier : Pass test before
   pub fails : test x ≡ false
-
-pub data Refusal : Type 0 where
-  NotLabelled : CellRef → Refusal
-  PastPolicy : CellRef → Refusal
-  Changer : (client : ℕ) → CellRef → Refusal
-  Reader : (client : ℕ) → CellRef → Refusal
-  InfluenceEscapes : Edge → Refusal
-  LearnEscapes : Edge → Refusal
 
 -- The refusal names the first failure of its clause, and the clauses before it hold.
 abbrev pub Refuses : Plan → Labelling → Labels → Refusal → Type 0

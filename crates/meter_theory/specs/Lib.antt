@@ -19,4 +19,3 @@ pub mod Unequal
 pub mod EffectLaws
 pub mod States
 pub mod Sound
-pub mod Demo

@@ -21,11 +21,6 @@ abbrev pub AreDistinct : {A : Type 0} → List A → Type 0
 AreDistinct [] = Unit {0}
 AreDistinct (x ∷ xs) = (IsIn xs x → ⊥) × AreDistinct xs
 
--- the same as a test, by a test of two elements
-abbrev pub are_distinct : {A : Type 0} → (A → A → Bool) → List A → Bool
-are_distinct same [] = true
-are_distinct same (x ∷ xs) = not (list_any (same x) xs) && are_distinct same xs
-
 -- there is a value, and it passes the test
 abbrev pub some_passes : {A : Type 0} → (A → Bool) → Option A → Bool
 some_passes test None = false

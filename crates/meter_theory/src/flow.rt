@@ -1,4 +1,4 @@
-//! From which cell to which a value may flow, and who may influence and learn a cell.
+//! From which cell to which a value may flow, who may influence and learn a cell, and why labels are refused.
 use cosem_data::cell::CellRef;
 use cosem_data::clients::ClientSet;
 
@@ -36,4 +36,22 @@ pub struct Label {
     pub influence: ClientSet,
     /// The clients that may learn it.
     pub learn: ClientSet,
+}
+
+/// Why labels are refused: the first cell, right or edge of a plan that fails the first clause of admission which any fails.
+/// The clauses stand in their order (own profile). Clients are told by their places in the plan.
+#[derive(Clone, Copy, Debug, PartialEq, Eq, Drop)]
+pub enum Refusal {
+    /// The cell has no label.
+    NotLabelled(CellRef),
+    /// The cell's label allows a client that the policy doesn't.
+    PastPolicy(CellRef),
+    /// The client has a right that changes the cell, and the label doesn't let it influence the cell.
+    Changer(u8, CellRef),
+    /// The client may read the cell, and the label doesn't let it learn the cell.
+    Reader(u8, CellRef),
+    /// Who may influence the source of the edge may not influence its target.
+    InfluenceEscapes(Edge),
+    /// Who may learn the target of the edge may not learn its source.
+    LearnEscapes(Edge),
 }

@@ -11,12 +11,13 @@ ghost use Rattle.meter_theory.specs.Plan.{Plan, cells, start};
 ghost use Rattle.meter_theory.specs.Steps.{Step, next};
 ghost use Rattle.meter_theory.specs.Replies.{Value, reply_to, run};
 ghost use Rattle.meter_theory.specs.declared.flow.Edge.{Edge};
+ghost use Rattle.meter_theory.specs.declared.flow.Refusal.{Refusal};
 ghost use Rattle.meter_theory.specs.Edges.{IsEdge, edges, IsClosed};
 ghost use Rattle.meter_theory.specs.EffectLaws.{KeepsAgreementOn, EffectLaws};
 ghost use Rattle.meter_theory.specs.Labels.{Labels, Labelling, labelling_of, Admits, AreLeast, MayChange, method_changes_of};
 ghost use Rattle.meter_theory.specs.Sound.{IsSound};
 ghost use Rattle.meter_theory.specs.States.{IsState};
-ghost use Rattle.meter_theory.specs.Check.{AllPass, Refusal, Refuses, may_change};
+ghost use Rattle.meter_theory.specs.Check.{AllPass, Refuses, may_change};
 ghost use Rattle.meter_theory.specs.Safety.{Influence, Secrecy};
 ghost use Rattle.meter_theory.specs.Unequal.{UnequalSecrecy};
 
