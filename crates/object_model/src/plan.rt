@@ -128,6 +128,14 @@ impl Plan {
         self.client(client).is_some()
     }
 
+    /// How many clients the plan has: each place below has one.
+    pub fn client_count(&self) -> u8
+        ensures { result ≡ length self.now.clients }
+    {
+        self.known();
+        self.clients.len() as u8
+    }
+
     /// The object at this place in plan order, counted from 0, or None past the last.
     pub fn object(&self, object: u16) -> Option<&Object>
         ensures { option_map (λ o. o.now) result ≡ slice_get self.now.objects object }

@@ -8,6 +8,7 @@ use crate::plan::Plan;
 use cosem_data::cell::CellRef;
 use cosem_data::memory::Memory;
 use meter_theory::flow::Label;
+use std::alloc::Global;
 use std::marker::Model;
 
 /// What makes a policy.
@@ -42,6 +43,32 @@ impl Policy {
     {
         let PolicyParts { table, default } = parts;
         Ok(Policy { table, default })
+    }
+
+    /// Cells with a label of their own, in the order of the configuration.
+    pub fn table(&self) -> &[(CellRef, Label)]
+        ensures { result.now ≡ self.now.table }
+    {
+        &self.table
+    }
+
+    /// The label of each cell without one of its own.
+    pub fn default_label(&self) -> Label
+        ensures { result ≡ self.now.default }
+    {
+        self.default
+    }
+
+    /// Another policy like this one. The only error is want of memory.
+    pub fn try_clone(&self, alloc: Global) -> Result<Policy, Memory>
+        ensures { IfOk result (λ policy. policy ≡ self.now) }
+    {
+        let mut table = Vec::with_capacity(alloc, self.table.len())?;
+        table.extend_from_slice(&self.table)?;
+        Ok(Policy {
+            table,
+            default: self.default,
+        })
     }
 
     /// The label of a cell: that of the first entry of the cell, or else the default. The inner cell of a register monitor
