@@ -1,6 +1,5 @@
 -- Words on lists that the definitions share.
-use Rattle.std.specs.Prelude.{◌≡◌, ◌⊎◌, Bool, true, false, not, ◌&&◌, List, [], ◌∷◌, ℕ, ◌-◌, drop, length, Option, Some, None}
-use Rattle.std.specs.List.{list_any}
+use Rattle.std.specs.Prelude.{◌≡◌, ◌⊎◌, Bool, false, List, [], ◌∷◌, ℕ, ◌-◌, drop, length, Option, Some, None}
 
 -- x is an element of the list
 abbrev pub IsIn : {A : Type 0} → List A → A → Type 0

@@ -1,17 +1,15 @@
 -- A plan without the faults of a configuration, as far as the promises, the edges and the checker need it.
-use Rattle.std.specs.Prelude.{ℕ, Bool, true, false, not, ◌&&◌, ◌||◌, nat_lt, nat_le, List, [], ◌∷◌, length, map, Option, None, Some, is_some, ◌==◌, ◌≡◌, ◌⊎◌, ◌≤◌}
-use Rattle.std.specs.List.{list_any, list_all}
-use Rattle.std.specs.Str.{bytes_eq}
+use Rattle.std.specs.Prelude.{ℕ, Bool, true, false, not, ◌&&◌, nat_lt, nat_le, List, [], ◌∷◌, length, map, Option, None, Some, ◌==◌, ◌≡◌, ◌⊎◌, ◌≤◌}
+use Rattle.std.specs.List.{list_all}
 use Rattle.cosem_data.specs.Tree.{Tree}
-use Rattle.cosem_data.specs.Kinds.{kind_of, same_kind}
-use Rattle.cosem_data.specs.Cells.{same_name, same_cell}
-use Rattle.cosem_data.specs.declared.kind.Kind.{Kind}
+use Rattle.cosem_data.specs.Kinds.{kind_of}
+use Rattle.cosem_data.specs.Cells.{same_name}
 use Rattle.cosem_data.specs.declared.name.LogicalName.{LogicalName}
 use Rattle.cosem_data.specs.declared.cell.CellRef.{CellRef}
 use Rattle.cosem_data.specs.declared.cell.MethodRef.{MethodRef}
 use Rattle.meter_theory.specs.declared.limits.TheConstants as limits
 use Rattle.meter_theory.specs.declared.refs.ScriptRef.{ScriptRef}
-use Rattle.meter_theory.specs.Lists.{IsIn, AreDistinct, are_distinct, some_passes}
+use Rattle.meter_theory.specs.Lists.{IsIn, AreDistinct, some_passes}
 use Rattle.meter_theory.specs.ClientNames.{is_client_name}
 use Rattle.meter_theory.specs.Value.{Rule, OfKind, meets, is_within_limits}
 use Rattle.meter_theory.specs.State.{value}
