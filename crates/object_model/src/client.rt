@@ -44,6 +44,13 @@ impl Client {
         self.name.as_bytes()
     }
 
+    /// Its name as a text.
+    pub fn name_text(&self) -> &str
+        ensures { result.now ≡ self.now.name }
+    {
+        self.name.as_str()
+    }
+
     /// Its service access point (IEC 62056-4-7, source wPort).
     pub fn sap(&self) -> u8
         ensures { result ≡ self.now.sap }
