@@ -68,13 +68,6 @@ impl Meter {
         Meter { objects }
     }
 
-    /// Its cells.
-    pub(crate) fn into_cells(self, alloc: Global) -> Result<Vec<CellRef>, Memory>
-        ensures { IfOk result (λ list. list.items ≡ keys self) }
-    {
-        cells_of(alloc, &self.objects)
-    }
-
     /// A copy of the value in a cell of its plan; null-data where the plan has no such cell.
     pub fn value(&self, alloc: Global, plan: &Plan, cell: &CellRef) -> Result<Data, Memory>
         requires { IsState plan.now self.now }
@@ -337,16 +330,6 @@ fn restore_in(objects: &mut Vec<Stored>, place: usize, undo: Undo)
     ensures { flat_map stored_pairs objects.new.items ≡ undone undo (flat_map stored_pairs objects.old.items) }
 {
     objects[place].restore(undo.change);
-}
-
-fn cells_of(alloc: Global, objects: &[Stored]) -> Result<Vec<CellRef>, Memory>
-    ensures { IfOk result (λ list. list.items ≡ keys (flat_map stored_pairs objects.now)) }
-{
-    let mut cells = Vec::new(alloc);
-    for object in objects {
-        object.push_keys(&mut cells)?;
-    }
-    Ok(cells)
 }
 
 fn copy_of(alloc: Global, objects: &[Stored]) -> Result<Vec<Stored>, Memory>

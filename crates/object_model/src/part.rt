@@ -1,5 +1,5 @@
 //! What a plan fixes of an object by its interface class.
-ghost use Rattle.std.specs.Prelude.{◌≡◌, ◌≤◌, length, IfOk, Some};
+ghost use Rattle.std.specs.Prelude.{◌≡◌, ◌≤◌, ◌++◌, length, IfOk, OnOk, Some};
 ghost use Rattle.cosem_data.specs.declared.name.LogicalName.{LogicalName as LogicalNameValue};
 ghost use Rattle.std.specs.List.{list_any, position_from};
 ghost use Rattle.cosem_data.specs.View.{tree};
@@ -117,6 +117,32 @@ impl Part {
             Part::ScriptTable(_) => 0,
             Part::RegisterMonitor(_) => 2,
         }
+    }
+
+    /// Puts the cells of an object with this part and name behind others. The only error is want of memory.
+    pub(crate) fn push_cells(
+        &self,
+        name: LogicalName,
+        cells: &mut Vec<CellRef>,
+    ) -> Result<(), Memory>
+        ensures { OnOk result (cells.new.items ≡ cells.old.items ++ keys (start_of name (part_of self.now))) }
+    {
+        match self {
+            Part::Data(_) => cells.push(data_value(name))?,
+            Part::Register(_) => cells.push(register_value(name))?,
+            Part::ProfileGeneric(_) => {
+                cells.push(buffer(name))?;
+                cells.push(capture_period(name))?;
+                cells.push(entries_in_use(name))?;
+            }
+            Part::ScriptTable(_) => {}
+            Part::RegisterMonitor(_) => {
+                cells.push(thresholds(name))?;
+                cells.push(seen(name))?;
+            }
+            Part::SingleActionSchedule(_) => cells.push(execution_time(name))?,
+        }
+        Ok(())
     }
 
     /// Whether it is a cell of an object with this part and name: an attribute that can change, or what a register monitor

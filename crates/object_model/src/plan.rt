@@ -244,7 +244,11 @@ impl Plan {
     pub fn cells(&self, alloc: Global) -> Result<Vec<CellRef>, Memory>
         ensures { IfOk result (λ list. list.items ≡ cells self.now) }
     {
-        self.start(alloc)?.into_cells(alloc)
+        let mut cells = Vec::with_capacity(alloc, self.objects.len())?;
+        for object in &self.objects {
+            object.part().push_cells(object.name(), &mut cells)?;
+        }
+        Ok(cells)
     }
 
     /// The number, from 0 in plan order, of a cell, or None for what is no cell of this plan.

@@ -155,30 +155,6 @@ impl Stored {
         }
     }
 
-    /// Adds its cells behind others.
-    pub(crate) fn push_keys(&self, cells: &mut Vec<CellRef>) -> Result<(), Memory>
-        ensures { OnOk result (cells.new.items ≡ cells.old.items ++ keys (stored_pairs self.now)) }
-    {
-        let name = self.name;
-        match &self.cells {
-            Cells::Data(_) => cells.push(data_value(name))?,
-            Cells::Register(_) => cells.push(register_value(name))?,
-            Cells::ProfileGeneric(_) => {
-                cells.push(buffer(name))?;
-                cells.push(capture_period(name))?;
-                cells.push(entries_in_use(name))?;
-            }
-            Cells::RegisterMonitor(_) => {
-                cells.push(thresholds(name))?;
-                cells.push(seen(name))?;
-            }
-            Cells::SingleActionSchedule(_) => {
-                cells.push(execution_time(name))?;
-            }
-        }
-        Ok(())
-    }
-
     /// Writes a value that may stand in the cell at this index, by the object's class, to which the plan lends this part
     /// and the kind that a register monitor watches.
     pub(crate) fn write(&mut self, part: &Part, monitored: Kind, index: u8, given: Data) -> Change
