@@ -121,22 +121,27 @@ fn read_configuration(rt: &HostRuntime, name: &str) -> Option<String> {
 /// Whether the configuration has the verdict of the row with the row's edit.
 fn is_judged(alloc: Global, text: &str, row: &str) -> Option<bool> {
     let mut parts = row.split(" => ");
-    let old = with_ends(alloc, parts.next()?)?;
-    let new = with_copies(alloc, with_ends(alloc, parts.next()?)?.as_str())?;
+    let edited = with_edit(alloc, text, parts.next()?, parts.next()?)?;
     let wanted = parts.next()?;
     if parts.next().is_some() {
         return None;
     }
+    Some(fault_of(alloc, edited.as_str())?.as_str() == wanted)
+}
+
+/// The text with an edit: what is new in place of what is old, which it has once.
+fn with_edit(alloc: Global, text: &str, old: &str, new: &str) -> Option<String> {
+    let old = with_ends(alloc, old)?;
+    let new = with_copies(alloc, with_ends(alloc, new)?.as_str())?;
     let (before, after) = text.split_once(old.as_str())?;
     if after.contains(old.as_str()) {
         return None;
     }
-    let edited = format!(in alloc; "{before}{new}{after}").ok()?;
-    Some(verdict_of(alloc, edited.as_str())?.as_str() == wanted)
+    format!(in alloc; "{before}{new}{after}").ok()
 }
 
 /// The verdict on a configuration in words, or `no fault`.
-fn verdict_of(alloc: Global, text: &str) -> Option<String> {
+fn fault_of(alloc: Global, text: &str) -> Option<String> {
     let outcome = answer_text(alloc, text, &mut b"".as_slice(), &mut Vec::new(alloc));
     match outcome {
         Outcome::Done => String::from_str(alloc, "no fault").ok(),

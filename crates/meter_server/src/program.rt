@@ -1,21 +1,24 @@
-//! What the program does with its words: which file it reads, what it tells and where, and its exit status (own profile).
-ghost use Rattle.std.specs.Prelude.{◌≡◌, IfOk, None, map, option_map, string_bytes};
+//! What the program does with its words: which files it reads, what it tells and where, and its exit status (own profile).
+ghost use Rattle.std.specs.Prelude.{◌≡◌, IfOk, None, map, string_bytes};
 ghost use Rattle.config_reader.specs.ConfigOf.{config_of};
+ghost use Rattle.meter_server.specs.Command.{command_in};
 ghost use Rattle.meter_server.specs.Program as spec;
-ghost use Rattle.meter_server.specs.Program.{AnswersText, error_of, file_named, output_of, status_of};
+ghost use Rattle.meter_server.specs.Program.{AnswersText, ListsEdges, ListsLabels, error_of, output_of, status_of};
 
+use crate::command::{Command, command_of};
+use crate::listing::{ListFault, write_edges, write_least_labels};
 use crate::running::{LineFault, run_lines};
-use crate::verdict::{Verdict, fault_line};
+use crate::verdict::{Verdict, verdict_text};
 use crate::writing::write_whole;
 use config_reader::read_config;
-use config_text::fault::ConfigFault;
 use cosem_data::memory::Memory;
 use std::alloc::Global;
 use std::fs;
 use std::io::{Read, Write};
 use std::rt::Files;
 
-const USAGE: &str = "usage: cosem-flow demo | cosem-flow run CONFIG\n";
+const USAGE: &str =
+    "usage: cosem-flow demo | cosem-flow run CONFIG | cosem-flow edges CONFIG | cosem-flow label CONFIG\n";
 
 /// The file of the demo configuration, in the current folder.
 const DEMO: &str = "demo.toml";
@@ -25,35 +28,37 @@ const DEMO: &str = "demo.toml";
 pub enum Outcome {
     /// It did what it was asked to do.
     Done,
-    /// The configuration has a fault.
-    Refused(ConfigFault),
+    /// It came to this verdict.
+    Judged(Verdict),
     /// The command line can't be used.
     Usage,
     /// The file with this path can't be read, or isn't UTF-8.
     Unread(String),
-    /// A fault stopped it.
+    /// A fault stopped the run of lines.
     Fault(LineFault),
+    /// A fault stopped the list.
+    Unlisted(ListFault),
 }
 
 impl Outcome {
-    /// The exit status: 0 done, 1 a configuration refused, 2 a command line that can't be used, 3 any other fault.
+    /// The exit status: 0 done or accepted, 1 a verdict that refuses, 2 a command line that can't be used, 3 any other fault.
     pub fn status(&self) -> u8
         ensures { result ≡ status_of self.now }
     {
         match self {
-            Outcome::Done => 0,
-            Outcome::Refused(_) => 1,
+            Outcome::Done | Outcome::Judged(Verdict::Accepted) => 0,
+            Outcome::Judged(_) => 1,
             Outcome::Usage => 2,
-            Outcome::Unread(_) | Outcome::Fault(_) => 3,
+            Outcome::Unread(_) | Outcome::Fault(_) | Outcome::Unlisted(_) => 3,
         }
     }
 
-    /// What is told on standard output behind the replies: the verdict on a configuration that was refused.
+    /// What is told on standard output behind what the command wrote: its verdict.
     pub fn output(&self, alloc: Global) -> Result<String, Memory>
         ensures { IfOk result (λ text. string_bytes text ≡ output_of self.now) }
     {
         match self {
-            Outcome::Refused(fault) => fault_line(alloc, fault),
+            Outcome::Judged(verdict) => verdict_text(alloc, verdict),
             _ => Ok(String::new(alloc)),
         }
     }
@@ -63,7 +68,7 @@ impl Outcome {
         ensures { IfOk result (λ text. string_bytes text ≡ error_of self.now) }
     {
         match self {
-            Outcome::Done | Outcome::Refused(_) | Outcome::Fault(LineFault::Line(_)) => {
+            Outcome::Done | Outcome::Judged(_) | Outcome::Fault(LineFault::Line(_)) => {
                 Ok(String::new(alloc))
             }
             Outcome::Usage => Ok(String::from_str(alloc, USAGE)?),
@@ -71,19 +76,8 @@ impl Outcome {
                 Ok(format!(in alloc; "cosem-flow: {file}: can't be read as UTF-8 text\n")?)
             }
             Outcome::Fault(fault) => Ok(format!(in alloc; "cosem-flow: {fault}\n")?),
+            Outcome::Unlisted(fault) => Ok(format!(in alloc; "cosem-flow: {fault}\n")?),
         }
-    }
-}
-
-/// The file of the configuration that a command line names, by its words behind the program's: `demo` alone, or `run` and a
-/// path. None where they are no command.
-pub fn file_of(words: &[String]) -> Option<&str>
-    ensures { option_map (λ file. file.now) result ≡ file_named (map string_bytes words.now) }
-{
-    match words {
-        [word] if word.as_str() == "demo" => Some(DEMO),
-        [word, file] if word.as_str() == "run" => Some(file.as_str()),
-        _ => None,
     }
 }
 
@@ -97,9 +91,19 @@ pub fn outcome_of(answer: Result<u64, LineFault>) -> Outcome
     }
 }
 
+/// How a command ended whose list was written so.
+pub fn listed(answer: Result<(), ListFault>) -> Outcome
+    ensures { result ≡ spec.listed answer }
+{
+    match answer {
+        Ok(()) => Outcome::Done,
+        Err(fault) => Outcome::Unlisted(fault),
+    }
+}
+
 /// Does what the words of a command line ask for, and answers the exit status: `demo` and `run CONFIG` answer the step
-/// lines of the input on the output, by the configuration in the file that they name. A verdict stands on the output, any
-/// other fault on the error stream.
+/// lines of the input on the output, by the configuration in the file that they name; `edges CONFIG` and `label CONFIG`
+/// print its edges and its least labels there. A verdict stands on the output, any other fault on the error stream.
 pub fn run_program<H: Files + AllocGlobal, I: Read, O: Write, E: Write>(
     rt: &H,
     words: &[String],
@@ -107,31 +111,53 @@ pub fn run_program<H: Files + AllocGlobal, I: Read, O: Write, E: Write>(
     output: &mut O,
     errors: &mut E,
 ) -> u8
-    ensures usage { file_named (map string_bytes words.now) ≡ None → result ≡ 2 }
+    ensures usage { command_in (map string_bytes words.now) ≡ None → result ≡ 2 }
 {
-    let outcome = match file_of(words) {
-        Some(file) => answer_file(rt, file, input, output),
+    let outcome = match command_of(words) {
+        Some(command) => answer(rt, command, input, output),
         None => Outcome::Usage,
     };
     tell(rt.alloc(), &outcome, output, errors);
     outcome.status()
 }
 
-/// Answers the lines of the input by the configuration in a file.
-fn answer_file<H: Files + AllocGlobal, I: Read, O: Write>(
+/// Does what a command asks for.
+fn answer<H: Files + AllocGlobal, I: Read, O: Write>(
     rt: &H,
-    file: &str,
+    command: Command<'_>,
     input: &mut I,
     output: &mut O,
 ) -> Outcome {
+    let text = match read_file(rt, file_of(command)) {
+        Ok(text) => text,
+        Err(outcome) => return outcome,
+    };
+    let text = text.as_str();
+    match command {
+        Command::Demo | Command::Run { .. } => answer_text(rt.alloc(), text, input, output),
+        Command::Edges { .. } => list_edges(rt.alloc(), text, output),
+        Command::Label { .. } => list_labels(rt.alloc(), text, output),
+    }
+}
+
+/// The file of the configuration that a command is over.
+fn file_of(command: Command<'_>) -> &str {
+    match command {
+        Command::Demo => DEMO,
+        Command::Run { config } | Command::Edges { config } | Command::Label { config } => config,
+    }
+}
+
+/// The text of a file, or that it can't be read.
+fn read_file<H: Files + AllocGlobal>(rt: &H, file: &str) -> Result<String, Outcome> {
     match fs::read_to_string(rt, file) {
-        Ok(text) => answer_text(rt.alloc(), text.as_str(), input, output),
-        Err(_) => unread(rt.alloc(), file),
+        Ok(text) => Ok(text),
+        Err(_) => Err(unread(rt.alloc(), file)),
     }
 }
 
 /// Answers the lines of the input by the configuration that a text is, on the output, and says how that ended: `Done`, a
-/// fault of the run, or `Refused` where the configuration has a fault or memory was refused while it was read; then nothing
+/// fault of the run, or the verdict where the configuration has a fault or memory was refused while it was read; then nothing
 /// was read of the input, and nothing written.
 pub fn answer_text<I: Read, O: Write>(
     alloc: Global,
@@ -145,7 +171,28 @@ pub fn answer_text<I: Read, O: Write>(
 {
     match read_config(alloc, text) {
         Ok((plan, _policy)) => outcome_of(run_lines(alloc, &plan, input, output)),
-        Err(fault) => Outcome::Refused(fault),
+        Err(fault) => Outcome::Judged(Verdict::Config(fault)),
+    }
+}
+
+/// Writes the edges of the configuration that a text is on the output, and says how that ended: `Done`, a fault of the list,
+/// or the verdict where the configuration has a fault or memory was refused while it was read; then nothing was written.
+pub fn list_edges<O: Write>(alloc: Global, text: &str, output: &mut O) -> Outcome
+    ensures { ListsEdges (config_of text.now) (O.contents output.old) (O.contents output.new) result }
+{
+    match read_config(alloc, text) {
+        Ok((plan, _policy)) => listed(write_edges(alloc, &plan, output)),
+        Err(fault) => Outcome::Judged(Verdict::Config(fault)),
+    }
+}
+
+/// Writes the least labels of the configuration that a text is on the output, and says how that ended, as `list_edges` does.
+pub fn list_labels<O: Write>(alloc: Global, text: &str, output: &mut O) -> Outcome
+    ensures { ListsLabels (config_of text.now) (O.contents output.old) (O.contents output.new) result }
+{
+    match read_config(alloc, text) {
+        Ok((plan, _policy)) => listed(write_least_labels(alloc, &plan, output)),
+        Err(fault) => Outcome::Judged(Verdict::Config(fault)),
     }
 }
 
