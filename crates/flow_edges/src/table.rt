@@ -135,7 +135,7 @@ fn edges_between(alloc: Global, cells: &[CellRef], links: &[Link]) -> Result<Vec
 }
 
 /// The edge that a link stands for.
-fn edge_between(cells: &[CellRef], link: Link) -> Edge
+pub fn edge_between(cells: &[CellRef], link: Link) -> Edge
     requires { IsLink cells.now link }
     ensures { result ≡ edge_at cells.now link }
 {

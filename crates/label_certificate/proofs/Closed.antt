@@ -35,12 +35,12 @@ place_in [] x i = absurd i
 place_in (y ∷ xs) x (inl e) = (0, omega arith, sym e)
 place_in (y ∷ xs) x (inr i) = let p = place_in xs x i in (suc p.0, omega (arith, p.1), p.2)
 
-item_at : (xs : List CellRef) (k : ℕ) → k < length xs → IsIn xs (cell_at xs k)
+pub item_at : (xs : List CellRef) (k : ℕ) → k < length xs → IsIn xs (cell_at xs k)
 item_at [] k h = absurd (omega arith)
 item_at (x ∷ xs) zero h = inl refl
 item_at (x ∷ xs) (suc k) h = inr (item_at xs k (omega arith))
 
-link_in : (cs : List CellRef) (links : List Link) (l : Link) → AreWithin cs links → IsIn links l → IsLink cs l
+pub link_in : (cs : List CellRef) (links : List Link) (l : Link) → AreWithin cs links → IsIn links l → IsLink cs l
 link_in cs [] l w i = absurd i
 link_in cs (m ∷ links) l w (inl e) = subst (IsLink cs) (sym e) w.0
 link_in cs (m ∷ links) l w (inr i) = link_in cs links l w.1 i

@@ -1,0 +1,4 @@
+pub mod Firsts
+pub mod Within
+pub mod Placed
+pub mod Answering

@@ -1,0 +1,4 @@
+pub mod First
+pub mod Numbered
+pub mod Answer
+pub mod Accepted

@@ -1,0 +1,167 @@
+//! Whether labels are accepted for a plan and its policy, and the plan that was accepted.
+ghost use Rattle.std.specs.Prelude.{◌≡◌, IfErr, IfOk, OnOk, string_bytes};
+ghost use Rattle.meter_theory.specs.Check.{Refuses};
+ghost use Rattle.meter_theory.specs.Labels as theory;
+ghost use Rattle.meter_theory.specs.Labels.{Admits, labelling_of, labelling_of_policy};
+ghost use Rattle.meter_theory.specs.Safety.{Influence, Secrecy};
+ghost use Rattle.meter_theory.specs.Unequal.{UnequalSecrecy};
+ghost use Rattle.flow_checker.specs.Answer.{IsRefusedAs, name_at};
+
+use crate::refusal::first_refusal;
+use cosem_data::cell::CellRef;
+use cosem_data::memory::Memory;
+use label_certificate::labels::Labels;
+use meter_effects::promises::{
+    admitted_is_influence_safe, admitted_is_secret, admitted_is_secret_but_for_quiet_steps,
+};
+use meter_theory::flow::{Edge, Refusal};
+use meter_theory::laws::tests_decide_admission;
+use object_model::plan::Plan;
+use object_model::policy::Policy;
+use std::alloc::Global;
+use std::marker::Model;
+
+/// Why labels are refused: the first cell, right or edge of the plan that fails the first clause which any fails, or that
+/// memory was refused (own profile). A client is told by its name.
+#[derive(Debug, Drop)]
+pub enum Refused {
+    /// The cell has no label.
+    NotLabelled(CellRef),
+    /// The cell's label allows a client that the policy doesn't.
+    PastPolicy(CellRef),
+    /// The client has a right that changes the cell, and the label doesn't let it influence the cell.
+    Changer(String, CellRef),
+    /// The client may read the cell, and the label doesn't let it learn the cell.
+    Reader(String, CellRef),
+    /// Who may influence the source of the edge may not influence its target.
+    InfluenceEscapes(Edge),
+    /// Who may learn the target of the edge may not learn its source.
+    LearnEscapes(Edge),
+    /// Memory was refused, and nothing is known of the labels.
+    Memory,
+}
+
+/// A plan and its policy, for which labels were accepted: only [`check`] makes one (own profile).
+#[derive(Drop)]
+pub struct Checked {
+    plan: Plan,
+    policy: Policy,
+}
+
+impl Model for Checked {
+    ghost use Rattle.flow_checker.specs.Accepted.{Accepted, IsAdmitted};
+    ghost use Rattle.std.specs.Coded.{codes};
+    ghost use Rattle.meter_theory.specs.PlanCode.{plan_code};
+
+    ghost Value = { Accepted };
+
+    ghost coded = { Prim.hlevel (codes, plan_code) };
+
+    ghost view = { λ c. record { plan = c.plan; policy = c.policy } };
+
+    ghost invariant = { λ c. IsAdmitted (record { plan = c.plan; policy = c.policy }) };
+}
+
+impl Checked {
+    ghost use Rattle.flow_checker.specs.Accepted.{IsAdmitted};
+
+    /// What the type keeps, for callers: there are labels that are admitted for the plan and its policy, and so the plan keeps
+    /// what its policy promises about who influences a cell and who learns it.
+    pub fn known(&self)
+        ensures admitted { IsAdmitted self.now }
+        ensures influence { Influence self.now.plan (labelling_of_policy self.now.plan self.now.policy) }
+        ensures secrecy { Secrecy self.now.plan (labelling_of_policy self.now.plan self.now.policy) }
+        ensures unequal { UnequalSecrecy self.now.plan (labelling_of_policy self.now.plan self.now.policy) }
+    {
+        let _plan = &self.plan;
+        admitted_is_influence_safe();
+        admitted_is_secret();
+        admitted_is_secret_but_for_quiet_steps();
+    }
+
+    /// The plan.
+    pub fn plan(&self) -> &Plan
+        ensures { result.now ≡ self.now.plan }
+    {
+        &self.plan
+    }
+
+    /// The policy.
+    pub fn policy(&self) -> &Policy
+        ensures { result.now ≡ self.now.policy }
+    {
+        &self.policy
+    }
+}
+
+/// Accepts a plan whose labels pass the six clauses of admission, and no other: it is refused with what fails the first clause
+/// that any fails, and is given back. An accepted plan keeps what its policy, and what the labels, promise about who
+/// influences a cell, and keeps from each client what they hide from it, also over schedules that differ by steps which the
+/// client can't notice. Where memory is refused nothing is known (own profile).
+pub fn check(
+    alloc: Global,
+    plan: Plan,
+    policy: &Policy,
+    labels: &Labels,
+) -> Result<Checked, (Refused, Plan)>
+    ensures admitted { OnOk result (Admits plan (labelling_of_policy plan policy.now) labels.now) }
+    ensures kept { IfOk result (λ checked. checked ≡ record { plan = plan; policy = policy.now }) }
+    ensures refused { IfErr result (λ e. IsRefusedAs plan (labelling_of_policy plan policy.now) labels.now e.0) }
+    ensures returned { IfErr result (λ e. e.1 ≡ plan) }
+    ensures influence { OnOk result (Influence plan (labelling_of_policy plan policy.now) × Influence plan (labelling_of labels.now)) }
+    ensures secrecy { OnOk result (Secrecy plan (labelling_of_policy plan policy.now) × Secrecy plan (labelling_of labels.now)) }
+    ensures unequal { OnOk result (UnequalSecrecy plan (labelling_of_policy plan policy.now) × UnequalSecrecy plan (labelling_of labels.now)) }
+{
+    admitted_is_influence_safe();
+    admitted_is_secret();
+    admitted_is_secret_but_for_quiet_steps();
+    match judged(alloc, &plan, policy, labels) {
+        Ok(policy) => Ok(Checked { plan, policy }),
+        Err(refused) => Err((refused, plan)),
+    }
+}
+
+/// Another policy like this one, where the labels are admitted for it.
+fn judged(alloc: Global, plan: &Plan, policy: &Policy, labels: &Labels) -> Result<Policy, Refused>
+    ensures admitted { OnOk result (Admits plan.now (labelling_of_policy plan.now policy.now) labels.now) }
+    ensures same { IfOk result (λ kept. kept ≡ policy.now) }
+    ensures refused { IfErr result (λ e. IsRefusedAs plan.now (labelling_of_policy plan.now policy.now) labels.now e) }
+{
+    plan.known();
+    tests_decide_admission();
+    match first_refusal(alloc, plan, policy, labels) {
+        Ok(None) => policy.try_clone(alloc).map_err(|_| Refused::Memory),
+        Ok(Some(refusal)) => Err(told(alloc, plan, refusal)),
+        Err(_) => Err(Refused::Memory),
+    }
+}
+
+/// A refusal as it is told, with the name of its client.
+fn told(alloc: Global, plan: &Plan, refusal: Refusal) -> Refused
+    ensures { (policy : theory.Labelling) (labels : theory.Labels) → Refuses plan.now policy labels refusal → IsRefusedAs plan.now policy labels result }
+{
+    match refusal {
+        Refusal::NotLabelled(cell) => Refused::NotLabelled(cell),
+        Refusal::PastPolicy(cell) => Refused::PastPolicy(cell),
+        Refusal::Changer(client, cell) => match name_of(alloc, plan, client) {
+            Ok(name) => Refused::Changer(name, cell),
+            Err(_) => Refused::Memory,
+        },
+        Refusal::Reader(client, cell) => match name_of(alloc, plan, client) {
+            Ok(name) => Refused::Reader(name, cell),
+            Err(_) => Refused::Memory,
+        },
+        Refusal::InfluenceEscapes(edge) => Refused::InfluenceEscapes(edge),
+        Refusal::LearnEscapes(edge) => Refused::LearnEscapes(edge),
+    }
+}
+
+/// The name of the client at a place. The only error is want of memory.
+fn name_of(alloc: Global, plan: &Plan, client: u8) -> Result<String, Memory>
+    ensures { IfOk result (λ name. string_bytes name ≡ name_at plan.now client) }
+{
+    match plan.client(client) {
+        Some(client) => Ok(String::from_str(alloc, client.name_text())?),
+        None => Ok(String::new(alloc)),
+    }
+}
