@@ -50,7 +50,7 @@ pub record AreLeastOf (P : Plan) (labels : Labels) : Type 0 where
 
 -- what told a fault (own profile)
 abbrev pub fault_words : ListFault → List ℕ
-fault_words faults.Write = codes "the list can't be written"
+fault_words faults.Write = codes "the output can't be written"
 fault_words faults.Memory = codes "out of memory"
 
 -- what a fault leaves of a text: of a write that failed, something (own profile)

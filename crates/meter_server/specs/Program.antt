@@ -1,10 +1,17 @@
 -- What the program does with its words, and what it tells whoever started it (own profile throughout).
-use Rattle.std.specs.Prelude.{◌≡◌, ℕ, List, [], ◌++◌, string_bytes, codes, Option, Result, Ok, Err}
+use Rattle.std.specs.Prelude.{◌≡◌, ℕ, List, [], ◌++◌, string_bytes, codes, Option, ◌⊎◌, Result, Ok, Err}
 use Rattle.std.specs.Io.KnownBytes.{Appends}
 use Rattle.config_text.specs.Fault.{Fault as ConfigFault, Fails}
 use Rattle.config_text.specs.Parts.{ConfigText}
 use Rattle.config_rules.specs.PlanOf.{plan_of}
+use Rattle.config_rules.specs.Faultless.{IsPolicyOf}
+use Rattle.flow_checker.specs.Answer.{IsRefusedAs}
+use Rattle.label_certificate.specs.Faults as label_faults
+use Rattle.label_certificate.specs.LabelText.{labels_of_text}
 use Rattle.meter_theory.specs.Edges.{edges}
+use Rattle.meter_theory.specs.Labels as theory
+use Rattle.meter_theory.specs.Labels.{Admits, Policy, labelling_of_policy}
+use Rattle.meter_theory.specs.Plan.{Plan}
 use Rattle.meter_server.specs.Lines.{Moment}
 use Rattle.meter_server.specs.Listing as lists
 use Rattle.meter_server.specs.Listing.{WritesLeast, WritesText, edges_text}
@@ -15,9 +22,9 @@ use Rattle.meter_server.specs.declared.listing.ListFault.{ListFault}
 use Rattle.meter_server.specs.declared.running.LineFault.{LineFault}
 use Rattle.meter_server.specs.declared.running.LineFault.TheVariants.{Line}
 use Rattle.meter_server.specs.declared.program.Outcome.{Outcome}
-use Rattle.meter_server.specs.declared.program.Outcome.TheVariants.{Done, Judged, Usage, Unread, Fault, Unlisted}
+use Rattle.meter_server.specs.declared.program.Outcome.TheVariants.{Done, Judged, Usage, Unread, Fault, Unwritten}
 use Rattle.meter_server.specs.declared.verdict.Verdict.{Verdict}
-use Rattle.meter_server.specs.declared.verdict.Verdict.TheVariants.{Accepted, Config, Labels}
+use Rattle.meter_server.specs.declared.verdict.Verdict.TheVariants.{Accepted, Config, Labels, Refused}
 
 -- how a command ended whose lines were answered so
 abbrev pub outcome_of : Result ℕ LineFault → Outcome
@@ -27,13 +34,14 @@ outcome_of (Err fault) = Fault fault
 -- how a command ended whose list was written so
 abbrev pub listed : Result (Unit {0}) ListFault → Outcome
 listed (Ok u) = Done
-listed (Err fault) = Unlisted fault
+listed (Err fault) = Unwritten fault
 
 -- the exit status of a verdict: 0 where it accepts
 abbrev pub status_of_verdict : Verdict → ℕ
 status_of_verdict Accepted = 0
 status_of_verdict (Config fault) = 1
 status_of_verdict (Labels fault) = 1
+status_of_verdict (Refused refused) = 1
 
 -- the exit status: 0 done or accepted, 1 a verdict that refuses, 2 a command line that can't be used, 3 any other fault
 abbrev pub status_of : Outcome → ℕ
@@ -42,7 +50,7 @@ status_of (Judged verdict) = status_of_verdict verdict
 status_of Usage = 2
 status_of (Unread file) = 3
 status_of (Fault fault) = 3
-status_of (Unlisted fault) = 3
+status_of (Unwritten fault) = 3
 
 -- what standard output tells behind what the command wrote: its verdict
 abbrev pub output_of : Outcome → List ℕ
@@ -53,11 +61,15 @@ output_of _ = []
 abbrev pub error_of : Outcome → List ℕ
 error_of Done = []
 error_of (Judged verdict) = []
-error_of Usage = codes "usage: cosem-flow demo | cosem-flow run CONFIG | cosem-flow edges CONFIG | cosem-flow label CONFIG\n"
+error_of Usage = codes "usage: cosem-flow demo | cosem-flow run CONFIG | cosem-flow edges CONFIG | cosem-flow label CONFIG | cosem-flow check CONFIG LABELS\n"
 error_of (Unread file) = codes "cosem-flow: " ++ (string_bytes file ++ codes ": can't be read as UTF-8 text\n")
 error_of (Fault (Line number)) = []
 error_of (Fault fault) = codes "cosem-flow: " ++ (fault_words fault ++ codes "\n")
-error_of (Unlisted fault) = codes "cosem-flow: " ++ (lists.fault_words fault ++ codes "\n")
+error_of (Unwritten fault) = codes "cosem-flow: " ++ (lists.fault_words fault ++ codes "\n")
+
+-- how a command ended once its verdict was written: as before; or the verdict, or the rest of it, couldn't be written
+abbrev pub TellsVerdict : Outcome → (before after : Option (List ℕ)) → Outcome → Type 0
+TellsVerdict outcome before after told = ((told ≡ outcome) × WritesText (output_of outcome) before after (Ok tt)) ⊎ ((fault : ListFault) × (told ≡ Unwritten fault) × WritesText (output_of outcome) before after (Err fault))
 
 -- how the lines of an input are answered by the configuration that a text says: its fault is told and nothing is read or written, or the lines run over its plan
 abbrev pub AnswersText : Result ConfigText ConfigFault → Moment → Moment → Outcome → Type 0
@@ -70,7 +82,7 @@ AnswersText said before after _ = ⊥
 abbrev pub Lists : (ConfigText → Result (Unit {0}) ListFault → Type 0) → Result ConfigText ConfigFault → (before after : Option (List ℕ)) → Outcome → Type 0
 Lists Writes said before after (Judged (Config fault)) = Fails fault said × (after ≡ before)
 Lists Writes said before after Done = (c : ConfigText) × (said ≡ Ok c) × Writes c (Ok tt)
-Lists Writes said before after (Unlisted fault) = (c : ConfigText) × (said ≡ Ok c) × Writes c (Err fault)
+Lists Writes said before after (Unwritten fault) = (c : ConfigText) × (said ≡ Ok c) × Writes c (Err fault)
 Lists Writes said before after _ = ⊥
 
 -- its edges, each in a line of its own
@@ -80,3 +92,15 @@ ListsEdges said before after outcome = Lists (λ c. WritesText (edges_text (edge
 -- its least labels, as the text from which they are read
 abbrev pub ListsLabels : Result ConfigText ConfigFault → (before after : Option (List ℕ)) → Outcome → Type 0
 ListsLabels said before after outcome = Lists (λ c. WritesLeast (plan_of c) before after) said before after outcome
+
+-- what a verdict says of the labels that a text holds for a plan and its policy: they are admitted; or the text has this fault; or the first clause that fails is told, and what fails it first
+abbrev pub IsVerdictOn : Plan → Policy → List ℕ → Verdict → Type 0
+IsVerdictOn P policy text Accepted = (labels : theory.Labels) × (labels_of_text P text ≡ Ok labels) × Admits P (labelling_of_policy P policy) labels
+IsVerdictOn P policy text (Labels fault) = label_faults.Fails fault (labels_of_text P text)
+IsVerdictOn P policy text (Refused refused) = (labels : theory.Labels) × (labels_of_text P text ≡ Ok labels) × IsRefusedAs P (labelling_of_policy P policy) labels refused
+IsVerdictOn P policy text (Config fault) = ⊥
+
+-- what a verdict says of a configuration's text and of one of labels: the first has this fault, or it says what the second is judged by
+abbrev pub IsVerdict : Result ConfigText ConfigFault → List ℕ → Verdict → Type 0
+IsVerdict said text (Config fault) = Fails fault said
+IsVerdict said text verdict = (c : ConfigText) × (policy : Policy) × (said ≡ Ok c) × IsPolicyOf c policy × IsVerdictOn (plan_of c) policy text verdict

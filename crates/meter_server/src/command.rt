@@ -14,16 +14,22 @@ pub enum Command<'a> {
     Edges { config: &'a str },
     /// To print the least labels of a configuration.
     Label { config: &'a str },
+    /// To print the verdict on a configuration and on labels for it.
+    Check { config: &'a str, labels: &'a str },
 }
 
-/// What a command line asks for, by its words behind the program's: `demo` alone, or `run`, `edges` or `label` and a path.
-/// None where they are no command.
+/// What a command line asks for, by its words behind the program's: `demo` alone, `run`, `edges` or `label` and a path, or
+/// `check` and two paths. None where they are no command.
 pub fn command_of(words: &[String]) -> Option<Command<'_>>
     ensures { option_map asked_by result ≡ command_in (map string_bytes words.now) }
 {
     match words {
         [word] if word.as_str() == "demo" => Some(Command::Demo),
         [word, config] => command_over(word.as_str(), config.as_str()),
+        [word, config, labels] if word.as_str() == "check" => Some(Command::Check {
+            config: config.as_str(),
+            labels: labels.as_str(),
+        }),
         _ => None,
     }
 }

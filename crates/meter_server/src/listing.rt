@@ -20,7 +20,7 @@ use std::fmt;
 use std::io::Write;
 use value_text::cell::push_cell;
 
-/// Why a list wasn't written whole.
+/// Why a text that a program prints, as a list or a verdict, wasn't written whole.
 #[derive(Clone, Copy, Debug, PartialEq, Eq, Drop)]
 pub enum ListFault {
     /// A write failed, or took no byte.
@@ -37,7 +37,7 @@ impl fmt::Display for ListFault {
 
     fn fmt<W: fmt::Write>(&self, f: &mut fmt::Formatter<W>) -> fmt::Result {
         match self {
-            ListFault::Write => f.write_str("the list can't be written"),
+            ListFault::Write => f.write_str("the output can't be written"),
             ListFault::Memory => f.write_str("out of memory"),
         }
     }

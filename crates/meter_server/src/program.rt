@@ -2,8 +2,9 @@
 ghost use Rattle.std.specs.Prelude.{◌≡◌, IfOk, None, map, string_bytes};
 ghost use Rattle.config_reader.specs.ConfigOf.{config_of};
 ghost use Rattle.meter_server.specs.Command.{command_in};
+ghost use Rattle.meter_server.specs.Listing.{WritesText};
 ghost use Rattle.meter_server.specs.Program as spec;
-ghost use Rattle.meter_server.specs.Program.{AnswersText, ListsEdges, ListsLabels, error_of, output_of, status_of};
+ghost use Rattle.meter_server.specs.Program.{AnswersText, IsVerdict, IsVerdictOn, ListsEdges, ListsLabels, TellsVerdict, error_of, output_of, status_of};
 
 use crate::command::{Command, command_of};
 use crate::listing::{ListFault, write_edges, write_least_labels};
@@ -12,13 +13,17 @@ use crate::verdict::{Verdict, verdict_text};
 use crate::writing::write_whole;
 use config_reader::read_config;
 use cosem_data::memory::Memory;
+use flow_checker::check::check;
+use label_certificate::reading::read_labels;
+use object_model::plan::Plan;
+use object_model::policy::Policy;
 use std::alloc::Global;
 use std::fs;
 use std::io::{Read, Write};
 use std::rt::Files;
 
 const USAGE: &str =
-    "usage: cosem-flow demo | cosem-flow run CONFIG | cosem-flow edges CONFIG | cosem-flow label CONFIG\n";
+    "usage: cosem-flow demo | cosem-flow run CONFIG | cosem-flow edges CONFIG | cosem-flow label CONFIG | cosem-flow check CONFIG LABELS\n";
 
 /// The file of the demo configuration, in the current folder.
 const DEMO: &str = "demo.toml";
@@ -36,8 +41,8 @@ pub enum Outcome {
     Unread(String),
     /// A fault stopped the run of lines.
     Fault(LineFault),
-    /// A fault stopped the list.
-    Unlisted(ListFault),
+    /// Its list or its verdict can't be written whole.
+    Unwritten(ListFault),
 }
 
 impl Outcome {
@@ -49,7 +54,7 @@ impl Outcome {
             Outcome::Done | Outcome::Judged(Verdict::Accepted) => 0,
             Outcome::Judged(_) => 1,
             Outcome::Usage => 2,
-            Outcome::Unread(_) | Outcome::Fault(_) | Outcome::Unlisted(_) => 3,
+            Outcome::Unread(_) | Outcome::Fault(_) | Outcome::Unwritten(_) => 3,
         }
     }
 
@@ -76,7 +81,7 @@ impl Outcome {
                 Ok(format!(in alloc; "cosem-flow: {file}: can't be read as UTF-8 text\n")?)
             }
             Outcome::Fault(fault) => Ok(format!(in alloc; "cosem-flow: {fault}\n")?),
-            Outcome::Unlisted(fault) => Ok(format!(in alloc; "cosem-flow: {fault}\n")?),
+            Outcome::Unwritten(fault) => Ok(format!(in alloc; "cosem-flow: {fault}\n")?),
         }
     }
 }
@@ -97,13 +102,15 @@ pub fn listed(answer: Result<(), ListFault>) -> Outcome
 {
     match answer {
         Ok(()) => Outcome::Done,
-        Err(fault) => Outcome::Unlisted(fault),
+        Err(fault) => Outcome::Unwritten(fault),
     }
 }
 
 /// Does what the words of a command line ask for, and answers the exit status: `demo` and `run CONFIG` answer the step
 /// lines of the input on the output, by the configuration in the file that they name; `edges CONFIG` and `label CONFIG`
-/// print its edges and its least labels there. A verdict stands on the output, any other fault on the error stream.
+/// print its edges and its least labels there; `check CONFIG LABELS` comes to a verdict on it and on the labels in a second
+/// file, which is read only where the configuration has no fault. A verdict stands on the output, any other fault on the
+/// error stream.
 pub fn run_program<H: Files + AllocGlobal, I: Read, O: Write, E: Write>(
     rt: &H,
     words: &[String],
@@ -114,10 +121,10 @@ pub fn run_program<H: Files + AllocGlobal, I: Read, O: Write, E: Write>(
     ensures usage { command_in (map string_bytes words.now) ≡ None → result ≡ 2 }
 {
     let outcome = match command_of(words) {
-        Some(command) => answer(rt, command, input, output),
+        Some(command) => with_verdict(rt.alloc(), answer(rt, command, input, output), output),
         None => Outcome::Usage,
     };
-    tell(rt.alloc(), &outcome, output, errors);
+    tell(rt.alloc(), &outcome, errors);
     outcome.status()
 }
 
@@ -137,6 +144,19 @@ fn answer<H: Files + AllocGlobal, I: Read, O: Write>(
         Command::Demo | Command::Run { .. } => answer_text(rt.alloc(), text, input, output),
         Command::Edges { .. } => list_edges(rt.alloc(), text, output),
         Command::Label { .. } => list_labels(rt.alloc(), text, output),
+        Command::Check { labels, .. } => check_file(rt, text, labels),
+    }
+}
+
+/// The verdict on the configuration that a text is and on the labels in a file, or that the file can't be read.
+fn check_file<H: Files + AllocGlobal>(rt: &H, text: &str, file: &str) -> Outcome {
+    let (plan, policy) = match read_config(rt.alloc(), text) {
+        Ok(made) => made,
+        Err(fault) => return Outcome::Judged(Verdict::Config(fault)),
+    };
+    match read_file(rt, file) {
+        Ok(labels) => Outcome::Judged(judge_labels(rt.alloc(), plan, &policy, labels.as_str())),
+        Err(outcome) => outcome,
     }
 }
 
@@ -145,6 +165,7 @@ fn file_of(command: Command<'_>) -> &str {
     match command {
         Command::Demo => DEMO,
         Command::Run { config } | Command::Edges { config } | Command::Label { config } => config,
+        Command::Check { config, .. } => config,
     }
 }
 
@@ -196,6 +217,32 @@ pub fn list_labels<O: Write>(alloc: Global, text: &str, output: &mut O) -> Outco
     }
 }
 
+/// The verdict on a configuration and on labels for it, both as texts (own profile). The text of the labels is read only where
+/// the configuration has no fault.
+pub fn verdict_of(alloc: Global, config: &str, labels: &str) -> Verdict
+    ensures { IsVerdict (config_of config.now) labels.now result }
+{
+    match read_config(alloc, config) {
+        Ok((plan, policy)) => judge_labels(alloc, plan, &policy, labels),
+        Err(fault) => Verdict::Config(fault),
+    }
+}
+
+/// The verdict on the labels that a text holds for a plan and its policy: the fault of the text, or else whether they are
+/// accepted (own profile).
+pub fn judge_labels(alloc: Global, plan: Plan, policy: &Policy, labels: &str) -> Verdict
+    ensures { IsVerdictOn plan policy.now labels.now result }
+{
+    let labels = match read_labels(alloc, &plan, labels) {
+        Ok(labels) => labels,
+        Err(fault) => return Verdict::Labels(fault),
+    };
+    match check(alloc, plan, policy, &labels) {
+        Ok(_checked) => Verdict::Accepted,
+        Err((refused, _plan)) => Verdict::Refused(refused),
+    }
+}
+
 /// A file that can't be read.
 fn unread(alloc: Global, file: &str) -> Outcome {
     match String::from_str(alloc, file) {
@@ -204,12 +251,34 @@ fn unread(alloc: Global, file: &str) -> Outcome {
     }
 }
 
-/// Tells how a command ended, on the output and on the error stream.
-fn tell<O: Write, E: Write>(alloc: Global, outcome: &Outcome, output: &mut O, errors: &mut E) {
-    let (Ok(text), Ok(error)) = (outcome.output(alloc), outcome.error(alloc)) else {
-        let _ = write_whole(errors, b"cosem-flow: out of memory\n");
-        return;
+/// Writes the verdict that a command came to on the output, if it came to one, and says how the command ended then: as before,
+/// or that its verdict can't be written whole.
+fn with_verdict<O: Write>(alloc: Global, outcome: Outcome, output: &mut O) -> Outcome
+    ensures { TellsVerdict outcome (O.contents output.old) (O.contents output.new) result }
+{
+    match write_verdict(alloc, &outcome, output) {
+        Ok(()) => outcome,
+        Err(fault) => Outcome::Unwritten(fault),
+    }
+}
+
+/// Writes the verdict that a command came to, if it came to one.
+fn write_verdict<O: Write>(
+    alloc: Global,
+    outcome: &Outcome,
+    output: &mut O,
+) -> Result<(), ListFault>
+    ensures { WritesText (output_of outcome.now) (O.contents output.old) (O.contents output.new) result }
+{
+    let text = outcome.output(alloc)?;
+    write_whole(output, text.as_bytes())?;
+    Ok(())
+}
+
+/// Tells on the error stream how a command ended.
+fn tell<E: Write>(alloc: Global, outcome: &Outcome, errors: &mut E) {
+    let _ = match outcome.error(alloc) {
+        Ok(text) => write_whole(errors, text.as_bytes()),
+        Err(_) => write_whole(errors, b"cosem-flow: out of memory\n"),
     };
-    let _ = write_whole(output, text.as_bytes());
-    let _ = write_whole(errors, error.as_bytes());
 }
