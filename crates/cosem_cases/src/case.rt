@@ -1,7 +1,8 @@
 //! One case, or a table of them, against what it must give.
 use crate::command::is_done;
 use crate::copies::{with_copies, with_ends};
-use meter_server::program::{Outcome, answer_text};
+use meter_server::program::{Outcome, answer_text, verdict_of};
+use meter_server::verdict::verdict_text;
 use std::alloc::Global;
 use std::fs;
 
@@ -10,6 +11,8 @@ use std::fs;
 enum Table {
     /// Edits of the configuration, and their verdicts.
     Edits,
+    /// Edits of the configuration and of labels for it, and their verdicts.
+    Labels,
     /// Lines that are not readable.
     Unreadable,
 }
@@ -19,6 +22,7 @@ impl Table {
     fn read(word: &str) -> Option<Table> {
         match word {
             "edits" => Some(Table::Edits),
+            "labels" => Some(Table::Labels),
             "unreadable" => Some(Table::Unreadable),
             _ => None,
         }
@@ -28,14 +32,16 @@ impl Table {
     fn folder(self) -> &'static str {
         match self {
             Table::Edits => "edits",
+            Table::Labels => "labels",
             Table::Unreadable => "unreadable",
         }
     }
 
-    /// Whether a row is as expected over the configuration.
-    fn is_well(self, alloc: Global, text: &str, row: &str) -> Option<bool> {
+    /// Whether a row is as expected over the configuration, and over its labels, where there are some.
+    fn is_well(self, alloc: Global, text: &str, labels: &str, row: &str) -> Option<bool> {
         match self {
             Table::Edits => is_judged(alloc, text, row),
+            Table::Labels => is_checked(alloc, text, labels, row),
             Table::Unreadable => is_unreadable(alloc, text, row),
         }
     }
@@ -99,13 +105,14 @@ impl Tally {
     ) -> Option<()> {
         let table = table?;
         let text = read_configuration(rt, configuration)?;
+        let labels = read_labels(rt, configuration)?;
         let folder = table.folder();
         let path = format!(in rt.alloc(); "{folder}/{name}").ok()?;
         let rows = fs::read_to_string(rt, path.as_str()).ok()?;
         for row in rows.as_str().split('\n') {
             if !row.is_empty() && !row.starts_with('#') {
-                let is_well = table.is_well(rt.alloc(), text.as_str(), row) == Some(true);
-                self.tell(rt, is_well, row);
+                let is_well = table.is_well(rt.alloc(), text.as_str(), labels.as_str(), row);
+                self.tell(rt, is_well == Some(true), row);
             }
         }
         Some(())
@@ -118,25 +125,62 @@ fn read_configuration(rt: &HostRuntime, name: &str) -> Option<String> {
     fs::read_to_string(rt, path.as_str()).ok()
 }
 
+/// The text of the labels of a configuration; of one that has none it is empty.
+fn read_labels(rt: &HostRuntime, name: &str) -> Option<String> {
+    let path = format!(in rt.alloc(); "{name}.labels").ok()?;
+    match fs::read_to_string(rt, path.as_str()) {
+        Ok(text) => Some(text),
+        Err(_) => Some(String::new(rt.alloc())),
+    }
+}
+
 /// Whether the configuration has the verdict of the row with the row's edit.
 fn is_judged(alloc: Global, text: &str, row: &str) -> Option<bool> {
     let mut parts = row.split(" => ");
-    let old = with_ends(alloc, parts.next()?)?;
-    let new = with_copies(alloc, with_ends(alloc, parts.next()?)?.as_str())?;
+    let edited = with_edit(alloc, text, parts.next()?, parts.next()?)?;
     let wanted = parts.next()?;
     if parts.next().is_some() {
         return None;
     }
+    Some(fault_of(alloc, edited.as_str())?.as_str() == wanted)
+}
+
+/// The text with an edit: what is new in place of what is old, which it has once.
+fn with_edit(alloc: Global, text: &str, old: &str, new: &str) -> Option<String> {
+    let old = with_ends(alloc, old)?;
+    let new = with_copies(alloc, with_ends(alloc, new)?.as_str())?;
     let (before, after) = text.split_once(old.as_str())?;
     if after.contains(old.as_str()) {
         return None;
     }
-    let edited = format!(in alloc; "{before}{new}{after}").ok()?;
-    Some(verdict_of(alloc, edited.as_str())?.as_str() == wanted)
+    format!(in alloc; "{before}{new}{after}").ok()
+}
+
+/// Whether the configuration and its labels have the verdict of the row with the row's edits.
+fn is_checked(alloc: Global, text: &str, labels: &str, row: &str) -> Option<bool> {
+    let mut config = String::from_str(alloc, text).ok()?;
+    let mut labels = String::from_str(alloc, labels).ok()?;
+    let mut held = None;
+    for part in row.split(" => ") {
+        held = match held {
+            None => Some(part),
+            Some(old) => {
+                match old.split_once(" ")? {
+                    ("config", old) => config = with_edit(alloc, config.as_str(), old, part)?,
+                    ("labels", old) => labels = with_edit(alloc, labels.as_str(), old, part)?,
+                    _ => return None,
+                }
+                None
+            }
+        };
+    }
+    let verdict = verdict_of(alloc, config.as_str(), labels.as_str());
+    let line = verdict_text(alloc, &verdict).ok()?;
+    Some(line.as_str().trim_end() == held?)
 }
 
 /// The verdict on a configuration in words, or `no fault`.
-fn verdict_of(alloc: Global, text: &str) -> Option<String> {
+fn fault_of(alloc: Global, text: &str) -> Option<String> {
     let outcome = answer_text(alloc, text, &mut b"".as_slice(), &mut Vec::new(alloc));
     match outcome {
         Outcome::Done => String::from_str(alloc, "no fault").ok(),

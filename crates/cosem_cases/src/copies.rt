@@ -33,7 +33,8 @@ fn push_copies(alloc: Global, whole: &mut String, count: u32, item: &str) -> Opt
     Some(())
 }
 
-/// The text with `\n` as the end of a line.
+/// The text with `\n` as the end of a line, and `\r` as the byte that some put before it.
 pub(crate) fn with_ends(alloc: Global, text: &str) -> Option<String> {
-    text.replace(alloc, "\\n", "\n").ok()
+    let ended = text.replace(alloc, "\\n", "\n").ok()?;
+    ended.replace(alloc, "\\r", "\r").ok()
 }

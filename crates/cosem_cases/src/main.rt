@@ -8,6 +8,9 @@
 //!   the configuration's verdict.
 //! - `edits CONFIGURATION NAME`: each row `OLD => NEW => VERDICT` of `edits/NAME` is a case. With NEW in place of OLD, which
 //!   it has once, the configuration has this verdict, or `no fault`.
+//! - `labels CONFIGURATION NAME`: each row `EDIT => NEW => .. => VERDICT` of `labels/NAME` is a case, where EDIT is `config OLD` or
+//!   `labels OLD`. With each NEW in place of its OLD, which stands there once, the configuration and the labels
+//!   `CONFIGURATION.labels` have this verdict.
 //! - `unreadable CONFIGURATION NAME`: each row of `unreadable/NAME` is a case: the line, alone, is told by
 //!   `line 1: unreadable` and ends the run.
 //! - `command NAME STATUS`: the program with the words of `commands/NAME.words`, one a line, and the input `NAME.in` ends
@@ -15,7 +18,8 @@
 //!   empty.
 //!
 //! Each case goes through the calls that the commands of `cosem-flow` make. In lines and in NEW `<<N*TEXT>>` stands for N
-//! copies of the text, with numbers in place of `&$` (`copies`); in OLD and NEW `\n` stands for the end of a line.
+//! copies of the text, with numbers in place of `&$` (`copies`); in OLD and NEW `\n` stands for the end of a line,
+//! and `\r` for the byte that some put before it.
 //!
 //! Each case that falls short is told by its name. Exit status: 0 where all cases are as expected, else 1.
 #![tactic(auto)]

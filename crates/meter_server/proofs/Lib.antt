@@ -5,3 +5,4 @@ pub mod Breaking
 pub mod Taking
 pub mod Alone
 pub mod Exact
+pub mod Listed

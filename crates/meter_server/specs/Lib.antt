@@ -9,5 +9,7 @@ pub mod Feeding
 pub mod Pieces
 pub mod Solo
 pub mod Verdicts
+pub mod Listing
+pub mod Command
 pub mod Faults
 pub mod Program

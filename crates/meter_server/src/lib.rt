@@ -3,10 +3,13 @@
 #![tactic(auto)]
 
 mod answering;
+pub mod command;
 mod driving;
+pub mod edge;
 pub mod feeding;
 mod line;
 pub mod lines;
+pub mod listing;
 pub mod program;
 pub mod running;
 mod text;

@@ -1,21 +1,29 @@
-//! What the program does with its words: which file it reads, what it tells and where, and its exit status (own profile).
-ghost use Rattle.std.specs.Prelude.{◌≡◌, IfOk, None, map, option_map, string_bytes};
+//! What the program does with its words: which files it reads, what it tells and where, and its exit status (own profile).
+ghost use Rattle.std.specs.Prelude.{◌≡◌, IfOk, None, map, string_bytes};
 ghost use Rattle.config_reader.specs.ConfigOf.{config_of};
+ghost use Rattle.meter_server.specs.Command.{command_in};
+ghost use Rattle.meter_server.specs.Listing.{WritesText};
 ghost use Rattle.meter_server.specs.Program as spec;
-ghost use Rattle.meter_server.specs.Program.{AnswersText, error_of, file_named, output_of, status_of};
+ghost use Rattle.meter_server.specs.Program.{AnswersText, IsVerdict, IsVerdictOn, ListsEdges, ListsLabels, TellsVerdict, error_of, output_of, status_of};
 
+use crate::command::{Command, command_of};
+use crate::listing::{ListFault, write_edges, write_least_labels};
 use crate::running::{LineFault, run_lines};
-use crate::verdict::{Verdict, fault_line};
+use crate::verdict::{Verdict, verdict_text};
 use crate::writing::write_whole;
 use config_reader::read_config;
-use config_text::fault::ConfigFault;
 use cosem_data::memory::Memory;
+use flow_checker::check::check;
+use label_certificate::reading::read_labels;
+use object_model::plan::Plan;
+use object_model::policy::Policy;
 use std::alloc::Global;
 use std::fs;
 use std::io::{Read, Write};
 use std::rt::Files;
 
-const USAGE: &str = "usage: cosem-flow demo | cosem-flow run CONFIG\n";
+const USAGE: &str =
+    "usage: cosem-flow demo | cosem-flow run CONFIG | cosem-flow edges CONFIG | cosem-flow label CONFIG | cosem-flow check CONFIG LABELS\n";
 
 /// The file of the demo configuration, in the current folder.
 const DEMO: &str = "demo.toml";
@@ -25,35 +33,37 @@ const DEMO: &str = "demo.toml";
 pub enum Outcome {
     /// It did what it was asked to do.
     Done,
-    /// The configuration has a fault.
-    Refused(ConfigFault),
+    /// It came to this verdict.
+    Judged(Verdict),
     /// The command line can't be used.
     Usage,
     /// The file with this path can't be read, or isn't UTF-8.
     Unread(String),
-    /// A fault stopped it.
+    /// A fault stopped the run of lines.
     Fault(LineFault),
+    /// Its list or its verdict can't be written whole.
+    Unwritten(ListFault),
 }
 
 impl Outcome {
-    /// The exit status: 0 done, 1 a configuration refused, 2 a command line that can't be used, 3 any other fault.
+    /// The exit status: 0 done or accepted, 1 a verdict that refuses, 2 a command line that can't be used, 3 any other fault.
     pub fn status(&self) -> u8
         ensures { result ≡ status_of self.now }
     {
         match self {
-            Outcome::Done => 0,
-            Outcome::Refused(_) => 1,
+            Outcome::Done | Outcome::Judged(Verdict::Accepted) => 0,
+            Outcome::Judged(_) => 1,
             Outcome::Usage => 2,
-            Outcome::Unread(_) | Outcome::Fault(_) => 3,
+            Outcome::Unread(_) | Outcome::Fault(_) | Outcome::Unwritten(_) => 3,
         }
     }
 
-    /// What is told on standard output behind the replies: the verdict on a configuration that was refused.
+    /// What is told on standard output behind what the command wrote: its verdict.
     pub fn output(&self, alloc: Global) -> Result<String, Memory>
         ensures { IfOk result (λ text. string_bytes text ≡ output_of self.now) }
     {
         match self {
-            Outcome::Refused(fault) => fault_line(alloc, fault),
+            Outcome::Judged(verdict) => verdict_text(alloc, verdict),
             _ => Ok(String::new(alloc)),
         }
     }
@@ -63,7 +73,7 @@ impl Outcome {
         ensures { IfOk result (λ text. string_bytes text ≡ error_of self.now) }
     {
         match self {
-            Outcome::Done | Outcome::Refused(_) | Outcome::Fault(LineFault::Line(_)) => {
+            Outcome::Done | Outcome::Judged(_) | Outcome::Fault(LineFault::Line(_)) => {
                 Ok(String::new(alloc))
             }
             Outcome::Usage => Ok(String::from_str(alloc, USAGE)?),
@@ -71,19 +81,8 @@ impl Outcome {
                 Ok(format!(in alloc; "cosem-flow: {file}: can't be read as UTF-8 text\n")?)
             }
             Outcome::Fault(fault) => Ok(format!(in alloc; "cosem-flow: {fault}\n")?),
+            Outcome::Unwritten(fault) => Ok(format!(in alloc; "cosem-flow: {fault}\n")?),
         }
-    }
-}
-
-/// The file of the configuration that a command line names, by its words behind the program's: `demo` alone, or `run` and a
-/// path. None where they are no command.
-pub fn file_of(words: &[String]) -> Option<&str>
-    ensures { option_map (λ file. file.now) result ≡ file_named (map string_bytes words.now) }
-{
-    match words {
-        [word] if word.as_str() == "demo" => Some(DEMO),
-        [word, file] if word.as_str() == "run" => Some(file.as_str()),
-        _ => None,
     }
 }
 
@@ -97,9 +96,21 @@ pub fn outcome_of(answer: Result<u64, LineFault>) -> Outcome
     }
 }
 
+/// How a command ended whose list was written so.
+pub fn listed(answer: Result<(), ListFault>) -> Outcome
+    ensures { result ≡ spec.listed answer }
+{
+    match answer {
+        Ok(()) => Outcome::Done,
+        Err(fault) => Outcome::Unwritten(fault),
+    }
+}
+
 /// Does what the words of a command line ask for, and answers the exit status: `demo` and `run CONFIG` answer the step
-/// lines of the input on the output, by the configuration in the file that they name. A verdict stands on the output, any
-/// other fault on the error stream.
+/// lines of the input on the output, by the configuration in the file that they name; `edges CONFIG` and `label CONFIG`
+/// print its edges and its least labels there; `check CONFIG LABELS` comes to a verdict on it and on the labels in a second
+/// file, which is read only where the configuration has no fault. A verdict stands on the output, any other fault on the
+/// error stream.
 pub fn run_program<H: Files + AllocGlobal, I: Read, O: Write, E: Write>(
     rt: &H,
     words: &[String],
@@ -107,31 +118,67 @@ pub fn run_program<H: Files + AllocGlobal, I: Read, O: Write, E: Write>(
     output: &mut O,
     errors: &mut E,
 ) -> u8
-    ensures usage { file_named (map string_bytes words.now) ≡ None → result ≡ 2 }
+    ensures usage { command_in (map string_bytes words.now) ≡ None → result ≡ 2 }
 {
-    let outcome = match file_of(words) {
-        Some(file) => answer_file(rt, file, input, output),
+    let outcome = match command_of(words) {
+        Some(command) => with_verdict(rt.alloc(), answer(rt, command, input, output), output),
         None => Outcome::Usage,
     };
-    tell(rt.alloc(), &outcome, output, errors);
+    tell(rt.alloc(), &outcome, errors);
     outcome.status()
 }
 
-/// Answers the lines of the input by the configuration in a file.
-fn answer_file<H: Files + AllocGlobal, I: Read, O: Write>(
+/// Does what a command asks for.
+fn answer<H: Files + AllocGlobal, I: Read, O: Write>(
     rt: &H,
-    file: &str,
+    command: Command<'_>,
     input: &mut I,
     output: &mut O,
 ) -> Outcome {
+    let text = match read_file(rt, file_of(command)) {
+        Ok(text) => text,
+        Err(outcome) => return outcome,
+    };
+    let text = text.as_str();
+    match command {
+        Command::Demo | Command::Run { .. } => answer_text(rt.alloc(), text, input, output),
+        Command::Edges { .. } => list_edges(rt.alloc(), text, output),
+        Command::Label { .. } => list_labels(rt.alloc(), text, output),
+        Command::Check { labels, .. } => check_file(rt, text, labels),
+    }
+}
+
+/// The verdict on the configuration that a text is and on the labels in a file, or that the file can't be read.
+fn check_file<H: Files + AllocGlobal>(rt: &H, text: &str, file: &str) -> Outcome {
+    let (plan, policy) = match read_config(rt.alloc(), text) {
+        Ok(made) => made,
+        Err(fault) => return Outcome::Judged(Verdict::Config(fault)),
+    };
+    match read_file(rt, file) {
+        Ok(labels) => Outcome::Judged(judge_labels(rt.alloc(), plan, &policy, labels.as_str())),
+        Err(outcome) => outcome,
+    }
+}
+
+/// The file of the configuration that a command is over.
+fn file_of(command: Command<'_>) -> &str {
+    match command {
+        Command::Demo => DEMO,
+        Command::Run { config } | Command::Edges { config } | Command::Label { config } => config,
+        Command::Check { config, .. } => config,
+    }
+}
+
+/// The text of a file, or that it can't be read.
+fn read_file<H: Files + AllocGlobal>(rt: &H, file: &str) -> Result<String, Outcome> {
     match fs::read_to_string(rt, file) {
-        Ok(text) => answer_text(rt.alloc(), text.as_str(), input, output),
-        Err(_) => unread(rt.alloc(), file),
+        Ok(text) => Ok(text),
+        Err(_) => Err(unread(rt.alloc(), file)),
     }
 }
 
 /// Answers the lines of the input by the configuration that a text is, on the output, and says how that ended: `Done`, a
-/// fault of the run, or `Refused` where the configuration has a fault or memory was refused while it was read; then nothing
+/// fault of the run, or the verdict where the configuration has a fault or memory was refused while it was read; then nothing
 /// was read of the input, and nothing written.
 pub fn answer_text<I: Read, O: Write>(
     alloc: Global,
@@ -145,7 +192,54 @@ pub fn answer_text<I: Read, O: Write>(
 {
     match read_config(alloc, text) {
         Ok((plan, _policy)) => outcome_of(run_lines(alloc, &plan, input, output)),
-        Err(fault) => Outcome::Refused(fault),
+        Err(fault) => Outcome::Judged(Verdict::Config(fault)),
+    }
+}
+
+/// Writes the edges of the configuration that a text is on the output, and says how that ended: `Done`, a fault of the list,
+/// or the verdict where the configuration has a fault or memory was refused while it was read; then nothing was written.
+pub fn list_edges<O: Write>(alloc: Global, text: &str, output: &mut O) -> Outcome
+    ensures { ListsEdges (config_of text.now) (O.contents output.old) (O.contents output.new) result }
+{
+    match read_config(alloc, text) {
+        Ok((plan, _policy)) => listed(write_edges(alloc, &plan, output)),
+        Err(fault) => Outcome::Judged(Verdict::Config(fault)),
+    }
+}
+
+/// Writes the least labels of the configuration that a text is on the output, and says how that ended, as `list_edges` does.
+pub fn list_labels<O: Write>(alloc: Global, text: &str, output: &mut O) -> Outcome
+    ensures { ListsLabels (config_of text.now) (O.contents output.old) (O.contents output.new) result }
+{
+    match read_config(alloc, text) {
+        Ok((plan, _policy)) => listed(write_least_labels(alloc, &plan, output)),
+        Err(fault) => Outcome::Judged(Verdict::Config(fault)),
+    }
+}
+
+/// The verdict on a configuration and on labels for it, both as texts (own profile). The text of the labels is read only where
+/// the configuration has no fault.
+pub fn verdict_of(alloc: Global, config: &str, labels: &str) -> Verdict
+    ensures { IsVerdict (config_of config.now) labels.now result }
+{
+    match read_config(alloc, config) {
+        Ok((plan, policy)) => judge_labels(alloc, plan, &policy, labels),
+        Err(fault) => Verdict::Config(fault),
+    }
+}
+
+/// The verdict on the labels that a text holds for a plan and its policy: the fault of the text, or else whether they are
+/// accepted (own profile).
+pub fn judge_labels(alloc: Global, plan: Plan, policy: &Policy, labels: &str) -> Verdict
+    ensures { IsVerdictOn plan policy.now labels.now result }
+{
+    let labels = match read_labels(alloc, &plan, labels) {
+        Ok(labels) => labels,
+        Err(fault) => return Verdict::Labels(fault),
+    };
+    match check(alloc, plan, policy, &labels) {
+        Ok(_checked) => Verdict::Accepted,
+        Err((refused, _plan)) => Verdict::Refused(refused),
     }
 }
 
@@ -157,12 +251,34 @@ fn unread(alloc: Global, file: &str) -> Outcome {
     }
 }
 
-/// Tells how a command ended, on the output and on the error stream.
-fn tell<O: Write, E: Write>(alloc: Global, outcome: &Outcome, output: &mut O, errors: &mut E) {
-    let (Ok(text), Ok(error)) = (outcome.output(alloc), outcome.error(alloc)) else {
-        let _ = write_whole(errors, b"cosem-flow: out of memory\n");
-        return;
+/// Writes the verdict that a command came to on the output, if it came to one, and says how the command ended then: as before,
+/// or that its verdict can't be written whole.
+fn with_verdict<O: Write>(alloc: Global, outcome: Outcome, output: &mut O) -> Outcome
+    ensures { TellsVerdict outcome (O.contents output.old) (O.contents output.new) result }
+{
+    match write_verdict(alloc, &outcome, output) {
+        Ok(()) => outcome,
+        Err(fault) => Outcome::Unwritten(fault),
+    }
+}
+
+/// Writes the verdict that a command came to, if it came to one.
+fn write_verdict<O: Write>(
+    alloc: Global,
+    outcome: &Outcome,
+    output: &mut O,
+) -> Result<(), ListFault>
+    ensures { WritesText (output_of outcome.now) (O.contents output.old) (O.contents output.new) result }
+{
+    let text = outcome.output(alloc)?;
+    write_whole(output, text.as_bytes())?;
+    Ok(())
+}
+
+/// Tells on the error stream how a command ended.
+fn tell<E: Write>(alloc: Global, outcome: &Outcome, errors: &mut E) {
+    let _ = match outcome.error(alloc) {
+        Ok(text) => write_whole(errors, text.as_bytes()),
+        Err(_) => write_whole(errors, b"cosem-flow: out of memory\n"),
     };
-    let _ = write_whole(output, text.as_bytes());
-    let _ = write_whole(errors, error.as_bytes());
 }

@@ -1,0 +1,73 @@
+//! Cells and edges as they are printed (own profile).
+ghost use Rattle.std.specs.Prelude.{◌≡◌, IfOk, string_bytes};
+ghost use Rattle.meter_server.specs.Listing as spec;
+ghost use Rattle.meter_server.specs.Listing.{cause_word};
+
+use cosem_data::cell::CellRef;
+use cosem_data::memory::Memory;
+use meter_theory::flow::{Cause, Edge};
+use std::alloc::Global;
+use std::fmt;
+
+/// A cell as it is printed: `class_id/logical name/attribute`, with `seen` for the inner cell of a register monitor.
+#[derive(Drop)]
+pub(crate) struct CellText(pub(crate) CellRef);
+
+impl fmt::Display for CellText {
+    ghost use Rattle.std.specs.Prelude.{Some};
+    ghost use Rattle.value_text.specs.Texts.{cell_text};
+
+    ghost output = { λ cell. Some (cell_text cell.0) };
+
+    fn fmt<W: fmt::Write>(&self, f: &mut fmt::Formatter<W>) -> fmt::Result {
+        let CellRef {
+            class_id,
+            name,
+            index,
+        } = self.0;
+        if index == 0 {
+            write!(f, "{class_id}/{name}/seen")
+        } else {
+            write!(f, "{class_id}/{name}/{index}")
+        }
+    }
+}
+
+/// An edge as it is printed: `CELL -> CELL CAUSE`.
+#[derive(Drop)]
+pub(crate) struct EdgeText(pub(crate) Edge);
+
+impl fmt::Display for EdgeText {
+    ghost use Rattle.std.specs.Prelude.{Some};
+    ghost use Rattle.meter_server.specs.Listing.{edge_text};
+
+    ghost output = { λ edge. Some (edge_text edge.0) };
+
+    fn fmt<W: fmt::Write>(&self, f: &mut fmt::Formatter<W>) -> fmt::Result {
+        let source = CellText(self.0.source);
+        let target = CellText(self.0.target);
+        let cause = word_of(self.0.cause);
+        write!(f, "{source} -> {target} {cause}")
+    }
+}
+
+/// The text of an edge, `CELL -> CELL CAUSE`, without the end of its line (own profile).
+pub fn edge_text(alloc: Global, edge: &Edge) -> Result<String, Memory>
+    ensures { IfOk result (λ text. string_bytes text ≡ spec.edge_text edge.now) }
+{
+    let edge = EdgeText(*edge);
+    Ok(format!(in alloc; "{edge}")?)
+}
+
+/// The word of a cause.
+pub(crate) fn word_of(cause: Cause) -> &'static str
+    ensures { result.now ≡ cause_word cause }
+{
+    match cause {
+        Cause::Monitored => "monitored",
+        Cause::Monitor => "monitor",
+        Cause::Captured => "captured",
+        Cause::Period => "period",
+        Cause::Schedule => "schedule",
+    }
+}
