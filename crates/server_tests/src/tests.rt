@@ -1,4 +1,6 @@
+mod edges;
 mod faults;
+mod labels;
 mod lines;
 mod plans;
 mod refusals;

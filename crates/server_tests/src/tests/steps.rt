@@ -19,10 +19,10 @@ pub const PROFILE: LogicalName = LogicalName([1, 0, 99, 1, 0, 255]);
 pub const TABLE: LogicalName = LogicalName([0, 0, 10, 0, 100, 255]);
 
 /// Alarm monitor 0, a register monitor.
-const MONITOR: LogicalName = LogicalName([0, 0, 16, 1, 0, 255]);
+pub const MONITOR: LogicalName = LogicalName([0, 0, 16, 1, 0, 255]);
 
 /// The schedule of the second script.
-const SCHEDULE: LogicalName = LogicalName([0, 0, 15, 0, 0, 255]);
+pub const SCHEDULE: LogicalName = LogicalName([0, 0, 15, 0, 0, 255]);
 
 /// The place of the only client.
 const MANAGER: u8 = 0;
