@@ -4,10 +4,10 @@
     bench/check.py
 
 A configuration has 16 clients with rights on every object, profiles and registers, and register monitors whose scripts change
-them all, so that the largest, of 512 objects, has about 250,000 edges. From each command's time that of a run by a configuration
-without objects is taken away, and for `label` and `check` also nothing else: they read the same text, whose reading is told
-apart. The copy is a program of this machine's C compiler that writes the same bytes by writes of 64 KiB. Run
-`./cosem-flow demo < /dev/null` first, which builds the program.
+them all, so that the largest, of 512 objects, has about 250,000 edges. The time to read the text is told apart: it is that of a
+run without lines less that by a configuration without objects, and both are taken away from each command's time. The copy is a
+program of this machine's C compiler that copies the file of edges by writes of 64 KiB, without the time in which a program begins.
+Run `./cosem-flow demo < /dev/null` first, which builds the program.
 """
 import os
 import subprocess
@@ -26,7 +26,7 @@ COPY = """
 #include <unistd.h>
 static char bytes[65536];
 int main(int words, char **word) {
-    int from = open(word[1], O_RDONLY), to = open(word[2], O_WRONLY);
+    int from = open(word[1], O_RDONLY), to = open(word[2], O_WRONLY | O_TRUNC);
     ssize_t count;
     while ((count = read(from, bytes, sizeof bytes)) > 0)
         if (write(to, bytes, count) != count) return 1;
@@ -157,12 +157,14 @@ def main():
         bare = written(folder, "bare.toml", config(0))
         out = os.path.join(folder, "out")
         begun, _ = timed([PROGRAM, "edges", bare], out)
+        empty = written(folder, "empty", "")
+        begun_copy, _ = timed([copy, empty, out], os.path.join(folder, "nothing"))
         for objects in (64, 128, 256, 512):
             text = written(folder, f"{objects}.toml", config(objects))
             read = timed([PROGRAM, "run", text], out)[0] - begun
             edges = os.path.join(folder, "edges")
             listed, edges_memory = timed([PROGRAM, "edges", text], edges)
-            copied, _ = timed([copy, edges, "/dev/null"], out)
+            copied = timed([copy, edges, out], os.path.join(folder, "nothing"))[0] - begun_copy
             labels = os.path.join(folder, "labels")
             labelled, label_memory = timed([PROGRAM, "label", text], labels)
             checked, check_memory = timed([PROGRAM, "check", text, labels], out)
