@@ -1,4 +1,5 @@
 pub mod Steps
+pub mod CauseBits
 pub mod Marks
 pub mod Gathered
 pub mod Adding

@@ -1,5 +1,5 @@
 -- The marks tell which edges were found.
-use Rattle.std.proofs.Common.{◌≡◌, ◌≢◌, ◌<◌, ◌≤◌, ◌+◌, ◌*◌, ℕ, suc, Bool, true, false, List, [], ◌∷◌, ◌++◌, map, length, get_or, set, refl, sym, ap, ap₂, subst, ◌∙◌, arith}
+use Rattle.std.proofs.Common.{◌≡◌, ◌≢◌, ◌<◌, ◌≤◌, ◌+◌, ◌*◌, ◌⊎◌, ℕ, suc, Bool, true, false, List, [], ◌∷◌, ◌++◌, map, length, get_or, set, refl, sym, ap, ap₂, subst, ◌∙◌, arith, inl, inr}
 use Rattle.std.specs.Prelude.{◌||◌, ◌&&◌, ◌/◌}
 use Rattle.std.specs.List.{list_any}
 use Rattle.std.proofs.Math.Nat.{mul-le-mul_right}
@@ -13,10 +13,21 @@ use Rattle.cosem_data.proofs.Same.{same_cell-refl}
 use Rattle.meter_theory.specs.Edges.{same_cause, same_edge}
 use Rattle.flow_edges.specs.declared.table.Link.{Link}
 use Rattle.meter_theory.specs.declared.flow.Cause.{Cause}
-use Rattle.meter_theory.specs.declared.flow.Cause.TheVariants as causes
-use Rattle.flow_edges.specs.Table.{cell_at, cause_number, edge_at, place_of, AreCells, AreWithin, CellEdges, IsLink, IsMarked}
+use Rattle.flow_edges.specs.Causes.{has_cause}
+use Rattle.flow_edges.specs.declared.causes.Causes.{Causes}
+use Rattle.flow_edges.specs.Table.{cell_at, edge_at, place_of, AreCells, AreWithin, CellEdges, IsLink, IsMarked}
 use Rattle.flow_edges.specs.Gather.{add_edge}
 use Rattle.flow_edges.proofs.Gathered.{joined}
+
+same_or_not : (m n : ℕ) → (m ≡ n) ⊎ (m ≢ n)
+same_or_not m n = grind arith
+
+abbrev none : Causes
+none = record { mask = 0 }
+
+-- the mark at this place
+abbrev pub mark_at : List Causes → ℕ → Causes
+mark_at marks p = get_or marks p none
 
 -- a number in base n is its digits
 digits : (n a b s t : ℕ) → s < n → t < n → a * n + s ≡ b * n + t → (a ≡ b) × (s ≡ t)
@@ -25,63 +36,34 @@ digits n a b s t p q e =
     let same : a * n ≡ b * n = ap (λ z. z * n) left in
     (left, omega arith)
 
--- causes with one number are one, and one cause has one number
-same_number-same : (a b : Cause) → cause_number a ≡ cause_number b → same_cause a b ≡ true
-same_number-same causes.Monitored causes.Monitored e = refl
-same_number-same causes.Monitor causes.Monitor e = refl
-same_number-same causes.Captured causes.Captured e = refl
-same_number-same causes.Period causes.Period e = refl
-same_number-same causes.Schedule causes.Schedule e = refl
-same_number-same _ _ e = absurd (omega (arith, e))
+-- the place of a pair is within the table
+pub place_within : (n s t : ℕ) → s < n → t < n → s * n + t < n * n
+place_within n s t q r =
+    let row : suc s ≤ n = omega arith in
+    omega (arith, mul-le-mul_right n row)
 
-same-same_number : (a b : Cause) → same_cause a b ≡ true → cause_number a ≡ cause_number b
-same-same_number causes.Monitored causes.Monitored e = refl
-same-same_number causes.Monitor causes.Monitor e = refl
-same-same_number causes.Captured causes.Captured e = refl
-same-same_number causes.Period causes.Period e = refl
-same-same_number causes.Schedule causes.Schedule e = refl
-same-same_number _ _ e = cc
+both-true : (a b c : Bool) → b ≡ true → c ≡ true → (a && (b && c)) ≡ a
+both-true true true true x y = refl
+both-true false true true x y = refl
+both-true _ _ false x y = cc
+both-true _ false _ x y = cc
 
-pub cause_below : (c : Cause) → cause_number c < 5
-cause_below causes.Monitored = omega arith
-cause_below causes.Monitor = omega arith
-cause_below causes.Captured = omega arith
-cause_below causes.Period = omega arith
-cause_below causes.Schedule = omega arith
+-- links at one place have one edge, if they have one cause
+one_place : (cells : List CellRef) (k l : Link) → IsLink cells k → IsLink cells l → place_of (length cells) k ≡ place_of (length cells) l → same_edge (edge_at cells k) (edge_at cells l) ≡ same_cause k.cause l.cause
+one_place cells k l p q e =
+    let ends = digits (length cells) k.source l.source k.target l.target p.1 q.1 e in
+    both-true (same_cause k.cause l.cause) (same_cell (cell_at cells k.source) (cell_at cells l.source)) (same_cell (cell_at cells k.target) (cell_at cells l.target))
+    (subst (λ z. same_cell (cell_at cells k.source) (cell_at cells z) ≡ true) ends.0 (same_cell-refl (cell_at cells k.source)))
+    (subst (λ z. same_cell (cell_at cells k.target) (cell_at cells z) ≡ true) ends.1 (same_cell-refl (cell_at cells k.target)))
 
--- the place of a link is within the table
-pub place_within : (n c s t : ℕ) → c < 5 → s < n → t < n → (c * n + s) * n + t < 5 * (n * n)
-place_within n c s t p q r =
-    let row : c * n + n ≤ 5 * n = let up : suc c ≤ 5 = omega arith in omega (arith, mul-le-mul_right n up) in
-    let rows : suc (c * n + s) ≤ 5 * n = omega arith in
-    omega (arith, mul-le-mul_right n rows)
-
-module _ (cells : List CellRef) (apart : AreCells cells) where
-  -- links at one place have one edge
-  one_place : (k l : Link) → IsLink cells k → IsLink cells l → place_of (length cells) k ≡ place_of (length cells) l → same_edge (edge_at cells k) (edge_at cells l) ≡ true
-  one_place k l p q e =
-      let n = length cells in
-      let outer = digits n (cause_number k.cause * n + k.source) (cause_number l.cause * n + l.source) k.target l.target p.1 q.1 e in
-      let inner = digits n (cause_number k.cause) (cause_number l.cause) k.source l.source p.0 q.0 outer.0 in
-      both (same_cause k.cause l.cause) (same_cell (cell_at cells k.source) (cell_at cells l.source)) (same_cell (cell_at cells k.target) (cell_at cells l.target))
-      (same_number-same k.cause l.cause inner.0)
-      (subst (λ z. same_cell (cell_at cells k.source) (cell_at cells z) ≡ true) inner.1 (same_cell-refl (cell_at cells k.source)))
-      (subst (λ z. same_cell (cell_at cells k.target) (cell_at cells z) ≡ true) outer.1 (same_cell-refl (cell_at cells k.target)))
-    where
-      both : (a b c : Bool) → a ≡ true → b ≡ true → c ≡ true → (a && (b && c)) ≡ true
-      both true true true x y z = refl
-      both _ _ _ x y z = cc
-
-  -- and links with one edge have one place
-  one_edge : (k l : Link) → IsLink cells k → IsLink cells l → same_edge (edge_at cells k) (edge_at cells l) ≡ true → place_of (length cells) k ≡ place_of (length cells) l
-  one_edge k l p q h =
-      let n = length cells in
-      let a = and_parts (same_cause k.cause l.cause) (same_cell (cell_at cells k.source) (cell_at cells l.source) && same_cell (cell_at cells k.target) (cell_at cells l.target)) h in
-      let b = and_parts (same_cell (cell_at cells k.source) (cell_at cells l.source)) (same_cell (cell_at cells k.target) (cell_at cells l.target)) a.1 in
-      let c : cause_number k.cause ≡ cause_number l.cause = same-same_number k.cause l.cause a.0 in
-      let s : k.source ≡ l.source = apart.apart k.source l.source p.0 q.0 b.0 in
-      let t : k.target ≡ l.target = apart.apart k.target l.target p.1 q.1 b.1 in
-      ap₂ (λ x y. (x * n + k.source) * n + y) c t ∙ ap (λ x. (cause_number l.cause * n + x) * n + l.target) s
+-- and links with one edge have one place
+one_edge : (cells : List CellRef) → AreCells cells → (k l : Link) → IsLink cells k → IsLink cells l → same_edge (edge_at cells k) (edge_at cells l) ≡ true → place_of (length cells) k ≡ place_of (length cells) l
+one_edge cells apart k l p q h =
+    let a = and_parts (same_cause k.cause l.cause) (same_cell (cell_at cells k.source) (cell_at cells l.source) && same_cell (cell_at cells k.target) (cell_at cells l.target)) h in
+    let b = and_parts (same_cell (cell_at cells k.source) (cell_at cells l.source)) (same_cell (cell_at cells k.target) (cell_at cells l.target)) a.1 in
+    let s : k.source ≡ l.source = apart.apart k.source l.source p.0 q.0 b.0 in
+    let t : k.target ≡ l.target = apart.apart k.target l.target p.1 q.1 b.1 in
+    ap₂ (λ x y. x * length cells + y) s t
 
 pub or-true : (a b : Bool) → b ≡ true → true ≡ (a || (b || false))
 or-true true true h = refl
@@ -97,18 +79,30 @@ within_more : (cells : List CellRef) (ls : List Link) (l : Link) → AreWithin c
 within_more cells [] l h p = (p, tt)
 within_more cells (k ∷ ls) l h p = (h.0, within_more cells ls l h.1 p)
 
--- one more link, and its mark
-pub marked-more : (cells : List CellRef) (links : List Link) (marks : List Bool) (l : Link) → IsMarked cells links marks → IsLink cells l →
-    IsMarked cells (links ++ l ∷ []) (set marks (place_of (length cells) l) true)
-marked-more cells links marks l m fits = record {
+or-swap : (a b e : Bool) → e ≡ a → (a || b) ≡ (b || (e || false))
+or-swap true true true h = refl
+or-swap true false true h = refl
+or-swap false true false h = refl
+or-swap false false false h = refl
+or-swap true _ false h = cc
+or-swap false _ true h = cc
+
+-- one more link, and its cause in the mark of its cells
+pub marked-more : (cells : List CellRef) (links : List Link) (marks : List Causes) (l : Link) (new : Causes) → IsMarked cells links marks → IsLink cells l →
+    ((c : Cause) → has_cause new c ≡ (same_cause c l.cause || has_cause (mark_at marks (place_of (length cells) l)) c)) →
+    IsMarked cells (links ++ l ∷ []) (set marks (place_of (length cells) l) new)
+marked-more cells links marks l new m fits with_cause = record {
   cells_apart = m.cells_apart;
   within = within_more cells links l m.within fits;
-  long = length-set marks (place_of (length cells) l) true ∙ m.long;
-  marked = λ k p. at k p (same_edge (edge_at cells k) (edge_at cells l)) refl;
+  long = length-set marks place new ∙ m.long;
+  marked = λ k p. at k p (same_or_not (place_of (length cells) k) place);
 }
   where
-    there : place_of (length cells) l < length marks
-    there = subst (λ z. place_of (length cells) l < z) (sym m.long) (place_within (length cells) (cause_number l.cause) l.source l.target (cause_below l.cause) fits.0 fits.1)
+    place : ℕ
+    place = place_of (length cells) l
+
+    there : place < length marks
+    there = subst (λ z. place < z) (sym m.long) (place_within (length cells) l.source l.target fits.0 fits.1)
 
     whole : (k : Link) → list_any (same_edge (edge_at cells k)) (map (edge_at cells) (links ++ l ∷ [])) ≡
         (list_any (same_edge (edge_at cells k)) (map (edge_at cells) links) || (same_edge (edge_at cells k) (edge_at cells l) || false))
@@ -116,20 +110,23 @@ marked-more cells links marks l m fits = record {
         ap (list_any (same_edge (edge_at cells k))) (map-append (edge_at cells) links (l ∷ []))
         ∙ list_any-append (same_edge (edge_at cells k)) (map (edge_at cells) links) (edge_at cells l ∷ [])
 
-    at : (k : Link) → IsLink cells k → (b : Bool) → same_edge (edge_at cells k) (edge_at cells l) ≡ b →
-        get_or (set marks (place_of (length cells) l) true) (place_of (length cells) k) false ≡ list_any (same_edge (edge_at cells k)) (map (edge_at cells) (links ++ l ∷ []))
-    at k p true same =
-        ap (λ z. get_or (set marks (place_of (length cells) l) true) z false) (one_edge cells m.cells_apart k l p fits same)
-        ∙ (get_or-set_same marks (place_of (length cells) l) true false there
-        ∙ (or-true (list_any (same_edge (edge_at cells k)) (map (edge_at cells) links)) (same_edge (edge_at cells k) (edge_at cells l)) same ∙ sym (whole k)))
-    at k p false other =
-        let ne : place_of (length cells) k ≢ place_of (length cells) l = λ e. not_both (one_place cells m.cells_apart k l p fits e) in
-        get_or-set_other marks (place_of (length cells) l) (place_of (length cells) k) true false ne
+    at : (k : Link) → IsLink cells k → (place_of (length cells) k ≡ place) ⊎ (place_of (length cells) k ≢ place) →
+        has_cause (mark_at (set marks place new) (place_of (length cells) k)) k.cause ≡ list_any (same_edge (edge_at cells k)) (map (edge_at cells) (links ++ l ∷ []))
+    at k p (inl same) =
+        ap (λ z. has_cause (mark_at (set marks place new) z) k.cause) same
+        ∙ (ap (λ s. has_cause s k.cause) (get_or-set_same marks place new none there)
+        ∙ (with_cause k.cause
+        ∙ (ap (λ b. same_cause k.cause l.cause || b) (ap (λ z. has_cause (mark_at marks z) k.cause) (sym same) ∙ m.marked k p)
+        ∙ (or-swap (same_cause k.cause l.cause) (list_any (same_edge (edge_at cells k)) (map (edge_at cells) links)) (same_edge (edge_at cells k) (edge_at cells l)) (one_place cells k l p fits same)
+        ∙ sym (whole k)))))
+    at k p (inr other) =
+        ap (λ s. has_cause s k.cause) (get_or-set_other marks place (place_of (length cells) k) new none other)
         ∙ (m.marked k p
-        ∙ (or-false (list_any (same_edge (edge_at cells k)) (map (edge_at cells) links)) (same_edge (edge_at cells k) (edge_at cells l)) other ∙ sym (whole k)))
+        ∙ (or-false (list_any (same_edge (edge_at cells k)) (map (edge_at cells) links)) (same_edge (edge_at cells k) (edge_at cells l)) (apart (same_edge (edge_at cells k) (edge_at cells l)) refl) ∙ sym (whole k)))
       where
-        not_both : same_edge (edge_at cells k) (edge_at cells l) ≡ true → ⊥
-        not_both h = cc
+        apart : (b : Bool) → same_edge (edge_at cells k) (edge_at cells l) ≡ b → b ≡ false
+        apart false e = refl
+        apart true e = absurd (other (one_edge cells m.cells_apart k l p fits e))
 
 -- an edge that was found before changes nothing
 pub found_before : (f : CellEdges) (cells : List CellRef) (links : List Link) (l : Link) → record { cells = cells; edges = map (edge_at cells) links } ≡ f →
@@ -149,10 +146,16 @@ found_now f cells links new l is pushed before =
     ∙ sym (cond-false (list_any (same_edge (edge_at cells l)) (map (edge_at cells) links)) (map (edge_at cells) links) (map (edge_at cells) links ++ edge_at cells l ∷ []) before)) in
     subst P is (λ i. record { cells = cells; edges = e i })
 
--- what a read mark says
-pub read_mark : (cells : List CellRef) (links : List Link) (marks : List Bool) (l : Link) → IsMarked cells links marks → IsLink cells l → (p : ℕ) → p ≡ place_of (length cells) l →
-    (x b : Bool) → x ≡ get_or marks p x → x ≡ b → list_any (same_edge (edge_at cells l)) (map (edge_at cells) links) ≡ b
-read_mark cells links marks l m fits p place x b read is =
+-- what is read at the place of a pair is its mark
+pub mark_is : (cells : List CellRef) (links : List Link) (marks : List Causes) (l : Link) → IsMarked cells links marks → IsLink cells l → (p : ℕ) → p ≡ place_of (length cells) l →
+    (x : Causes) → x ≡ get_or marks p x → x ≡ mark_at marks (place_of (length cells) l)
+mark_is cells links marks l m fits p place x read =
     let there : place_of (length cells) l < length marks =
-    subst (λ z. place_of (length cells) l < z) (sym m.long) (place_within (length cells) (cause_number l.cause) l.source l.target (cause_below l.cause) fits.0 fits.1) in
-    sym (m.marked l fits) ∙ (get_or_default marks (place_of (length cells) l) false x there ∙ (ap (λ z. get_or marks z x) (sym place) ∙ (sym read ∙ is)))
+    subst (λ z. place_of (length cells) l < z) (sym m.long) (place_within (length cells) l.source l.target fits.0 fits.1) in
+    read ∙ (ap (λ z. get_or marks z x) place ∙ sym (get_or_default marks (place_of (length cells) l) none x there))
+
+-- what a read mark says
+pub read_mark : (cells : List CellRef) (links : List Link) (marks : List Causes) (l : Link) → IsMarked cells links marks → IsLink cells l →
+    (x : Causes) → x ≡ mark_at marks (place_of (length cells) l) → (a b : Bool) → a ≡ has_cause x l.cause → a ≡ b → list_any (same_edge (edge_at cells l)) (map (edge_at cells) links) ≡ b
+read_mark cells links marks l m fits x read a b has is =
+    sym (m.marked l fits) ∙ (ap (λ s. has_cause s l.cause) (sym read) ∙ (sym has ∙ is))

@@ -1,3 +1,4 @@
+pub mod Causes
 pub mod Table
 pub mod Gather
 pub mod Sources

@@ -1,27 +1,19 @@
 -- Edges between the cells of a list, by their numbers, and the marks that tell which were found.
-use Rattle.std.specs.Prelude.{◌≡◌, ℕ, ◌+◌, ◌*◌, ◌<◌, ◌≤◌, Bool, true, false, List, [], ◌∷◌, length, get_or, map}
+use Rattle.std.specs.Prelude.{◌≡◌, ℕ, ◌+◌, ◌*◌, ◌<◌, ◌≤◌, true, List, [], ◌∷◌, length, get_or, map}
 use Rattle.std.specs.List.{list_any}
 use Rattle.cosem_data.specs.Cells.{cell, same_cell}
 use Rattle.cosem_data.specs.declared.cell.CellRef.{CellRef}
 use Rattle.meter_theory.specs.Edges.{edge, same_edge}
-use Rattle.meter_theory.specs.declared.flow.Cause.{Cause}
-use Rattle.meter_theory.specs.declared.flow.Cause.TheVariants.{Monitored, Monitor, Captured, Period, Schedule}
 use Rattle.meter_theory.specs.declared.flow.Edge.{Edge}
 use Rattle.meter_theory.specs.declared.limits.TheConstants.{OBJECTS}
+use Rattle.flow_edges.specs.Causes.{has_cause}
+use Rattle.flow_edges.specs.declared.causes.Causes.{Causes}
 use Rattle.flow_edges.specs.declared.table.Link.{Link}
 
 -- edges between the cells of a list: own profile
 pub record CellEdges : Type 0 where
   pub cells : List CellRef
   pub edges : List Edge
-
--- causes, counted from 0: own profile
-abbrev pub cause_number : Cause → ℕ
-cause_number Monitored = 0
-cause_number Monitor = 1
-cause_number Captured = 2
-cause_number Period = 3
-cause_number Schedule = 4
 
 -- what no list of cells has: own profile
 abbrev pub no_cell : CellRef
@@ -35,9 +27,9 @@ cell_at cells i = get_or cells i no_cell
 abbrev pub edge_at : List CellRef → Link → Edge
 edge_at cells l = edge l.cause (cell_at cells l.source) (cell_at cells l.target)
 
--- where the mark of a link stands among those of n cells: own profile
+-- where the mark of a link stands among those of n cells, one for each pair: own profile
 abbrev pub place_of : ℕ → Link → ℕ
-place_of n l = (cause_number l.cause * n + l.source) * n + l.target
+place_of n l = l.source * n + l.target
 
 -- no cell stands twice, and there are three at most an object: own profile
 pub record AreCells (cells : List CellRef) : Type 0 where
@@ -53,10 +45,10 @@ abbrev pub AreWithin : List CellRef → List Link → Type 0
 AreWithin cells [] = Unit {0}
 AreWithin cells (l ∷ ls) = IsLink cells l × AreWithin cells ls
 
--- a mark for each link that there can be, which tells whether its edge was found: own profile
-pub record IsMarked (cells : List CellRef) (links : List Link) (marks : List Bool) : Type 0 where
+-- a mark for each pair of cells, which has a cause exactly where the edge with this cause was found: own profile
+pub record IsMarked (cells : List CellRef) (links : List Link) (marks : List Causes) : Type 0 where
   pub cells_apart : AreCells cells
   pub within : AreWithin cells links
-  pub long : length marks ≡ 5 * (length cells * length cells)
+  pub long : length marks ≡ length cells * length cells
   pub marked : (l : Link) → IsLink cells l →
-      get_or marks (place_of (length cells) l) false ≡ list_any (same_edge (edge_at cells l)) (map (edge_at cells) links)
+      has_cause (get_or marks (place_of (length cells) l) (record { mask = 0 })) l.cause ≡ list_any (same_edge (edge_at cells l)) (map (edge_at cells) links)

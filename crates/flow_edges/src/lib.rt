@@ -1,6 +1,7 @@
 //! From which cell to which a value may flow: the edges of a plan, each once, in one order.
 #![tactic(auto)]
 
+mod causes;
 pub mod changes;
 pub mod edges;
 pub mod table;

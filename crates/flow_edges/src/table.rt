@@ -1,8 +1,9 @@
 //! Edges between the cells of a list, each once, by a table of marks that tells which have been found.
 ghost use Rattle.std.specs.Prelude.{◌≡◌, ◌<◌, OnOk, OnErr, IfOk, length, map, []};
 ghost use Rattle.flow_edges.specs.Gather.{add_edge};
-ghost use Rattle.flow_edges.specs.Table.{cause_number, edge_at, AreCells, AreWithin, IsLink};
+ghost use Rattle.flow_edges.specs.Table.{edge_at, AreCells, AreWithin, IsLink};
 
+use crate::causes::Causes;
 use cosem_data::cell::CellRef;
 use cosem_data::memory::Memory;
 use meter_theory::flow::{Cause, Edge};
@@ -26,7 +27,8 @@ pub struct Link {
 pub struct EdgeTable {
     cells: Vec<CellRef>,
     links: Vec<Link>,
-    marks: Vec<bool>,
+    /// For each pair of cells, source by source, the causes of the edges that were found.
+    marks: Vec<Causes>,
 }
 
 impl Model for EdgeTable {
@@ -49,7 +51,7 @@ impl EdgeTable {
         ensures { IfOk result (λ table. table ≡ record { cells = cells.items; edges = [] }) }
     {
         let number = cells.len();
-        let marks = vec![in alloc; false; 5 * (number * number)]?;
+        let marks = vec![in alloc; Causes::new(); number * number]?;
         Ok(EdgeTable {
             cells,
             links: Vec::new(alloc),
@@ -94,9 +96,9 @@ impl EdgeTable {
         ensures ok { OnOk result (self.new ≡ record { cells = self.old.cells; edges = add_edge self.old.edges (edge_at self.old.cells (record { source = source; target = target; cause = cause })) }) }
         ensures err { OnErr result (self.new ≡ self.old) }
     {
-        let number = self.cells.len();
-        let place = (number_of(cause) * number + source) * number + target;
-        if self.marks[place] {
+        let place = source * self.cells.len() + target;
+        let found = self.marks[place];
+        if found.has(cause) {
             return Ok(());
         }
         self.links.push(Link {
@@ -104,21 +106,8 @@ impl EdgeTable {
             target,
             cause,
         })?;
-        self.marks[place] = true;
+        self.marks[place] = found.with(cause);
         Ok(())
-    }
-}
-
-/// The number of a cause, counted from 0.
-fn number_of(cause: Cause) -> usize
-    ensures { result ≡ cause_number cause }
-{
-    match cause {
-        Cause::Monitored => 0,
-        Cause::Monitor => 1,
-        Cause::Captured => 2,
-        Cause::Period => 3,
-        Cause::Schedule => 4,
     }
 }
 

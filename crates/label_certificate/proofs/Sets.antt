@@ -1,25 +1,19 @@
 -- Growing sets of clients.
 use Rattle.cosem_data.proofs.Bits.{none_above}
 use Rattle.std.proofs.lemmas.Bool.{ltb-false}
-use Rattle.std.proofs.Common.{ltb-true, ◌≡◌, ◌≢◌, ◌<◌, ◌≤◌, ◌+◌, ◌⊎◌, ℕ, zero, suc, Bool, true, false, cond, List, [], ◌∷◌, length, get_or, set, take, refl, sym, ap, subst, ◌∙◌, arith, inl, inr}
+use Rattle.std.proofs.Common.{ltb-true, ◌≡◌, ◌<◌, ◌≤◌, ◌+◌, ◌⊎◌, ℕ, zero, suc, Bool, true, false, cond, List, [], ◌∷◌, length, set, refl, sym, ap, ◌∙◌, arith, inl, inr}
 use Rattle.std.specs.Prelude.{◌||◌, nat_lt}
 use Rattle.std.specs.List.{range_with_len}
 use Rattle.cosem_data.specs.declared.clients.ClientSet.{ClientSet}
 use Rattle.cosem_data.specs.Clients.{has_client}
 use Rattle.meter_theory.specs.Lists.{IsIn}
 use Rattle.meter_theory.specs.declared.limits.TheConstants as limits
-use Rattle.meter_theory.proofs.Lists.{in_append_cases, in_range}
-use Rattle.label_certificate.specs.declared.closing.Arrow.{Arrow}
-use Rattle.label_certificate.specs.Closing.{IsSub, set_at, Below, IsClosedBy, lacking, missing}
-use Rattle.label_certificate.proofs.Passing.{IsPassed, IsClosing}
-use Rattle.std.proofs.lemmas.List.{take_more}
+use Rattle.meter_theory.proofs.Lists.{in_range}
+use Rattle.label_certificate.specs.Closing.{IsSub, set_at, lacking, missing}
 
 pub not_both : {A : Type 0} (b : Bool) → b ≡ true → b ≡ false → A
 not_both true p q = cc
 not_both false p q = cc
-
-same_or_not : (m n : ℕ) → (m ≡ n) ⊎ (m ≢ n)
-same_or_not m n = grind arith
 
 -- a larger set lacks no more
 lacking-le : (a b : ClientSet) → IsSub a b → (cs : List ℕ) → lacking b cs ≤ lacking a cs
@@ -102,55 +96,3 @@ missing-less (s ∷ ss) zero new h less = omega (arith, less)
 missing-less (s ∷ ss) (suc i) new h less =
     let rest : missing (set ss i new) < missing ss = missing-less ss i new (omega arith) less in
     omega (arith, rest)
-
--- an item of a loop is an element
-pub item_in : {A : Type 0} (xs : List A) (i : ℕ) (x : A) → i < length xs → x ≡ get_or xs i x → IsIn xs x
-item_in [] i x within is = absurd (omega arith)
-item_in (y ∷ xs) zero x within is = inl is
-item_in (y ∷ xs) (suc i) x within is = inr (item_in xs i x (omega arith) is)
-
-closed_more : (arrows : List Arrow) (n : ℕ) (x : Arrow) (sets : List ClientSet) → n < length arrows → x ≡ get_or arrows n x →
-    IsClosedBy (take n arrows) sets → IsSub (set_at sets x.from) (set_at sets x.to) → IsClosedBy (take (n + 1) arrows) sets
-closed_more arrows n x sets within is closed sub = λ a i.
-    elim (in_append_cases (take n arrows) (get_or arrows n x ∷ []) a (subst (λ l. IsIn l a) (take_more arrows n x within) i)) [
-      | inl before ↦ closed a before
-      | inr here ↦ elim here [
-        | inl same ↦ subst (λ z. IsSub (set_at sets z.from) (set_at sets z.to)) (is ∙ sym same) sub
-        | inr none ↦ absurd none
-      ]
-    ]
-
--- one more arrow was passed, and a set has grown
-pub passed-grown : (arrows : List Arrow) (n : ℕ) (x : Arrow) (before sets new : List ClientSet) (changed : Bool) → n < length arrows → x ≡ get_or arrows n x →
-    IsPassed arrows n before sets changed → Below sets new →
-    ((f : List ClientSet) → IsSub (set_at f x.from) (set_at f x.to) → Below sets f → Below new f) →
-    missing new < missing sets → IsPassed arrows (n + 1) before new true
-passed-grown arrows n x before sets new changed within is m above least less = record {
-  above = λ k c p. above k c (m.above k c p);
-  least = λ f closed under. least f (closed x (item_in arrows n x within is)) (m.least f closed under);
-  still = λ e. cc;
-  grown = λ e. at changed refl;
-}
-  where
-    at : (b : Bool) → changed ≡ b → missing new < missing before
-    at true e = let k : missing sets < missing before = m.grown e in omega (arith, less, k)
-    at false e = subst (λ z. missing new < missing z) (m.still e).0 less
-
--- and none has
-pub passed-still : (arrows : List Arrow) (n : ℕ) (x : Arrow) (before sets new : List ClientSet) (changed : Bool) → n < length arrows → x ≡ get_or arrows n x →
-    IsPassed arrows n before sets changed → IsSub (set_at new x.from) (set_at new x.to) → new ≡ sets → IsPassed arrows (n + 1) before new changed
-passed-still arrows n x before sets new changed within is m sub same = record {
-  above = subst (Below before) (sym same) m.above;
-  least = λ f closed under. subst (λ z. Below z f) (sym same) (m.least f closed under);
-  still = λ e. (same ∙ (m.still e).0, closed_more arrows n x new within is (subst (IsClosedBy (take n arrows)) (sym same) (m.still e).1) sub);
-  grown = λ e. subst (λ z. missing z < missing before) (sym same) (m.grown e);
-}
-
--- one more round
-pub closing-more : (arrows : List Arrow) (before sets new : List ClientSet) (changed again : Bool) → IsClosing arrows before sets changed → Below sets new →
-    ((f : List ClientSet) → IsClosedBy arrows f → Below sets f → Below new f) → (again ≡ false → (new ≡ sets) × IsClosedBy arrows new) → IsClosing arrows before new again
-closing-more arrows before sets new changed again m above least still = record {
-  above = λ k c p. above k c (m.above k c p);
-  least = λ f closed under. least f closed (m.least f closed under);
-  closed = λ e. (still e).1;
-}

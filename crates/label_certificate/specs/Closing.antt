@@ -1,5 +1,5 @@
 -- Sets of clients that flow along arrows.
-use Rattle.std.specs.Prelude.{◌≡◌, ℕ, ◌+◌, ◌<◌, true, cond, List, [], ◌∷◌, get_or}
+use Rattle.std.specs.Prelude.{◌≡◌, ℕ, ◌+◌, ◌<◌, ◌⊎◌, true, cond, List, [], ◌∷◌, length, get_or}
 use Rattle.std.specs.List.{range_with_len}
 use Rattle.cosem_data.specs.declared.clients.ClientSet.{ClientSet}
 use Rattle.cosem_data.specs.Clients.{has_client}
@@ -27,6 +27,15 @@ AreArrows n arrows = (a : Arrow) → IsIn arrows a → (a.from < n) × (a.to < n
 -- no client is lost along an arrow: own profile
 abbrev pub IsClosedBy : List Arrow → List ClientSet → Type 0
 IsClosedBy arrows sets = (a : Arrow) → IsIn arrows a → IsSub (set_at sets a.from) (set_at sets a.to)
+
+-- the arrow with this number: own profile
+abbrev pub arrow_at : List Arrow → ℕ → Arrow
+arrow_at arrows i = get_or arrows i (record { from = 0; to = 0 })
+
+-- no client is lost along an arrow, but from sets that wait: own profile
+abbrev pub IsClosedBut : List ℕ → List Arrow → List ClientSet → Type 0
+IsClosedBut waiting arrows sets = (i : ℕ) → i < length arrows →
+    IsIn waiting (arrow_at arrows i).from ⊎ IsSub (set_at sets (arrow_at arrows i).from) (set_at sets (arrow_at arrows i).to)
 
 -- how many of these a set lacks: own profile
 abbrev pub lacking : ClientSet → List ℕ → ℕ

@@ -38,7 +38,7 @@ fn flow_along(alloc: Global, links: &[Link], granted: &[Label]) -> Result<Vec<Cl
     ensures { IfOk result (λ sets. AreClosed (map along links.now) (map (λ label. label.influence) granted.now) sets.items) }
 {
     let mut sets = influence_sets(alloc, granted)?;
-    close(&arrows_along(alloc, links)?, &mut sets);
+    close(alloc, &arrows_along(alloc, links)?, &mut sets)?;
     Ok(sets)
 }
 
@@ -48,7 +48,7 @@ fn flow_against(alloc: Global, links: &[Link], granted: &[Label]) -> Result<Vec<
     ensures { IfOk result (λ sets. AreClosed (map against links.now) (map (λ label. label.learn) granted.now) sets.items) }
 {
     let mut sets = learn_sets(alloc, granted)?;
-    close(&arrows_against(alloc, links)?, &mut sets);
+    close(alloc, &arrows_against(alloc, links)?, &mut sets)?;
     Ok(sets)
 }
 

@@ -1,42 +1,46 @@
-use Rattle.std.proofs.Common.{◌≡◌, ◌+◌, ◌<◌, sym, subst, get_or, length, arith}
+use Rattle.std.proofs.Common.{◌<◌, ◌∙◌, length, None, sym, subst, refl}
 use Rattle.std.proofs.lemmas.List.{get_or_default}
-use Rattle.label_certificate.specs.declared.closing.Arrow.{Arrow}
-use Rattle.label_certificate.proofs.Passing.{IsPassed}
-use Rattle.label_certificate.proofs.Sets.{item_in, passed-grown, passed-still}
+use Rattle.object_model.proofs.Positions.{in-at}
+use Rattle.label_certificate.specs.Chains.{IsLast}
+use Rattle.label_certificate.specs.Closing.{arrow_at}
+use Rattle.label_certificate.proofs.Passing.{IsPassing}
+use Rattle.label_certificate.proofs.Settled.{passing-grown, passing-still}
 use Rattle.label_certificate.proofs.closing.pass_all.Goals as goal
-use Rattle.label_certificate.proofs.closing.pass_all.Goals.{then-pass, else-pass}
-
-abbrev none : Arrow
-none = record { from = 0; to = 0 }
-
-pub pass-requires-clause-from : goal.pass-requires-clause-from
-pass-requires-clause-from c =
-    let xs = c.args.arrows.now in
-    let i = c.loop-arrow.arrow-index in
-    let fits = c.requires (get_or xs i none) (item_in xs i (get_or xs i none) c.loop-arrow-test.true (get_or_default xs i none (get_or xs i none) c.loop-arrow-test.true)) in
-    let low : (get_or xs i none).from < length c.args.sets.now = fits.0 in
-    omega (arith, low, c.loop-arrow.auto.sets)
+use Rattle.label_certificate.proofs.closing.pass_all.Goals.{then-pass+in_ok-add, else-pass}
 
 pub pass-requires-clause-to : goal.pass-requires-clause-to
 pass-requires-clause-to c =
-    let xs = c.args.arrows.now in
-    let i = c.loop-arrow.arrow-index in
-    let fits = c.requires (get_or xs i none) (item_in xs i (get_or xs i none) c.loop-arrow-test.true (get_or_default xs i none (get_or xs i none) c.loop-arrow-test.true)) in
-    let low : (get_or xs i none).to < length c.args.sets.now = fits.1 in
-    omega (arith, low, c.loop-arrow.auto.sets)
+    let i = c.in-Some.number in
+    let so_far = subst (IsPassing c.args.arrows.now c.args.from c.args.sets.now c.loop-next.sets c.args.waiting.now c.loop-next.waiting) c.in-Some.is c.loop-next.invariant in
+    subst (λ n. (arrow_at c.args.arrows.now i).to < n) (sym c.loop-next.auto.sets)
+    (c.requires.arrows (arrow_at c.args.arrows.now i) (in-at c.args.arrows.now i (record { from = 0; to = 0 }) so_far.there.0)).1
 
-pub loop-arrow-preserved : goal.loop-arrow-preserved
-loop-arrow-preserved c =
+pub add-requires : goal.add-requires
+add-requires c =
+    let i = c.in-Some.number in
+    let so_far = subst (IsPassing c.args.arrows.now c.args.from c.args.sets.now c.loop-next.sets c.args.waiting.now c.loop-next.waiting) c.in-Some.is c.loop-next.invariant in
+    subst (λ n. (arrow_at c.args.arrows.now i).to < n) (sym (so_far.bound ∙ c.requires.bound))
+    (c.requires.arrows (arrow_at c.args.arrows.now i) (in-at c.args.arrows.now i (record { from = 0; to = 0 }) so_far.there.0)).1
+
+pub loop-next-preserved : goal.loop-next-preserved
+loop-next-preserved c =
     let xs = c.args.arrows.now in
-    let i = c.loop-arrow.arrow-index in
-    let x : Arrow = get_or xs i none in
-    let is : x ≡ get_or xs i x = get_or_default xs i none x c.loop-arrow-test.true in
+    let from = c.args.from in
+    let i = c.in-Some.number in
+    let to = (arrow_at xs i).to in
     let old = c.args.sets.now in
-    let sets = c.loop-arrow.sets in
+    let sets = c.loop-next.sets in
     let new = c.pass.new.sets in
+    let before = c.args.waiting.now in
+    let w = c.loop-next.waiting in
+    let next = c.index-next-in-Some.result.now in
+    let so_far = subst (IsPassing xs from old sets before w) c.in-Some.is c.loop-next.invariant in
+    let low : i < length c.args.chains.now.earlier.items = subst (λ n. i < n) (sym c.requires.earlier) so_far.there.0 in
+    let last : IsLast xs (arrow_at xs i).from i next = subst (IsLast xs (arrow_at xs i).from i) (get_or_default c.args.chains.now.earlier.items i None next low ∙ sym c.index-next-in-Some.ensures) (c.requires.chained.of_arrows i low) in
     elim c.if-pass.branch [
-      | then-pass w ↦ subst (IsPassed xs (i + 1) old new) (sym w.changed-is)
-          (passed-grown xs i x old sets new c.loop-arrow.changed c.loop-arrow-test.true is c.loop-arrow.invariant c.pass.ensures.above c.pass.ensures.least (c.pass.ensures.grown w.if-pass.true))
-      | else-pass w ↦ subst (IsPassed xs (i + 1) old new) (sym w.changed-is)
-          (passed-still xs i x old sets new c.loop-arrow.changed c.loop-arrow-test.true is c.loop-arrow.invariant c.pass.ensures.passed (c.pass.ensures.still w.if-pass.false))
+      | then-pass+in_ok-add w' ↦ subst (λ v. IsPassing xs from old new before v next) (sym w'.waiting-is)
+          (passing-grown xs from i to old sets new before w w'.add.new.self next so_far refl last c.pass.ensures.above c.pass.ensures.least c.pass.ensures.passed c.pass.ensures.others
+          (c.pass.ensures.grown w'.if-pass.true) w'.in_ok-add.ensures)
+      | else-pass w' ↦ subst (λ v. IsPassing xs from old new before v next) (sym w'.waiting-is)
+          (passing-still xs from i to old sets new before w next so_far refl last c.pass.ensures.passed (c.pass.ensures.still w'.if-pass.false))
     ]

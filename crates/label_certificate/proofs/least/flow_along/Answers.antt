@@ -19,8 +19,8 @@ returns c =
     let begun = c.deref_mut.ensures.value ∙ c.in_ok-sets.ensures in
     let sets = c.close.new.sets in
     subst (AreClosed (map along c.args.links.now) start) (sym (written-back sets _ c.in_ok-sets.sets.len (sym (c.close.auto.sets ∙ c.deref_mut.ensures.len)))) (record {
-      above = subst (λ s. Below s sets) begun c.close.ensures.above;
-      closed = subst (λ xs. IsClosedBy xs sets) arrows c.close.ensures.closed;
-      least = λ others closed above. c.close.ensures.least others (subst (λ xs. IsClosedBy xs others) (sym arrows) closed) (subst (λ s. Below s others) (sym begun) above);
+      above = subst (λ s. Below s sets) begun c.in_ok-close.ensures.above;
+      closed = subst (λ xs. IsClosedBy xs sets) arrows c.in_ok-close.ensures.closed;
+      least = λ others closed above. c.in_ok-close.ensures.least others (subst (λ xs. IsClosedBy xs others) (sym arrows) closed) (subst (λ s. Below s others) (sym begun) above);
       size = c.close.auto.sets ∙ ap length begun;
     })

@@ -1,0 +1,18 @@
+-- Sets of causes.
+use Rattle.std.specs.Prelude.{ℕ, Bool, ◌==◌}
+use Rattle.std.specs.Int.{bit_at}
+use Rattle.meter_theory.specs.declared.flow.Cause.{Cause}
+use Rattle.meter_theory.specs.declared.flow.Cause.TheVariants.{Monitored, Monitor, Captured, Period, Schedule}
+use Rattle.flow_edges.specs.declared.causes.Causes.{Causes}
+
+-- causes, counted from 0: own profile
+abbrev pub cause_number : Cause → ℕ
+cause_number Monitored = 0
+cause_number Monitor = 1
+cause_number Captured = 2
+cause_number Period = 3
+cause_number Schedule = 4
+
+-- the bit with the number of a cause stands for it: own profile
+abbrev pub has_cause : Causes → Cause → Bool
+has_cause s c = bit_at s.mask (cause_number c) == 1

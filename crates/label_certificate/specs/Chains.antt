@@ -1,0 +1,19 @@
+-- Arrows by their sources.
+use Rattle.std.specs.Prelude.{◌≡◌, ◌≢◌, ℕ, ◌+◌, ◌<◌, ◌≤◌, List, length, get_or, Option, Some, None, IfSome}
+use Rattle.label_certificate.specs.declared.closing.Arrow.{Arrow}
+use Rattle.label_certificate.specs.Closing.{arrow_at}
+
+-- how many arrows there are up to this one: own profile
+abbrev pub up_to : Option ℕ → ℕ
+up_to None = 0
+up_to (Some k) = k + 1
+
+-- the last of the first n arrows that has this source, if one has: own profile
+pub record IsLast (arrows : List Arrow) (source n : ℕ) (last : Option ℕ) : Type 0 where
+  pub there : IfSome last (λ k. (k < n) × ((arrow_at arrows k).from ≡ source))
+  pub none_behind : (j : ℕ) → up_to last ≤ j → j < n → (arrow_at arrows j).from ≢ source
+
+-- each source leads to the last of its arrows, and each arrow to the one before it that has the same source: own profile
+pub record AreChained (arrows : List Arrow) (lasts earlier : List (Option ℕ)) : Type 0 where
+  pub of_sources : (s : ℕ) → s < length lasts → IsLast arrows s (length earlier) (get_or lasts s None)
+  pub of_arrows : (i : ℕ) → i < length earlier → IsLast arrows (arrow_at arrows i).from i (get_or earlier i None)

@@ -1,0 +1,36 @@
+//! Arrows by their sources.
+ghost use Rattle.std.specs.Prelude.{◌≡◌, length, IfOk};
+ghost use Rattle.label_certificate.specs.Chains.{AreChained};
+ghost use Rattle.label_certificate.specs.Closing.{AreArrows};
+
+use crate::closing::Arrow;
+use cosem_data::memory::Memory;
+use std::alloc::Global;
+
+/// Leads from each source to the last of its arrows in a list, and from each arrow to the one before it that has the same
+/// source, all by their places in the list, counted from 0.
+#[derive(Drop)]
+pub(crate) struct Chains {
+    /// The last arrow of each source.
+    pub(crate) lasts: Vec<Option<usize>>,
+    /// The arrow of the same source before each arrow.
+    pub(crate) earlier: Vec<Option<usize>>,
+}
+
+impl Chains {
+    /// The chains of arrows between this many sets. The only error is want of memory.
+    pub(crate) fn new(alloc: Global, arrows: &[Arrow], sets: usize) -> Result<Chains, Memory>
+        requires { AreArrows sets arrows.now }
+        ensures chained { IfOk result (λ chains. AreChained arrows.now chains.lasts.items chains.earlier.items) }
+        ensures lasts { IfOk result (λ chains. length chains.lasts.items ≡ sets) }
+        ensures earlier { IfOk result (λ chains. length chains.earlier.items ≡ length arrows.now) }
+    {
+        let mut lasts = vec![in alloc; None; sets]?;
+        let mut earlier = Vec::with_capacity(alloc, arrows.len())?;
+        for (number, arrow) in arrows.iter().enumerate() {
+            earlier.push(lasts[arrow.from])?;
+            lasts[arrow.from] = Some(number);
+        }
+        Ok(Chains { lasts, earlier })
+    }
+}
