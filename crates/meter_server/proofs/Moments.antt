@@ -1,16 +1,13 @@
 -- What is read as a moment is the moment that a word is.
-use Rattle.std.proofs.Common.{◌≡◌, ℕ, ◌+◌, ◌/◌, ◌%◌, ◌<◌, Bool, true, false, ◌&&◌, cond, ltb, List, [], ◌∷◌, ◌++◌, IfOk, Option, Some, None, Result, Ok, Err, refl, sym, ap, subst, ◌∙◌, arith}
+use Rattle.std.proofs.Common.{◌≡◌, ℕ, ◌<◌, Bool, true, false, ◌&&◌, cond, ltb, List, IfOk, Option, Some, None, Result, Ok, Err, refl, ap, ◌∙◌, arith}
 use Rattle.std.specs.Prelude.{option_and_then}
 use Rattle.std.specs.Result.{result_ok}
-use Rattle.std.specs.Str.{IsAscii, IsUtf8}
-use Rattle.std.proofs.lemmas.Str.{IsUtf8-from_ascii}
-use Rattle.std.proofs.lemmas.Str.Ascii.{IsAscii-nil, IsAscii-cons}
 use Rattle.std.proofs.lemmas.Bool.{and_parts, le-leb, leb-true, lt-ltb}
 use Rattle.std.proofs.lemmas.Bool.Decides.{nat_tests}
 use Rattle.meter_theory.specs.Times.{Moment, IsMoment, last_day}
 use Rattle.civil_moment.specs.declared.moment.BadMoment.{BadMoment}
-use Rattle.civil_moment.specs.Texts.{two_digits, moment_text, numbers_at}
-use Rattle.civil_moment.proofs.Readings.{numbers_take, numbers_again, month_small, day_small}
+use Rattle.civil_moment.specs.Texts.{moment_text, numbers_at}
+use Rattle.civil_moment.proofs.Readings.{numbers_take, numbers_again}
 use Rattle.jiff.proofs.SpanFacts.{signed_arith}
 use Rattle.meter_server.specs.Words.{is_moment, moment_in}
 

@@ -1,5 +1,5 @@
 -- What is printed of edges and of labels, and how such a list is written. All of it is own profile.
-use Rattle.std.specs.Prelude.{◌≡◌, ◌<◌, ℕ, List, [], ◌∷◌, ◌++◌, codes, flat_map, get_or, length, map, Option, Result, Ok, Err}
+use Rattle.std.specs.Prelude.{◌≡◌, ◌<◌, ℕ, List, [], ◌++◌, codes, flat_map, get_or, length, map, Option, Result, Ok, Err}
 use Rattle.std.specs.Io.KnownBytes.{Appends}
 use Rattle.meter_theory.specs.Labels.{Labels, AreLeast}
 use Rattle.meter_theory.specs.Plan.{Plan, cells}

@@ -1,6 +1,5 @@
 -- What the program does with its words, and what it tells whoever started it (own profile throughout).
 use Rattle.std.specs.Prelude.{◌≡◌, ℕ, List, [], ◌++◌, string_bytes, codes, Option, ◌⊎◌, Result, Ok, Err}
-use Rattle.std.specs.Io.KnownBytes.{Appends}
 use Rattle.config_text.specs.Fault.{Fault as ConfigFault, Fails}
 use Rattle.config_text.specs.Parts.{ConfigText}
 use Rattle.config_rules.specs.PlanOf.{plan_of}

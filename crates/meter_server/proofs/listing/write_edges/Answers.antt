@@ -1,4 +1,4 @@
-use Rattle.std.proofs.Common.{◌≡◌, length, map, sym, ap, subst, ◌∙◌}
+use Rattle.std.proofs.Common.{length, map, sym, ap, subst, ◌∙◌}
 use Rattle.std.proofs.lemmas.List.{length-map}
 use Rattle.value_text.specs.Texts.{cell_text}
 use Rattle.label_certificate.proofs.Closed.{links-within}

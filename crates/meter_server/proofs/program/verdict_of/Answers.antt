@@ -1,4 +1,4 @@
-use Rattle.std.proofs.Common.{◌≡◌, ℕ, List, Result, Ok, Err, refl, subst}
+use Rattle.std.proofs.Common.{ℕ, List, Result, Ok, Err, refl, subst}
 use Rattle.meter_theory.specs.Labels.{Policy}
 use Rattle.meter_theory.specs.Plan.{Plan}
 use Rattle.config_text.specs.Fault.{Fault as ConfigFault}
