@@ -10,7 +10,7 @@ use std::process::Abort;
 use std::test::Fail;
 use value_text::cell::push_cell;
 
-/// The demo configuration.
+/// The demo configuration, as `cosem_cases` has it in a file, which no test can read.
 pub const DEMO: &str = r#"version = 1
 client = [
  { name = "public", sap = 16 },
@@ -67,6 +67,7 @@ const EDGES: &[u8] = b"\
     22/0.0.15.0.0.255/4 -> 7/1.0.99.1.0.255/2 schedule\n\
     22/0.0.15.0.0.255/4 -> 7/1.0.99.1.0.255/7 schedule\n";
 
+/// The end of an edge's line.
 fn word(cause: Cause) -> &'static [u8] {
     match cause {
         Cause::Monitored => b" monitored\n",
@@ -94,6 +95,7 @@ fn put_cell(
     again
 }
 
+/// The line of an edge goes behind a text.
 fn put_edge(rt: &impl Abort, alloc: Global, edge: &Edge, text: &mut Vec<u8>) -> Result<(), Memory> {
     put_cell(rt, alloc, &edge.source, text)?;
     text.extend_from_slice(b" -> ")?;
