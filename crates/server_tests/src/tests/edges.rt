@@ -105,22 +105,13 @@ fn put_edge(rt: &impl Abort, alloc: Global, edge: &Edge, text: &mut Vec<u8>) -> 
     Ok(())
 }
 
-/// The edges of a plan. Where memory is refused, they are asked for once more.
-fn found(rt: &impl Abort, alloc: Global, plan: &Plan) -> Result<Vec<Edge>, Memory> {
-    if let Ok(list) = edges(alloc, plan) {
-        return Ok(list);
-    }
-    let again = edges(alloc, plan);
-    assert!(rt; again.is_ok(), "refused once more");
-    again
-}
-
 #[test]
 fn edges_are_listed(rt: HostRuntime) -> Result<(), Fail> {
     let plan = plan_of(rt.alloc(), DEMO)?;
     let mut text = Vec::new(rt.alloc());
-    for edge in found(&rt, rt.alloc(), &plan)? {
-        put_edge(&rt, rt.alloc(), &edge, &mut text)?;
+    let list = edges(rt.alloc(), &plan)?;
+    for edge in &list {
+        put_edge(&rt, rt.alloc(), edge, &mut text)?;
     }
     assert_eq!(rt; text.as_slice(), EDGES);
     Ok(())
