@@ -2,6 +2,7 @@ use super::samples::{ALARM, DEVICE, ENERGY, cell, plan_of};
 use super::steps::{MONITOR, PROFILE, SCHEDULE, TABLE};
 use cosem_data::cell::CellRef;
 use cosem_data::memory::Memory;
+use cosem_data::name::LogicalName;
 use flow_edges::edges::edges;
 use meter_theory::flow::{Cause, Edge};
 use object_model::plan::Plan;
@@ -10,7 +11,7 @@ use std::process::Abort;
 use std::test::Fail;
 use value_text::cell::push_cell;
 
-/// The demo configuration.
+/// The demo configuration, as `cosem_cases` has it in a file, which no test can read.
 pub const DEMO: &str = r#"version = 1
 client = [
  { name = "public", sap = 16 },
@@ -67,6 +68,7 @@ const EDGES: &[u8] = b"\
     22/0.0.15.0.0.255/4 -> 7/1.0.99.1.0.255/2 schedule\n\
     22/0.0.15.0.0.255/4 -> 7/1.0.99.1.0.255/7 schedule\n";
 
+/// The end of an edge's line.
 fn word(cause: Cause) -> &'static [u8] {
     match cause {
         Cause::Monitored => b" monitored\n",
@@ -94,6 +96,7 @@ fn put_cell(
     again
 }
 
+/// The line of an edge goes behind a text.
 fn put_edge(rt: &impl Abort, alloc: Global, edge: &Edge, text: &mut Vec<u8>) -> Result<(), Memory> {
     put_cell(rt, alloc, &edge.source, text)?;
     text.extend_from_slice(b" -> ")?;
@@ -102,56 +105,56 @@ fn put_edge(rt: &impl Abort, alloc: Global, edge: &Edge, text: &mut Vec<u8>) -> 
     Ok(())
 }
 
-/// The edges of a plan. Where memory is refused, they are asked for once more.
-fn found(rt: &impl Abort, alloc: Global, plan: &Plan) -> Result<Vec<Edge>, Memory> {
-    if let Ok(list) = edges(alloc, plan) {
-        return Ok(list);
-    }
-    let again = edges(alloc, plan);
-    assert!(rt; again.is_ok(), "refused once more");
-    again
-}
-
 #[test]
 fn edges_are_listed(rt: HostRuntime) -> Result<(), Fail> {
     let plan = plan_of(rt.alloc(), DEMO)?;
     let mut text = Vec::new(rt.alloc());
-    for edge in found(&rt, rt.alloc(), &plan)? {
-        put_edge(&rt, rt.alloc(), &edge, &mut text)?;
+    let list = edges(rt.alloc(), &plan)?;
+    for edge in &list {
+        put_edge(&rt, rt.alloc(), edge, &mut text)?;
     }
     assert_eq!(rt; text.as_slice(), EDGES);
     Ok(())
 }
 
+/// A class, a name and an index, and the number of the cell that they name, if they name one.
+type Row = (u16, LogicalName, u8, Option<u16>);
+
 /// The cells are numbered in the order of their objects, what the monitor has seen behind its thresholds. No cells are a fixed
 /// attribute, an attribute under another class, the monitor's index 1, one of a script table, and one of an object that isn't
 /// there.
-#[test]
-fn cells_have_numbers(rt: HostRuntime) -> Result<(), Fail> {
-    let plan = plan_of(rt.alloc(), DEMO)?;
-    for (class_id, name, index, want) in [
-        (3, ENERGY, 2, Some(0)),
-        (1, ALARM, 2, Some(1)),
-        (21, MONITOR, 2, Some(2)),
-        (21, MONITOR, 0, Some(3)),
-        (7, PROFILE, 2, Some(4)),
-        (7, PROFILE, 4, Some(5)),
-        (7, PROFILE, 7, Some(6)),
-        (22, SCHEDULE, 4, Some(7)),
-        (3, ENERGY, 3, None),
-        (1, ENERGY, 2, None),
-        (3, ENERGY, 0, None),
-        (21, MONITOR, 1, None),
-        (9, TABLE, 2, None),
-        (1, DEVICE, 2, None),
-    ] {
-        let of_plan = plan.cell_number(&cell(class_id, name, index));
-        let of_name = plan.instance(&name).cell_number(class_id, index);
+const NUMBERS: [Row; 14] = [
+    (3, ENERGY, 2, Some(0)),
+    (1, ALARM, 2, Some(1)),
+    (21, MONITOR, 2, Some(2)),
+    (21, MONITOR, 0, Some(3)),
+    (7, PROFILE, 2, Some(4)),
+    (7, PROFILE, 4, Some(5)),
+    (7, PROFILE, 7, Some(6)),
+    (22, SCHEDULE, 4, Some(7)),
+    (3, ENERGY, 3, None),
+    (1, ENERGY, 2, None),
+    (3, ENERGY, 0, None),
+    (21, MONITOR, 1, None),
+    (9, TABLE, 2, None),
+    (1, DEVICE, 2, None),
+];
+
+fn have_numbers(rt: &impl Abort, plan: &Plan, rows: &[Row]) {
+    for (class_id, name, index, want) in rows {
+        let of_plan = plan.cell_number(&cell(*class_id, *name, *index));
+        let of_name = plan.instance(name).cell_number(*class_id, *index);
         assert_eq!(rt;
             (of_plan, of_name),
-            (want, want),
+            (*want, *want),
             "{class_id}/{name}/{index}"
         );
     }
+}
+
+#[test]
+fn cells_have_numbers(rt: HostRuntime) -> Result<(), Fail> {
+    let plan = plan_of(rt.alloc(), DEMO)?;
+    have_numbers(&rt, &plan, &NUMBERS);
     Ok(())
 }

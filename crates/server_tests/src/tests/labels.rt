@@ -48,14 +48,19 @@ const SOME: &str = "\
     21/0.0.16.1.0.255/seen influence=public,installer learn=-\n\
     22/0.0.15.0.0.255/4 influence=manager learn=public\n";
 
+/// Each text is that of the labels that are read in it.
+fn are_read_back(rt: &impl Abort, alloc: Global, plan: &Plan, texts: &[&str]) -> Result<(), Fail> {
+    for text in texts {
+        let labels = read_labels(alloc, plan, text)?;
+        are_written(rt, alloc, plan, &labels, text)?;
+    }
+    Ok(())
+}
+
 #[test]
 fn labels_are_read(rt: HostRuntime) -> Result<(), Fail> {
     let plan = plan_of(rt.alloc(), DEMO)?;
-    for text in ["", LABELS, SOME] {
-        let labels = read_labels(rt.alloc(), &plan, text)?;
-        are_written(&rt, rt.alloc(), &plan, &labels, text)?;
-    }
-    Ok(())
+    are_read_back(&rt, rt.alloc(), &plan, &["", LABELS, SOME])
 }
 
 /// A text, and how it is read: the number of its labels, or the code and the line of its fault.
