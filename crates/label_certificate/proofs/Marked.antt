@@ -57,16 +57,6 @@ distinct-more (j ∷ numbers) k h none = (new, distinct-more numbers k h.1 (λ i
       | inr here ↦ elim here [ inl e ↦ none (inl (sym e)) | inr there ↦ there ]
     ]
 
-distinct-less : (numbers : List ℕ) (k : ℕ) → AreDistinct (numbers ++ k ∷ []) → AreDistinct numbers × (IsIn numbers k → ⊥)
-distinct-less [] k h = (tt, λ i. i)
-distinct-less (j ∷ numbers) k h =
-    let less = distinct-less numbers k h.1 in
-    ((λ i. h.0 (in_append_left numbers (k ∷ []) j i), less.0), new less.1)
-  where
-    new : (IsIn numbers k → ⊥) → IsIn (j ∷ numbers) k → ⊥
-    new none (inl e) = h.0 (in_append_right numbers (k ∷ []) j (inl (sym e)))
-    new none (inr i) = none i
-
 -- one more number waits
 pub marked-more : (numbers : List ℕ) (marks : List Bool) (k : ℕ) → AreMarked numbers marks → k < length marks → get_or marks k false ≡ false → AreMarked (numbers ++ k ∷ []) (set marks k true)
 marked-more numbers marks k m less unmarked = record {
@@ -91,25 +81,25 @@ marked-more numbers marks k m less unmarked = record {
     at j h (inr other) = get_or-set_other marks k j true false other ∙ (m.marked j h ∙ sym (behind-other numbers j k other))
 
 -- what waits is below the bound
-pub last-below : (numbers : List ℕ) (marks : List Bool) (k : ℕ) → AreMarked (numbers ++ k ∷ []) marks → k < length marks
-last-below numbers marks k m = m.within k (in_append_right numbers (k ∷ []) k (inl refl))
+pub first-below : (numbers : List ℕ) (marks : List Bool) (k : ℕ) → AreMarked (k ∷ numbers) marks → k < length marks
+first-below numbers marks k m = m.within k (inl refl)
 
--- the last number no longer waits
-pub marked-less : (numbers : List ℕ) (marks : List Bool) (k : ℕ) → AreMarked (numbers ++ k ∷ []) marks → AreMarked numbers (set marks k false)
+first-same : (numbers : List ℕ) (j k : ℕ) → j ≢ k → is_waiting (k ∷ numbers) j ≡ is_waiting numbers j
+first-same numbers j k other = ap (λ b. b || is_waiting numbers j) (ne_eqb k j (λ e. other (sym e)))
+
+-- the first number no longer waits
+pub marked-less : (numbers : List ℕ) (marks : List Bool) (k : ℕ) → AreMarked (k ∷ numbers) marks → AreMarked numbers (set marks k false)
 marked-less numbers marks k m = record {
-  within = λ j i. subst (λ n. j < n) (sym (length-set marks k false)) (m.within j (in_append_left numbers (k ∷ []) j i));
+  within = λ j i. subst (λ n. j < n) (sym (length-set marks k false)) (m.within j (inr i));
   marked = λ j h. at j (subst (λ n. j < n) (length-set marks k false) h) (same_or_not j k);
-  apart = parts.0;
+  apart = m.apart.1;
 }
   where
-    parts : AreDistinct numbers × (IsIn numbers k → ⊥)
-    parts = distinct-less numbers k m.apart
-
     at : (j : ℕ) → j < length marks → (j ≡ k) ⊎ (j ≢ k) → get_or (set marks k false) j false ≡ is_waiting numbers j
     at j h (inl same) =
         ap (λ z. get_or (set marks k false) z false) same
-        ∙ (get_or-set_same marks k false false (subst (λ z. z < length marks) same h) ∙ sym (ap (is_waiting numbers) same ∙ is_new numbers k parts.1))
-    at j h (inr other) = get_or-set_other marks k j false false other ∙ (m.marked j h ∙ behind-other numbers j k other)
+        ∙ (get_or-set_same marks k false false (subst (λ z. z < length marks) same h) ∙ sym (ap (is_waiting numbers) same ∙ is_new numbers k m.apart.0))
+    at j h (inr other) = get_or-set_other marks k j false false other ∙ (m.marked j h ∙ first-same numbers j k other)
 
 from_range : (a n x : ℕ) → IsIn (range_with_len a n) x → (a ≤ x) × (x < a + n)
 from_range a zero x i = absurd i
@@ -121,11 +111,11 @@ distinct-range a zero = tt
 distinct-range a (suc n) = (λ i. let r = from_range (a + 1) n a i in absurd (omega (arith, r.0)), distinct-range (a + 1) n)
 
 -- what was taken
-pub taken : (w : Numbers) (numbers rest : List ℕ) (marks : List Bool) (k : ℕ) → record { bound = length marks; waiting = numbers } ≡ w → numbers ≡ rest ++ k ∷ [] → AreMarked numbers marks →
-    (k < length (set marks k false)) × (w ≡ record { bound = length (set marks k false); waiting = rest ++ k ∷ [] })
+pub taken : (w : Numbers) (numbers rest : List ℕ) (marks : List Bool) (k : ℕ) → record { bound = length marks; waiting = numbers } ≡ w → numbers ≡ k ∷ rest → AreMarked numbers marks →
+    (k < length (set marks k false)) × (w ≡ record { bound = length (set marks k false); waiting = k ∷ rest })
 taken w numbers rest marks k is e m =
     let same = sym (length-set marks k false) in (
-      subst (λ n. k < n) same (last-below rest marks k (subst (λ ks. AreMarked ks marks) e m)),
+      subst (λ n. k < n) same (first-below rest marks k (subst (λ ks. AreMarked ks marks) e m)),
       sym is ∙ (λ i. record { bound = same i; waiting = e i }),
     )
 

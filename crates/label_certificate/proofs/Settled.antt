@@ -1,10 +1,10 @@
 -- Arrows are passed until no set waits.
-use Rattle.std.specs.Prelude.{◌≡◌, ◌≢◌, ◌<◌, ◌≤◌, ◌+◌, ◌⊎◌, ℕ, suc, List, [], ◌∷◌, ◌++◌, length, Option, Some, None, IfSome}
+use Rattle.std.specs.Prelude.{◌≡◌, ◌≢◌, ◌<◌, ◌≤◌, ◌+◌, ◌⊎◌, ℕ, suc, List, [], ◌∷◌, length, Option, Some, None, IfSome}
 use Rattle.std.specs.List.{range_with_len}
 use Rattle.std.proofs.Common.{refl, sym, ap, subst, ◌∙◌, arith, inl, inr}
 use Rattle.cosem_data.specs.declared.clients.ClientSet.{ClientSet}
 use Rattle.meter_theory.specs.Lists.{IsIn}
-use Rattle.meter_theory.proofs.Lists.{in_append_cases, in_range}
+use Rattle.meter_theory.proofs.Lists.{in_range}
 use Rattle.object_model.proofs.Positions.{in-at}
 use Rattle.label_certificate.specs.declared.closing.Arrow.{Arrow}
 use Rattle.label_certificate.specs.Chains.{IsLast, up_to}
@@ -123,7 +123,7 @@ closing-none arrows sets n w fits long all = record {
     waits i low = in_range 0 n (arrow_at arrows i).from (omega arith) (omega (arith, low, long))
 
 -- the arrows of one more set were passed
-pub closing-more : (arrows : List Arrow) (from : ℕ) (old sets new : List ClientSet) (w v u : Numbers) → IsClosing arrows old sets w → w ≡ record { bound = v.bound; waiting = v.waiting ++ from ∷ [] } →
+pub closing-more : (arrows : List Arrow) (from : ℕ) (old sets new : List ClientSet) (w v u : Numbers) → IsClosing arrows old sets w → w ≡ record { bound = v.bound; waiting = from ∷ v.waiting } →
     Below sets new → ((f : List ClientSet) → IsClosedBy arrows f → Below sets f → Below new f) → (IsClosedBut (from ∷ v.waiting) arrows sets → IsClosedBut u.waiting arrows new) →
     u.bound ≡ v.bound → length new ≡ length sets → IsClosing arrows old new u
 closing-more arrows from old sets new w v u m taken above least passed bound long = record {
@@ -133,14 +133,9 @@ closing-more arrows from old sets new w v u m taken above least passed bound lon
   bound = bound ∙ (sym (ap (λ (z : Numbers). z.bound) taken) ∙ (m.bound ∙ sym long));
 }
   where
-    first : (s : ℕ) → IsIn v.waiting s ⊎ IsIn (from ∷ []) s → IsIn (from ∷ v.waiting) s
-    first s (inl behind) = inr behind
-    first s (inr (inl e)) = inl e
-    first s (inr (inr none)) = absurd none
-
     at : (i : ℕ) → IsIn w.waiting (arrow_at arrows i).from ⊎ IsSub (set_at sets (arrow_at arrows i).from) (set_at sets (arrow_at arrows i).to) →
         IsIn (from ∷ v.waiting) (arrow_at arrows i).from ⊎ IsSub (set_at sets (arrow_at arrows i).from) (set_at sets (arrow_at arrows i).to)
-    at i (inl waits) = inl (first (arrow_at arrows i).from (in_append_cases v.waiting (from ∷ []) (arrow_at arrows i).from (subst (λ ks. IsIn ks (arrow_at arrows i).from) (ap (λ (z : Numbers). z.waiting) taken) waits)))
+    at i (inl waits) = inl (subst (λ ks. IsIn ks (arrow_at arrows i).from) (ap (λ (z : Numbers). z.waiting) taken) waits)
     at i (inr sub) = inr sub
 
 place_of : (arrows : List Arrow) (a : Arrow) → IsIn arrows a → (i : ℕ) × (i < length arrows) × (arrow_at arrows i ≡ a)

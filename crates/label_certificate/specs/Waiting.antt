@@ -16,10 +16,10 @@ is_waiting numbers k = list_any (λ j. j == k) numbers
 abbrev pub with_number : List ℕ → ℕ → List ℕ
 with_number numbers k = cond (is_waiting numbers k) numbers (numbers ++ k ∷ [])
 
--- the last number was taken, or there was none: own profile
+-- the first number was taken, or there was none: own profile
 abbrev pub IsTaken : Numbers → Numbers → Option ℕ → Type 0
 IsTaken old new None = old.waiting ≡ []
-IsTaken old new (Some k) = (k < new.bound) × (old ≡ record { bound = new.bound; waiting = new.waiting ++ k ∷ [] })
+IsTaken old new (Some k) = (k < new.bound) × (old ≡ record { bound = new.bound; waiting = k ∷ new.waiting })
 
 -- a mark for each number that there can be, which tells whether it waits; none waits twice: own profile
 pub record AreMarked (numbers : List ℕ) (marks : List Bool) : Type 0 where

@@ -22,8 +22,20 @@ use std::alloc::Global;
 pub fn granted_labels(alloc: Global, plan: &Plan) -> Result<Vec<Label>, Memory>
     ensures { IfOk result (λ labels. AreGranted plan.now labels.items) }
 {
+    granted_to_cells(alloc, plan, &plan.cells(alloc)?)
+}
+
+/// The same, where the cells of the plan are at hand.
+pub(crate) fn granted_to_cells(
+    alloc: Global,
+    plan: &Plan,
+    cells: &[CellRef],
+) -> Result<Vec<Label>, Memory>
+    requires { cells.now ≡ theory.cells plan.now }
+    ensures { IfOk result (λ labels. AreGranted plan.now labels.items) }
+{
     plan.known();
-    let mut labels = own_labels(alloc, plan)?;
+    let mut labels = own_labels(alloc, plan, cells)?;
     for object in plan.objects() {
         join_methods(alloc, plan, object, &mut labels)?;
     }
@@ -31,11 +43,12 @@ pub fn granted_labels(alloc: Global, plan: &Plan) -> Result<Vec<Label>, Memory>
 }
 
 /// For each cell the clients that may set it, and those that may read it.
-fn own_labels(alloc: Global, plan: &Plan) -> Result<Vec<Label>, Memory>
+fn own_labels(alloc: Global, plan: &Plan, cells: &[CellRef]) -> Result<Vec<Label>, Memory>
+    requires { cells.now ≡ theory.cells plan.now }
     ensures { IfOk result (λ labels. AreOwn plan.now labels.items) }
 {
-    let mut labels = Vec::new(alloc);
-    for cell in &plan.cells(alloc)? {
+    let mut labels = Vec::with_capacity(alloc, cells.len())?;
+    for cell in cells {
         labels.push(own_label(plan, cell))?;
     }
     Ok(labels)

@@ -5,7 +5,7 @@ ghost use Rattle.meter_theory.specs.Plan as theory;
 ghost use Rattle.label_certificate.specs.Least.{AreClosed, AreLinks, against, along, labels_of_sets};
 
 use crate::closing::{Arrow, close};
-use crate::granted::granted_labels;
+use crate::granted::granted_to_cells;
 use crate::labels::Labels;
 use cosem_data::cell::CellRef;
 use cosem_data::clients::ClientSet;
@@ -25,11 +25,12 @@ pub fn make_labels(alloc: Global, plan: &Plan) -> Result<Labels, Memory>
     plan.known();
     let table = edge_table(alloc, plan)?;
     table.known();
-    let granted = granted_labels(alloc, plan)?;
+    let cells = table.cells();
+    let granted = granted_to_cells(alloc, plan, cells)?;
     let links = table.links();
     let influence = flow_along(alloc, links, &granted)?;
     let learn = flow_against(alloc, links, &granted)?;
-    labels_from(alloc, table.cells(), &influence, &learn)
+    labels_from(alloc, cells, &influence, &learn)
 }
 
 /// The least sets above those that may influence, in which no client is lost from the source of an edge to its target.

@@ -1,8 +1,8 @@
 //! Labels of cells as a certificate: the least sets of clients along arrows, and the texts in which labels are kept.
 //!
 //! The definitions stand in `specs/`: arrows between sets (`Closing`), by their sources (`Chains`), numbers that wait
-//! (`Waiting`), a line and its text (`LabelLine`), texts of labels (`LabelText`) with sets by the places of their clients (`Members`), and faults (`Faults`). The theorems are the functions
-//! of [`laws`].
+//! (`Waiting`), a line and its text (`LabelLine`), texts of labels (`LabelText`) with sets by the places of their clients
+//! (`Members`), and faults (`Faults`). The theorems are the functions of [`laws`].
 #![tactic(auto)]
 
 mod chains;

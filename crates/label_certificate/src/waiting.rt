@@ -5,12 +5,14 @@ ghost use Rattle.label_certificate.specs.Waiting.{IsTaken, with_number};
 
 use cosem_data::memory::Memory;
 use std::alloc::Global;
+use std::collections::VecDeque;
 use std::marker::Model;
 
-/// Numbers below a bound that wait, each once. Contracts see the bound and the numbers, the one that is taken next last.
+/// Numbers below a bound that wait in a queue, each once. Contracts see the bound and the numbers, in the order in which they
+/// are taken.
 #[derive(Drop)]
 pub(crate) struct Waiting {
-    numbers: Vec<usize>,
+    numbers: VecDeque<usize>,
     marks: Vec<bool>,
 }
 
@@ -28,19 +30,19 @@ impl Model for Waiting {
 }
 
 impl Waiting {
-    /// Each number below the bound. The only error is want of memory.
+    /// Each number below the bound, the least one first. The only error is want of memory.
     pub(crate) fn all(alloc: Global, bound: usize) -> Result<Waiting, Memory>
         ensures { IfOk result (λ w. w ≡ record { bound = bound; waiting = range_with_len 0 bound }) }
     {
-        let mut numbers = Vec::with_capacity(alloc, bound)?;
+        let mut numbers = VecDeque::with_capacity(alloc, bound)?;
         for number in 0..bound {
-            numbers.push(number)?;
+            numbers.push_back(number)?;
         }
         let marks = vec![in alloc; true; bound]?;
         Ok(Waiting { numbers, marks })
     }
 
-    /// Lets a number wait, unless it does. The only error is want of memory.
+    /// Lets a number wait behind the others, unless it waits already. The only error is want of memory.
     pub(crate) fn add(&mut self, number: usize) -> Result<(), Memory>
         requires { number < self.old.bound }
         ensures { OnOk result (self.new ≡ record { bound = self.old.bound; waiting = with_number self.old.waiting number }) }
@@ -48,16 +50,16 @@ impl Waiting {
         if self.marks[number] {
             return Ok(());
         }
-        self.numbers.push(number)?;
+        self.numbers.push_back(number)?;
         self.marks[number] = true;
         Ok(())
     }
 
-    /// Takes the number that was added last, or None if none waits.
+    /// Takes the number that has waited longest, or None if none waits.
     pub(crate) fn take(&mut self) -> Option<usize>
         ensures { IsTaken self.old self.new result }
     {
-        let number = self.numbers.pop()?;
+        let number = self.numbers.pop_front()?;
         self.marks[number] = false;
         Some(number)
     }

@@ -28,7 +28,7 @@ returns-clause-least c =
     let learn = c.in_ok-learn.learn.items in
     if-ok-then c.labels_from.result (λ labels same.
     subst (AreLeast P)
-    (sym (same ∙ (ap (λ xs. labels_of_sets xs c.deref-3.result.now c.deref-4.result.now) (c.cells.ensures ∙ ap (λ t. t.cells) is)
+    (sym (same ∙ (ap (λ xs. labels_of_sets xs c.deref-3.result.now c.deref-4.result.now) (c.cells-cells.ensures ∙ ap (λ t. t.cells) is)
     ∙ ap₂ (labels_of_sets (cells P)) c.deref-3.ensures.value c.deref-4.ensures.value)))
     (are-least P c.known.ensures.sound (subst AreCells (ap (λ t. t.cells) is) c.known-2.ensures) links granted influence learn
     (subst (λ t. map (edge_at t.cells) links ≡ t.edges) is c.links-links.ensures.edges)
@@ -44,11 +44,11 @@ returns-clause-cells c =
     let is = c.in_ok-table.ensures in
     let influence = sizes c.deref.result.now (λ label. label.influence) c.in_ok-influence.influence.items c.in_ok-influence.ensures.size in
     let learn = sizes c.deref-2.result.now (λ label. label.learn) c.in_ok-learn.learn.items c.in_ok-learn.ensures.size in
-    let all = ap length (c.cells.ensures ∙ ap (λ t. t.cells) is) in
+    let all = ap length (c.cells-cells.ensures ∙ ap (λ t. t.cells) is) in
     if-ok-then c.labels_from.result (λ labels same.
     ap (map (λ entry. entry.0)) same
-    ∙ (labels-cells c.cells.result.now c.deref-3.result.now c.deref-4.result.now
+    ∙ (labels-cells c.cells-cells.result.now c.deref-3.result.now c.deref-4.result.now
     (ap length c.deref-3.ensures.value ∙ (influence ∙ (ap length c.deref.ensures.value ∙ (c.in_ok-granted.ensures.size ∙ sym all))))
     (ap length c.deref-4.ensures.value ∙ (learn ∙ (ap length c.deref-2.ensures.value ∙ (c.in_ok-granted.ensures.size ∙ sym all))))
-    ∙ (c.cells.ensures ∙ ap (λ t. t.cells) is)))
+    ∙ (c.cells-cells.ensures ∙ ap (λ t. t.cells) is)))
     c.labels_from.ensures

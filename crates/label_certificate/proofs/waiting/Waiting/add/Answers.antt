@@ -9,6 +9,6 @@ invariant_of-self-2 c =
     let marks = c.self.inside.marks.items in
     let k = c.args.number in
     let low : k < length marks = subst (λ n. k < n) (sym (ap (λ (w : Numbers). w.bound) c.self.view_is)) c.requires in
-    subst (λ numbers. AreMarked numbers (set marks k true)) (sym c.in_ok-push.ensures.items)
+    subst (λ numbers. AreMarked numbers (set marks k true)) (sym c.in_ok-push_back.ensures.items)
     (marked-more c.self.inside.numbers.items marks k c.self.invariant low
     (get_or_default marks k false c.index.result.now low ∙ (sym c.index.ensures ∙ c.if-index.false)))

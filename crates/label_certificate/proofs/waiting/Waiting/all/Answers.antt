@@ -13,7 +13,7 @@ all c =
 
 pub loop-number-preserved : goal.loop-number-preserved
 loop-number-preserved c =
-    c.in_ok-push.ensures.items ∙ (ap (λ numbers. numbers ++ c.loop-number.number ∷ []) c.loop-number.invariant ∙ range-more c.loop-number.number)
+    c.in_ok-push_back.ensures.items ∙ (ap (λ numbers. numbers ++ c.loop-number.number ∷ []) c.loop-number.invariant ∙ range-more c.loop-number.number)
 
 pub invariant_of-result : goal.invariant_of-result
 invariant_of-result c =
