@@ -1,9 +1,10 @@
-//! The program `cosem-flow`: a meter server over lines of text.
+//! The program `cosem-flow`: a meter server over lines of text, and a judge of configurations.
 //!
 //! `cosem-flow run CONFIG` answers the step lines of standard input on standard output, by the configuration in the file
-//! CONFIG; `cosem-flow demo` does so by the file `demo.toml` in the current folder. A configuration with a fault is told
-//! on standard output by `config CN at PLACE`. Exit status: 0 done, 1 a configuration refused, 2 the command line can't be
-//! used, 3 any other fault.
+//! CONFIG; `cosem-flow demo` does so by the file `demo.toml` in the current folder. `edges CONFIG` prints the edges of the
+//! configuration, `label CONFIG` its least labels, and `check CONFIG LABELS` the verdict on the labels in the file LABELS. A
+//! verdict is one line on standard output. Exit status: 0 done or accepted, 1 a configuration or labels refused, 2 the command
+//! line can't be used, 3 any other fault.
 #![tactic(auto)]
 
 use meter_server::program::run_program;
