@@ -7,4 +7,5 @@ mod refusals;
 mod runs;
 mod samples;
 mod steps;
+mod verdicts;
 mod views;

@@ -1,14 +1,5 @@
-use config_text::fault::ConfigFault;
 use meter_server::running::LineFault;
-use meter_server::verdict::{Verdict, verdict_text};
 use std::test::Fail;
-
-#[test]
-fn refused_memory_is_a_verdict(rt: HostRuntime) -> Result<(), Fail> {
-    let line = verdict_text(rt.alloc(), &Verdict::Config(ConfigFault::Memory))?;
-    assert_eq!(rt; line.as_str(), "config C0\n");
-    Ok(())
-}
 
 #[test]
 fn faults_of_lines_are_told(rt: HostRuntime) -> Result<(), Fail> {

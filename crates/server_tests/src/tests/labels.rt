@@ -12,7 +12,7 @@ use std::process::Abort;
 use std::test::Fail;
 
 /// The least labels of the demo configuration.
-const LABELS: &str = "\
+pub const LABELS: &str = "\
     3/1.0.1.8.0.255/2 influence=manager learn=reader,manager\n\
     1/0.0.96.11.0.255/2 influence=manager learn=reader,manager\n\
     21/0.0.16.1.0.255/2 influence=manager learn=reader,manager\n\
