@@ -8,6 +8,7 @@ use Rattle.cosem_data.specs.declared.clients.ClientSet.{ClientSet}
 use Rattle.meter_theory.specs.Labels.{Labels, nobody}
 use Rattle.meter_theory.specs.Lists.{IsIn}
 use Rattle.meter_theory.specs.Plan.{Plan, cells}
+use Rattle.meter_theory.specs.Sound.{IsSound}
 use Rattle.meter_theory.specs.declared.flow.Label.{Label}
 use Rattle.label_certificate.specs.Faults.{◌>>=◌, found_or, fault_unless, at_line}
 use Rattle.label_certificate.specs.LabelLine.{LabelLine, label_line_at, line_text, parts}
@@ -97,6 +98,10 @@ AreFrom P least (entry ∷ labels) = (place : ℕ) × (cell_place P entry.0 ≡ 
 -- the labels' cells are cells of the plan, in plan order, each once (own profile)
 abbrev pub AreInPlanOrder : Plan → Labels → Type 0
 AreInPlanOrder P labels = AreFrom P 0 labels
+
+-- there is a plan of which they are so (own profile)
+abbrev pub AreOfAPlan : Labels → Type 0
+AreOfAPlan labels = (P : Plan) × IsSound P × AreInPlanOrder P labels
 
 -- the set has clients of the plan only (own profile)
 abbrev pub HasClientsOf : Plan → ClientSet → Type 0

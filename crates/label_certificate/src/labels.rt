@@ -5,7 +5,7 @@ use cosem_data::cell::CellRef;
 use meter_theory::flow::Label;
 use std::marker::Model;
 
-/// Cells, in plan order and each once, with who may influence and who may learn each of them (own profile).
+/// Cells of a plan, in plan order and each once, with who may influence and who may learn each of them (own profile).
 #[derive(Drop)]
 pub struct Labels {
     entries: Vec<(CellRef, Label)>,
@@ -17,14 +17,28 @@ impl Model for Labels {
     ghost Value = { theory.Labels };
 
     ghost view = { λ l. l.entries.items };
+
+    ghost use Rattle.label_certificate.specs.LabelText.{AreOfAPlan};
+
+    ghost invariant = { λ l. AreOfAPlan l.entries.items };
 }
 
 impl Labels {
+    ghost use Rattle.label_certificate.specs.LabelText.{AreOfAPlan};
+
     /// The labels with these entries.
     pub(crate) fn new(entries: Vec<(CellRef, Label)>) -> Self
+        requires { AreOfAPlan entries.items }
         ensures { result ≡ entries.items }
     {
         Labels { entries }
+    }
+
+    /// What the type keeps, for callers: there is a plan of whose cells these are, in plan order and each once.
+    pub fn known(&self)
+        ensures { AreOfAPlan self.now }
+    {
+        let _entries = &self.entries;
     }
 
     /// Each cell with its label, in plan order.

@@ -30,7 +30,8 @@ pub fn make_labels(alloc: Global, plan: &Plan) -> Result<Labels, Memory>
     let links = table.links();
     let influence = flow_along(alloc, links, &granted)?;
     let learn = flow_against(alloc, links, &granted)?;
-    labels_from(alloc, cells, &influence, &learn)
+    let entries = entries_from(alloc, cells, &influence, &learn)?;
+    Ok(Labels::new(entries))
 }
 
 /// The least sets above those that may influence, in which no client is lost from the source of an edge to its target.
@@ -104,15 +105,15 @@ fn arrows_against(alloc: Global, links: &[Link]) -> Result<Vec<Arrow>, Memory>
 }
 
 /// Each cell with its sets.
-fn labels_from(
+fn entries_from(
     alloc: Global,
     cells: &[CellRef],
     influence: &[ClientSet],
     learn: &[ClientSet],
-) -> Result<Labels, Memory>
+) -> Result<Vec<(CellRef, Label)>, Memory>
     requires influence { length influence.now ≡ length cells.now }
     requires learn { length learn.now ≡ length cells.now }
-    ensures { IfOk result (λ labels. labels ≡ labels_of_sets cells.now influence.now learn.now) }
+    ensures { IfOk result (λ entries. entries.items ≡ labels_of_sets cells.now influence.now learn.now) }
 {
     let mut entries = Vec::with_capacity(alloc, cells.len())?;
     for (number, cell) in cells.iter().enumerate() {
@@ -122,5 +123,5 @@ fn labels_from(
         };
         entries.push((*cell, label))?;
     }
-    Ok(Labels::new(entries))
+    Ok(entries)
 }

@@ -63,6 +63,7 @@ fn read_lines(alloc: Global, plan: &Plan, text: &[u8]) -> Result<Labels, LabelFa
             line: number,
         });
     }
+    plan.known();
     Ok(Labels::new(entries))
 }
 

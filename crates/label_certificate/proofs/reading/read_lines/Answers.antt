@@ -1,9 +1,11 @@
-use Rattle.std.proofs.Common.{◌∷◌, ◌++◌, [], ◌+◌, ◌≤◌, length, sym, ap, subst, ◌∙◌, arith}
+use Rattle.std.proofs.Common.{◌≡◌, ◌∷◌, ◌++◌, [], ◌+◌, ◌≤◌, length, Ok, sym, ap, subst, ◌∙◌, arith}
+use Rattle.std.proofs.lemmas.List.{append-nil}
 use Rattle.std.specs.Option.{option_map_or}
 use Rattle.label_certificate.specs.LabelLine.{parts}
-use Rattle.label_certificate.specs.LabelText.{labels_from}
+use Rattle.label_certificate.specs.LabelText.{labels_from, labels_of_text}
 use Rattle.label_certificate.specs.LineView.{parts_left}
-use Rattle.label_certificate.proofs.LinesFrom.{behind_labels, read-fault, read-more, read-rest, shorter_left}
+use Rattle.label_certificate.proofs.InOrder.{read_in_order}
+use Rattle.label_certificate.proofs.LinesFrom.{behind_labels, read-end, read-fault, read-more, read-rest, shorter_left}
 use Rattle.label_certificate.proofs.Parts.{parts-some}
 use Rattle.label_certificate.proofs.reading.read_lines.Goals as goal
 
@@ -53,3 +55,18 @@ returns-then-not-is_empty c =
     sym c.loop-behind.invariant.0
     ∙ ap (λ r. behind_labels front (labels_from P number least (line ∷ parts_left 10 r))) c.in_default.is
     ∙ read-rest P number least front line (sym c.is_empty.ensures ∙ c.if-not-is_empty.true)
+
+-- the labels that were read are those of the text, and so in plan order
+pub new-requires : goal.new-requires
+new-requires c =
+    let P = c.args.plan.now in
+    let front = c.loop-behind.entries.items in
+    let number = c.loop-behind.number in
+    let least = c.loop-behind.least in
+    let line = c.loop-behind.line.now in
+    let whole : labels_of_text P c.args.text.now ≡ Ok front =
+    sym c.loop-behind.invariant.0
+    ∙ ap (λ r. behind_labels front (labels_from P number least (line ∷ parts_left 10 r))) c.in_default.is
+    ∙ read-end P number least front line (sym c.is_empty.ensures ∙ c.if-not-is_empty.false)
+    ∙ ap Ok (append-nil front) in
+    (P, c.known.ensures.sound, read_in_order P c.args.text.now (Ok front) whole)

@@ -1,6 +1,6 @@
 use Rattle.std.proofs.lemmas.List.{get_or_default}
 use Rattle.label_certificate.proofs.Closed.{pushed-more}
-use Rattle.label_certificate.proofs.least.labels_from.Goals as goal
+use Rattle.label_certificate.proofs.least.entries_from.Goals as goal
 
 pub loop-number-preserved : goal.loop-number-preserved
 loop-number-preserved c =
