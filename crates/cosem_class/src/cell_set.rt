@@ -46,13 +46,4 @@ impl CellSet {
         let mask = self.mask;
         cell < 16 && (mask >> cell) & 1 == 1
     }
-
-    /// The members of either set.
-    pub fn union(self, other: CellSet) -> CellSet
-        ensures { (i : ℕ) → has result i ≡ (has self i || has other i) }
-    {
-        CellSet {
-            mask: self.mask | other.mask,
-        }
-    }
 }

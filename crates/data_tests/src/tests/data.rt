@@ -4,7 +4,7 @@ use cosem_data::name::{BadName, LogicalName};
 use std::alloc::Global;
 use std::test::Fail;
 
-/// Total active energy import, as the OBIS table of IEC 62056-6-2 has it.
+/// Total active energy import, as the OBIS table of IEC 62056-6-1 has it.
 const ENERGY: LogicalName = LogicalName([1, 0, 1, 8, 0, 255]);
 
 fn octets(alloc: Global, bytes: &[u8]) -> Result<Bytes, Fail> {
