@@ -1,0 +1,57 @@
+-- The command line as clap's definition of a simple command sees it. All of it is own profile.
+use Rattle.std.specs.Prelude.{List, [], ◌∷◌, Some, codes, false, map, true}
+use Rattle.clap.specs.Words.{App, Kinds, Rule, Shape, Text, fault_of, new_app, new_rule, with_rule}
+use Rattle.clap.specs.Simple.{new_shape}
+use Rattle.clap.specs.declared.builder.action.ArgAction.TheVariants.{Set}
+
+-- a file that has to be named (own profile)
+abbrev pub file : Text → Rule
+file id = record (new_rule id) { required = true; action = Some Set; value_names = 1 }
+
+-- the file of a configuration (own profile)
+abbrev pub config_file : Rule
+config_file = file (codes "config")
+
+-- the file of labels (own profile)
+abbrev pub labels_file : Rule
+labels_file = file (codes "labels")
+
+-- `demo` (own profile)
+abbrev pub demo_app : App
+demo_app = new_app (codes "demo")
+
+-- `run CONFIG` (own profile)
+abbrev pub run_app : App
+run_app = with_rule (new_app (codes "run")) config_file
+
+-- `edges CONFIG` (own profile)
+abbrev pub edges_app : App
+edges_app = with_rule (new_app (codes "edges")) config_file
+
+-- `label CONFIG` (own profile)
+abbrev pub label_app : App
+label_app = with_rule (new_app (codes "label")) config_file
+
+-- `check CONFIG LABELS` (own profile)
+abbrev pub check_app : App
+check_app = with_rule (with_rule (new_app (codes "check")) config_file) labels_file
+
+-- the program: it has a version, and wants a command (own profile)
+abbrev pub program : Shape
+program = record (new_shape (codes "cosem-flow")) { has_version = true; subcommand_required = true; is_leaf = false }
+
+-- the program before it has commands (own profile)
+abbrev pub bare_program : App
+bare_program = record { top = record program { is_leaf = true }; subs = [] }
+
+-- the commands of the program (own profile)
+abbrev pub commands : List App
+commands = demo_app ∷ run_app ∷ edges_app ∷ label_app ∷ check_app ∷ []
+
+-- the program with its commands (own profile)
+abbrev pub app : App
+app = record { top = program; subs = map (λ command. command.top) commands }
+
+-- the kinds that clap's error on these words may have, none where clap takes them (own profile)
+abbrev pub kinds_of : List Text → Kinds
+kinds_of words = fault_of app words

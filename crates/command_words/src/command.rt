@@ -1,0 +1,16 @@
+//! What a command line asks for.
+
+/// What a command line asks for, with the paths of the files that it names (own profile).
+#[derive(Clone, Copy, Debug)]
+pub enum Command<'a> {
+    /// To answer step lines by the demo configuration.
+    Demo,
+    /// To answer step lines by a configuration.
+    Run { config: &'a str },
+    /// To print the edges of a configuration.
+    Edges { config: &'a str },
+    /// To print the least labels of a configuration.
+    Label { config: &'a str },
+    /// To print the verdict on a configuration and on labels for it.
+    Check { config: &'a str, labels: &'a str },
+}

@@ -1,0 +1,105 @@
+//! The commands of the program, as clap takes them, with the texts of their help.
+ghost use Rattle.std.specs.Prelude.{◌≡◌, IfOk, false};
+ghost use Rattle.clap.specs.Words.{app_of, new_app, rule_of};
+ghost use Rattle.clap.specs.declared.builder.command.Command.TheViews.{out-Command};
+ghost use Rattle.command_words.specs.CommandLine as spec;
+
+use clap::{Arg, ArgAction, Command};
+use std::alloc::{AllocError, Global};
+
+/// All commands of the program.
+pub fn all_commands<'a>(alloc: Global) -> Result<Command<'a>, AllocError>
+    ensures { IfOk result (λ c. app_of c ≡ spec.app) }
+{
+    program(alloc)?
+        .subcommand(demo_command(alloc))?
+        .subcommand(run_command(alloc)?)?
+        .subcommand(edges_command(alloc)?)?
+        .subcommand(label_command(alloc)?)?
+        .subcommand(check_command(alloc)?)
+}
+
+/// The program, without its commands.
+fn program<'a>(alloc: Global) -> Result<Command<'a>, AllocError>
+    ensures app { IfOk result (λ c. app_of c ≡ spec.bare_program) }
+    ensures local { IfOk result (λ c. (out-Command c).has_globals ≡ false) }
+{
+    Command::new(alloc, "cosem-flow")
+        .version("0.1.0")
+        .about("A meter server for COSEM meters, and a judge of their configurations")
+        .after_help("Example: cosem-flow run mine.toml < steps.txt")
+        .subcommand_required(true)
+        .bin_name("cosem-flow")
+}
+
+fn demo_command<'a>(alloc: Global) -> Command<'a>
+    ensures app { app_of result ≡ spec.demo_app }
+    ensures local { (out-Command result).has_globals ≡ false }
+{
+    Command::new(alloc, "demo")
+        .about("Answer the step lines of standard input by the demo configuration")
+        .after_help("Example: cosem-flow demo < steps.txt")
+}
+
+fn run_command<'a>(alloc: Global) -> Result<Command<'a>, AllocError>
+    ensures app { IfOk result (λ c. app_of c ≡ spec.run_app) }
+    ensures local { IfOk result (λ c. (out-Command c).has_globals ≡ false) }
+{
+    Command::new(alloc, "run")
+        .about("Answer the step lines of standard input by a configuration")
+        .after_help("Example: cosem-flow run mine.toml < steps.txt")
+        .arg(config_file(alloc))
+}
+
+fn edges_command<'a>(alloc: Global) -> Result<Command<'a>, AllocError>
+    ensures app { IfOk result (λ c. app_of c ≡ spec.edges_app) }
+    ensures local { IfOk result (λ c. (out-Command c).has_globals ≡ false) }
+{
+    Command::new(alloc, "edges")
+        .about("Print from which attribute to which a value may flow")
+        .after_help("Example: cosem-flow edges mine.toml")
+        .arg(config_file(alloc))
+}
+
+fn label_command<'a>(alloc: Global) -> Result<Command<'a>, AllocError>
+    ensures app { IfOk result (λ c. app_of c ≡ spec.label_app) }
+    ensures local { IfOk result (λ c. (out-Command c).has_globals ≡ false) }
+{
+    Command::new(alloc, "label")
+        .about("Print the least labels of a configuration")
+        .after_help("Example: cosem-flow label mine.toml > mine.labels")
+        .arg(config_file(alloc))
+}
+
+fn check_command<'a>(alloc: Global) -> Result<Command<'a>, AllocError>
+    ensures app { IfOk result (λ c. app_of c ≡ spec.check_app) }
+    ensures local { IfOk result (λ c. (out-Command c).has_globals ≡ false) }
+{
+    Command::new(alloc, "check")
+        .about("Print the verdict on labels for a configuration")
+        .after_help("Example: cosem-flow check mine.toml mine.labels")
+        .arg(config_file(alloc))?
+        .arg(labels_file(alloc))
+}
+
+fn config_file<'a>(alloc: Global) -> Arg<'a>
+    ensures rule { rule_of result ≡ spec.config_file }
+    ensures local { result.global ≡ false }
+{
+    Arg::new(alloc, "config")
+        .required(true)
+        .action(ArgAction::Set)
+        .value_name("CONFIG")
+        .help("The file of the configuration, in TOML")
+}
+
+fn labels_file<'a>(alloc: Global) -> Arg<'a>
+    ensures rule { rule_of result ≡ spec.labels_file }
+    ensures local { result.global ≡ false }
+{
+    Arg::new(alloc, "labels")
+        .required(true)
+        .action(ArgAction::Set)
+        .value_name("LABELS")
+        .help("The file of the labels, in the form that `label` prints")
+}

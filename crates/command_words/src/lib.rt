@@ -1,0 +1,12 @@
+//! The command line of the program `cosem-flow`: what its words ask for, and the texts of help, version and usage faults (own
+//! profile).
+#![tactic(auto)]
+
+pub mod command;
+mod commands;
+pub mod fault;
+pub mod reading;
+
+pub use command::Command;
+pub use fault::WordsFault;
+pub use reading::read_words;

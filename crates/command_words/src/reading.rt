@@ -1,0 +1,94 @@
+//! Command lines, read.
+ghost use Rattle.std.specs.Prelude.{◌≡◌, ◌⊎◌, [], IfErr, IfOk, None, Some, map, option_and_then, option_map};
+ghost use Rattle.clap.specs.Words.{IsAmong, first_of, found_of, rows_of, subcommand_rows_of};
+ghost use Rattle.clap.specs.declared.error.kind.ErrorKind.TheVariants.{DisplayHelp, DisplayVersion, MissingSubcommand};
+ghost use Rattle.command_words.specs.Commands as spec;
+ghost use Rattle.command_words.specs.Commands.{asked_by, command_of};
+ghost use Rattle.command_words.specs.CommandLine.{kinds_of};
+ghost use Rattle.command_words.specs.Faults.{HasMistake, IfHelp, IfUsage, IfVersion, IsToldAs, UnlessMemory};
+
+use crate::command::Command;
+use crate::commands::all_commands;
+use crate::fault::{WordsFault, fault_told};
+use clap::ArgMatches;
+use std::alloc::Global;
+
+/// What the words of a command line ask for, the program's name first. The error is that they ask for help or the version, that
+/// they are no command, or that memory was refused.
+pub fn read_words<'a>(alloc: Global, words: &'a [&'a str]) -> Result<Command<'a>, WordsFault>
+    ensures command { IfOk result (λ command. command_of (map (λ word. word.now) words.now)
+        ≡ Some (asked_by command)) }
+    ensures no_command { IfErr result (λ fault. UnlessMemory fault
+        (command_of (map (λ word. word.now) words.now) ≡ None)) }
+    ensures help { IfErr result (λ fault. IfHelp fault
+        (IsAmong DisplayHelp (kinds_of (map (λ word. word.now) words.now)))) }
+    ensures version { IfErr result (λ fault. IfVersion fault
+        (IsAmong DisplayVersion (kinds_of (map (λ word. word.now) words.now)))) }
+    ensures usage { IfErr result (λ fault. IfUsage fault
+        ((kinds_of (map (λ word. word.now) words.now) ≡ [])
+        ⊎ HasMistake (kinds_of (map (λ word. word.now) words.now)))) }
+{
+    match all_commands(alloc)?.try_get_matches_from(words) {
+        Ok(matches) => match command_in(&matches) {
+            Some(command) => Ok(command),
+            None => Err(nothing_named(alloc)),
+        },
+        Err(error) => Err(fault_told(alloc, &error)),
+    }
+}
+
+/// The fault of matches that name no command. No words are known of which clap makes such matches.
+fn nothing_named(alloc: Global) -> WordsFault
+    ensures { IsToldAs MissingSubcommand result }
+{
+    match String::from_str(alloc, "error: the words name no command\n") {
+        Ok(text) => WordsFault::Usage(text),
+        Err(_) => WordsFault::Memory,
+    }
+}
+
+/// The command that the matches name.
+fn command_in<'a>(matches: &ArgMatches<'a>) -> Option<Command<'a>>
+    ensures { option_map asked_by result ≡ option_and_then spec.asked_in (subcommand_rows_of matches.now) }
+{
+    let (name, found) = matches.subcommand()?;
+    command_named(name, found)
+}
+
+/// The command of this name, with what was found of its words.
+fn command_named<'a>(name: &str, found: &ArgMatches<'a>) -> Option<Command<'a>>
+    ensures { option_map asked_by result ≡ spec.asked_in (name.now, rows_of (found_of found.now)) }
+{
+    match name {
+        "demo" => Some(Command::Demo),
+        "run" => {
+            let config = value(found, "config")?;
+            Some(Command::Run { config })
+        }
+        "edges" => {
+            let config = value(found, "config")?;
+            Some(Command::Edges { config })
+        }
+        "label" => {
+            let config = value(found, "config")?;
+            Some(Command::Label { config })
+        }
+        "check" => check_in(found),
+        _ => None,
+    }
+}
+
+fn check_in<'a>(found: &ArgMatches<'a>) -> Option<Command<'a>>
+    ensures { option_map asked_by result ≡ spec.check_in (rows_of (found_of found.now)) }
+{
+    let config = value(found, "config")?;
+    let labels = value(found, "labels")?;
+    Some(Command::Check { config, labels })
+}
+
+/// The first value of an argument.
+fn value<'a>(found: &ArgMatches<'a>, id: &str) -> Option<&'a str>
+    ensures { option_map (λ text. text.now) result ≡ first_of id.now (rows_of (found_of found.now)) }
+{
+    found.get_str(id)
+}
