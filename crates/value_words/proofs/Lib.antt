@@ -1,0 +1,9 @@
+pub mod Steps
+pub mod Behind
+pub mod Runs
+pub mod Loops
+pub mod Parts
+pub mod Decimals
+pub mod Octets
+pub mod Letters
+pub mod Values
