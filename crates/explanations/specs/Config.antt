@@ -1,0 +1,81 @@
+-- What is told of a fault of a configuration.
+use Rattle.std.specs.Prelude.{◌≡◌, ℕ, ◌+◌, ◌≤◌, ◌==◌, List, [], ◌∷◌, Bool, true, false, codes, if◌then◌else◌, length, take, Option, Some, None, MatchOption, string_bytes}
+use Rattle.std.specs.Fmt.{decimal, signed_decimal, is_char_start}
+use Rattle.std.specs.List.{concat}
+use Rattle.config_text.specs.declared.fault.Code.{Code}
+use Rattle.config_text.specs.declared.fault.Code.TheVariants.{NotToml}
+use Rattle.config_text.specs.declared.fault.ConfigFault.{ConfigFault}
+use Rattle.config_text.specs.declared.fault.ConfigFault.TheVariants as faults
+use Rattle.toml.specs.Data.{Data, string, integer, float, boolean, datetime, array, table}
+use Rattle.toml.specs.Parse.{parse_document}
+use Rattle.explanations.specs.Following.{object_name, value_at}
+use Rattle.explanations.specs.Meanings.{meaning, mending, memory_meaning, memory_mending}
+use Rattle.explanations.specs.Printable.{printable, quoted}
+
+-- Values
+
+-- true and false as TOML writes them (own profile)
+abbrev pub flag_words : Bool → List ℕ
+flag_words true = codes "true"
+flag_words false = codes "false"
+
+-- a value: texts, whole numbers, true and false as TOML writes them, any other by its kind (own profile)
+abbrev pub value_words : Data → List ℕ
+value_words (string text) = quoted text
+value_words (integer number) = signed_decimal number
+value_words (float _) = codes "a float"
+value_words (boolean flag) = flag_words flag
+value_words (datetime _) = codes "a date"
+value_words (array _) = codes "an array"
+value_words (table _) = codes "a table"
+
+-- the line that tells the name of an object, if there is one (own profile)
+abbrev pub object_line : Option (List ℕ) → List ℕ
+object_line None = []
+object_line (Some name) = concat (codes "  the object is " ∷ printable name ∷ codes "\n" ∷ [])
+
+-- the line that tells a value, if there is one (own profile)
+abbrev pub value_line : Option Data → List ℕ
+value_line None = []
+value_line (Some d) = concat (codes "  the text there is " ∷ value_words d ∷ codes "\n" ∷ [])
+
+-- Explanations
+
+-- a fault at a place of a text that is this table: what it means, where it is and how it is mended (own profile)
+abbrev pub told : List ℕ → Code → List ℕ → Data → List ℕ
+told file code place whole = concat (
+    codes "cosem-flow: " ∷ printable file ∷ codes ": " ∷ printable place ∷ codes ": " ∷ meaning code ∷ codes "\n"
+    ∷ object_line (object_name whole place) ∷ value_line (value_at whole place)
+    ∷ codes "  " ∷ mending code ∷ codes "\n" ∷ [])
+
+-- the line and the column behind these bytes, from those before them; a column counts characters (own profile)
+abbrev pub place_behind : ℕ → ℕ → List ℕ → ℕ × ℕ
+place_behind line column [] = (line, column)
+place_behind line column (b ∷ bytes) =
+    if b == 10 then place_behind (line + 1) 1 bytes
+    else if is_char_start b then place_behind line (column + 1) bytes
+    else place_behind line column bytes
+
+-- a text that isn't TOML, where its reader stopped at this line and column, with what it says (own profile)
+abbrev pub no_toml_at : List ℕ → ℕ × ℕ → List ℕ → List ℕ
+no_toml_at file place message = concat (
+    codes "cosem-flow: " ∷ printable file ∷ codes ": line " ∷ decimal place.0 ∷ codes ", column " ∷ decimal place.1 ∷ codes ": "
+    ∷ meaning NotToml ∷ codes ": " ∷ printable message ∷ codes "\n  " ∷ mending NotToml ∷ codes "\n" ∷ [])
+
+-- the same behind these bytes, the line and the column from 1 (own profile)
+abbrev pub no_toml : List ℕ → List ℕ → List ℕ → List ℕ
+no_toml file before message = no_toml_at file (place_behind 1 1 before) message
+
+-- the explanation tells some place of the text, and something that the reader of TOML says of it (own profile)
+abbrev pub TellsNoToml : List ℕ → List ℕ → List ℕ → Type 0
+TellsNoToml file text explanation = (start : ℕ) × (message : List ℕ) × (start ≤ length text) × (explanation ≡ no_toml file (take start text) message)
+
+-- what is told of want of memory (own profile)
+abbrev pub no_memory : List ℕ → List ℕ
+no_memory file = concat (codes "cosem-flow: " ∷ printable file ∷ codes ": " ∷ memory_meaning ∷ codes "\n  " ∷ memory_mending ∷ codes "\n" ∷ [])
+
+-- the explanation of a fault that a text has (own profile)
+abbrev pub Explains : List ℕ → List ℕ → ConfigFault → List ℕ → Type 0
+Explains file text faults.Memory explanation = explanation ≡ no_memory file
+Explains file text (faults.Found code place) explanation =
+    MatchOption (parse_document text) (TellsNoToml file text explanation) (λ members. explanation ≡ told file code (string_bytes place) (table members))

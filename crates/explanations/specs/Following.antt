@@ -1,0 +1,70 @@
+-- The value to which a place in the text of a configuration leads, as `object[6].name`. Texts are lists of bytes.
+use Rattle.std.specs.Prelude.{ℕ, ◌+◌, ◌-◌, ◌*◌, ◌==◌, nat_lt, ◌&&◌, List, [], ◌∷◌, codes, length, if◌then◌else◌, Option, Some, None, option_and_then}
+use Rattle.std.specs.Char.{is_ascii_digit}
+use Rattle.std.specs.List.{slice_split, position_or_len, before_first, after_first}
+use Rattle.std.specs.Str.{bytes_eq}
+use Rattle.toml.specs.Data.{Data, get, at, as_str}
+
+-- Parts of texts
+
+-- the parts of a text between the bytes of this kind, at least one (own profile)
+abbrev pub parts : ℕ → List ℕ → List (List ℕ)
+parts separator text = slice_split (λ b. b == separator) text
+
+-- what stands before the first byte of this kind, or all of the text where it has none (own profile)
+abbrev pub front : ℕ → List ℕ → List ℕ
+front separator text = before_first (λ b. b == separator) text
+
+-- what stands behind the first byte of this kind, if it has one (own profile)
+abbrev pub back : ℕ → List ℕ → Option (List ℕ)
+back separator text = if nat_lt (position_or_len (λ b. b == separator) text) (length text) then Some (after_first (λ b. b == separator) text) else None
+
+-- the parts of what is left of a text, none where nothing is (own profile)
+abbrev pub parts_left : ℕ → Option (List ℕ) → List (List ℕ)
+parts_left separator None = []
+parts_left separator (Some text) = parts separator text
+
+-- Steps
+
+-- the number with these digits behind it, if it has no more than six (own profile)
+abbrev pub number_from : ℕ → List ℕ → Option ℕ
+number_from value [] = Some value
+number_from value (c ∷ text) = if is_ascii_digit c && nat_lt value 100000 then number_from (10 * value + (c - 48)) text else None
+
+-- the number that a text is in decimal (own profile)
+abbrev pub number_in : List ℕ → Option ℕ
+number_in text = if length text == 0 then None else number_from 0 text
+
+-- the number before a bracket, behind which nothing is to stand (own profile)
+abbrev pub closed : List ℕ → Option (List ℕ) → Option ℕ
+closed digits (Some []) = number_in digits
+closed digits _ = None
+
+-- what a key of a table leads to, and an index of the array there (own profile)
+abbrev pub step_from : Data → List ℕ → Option (List ℕ) → Option Data
+step_from d key None = get key d
+step_from d key (Some index) = option_and_then (λ found. option_and_then (λ i. at i found) (closed (front 93 index) (back 93 index))) (get key d)
+
+-- what a step leads to: `KEY`, or `KEY[INDEX]` (own profile)
+abbrev pub step_in : Data → List ℕ → Option Data
+step_in d step = step_from d (front 91 step) (back 91 step)
+
+-- what steps lead to (own profile)
+abbrev pub follow : Data → List (List ℕ) → Option Data
+follow d [] = Some d
+follow d (step ∷ steps) = option_and_then (λ found. follow found steps) (step_in d step)
+
+-- Places
+
+-- the value at a place, whose steps are joined by dots (own profile)
+abbrev pub value_at : Data → List ℕ → Option Data
+value_at whole place = follow whole (parts 46 place)
+
+-- the text at the key `name` (own profile)
+abbrev pub name_of : Data → Option (List ℕ)
+name_of d = option_and_then as_str (get (codes "name") d)
+
+-- the name of the object in which a place lies, `object[N]` and what follows (own profile)
+abbrev pub object_name : Data → List ℕ → Option (List ℕ)
+object_name whole place =
+    if bytes_eq (front 91 place) (codes "object") then option_and_then name_of (step_in whole (front 46 place)) else None

@@ -1,0 +1,62 @@
+//! Cells and edges as they are told (own profile).
+ghost use Rattle.std.specs.Prelude.{◌≡◌};
+ghost use Rattle.explanations.specs.Cells.{cause_word};
+
+use cosem_data::cell::CellRef;
+use meter_theory::flow::{Cause, Edge};
+use std::fmt;
+
+/// A cell as it is told: `class_id/logical name/attribute`, with `seen` for the inner cell of a register monitor.
+#[derive(Drop)]
+pub(crate) struct CellText(pub(crate) CellRef);
+
+impl fmt::Display for CellText {
+    ghost use Rattle.std.specs.Prelude.{Some};
+    ghost use Rattle.value_text.specs.Texts.{cell_text};
+
+    ghost output = { λ cell. Some (cell_text cell.0) };
+
+    fn fmt<W: fmt::Write>(&self, f: &mut fmt::Formatter<W>) -> fmt::Result {
+        let CellRef {
+            class_id,
+            name,
+            index,
+        } = self.0;
+        if index == 0 {
+            write!(f, "{class_id}/{name}/seen")
+        } else {
+            write!(f, "{class_id}/{name}/{index}")
+        }
+    }
+}
+
+/// An edge as it is told: `CELL -> CELL CAUSE`.
+#[derive(Drop)]
+pub(crate) struct EdgeText(pub(crate) Edge);
+
+impl fmt::Display for EdgeText {
+    ghost use Rattle.std.specs.Prelude.{Some};
+    ghost use Rattle.explanations.specs.Cells.{edge_text};
+
+    ghost output = { λ edge. Some (edge_text edge.0) };
+
+    fn fmt<W: fmt::Write>(&self, f: &mut fmt::Formatter<W>) -> fmt::Result {
+        let source = CellText(self.0.source);
+        let target = CellText(self.0.target);
+        let cause = word_of(self.0.cause);
+        write!(f, "{source} -> {target} {cause}")
+    }
+}
+
+/// The word of a cause.
+fn word_of(cause: Cause) -> &'static str
+    ensures { result.now ≡ cause_word cause }
+{
+    match cause {
+        Cause::Monitored => "monitored",
+        Cause::Monitor => "monitor",
+        Cause::Captured => "captured",
+        Cause::Period => "period",
+        Cause::Schedule => "schedule",
+    }
+}

@@ -1,0 +1,94 @@
+//! The explanation of a configuration's fault (own profile).
+ghost use Rattle.std.specs.Prelude.{◌≡◌, ◌++◌, IfOk, OnOk, option_map, string_bytes};
+ghost use Rattle.toml.specs.View.{view};
+ghost use Rattle.explanations.specs.Config as spec;
+ghost use Rattle.explanations.specs.Config.{Explains};
+
+use crate::following::{object_name, value_at};
+use crate::meaning::{meaning_of, mending_of};
+use crate::printable::printable_text;
+use crate::syntax::explain_no_toml;
+use crate::value::value_words;
+use config_text::fault::{Code, ConfigFault};
+use cosem_data::memory::Memory;
+use std::alloc::Global;
+use toml::Value;
+
+/// The line that tells the name of an object, if there is one.
+fn object_line(alloc: Global, name: Option<&str>) -> Result<String, Memory>
+    ensures { IfOk result (λ line. string_bytes line ≡ spec.object_line (option_map (λ n. n.now) name.entry)) }
+{
+    match name {
+        Some(name) => {
+            let name = printable_text(alloc, name)?;
+            Ok(format!(in alloc; "  the object is {name}\n")?)
+        }
+        None => Ok(String::new(alloc)),
+    }
+}
+
+/// The line that tells a value, if there is one.
+fn value_line(alloc: Global, value: Option<&Value>) -> Result<String, Memory>
+    ensures { IfOk result (λ line. string_bytes line ≡ spec.value_line (option_map (λ v. view v.now) value.entry)) }
+{
+    match value {
+        Some(value) => {
+            let words = value_words(alloc, value)?;
+            Ok(format!(in alloc; "  the text there is {words}\n")?)
+        }
+        None => Ok(String::new(alloc)),
+    }
+}
+
+/// What is told of a fault at a place of a text that is this table.
+fn told(alloc: Global, file: &str, code: Code, place: &str, whole: &Value) -> Result<String, Memory>
+    ensures { IfOk result (λ told. string_bytes told ≡ spec.told file.now code place.now (view whole.now)) }
+{
+    let object = object_line(alloc, object_name(whole, place))?;
+    let value = value_line(alloc, value_at(whole, place))?;
+    let file = printable_text(alloc, file)?;
+    let place = printable_text(alloc, place)?;
+    let meaning = meaning_of(code);
+    let mending = mending_of(code);
+    Ok(format!(in alloc; "cosem-flow: {file}: {place}: {meaning}\n{object}{value}  {mending}\n")?)
+}
+
+/// What is told where memory was refused.
+fn no_memory(alloc: Global, file: &str) -> Result<String, Memory>
+    ensures { IfOk result (λ told. string_bytes told ≡ spec.no_memory file.now) }
+{
+    let file = printable_text(alloc, file)?;
+    Ok(format!(in alloc;
+        "cosem-flow: {file}: memory was refused, and nothing is known of the text\n  give the process more memory\n"
+    )?)
+}
+
+/// Explains a fault that the text of a configuration has, in lines (own profile):
+///
+///     cosem-flow: FILE: PLACE: MEANING
+///       the object is NAME
+///       the text there is VALUE
+///       HOW TO MEND
+///
+/// The second line is there where the place lies in an object that has a text as its name, the third where the place leads to a
+/// value. A text that isn't TOML is told with the line and the column where its reader stopped in place of PLACE. What comes
+/// from the text, and FILE, is shown without control characters.
+///
+/// # Errors
+/// Memory was refused.
+pub fn explain_config(
+    alloc: Global,
+    file: &str,
+    text: &str,
+    fault: &ConfigFault,
+) -> Result<String, Memory>
+    ensures { IfOk result (λ told. Explains file.now text.now fault.now (string_bytes told)) }
+{
+    match fault {
+        ConfigFault::Memory => no_memory(alloc, file),
+        ConfigFault::Found { code, place } => match toml::table_from_str(alloc, text) {
+            Ok(table) => told(alloc, file, *code, place.as_str(), &Value::Table(table)),
+            Err(error) => explain_no_toml(alloc, file, text, &error),
+        },
+    }
+}

@@ -1,0 +1,80 @@
+//! The value to which a place in the text of a configuration leads (own profile).
+ghost use Rattle.std.specs.Prelude.{◌≡◌, ◌<◌, ◌^◌, option_map, IfSome};
+ghost use Rattle.toml.specs.View.{view};
+ghost use Rattle.explanations.specs.Following as spec;
+
+use crate::split::first_part;
+use toml::Value;
+
+/// The number that a text is in decimal, if it has no more than six digits behind leading zeros.
+fn number_in(text: &str) -> Option<usize>
+    ensures { result ≡ spec.number_in text.now }
+{
+    if text.is_empty() {
+        return None;
+    }
+    let mut value: usize = 0;
+    for digit in text.as_bytes() {
+        if !(digit.is_ascii_digit() && value < 100000) {
+            return None;
+        }
+        value = 10 * value + usize::from(*digit - b'0');
+    }
+    Some(value)
+}
+
+/// The index that stands before a bracket, behind which nothing stands.
+fn index_in(text: &str) -> Option<usize>
+    ensures { result ≡ spec.closed (spec.front 93 text.now) (spec.back 93 text.now) }
+{
+    match first_part(']', text) {
+        (digits, Some(rest)) if rest.is_empty() => number_in(digits),
+        _ => None,
+    }
+}
+
+/// What a step leads to from a value: a key, or a key with an index in brackets.
+fn step_in<'a>(value: &'a Value, step: &str) -> Option<&'a Value>
+    ensures { option_map (λ found. view found.now) result ≡ spec.step_in (view value.now) step.now }
+{
+    match first_part('[', step) {
+        (key, None) => value.get(key),
+        (key, Some(index)) => {
+            let found = value.get(key)?;
+            found.get(index_in(index)?)
+        }
+    }
+}
+
+/// The value at a place, as `object[6].name`, if it leads to one.
+pub(crate) fn value_at<'a>(whole: &'a Value, place: &str) -> Option<&'a Value>
+    ensures { option_map (λ found. view found.now) result ≡ spec.value_at (view whole.now) place.now }
+{
+    let mut found = whole;
+    let mut left = Some(place);
+    while let Some(path) = left {
+        let (step, behind) = first_part('.', path);
+        found = step_in(found, step)?;
+        left = behind;
+    }
+    Some(found)
+}
+
+/// The text at the key `name`.
+fn name_of(value: &Value) -> Option<&str>
+    ensures { option_map (λ name. name.now) result ≡ spec.name_of (view value.now) }
+{
+    value.get("name")?.as_str()
+}
+
+/// The name of the object in which a place lies, if it lies in one that has a name.
+pub(crate) fn object_name<'a>(whole: &'a Value, place: &str) -> Option<&'a str>
+    ensures { option_map (λ name. name.now) result ≡ spec.object_name (view whole.now) place.now }
+{
+    let (key, _) = first_part('[', place);
+    if key != "object" {
+        return None;
+    }
+    let (step, _) = first_part('.', place);
+    name_of(step_in(whole, step)?)
+}

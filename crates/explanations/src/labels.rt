@@ -1,0 +1,132 @@
+//! The explanation of a fault of labels (own profile).
+ghost use Rattle.std.specs.Prelude.{◌≡◌, IfOk, option_map, string_bytes};
+ghost use Rattle.explanations.specs.Labels as spec;
+ghost use Rattle.explanations.specs.Labels.{explanation, meaning, mending};
+
+use crate::printable::{printable_text, push_printable};
+use crate::split::first_part;
+use cosem_data::memory::Memory;
+use label_certificate::fault::{LabelCode, LabelFault};
+use std::alloc::Global;
+
+/// How many bytes of a line are shown.
+const SHOWN: usize = 200;
+
+/// What a code means, in one sentence.
+fn meaning_of(code: LabelCode) -> &'static str
+    ensures { result.now ≡ meaning code }
+{
+    match code {
+        LabelCode::Form => {
+            "the line isn't of the form CELL influence=NAMES learn=NAMES, or no newline ends it"
+        }
+        LabelCode::Cell => "the configuration doesn't have this cell",
+        LabelCode::Client => "the configuration doesn't have one of these clients",
+        LabelCode::Order => "the cell, or a client within a set, stands twice or out of order",
+    }
+}
+
+/// How what a code means is mended.
+fn mending_of(code: LabelCode) -> &'static str
+    ensures { result.now ≡ mending code }
+{
+    match code {
+        LabelCode::Form => {
+            "write it as 1/0.0.96.11.0.255/2 influence=manager learn=reader,manager with one space between parts, - for no client, and a newline behind it"
+        }
+        LabelCode::Cell => "remove the line, or add the object",
+        LabelCode::Client => "remove the name, or add the client",
+        LabelCode::Order => "write cells and clients once, in the order of the configuration",
+    }
+}
+
+/// The line of a text with this number, from 1.
+fn line_at(text: &str, number: u64) -> Option<&str>
+    ensures { option_map (λ line. line.now) result ≡ spec.line_at number text.now }
+{
+    let mut left = Some(text);
+    let mut before = number.saturating_sub(1);
+    while let Some(lines) = left {
+        let (line, behind) = first_part('\n', lines);
+        if before == 0 {
+            return Some(line);
+        }
+        before -= 1;
+        left = behind;
+    }
+    None
+}
+
+/// What is shown of a line: all of it, or its beginning where it is long.
+fn shown_line(alloc: Global, line: &[u8]) -> Result<String, Memory>
+    ensures { IfOk result (λ shown. string_bytes shown ≡ spec.shown_line line.now) }
+{
+    let mut shown = String::new(alloc);
+    if line.len() <= SHOWN {
+        push_printable(line, &mut shown)?;
+    } else {
+        let (beginning, _) = line.split_at(SHOWN);
+        push_printable(beginning, &mut shown)?;
+        shown.push_str(" ...")?;
+    }
+    Ok(shown)
+}
+
+/// The line that tells a line of the labels, if it is there.
+fn line_line(alloc: Global, line: Option<&str>) -> Result<String, Memory>
+    ensures { IfOk result (λ told. string_bytes told ≡ spec.line_line (option_map (λ l. l.now) line.entry)) }
+{
+    match line {
+        Some(line) => {
+            let line = shown_line(alloc, line.as_bytes())?;
+            Ok(format!(in alloc; "  the line is {line}\n")?)
+        }
+        None => Ok(String::new(alloc)),
+    }
+}
+
+/// What is told of a fault in a line.
+fn told(
+    alloc: Global,
+    file: &str,
+    text: &str,
+    code: LabelCode,
+    number: u64,
+) -> Result<String, Memory>
+    ensures { IfOk result (λ told. string_bytes told ≡ spec.told file.now text.now code number) }
+{
+    let file = printable_text(alloc, file)?;
+    let line = line_line(alloc, line_at(text, number))?;
+    let meaning = meaning_of(code);
+    let mending = mending_of(code);
+    Ok(format!(in alloc; "cosem-flow: {file}: line {number}: {meaning}\n{line}  {mending}\n")?)
+}
+
+/// Explains a fault that a text of labels has, in lines (own profile):
+///
+///     cosem-flow: FILE: line K: MEANING
+///       the line is LINE
+///       HOW TO MEND
+///
+/// LINE and FILE are shown without control characters, and of a long line its first 200 bytes and ` ...`.
+///
+/// # Errors
+/// Memory was refused.
+pub fn explain_labels(
+    alloc: Global,
+    file: &str,
+    text: &str,
+    fault: &LabelFault,
+) -> Result<String, Memory>
+    ensures { IfOk result (λ told. string_bytes told ≡ explanation file.now text.now fault.now) }
+{
+    match fault {
+        LabelFault::Line { code, line } => told(alloc, file, text, *code, *line),
+        LabelFault::Memory => {
+            let file = printable_text(alloc, file)?;
+            Ok(format!(in alloc;
+                "cosem-flow: {file}: memory was refused, and nothing is known of the labels\n  give the process more memory\n"
+            )?)
+        }
+    }
+}

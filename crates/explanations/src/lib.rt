@@ -1,0 +1,18 @@
+//! What is told of a configuration, of labels or of a file that is refused, behind the verdict: what is wrong, where, and how
+//! it is mended (own profile).
+//!
+//! The definitions stand in `specs/`: texts without control characters (`Printable`), the value to which a place leads
+//! (`Following`), the sentences of each code (`Meanings`), and the explanations (`Config`, `Labels`, `Refusals`, `Files`).
+#![tactic(auto)]
+
+mod cell;
+pub mod config;
+pub mod file;
+mod following;
+pub mod labels;
+pub mod meaning;
+pub mod printable;
+pub mod refusal;
+mod split;
+mod syntax;
+mod value;
