@@ -1,6 +1,7 @@
 //! One case, or a table of them, against what it must give.
 use crate::command::is_done;
 use crate::copies::{with_copies, with_ends};
+use meter_server::demo::DEMO;
 use meter_server::program::{Outcome, answer_text, verdict_of};
 use meter_server::verdict::verdict_text;
 use std::alloc::Global;
@@ -75,6 +76,10 @@ impl Tally {
                 let is_well = is_done(rt, name, status) == Some(true);
                 self.tell(rt, is_well, line);
             }
+            (Some("demo"), Some(configuration), None, None) => {
+                let is_well = is_demo(rt, configuration) == Some(true);
+                self.tell(rt, is_well, line);
+            }
             (Some(kind), Some(configuration), Some(name), None) => {
                 let table = Table::read(kind);
                 if self.count_rows(rt, table, configuration, name).is_none() {
@@ -123,6 +128,12 @@ impl Tally {
 fn read_configuration(rt: &HostRuntime, name: &str) -> Option<String> {
     let path = format!(in rt.alloc(); "{name}.toml").ok()?;
     fs::read_to_string(rt, path.as_str()).ok()
+}
+
+/// Whether a configuration has the text of the demo by which the program answers.
+fn is_demo(rt: &HostRuntime, configuration: &str) -> Option<bool> {
+    let text = read_configuration(rt, configuration)?;
+    Some(text.as_str() == DEMO)
 }
 
 /// The text of the labels of a configuration; of one that has none it is empty.

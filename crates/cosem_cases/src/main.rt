@@ -3,6 +3,7 @@
 //! The file `cases` lists them, in the order in which they are tried. Empty lines and lines that begin with `#` are passed
 //! over; any other line is one of these:
 //!
+//! - `demo CONFIGURATION`: the text of `CONFIGURATION.toml` is that of the demo, by which the command `demo` answers.
 //! - `lines CONFIGURATION NAME`: the lines of `lines/NAME.in` over the configuration `CONFIGURATION.toml`
 //!   give what `lines/NAME.out` has: what is written, and then how the run ended, `done` or the fault in words; or
 //!   the configuration's verdict.

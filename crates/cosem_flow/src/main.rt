@@ -1,7 +1,7 @@
 //! The program `cosem-flow`: a meter server over lines of text, and a judge of configurations.
 //!
 //! `cosem-flow run CONFIG` answers the step lines of standard input on standard output, by the configuration in the file
-//! CONFIG; `cosem-flow demo` does so by the file `demo.toml` in the current folder. `edges CONFIG` prints the edges of the
+//! CONFIG; `cosem-flow demo` does so by the demo configuration. `edges CONFIG` prints the edges of the
 //! configuration, `label CONFIG` its least labels, and `check CONFIG LABELS` the verdict on the labels in the file LABELS. A
 //! verdict is one line on standard output. Exit status: 0 done or accepted, 1 a configuration or labels refused, 2 the command
 //! line can't be used, 3 any other fault.
@@ -30,9 +30,7 @@ fn main(rt: HostRuntime) -> ExitCode {
     ExitCode::from(status)
 }
 
-/// The words of the command line behind the program's own, or None where memory was refused.
+/// The words of the command line, the program's name first, or None where memory was refused.
 fn read_words(rt: &HostRuntime, alloc: Global) -> Option<Vec<String>> {
-    let mut words = env::args(rt).ok()?;
-    let _program = words.next();
-    words.collect(alloc).ok()
+    env::args(rt).ok()?.collect(alloc).ok()
 }

@@ -92,8 +92,9 @@ text-for plan turns now line text l some (inl answered) =
     inl (more-printed plan turns now answered.0 line text l answered.1 ∙ ap (λ (t : List ℕ). t ++ text) (texts-printed plan turns now l))
 text-for plan turns now line text l some (inr (Read, s)) = absurd s
 text-for plan turns now line text l some (inr (Write, s)) = absurd s
-text-for plan turns now line text l some (inr (Line n, s)) = inr (
-  subst (λ (p : Plan). line_of p line ≡ Unreadable) (same-plan plan turns now l) s.0,
+text-for plan turns now line text l some (inr (Line n why, s)) = inr (
+  why,
+  subst (λ (p : Plan). line_of p line ≡ Unreadable why) (same-plan plan turns now l) s.0,
   s.2 ∙ ap (λ (k : ℕ). unreadable_text (k + 1)) (sym (length-map turns (λ (t : Turn). t.line))),
 )
 text-for plan turns now line text l some (inr (Memory, s)) = absurd (omega (arith, some, ap (λ (t : List ℕ). length t) s))
@@ -106,15 +107,15 @@ stops plan before after turns rest now tail text Read h t (inl s) a =
 stops plan before after turns rest now tail text Read h t (inr s) a = absurd s.2
 stops plan before after turns rest now tail text Write h t (inl s) a = absurd s.0
 stops plan before after turns rest now tail text Write h t (inr s) a = absurd s.2
-stops plan before after turns rest now tail text (Line n) h t (inl s) a = absurd s.0
-stops plan before after turns rest now tail text (Line n) h t (inr (line, stands, (bad, number, is))) a = (
+stops plan before after turns rest now tail text (Line n why) h t (inl s) a = absurd s.0
+stops plan before after turns rest now tail text (Line n why) h t (inr (line, stands, (bad, number, is))) a = (
   lines_of turns,
   rest,
   line,
   heard plan before after now turns rest text (printed plan (lines_of turns) ++ unreadable_text n) h a
       (t ∙ ap (λ (u : List ℕ). texts_of turns ++ u) (is ∙ ap unreadable_text (sym number)) ∙ ap (λ (u : List ℕ). u ++ unreadable_text n) (texts-printed plan turns now h.led)),
   stands,
-  subst (λ (p : Plan). line_of p line ≡ Unreadable) (same-plan plan turns now h.led) bad,
+  subst (λ (p : Plan). line_of p line ≡ Unreadable why) (same-plan plan turns now h.led) bad,
   number ∙ ap (λ (k : ℕ). k + 1) (sym (length-map turns (λ (u : Turn). u.line))),
 )
 stops plan before after turns rest now tail text Memory h t s a =

@@ -3,7 +3,9 @@ use Rattle.std.proofs.Common.{◌≡◌, ◌≢◌, ℕ, ◌+◌, List, [], ◌�
 use Rattle.std.proofs.lemmas.List.Elements.{All-head, All-tail}
 use Rattle.std.specs.Io.KnownBytes.{Consumes, IsAtEnd}
 use Rattle.meter_theory.specs.Plan.{Plan}
+use Rattle.meter_server.specs.declared.line.Line.{Line as LineValue}
 use Rattle.meter_server.specs.declared.line.Line.TheVariants.{Unreadable}
+use Rattle.meter_server.specs.declared.reason.Reason.{Reason}
 use Rattle.meter_server.specs.declared.running.LineFault.{LineFault}
 use Rattle.meter_server.specs.declared.running.LineFault.TheVariants.{Read, Write, Line, Memory}
 use Rattle.meter_server.specs.Spelling.{line_of}
@@ -38,23 +40,36 @@ no_line [] (d ∷ b) x l e = not_end d b l (sym (heads 10 d x b e))
 no_line (c ∷ a) [] x l e = absurd cc
 no_line (c ∷ a) (d ∷ b) x l e = no_line a b x (rest_line d b l) (tails c d (ended a ++ x) b e)
 
--- an unreadable line stands there
-abbrev Bad : Plan → List ℕ → List ℕ → Type 0
-Bad plan line rest = IsLine line × (line_of plan line ≡ Unreadable) × (((more : List ℕ) × (rest ≡ ended line ++ more)) ⊎ (rest ≡ line))
+-- a line that is unreadable for this reason stands there
+abbrev Bad : Plan → Reason → List ℕ → List ℕ → Type 0
+Bad plan why line rest = IsLine line × (line_of plan line ≡ Unreadable why) × (((more : List ℕ) × (rest ≡ ended line ++ more)) ⊎ (rest ≡ line))
 
 -- no readable line with its end stands there: an unreadable one does, or no end does and what is there is readable
 abbrev IsLast : Plan → List ℕ → Type 0
-IsLast plan rest = ((line : List ℕ) × Bad plan line rest) ⊎ (IsLine rest × IsReadable plan rest)
+IsLast plan rest = ((why : Reason) × (line : List ℕ) × Bad plan why line rest) ⊎ (IsLine rest × IsReadable plan rest)
 
 no_more : (plan : Plan) (rest line more : List ℕ) → IsLast plan rest → IsLine line → IsReadable plan line → rest ≡ ended line ++ more → ⊥
-no_more plan rest line more (inl (bad, (is, unreadable, inl whole))) l r e = r (ap (line_of plan) (sym (one_line bad line whole.0 more is l (sym whole.1 ∙ e)).0) ∙ unreadable)
-no_more plan rest line more (inl (bad, (is, unreadable, inr whole))) l r e = no_line line bad more is (sym e ∙ whole)
+no_more plan rest line more (inl (why, bad, (is, unreadable, inl whole))) l r e = r why (ap (line_of plan) (sym (one_line bad line whole.0 more is l (sym whole.1 ∙ e)).0) ∙ unreadable)
+no_more plan rest line more (inl (why, bad, (is, unreadable, inr whole))) l r e = no_line line bad more is (sym e ∙ whole)
 no_more plan rest line more (inr last) l r e = no_line line rest more last.0 (sym e)
 
 -- not both stand there
-not_both : (plan : Plan) (line rest last : List ℕ) → Bad plan line rest → IsLine last → IsReadable plan last → rest ≡ last → ⊥
-not_both plan line rest last (is, unreadable, inl whole) l r e = no_line line last whole.0 l (sym whole.1 ∙ e)
-not_both plan line rest last (is, unreadable, inr whole) l r e = r (ap (line_of plan) (sym e ∙ whole) ∙ unreadable)
+not_both : (plan : Plan) (why : Reason) (line rest last : List ℕ) → Bad plan why line rest → IsLine last → IsReadable plan last → rest ≡ last → ⊥
+not_both plan why line rest last (is, unreadable, inl whole) l r e = no_line line last whole.0 l (sym whole.1 ∙ e)
+not_both plan why line rest last (is, unreadable, inr whole) l r e = r why (ap (line_of plan) (sym e ∙ whole) ∙ unreadable)
+
+-- one line alone stands there, and so for one reason
+one_reason : (plan : Plan) (why told : Reason) (line other rest : List ℕ) → Bad plan why line rest → Bad plan told other rest → why ≡ told
+one_reason plan why told line other rest a b = same_reason (ap (line_of plan) (one a b))
+  where
+    one : Bad plan why line rest → Bad plan told other rest → line ≡ other
+    one (is, bad, inl whole) (also, worse, inl all) = (one_line line other whole.0 all.0 is also (sym whole.1 ∙ all.1)).0
+    one (is, bad, inl whole) (also, worse, inr all) = absurd (no_line line other whole.0 also (sym whole.1 ∙ all))
+    one (is, bad, inr whole) (also, worse, inl all) = absurd (no_line other line all.0 is (sym all.1 ∙ whole))
+    one (is, bad, inr whole) (also, worse, inr all) = sym whole ∙ all
+
+    same_reason : line_of plan line ≡ line_of plan other → why ≡ told
+    same_reason e = let f : ◌≡◌ {A = LineValue} (Unreadable why) (Unreadable told) = sym a.1 ∙ e ∙ b.1 in cc
 
 -- a text is readable lines with their ends and what can't be one more in one way only
 one_way : (plan : Plan) (lines ls : List (List ℕ)) (rest left : List ℕ) → All IsLine lines → All (IsReadable plan) lines → IsLast plan rest → All IsLine ls → All (IsReadable plan) ls → IsLast plan left
@@ -84,28 +99,30 @@ read_front None after input bytes e c = let f : ◌≡◌ {A = Option (List ℕ)
 read_front (Some xs) None input bytes e c = absurd c
 read_front (Some xs) (Some ys) input bytes e c = let f : xs ≡ input = cc in (ys, sym f ∙ c, λ end. end)
 
-bad_of : (plan : Plan) (unread : Option (List ℕ)) (line rest left : List ℕ) → line_of plan line ≡ Unreadable → StandsWhole unread line rest → (IsAtEnd unread → left ≡ []) → Bad plan line (rest ++ left)
-bad_of plan unread line rest left bad s none =
+bad_of : (plan : Plan) (unread : Option (List ℕ)) (why : Reason) (line rest left : List ℕ) → line_of plan line ≡ Unreadable why → StandsWhole unread line rest → (IsAtEnd unread → left ≡ []) → Bad plan why line (rest ++ left)
+bad_of plan unread why line rest left bad s none =
     elim s.1 [
       | inl m ↦ (s.0, bad, inl (m.0 ++ left, ap (λ (t : List ℕ). t ++ left) m.1 ∙ append_assoc (ended line) m.0 left))
       | inr m ↦ (s.0, bad, inr (ap (λ (t : List ℕ). rest ++ t) (none m.2) ∙ append-nil rest ∙ m.0))
     ]
 
 pub bad_line : (plan : Plan) (before after : Moment) (r : Result ℕ LineFault) → RunsLines plan before after r
-    → (input : List ℕ) (lines : List (List ℕ)) (line rest : List ℕ) → before.unread ≡ Some input → IsFirstBad plan input lines line rest → (r ≡ Err (Line (length lines + 1))) ⊎ IsOther r
-bad_line plan before after (Ok count) h input lines line rest e f =
+    → (input : List ℕ) (lines : List (List ℕ)) (line rest : List ℕ) (why : Reason) → before.unread ≡ Some input → IsFirstBad plan input lines line rest why → (r ≡ Err (Line (length lines + 1) why)) ⊎ IsOther r
+bad_line plan before after (Ok count) h input lines line rest why e f =
     let all = all_read before.unread after.unread input (text_of_lines h.0 ++ h.1) e h.2.read h.5 in
-    let bad : Bad plan line rest = (f.line_is, f.unreadable, f.stands) in
-    absurd (not_both plan line rest h.1 bad h.3 h.4 (one_way plan lines h.0 rest h.1 f.each f.readable (inl (line, bad)) h.2.each h.2.readable (inr (h.3, h.4)) (sym f.whole ∙ all)).1)
-bad_line plan before after (Err Read) h input lines line rest e f = inr tt
-bad_line plan before after (Err Write) h input lines line rest e f = inr tt
-bad_line plan before after (Err (Line n)) h input lines line rest e f =
+    let bad : Bad plan why line rest = (f.line_is, f.unreadable, f.stands) in
+    absurd (not_both plan why line rest h.1 bad h.3 h.4 (one_way plan lines h.0 rest h.1 f.each f.readable (inl (why, line, bad)) h.2.each h.2.readable (inr (h.3, h.4)) (sym f.whole ∙ all)).1)
+bad_line plan before after (Err Read) h input lines line rest why e f = inr tt
+bad_line plan before after (Err Write) h input lines line rest why e f = inr tt
+bad_line plan before after (Err (Line n told)) h input lines line rest why e f =
     let front = read_front before.unread after.unread input (text_of_lines h.0 ++ h.1) e h.3.read in
     let whole = sym f.whole ∙ front.1 ∙ append_assoc (text_of_lines h.0) h.1 front.0 in
-    let same = one_way plan lines h.0 rest (h.1 ++ front.0) f.each f.readable (inl (line, (f.line_is, f.unreadable, f.stands))) h.3.each h.3.readable
-    (inl (h.2, bad_of plan after.unread h.2 h.1 front.0 h.5 h.4 front.2)) whole in
-    inl (ap (λ (k : ℕ). Err (Line k)) (h.6 ∙ ap (λ (ls : List (List ℕ)). length ls + 1) (sym same.0)))
-bad_line plan before after (Err Memory) h input lines line rest e f = inr tt
+    let bad : Bad plan why line rest = (f.line_is, f.unreadable, f.stands) in
+    let other = bad_of plan after.unread told h.2 h.1 front.0 h.5 h.4 front.2 in
+    let same = one_way plan lines h.0 rest (h.1 ++ front.0) f.each f.readable (inl (why, line, bad)) h.3.each h.3.readable (inl (told, h.2, other)) whole in
+    let reason : told ≡ why = sym (one_reason plan why told line h.2 rest bad (subst (Bad plan told h.2) (sym same.1) other)) in
+    inl (ap (λ (k : ℕ). Err (Line k told)) (h.6 ∙ ap (λ (ls : List (List ℕ)). length ls + 1) (sym same.0)) ∙ ap (λ (w : Reason). Err (Line (length lines + 1) w)) reason)
+bad_line plan before after (Err Memory) h input lines line rest why e f = inr tt
 
 pub readable_lines : (plan : Plan) (before after : Moment) (r : Result ℕ LineFault) → RunsLines plan before after r
     → (input : List ℕ) (lines : List (List ℕ)) (last : List ℕ) → before.unread ≡ Some input → IsAllReadable plan input lines last
@@ -116,10 +133,10 @@ readable_lines plan before after (Ok count) h input lines last e f =
     inl (ap (λ (n : ℕ). Ok n) (h.6 ∙ ap (λ (ls : List (List ℕ)). length (with_last ls h.1)) (sym same.0) ∙ ap (λ (l : List ℕ). length (with_last lines l)) (sym same.1)))
 readable_lines plan before after (Err Read) h input lines last e f = inr tt
 readable_lines plan before after (Err Write) h input lines last e f = inr tt
-readable_lines plan before after (Err (Line n)) h input lines last e f =
+readable_lines plan before after (Err (Line n why)) h input lines last e f =
     let front = read_front before.unread after.unread input (text_of_lines h.0 ++ h.1) e h.3.read in
-    let bad = bad_of plan after.unread h.2 h.1 front.0 h.5 h.4 front.2 in
+    let bad = bad_of plan after.unread why h.2 h.1 front.0 h.5 h.4 front.2 in
     let whole = sym (front.1 ∙ append_assoc (text_of_lines h.0) h.1 front.0) ∙ f.whole in
-    absurd (not_both plan h.2 (h.1 ++ front.0) last bad f.last_is f.last_readable
-    (one_way plan h.0 lines (h.1 ++ front.0) last h.3.each h.3.readable (inl (h.2, bad)) f.each f.readable (inr (f.last_is, f.last_readable)) whole).1)
+    absurd (not_both plan why h.2 (h.1 ++ front.0) last bad f.last_is f.last_readable
+    (one_way plan h.0 lines (h.1 ++ front.0) last h.3.each h.3.readable (inl (why, h.2, bad)) f.each f.readable (inr (f.last_is, f.last_readable)) whole).1)
 readable_lines plan before after (Err Memory) h input lines last e f = inr tt

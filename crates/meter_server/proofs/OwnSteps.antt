@@ -69,7 +69,7 @@ pub moment-done : (plan : Plan) (old new : State) (number : ℕ) (line waiting :
     → At moment ≡ line_of plan line → new ≡ run plan old (moment_steps plan moment) → TakesLine plan old new number line waiting waiting (Ok u)
 moment-done plan old new number line waiting moment u e meter =
     let steps = moment_steps plan moment in (
-      λ bad. let f : At moment ≡ Unreadable = e ∙ bad in cc,
+      λ why bad. let f : At moment ≡ Unreadable why = e ∙ bad in cc,
       meter ∙ sym (own_after plan old steps) ∙ ap (λ (s : Line). meter_after plan old (tasks_in plan s)) e,
       sym (append-nil waiting) ∙ ap (λ apdus. waiting ++ flat_map reply_text apdus) (sym (own_told plan old steps)) ∙ ap (λ (s : Line). waiting ++ told plan old (tasks_in plan s)) e,
     )

@@ -10,6 +10,5 @@ pub mod Pieces
 pub mod Solo
 pub mod Verdicts
 pub mod Listing
-pub mod Command
 pub mod Faults
 pub mod Program

@@ -82,7 +82,7 @@ EndsWith answers old number (b ∷ bs) text new = answers old number (b ∷ bs) 
 abbrev pub IsBetween : LineFault → List ℕ → List ℕ → Type 0
 IsBetween Read bytes rest = IsLine rest ⊎ (2 ^ 64 ≤ length (bytes ++ rest))
 IsBetween Write bytes rest = ⊥
-IsBetween (Line number) bytes rest = ⊥
+IsBetween (Line number why) bytes rest = ⊥
 IsBetween Memory bytes rest = Unit {0}
 
 -- the fault comes between two lines, for which nothing is written; or a line ends the run by it (own profile)

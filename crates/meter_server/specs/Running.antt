@@ -10,6 +10,7 @@ use Rattle.meter_server.specs.Answering.{Task, Answer, Take, steps_of, apdus_of}
 use Rattle.meter_server.specs.Driving.{moment_steps}
 use Rattle.meter_server.specs.declared.line.Line.{Line as LineValue}
 use Rattle.meter_server.specs.declared.line.Line.TheVariants.{Skipped, Ask, Input, Evaluate, At, Unreadable}
+use Rattle.meter_server.specs.declared.reason.Reason.{Reason}
 use Rattle.meter_server.specs.declared.running.LineFault.{LineFault}
 use Rattle.meter_server.specs.declared.running.LineFault.TheVariants.{Read, Write, Line, Memory}
 use Rattle.meter_server.specs.Lines.{IsLine, ended, text_of_lines, with_last, Moment, StandsWhole}
@@ -17,7 +18,7 @@ use Rattle.meter_server.specs.Spelling.{line_of, reply_text, unreadable_text}
 
 -- the line is skipped or gives the meter something to do (own profile)
 abbrev pub IsReadable : Plan → List ℕ → Type 0
-IsReadable plan line = line_of plan line ≢ Unreadable
+IsReadable plan line = (why : Reason) → line_of plan line ≢ Unreadable why
 
 -- A run
 
@@ -28,7 +29,7 @@ tasks_in plan (Ask ask) = Answer ask ∷ []
 tasks_in plan (Input cell value) = Take (steps.Input cell (tree value)) ∷ []
 tasks_in plan (Evaluate monitor) = Take (steps.Evaluate monitor) ∷ []
 tasks_in plan (At moment) = map Take (moment_steps plan moment)
-tasks_in plan Unreadable = []
+tasks_in plan (Unreadable why) = []
 
 -- what the lines give it to do, in order (own profile)
 abbrev pub tasks_of : Plan → List (List ℕ) → List Task
@@ -50,7 +51,7 @@ pub record Heard (plan : Plan) (before after : Moment) (lines : List (List ℕ))
 -- what is written for a line behind these: the replies to what it asks, or that it is unreadable (own profile)
 abbrev pub IsTextFor : Plan → List (List ℕ) → List ℕ → List ℕ → Type 0
 IsTextFor plan lines line text =
-    (printed plan (lines ++ line ∷ []) ≡ printed plan lines ++ text) ⊎ ((line_of plan line ≡ Unreadable) × (text ≡ unreadable_text (length lines + 1)))
+    (printed plan (lines ++ line ∷ []) ≡ printed plan lines ++ text) ⊎ ((why : Reason) × (line_of plan line ≡ Unreadable why) × (text ≡ unreadable_text (length lines + 1)))
 
 -- what a fault says of what was read and written (own profile)
 abbrev pub Stops : Plan → Moment → Moment → LineFault → Type 0
@@ -61,10 +62,10 @@ Stops plan before after Read =
 Stops plan before after Write =
     (lines : List (List ℕ)) × (rest : List ℕ) × (line : List ℕ) × (front : List ℕ) × (left : List ℕ) × Heard plan before after lines rest (printed plan lines ++ front)
     × StandsWhole after.unread line rest × IsTextFor plan lines line (front ++ left) × (0 < length left)
--- the lines before the first unreadable one were answered, and its number from 1 was told
-Stops plan before after (Line number) =
+-- the lines before the first unreadable one were answered, and its number from 1 was told; this is why
+Stops plan before after (Line number why) =
     (lines : List (List ℕ)) × (rest : List ℕ) × (line : List ℕ) × Heard plan before after lines rest (printed plan lines ++ unreadable_text number)
-    × StandsWhole after.unread line rest × (line_of plan line ≡ Unreadable) × (number ≡ length lines + 1)
+    × StandsWhole after.unread line rest × (line_of plan line ≡ Unreadable why) × (number ≡ length lines + 1)
 -- some lines were answered, and nothing else was written
 Stops plan before after Memory =
     (lines : List (List ℕ)) × (rest : List ℕ) × Heard plan before after lines rest (printed plan lines)
@@ -83,7 +84,7 @@ abbrev pub IsOther : Result ℕ LineFault → Type 0
 IsOther (Ok count) = ⊥
 IsOther (Err Read) = Unit {0}
 IsOther (Err Write) = Unit {0}
-IsOther (Err (Line number)) = ⊥
+IsOther (Err (Line number why)) = ⊥
 IsOther (Err Memory) = Unit {0}
 
 -- the input is these lines, each with its end, and one more that may end with the input, and all of them are readable (own profile)
@@ -94,11 +95,11 @@ pub record IsAllReadable (plan : Plan) (input : List ℕ) (lines : List (List �
   pub last_is : IsLine last
   pub last_readable : IsReadable plan last
 
--- behind these readable lines an unreadable one stands, with its end or at the end of the input (own profile)
-pub record IsFirstBad (plan : Plan) (input : List ℕ) (lines : List (List ℕ)) (line rest : List ℕ) : Type 0 where
+-- behind these readable lines one stands that is unreadable for this reason, with its end or at the end of the input (own profile)
+pub record IsFirstBad (plan : Plan) (input : List ℕ) (lines : List (List ℕ)) (line rest : List ℕ) (why : Reason) : Type 0 where
   pub whole : input ≡ text_of_lines lines ++ rest
   pub each : All IsLine lines
   pub readable : All (IsReadable plan) lines
   pub line_is : IsLine line
-  pub unreadable : line_of plan line ≡ Unreadable
+  pub unreadable : line_of plan line ≡ Unreadable why
   pub stands : ((more : List ℕ) × (rest ≡ ended line ++ more)) ⊎ (rest ≡ line)

@@ -52,7 +52,7 @@ AnswersLine old number line text new =
 abbrev pub StopsAtLine : Solo → ℕ → List ℕ → List ℕ → LineFault → Type 0
 StopsAtLine old number line text Read = ⊥
 StopsAtLine old number line text Write = ⊥
-StopsAtLine old number line text (Line n) = (line_of old.plan line ≡ Unreadable) × (n ≡ number) × (text ≡ unreadable_text number)
+StopsAtLine old number line text (Line n why) = (line_of old.plan line ≡ Unreadable why) × (n ≡ number) × (text ≡ unreadable_text number)
 StopsAtLine old number line text Memory = text ≡ []
 
 -- what a line does to a meter and to the texts that wait (own profile)
@@ -61,5 +61,5 @@ TakesLine plan old new number line waiting texts (Ok u) =
     IsReadable plan line × (new ≡ meter_after plan old (tasks_in plan (line_of plan line))) × (texts ≡ waiting ++ told plan old (tasks_in plan (line_of plan line)))
 TakesLine plan old new number line waiting texts (Err Read) = ⊥
 TakesLine plan old new number line waiting texts (Err Write) = ⊥
-TakesLine plan old new number line waiting texts (Err (Line n)) = (line_of plan line ≡ Unreadable) × (n ≡ number) × (texts ≡ waiting ++ unreadable_text number)
+TakesLine plan old new number line waiting texts (Err (Line n why)) = (line_of plan line ≡ Unreadable why) × (n ≡ number) × (texts ≡ waiting ++ unreadable_text number)
 TakesLine plan old new number line waiting texts (Err Memory) = texts ≡ waiting

@@ -3,7 +3,7 @@
 #![tactic(auto)]
 
 mod answering;
-pub mod command;
+pub mod demo;
 mod driving;
 pub mod edge;
 pub mod feeding;
@@ -11,6 +11,7 @@ mod line;
 pub mod lines;
 pub mod listing;
 pub mod program;
+pub mod reason;
 pub mod running;
 mod text;
 pub mod verdict;

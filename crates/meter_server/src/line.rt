@@ -1,4 +1,4 @@
-ghost use Rattle.std.specs.Prelude.{◌≡◌, ◌<◌, IfOk, IfSome, None, Some, cond, length, option_map};
+ghost use Rattle.std.specs.Prelude.{◌≡◌, ◌<◌, ℕ, List, IfOk, IfSome, None, Some, cond, length, option_map};
 ghost use Rattle.std.specs.Result.{result_ok};
 ghost use Rattle.hex.specs.Hex.{decode_of};
 ghost use Rattle.cosem_data.specs.View.{tree};
@@ -8,6 +8,7 @@ ghost use Rattle.meter_server.specs.Spelling.{line_of};
 ghost use Rattle.meter_server.specs.Words as words;
 
 use crate::answering::Ask;
+use crate::reason::Reason;
 use civil_moment::moment::Moment;
 use cosem_data::cell::CellRef;
 use cosem_data::data::Data;
@@ -31,11 +32,13 @@ pub enum Line<'a> {
     Evaluate(LogicalName),
     /// `at MOMENT`: the moment is offered to each object.
     At(Moment),
-    /// Anything else.
-    Unreadable,
+    /// Anything else, and why.
+    Unreadable(Reason),
 }
 
 const HASH: u8 = b'#';
+
+const RETURN: u8 = b'\r';
 
 const SPACE: u8 = b' ';
 
@@ -62,7 +65,28 @@ pub fn read_line<'a>(
     if *first == HASH {
         return Ok(Line::Skipped);
     }
-    said_at(alloc, plan, line, first_space(line), room)
+    let said = said_at(alloc, plan, line, first_space(line), room)?;
+    Ok(with_return(ends_in_return(line), said))
+}
+
+/// Whether the byte 0D ends the text, as some editors put it before a newline.
+fn ends_in_return(text: &[u8]) -> bool
+    ensures { result ≡ spec.ends_in_return text.now }
+{
+    match text.last() {
+        Some(last) => *last == RETURN,
+        None => false,
+    }
+}
+
+/// What a line says, where such a byte that ends an unreadable one is told as the reason.
+fn with_return(returns: bool, said: Line<'_>) -> Line<'_>
+    ensures { result ≡ spec.with_return returns said.entry }
+{
+    match said {
+        Line::Unreadable(_) if returns => Line::Unreadable(Reason::Return),
+        _ => said,
+    }
 }
 
 /// The place of the first space.
@@ -85,7 +109,7 @@ fn said_at<'a>(
     ensures { IfOk result (λ x. x ≡ spec.said_at plan.now line.now space) }
 {
     let Some(space) = space else {
-        return Ok(Line::Unreadable);
+        return Ok(Line::Unreadable(Reason::Short));
     };
     said_by(alloc, plan, &line[..space], &line[space + 1..], room)
 }
@@ -122,7 +146,7 @@ fn input_at(
     ensures { IfOk result (λ x. x ≡ spec.input_at plan.now text.now space) }
 {
     let Some(space) = space else {
-        return Ok(Line::Unreadable);
+        return Ok(Line::Unreadable(Reason::Short));
     };
     let name = name_in(&text[..space]);
     let value = value_in(alloc, &text[space + 1..])?;
@@ -138,7 +162,8 @@ fn input_of(plan: &Plan, name: Option<LogicalName>, value: Option<Data>) -> Line
             cell: input_cell(plan, name),
             value,
         },
-        _ => Line::Unreadable,
+        (None, _) => Line::Unreadable(Reason::Name),
+        (Some(_), None) => Line::Unreadable(Reason::Value),
     }
 }
 
@@ -164,7 +189,7 @@ fn evaluation_of(name: Option<LogicalName>) -> Line<'static>
 {
     match name {
         Some(name) => Line::Evaluate(name),
-        None => Line::Unreadable,
+        None => Line::Unreadable(Reason::Name),
     }
 }
 
@@ -181,7 +206,7 @@ fn moment_of(moment: Option<Moment>) -> Line<'static>
 {
     match moment {
         Some(moment) => Line::At(moment),
-        None => Line::Unreadable,
+        None => Line::Unreadable(Reason::Moment),
     }
 }
 
@@ -190,12 +215,23 @@ fn asked_by<'a>(client: Option<u8>, text: &[u8], room: &'a mut Vec<u8>) -> Resul
     ensures { IfOk result (λ x. x ≡ spec.asked_by client text.now) }
 {
     let Some(client) = client else {
-        return Ok(Line::Unreadable);
+        return Ok(Line::Unreadable(Reason::Client));
     };
     if decode(text, room)? {
         Ok(ask_of(client, room))
     } else {
-        Ok(Line::Unreadable)
+        Ok(Line::Unreadable(digits_fault(text)))
+    }
+}
+
+/// Why hex digits are none.
+fn digits_fault(text: &[u8]) -> Reason
+    ensures { result ≡ spec.digits_fault text.now }
+{
+    if text.len() % 2 == 1 {
+        Reason::OddDigits
+    } else {
+        Reason::Digits
     }
 }
 
@@ -209,10 +245,10 @@ fn decode(text: &[u8], room: &mut Vec<u8>) -> Result<bool, Memory>
 
 /// What a line says by its client and the bytes of its APDU.
 fn ask_of(client: u8, apdu: &[u8]) -> Line<'_>
-    ensures { result ≡ spec.ask_of client (Some apdu.now) }
+    ensures { result ≡ spec.ask_of client apdu.now }
 {
     if apdu.is_empty() {
-        return Line::Unreadable;
+        return Line::Unreadable(Reason::Short);
     }
     Line::Ask(Ask::new(client, apdu))
 }

@@ -1,16 +1,17 @@
 //! What the program does with its words: which files it reads, what it tells and where, and its exit status (own profile).
-ghost use Rattle.std.specs.Prelude.{◌≡◌, IfOk, None, map, string_bytes};
+ghost use Rattle.std.specs.Prelude.{◌≡◌, ◌⊎◌, IfOk, None, map, string_bytes};
 ghost use Rattle.config_reader.specs.ConfigOf.{config_of};
-ghost use Rattle.meter_server.specs.Command.{command_in};
+ghost use Rattle.command_words.specs.Commands.{command_of};
 ghost use Rattle.meter_server.specs.Listing.{WritesText};
 ghost use Rattle.meter_server.specs.Program as spec;
-ghost use Rattle.meter_server.specs.Program.{AnswersText, IsVerdict, IsVerdictOn, ListsEdges, ListsLabels, TellsVerdict, error_of, output_of, status_of};
+ghost use Rattle.meter_server.specs.Program.{AnswersText, AreMistaken, AskForHelp, IsNoCommand, IsVerdict, IsVerdictOn, ListsEdges, ListsLabels, TellsVerdict, error_of, output_of, status_of};
 
-use crate::command::{Command, command_of};
+use crate::demo::DEMO;
 use crate::listing::{ListFault, write_edges, write_least_labels};
 use crate::running::{LineFault, run_lines};
 use crate::verdict::{Verdict, verdict_text};
 use crate::writing::write_whole;
+use command_words::{Command, WordsFault, read_words};
 use config_reader::read_config;
 use cosem_data::memory::Memory;
 use flow_checker::check::check;
@@ -22,12 +23,6 @@ use std::fs;
 use std::io::{Read, Write};
 use std::rt::Files;
 
-const USAGE: &str =
-    "usage: cosem-flow demo | cosem-flow run CONFIG | cosem-flow edges CONFIG | cosem-flow label CONFIG | cosem-flow check CONFIG LABELS\n";
-
-/// The file of the demo configuration, in the current folder.
-const DEMO: &str = "demo.toml";
-
 /// How a command ended.
 #[derive(Debug, Drop)]
 pub enum Outcome {
@@ -35,8 +30,8 @@ pub enum Outcome {
     Done,
     /// It came to this verdict.
     Judged(Verdict),
-    /// The command line can't be used.
-    Usage,
+    /// The words of the command line ask for help or the version, or are no command.
+    Words(WordsFault),
     /// The file with this path can't be read, or isn't UTF-8.
     Unread(String),
     /// A fault stopped the run of lines.
@@ -46,39 +41,49 @@ pub enum Outcome {
 }
 
 impl Outcome {
-    /// The exit status: 0 done or accepted, 1 a verdict that refuses, 2 a command line that can't be used, 3 any other fault.
+    /// The exit status: 0 done, accepted or helped, 1 a verdict that refuses, 2 a command line that can't be used, 3 any other fault.
     pub fn status(&self) -> u8
         ensures { result ≡ status_of self.now }
     {
         match self {
             Outcome::Done | Outcome::Judged(Verdict::Accepted) => 0,
             Outcome::Judged(_) => 1,
-            Outcome::Usage => 2,
+            Outcome::Words(WordsFault::Help(_) | WordsFault::Version(_)) => 0,
+            Outcome::Words(WordsFault::Usage(_)) => 2,
+            Outcome::Words(WordsFault::Memory) => 3,
             Outcome::Unread(_) | Outcome::Fault(_) | Outcome::Unwritten(_) => 3,
         }
     }
 
-    /// What is told on standard output behind what the command wrote: its verdict.
+    /// What is told on standard output behind what the command wrote: its verdict, or the help or the version that was asked for.
     pub fn output(&self, alloc: Global) -> Result<String, Memory>
         ensures { IfOk result (λ text. string_bytes text ≡ output_of self.now) }
     {
         match self {
             Outcome::Judged(verdict) => verdict_text(alloc, verdict),
+            Outcome::Words(WordsFault::Help(text) | WordsFault::Version(text)) => {
+                Ok(String::from_str(alloc, text.as_str())?)
+            }
             _ => Ok(String::new(alloc)),
         }
     }
 
-    /// What is told on standard error: any other fault, but for an unreadable line, which standard output has told.
+    /// What is told on standard error: any other fault, and why a line is unreadable, which standard output has told of.
     pub fn error(&self, alloc: Global) -> Result<String, Memory>
         ensures { IfOk result (λ text. string_bytes text ≡ error_of self.now) }
     {
         match self {
-            Outcome::Done | Outcome::Judged(_) | Outcome::Fault(LineFault::Line(_)) => {
-                Ok(String::new(alloc))
+            Outcome::Done | Outcome::Judged(_) => Ok(String::new(alloc)),
+            Outcome::Words(WordsFault::Help(_) | WordsFault::Version(_)) => Ok(String::new(alloc)),
+            Outcome::Words(WordsFault::Usage(text)) => Ok(String::from_str(alloc, text.as_str())?),
+            Outcome::Words(WordsFault::Memory) => {
+                Ok(String::from_str(alloc, "cosem-flow: out of memory\n")?)
             }
-            Outcome::Usage => Ok(String::from_str(alloc, USAGE)?),
             Outcome::Unread(file) => {
                 Ok(format!(in alloc; "cosem-flow: {file}: can't be read as UTF-8 text\n")?)
+            }
+            Outcome::Fault(LineFault::Line(number, why)) => {
+                Ok(format!(in alloc; "cosem-flow: line {number}: {why}\n")?)
             }
             Outcome::Fault(fault) => Ok(format!(in alloc; "cosem-flow: {fault}\n")?),
             Outcome::Unwritten(fault) => Ok(format!(in alloc; "cosem-flow: {fault}\n")?),
@@ -106,11 +111,11 @@ pub fn listed(answer: Result<(), ListFault>) -> Outcome
     }
 }
 
-/// Does what the words of a command line ask for, and answers the exit status: `demo` and `run CONFIG` answer the step
+/// Does what the words of a command line ask for, the program's name first, and answers the exit status: `demo` and `run CONFIG` answer the step
 /// lines of the input on the output, by the configuration in the file that they name; `edges CONFIG` and `label CONFIG`
 /// print its edges and its least labels there; `check CONFIG LABELS` comes to a verdict on it and on the labels in a second
-/// file, which is read only where the configuration has no fault. A verdict stands on the output, any other fault on the
-/// error stream.
+/// file, which is read only where the configuration has no fault. A verdict stands on the output, as do help and the version
+/// where the words ask for these; any other fault stands on the error stream.
 pub fn run_program<H: Files + AllocGlobal, I: Read, O: Write, E: Write>(
     rt: &H,
     words: &[String],
@@ -118,14 +123,43 @@ pub fn run_program<H: Files + AllocGlobal, I: Read, O: Write, E: Write>(
     output: &mut O,
     errors: &mut E,
 ) -> u8
-    ensures usage { command_in (map string_bytes words.now) ≡ None → result ≡ 2 }
+    // A wrong command line has status 2, unless memory was refused.
+    ensures mistaken { AreMistaken (map string_bytes words.now) → (result ≡ 2) ⊎ (result ≡ 3) }
+    // Help and the version have status 0, unless memory was refused or they can't be written.
+    ensures helped { AskForHelp (map string_bytes words.now) → (result ≡ 0) ⊎ (result ≡ 3) }
 {
-    let outcome = match command_of(words) {
-        Some(command) => with_verdict(rt.alloc(), answer(rt, command, input, output), output),
-        None => Outcome::Usage,
-    };
+    let outcome = with_verdict(rt.alloc(), asked(rt, words, input, output), output);
     tell(rt.alloc(), &outcome, errors);
     outcome.status()
+}
+
+/// Does what words ask for.
+fn asked<H: Files + AllocGlobal, I: Read, O: Write>(
+    rt: &H,
+    words: &[String],
+    input: &mut I,
+    output: &mut O,
+) -> Outcome
+    ensures { command_of (map string_bytes words.now) ≡ None → IsNoCommand (map string_bytes words.now) result }
+{
+    let Ok(texts) = texts_of(rt.alloc(), words) else {
+        return Outcome::Words(WordsFault::Memory);
+    };
+    match read_words(rt.alloc(), &texts) {
+        Ok(command) => answer(rt, command, input, output),
+        Err(fault) => Outcome::Words(fault),
+    }
+}
+
+/// The words as texts that are lent.
+fn texts_of(alloc: Global, words: &[String]) -> Result<Vec<&str>, Memory>
+    ensures { IfOk result (λ texts. map (λ text. text.now) texts.items ≡ map string_bytes words.now) }
+{
+    let mut texts = Vec::with_capacity(alloc, words.len())?;
+    for word in words {
+        texts.push(word.as_str())?;
+    }
+    Ok(texts)
 }
 
 /// Does what a command asks for.
@@ -135,7 +169,7 @@ fn answer<H: Files + AllocGlobal, I: Read, O: Write>(
     input: &mut I,
     output: &mut O,
 ) -> Outcome {
-    let text = match read_file(rt, file_of(command)) {
+    let text = match read_config_text(rt, command) {
         Ok(text) => text,
         Err(outcome) => return outcome,
     };
@@ -160,12 +194,19 @@ fn check_file<H: Files + AllocGlobal>(rt: &H, text: &str, file: &str) -> Outcome
     }
 }
 
-/// The file of the configuration that a command is over.
-fn file_of(command: Command<'_>) -> &str {
+/// The text of the configuration that a command is over, or that its file can't be read.
+fn read_config_text<H: Files + AllocGlobal>(
+    rt: &H,
+    command: Command<'_>,
+) -> Result<String, Outcome> {
     match command {
-        Command::Demo => DEMO,
-        Command::Run { config } | Command::Edges { config } | Command::Label { config } => config,
-        Command::Check { config, .. } => config,
+        Command::Demo => String::from_str(rt.alloc(), DEMO).map_err(|_| Outcome::Fault(
+            LineFault::Memory,
+        )),
+        Command::Run { config }
+        | Command::Edges { config }
+        | Command::Label { config }
+        | Command::Check { config, .. } => read_file(rt, config),
     }
 }
 

@@ -4,6 +4,7 @@ ghost use Rattle.meter_theory.specs.Plan.{start};
 ghost use Rattle.meter_theory.specs.States.{IsState};
 ghost use Rattle.meter_server.specs.Answering.{next_of, reply_of_ask};
 ghost use Rattle.meter_server.specs.Lines.{with_last};
+ghost use Rattle.meter_server.specs.declared.reason.Reason.{Reason as Why};
 ghost use Rattle.meter_server.specs.Running.{RunsLines, IsFirstBad, IsAllReadable, IsOther};
 ghost use Rattle.meter_server.specs.Solo.{TakesLine};
 ghost use Rattle.meter_server.specs.Spelling.{reply_text};
@@ -12,6 +13,7 @@ use crate::answering::{Ask, answer};
 use crate::driving::{take_moment, take_step};
 use crate::line::{Line, read_line};
 use crate::lines::{AnswersLines, answer_lines};
+use crate::reason::Reason;
 use crate::text::{put_reply, put_unreadable};
 use crate::writing::WriteFailed;
 use cosem_data::memory::Memory;
@@ -31,8 +33,8 @@ pub enum LineFault {
     Read,
     /// A write failed, or took no byte.
     Write,
-    /// The line with this number, from 1, is unreadable.
-    Line(u64),
+    /// The line with this number, from 1, is unreadable, and why.
+    Line(u64, Reason),
     /// Memory was refused.
     Memory,
 }
@@ -47,7 +49,7 @@ impl fmt::Display for LineFault {
         match self {
             LineFault::Read => f.write_str("the lines can't be read"),
             LineFault::Write => f.write_str("the replies can't be written"),
-            LineFault::Line(number) => write!(f, "line {number}: unreadable"),
+            LineFault::Line(number, _) => write!(f, "line {number}: unreadable"),
             LineFault::Memory => f.write_str("out of memory"),
         }
     }
@@ -165,9 +167,9 @@ fn take_line(
             take_step(alloc, plan, &mut held.meter, &Step::Evaluate { monitor })?;
         }
         Line::At(moment) => take_moment(alloc, plan, &mut held.meter, moment)?,
-        Line::Unreadable => {
+        Line::Unreadable(why) => {
             put_unreadable(alloc, number, waiting)?;
-            return Err(LineFault::Line(number));
+            return Err(LineFault::Line(number, why));
         }
     }
     Ok(())
@@ -201,7 +203,7 @@ fn answer_ask(
 /// `in NAME HEX` is a value that comes from outside to the object with this name, `eval NAME` the
 /// evaluation of a register monitor, and `at MOMENT` a moment, which is offered to each object in plan
 /// order; nothing is written of these. An empty line and one that begins with `#` are skipped. Any
-/// other line is told by `line N: unreadable`, and ends the run with `LineFault::Line`.
+/// other line is told by `line N: unreadable`, and ends the run with `LineFault::Line`, which says why.
 ///
 /// One line and one reply are in memory at a time, and the texts that wait to be written: they are written before each
 /// read, at the end, and where they are more than 64 KiB. Where a fault ends the run, the lines before it are answered and
@@ -220,8 +222,8 @@ pub fn run_lines<R: Read, W: Write>(
     ensures readable { (input : List ℕ) (lines : List (List ℕ)) (last : List ℕ) → R.remaining reader.old ≡ Some input →
         IsAllReadable plan.now input lines last → (result ≡ Ok (length (with_last lines last))) ⊎ IsOther result }
     // Where an unreadable line stands first, that is the end.
-    ensures unreadable { (input : List ℕ) (lines : List (List ℕ)) (line rest : List ℕ) → R.remaining reader.old ≡ Some input →
-        IsFirstBad plan.now input lines line rest → (result ≡ Err (LineFault.Line (length lines + 1))) ⊎ IsOther result }
+    ensures unreadable { (input : List ℕ) (lines : List (List ℕ)) (line rest : List ℕ) (why : Why) → R.remaining reader.old ≡ Some input →
+        IsFirstBad plan.now input lines line rest why → (result ≡ Err (LineFault.Line (length lines + 1) why)) ⊎ IsOther result }
 {
     let mut solo = Solo::start(alloc, plan)?;
     answer_lines(alloc, &mut solo, reader, writer)

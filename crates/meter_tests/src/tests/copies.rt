@@ -16,7 +16,7 @@ const VALUE: Descriptor = Descriptor {
     index: 2,
 };
 
-/// The buffer of load profile 1, as the OBIS table of IEC 62056-6-2 has it.
+/// The buffer of load profile 1, as the OBIS table of IEC 62056-6-1 has it.
 const BUFFER: Descriptor = Descriptor {
     class_id: 7,
     name: LogicalName([1, 0, 99, 1, 0, 255]),

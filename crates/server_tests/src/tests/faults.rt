@@ -1,3 +1,4 @@
+use meter_server::reason::Reason;
 use meter_server::running::LineFault;
 use std::test::Fail;
 
@@ -6,7 +7,7 @@ fn faults_of_lines_are_told(rt: HostRuntime) -> Result<(), Fail> {
     for (fault, want) in [
         (LineFault::Read, "the lines can't be read"),
         (LineFault::Write, "the replies can't be written"),
-        (LineFault::Line(12), "line 12: unreadable"),
+        (LineFault::Line(12, Reason::Moment), "line 12: unreadable"),
         (LineFault::Memory, "out of memory"),
     ] {
         let text = format!(in rt.alloc(); "{fault}")?;

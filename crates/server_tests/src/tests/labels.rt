@@ -1,4 +1,3 @@
-use super::edges::DEMO;
 use super::samples::plan_of;
 use label_certificate::fault::LabelCode::{Cell, Client, Form, Order};
 use label_certificate::fault::{LabelCode, LabelFault};
@@ -6,6 +5,7 @@ use label_certificate::labels::Labels;
 use label_certificate::least::make_labels;
 use label_certificate::reading::read_labels;
 use label_certificate::writing::write_labels;
+use meter_server::demo::DEMO;
 use object_model::plan::Plan;
 use std::alloc::Global;
 use std::process::Abort;

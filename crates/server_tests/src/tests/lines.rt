@@ -2,6 +2,7 @@ ghost use Rattle.std.specs.Prelude.{Some};
 
 use super::samples::{TEXT, plan_of};
 use cosem_data::memory::Memory;
+use meter_server::reason::Reason;
 use meter_server::running::{LineFault, run_lines};
 use object_model::plan::Plan;
 use std::alloc::Global;
@@ -133,7 +134,7 @@ fn a_failing_call_ends_a_run(rt: HostRuntime) -> Result<(), Fail> {
         (lines, (0, 20), Err(LineFault::Write), 19),
         (lines, (0, 52), Err(LineFault::Write), 51),
         (lines, (0, 53), Ok(6), 52),
-        (UNREADABLE, (0, 0), Err(LineFault::Line(1)), 19),
+        (UNREADABLE, (0, 0), Err(LineFault::Line(1, Reason::Name)), 19),
         (UNREADABLE, (0, 5), Err(LineFault::Write), 4),
     ] {
         ends(&rt, rt.alloc(), &plan, texts, fails, (answer, count))?;

@@ -15,7 +15,7 @@ use std::alloc::Global;
 use std::process::Abort;
 use std::test::Fail;
 
-/// Total active energy import, as the OBIS table of IEC 62056-6-2 has it.
+/// Total active energy import, as the OBIS table of IEC 62056-6-1 has it.
 pub const ENERGY: LogicalName = LogicalName([1, 0, 1, 8, 0, 255]);
 
 pub const ALARM: LogicalName = LogicalName([0, 0, 96, 11, 0, 255]);

@@ -12,7 +12,7 @@ use std::alloc::Global;
 use std::process::Abort;
 use std::test::Fail;
 
-/// Load profile 1, as the OBIS table of IEC 62056-6-2 has it.
+/// Load profile 1, as the OBIS table of IEC 62056-6-1 has it.
 pub const PROFILE: LogicalName = LogicalName([1, 0, 99, 1, 0, 255]);
 
 /// Tariffication script table.

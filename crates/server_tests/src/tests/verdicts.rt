@@ -1,8 +1,8 @@
-use super::edges::DEMO;
 use super::labels::LABELS;
 use config_text::fault::ConfigFault;
 use flow_checker::check::Refused;
 use label_certificate::fault::LabelFault;
+use meter_server::demo::DEMO;
 use meter_server::program::verdict_of;
 use meter_server::verdict::{Verdict, verdict_text};
 use std::alloc::Global;
