@@ -1,10 +1,11 @@
 -- Which keys a table has, against those that it should have. The place of a key is that of its table, up to the dot, and
--- then the key.
+-- then the key, as TOML writes it.
 use Rattle.std.specs.Prelude.{◌++◌, List, [], ◌∷◌, Option, Some, None, is_some, Result, Ok, ⊤, Bool, not, if◌then◌else◌}
 use Rattle.std.specs.List.{list_any}
 use Rattle.std.specs.Str.{bytes_eq}
 use Rattle.toml.specs.Data.{Members, no_members, member, get_member}
 use Rattle.config_text.specs.Fault.{Fault, faulty, fault_if}
+use Rattle.config_text.specs.KeyText.{key_text}
 use Rattle.config_text.specs.Parts.{Text}
 use Rattle.config_text.specs.declared.fault.Code.TheVariants.{Key}
 
@@ -23,7 +24,7 @@ first_unknown known (k ∷ ks) = if is_among k known then first_unknown known ks
 
 abbrev pub no_key : Text → Option Text → Result ⊤ Fault
 no_key at None = Ok tt
-no_key at (Some key) = faulty Key (at ++ key)
+no_key at (Some key) = faulty Key (at ++ key_text key)
 
 -- a key that has to be there
 unfoldable pub needed : Text → Text → Members → Result ⊤ Fault

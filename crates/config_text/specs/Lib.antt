@@ -3,6 +3,7 @@ pub mod Classes
 pub mod Clients
 pub mod Document
 pub mod Fault
+pub mod KeyText
 pub mod Keys
 pub mod Lists
 pub mod Objects

@@ -1,13 +1,16 @@
 //! Which keys a table has.
 
-ghost use Rattle.std.specs.Prelude.{◌≡◌, map};
+ghost use Rattle.std.specs.Prelude.{◌≡◌, ◌++◌, map};
 ghost use Rattle.std.specs.List.{list_any};
 ghost use Rattle.std.specs.Str.{bytes_eq};
 ghost use Rattle.toml.specs.View.{table_view};
-ghost use Rattle.config_text.specs.Fault.{Gives};
+ghost use Rattle.config_text.specs.Fault.{Gives, IsFault};
+ghost use Rattle.config_text.specs.KeyText as text;
+ghost use Rattle.config_text.specs.declared.fault.Code.TheVariants.{Key};
 ghost use Rattle.config_text.specs.Keys as spec;
 
 use crate::fault::{Code, ConfigFault, fault};
+use crate::key_text::key_text;
 use crate::lookup::value_at;
 use crate::place::Place;
 use toml::Table;
@@ -33,6 +36,16 @@ fn is_among(key: &str, known: &[&str]) -> bool
     known.iter().any(|k| *k == key)
 }
 
+/// The fault of a key that isn't known, which stands in the place as TOML writes it, or want of memory.
+fn unknown(at: &Place<'_>, key: &str) -> ConfigFault
+    ensures { IsFault Key (at.now ++ text.key_text key.now) result }
+{
+    match key_text(at.alloc(), key) {
+        Ok(text) => fault(Code::Key, at, text.as_str()),
+        Err(_) => ConfigFault::Memory,
+    }
+}
+
 /// Looks for keys that aren't known.
 ///
 /// # Errors
@@ -43,7 +56,7 @@ pub(crate) fn only(at: &Place<'_>, known: &[&str], table: &Table) -> Result<(), 
 {
     for key in table.keys() {
         if !is_among(key.as_str(), known) {
-            return Err(fault(Code::Key, at, key.as_str()));
+            return Err(unknown(at, key.as_str()));
         }
     }
     Ok(())

@@ -5,6 +5,7 @@
 
 mod client;
 pub mod fault;
+mod key_text;
 mod keys;
 mod lists;
 mod lookup;

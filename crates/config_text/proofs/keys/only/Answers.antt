@@ -6,6 +6,7 @@ use Rattle.std.specs.List.{list_any}
 use Rattle.std.specs.Str.{bytes_eq}
 use Rattle.std.specs.Prelude.{⊤}
 use Rattle.config_text.specs.Fault.{faulty}
+use Rattle.config_text.specs.KeyText.{key_text}
 use Rattle.config_text.specs.declared.fault.Code.TheVariants.{Key}
 use Rattle.config_text.proofs.FaultLemmas.{Fails-from_fault}
 use Rattle.config_text.proofs.KeyLemmas.{member_keys-view, is_among-map, first_unknown_known, first_unknown_new}
@@ -30,5 +31,5 @@ returns-then-not-is_among c =
     let among : is_among (string_bytes c.in-Some.key.now) known ≡ false = is_among-map (string_bytes c.in-Some.key.now) c.args.known.now
     ∙ (ap (λ (t : List ℕ). list_any (λ k. bytes_eq k.now t) c.args.known.now) (sym c.as_str.ensures.value) ∙ (sym c.is_among.ensures ∙ c.if-not-is_among.true)) in
     let first = sym c.loop-key.invariant ∙ (ap (λ ks. first_unknown known (map (λ k. string_bytes k) ks)) turn ∙ first_unknown_new known (string_bytes c.in-Some.key.now) _ among) in
-    Fails-from_fault c.fault.result Key (c.args.at.now ++ c.as_str-then-not-is_among.result.now) _ c.fault.ensures
-    (ap (no_key c.args.at.now) first ∙ ap (λ (k : List ℕ). faulty {A = ⊤} Key (c.args.at.now ++ k)) (sym c.as_str-then-not-is_among.ensures.value))
+    Fails-from_fault c.unknown.result Key (c.args.at.now ++ key_text c.as_str-then-not-is_among.result.now) _ c.unknown.ensures
+    (ap (no_key c.args.at.now) first ∙ ap (λ (k : List ℕ). faulty {A = ⊤} Key (c.args.at.now ++ key_text k)) (sym c.as_str-then-not-is_among.ensures.value))
