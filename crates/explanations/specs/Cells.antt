@@ -1,4 +1,4 @@
--- Edges as they are told.
+-- Edges as they are printed.
 use Rattle.std.specs.Prelude.{ℕ, List, ◌++◌, codes}
 use Rattle.meter_theory.specs.declared.flow.Cause.{Cause}
 use Rattle.meter_theory.specs.declared.flow.Cause.TheVariants.{Monitored, Monitor, Captured, Period, Schedule}

@@ -1,7 +1,7 @@
 -- The value to which a place in the text of a configuration leads, as `object[6].name`. Texts are lists of bytes.
-use Rattle.std.specs.Prelude.{ℕ, ◌+◌, ◌-◌, ◌*◌, ◌==◌, nat_lt, ◌&&◌, List, [], ◌∷◌, codes, length, if◌then◌else◌, Option, Some, None, option_and_then}
+use Rattle.std.specs.Prelude.{ℕ, ◌+◌, ◌-◌, ◌*◌, ◌==◌, nat_eq, nat_lt, Bool, ◌&&◌, ◌||◌, List, [], ◌∷◌, codes, length, if◌then◌else◌, Option, Some, None, option_and_then}
 use Rattle.std.specs.Char.{is_ascii_digit}
-use Rattle.std.specs.List.{slice_split, position_or_len, before_first, after_first}
+use Rattle.std.specs.List.{slice_split, position_or_len, before_first, after_first, list_any, ends_with}
 use Rattle.std.specs.Str.{bytes_eq}
 use Rattle.toml.specs.Data.{Data, get, at, as_str}
 
@@ -56,9 +56,21 @@ follow d (step ∷ steps) = option_and_then (λ found. follow found steps) (step
 
 -- Places
 
--- the value at a place, whose steps are joined by dots (own profile)
+-- whether a key in a place stands between quotation marks (own profile)
+abbrev pub is_quoted : List ℕ → Bool
+is_quoted place = list_any (λ b. b == 34) place
+
+-- the value at a place, whose steps are joined by dots. A key between quotation marks is no step, so it leads nowhere (own profile)
 abbrev pub value_at : Data → List ℕ → Option Data
-value_at whole place = follow whole (parts 46 place)
+value_at whole place = if is_quoted place then None else follow whole (parts 46 place)
+
+-- whether the last key of a place is `password` (own profile)
+abbrev pub is_password : List ℕ → Bool
+is_password place = bytes_eq place (codes "password") || ends_with nat_eq place (codes ".password")
+
+-- the value at a place that may be shown: a password never is (own profile)
+abbrev pub shown_at : Data → List ℕ → Option Data
+shown_at whole place = if is_password place then None else value_at whole place
 
 -- the text at the key `name` (own profile)
 abbrev pub name_of : Data → Option (List ℕ)

@@ -1,4 +1,4 @@
-//! Cells and edges as they are told (own profile).
+//! Cells and edges as they are printed (own profile).
 ghost use Rattle.std.specs.Prelude.{◌≡◌};
 ghost use Rattle.explanations.specs.Cells.{cause_word};
 
@@ -6,9 +6,9 @@ use cosem_data::cell::CellRef;
 use meter_theory::flow::{Cause, Edge};
 use std::fmt;
 
-/// A cell as it is told: `class_id/logical name/attribute`, with `seen` for the inner cell of a register monitor.
+/// A cell as it is printed: `class_id/logical name/attribute`, with `seen` for the inner cell of a register monitor.
 #[derive(Drop)]
-pub(crate) struct CellText(pub(crate) CellRef);
+pub struct CellText(pub CellRef);
 
 impl fmt::Display for CellText {
     ghost use Rattle.std.specs.Prelude.{Some};
@@ -30,9 +30,9 @@ impl fmt::Display for CellText {
     }
 }
 
-/// An edge as it is told: `CELL -> CELL CAUSE`.
+/// An edge as it is printed: `CELL -> CELL CAUSE`.
 #[derive(Drop)]
-pub(crate) struct EdgeText(pub(crate) Edge);
+pub struct EdgeText(pub Edge);
 
 impl fmt::Display for EdgeText {
     ghost use Rattle.std.specs.Prelude.{Some};
@@ -48,8 +48,8 @@ impl fmt::Display for EdgeText {
     }
 }
 
-/// The word of a cause.
-fn word_of(cause: Cause) -> &'static str
+/// The word of a cause (own profile).
+pub fn word_of(cause: Cause) -> &'static str
     ensures { result.now ≡ cause_word cause }
 {
     match cause {

@@ -4,7 +4,7 @@ ghost use Rattle.toml.specs.View.{view};
 ghost use Rattle.explanations.specs.Config as spec;
 ghost use Rattle.explanations.specs.Config.{Explains};
 
-use crate::following::{object_name, value_at};
+use crate::following::{object_name, shown_at};
 use crate::meaning::{meaning_of, mending_of};
 use crate::printable::printable_text;
 use crate::syntax::explain_no_toml;
@@ -45,7 +45,7 @@ fn told(alloc: Global, file: &str, code: Code, place: &str, whole: &Value) -> Re
     ensures { IfOk result (λ told. string_bytes told ≡ spec.told file.now code place.now (view whole.now)) }
 {
     let object = object_line(alloc, object_name(whole, place))?;
-    let value = value_line(alloc, value_at(whole, place))?;
+    let value = value_line(alloc, shown_at(whole, place))?;
     let file = printable_text(alloc, file)?;
     let place = printable_text(alloc, place)?;
     let meaning = meaning_of(code);
@@ -71,7 +71,7 @@ fn no_memory(alloc: Global, file: &str) -> Result<String, Memory>
 ///       HOW TO MEND
 ///
 /// The second line is there where the place lies in an object that has a text as its name, the third where the place leads to a
-/// value. A text that isn't TOML is told with the line and the column where its reader stopped in place of PLACE. What comes
+/// value that is no password. A text that isn't TOML is told with the line and the column where its reader stopped in place of PLACE. What comes
 /// from the text, and FILE, is shown without control characters.
 ///
 /// # Errors

@@ -46,18 +46,54 @@ fn step_in<'a>(value: &'a Value, step: &str) -> Option<&'a Value>
     }
 }
 
-/// The value at a place, as `object[6].name`, if it leads to one.
-pub(crate) fn value_at<'a>(whole: &'a Value, place: &str) -> Option<&'a Value>
-    ensures { option_map (λ found. view found.now) result ≡ spec.value_at (view whole.now) place.now }
+/// What steps that are joined by dots lead to.
+fn follow<'a>(whole: &'a Value, steps: &str) -> Option<&'a Value>
+    ensures { option_map (λ found. view found.now) result ≡ spec.follow (view whole.now) (spec.parts 46 steps.now) }
 {
     let mut found = whole;
-    let mut left = Some(place);
+    let mut left = Some(steps);
     while let Some(path) = left {
         let (step, behind) = first_part('.', path);
         found = step_in(found, step)?;
         left = behind;
     }
     Some(found)
+}
+
+/// Whether there is a quotation mark among bytes.
+fn is_quoted(place: &[u8]) -> bool
+    ensures { result ≡ spec.is_quoted place.now }
+{
+    place.iter().any(|byte| *byte == b'"')
+}
+
+/// The value at a place, as `object[6].name`, if it leads to one. A place with a key between quotation marks leads nowhere.
+fn value_at<'a>(whole: &'a Value, place: &str) -> Option<&'a Value>
+    ensures { option_map (λ found. view found.now) result ≡ spec.value_at (view whole.now) place.now }
+{
+    if is_quoted(place.as_bytes()) {
+        None
+    } else {
+        follow(whole, place)
+    }
+}
+
+/// Whether the last key of a place is `password`.
+fn is_password(place: &str) -> bool
+    ensures { result ≡ spec.is_password place.now }
+{
+    place == "password" || place.as_bytes().ends_with(b".password")
+}
+
+/// The value at a place that may be shown, if it leads to one. A password never is.
+pub(crate) fn shown_at<'a>(whole: &'a Value, place: &str) -> Option<&'a Value>
+    ensures { option_map (λ found. view found.now) result ≡ spec.shown_at (view whole.now) place.now }
+{
+    if is_password(place) {
+        None
+    } else {
+        value_at(whole, place)
+    }
 }
 
 /// The text at the key `name`.

@@ -5,7 +5,7 @@
 //! (`Following`), the sentences of each code (`Meanings`), and the explanations (`Config`, `Labels`, `Refusals`, `Files`).
 #![tactic(auto)]
 
-mod cell;
+pub mod cell;
 pub mod config;
 pub mod file;
 mod following;
