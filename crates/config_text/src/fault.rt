@@ -88,7 +88,7 @@ pub enum ConfigFault {
     /// C0: memory was refused.
     Memory,
     /// The least code that is met, at the first place where it is: the path in the text, with indexes from 0, as
-    /// `object[6].name`.
+    /// `object[6].name`. A key that TOML doesn't take without quotation marks stands between them, as `client[0]."a.b"`.
     Found { code: Code, place: String },
 }
 
