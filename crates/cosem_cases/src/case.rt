@@ -1,11 +1,16 @@
 //! One case, or a table of them, against what it must give.
 use crate::command::is_done;
 use crate::copies::{with_copies, with_ends};
+use crate::explained::is_explained;
 use meter_server::demo::DEMO;
-use meter_server::program::{Outcome, answer_text, verdict_of};
+use meter_server::outcome::Outcome;
+use meter_server::program::{Source, answer_text, verdict_of};
 use meter_server::verdict::verdict_text;
 use std::alloc::Global;
 use std::fs;
+
+/// The name under which a configuration is explained.
+pub(crate) const FILE: &str = "demo.toml";
 
 /// What the rows of a table are.
 #[derive(Clone, Copy)]
@@ -80,6 +85,11 @@ impl Tally {
                 let is_well = is_demo(rt, configuration) == Some(true);
                 self.tell(rt, is_well, line);
             }
+            (Some("explained"), Some(configuration), Some(name), None) => {
+                if self.count_explained(rt, configuration, name).is_none() {
+                    self.tell(rt, false, line);
+                }
+            }
             (Some(kind), Some(configuration), Some(name), None) => {
                 let table = Table::read(kind);
                 if self.count_rows(rt, table, configuration, name).is_none() {
@@ -98,6 +108,21 @@ impl Tally {
             self.failed = self.failed.saturating_add(1);
             let _ = println!(rt; "not as expected: {case}");
         }
+    }
+
+    /// Tries each verdict of a table over a configuration and its labels, with what explains it.
+    fn count_explained(&mut self, rt: &HostRuntime, configuration: &str, name: &str) -> Option<()> {
+        let text = read_configuration(rt, configuration)?;
+        let labels = read_labels(rt, configuration)?;
+        let path = format!(in rt.alloc(); "explained/{name}").ok()?;
+        let table = fs::read_to_string(rt, path.as_str()).ok()?;
+        for case in table.as_str().split("\n\n") {
+            if !case.starts_with('#') {
+                let is_well = is_explained(rt.alloc(), text.as_str(), labels.as_str(), case);
+                self.tell(rt, is_well == Some(true), case);
+            }
+        }
+        Some(())
     }
 
     /// Tries each row of a table over a configuration.
@@ -169,30 +194,51 @@ fn with_edit(alloc: Global, text: &str, old: &str, new: &str) -> Option<String> 
 
 /// Whether the configuration and its labels have the verdict of the row with the row's edits.
 fn is_checked(alloc: Global, text: &str, labels: &str, row: &str) -> Option<bool> {
-    let mut config = String::from_str(alloc, text).ok()?;
-    let mut labels = String::from_str(alloc, labels).ok()?;
-    let mut held = None;
-    for part in row.split(" => ") {
-        held = match held {
-            None => Some(part),
-            Some(old) => {
-                match old.split_once(" ")? {
-                    ("config", old) => config = with_edit(alloc, config.as_str(), old, part)?,
-                    ("labels", old) => labels = with_edit(alloc, labels.as_str(), old, part)?,
-                    _ => return None,
-                }
-                None
-            }
-        };
-    }
-    let verdict = verdict_of(alloc, config.as_str(), labels.as_str());
+    let edited = Edited::read(alloc, text, labels, row)?;
+    let verdict = verdict_of(alloc, edited.config.as_str(), edited.labels.as_str());
     let line = verdict_text(alloc, &verdict).ok()?;
-    Some(line.as_str().trim_end() == held?)
+    Some(line.as_str().trim_end() == edited.verdict)
+}
+
+/// A configuration and labels with the edits of a row, and the verdict that the row wants of them.
+#[derive(Drop)]
+pub(crate) struct Edited<'a> {
+    pub(crate) config: String,
+    pub(crate) labels: String,
+    pub(crate) verdict: &'a str,
+}
+
+impl<'a> Edited<'a> {
+    /// The configuration and the labels with the edits of a row.
+    pub(crate) fn read(alloc: Global, config: &str, labels: &str, row: &'a str) -> Option<Self> {
+        let mut config = String::from_str(alloc, config).ok()?;
+        let mut labels = String::from_str(alloc, labels).ok()?;
+        let mut held = None;
+        for part in row.split(" => ") {
+            held = match held {
+                None => Some(part),
+                Some(old) => {
+                    match old.split_once(" ")? {
+                        ("config", old) => config = with_edit(alloc, config.as_str(), old, part)?,
+                        ("labels", old) => labels = with_edit(alloc, labels.as_str(), old, part)?,
+                        _ => return None,
+                    }
+                    None
+                }
+            };
+        }
+        Some(Edited {
+            config,
+            labels,
+            verdict: held?,
+        })
+    }
 }
 
 /// The verdict on a configuration in words, or `no fault`.
 fn fault_of(alloc: Global, text: &str) -> Option<String> {
-    let outcome = answer_text(alloc, text, &mut b"".as_slice(), &mut Vec::new(alloc));
+    let config = Source { file: FILE, text };
+    let outcome = answer_text(alloc, config, &mut b"".as_slice(), &mut Vec::new(alloc));
     match outcome {
         Outcome::Done => String::from_str(alloc, "no fault").ok(),
         _ => {
@@ -223,7 +269,8 @@ fn is_answered(rt: &HostRuntime, configuration: &str, name: &str) -> Option<bool
 /// the verdict on the configuration.
 fn answers(alloc: Global, text: &str, lines: &[u8]) -> Option<Vec<u8>> {
     let mut written = Vec::new(alloc);
-    let outcome = answer_text(alloc, text, &mut &*lines, &mut written);
+    let config = Source { file: FILE, text };
+    let outcome = answer_text(alloc, config, &mut &*lines, &mut written);
     let end = match &outcome {
         Outcome::Done => String::from_str(alloc, "done\n").ok()?,
         Outcome::Fault(fault) => format!(in alloc; "{fault}\n").ok()?,

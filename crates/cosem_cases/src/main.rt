@@ -12,6 +12,9 @@
 //! - `labels CONFIGURATION NAME`: each row `EDIT => NEW => .. => VERDICT` of `labels/NAME` is a case, where EDIT is `config OLD` or
 //!   `labels OLD`. With each NEW in place of its OLD, which stands there once, the configuration and the labels
 //!   `CONFIGURATION.labels` have this verdict.
+//! - `explained CONFIGURATION NAME`: each case of `explained/NAME`, which empty lines part, is a row as those of `labels`, and behind
+//!   it the lines that explain the verdict on standard error, each behind `| `. The configuration is explained as `demo.toml`, the
+//!   labels as `demo.labels`.
 //! - `unreadable CONFIGURATION NAME`: each row of `unreadable/NAME` is a case: the line, alone, is told by
 //!   `line 1: unreadable` and ends the run.
 //! - `command NAME STATUS`: the program with the words of `commands/NAME.words`, one a line, and the input `NAME.in` ends
@@ -28,6 +31,7 @@
 mod case;
 mod command;
 mod copies;
+mod explained;
 
 use case::Tally;
 use std::fs;

@@ -11,4 +11,5 @@ pub mod Solo
 pub mod Verdicts
 pub mod Listing
 pub mod Faults
+pub mod Outcomes
 pub mod Program

@@ -10,6 +10,7 @@ pub mod feeding;
 mod line;
 pub mod lines;
 pub mod listing;
+pub mod outcome;
 pub mod program;
 pub mod reason;
 pub mod running;

@@ -3,97 +3,48 @@ ghost use Rattle.std.specs.Prelude.{◌≡◌, ◌⊎◌, IfOk, None, map, strin
 ghost use Rattle.config_reader.specs.ConfigOf.{config_of};
 ghost use Rattle.command_words.specs.Commands.{command_of};
 ghost use Rattle.meter_server.specs.Listing.{WritesText};
-ghost use Rattle.meter_server.specs.Program as spec;
-ghost use Rattle.meter_server.specs.Program.{AnswersText, AreMistaken, AskForHelp, IsNoCommand, IsVerdict, IsVerdictOn, ListsEdges, ListsLabels, TellsVerdict, error_of, output_of, status_of};
+ghost use Rattle.meter_server.specs.Outcomes as outcomes;
+ghost use Rattle.meter_server.specs.Outcomes.{output_of};
+ghost use Rattle.meter_server.specs.Program.{AnswersText, AreMistaken, AskForHelp, ExplainsVerdict, IsFaulty, IsJudged, IsNoCommand, IsVerdict, IsVerdictOn, ListsEdges, ListsLabels, TellsVerdict};
 
 use crate::demo::DEMO;
 use crate::listing::{ListFault, write_edges, write_least_labels};
+use crate::outcome::Outcome;
 use crate::running::{LineFault, run_lines};
-use crate::verdict::{Verdict, verdict_text};
+use crate::verdict::Verdict;
 use crate::writing::write_whole;
 use command_words::{Command, WordsFault, read_words};
 use config_reader::read_config;
+use config_text::fault::ConfigFault;
 use cosem_data::memory::Memory;
+use explanations::config::explain_config;
+use explanations::file::{FileFault, read_text};
+use explanations::labels::explain_labels;
+use explanations::refusal::explain_refusal;
 use flow_checker::check::check;
 use label_certificate::reading::read_labels;
 use object_model::plan::Plan;
 use object_model::policy::Policy;
 use std::alloc::Global;
-use std::fs;
 use std::io::{Read, Write};
 use std::rt::Files;
 
-/// How a command ended.
-#[derive(Debug, Drop)]
-pub enum Outcome {
-    /// It did what it was asked to do.
-    Done,
-    /// It came to this verdict.
-    Judged(Verdict),
-    /// The words of the command line ask for help or the version, or are no command.
-    Words(WordsFault),
-    /// The file with this path can't be read, or isn't UTF-8.
-    Unread(String),
-    /// A fault stopped the run of lines.
-    Fault(LineFault),
-    /// Its list or its verdict can't be written whole.
-    Unwritten(ListFault),
+/// A file by its path, with its text.
+#[derive(Clone, Copy, Debug)]
+pub struct Source<'a> {
+    pub file: &'a str,
+    pub text: &'a str,
 }
 
-impl Outcome {
-    /// The exit status: 0 done, accepted or helped, 1 a verdict that refuses, 2 a command line that can't be used, 3 any other fault.
-    pub fn status(&self) -> u8
-        ensures { result ≡ status_of self.now }
-    {
-        match self {
-            Outcome::Done | Outcome::Judged(Verdict::Accepted) => 0,
-            Outcome::Judged(_) => 1,
-            Outcome::Words(WordsFault::Help(_) | WordsFault::Version(_)) => 0,
-            Outcome::Words(WordsFault::Usage(_)) => 2,
-            Outcome::Words(WordsFault::Memory) => 3,
-            Outcome::Unread(_) | Outcome::Fault(_) | Outcome::Unwritten(_) => 3,
-        }
-    }
-
-    /// What is told on standard output behind what the command wrote: its verdict, or the help or the version that was asked for.
-    pub fn output(&self, alloc: Global) -> Result<String, Memory>
-        ensures { IfOk result (λ text. string_bytes text ≡ output_of self.now) }
-    {
-        match self {
-            Outcome::Judged(verdict) => verdict_text(alloc, verdict),
-            Outcome::Words(WordsFault::Help(text) | WordsFault::Version(text)) => {
-                Ok(String::from_str(alloc, text.as_str())?)
-            }
-            _ => Ok(String::new(alloc)),
-        }
-    }
-
-    /// What is told on standard error: any other fault, and why a line is unreadable, which standard output has told of.
-    pub fn error(&self, alloc: Global) -> Result<String, Memory>
-        ensures { IfOk result (λ text. string_bytes text ≡ error_of self.now) }
-    {
-        match self {
-            Outcome::Done | Outcome::Judged(_) => Ok(String::new(alloc)),
-            Outcome::Words(WordsFault::Help(_) | WordsFault::Version(_)) => Ok(String::new(alloc)),
-            Outcome::Words(WordsFault::Usage(text)) => Ok(String::from_str(alloc, text.as_str())?),
-            Outcome::Words(WordsFault::Memory) => {
-                Ok(String::from_str(alloc, "cosem-flow: out of memory\n")?)
-            }
-            Outcome::Unread(file) => {
-                Ok(format!(in alloc; "cosem-flow: {file}: can't be read as UTF-8 text\n")?)
-            }
-            Outcome::Fault(LineFault::Line(number, why)) => {
-                Ok(format!(in alloc; "cosem-flow: line {number}: {why}\n")?)
-            }
-            Outcome::Fault(fault) => Ok(format!(in alloc; "cosem-flow: {fault}\n")?),
-            Outcome::Unwritten(fault) => Ok(format!(in alloc; "cosem-flow: {fault}\n")?),
-        }
-    }
-}
+/// The demo configuration, under the name of the file that people copy.
+const DEMO_SOURCE: Source<'static> = Source {
+    file: "demo.toml",
+    text: DEMO,
+};
 
 /// How a command ended whose lines were answered so.
 pub fn outcome_of(answer: Result<u64, LineFault>) -> Outcome
-    ensures { result ≡ spec.outcome_of answer }
+    ensures { result ≡ outcomes.outcome_of answer }
 {
     match answer {
         Ok(_) => Outcome::Done,
@@ -103,7 +54,7 @@ pub fn outcome_of(answer: Result<u64, LineFault>) -> Outcome
 
 /// How a command ended whose list was written so.
 pub fn listed(answer: Result<(), ListFault>) -> Outcome
-    ensures { result ≡ spec.listed answer }
+    ensures { result ≡ outcomes.listed answer }
 {
     match answer {
         Ok(()) => Outcome::Done,
@@ -111,11 +62,12 @@ pub fn listed(answer: Result<(), ListFault>) -> Outcome
     }
 }
 
-/// Does what the words of a command line ask for, the program's name first, and answers the exit status: `demo` and `run CONFIG` answer the step
-/// lines of the input on the output, by the configuration in the file that they name; `edges CONFIG` and `label CONFIG`
-/// print its edges and its least labels there; `check CONFIG LABELS` comes to a verdict on it and on the labels in a second
-/// file, which is read only where the configuration has no fault. A verdict stands on the output, as do help and the version
-/// where the words ask for these; any other fault stands on the error stream.
+/// Does what the words of a command line ask for, the program's name first, and answers the exit status: `demo` and `run CONFIG`
+/// answer the step lines of the input on the output, by the configuration in the file that they name; `edges CONFIG` and
+/// `label CONFIG` print its edges and its least labels there; `check CONFIG LABELS` comes to a verdict on it and on the labels in
+/// a second file, which is read only where the configuration has no fault. A verdict stands on the output and what explains it on
+/// the error stream; help and the version stand on the output where the words ask for these; any other fault stands on the error
+/// stream.
 pub fn run_program<H: Files + AllocGlobal, I: Read, O: Write, E: Write>(
     rt: &H,
     words: &[String],
@@ -169,92 +121,97 @@ fn answer<H: Files + AllocGlobal, I: Read, O: Write>(
     input: &mut I,
     output: &mut O,
 ) -> Outcome {
-    let text = match read_config_text(rt, command) {
-        Ok(text) => text,
-        Err(outcome) => return outcome,
-    };
-    let text = text.as_str();
-    match command {
-        Command::Demo | Command::Run { .. } => answer_text(rt.alloc(), text, input, output),
-        Command::Edges { .. } => list_edges(rt.alloc(), text, output),
-        Command::Label { .. } => list_labels(rt.alloc(), text, output),
-        Command::Check { labels, .. } => check_file(rt, text, labels),
-    }
-}
-
-/// The verdict on the configuration that a text is and on the labels in a file, or that the file can't be read.
-fn check_file<H: Files + AllocGlobal>(rt: &H, text: &str, file: &str) -> Outcome {
-    let (plan, policy) = match read_config(rt.alloc(), text) {
-        Ok(made) => made,
-        Err(fault) => return Outcome::Judged(Verdict::Config(fault)),
-    };
-    match read_file(rt, file) {
-        Ok(labels) => Outcome::Judged(judge_labels(rt.alloc(), plan, &policy, labels.as_str())),
-        Err(outcome) => outcome,
-    }
-}
-
-/// The text of the configuration that a command is over, or that its file can't be read.
-fn read_config_text<H: Files + AllocGlobal>(
-    rt: &H,
-    command: Command<'_>,
-) -> Result<String, Outcome> {
-    match command {
-        Command::Demo => String::from_str(rt.alloc(), DEMO).map_err(|_| Outcome::Fault(
-            LineFault::Memory,
-        )),
+    let file = match command {
+        Command::Demo => return answer_text(rt.alloc(), DEMO_SOURCE, input, output),
         Command::Run { config }
         | Command::Edges { config }
         | Command::Label { config }
-        | Command::Check { config, .. } => read_file(rt, config),
+        | Command::Check { config, .. } => config,
+    };
+    match read_text(rt, file) {
+        Ok(text) => {
+            let config = Source {
+                file,
+                text: text.as_str(),
+            };
+            answer_over(rt, command, config, input, output)
+        }
+        Err(why) => unread(rt.alloc(), file, why),
     }
 }
 
-/// The text of a file, or that it can't be read.
-fn read_file<H: Files + AllocGlobal>(rt: &H, file: &str) -> Result<String, Outcome> {
-    match fs::read_to_string(rt, file) {
-        Ok(text) => Ok(text),
-        Err(_) => Err(unread(rt.alloc(), file)),
+/// Does what a command asks for over a configuration.
+fn answer_over<H: Files + AllocGlobal, I: Read, O: Write>(
+    rt: &H,
+    command: Command<'_>,
+    config: Source<'_>,
+    input: &mut I,
+    output: &mut O,
+) -> Outcome {
+    match command {
+        Command::Demo | Command::Run { .. } => answer_text(rt.alloc(), config, input, output),
+        Command::Edges { .. } => list_edges(rt.alloc(), config, output),
+        Command::Label { .. } => list_labels(rt.alloc(), config, output),
+        Command::Check { labels, .. } => check_file(rt, config, labels),
     }
 }
 
-/// Answers the lines of the input by the configuration that a text is, on the output, and says how that ended: `Done`, a
-/// fault of the run, or the verdict where the configuration has a fault or memory was refused while it was read; then nothing
-/// was read of the input, and nothing written.
+/// The verdict on a configuration and on the labels in a file, or that the file isn't read.
+fn check_file<H: Files + AllocGlobal>(rt: &H, config: Source<'_>, file: &str) -> Outcome {
+    let (plan, policy) = match read_config(rt.alloc(), config.text) {
+        Ok(made) => made,
+        Err(fault) => return faulty(rt.alloc(), config, fault),
+    };
+    match read_text(rt, file) {
+        Ok(text) => {
+            let labels = Source {
+                file,
+                text: text.as_str(),
+            };
+            let verdict = judge_labels(rt.alloc(), plan, &policy, labels.text);
+            judged(rt.alloc(), config, labels, verdict)
+        }
+        Err(why) => unread(rt.alloc(), file, why),
+    }
+}
+
+/// Answers the lines of the input by a configuration, on the output, and says how that ended: `Done`, a fault of the run, or the
+/// verdict where the configuration has a fault or memory was refused while it was read; then nothing was read of the input, and
+/// nothing written.
 pub fn answer_text<I: Read, O: Write>(
     alloc: Global,
-    text: &str,
+    config: Source<'_>,
     input: &mut I,
     output: &mut O,
 ) -> Outcome
-    ensures { AnswersText (config_of text.now)
+    ensures { AnswersText config (config_of config.text.now)
         (record { unread = I.remaining input.old; written = O.contents output.old })
         (record { unread = I.remaining input.new; written = O.contents output.new }) result }
 {
-    match read_config(alloc, text) {
+    match read_config(alloc, config.text) {
         Ok((plan, _policy)) => outcome_of(run_lines(alloc, &plan, input, output)),
-        Err(fault) => Outcome::Judged(Verdict::Config(fault)),
+        Err(fault) => faulty(alloc, config, fault),
     }
 }
 
-/// Writes the edges of the configuration that a text is on the output, and says how that ended: `Done`, a fault of the list,
-/// or the verdict where the configuration has a fault or memory was refused while it was read; then nothing was written.
-pub fn list_edges<O: Write>(alloc: Global, text: &str, output: &mut O) -> Outcome
-    ensures { ListsEdges (config_of text.now) (O.contents output.old) (O.contents output.new) result }
+/// Writes the edges of a configuration on the output, and says how that ended: `Done`, a fault of the list, or the verdict where
+/// the configuration has a fault or memory was refused while it was read; then nothing was written.
+pub fn list_edges<O: Write>(alloc: Global, config: Source<'_>, output: &mut O) -> Outcome
+    ensures { ListsEdges config (config_of config.text.now) (O.contents output.old) (O.contents output.new) result }
 {
-    match read_config(alloc, text) {
+    match read_config(alloc, config.text) {
         Ok((plan, _policy)) => listed(write_edges(alloc, &plan, output)),
-        Err(fault) => Outcome::Judged(Verdict::Config(fault)),
+        Err(fault) => faulty(alloc, config, fault),
     }
 }
 
-/// Writes the least labels of the configuration that a text is on the output, and says how that ended, as `list_edges` does.
-pub fn list_labels<O: Write>(alloc: Global, text: &str, output: &mut O) -> Outcome
-    ensures { ListsLabels (config_of text.now) (O.contents output.old) (O.contents output.new) result }
+/// Writes the least labels of a configuration on the output, and says how that ended, as `list_edges` does.
+pub fn list_labels<O: Write>(alloc: Global, config: Source<'_>, output: &mut O) -> Outcome
+    ensures { ListsLabels config (config_of config.text.now) (O.contents output.old) (O.contents output.new) result }
 {
-    match read_config(alloc, text) {
+    match read_config(alloc, config.text) {
         Ok((plan, _policy)) => listed(write_least_labels(alloc, &plan, output)),
-        Err(fault) => Outcome::Judged(Verdict::Config(fault)),
+        Err(fault) => faulty(alloc, config, fault),
     }
 }
 
@@ -284,16 +241,54 @@ pub fn judge_labels(alloc: Global, plan: Plan, policy: &Policy, labels: &str) ->
     }
 }
 
-/// A file that can't be read.
-fn unread(alloc: Global, file: &str) -> Outcome {
+/// What explains a verdict on the configuration in a file and the labels in another, in whole lines; nothing where they are
+/// accepted (own profile). The error is that memory was refused.
+pub fn explain_verdict(
+    alloc: Global,
+    config: Source<'_>,
+    labels: Source<'_>,
+    verdict: &Verdict,
+) -> Result<String, Memory>
+    ensures { IfOk result (λ text. ExplainsVerdict config labels verdict.now (string_bytes text)) }
+{
+    match verdict {
+        Verdict::Accepted => Ok(String::new(alloc)),
+        Verdict::Config(fault) => explain_config(alloc, config.file, config.text, fault),
+        Verdict::Labels(fault) => explain_labels(alloc, labels.file, labels.text, fault),
+        Verdict::Refused(refused) => explain_refusal(alloc, refused),
+    }
+}
+
+/// A command that came to a verdict on the configuration in a file and the labels in another, with what explains it.
+fn judged(alloc: Global, config: Source<'_>, labels: Source<'_>, verdict: Verdict) -> Outcome
+    ensures { IsJudged config labels verdict result }
+{
+    match explain_verdict(alloc, config, labels, &verdict) {
+        Ok(text) => Outcome::Judged(verdict, text),
+        Err(_) => Outcome::Judged(verdict, String::new(alloc)),
+    }
+}
+
+/// A command whose configuration has a fault, with what explains it.
+fn faulty(alloc: Global, config: Source<'_>, fault: ConfigFault) -> Outcome
+    ensures { IsFaulty config fault result }
+{
+    match explain_config(alloc, config.file, config.text, &fault) {
+        Ok(text) => Outcome::Judged(Verdict::Config(fault), text),
+        Err(_) => Outcome::Judged(Verdict::Config(fault), String::new(alloc)),
+    }
+}
+
+/// A file that isn't read.
+fn unread(alloc: Global, file: &str, why: FileFault) -> Outcome {
     match String::from_str(alloc, file) {
-        Ok(name) => Outcome::Unread(name),
+        Ok(file) => Outcome::Unread(file, why),
         Err(_) => Outcome::Fault(LineFault::Memory),
     }
 }
 
-/// Writes the verdict that a command came to on the output, if it came to one, and says how the command ended then: as before,
-/// or that its verdict can't be written whole.
+/// Writes what a command tells on the output behind what it wrote, and says how the command ended then: as before, or that this
+/// can't be written whole.
 fn with_verdict<O: Write>(alloc: Global, outcome: Outcome, output: &mut O) -> Outcome
     ensures { TellsVerdict outcome (O.contents output.old) (O.contents output.new) result }
 {
@@ -303,7 +298,7 @@ fn with_verdict<O: Write>(alloc: Global, outcome: Outcome, output: &mut O) -> Ou
     }
 }
 
-/// Writes the verdict that a command came to, if it came to one.
+/// Writes what a command tells on the output behind what it wrote.
 fn write_verdict<O: Write>(
     alloc: Global,
     outcome: &Outcome,

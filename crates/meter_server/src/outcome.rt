@@ -1,0 +1,89 @@
+//! How a command ended, and what is told of it (own profile).
+ghost use Rattle.std.specs.Prelude.{◌≡◌, IfOk, string_bytes};
+ghost use Rattle.meter_server.specs.Outcomes.{error_of, output_of, status_of, unread_line};
+
+use crate::listing::ListFault;
+use crate::running::LineFault;
+use crate::verdict::{Verdict, verdict_text};
+use command_words::WordsFault;
+use cosem_data::memory::Memory;
+use explanations::file::FileFault;
+use explanations::printable::printable_text;
+use std::alloc::Global;
+
+/// How a command ended.
+#[derive(Debug, Drop)]
+pub enum Outcome {
+    /// It did what it was asked to do.
+    Done,
+    /// It came to this verdict, and this text explains it in whole lines. The text is empty where there is nothing to explain, or
+    /// no memory to do so.
+    Judged(Verdict, String),
+    /// The words of the command line ask for help or the version, or are no command.
+    Words(WordsFault),
+    /// The file with this path isn't read as text, and why.
+    Unread(String, FileFault),
+    /// A fault stopped the run of lines.
+    Fault(LineFault),
+    /// Its list or its verdict can't be written whole.
+    Unwritten(ListFault),
+}
+
+impl Outcome {
+    /// The exit status: 0 done, accepted or helped, 1 a verdict that refuses, 2 a command line that can't be used, 3 any other fault.
+    pub fn status(&self) -> u8
+        ensures { result ≡ status_of self.now }
+    {
+        match self {
+            Outcome::Done | Outcome::Judged(Verdict::Accepted, _) => 0,
+            Outcome::Judged(_, _) => 1,
+            Outcome::Words(WordsFault::Help(_) | WordsFault::Version(_)) => 0,
+            Outcome::Words(WordsFault::Usage(_)) => 2,
+            Outcome::Words(WordsFault::Memory) => 3,
+            Outcome::Unread(_, _) | Outcome::Fault(_) | Outcome::Unwritten(_) => 3,
+        }
+    }
+
+    /// What is told on standard output behind what the command wrote: its verdict, or the help or the version that was asked for.
+    pub fn output(&self, alloc: Global) -> Result<String, Memory>
+        ensures { IfOk result (λ text. string_bytes text ≡ output_of self.now) }
+    {
+        match self {
+            Outcome::Judged(verdict, _) => verdict_text(alloc, verdict),
+            Outcome::Words(WordsFault::Help(text) | WordsFault::Version(text)) => {
+                Ok(String::from_str(alloc, text.as_str())?)
+            }
+            _ => Ok(String::new(alloc)),
+        }
+    }
+
+    /// What is told on standard error: any other fault, what explains a verdict, and why a line is unreadable. Standard output
+    /// has told of the last two.
+    pub fn error(&self, alloc: Global) -> Result<String, Memory>
+        ensures { IfOk result (λ text. string_bytes text ≡ error_of self.now) }
+    {
+        match self {
+            Outcome::Done => Ok(String::new(alloc)),
+            Outcome::Judged(_, explanation) => Ok(String::from_str(alloc, explanation.as_str())?),
+            Outcome::Words(WordsFault::Help(_) | WordsFault::Version(_)) => Ok(String::new(alloc)),
+            Outcome::Words(WordsFault::Usage(text)) => Ok(String::from_str(alloc, text.as_str())?),
+            Outcome::Words(WordsFault::Memory) => {
+                Ok(String::from_str(alloc, "cosem-flow: out of memory\n")?)
+            }
+            Outcome::Unread(file, why) => unread_text(alloc, file.as_str(), *why),
+            Outcome::Fault(LineFault::Line(number, why)) => {
+                Ok(format!(in alloc; "cosem-flow: line {number}: {why}\n")?)
+            }
+            Outcome::Fault(fault) => Ok(format!(in alloc; "cosem-flow: {fault}\n")?),
+            Outcome::Unwritten(fault) => Ok(format!(in alloc; "cosem-flow: {fault}\n")?),
+        }
+    }
+}
+
+/// What is told of a file that isn't read.
+fn unread_text(alloc: Global, file: &str, why: FileFault) -> Result<String, Memory>
+    ensures { IfOk result (λ text. string_bytes text ≡ unread_line file.now why) }
+{
+    let file = printable_text(alloc, file)?;
+    Ok(format!(in alloc; "cosem-flow: {file}: {why}\n")?)
+}
