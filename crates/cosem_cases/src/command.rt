@@ -30,7 +30,9 @@ fn read(rt: &HostRuntime, name: &str, part: &str) -> Option<String> {
 /// The words of a command line, the program's name and then one a line.
 fn words_of(alloc: Global, text: &str) -> Option<Vec<String>> {
     let mut words = Vec::new(alloc);
-    words.push(String::from_str(alloc, "cosem-flow").ok()?).ok()?;
+    words
+        .push(String::from_str(alloc, "cosem-flow").ok()?)
+        .ok()?;
     for line in text.lines() {
         words.push(String::from_str(alloc, line).ok()?).ok()?;
     }

@@ -24,7 +24,9 @@ pub(crate) fn is_explained(alloc: Global, config: &str, labels: &str, case: &str
     let line = verdict_text(alloc, &verdict).ok()?;
     let told = explain_verdict(alloc, config, labels, &verdict).ok()?;
     let told = behind_bars(alloc, told.as_str())?;
-    Some(line.as_str().trim_end() == edited.verdict && told.as_str().trim_end() == wanted.trim_end())
+    Some(
+        line.as_str().trim_end() == edited.verdict && told.as_str().trim_end() == wanted.trim_end(),
+    )
 }
 
 /// Each line of a text behind `| `.

@@ -3,9 +3,8 @@ use Rattle.std.specs.Prelude.{◌≡◌, ◌<◌, ℕ, List, [], ◌++◌, codes
 use Rattle.std.specs.Io.KnownBytes.{Appends}
 use Rattle.meter_theory.specs.Labels.{Labels, AreLeast}
 use Rattle.meter_theory.specs.Plan.{Plan, cells}
-use Rattle.meter_theory.specs.declared.flow.Cause.{Cause}
-use Rattle.meter_theory.specs.declared.flow.Cause.TheVariants.{Monitored, Monitor, Captured, Period, Schedule}
 use Rattle.meter_theory.specs.declared.flow.Edge.{Edge}
+use Rattle.explanations.specs.Cells.{cause_word, edge_text}
 use Rattle.flow_edges.specs.declared.table.Link.{Link}
 use Rattle.label_certificate.specs.LabelText.{text_of_labels}
 use Rattle.value_text.specs.Texts.{cell_text}
@@ -14,18 +13,6 @@ use Rattle.meter_server.specs.declared.listing.ListFault.{ListFault}
 use Rattle.meter_server.specs.declared.listing.ListFault.TheVariants as faults
 
 -- Edges
-
--- the word of a cause (own profile)
-abbrev pub cause_word : Cause → List ℕ
-cause_word Monitored = codes "monitored"
-cause_word Monitor = codes "monitor"
-cause_word Captured = codes "captured"
-cause_word Period = codes "period"
-cause_word Schedule = codes "schedule"
-
--- `CELL -> CELL CAUSE` (own profile)
-abbrev pub edge_text : Edge → List ℕ
-edge_text e = cell_text e.source ++ (codes " -> " ++ (cell_text e.target ++ (codes " " ++ cause_word e.cause)))
 
 -- edges, each in a line of its own (own profile)
 abbrev pub edges_text : List Edge → List ℕ

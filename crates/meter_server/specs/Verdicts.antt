@@ -10,7 +10,7 @@ use Rattle.label_certificate.specs.declared.fault.LabelFault.TheVariants as labe
 use Rattle.flow_checker.specs.declared.check.Refused.{Refused}
 use Rattle.flow_checker.specs.declared.check.Refused.TheVariants as refusals
 use Rattle.value_text.specs.Texts.{cell_text}
-use Rattle.meter_server.specs.Listing.{edge_text}
+use Rattle.explanations.specs.Cells.{edge_text}
 use Rattle.meter_server.specs.declared.verdict.Verdict.{Verdict}
 use Rattle.meter_server.specs.declared.verdict.Verdict.TheVariants as verdicts
 

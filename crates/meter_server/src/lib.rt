@@ -5,7 +5,6 @@
 mod answering;
 pub mod demo;
 mod driving;
-pub mod edge;
 pub mod feeding;
 mod line;
 pub mod lines;

@@ -5,10 +5,10 @@ ghost use Rattle.value_text.specs.Texts.{cell_text};
 ghost use Rattle.label_certificate.specs.Least.{AreLinks};
 ghost use Rattle.meter_server.specs.Listing.{WritesLeast, WritesText, edges_text, link_text, links_text};
 
-use crate::edge::word_of;
 use crate::writing::{WriteFailed, write_full, write_waiting, write_whole};
 use cosem_data::cell::CellRef;
 use cosem_data::memory::Memory;
+use explanations::cell::word_of;
 use flow_edges::edges::edge_table;
 use flow_edges::table::Link;
 use label_certificate::least::make_labels;

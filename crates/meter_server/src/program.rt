@@ -184,7 +184,7 @@ pub fn answer_text<I: Read, O: Write>(
     input: &mut I,
     output: &mut O,
 ) -> Outcome
-    ensures { AnswersText config (config_of config.text.now)
+    ensures { AnswersText config.entry (config_of config.text.now)
         (record { unread = I.remaining input.old; written = O.contents output.old })
         (record { unread = I.remaining input.new; written = O.contents output.new }) result }
 {
@@ -197,7 +197,7 @@ pub fn answer_text<I: Read, O: Write>(
 /// Writes the edges of a configuration on the output, and says how that ended: `Done`, a fault of the list, or the verdict where
 /// the configuration has a fault or memory was refused while it was read; then nothing was written.
 pub fn list_edges<O: Write>(alloc: Global, config: Source<'_>, output: &mut O) -> Outcome
-    ensures { ListsEdges config (config_of config.text.now) (O.contents output.old) (O.contents output.new) result }
+    ensures { ListsEdges config.entry (config_of config.text.now) (O.contents output.old) (O.contents output.new) result }
 {
     match read_config(alloc, config.text) {
         Ok((plan, _policy)) => listed(write_edges(alloc, &plan, output)),
@@ -207,7 +207,7 @@ pub fn list_edges<O: Write>(alloc: Global, config: Source<'_>, output: &mut O) -
 
 /// Writes the least labels of a configuration on the output, and says how that ended, as `list_edges` does.
 pub fn list_labels<O: Write>(alloc: Global, config: Source<'_>, output: &mut O) -> Outcome
-    ensures { ListsLabels config (config_of config.text.now) (O.contents output.old) (O.contents output.new) result }
+    ensures { ListsLabels config.entry (config_of config.text.now) (O.contents output.old) (O.contents output.new) result }
 {
     match read_config(alloc, config.text) {
         Ok((plan, _policy)) => listed(write_least_labels(alloc, &plan, output)),
@@ -249,7 +249,7 @@ pub fn explain_verdict(
     labels: Source<'_>,
     verdict: &Verdict,
 ) -> Result<String, Memory>
-    ensures { IfOk result (λ text. ExplainsVerdict config labels verdict.now (string_bytes text)) }
+    ensures { IfOk result (λ text. ExplainsVerdict config.entry labels.entry verdict.now (string_bytes text)) }
 {
     match verdict {
         Verdict::Accepted => Ok(String::new(alloc)),
@@ -261,7 +261,7 @@ pub fn explain_verdict(
 
 /// A command that came to a verdict on the configuration in a file and the labels in another, with what explains it.
 fn judged(alloc: Global, config: Source<'_>, labels: Source<'_>, verdict: Verdict) -> Outcome
-    ensures { IsJudged config labels verdict result }
+    ensures { IsJudged config.entry labels.entry verdict result }
 {
     match explain_verdict(alloc, config, labels, &verdict) {
         Ok(text) => Outcome::Judged(verdict, text),
@@ -271,7 +271,7 @@ fn judged(alloc: Global, config: Source<'_>, labels: Source<'_>, verdict: Verdic
 
 /// A command whose configuration has a fault, with what explains it.
 fn faulty(alloc: Global, config: Source<'_>, fault: ConfigFault) -> Outcome
-    ensures { IsFaulty config fault result }
+    ensures { IsFaulty config.entry fault result }
 {
     match explain_config(alloc, config.file, config.text, &fault) {
         Ok(text) => Outcome::Judged(Verdict::Config(fault), text),

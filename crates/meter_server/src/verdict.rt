@@ -1,14 +1,14 @@
 //! What is printed of a verdict on a configuration and its labels.
 ghost use Rattle.std.specs.Prelude.{◌≡◌, ◌++◌, IfOk, codes, string_bytes};
 ghost use Rattle.value_text.specs.Texts.{cell_text};
-ghost use Rattle.meter_server.specs.Listing.{edge_text};
+ghost use Rattle.explanations.specs.Cells.{edge_text};
 ghost use Rattle.meter_server.specs.Verdicts as spec;
 ghost use Rattle.meter_server.specs.Verdicts.{refused_by, verdict_line};
 
-use crate::edge::{CellText, EdgeText};
 use config_text::fault::ConfigFault;
 use cosem_data::cell::CellRef;
 use cosem_data::memory::Memory;
+use explanations::cell::{CellText, EdgeText};
 use flow_checker::check::Refused;
 use label_certificate::fault::LabelFault;
 use meter_theory::flow::Edge;

@@ -8,7 +8,9 @@ use Rattle.config_reader.specs.ConfigOf.{Reads, config_of}
 use Rattle.meter_server.specs.declared.running.LineFault.{LineFault}
 use Rattle.meter_server.specs.Lines.{Moment}
 use Rattle.meter_server.specs.Running.{RunsLines}
-use Rattle.meter_server.specs.Program.{AnswersText, outcome_of}
+use Rattle.meter_server.specs.Outcomes.{outcome_of}
+use Rattle.meter_server.specs.Program.{AnswersText}
+use Rattle.meter_server.specs.declared.program.Source.{Source}
 use Rattle.meter_server.proofs.program.answer_text.Goals as goal
 
 -- what was read is what the text says
@@ -17,14 +19,14 @@ said-of made (Ok c) h = (c, refl, h.0)
 said-of made (Err fault) h = absurd h
 
 -- a run over the plan of what the text says
-answers : (made : Plan × Policy) (said : Result ConfigText ConfigFault) (before after : Moment) (r : Result ℕ LineFault) → Reads (Ok made) said → RunsLines made.0 before after r
-    → AnswersText said before after (outcome_of r)
-answers made said before after (Ok count) h run =
+answers : (config : Source) (made : Plan × Policy) (said : Result ConfigText ConfigFault) (before after : Moment) (r : Result ℕ LineFault) → Reads (Ok made) said → RunsLines made.0 before after r
+    → AnswersText config said before after (outcome_of r)
+answers config made said before after (Ok count) h run =
     let s = said-of made said h in (s.0, s.1, count, subst (λ (plan : Plan). RunsLines plan before after (Ok count)) s.2 run)
-answers made said before after (Err fault) h run =
+answers config made said before after (Err fault) h run =
     let s = said-of made said h in (s.0, s.1, subst (λ (plan : Plan). RunsLines plan before after (Err fault)) s.2 run)
 
 pub returns-in-Ok : goal.returns-in-Ok
 returns-in-Ok g c =
-    subst (AnswersText (config_of c.args.text.now) _ _) (sym c.outcome_of.ensures)
-    (answers (c.in-Ok.plan, c.in-Ok._policy) (config_of c.args.text.now) _ _ c.run_lines.result c.in-Ok.ensures c.run_lines.ensures.runs)
+    subst (AnswersText c.args.config (config_of c.args.config.text.now) _ _) (sym c.outcome_of.ensures)
+    (answers c.args.config (c.in-Ok.plan, c.in-Ok._policy) (config_of c.args.config.text.now) _ _ c.run_lines.result c.in-Ok.ensures c.run_lines.ensures.runs)
