@@ -38,14 +38,13 @@ placed_behind P are front x rest is =
 
 listed_from : (P : Plan) → AreCells (cells P) → (front : List CellRef) (labels : Labels) → front ++ map (λ entry. entry.0) labels ≡ cells P → AreFrom P (length front) labels
 listed_from P are front [] is = tt
-listed_from P are front (entry ∷ labels) is =
-    (
-      length front,
-      placed_behind P are front entry.0 (map (λ entry. entry.0) labels) is,
-      omega arith,
-      subst (λ n. AreFrom P n labels) (length-append front (entry.0 ∷ []))
+listed_from P are front (entry ∷ labels) is = (
+  length front,
+  placed_behind P are front entry.0 (map (λ entry. entry.0) labels) is,
+  omega arith,
+  subst (λ n. AreFrom P n labels) (length-append front (entry.0 ∷ []))
       (listed_from P are (front ++ entry.0 ∷ []) labels (append_assoc front (entry.0 ∷ []) (map (λ entry. entry.0) labels) ∙ is)),
-    )
+)
 
 -- labels of all cells of a plan stand in its order
 pub listed_in_order : (P : Plan) (labels : Labels) → IsSound P → map (λ entry. entry.0) labels ≡ cells P → AreInPlanOrder P labels

@@ -134,7 +134,12 @@ fn a_failing_call_ends_a_run(rt: HostRuntime) -> Result<(), Fail> {
         (lines, (0, 20), Err(LineFault::Write), 19),
         (lines, (0, 52), Err(LineFault::Write), 51),
         (lines, (0, 53), Ok(6), 52),
-        (UNREADABLE, (0, 0), Err(LineFault::Line(1, Reason::Name)), 19),
+        (
+            UNREADABLE,
+            (0, 0),
+            Err(LineFault::Line(1, Reason::Name)),
+            19,
+        ),
         (UNREADABLE, (0, 5), Err(LineFault::Write), 4),
     ] {
         ends(&rt, rt.alloc(), &plan, texts, fails, (answer, count))?;
