@@ -143,7 +143,7 @@ ends plan before after new (Ok count) text (turns, [], now, tail, h, t, n, l, en
   [],
   heard plan before after now turns [] text (printed plan (lines_of turns)) h a (t ∙ ap (λ (u : List ℕ). texts_of turns ++ u) n.0 ∙ append-nil (texts_of turns) ∙ texts-printed plan turns now h.led),
   l,
-  λ bad. cc,
+  λ why bad. cc,
   end,
   c,
 )

@@ -184,7 +184,7 @@ pub fn answer_text<I: Read, O: Write>(
     input: &mut I,
     output: &mut O,
 ) -> Outcome
-    ensures { AnswersText config.entry (config_of config.text.now)
+    ensures { AnswersText config.entry (config_of config.entry.text.now)
         (record { unread = I.remaining input.old; written = O.contents output.old })
         (record { unread = I.remaining input.new; written = O.contents output.new }) result }
 {
@@ -197,7 +197,7 @@ pub fn answer_text<I: Read, O: Write>(
 /// Writes the edges of a configuration on the output, and says how that ended: `Done`, a fault of the list, or the verdict where
 /// the configuration has a fault or memory was refused while it was read; then nothing was written.
 pub fn list_edges<O: Write>(alloc: Global, config: Source<'_>, output: &mut O) -> Outcome
-    ensures { ListsEdges config.entry (config_of config.text.now) (O.contents output.old) (O.contents output.new) result }
+    ensures { ListsEdges config.entry (config_of config.entry.text.now) (O.contents output.old) (O.contents output.new) result }
 {
     match read_config(alloc, config.text) {
         Ok((plan, _policy)) => listed(write_edges(alloc, &plan, output)),
@@ -207,7 +207,7 @@ pub fn list_edges<O: Write>(alloc: Global, config: Source<'_>, output: &mut O) -
 
 /// Writes the least labels of a configuration on the output, and says how that ended, as `list_edges` does.
 pub fn list_labels<O: Write>(alloc: Global, config: Source<'_>, output: &mut O) -> Outcome
-    ensures { ListsLabels config.entry (config_of config.text.now) (O.contents output.old) (O.contents output.new) result }
+    ensures { ListsLabels config.entry (config_of config.entry.text.now) (O.contents output.old) (O.contents output.new) result }
 {
     match read_config(alloc, config.text) {
         Ok((plan, _policy)) => listed(write_least_labels(alloc, &plan, output)),
