@@ -13,7 +13,7 @@ use Rattle.xdlms_services.specs.declared.request.Request.{Request}
 use Rattle.xdlms_services.specs.declared.request.Request.TheVariants.{Get, Set, Act}
 use Rattle.xdlms_services.specs.Grammar.{IsArgument, IsHeaded, IsRequest}
 use Rattle.xdlms_services.specs.Reading.{argument_at}
-use Rattle.xdlms_services.specs.Requests.{front_bytes, argument_bytes, request_bytes, IsWritableValue, IsDescriptorInRange, IsArgumentInRange, IsWritable, IsInRange, CanAsk, WrittenRequestsAreRead}
+use Rattle.xdlms_services.specs.Requests.{front_bytes, argument_bytes, request_bytes, IsWritableValue, IsDescriptorInRange, IsArgumentInRange, CanAsk, WrittenRequestsAreRead}
 use Rattle.xdlms_services.proofs.Requesting.{value-again, headed-again}
 
 -- three lists and the rest
@@ -72,7 +72,7 @@ written_requests_are_read_lem (Act invoke d (Value v)) c =
     ∙ ap (λ (a : Argument). Some (Act invoke d a)) (shortest-again (Value v) c.0 c.1.2)
 written_requests_are_read_lem (Act invoke d Unreadable) c = absurd c.0
 
--- where its numbers are in range, the shortest bytes are a form of the request
-pub form_on_ok : (request : Request) (r : Result (Unit {0}) Memory) → IsWritable request → OnOk r (IsInRange request) → OnOk r (IsRequest request (request_bytes request))
-form_on_ok request (Ok x) w h = shortest_is_request request (w, h)
-form_on_ok request (Err e) w h = tt
+-- and so wherever they were written
+pub form_on_ok : (request : Request) (r : Result (Unit {0}) Memory) → CanAsk request → OnOk r (IsRequest request (request_bytes request))
+form_on_ok request (Ok x) c = shortest_is_request request c
+form_on_ok request (Err e) c = tt
