@@ -45,7 +45,7 @@ value_line (Some d) = concat (codes "  the text there is " ∷ value_words d ∷
 abbrev pub told : List ℕ → Code → List ℕ → Data → List ℕ
 told file code place whole = concat (
     codes "cosem-flow: " ∷ printable file ∷ codes ": " ∷ printable place ∷ codes ": " ∷ meaning code ∷ codes "\n"
-    ∷ object_line (object_name whole place) ∷ value_line (shown_at whole place)
+    ∷ object_line (object_name whole place) ∷ value_line (shown_at code whole place)
     ∷ codes "  " ∷ mending code ∷ codes "\n" ∷ [])
 
 -- the line and the column behind these bytes, from those before them; a column counts characters (own profile)

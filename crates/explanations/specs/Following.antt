@@ -3,6 +3,8 @@ use Rattle.std.specs.Prelude.{ℕ, ◌+◌, ◌-◌, ◌*◌, ◌==◌, nat_eq, 
 use Rattle.std.specs.Char.{is_ascii_digit}
 use Rattle.std.specs.List.{slice_split, position_or_len, before_first, after_first, list_any, ends_with}
 use Rattle.std.specs.Str.{bytes_eq}
+use Rattle.config_text.specs.Fault.{number_of}
+use Rattle.config_text.specs.declared.fault.Code.{Code}
 use Rattle.toml.specs.Data.{Data, get, at, as_str}
 
 -- Parts of texts
@@ -68,9 +70,9 @@ value_at whole place = if is_quoted place then None else follow whole (parts 46 
 abbrev pub is_password : List ℕ → Bool
 is_password place = bytes_eq place (codes "password") || ends_with nat_eq place (codes ".password")
 
--- the value at a place that may be shown: a password never is (own profile)
-abbrev pub shown_at : Data → List ℕ → Option Data
-shown_at whole place = if is_password place then None else value_at whole place
+-- the value at a place that may be shown for a code: a password never is, nor what stands at a key that isn't known, since that may be one (own profile)
+abbrev pub shown_at : Code → Data → List ℕ → Option Data
+shown_at code whole place = if (number_of code == 2) || is_password place then None else value_at whole place
 
 -- the text at the key `name` (own profile)
 abbrev pub name_of : Data → Option (List ℕ)

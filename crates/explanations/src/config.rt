@@ -45,7 +45,7 @@ fn told(alloc: Global, file: &str, code: Code, place: &str, whole: &Value) -> Re
     ensures { IfOk result (λ told. string_bytes told ≡ spec.told file.now code place.now (view whole.now)) }
 {
     let object = object_line(alloc, object_name(whole, place))?;
-    let value = value_line(alloc, shown_at(whole, place))?;
+    let value = value_line(alloc, shown_at(code, whole, place))?;
     let file = printable_text(alloc, file)?;
     let place = printable_text(alloc, place)?;
     let meaning = meaning_of(code);
@@ -71,8 +71,9 @@ fn no_memory(alloc: Global, file: &str) -> Result<String, Memory>
 ///       HOW TO MEND
 ///
 /// The second line is there where the place lies in an object that has a text as its name, the third where the place leads to a
-/// value that is no password. A text that isn't TOML is told with the line and the column where its reader stopped in place of PLACE. What comes
-/// from the text, and FILE, is shown without control characters.
+/// value that is no password; it isn't there for a key that isn't known, which may be a password's. A text that isn't TOML is told
+/// with the line and the column where its reader stopped in place of PLACE. What comes from the text, and FILE, is shown without
+/// control characters.
 ///
 /// # Errors
 /// Memory was refused.

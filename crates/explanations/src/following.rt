@@ -4,7 +4,11 @@ ghost use Rattle.toml.specs.View.{view};
 ghost use Rattle.explanations.specs.Following as spec;
 
 use crate::split::first_part;
+use config_text::fault::Code;
 use toml::Value;
+
+/// The number of the code of a key that is missing or unknown.
+const UNKNOWN_KEY: u8 = 2;
 
 /// The number that a text is in decimal, if it has no more than six digits behind leading zeros.
 fn number_in(text: &str) -> Option<usize>
@@ -85,11 +89,12 @@ fn is_password(place: &str) -> bool
     place == "password" || place.as_bytes().ends_with(b".password")
 }
 
-/// The value at a place that may be shown, if it leads to one. A password never is.
-pub(crate) fn shown_at<'a>(whole: &'a Value, place: &str) -> Option<&'a Value>
-    ensures { option_map (λ found. view found.now) result ≡ spec.shown_at (view whole.now) place.now }
+/// The value at a place that may be shown for a code, if it leads to one. A password never is, nor what stands at a key that
+/// isn't known.
+pub(crate) fn shown_at<'a>(code: Code, whole: &'a Value, place: &str) -> Option<&'a Value>
+    ensures { option_map (λ found. view found.now) result ≡ spec.shown_at code (view whole.now) place.now }
 {
-    if is_password(place) {
+    if code.number() == UNKNOWN_KEY || is_password(place) {
         None
     } else {
         value_at(whole, place)
