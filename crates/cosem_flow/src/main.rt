@@ -9,16 +9,44 @@
 
 use meter_server::program::run_program;
 use std::alloc::Global;
+use std::io::ErrorKind;
 use std::process::ExitCode;
 use std::{env, io};
 
-/// The exit status where the words of the command line can't be had.
-const FAULT: u8 = 3;
+/// Why the words of the command line can't be had.
+#[derive(Clone, Copy)]
+enum NoWords {
+    /// One of them isn't UTF-8.
+    NotText,
+    /// Memory was refused.
+    Memory,
+}
+
+impl NoWords {
+    /// What is told of it on standard error.
+    fn line(self) -> &'static str {
+        match self {
+            NoWords::NotText => "cosem-flow: a word of the command line isn't UTF-8",
+            NoWords::Memory => "cosem-flow: out of memory",
+        }
+    }
+
+    /// The exit status: 2 where the command line can't be used, 3 for any other fault.
+    fn status(self) -> u8 {
+        match self {
+            NoWords::NotText => 2,
+            NoWords::Memory => 3,
+        }
+    }
+}
 
 fn main(rt: HostRuntime) -> ExitCode {
-    let Some(words) = read_words(&rt, rt.alloc()) else {
-        let _ = rt.eprintln("cosem-flow: out of memory");
-        return ExitCode::from(FAULT);
+    let words = match read_words(&rt, rt.alloc()) {
+        Ok(words) => words,
+        Err(fault) => {
+            let _ = rt.eprintln(fault.line());
+            return ExitCode::from(fault.status());
+        }
     };
     let status = run_program(
         &rt,
@@ -30,7 +58,13 @@ fn main(rt: HostRuntime) -> ExitCode {
     ExitCode::from(status)
 }
 
-/// The words of the command line, the program's name first, or None where memory was refused.
-fn read_words(rt: &HostRuntime, alloc: Global) -> Option<Vec<String>> {
-    env::args(rt).ok()?.collect(alloc).ok()
+/// The words of the command line, the program's name first.
+fn read_words(rt: &HostRuntime, alloc: Global) -> Result<Vec<String>, NoWords> {
+    match env::args(rt) {
+        Ok(words) => words.collect(alloc).map_err(|_| NoWords::Memory),
+        Err(error) => match error.kind() {
+            ErrorKind::InvalidData => Err(NoWords::NotText),
+            _ => Err(NoWords::Memory),
+        },
+    }
 }
