@@ -6,6 +6,7 @@ use Rattle.std.specs.Int.{w8, w16, from_be_bytes, to_be_bytes, cast_signed, cast
 use Rattle.std.proofs.lemmas.Bool.{ltb-false, le-ltb, eqb-true}
 use Rattle.cosem_data.specs.Tree.{Tree, depth}
 use Rattle.cosem_data.specs.View.{tree, data_of-tree, tree-data_of}
+use Rattle.cosem_data.specs.declared.data.Data.{Data}
 use Rattle.cosem_data.specs.declared.name.LogicalName.{LogicalName}
 use Rattle.meter_theory.specs.declared.refs.Descriptor.{Descriptor}
 use Rattle.cosem_axdr.specs.declared.fault.ReadFault.{ReadFault}
@@ -60,12 +61,16 @@ unreadable-again text Absent h n = absurd h
 unreadable-again text (Value d) h n = absurd (n (tree d) h.0 h.1)
 unreadable-again text Unreadable h n = refl
 
+-- a value that a text is an encoding of, is read of it
+pub value-again : (d : Data) (text : List ℕ) → IsEncoding (tree d) text → depth (tree d) ≤ 16 → argument_at text ≡ Value d
+value-again d text is nested =
+    let e : data_at 16 text ≡ Ok (tree d, []) = ap (data_at 16) (sym (append-nil text)) ∙ data_again 16 (tree d) text [] is nested in
+    ap argument_from e ∙ ap Value (data_of-tree d)
+
 -- an argument that a text is, is read of it
 pub argument-again : (a : Argument) (text : List ℕ) → IsBytes text → IsArgument a text → argument_at text ≡ a
 argument-again Absent text b h = absurd h
-argument-again (Value d) text b h =
-    let e : data_at 16 text ≡ Ok (tree d, []) = ap (data_at 16) (sym (append-nil text)) ∙ data_again 16 (tree d) text [] h.0 h.1 in
-    ap argument_from e ∙ ap Value (data_of-tree d)
+argument-again (Value d) text b h = value-again d text h.0 h.1
 argument-again Unreadable text b h = unreadable-again text (argument_at text) (argument-takes text b) h
 
 -- ---- what stands in front

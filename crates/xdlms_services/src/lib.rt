@@ -5,8 +5,10 @@
 pub mod laws;
 pub mod reading;
 pub mod request;
+pub mod requests;
 pub mod writing;
 
 pub use reading::{ApduFault, read_apdu};
 pub use request::Request;
+pub use requests::write_request;
 pub use writing::{Service, write_code, write_reply, write_shown, write_value};

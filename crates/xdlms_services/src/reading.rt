@@ -31,14 +31,14 @@ struct Front {
 }
 
 /// The tags of the requests.
-const GET_REQUEST: u8 = 0xC0;
+pub(crate) const GET_REQUEST: u8 = 0xC0;
 
-const SET_REQUEST: u8 = 0xC1;
+pub(crate) const SET_REQUEST: u8 = 0xC1;
 
-const ACTION_REQUEST: u8 = 0xC3;
+pub(crate) const ACTION_REQUEST: u8 = 0xC3;
 
 /// The form for one attribute or method, in one APDU.
-const NORMAL: u8 = 1;
+pub(crate) const NORMAL: u8 = 1;
 
 /// The request that an APDU is to its end: Get-Request-Normal, Set-Request-Normal or
 /// Action-Request-Normal of IEC 62056-5-3.
