@@ -1,2 +1,5 @@
 pub mod Faults
 pub mod Parts
+pub mod RequestWords
+pub mod RequestReading
+pub mod StepLines

@@ -1,7 +1,9 @@
 -- Reading the parts of a line from left to right: the part and what stands behind it, or the first place where something else stands than what is asked. Texts are lists of bytes.
-use Rattle.std.specs.Prelude.{◌≡◌, ℕ, ℤ, pos, ◌-◌, ◌^◌, ◌==◌, ◌||◌, ◌&&◌, nat_le, nat_lt, Bool, List, [], ◌∷◌, length, codes, cond, Option, Some, None, option_map, option_and_then, Result, Ok, Err, if◌then◌else◌}
+use Rattle.std.specs.Prelude.{◌≡◌, ◌≤◌, ℕ, ℤ, pos, ◌-◌, ◌^◌, ◌==◌, ◌||◌, ◌&&◌, nat_le, nat_lt, Bool, List, [], ◌∷◌, length, codes, cond, Option, Some, None, option_map, option_and_then, Result, Ok, Err, if◌then◌else◌}
 use Rattle.std.specs.Char.{is_ascii_digit}
-use Rattle.cosem_data.specs.Tree.{Tree}
+use Rattle.cosem_data.specs.Tree.{Tree, depth}
+use Rattle.cosem_axdr.specs.Canonical.{canonical, HasLengths}
+use Rattle.cosem_axdr.specs.Laws.{HasRanges}
 use Rattle.cosem_data.specs.declared.name.LogicalName.{LogicalName}
 use Rattle.meter_theory.specs.Times.{Moment, last_day}
 use Rattle.meter_theory.specs.ClientNames.{is_name_byte}
@@ -101,9 +103,23 @@ value_step size (Ok x) = Ok x
 value_step size (Err fault.Memory) = Err stop.Memory
 value_step size (Err (fault.At place what)) = Err (stop.At (size - place) (asked.Value what))
 
--- a value in words, nested at most 16 (own profile)
+-- the value is nested at most 16 deep, and its encoding has less than 2 ^ 32 bytes (own profile)
+abbrev pub can_be_sent : Tree → Bool
+can_be_sent t = nat_le (depth t) 16 && nat_le (length (canonical t)) (2 ^ 32 - 1)
+
+-- the same as a fact, with the ranges that a value of the code has (own profile)
+pub record CanBeSent (t : Tree) : Type 0 where
+  pub lengths : HasLengths t
+  pub nested : depth t ≤ 16
+  pub ranges : HasRanges t
+
+-- the value, if it can be sent; else reading stops in front of it (own profile)
+abbrev pub sent_step : List ℕ → Tree × List ℕ → Result (Tree × List ℕ) Stop
+sent_step text x = if can_be_sent x.0 then Ok x else stops asked.ShortValue text
+
+-- a value in words that can be sent (own profile)
 unfoldable pub value_at : Reader Tree
-value_at text = value_step (length text) (words.value_at 16 text)
+value_at text = value_step (length text) (words.value_at 16 text) >>= sent_step text
 
 -- What a function of the code says of this
 

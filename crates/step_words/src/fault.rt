@@ -43,8 +43,8 @@ pub enum Asked {
     Bytes,
     /// The words of a request, for an APDU that is one.
     Request,
-    /// A line whose lengths an encoding can hold.
-    ShortLine,
+    /// A value whose encoding a meter can be sent.
+    ShortValue,
     /// Hex digits in either case, at least two.
     HexDigits,
     /// Hex digits of one value.
@@ -80,7 +80,7 @@ impl Asked {
             Asked::End => "the end of the line",
             Asked::Bytes => "upper-case hex digits, two a byte, to the end of the line",
             Asked::Request => "the words get, set or act, since the bytes are such a request",
-            Asked::ShortLine => "a line of less than 4294967296 bytes",
+            Asked::ShortValue => "a value whose encoding has less than 4294967296 bytes",
             Asked::HexDigits => "hex digits, two a byte, to the end of the line",
             Asked::Encoding => "the hex digits of one value, to the end of the line",
             Asked::Newline => "a newline alone",
