@@ -246,7 +246,7 @@ list_fits (suc d) text ts rest e =
     on left None h fits = parts_fit (value_with (list_at d)) fits (length left) left ts rest h
 
 placed_ok : {A : Type 0} (size : ℕ) (reader : Reader A) (text : List ℕ) (x : A × List ℕ) → placed size (reader text) ≡ Ok x → reader text ≡ Ok x
-placed_ok {A} size reader text x e = elim (reader text) as (λ r. placed size r ≡ Ok x → r ≡ Ok x) [ | Ok y ↦ λ h. grind arith | Err d ↦ λ h. grind arith ] e
+placed_ok {A} size reader text x e = elim (reader text) as (λ r. placed size r ≡ Ok x → r ≡ Ok x) [ Ok y ↦ λ h. grind arith | Err d ↦ λ h. grind arith ] e
 
 pub read_in_range : (text : List ℕ) (t : Tree) (rest : List ℕ) → value_at 16 text ≡ Ok (t, rest) → HasRanges t
 unfolding value_within

@@ -29,7 +29,7 @@ unfoldable pub evaluation_at : Reader Head
 evaluation_at text = do
   rest ← mark_at asked.Space (codes " ") text
   name ← name_at rest
-  whole ← ended tt name.1
+  whole ← ended (tt {0}) name.1
   Ok (Whole, name.1)
 
 -- behind `at`: a space and a moment, to the end of the line (own profile)

@@ -134,7 +134,11 @@ fn invoke_in(digits: &[u8]) -> Option<u8>
     ensures { result ≡ spec.invoke_in digits.now }
 {
     let invoke = number_in(255, digits)? as u8;
-    if invoke == USUAL_INVOKE { None } else { Some(invoke) }
+    if invoke == USUAL_INVOKE {
+        None
+    } else {
+        Some(invoke)
+    }
 }
 
 /// The invoke byte at the end of a line.

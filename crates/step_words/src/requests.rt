@@ -39,11 +39,7 @@ fn push_named(
 }
 
 /// The entries and the columns that are asked for.
-fn push_entries(
-    alloc: Global,
-    entries: EntryDescriptor,
-    text: &mut Vec<u8>,
-) -> Result<(), Memory>
+fn push_entries(alloc: Global, entries: EntryDescriptor, text: &mut Vec<u8>) -> Result<(), Memory>
     ensures { OnOk result (text.new.items ≡ text.old.items ++ spec.entries_words (descriptor_view entries)) }
 {
     let EntryDescriptor {
@@ -52,7 +48,9 @@ fn push_entries(
         from_selected_value,
         to_selected_value,
     } = entries;
-    let words = format!(in alloc; " entries {from_entry}..{to_entry} columns {from_selected_value}..{to_selected_value}")?;
+    let words = format!(in alloc;
+        " entries {from_entry}..{to_entry} columns {from_selected_value}..{to_selected_value}"
+    )?;
     text.extend_from_slice(words.as_bytes())?;
     Ok(())
 }
@@ -124,10 +122,7 @@ fn given_words(
 }
 
 /// The words of a request, if it has any.
-pub(crate) fn request_words(
-    alloc: Global,
-    request: &Request,
-) -> Result<Option<Vec<u8>>, Memory>
+pub(crate) fn request_words(alloc: Global, request: &Request) -> Result<Option<Vec<u8>>, Memory>
     ensures { IfOk result (λ found. option_map (λ words. words.items) found ≡ spec.request_words request.now) }
 {
     match request {
