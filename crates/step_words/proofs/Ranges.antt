@@ -1,24 +1,24 @@
 -- What is read as a value has each number in the range of its kind.
-use Rattle.std.proofs.Common.{◌≡◌, ℕ, ℤ, pos, negsuc, zero, suc, ◌+◌, ◌-◌, ◌*◌, ◌^◌, ◌<◌, ◌≤◌, Bool, true, false, ◌&&◌, cond, ltb, leb, eqb, List, [], ◌∷◌, length, Option, Some, None, Result, Ok, Err, refl, sym, ap, subst, ◌∙◌, arith, inl, inr, FitsSigned}
+use Rattle.std.proofs.Common.{◌≡◌, ℕ, ℤ, pos, negsuc, zero, suc, ◌+◌, ◌-◌, ◌*◌, ◌^◌, ◌<◌, ◌≤◌, Bool, true, false, ◌&&◌, cond, ltb, leb, eqb, List, [], ◌∷◌, length, Option, Some, None, Result, Ok, Err, ap, subst, arith, inl, inr, FitsSigned}
 use Rattle.std.specs.Prelude.{option_and_then, codes, slice_index}
 use Rattle.std.specs.Char.{is_ascii_digit}
 use Rattle.std.specs.List.{AllByRecursion}
 use Rattle.std.specs.Result.{result_ok}
-use Rattle.std.specs.Int.{w8, w16, w32, w64, byte_len}
+use Rattle.std.specs.Int.{w8, w16, w32, w64}
 use Rattle.std.proofs.lemmas.Bool.{and_parts, leb-true}
 use Rattle.std.proofs.lemmas.Bool.Decides.{nat_tests}
 use Rattle.std.proofs.lemmas.Int.{ints}
-use Rattle.hex.specs.Hex.{IsBytes, decode_of}
+use Rattle.hex.specs.Hex.{decode_of}
 use Rattle.hex.specs.declared.error.FromHexError.{FromHexError}
 use Rattle.hex.proofs.HexLemmas.{decode_of-ok}
-use Rattle.cosem_data.specs.Tree.{Tree, Trees, null_data, array, structure, boolean, double_long, double_long_unsigned, octet_string, visible_string, integer, long, unsigned, long_unsigned, long64, long64_unsigned, enumerated, trees}
+use Rattle.cosem_data.specs.Tree.{Tree, null_data, array, structure, boolean, double_long, double_long_unsigned, octet_string, visible_string, integer, long, unsigned, long_unsigned, long64, long64_unsigned, enumerated, trees}
 use Rattle.cosem_data.specs.declared.kind.Kind.{Kind}
 use Rattle.cosem_data.specs.declared.kind.Kind.TheVariants.{NullData, Array, Structure, Boolean, DoubleLong, DoubleLongUnsigned, OctetString, VisibleString, Integer, Long, Unsigned, LongUnsigned, Long64, Long64Unsigned, Enumerated}
 use Rattle.cosem_axdr.specs.Laws.{HasRanges, HaveRanges}
 use Rattle.value_words.specs.declared.fault.Asked.TheVariants as asked
 use Rattle.value_words.specs.Words.{is_plain}
-use Rattle.value_words.specs.WordReading.{Reader, ◌>>=◌, behind, with_digit, with_digits, number_in, negative_in, found, front, past, unsigned_at, signed_step, signed_at, bytes_in, is_digit, digit_value, octets_at, escaped, escape_at, letter_at, letters_step, letters_at, quoted_at, mark_at, truth_at, part_end_at, parts_step, parts_at, list_step, kind_at, content_at, value_with, list_at, value_within, placed, value_at, read_map}
-use Rattle.value_words.proofs.Steps.{bind_ok, ok_is, some_is, then_some, found_ok, mapped, chosen, done}
+use Rattle.value_words.specs.WordReading.{Reader, ◌>>=◌, behind, with_digit, with_digits, number_in, negative_in, front, past, unsigned_at, signed_step, signed_at, bytes_in, is_digit, digit_value, octets_at, escaped, escape_at, letter_at, letters_step, letters_at, quoted_at, mark_at, truth_at, part_end_at, parts_step, parts_at, list_step, kind_at, content_at, value_with, list_at, value_within, placed, value_at, read_map}
+use Rattle.value_words.proofs.Steps.{bind_ok, ok_is, some_is, then_some, found_ok, mapped, chosen}
 use Rattle.value_words.proofs.Octets.{digit_takes}
 use Rattle.value_words.proofs.Decimals.{IsWithin}
 

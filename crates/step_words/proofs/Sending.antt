@@ -1,15 +1,13 @@
 -- What is read as a value that can be sent can be sent, also by the calls that write it.
-use Rattle.std.proofs.Common.{◌≡◌, ℕ, ◌^◌, ◌-◌, ◌≤◌, Bool, true, false, not, leb, List, length, Ok, sym, ap, ◌∙◌, arith}
+use Rattle.std.proofs.Common.{◌≡◌, ℕ, ◌^◌, ◌-◌, true, leb, List, length, Ok, ap, ◌∙◌, arith}
 use Rattle.std.proofs.lemmas.Bool.{and_parts, leb-true}
 use Rattle.cosem_data.specs.Tree.{Tree, depth}
 use Rattle.cosem_data.specs.View.{tree, data_of, data_of-tree}
 use Rattle.cosem_data.specs.declared.data.Data.{Data}
 use Rattle.cosem_axdr.specs.Canonical.{canonical}
 use Rattle.cosem_axdr.proofs.Room.{small_has_lengths}
-use Rattle.object_model.specs.declared.argument.Argument.{Argument}
 use Rattle.object_model.specs.declared.argument.Argument.TheVariants.{Value}
 use Rattle.value_words.specs.WordReading as words
-use Rattle.step_words.specs.declared.stop.Stop.{Stop}
 use Rattle.step_words.specs.Parts.{◌>>=◌, can_be_sent, CanBeSent, value_at}
 use Rattle.step_words.specs.RequestReading.{argument_at}
 use Rattle.step_words.proofs.Ranges.{read_in_range}

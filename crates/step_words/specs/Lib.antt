@@ -3,3 +3,5 @@ pub mod Parts
 pub mod RequestWords
 pub mod RequestReading
 pub mod StepLines
+pub mod ReplyWords
+pub mod Texts

@@ -1,5 +1,5 @@
 -- Reading the words of a request, as they stand behind the name of a client (own profile). Texts are lists of bytes.
-use Rattle.std.specs.Prelude.{ℕ, ◌^◌, ◌-◌, ◌==◌, ◌||◌, Bool, false, List, [], ◌∷◌, length, codes, Option, Some, None, is_some, option_and_then, Result, Ok, Err, if◌then◌else◌}
+use Rattle.std.specs.Prelude.{ℕ, ◌^◌, ◌-◌, ◌==◌, ◌||◌, Bool, false, List, [], ◌∷◌, length, codes, Option, Some, None, is_some, option_and_then, Result, Ok, if◌then◌else◌}
 use Rattle.std.specs.Char.{is_ascii_digit}
 use Rattle.cosem_data.specs.Tree.{Tree, trees, structure, double_long_unsigned, long_unsigned}
 use Rattle.cosem_data.specs.View.{data_of}

@@ -1,5 +1,5 @@
 -- Step lines, in words and in hex: the front is the same in both, and what stands behind it is translated (own profile). Texts are lists of bytes.
-use Rattle.std.specs.Prelude.{ℕ, ◌-◌, ◌==◌, List, [], ◌∷◌, ◌++◌, length, take, codes, Option, Some, None, unwrap_or, Result, Ok, Err, if◌then◌else◌}
+use Rattle.std.specs.Prelude.{ℕ, ◌-◌, List, [], ◌∷◌, ◌++◌, length, take, codes, Option, Some, None, unwrap_or, Result, Ok, if◌then◌else◌}
 use Rattle.std.specs.Str.{bytes_eq}
 use Rattle.hex.specs.Hex.{encode_upper}
 use Rattle.cosem_data.specs.Tree.{Tree}
