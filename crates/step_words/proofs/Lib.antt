@@ -1,0 +1,4 @@
+pub mod Moments
+pub mod Ranges
+pub mod Sending
+pub mod Lines

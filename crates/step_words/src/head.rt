@@ -1,0 +1,112 @@
+//! Reading the front of a step line, which words and hex have alike.
+ghost use Rattle.std.specs.Prelude.{◌≡◌};
+ghost use Rattle.std.specs.List.{list_all};
+ghost use Rattle.meter_theory.specs.ClientNames as names;
+ghost use Rattle.step_words.specs.Parts.{Reads};
+ghost use Rattle.step_words.specs.StepLines as spec;
+
+use crate::fault::Asked;
+use crate::marks::{end_of, mark_of};
+use crate::parts::{moment_of, name_of};
+use crate::runs::{Run, run_of};
+use crate::stop::{Stop, stop_at};
+use meter_theory::limits::NAME_CHARACTERS;
+
+/// What stands behind the front of a step line.
+#[derive(Clone, Copy, Debug)]
+pub(crate) enum Head {
+    /// The value of an input, behind `in NAME `.
+    Input,
+    /// What a client asks, behind its name and a space.
+    Client,
+    /// Nothing: the front is the whole line, `eval NAME` or `at MOMENT`.
+    Whole,
+}
+
+/// The words that begin a step of the meter itself.
+const INPUT: &[u8] = b"in";
+
+const EVALUATE: &[u8] = b"eval";
+
+const AT: &[u8] = b"at";
+
+/// Whether a text has a to z, 0 to 9 and _ alone.
+fn has_name_bytes(text: &[u8]) -> bool
+    ensures { result ≡ list_all names.is_name_byte text.now }
+{
+    text.iter()
+        .all(|byte| matches!(byte, b'a'..=b'z' | b'0'..=b'9' | b'_'))
+}
+
+/// Whether a text is a word that begins a step of the meter itself.
+fn is_step_word(text: &[u8]) -> bool
+    ensures { result ≡ names.is_step_word text.now }
+{
+    text == INPUT || text == AT || text == EVALUATE
+}
+
+/// Whether a client may have this name.
+fn is_client_name(name: &[u8]) -> bool
+    ensures { result ≡ names.is_client_name name.now }
+{
+    1 <= name.len() && name.len() <= NAME_CHARACTERS && has_name_bytes(name) && !is_step_word(name)
+}
+
+/// What stands behind `in`: the name of the input's object.
+#[tactic(auto, unfolding(crate::specs::StepLines::input_at))]
+fn input_of(text: &[u8]) -> Result<(Head, &[u8]), Stop>
+    ensures { Reads (λ x. (x.0, x.1.now)) result (spec.input_at text.now) }
+{
+    let rest = mark_of(Asked::Space, b" ", text)?;
+    let (_, rest) = name_of(rest)?;
+    let rest = mark_of(Asked::Space, b" ", rest)?;
+    Ok((Head::Input, rest))
+}
+
+/// What stands behind `eval`: the name of a register monitor.
+#[tactic(auto, unfolding(crate::specs::StepLines::evaluation_at))]
+fn evaluation_of(text: &[u8]) -> Result<(Head, &[u8]), Stop>
+    ensures { Reads (λ x. (x.0, x.1.now)) result (spec.evaluation_at text.now) }
+{
+    let rest = mark_of(Asked::Space, b" ", text)?;
+    let (_, rest) = name_of(rest)?;
+    end_of(rest)?;
+    Ok((Head::Whole, rest))
+}
+
+/// What stands behind `at`: a moment.
+#[tactic(auto, unfolding(crate::specs::StepLines::offer_at))]
+fn offer_of(text: &[u8]) -> Result<(Head, &[u8]), Stop>
+    ensures { Reads (λ x. (x.0, x.1.now)) result (spec.offer_at text.now) }
+{
+    let rest = mark_of(Asked::Space, b" ", text)?;
+    moment_of(rest)?;
+    Ok((Head::Whole, b""))
+}
+
+/// What stands behind the name of a client.
+#[tactic(auto, unfolding(crate::specs::StepLines::client_at))]
+fn client_of(text: &[u8]) -> Result<(Head, &[u8]), Stop>
+    ensures { Reads (λ x. (x.0, x.1.now)) result (spec.client_at text.now) }
+{
+    Ok((Head::Client, mark_of(Asked::Space, b" ", text)?))
+}
+
+/// The front of a step line.
+#[tactic(auto, unfolding(crate::specs::StepLines::head_at))]
+pub(crate) fn head_of(text: &[u8]) -> Result<(Head, &[u8]), Stop>
+    ensures { Reads (λ x. (x.0, x.1.now)) result (spec.head_at text.now) }
+{
+    let (word, rest) = run_of(Run::Word, text);
+    if word == INPUT {
+        input_of(rest)
+    } else if word == EVALUATE {
+        evaluation_of(rest)
+    } else if word == AT {
+        offer_of(rest)
+    } else if is_client_name(word) {
+        client_of(rest)
+    } else {
+        Err(stop_at(text, Asked::FirstWord))
+    }
+}
