@@ -74,7 +74,7 @@ answer_words tag rest =
     else if tag == 0xC7 then action_words rest
     else None
 
--- the words of a response of the normal form, 01, and of an exception-response, D8, if it has any (IEC 62056-5-3, xDLMS-APDU)
+-- the words of a response of the normal form, 01, and of an exception-response, 0xD8, if it has any (IEC 62056-5-3, xDLMS-APDU)
 abbrev pub response_words : List ℕ → Option (List ℕ)
 response_words (tag ∷ form ∷ invoke ∷ rest) =
     if tag == 0xD8 then (if length rest == 0 then exception_words form invoke else None)
