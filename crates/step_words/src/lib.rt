@@ -2,6 +2,7 @@
 //!
 //! - [`texts::encode_text`] makes steps in words into step lines in hex.
 //! - [`texts::decode_text`] makes step lines in hex, and the replies to them, into words.
+//! - [`steps::push_step`] and [`replies::push_reply`] put the words of one step line or of one reply behind a text.
 //! - [`fault::TextFault`] tells the first place where something else was asked, and what.
 #![tactic(auto)]
 
@@ -11,9 +12,9 @@ mod head;
 mod marks;
 mod numbers;
 mod parts;
-mod replies;
+pub mod replies;
 mod requests;
 mod runs;
-mod steps;
+pub mod steps;
 mod stop;
 pub mod texts;

@@ -1,5 +1,5 @@
 //! Writing replies in words.
-ghost use Rattle.std.specs.Prelude.{◌≡◌, IfOk, Ok, option_map};
+ghost use Rattle.std.specs.Prelude.{◌≡◌, ◌++◌, IfOk, Ok, OnErr, OnOk, option_map};
 ghost use Rattle.cosem_data.specs.View.{tree};
 ghost use Rattle.cosem_axdr.specs.Reading.{data_at};
 ghost use Rattle.value_text.specs.Texts as texts;
@@ -211,13 +211,27 @@ fn response_words(alloc: Global, bytes: &[u8]) -> Result<Option<Vec<u8>>, Memory
 }
 
 /// The words of a reply.
-pub(crate) fn reply_words(alloc: Global, bytes: &[u8]) -> Result<Vec<u8>, Memory>
+fn reply_words(alloc: Global, bytes: &[u8]) -> Result<Vec<u8>, Memory>
     ensures { IfOk result (λ x. x.items ≡ spec.reply_words bytes.now) }
 {
     match response_words(alloc, bytes)? {
         Some(words) => Ok(words),
         None => apdu_words(alloc, bytes),
     }
+}
+
+/// Puts the words of a reply behind a text, as `success (0)`; of any other APDU these are `apdu HEX` (own profile, by the names
+/// of IEC 62056-5-3).
+///
+/// # Errors
+/// `Memory` where memory is refused; the text is then as it was.
+pub fn push_reply(alloc: Global, apdu: &[u8], text: &mut Vec<u8>) -> Result<(), Memory>
+    ensures ok { OnOk result (text.new.items ≡ text.old.items ++ spec.reply_words apdu.now) }
+    ensures err { OnErr result (text.new.items ≡ text.old.items) }
+{
+    let words = reply_words(alloc, apdu)?;
+    text.extend_from_slice(&words)?;
+    Ok(())
 }
 
 /// The words of a reply in hex.

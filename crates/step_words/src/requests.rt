@@ -104,7 +104,7 @@ fn get_words(
     Ok(Some(words))
 }
 
-/// A service with a value, or without one.
+/// A service with a value.
 fn given_words(
     alloc: Global,
     service: &[u8],

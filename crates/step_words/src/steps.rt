@@ -1,5 +1,6 @@
 //! Step lines: those in words made of those in hex, and the other way round.
-ghost use Rattle.std.specs.Prelude.{◌≡◌, ◌++◌, IfOk};
+ghost use Rattle.std.specs.Prelude.{◌≡◌, ◌++◌, [], IfOk, OnErr, OnOk, is_ok};
+ghost use Rattle.std.specs.Result.{result_unwrap_or};
 ghost use Rattle.hex.specs.Hex.{encode_upper};
 ghost use Rattle.cosem_data.specs.View.{tree};
 ghost use Rattle.cosem_axdr.specs.Canonical.{canonical, HasLengths};
@@ -137,4 +138,23 @@ pub(crate) fn decoded_step(alloc: Global, text: &[u8]) -> Result<Vec<u8>, Stop>
     let (head, rest) = head_of(text)?;
     let words = words_behind(alloc, head, rest)?;
     Ok(with_rest(alloc, text, rest, &words)?)
+}
+
+/// Puts the step in words of a step line in hex behind a text, and says whether the line is one (own profile).
+///
+/// # Errors
+/// `Memory` where memory is refused; the text is then as it was.
+pub fn push_step(alloc: Global, line: &[u8], text: &mut Vec<u8>) -> Result<bool, Memory>
+    ensures told { IfOk result (λ told. told ≡ is_ok (spec.decoded_step line.now)) }
+    ensures ok { OnOk result (text.new.items ≡ text.old.items ++ result_unwrap_or (spec.decoded_step line.now) []) }
+    ensures err { OnErr result (text.new.items ≡ text.old.items) }
+{
+    match decoded_step(alloc, line) {
+        Ok(words) => {
+            text.extend_from_slice(&words)?;
+            Ok(true)
+        }
+        Err(Stop::Memory) => Err(Memory),
+        Err(Stop::At(_, _)) => Ok(false),
+    }
 }
