@@ -64,7 +64,7 @@ negative_low half z digits e =
           subst (IsWithin half) (some_is (negsuc (b.0 - 1)) z p.1) (omega arith)
     ]
 
-signed_low : (half : ℕ) (z : ℤ) (text rest : List ℕ) → 0 < half → signed_at half text ≡ Ok (z, rest) → IsWithin half z
+pub signed_low : (half : ℕ) (z : ℤ) (text rest : List ℕ) → 0 < half → signed_at half text ≡ Ok (z, rest) → IsWithin half z
 unfolding signed_at
 signed_low half z text rest some e = at (behind (codes "-") text) e
   where
@@ -75,7 +75,7 @@ signed_low half z text rest some e = at (behind (codes "-") text) e
         let low = unsigned_low (half - 1) m.0 text rest m.1 in
         subst (IsWithin half) m.2 (omega arith)
 
-fits8 : (z : ℤ) → IsWithin (2 ^ 7) z → FitsSigned w8 z
+pub fits8 : (z : ℤ) → IsWithin (2 ^ 7) z → FitsSigned w8 z
 fits8 (pos n) h = omega (arith, ints)
 fits8 (negsuc n) h = omega (arith, ints)
 
@@ -202,7 +202,7 @@ parts_fit value fits (suc n) text ts rest e =
     let m = mapped (λ us. a.0.0 ∷ us) (parts_step (parts_at value n) b.0.0 b.0.1) ts rest b.2 in
     let first = fits text a.0.0 a.0.1 a.1 in
     let others = on m.0 b.0.0 b.0.1 m.1 (λ h. parts_fit value fits n b.0.1 m.0 rest h) in
-    subst (λ (us : List Tree). HaveRanges (trees us)) m.2 (first, others)
+    subst (λ (us : List Tree). HaveRanges (trees us)) {x = a.0.0 ∷ m.0} m.2 (first, others)
   where
     on : (us : List Tree) (last : Bool) (after : List ℕ) → parts_step (parts_at value n) last after ≡ Ok (us, rest) → (parts_at value n after ≡ Ok (us, rest) → HaveRanges (trees us)) → HaveRanges (trees us)
     on us true after h more = subst (λ (vs : List Tree). HaveRanges (trees vs)) (ap (λ (x : List Tree × List ℕ). x.0) (ok_is {A = List Tree × List ℕ} ([], after) (us, rest) h)) tt
