@@ -6,3 +6,5 @@ pub mod Stops
 pub mod Bytes
 pub mod Forms
 pub mod Given
+pub mod Asks
+pub mod Fronts
