@@ -8,3 +8,5 @@ pub mod Forms
 pub mod Given
 pub mod Asks
 pub mod Fronts
+pub mod Rounds
+pub mod Wholes

@@ -53,7 +53,7 @@ first_line text k e =
     ∙ ap (λ (n : ℕ). take n text ∷ lines_of (drop (suc (position_or_len (λ b. eqb b 10) text)) text)) at.1
     ∙ ap (λ (n : ℕ). take k text ∷ lines_of (drop n text)) more
 
-some_line : (text : List ℕ) → 0 < length (lines_of text)
+pub some_line : (text : List ℕ) → 0 < length (lines_of text)
 some_line [] = omega arith
 some_line (c ∷ text) = at (eqb c 10) (lines_of text)
   where

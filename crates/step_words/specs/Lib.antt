@@ -5,3 +5,4 @@ pub mod RequestReading
 pub mod StepLines
 pub mod ReplyWords
 pub mod Texts
+pub mod TextLaws

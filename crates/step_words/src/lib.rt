@@ -4,11 +4,13 @@
 //! - [`texts::decode_text`] makes step lines in hex, and the replies to them, into words.
 //! - [`steps::push_step`] and [`replies::push_reply`] put the words of one step line or of one reply behind a text.
 //! - [`fault::TextFault`] tells the first place where something else was asked, and what.
+//! - [`laws`] has laws over all texts, for proofs that build on these functions.
 #![tactic(auto)]
 
 mod asking;
 pub mod fault;
 mod head;
+pub mod laws;
 mod marks;
 mod numbers;
 mod parts;
