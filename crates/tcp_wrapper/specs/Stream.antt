@@ -24,11 +24,11 @@ frame_of message = framed message.source 1 message.apdu
 abbrev pub IsFrame : Message → Type 0
 IsFrame message = (message.source < 2 ^ 16) × (length message.apdu ≤ 1024)
 
--- the frames of these messages, one behind the other: IEC 62056-4-7, over a stream of TCP
+-- the frames of these messages, one behind the other: IEC 62056-4-7, the wrapper over TCP
 abbrev pub frames_of : List Message → List ℕ
 frames_of messages = flat_map frame_of messages
 
--- the stream is the frames of these messages, and then the rest: IEC 62056-4-7, over a stream of TCP
+-- the stream is the frames of these messages, and then the rest: IEC 62056-4-7, the wrapper over TCP
 pub record Splits (stream : List ℕ) (messages : List Message) (rest : List ℕ) : Type 0 where
   pub whole : stream ≡ frames_of messages ++ rest
   pub each : All IsFrame messages
@@ -68,8 +68,7 @@ Causes Length rest = Refuses Length rest
 Causes Memory rest = Unit {0}
 Causes Failed rest = ⊥
 
--- Of the whole stream so far these messages were given, and either what stands behind them is held, less than a frame, or a fault was
--- told, which stands behind them, and nothing is held for good (own profile).
+-- these messages of the stream so far were given; then less than a frame is held, or a fault was told that stands there, and nothing is held from then on (own profile)
 abbrev pub Reads : List ℕ → List Message → Option WrapFault → Option (List ℕ) → Type 0
 Reads stream messages None (Some held) = Splits stream messages held × IsPartial held
 Reads stream messages None None = ⊥

@@ -14,7 +14,7 @@ use std::fmt;
 pub enum WrapFault {
     /// The version isn't 0001 (IEC 62056-4-7, the wrapper header).
     Version,
-    /// The wPort that the frame goes to isn't 0001, that of the server (own profile).
+    /// The wPort that the frame goes to isn't 0001, the server's (own profile).
     Destination,
     /// The length is over 1,024 (own profile).
     Length,

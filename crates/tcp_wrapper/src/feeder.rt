@@ -7,18 +7,12 @@ ghost use Rattle.tcp_wrapper.specs.declared.fault.WrapFault.{WrapFault as FaultV
 ghost use Rattle.tcp_wrapper.specs.declared.message.Message.{Message as MessageValue};
 
 use crate::fault::WrapFault;
-use crate::framing::{HEADER_LENGTH, VERSION};
+use crate::framing::{HEADER_LENGTH, MAX_APDU_LENGTH, SERVER_PORT, VERSION};
 use crate::message::Message;
 use cosem_data::bytes::Bytes;
 use cosem_data::memory::Memory;
 use std::alloc::Global;
 use std::marker::Model;
-
-/// The wPort of the server, to which each frame has to go.
-const SERVER: u16 = 1;
-
-/// The most bytes of an APDU.
-const MAX_APDU_LENGTH: u16 = 1024;
 
 /// What a piece of the stream gave: frames, and then a fault, if one was met.
 #[derive(Debug, Drop)]
@@ -247,14 +241,14 @@ fn judge(bytes: &[u8]) -> Judgement
     if word(bytes, 0) != VERSION {
         return Judgement::Refused(WrapFault::Version);
     }
-    if word(bytes, 4) != SERVER {
+    if word(bytes, 4) != SERVER_PORT {
         return Judgement::Refused(WrapFault::Destination);
     }
-    let length = word(bytes, 6);
+    let length = word(bytes, 6) as usize;
     if length > MAX_APDU_LENGTH {
         return Judgement::Refused(WrapFault::Length);
     }
-    let size = HEADER_LENGTH + length as usize;
+    let size = HEADER_LENGTH + length;
     if bytes.len() < size {
         Judgement::Partial
     } else {
