@@ -53,8 +53,8 @@ impl Feeder {
         }
     }
 
-    /// Whether no frame has begun and there was no fault: a stream that ends here has a clean end, and any other one is cut inside a
-    /// frame.
+    /// Whether no frame has begun and there was no fault. Without a fault, a stream that ends where this is true has a clean end, and
+    /// one that ends elsewhere is cut inside a frame.
     pub fn is_idle(&self) -> bool
         ensures { IsTrue result ↔ (self.now ≡ Some []) }
     {
