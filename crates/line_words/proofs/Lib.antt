@@ -1,0 +1,4 @@
+mod Looking
+mod Rows
+mod States
+mod Told

@@ -1,0 +1,168 @@
+//! What the cells of a meter held when they were looked at last.
+ghost use Rattle.std.specs.Prelude.{◌≡◌, ◌++◌, flat_map, map, IfOk, OnOk};
+ghost use Rattle.cosem_data.specs.View.{tree};
+ghost use Rattle.cosem_data.specs.Equal.{same_tree};
+ghost use Rattle.meter_theory.specs.Plan.{cells};
+ghost use Rattle.meter_theory.specs.State.{keys, value};
+ghost use Rattle.meter_theory.specs.States.{IsState};
+ghost use Rattle.line_words.specs.Changes.{change_line, change_lines, change_of};
+
+use crate::held::is_held;
+use cosem_data::cell::CellRef;
+use cosem_data::data::Data;
+use cosem_data::memory::Memory;
+use object_model::instance::Instance;
+use object_model::meter::Meter;
+use object_model::plan::Plan;
+use std::alloc::Global;
+use std::marker::Model;
+use value_text::cell::push_cell;
+use value_words::writing::push_value;
+
+/// A cell, and the value that it held when it was looked at last. Contracts see the pair.
+#[derive(Drop)]
+struct Kept {
+    cell: CellRef,
+    value: Data,
+}
+
+impl Model for Kept {
+    ghost use Rattle.std.specs.Coded.{coded×};
+    ghost use Rattle.cosem_data.specs.Tree.{Tree};
+    ghost use Rattle.cosem_data.specs.TreeCode.{tree_code};
+    ghost use Rattle.cosem_data.specs.View.{tree};
+    ghost use Rattle.cosem_data.specs.declared.cell.CellRef.{CellRef as Cell};
+    ghost use Rattle.meter_theory.specs.PlanCode.{cell_code};
+
+    ghost Value = { Cell × Tree };
+
+    ghost coded = { coded× cell_code tree_code };
+
+    ghost view = { λ k. (k.cell, tree k.value) };
+}
+
+/// What the cells of a meter held when they were looked at last. Contracts see the state: a value for each cell, in plan order.
+#[derive(Drop)]
+pub struct Watch {
+    kept: Vec<Kept>,
+}
+
+impl Model for Watch {
+    ghost use Rattle.meter_theory.specs.State.{State};
+    ghost use Rattle.meter_theory.specs.PlanCode.{state_code};
+
+    ghost Value = { State };
+
+    ghost coded = { state_code };
+
+    ghost view = { λ w. w.kept.items };
+}
+
+impl Watch {
+    /// What a meter of the plan holds.
+    ///
+    /// # Errors
+    /// `Memory` where memory is refused.
+    pub fn new(alloc: Global, plan: &Plan, meter: &Meter) -> Result<Watch, Memory>
+        requires { IsState plan.now meter.now }
+        ensures { IfOk result (λ watch. watch ≡ meter.now) }
+    {
+        plan.known();
+        let cells = plan.cells(alloc)?;
+        let mut kept = Vec::with_capacity(alloc, cells.len())?;
+        for cell in &cells {
+            kept.push(Kept {
+                cell: *cell,
+                value: meter.value(alloc, plan, cell)?,
+            })?;
+        }
+        Ok(Watch { kept })
+    }
+
+    /// The lines of the cells whose value isn't the one that was kept, each of which is kept from now on.
+    pub(crate) fn changes(
+        &mut self,
+        alloc: Global,
+        plan: &Plan,
+        meter: &Meter,
+    ) -> Result<Vec<u8>, Memory>
+        requires of_plan { IsState plan.now meter.now }
+        requires watched { keys self.old ≡ cells plan.now }
+        ensures told { IfOk result (λ lines. lines.items ≡ change_lines self.old meter.now) }
+        ensures kept { OnOk result (self.new ≡ meter.now) }
+    {
+        plan.known();
+        let mut lines = Vec::new(alloc);
+        look_at_all(alloc, plan, meter, &mut self.kept, &mut lines)?;
+        Ok(lines)
+    }
+}
+
+/// Whether a cell holds what was kept of it.
+fn is_unchanged(meter: &Meter, instance: &Instance<'_>, kept: &Kept) -> bool
+    requires of_plan { IsState instance.now.plan meter.now }
+    requires named { kept.now.0.name ≡ instance.now.name }
+    ensures { result ≡ same_tree kept.now.1 (value meter.now kept.now.0) }
+{
+    match meter.held(instance, &kept.cell) {
+        Some(held) => is_held(&kept.value, &held),
+        None => kept.value == Data::NullData,
+    }
+}
+
+/// Puts the line of a cell that changed behind others.
+#[tactic(auto, unfolding(crate::specs::Changes::change_line))]
+fn push_change(
+    alloc: Global,
+    cell: &CellRef,
+    value: &Data,
+    lines: &mut Vec<u8>,
+) -> Result<(), Memory>
+    ensures { OnOk result (lines.new.items ≡ lines.old.items ++ change_line cell.now (tree value.now)) }
+{
+    lines.extend_from_slice(b"  ")?;
+    push_cell(alloc, cell, lines)?;
+    lines.extend_from_slice(b" is now ")?;
+    push_value(alloc, value, lines)?;
+    lines.push(b'\n')?;
+    Ok(())
+}
+
+/// Looks at a cell again, and puts its line behind others if its value isn't the one that was kept.
+#[tactic(auto, unfolding(crate::specs::Changes::change_of))]
+fn look_at(
+    alloc: Global,
+    plan: &Plan,
+    meter: &Meter,
+    kept: &mut Kept,
+    lines: &mut Vec<u8>,
+) -> Result<(), Memory>
+    requires { IsState plan.now meter.now }
+    ensures told { OnOk result (lines.new.items ≡ lines.old.items ++ change_of kept.old.0 kept.old.1 (value meter.now kept.old.0)) }
+    ensures kept { OnOk result (kept.new ≡ (kept.old.0, value meter.now kept.old.0)) }
+{
+    let instance = plan.instance(&kept.cell.name);
+    if !is_unchanged(meter, &instance, kept) {
+        kept.value = meter.value_at(alloc, &instance, &kept.cell)?;
+        push_change(alloc, &kept.cell, &kept.value, lines)?;
+    }
+    Ok(())
+}
+
+/// Looks at cells again, and puts the lines of those whose value isn't the one that was kept behind others.
+fn look_at_all(
+    alloc: Global,
+    plan: &Plan,
+    meter: &Meter,
+    kept: &mut [Kept],
+    lines: &mut Vec<u8>,
+) -> Result<(), Memory>
+    requires { IsState plan.now meter.now }
+    ensures told { OnOk result (lines.new.items ≡ lines.old.items ++ flat_map (λ e. change_of e.0 e.1 (value meter.now e.0)) kept.old) }
+    ensures kept { OnOk result (kept.new ≡ map (λ e. (e.0, value meter.now e.0)) kept.old) }
+{
+    for one in kept.iter_mut() {
+        look_at(alloc, plan, meter, one, lines)?;
+    }
+    Ok(())
+}
