@@ -2,7 +2,7 @@
 use Rattle.std.specs.Prelude.{List, [], ◌∷◌, Some, codes, false, map, true}
 use Rattle.clap.specs.Words.{App, Kinds, Rule, Shape, Text, fault_of, new_app, new_rule, with_rule}
 use Rattle.clap.specs.Simple.{new_shape}
-use Rattle.clap.specs.declared.builder.action.ArgAction.TheVariants.{Set}
+use Rattle.clap.specs.declared.builder.action.ArgAction.TheVariants.{Count, Set}
 
 -- a file that has to be named (own profile)
 abbrev pub file : Text → Rule
@@ -16,13 +16,17 @@ config_file = file (codes "config")
 abbrev pub labels_file : Rule
 labels_file = file (codes "labels")
 
+-- `-v` or `--verbose`, also more than once (own profile)
+abbrev pub verbose : Rule
+verbose = record (new_rule (codes "verbose")) { short = Some 118; long = Some (codes "verbose"); action = Some Count }
+
 -- `demo` (own profile)
 abbrev pub demo_app : App
-demo_app = new_app (codes "demo")
+demo_app = with_rule (new_app (codes "demo")) verbose
 
 -- `run CONFIG` (own profile)
 abbrev pub run_app : App
-run_app = with_rule (new_app (codes "run")) config_file
+run_app = with_rule (with_rule (new_app (codes "run")) verbose) config_file
 
 -- `edges CONFIG` (own profile)
 abbrev pub edges_app : App
@@ -36,6 +40,14 @@ label_app = with_rule (new_app (codes "label")) config_file
 abbrev pub check_app : App
 check_app = with_rule (with_rule (new_app (codes "check")) config_file) labels_file
 
+-- `encode` (own profile)
+abbrev pub encode_app : App
+encode_app = new_app (codes "encode")
+
+-- `decode` (own profile)
+abbrev pub decode_app : App
+decode_app = new_app (codes "decode")
+
 -- the program: it has a version, and wants a command (own profile)
 abbrev pub program : Shape
 program = record (new_shape (codes "cosem-flow")) { has_version = true; subcommand_required = true; is_leaf = false }
@@ -46,7 +58,7 @@ bare_program = record { top = record program { is_leaf = true }; subs = [] }
 
 -- the commands of the program (own profile)
 abbrev pub commands : List App
-commands = demo_app ∷ run_app ∷ edges_app ∷ label_app ∷ check_app ∷ []
+commands = demo_app ∷ run_app ∷ edges_app ∷ label_app ∷ check_app ∷ encode_app ∷ decode_app ∷ []
 
 -- the program with its commands (own profile)
 abbrev pub app : App

@@ -3,14 +3,18 @@
 /// What a command line asks for, with the paths of the files that it names (own profile).
 #[derive(Clone, Copy, Debug)]
 pub enum Command<'a> {
-    /// To answer step lines by the demo configuration.
-    Demo,
-    /// To answer step lines by a configuration.
-    Run { config: &'a str },
+    /// To answer step lines by the demo configuration, and to tell of each line in words where that is asked for.
+    Demo { is_verbose: bool },
+    /// To answer step lines by a configuration, and to tell of each line in words where that is asked for.
+    Run { config: &'a str, is_verbose: bool },
     /// To print the edges of a configuration.
     Edges { config: &'a str },
     /// To print the least labels of a configuration.
     Label { config: &'a str },
     /// To print the verdict on a configuration and on labels for it.
     Check { config: &'a str, labels: &'a str },
+    /// To make steps in words into step lines.
+    Encode,
+    /// To make step lines and replies into words.
+    Decode,
 }

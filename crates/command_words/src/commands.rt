@@ -12,11 +12,13 @@ pub fn all_commands<'a>(alloc: Global) -> Result<Command<'a>, AllocError>
     ensures { IfOk result (λ c. app_of c ≡ spec.app) }
 {
     program(alloc)?
-        .subcommand(demo_command(alloc))?
+        .subcommand(demo_command(alloc)?)?
         .subcommand(run_command(alloc)?)?
         .subcommand(edges_command(alloc)?)?
         .subcommand(label_command(alloc)?)?
-        .subcommand(check_command(alloc)?)
+        .subcommand(check_command(alloc)?)?
+        .subcommand(encode_command(alloc))?
+        .subcommand(decode_command(alloc))
 }
 
 /// The program, without its commands.
@@ -32,13 +34,14 @@ fn program<'a>(alloc: Global) -> Result<Command<'a>, AllocError>
         .bin_name("cosem-flow")
 }
 
-fn demo_command<'a>(alloc: Global) -> Command<'a>
-    ensures app { app_of result ≡ spec.demo_app }
-    ensures local { (out-Command result).has_globals ≡ false }
+fn demo_command<'a>(alloc: Global) -> Result<Command<'a>, AllocError>
+    ensures app { IfOk result (λ c. app_of c ≡ spec.demo_app) }
+    ensures local { IfOk result (λ c. (out-Command c).has_globals ≡ false) }
 {
     Command::new(alloc, "demo")
         .about("Answer the step lines of standard input by the demo configuration")
         .after_help("Example: cosem-flow demo < steps.txt")
+        .arg(verbose(alloc))
 }
 
 fn run_command<'a>(alloc: Global) -> Result<Command<'a>, AllocError>
@@ -48,6 +51,7 @@ fn run_command<'a>(alloc: Global) -> Result<Command<'a>, AllocError>
     Command::new(alloc, "run")
         .about("Answer the step lines of standard input by a configuration")
         .after_help("Example: cosem-flow run mine.toml < steps.txt")
+        .arg(verbose(alloc))?
         .arg(config_file(alloc))
 }
 
@@ -80,6 +84,36 @@ fn check_command<'a>(alloc: Global) -> Result<Command<'a>, AllocError>
         .after_help("Example: cosem-flow check mine.toml mine.labels")
         .arg(config_file(alloc))?
         .arg(labels_file(alloc))
+}
+
+fn encode_command<'a>(alloc: Global) -> Command<'a>
+    ensures app { app_of result ≡ spec.encode_app }
+    ensures local { (out-Command result).has_globals ≡ false }
+{
+    Command::new(alloc, "encode")
+        .about("Make steps in words on standard input into step lines")
+        .after_help("Example: cosem-flow encode < steps.txt | cosem-flow run mine.toml | cosem-flow decode")
+}
+
+fn decode_command<'a>(alloc: Global) -> Command<'a>
+    ensures app { app_of result ≡ spec.decode_app }
+    ensures local { (out-Command result).has_globals ≡ false }
+{
+    Command::new(alloc, "decode")
+        .about("Make replies or step lines on standard input into words")
+        .after_help("Example: cosem-flow run mine.toml < steps.hex | cosem-flow decode")
+}
+
+/// Whether each line is told of in words.
+fn verbose<'a>(alloc: Global) -> Arg<'a>
+    ensures rule { rule_of result ≡ spec.verbose }
+    ensures local { result.global ≡ false }
+{
+    Arg::new(alloc, "verbose")
+        .short('v')
+        .long("verbose")
+        .action(ArgAction::Count)
+        .help("Tell on standard error what each line asks, what is answered and what changes")
 }
 
 fn config_file<'a>(alloc: Global) -> Arg<'a>

@@ -60,10 +60,15 @@ fn command_named<'a>(name: &str, found: &ArgMatches<'a>) -> Option<Command<'a>>
     ensures { option_map asked_by result ≡ spec.asked_in (name.now, rows_of (found_of found.now)) }
 {
     match name {
-        "demo" => Some(Command::Demo),
+        "demo" => Some(Command::Demo {
+            is_verbose: is_verbose(found),
+        }),
         "run" => {
             let config = value(found, "config")?;
-            Some(Command::Run { config })
+            Some(Command::Run {
+                config,
+                is_verbose: is_verbose(found),
+            })
         }
         "edges" => {
             let config = value(found, "config")?;
@@ -74,6 +79,8 @@ fn command_named<'a>(name: &str, found: &ArgMatches<'a>) -> Option<Command<'a>>
             Some(Command::Label { config })
         }
         "check" => check_in(found),
+        "encode" => Some(Command::Encode),
+        "decode" => Some(Command::Decode),
         _ => None,
     }
 }
@@ -84,6 +91,13 @@ fn check_in<'a>(found: &ArgMatches<'a>) -> Option<Command<'a>>
     let config = value(found, "config")?;
     let labels = value(found, "labels")?;
     Some(Command::Check { config, labels })
+}
+
+/// Whether each line is to be told of.
+fn is_verbose<'a>(found: &ArgMatches<'a>) -> bool
+    ensures { result ≡ spec.is_verbose (rows_of (found_of found.now)) }
+{
+    0 < found.get_count("verbose")
 }
 
 /// The first value of an argument.

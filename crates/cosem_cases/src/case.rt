@@ -2,6 +2,7 @@
 use crate::command::is_done;
 use crate::copies::{with_copies, with_ends};
 use crate::explained::is_explained;
+use crate::translation::is_translated;
 use meter_server::demo::DEMO;
 use meter_server::outcome::Outcome;
 use meter_server::program::{Source, answer_text, verdict_of};
@@ -85,6 +86,11 @@ impl Tally {
                 let is_well = is_demo(rt, configuration) == Some(true);
                 self.tell(rt, is_well, line);
             }
+            (Some("words"), Some(name), None, None) => {
+                if self.count_translations(rt, name).is_none() {
+                    self.tell(rt, false, line);
+                }
+            }
             (Some("explained"), Some(configuration), Some(name), None) => {
                 if self.count_explained(rt, configuration, name).is_none() {
                     self.tell(rt, false, line);
@@ -120,6 +126,19 @@ impl Tally {
             if !case.starts_with('#') {
                 let is_well = is_explained(rt.alloc(), text.as_str(), labels.as_str(), case);
                 self.tell(rt, is_well == Some(true), case);
+            }
+        }
+        Some(())
+    }
+
+    /// Tries each row of a table of texts that are translated.
+    fn count_translations(&mut self, rt: &HostRuntime, name: &str) -> Option<()> {
+        let path = format!(in rt.alloc(); "words/{name}").ok()?;
+        let rows = fs::read_to_string(rt, path.as_str()).ok()?;
+        for row in rows.as_str().split('\n') {
+            if !row.is_empty() && !row.starts_with('#') {
+                let is_well = is_translated(rt.alloc(), row);
+                self.tell(rt, is_well == Some(true), row);
             }
         }
         Some(())

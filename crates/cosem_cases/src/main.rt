@@ -17,6 +17,8 @@
 //!   labels as `demo.labels`.
 //! - `unreadable CONFIGURATION NAME`: each row of `unreadable/NAME` is a case: the line, alone, is told by
 //!   `line 1: unreadable` and ends the run.
+//! - `words NAME`: each row `encode TEXT => MADE` or `decode TEXT => MADE` of `words/NAME` is a case: this is made of the text, or
+//!   nothing, and MADE is `fault` and what is told of it. In both `\n` and `\r` stand for bytes as below.
 //! - `command NAME STATUS`: the program with the words of `commands/NAME.words`, one a line, and the input `NAME.in` ends
 //!   with this status and writes `NAME.out` on standard output and `NAME.err` on standard error; a file that isn't there is
 //!   empty.
@@ -32,6 +34,7 @@ mod case;
 mod command;
 mod copies;
 mod explained;
+mod translation;
 
 use case::Tally;
 use std::fs;

@@ -6,3 +6,4 @@ pub mod Taking
 pub mod Alone
 pub mod Exact
 pub mod Listed
+pub mod Aloud

@@ -8,8 +8,10 @@ pub mod Running
 pub mod Feeding
 pub mod Pieces
 pub mod Solo
+pub mod Watching
 pub mod Verdicts
 pub mod Listing
 pub mod Faults
+pub mod Translating
 pub mod Outcomes
 pub mod Program

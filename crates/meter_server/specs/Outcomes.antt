@@ -8,12 +8,14 @@ use Rattle.explanations.specs.Printable.{printable}
 use Rattle.explanations.specs.declared.file.FileFault.{FileFault}
 use Rattle.meter_server.specs.Faults.{fault_words, reason_words}
 use Rattle.meter_server.specs.Listing as lists
+use Rattle.meter_server.specs.Translating as translations
 use Rattle.meter_server.specs.Verdicts.{verdict_line}
 use Rattle.meter_server.specs.declared.listing.ListFault.{ListFault}
 use Rattle.meter_server.specs.declared.outcome.Outcome.{Outcome}
-use Rattle.meter_server.specs.declared.outcome.Outcome.TheVariants.{Done, Judged, Words, Unread, Fault, Unwritten}
+use Rattle.meter_server.specs.declared.outcome.Outcome.TheVariants.{Done, Judged, Words, Unread, Fault, Unwritten, Untranslated}
 use Rattle.meter_server.specs.declared.running.LineFault.{LineFault}
 use Rattle.meter_server.specs.declared.running.LineFault.TheVariants.{Line}
+use Rattle.meter_server.specs.declared.translating.TranslationFault.{TranslationFault}
 use Rattle.meter_server.specs.declared.verdict.Verdict.{Verdict}
 use Rattle.meter_server.specs.declared.verdict.Verdict.TheVariants.{Accepted, Config, Labels, Refused}
 
@@ -26,6 +28,11 @@ outcome_of (Err fault) = Fault fault
 abbrev pub listed : Result (Unit {0}) ListFault → Outcome
 listed (Ok u) = Done
 listed (Err fault) = Unwritten fault
+
+-- how a command ended whose input was translated so
+abbrev pub translated : Result (Unit {0}) TranslationFault → Outcome
+translated (Ok u) = Done
+translated (Err fault) = Untranslated fault
 
 -- the exit status of a verdict: 0 where it accepts
 abbrev pub status_of_verdict : Verdict → ℕ
@@ -49,6 +56,7 @@ status_of (Words fault) = status_of_words fault
 status_of (Unread file why) = 3
 status_of (Fault fault) = 3
 status_of (Unwritten fault) = 3
+status_of (Untranslated fault) = 3
 
 -- what standard output tells behind what the command wrote: its verdict, help or the version
 abbrev pub output_of : Outcome → List ℕ
@@ -73,3 +81,4 @@ error_of (Unread file why) = unread_line (string_bytes file) why
 error_of (Fault (Line number why)) = codes "cosem-flow: line " ++ (decimal number ++ (codes ": " ++ (reason_words why ++ codes "\n")))
 error_of (Fault fault) = codes "cosem-flow: " ++ (fault_words fault ++ codes "\n")
 error_of (Unwritten fault) = codes "cosem-flow: " ++ (lists.fault_words fault ++ codes "\n")
+error_of (Untranslated fault) = codes "cosem-flow: " ++ (translations.fault_words fault ++ codes "\n")

@@ -14,7 +14,9 @@ pub mod program;
 pub mod reason;
 pub mod running;
 mod text;
+pub mod translating;
 pub mod verdict;
+pub mod watching;
 mod writing;
 
 pub use running::{LineFault, run_lines};

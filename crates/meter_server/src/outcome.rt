@@ -4,6 +4,7 @@ ghost use Rattle.meter_server.specs.Outcomes.{error_of, output_of, status_of, un
 
 use crate::listing::ListFault;
 use crate::running::LineFault;
+use crate::translating::TranslationFault;
 use crate::verdict::{Verdict, verdict_text};
 use command_words::WordsFault;
 use cosem_data::memory::Memory;
@@ -27,6 +28,8 @@ pub enum Outcome {
     Fault(LineFault),
     /// Its list or its verdict can't be written whole.
     Unwritten(ListFault),
+    /// A text wasn't translated, or not written whole.
+    Untranslated(TranslationFault),
 }
 
 impl Outcome {
@@ -40,7 +43,10 @@ impl Outcome {
             Outcome::Words(WordsFault::Help(_) | WordsFault::Version(_)) => 0,
             Outcome::Words(WordsFault::Usage(_)) => 2,
             Outcome::Words(WordsFault::Memory) => 3,
-            Outcome::Unread(_, _) | Outcome::Fault(_) | Outcome::Unwritten(_) => 3,
+            Outcome::Unread(_, _)
+            | Outcome::Fault(_)
+            | Outcome::Unwritten(_)
+            | Outcome::Untranslated(_) => 3,
         }
     }
 
@@ -76,6 +82,7 @@ impl Outcome {
             }
             Outcome::Fault(fault) => Ok(format!(in alloc; "cosem-flow: {fault}\n")?),
             Outcome::Unwritten(fault) => Ok(format!(in alloc; "cosem-flow: {fault}\n")?),
+            Outcome::Untranslated(fault) => Ok(format!(in alloc; "cosem-flow: {fault}\n")?),
         }
     }
 }

@@ -5,13 +5,16 @@ ghost use Rattle.command_words.specs.Commands.{command_of};
 ghost use Rattle.meter_server.specs.Listing.{WritesText};
 ghost use Rattle.meter_server.specs.Outcomes as outcomes;
 ghost use Rattle.meter_server.specs.Outcomes.{output_of};
+ghost use Rattle.meter_server.specs.Running.{RunsLines};
 ghost use Rattle.meter_server.specs.Program.{AnswersText, AreMistaken, AskForHelp, ExplainsVerdict, IsFaulty, IsJudged, IsNoCommand, IsVerdict, IsVerdictOn, ListsEdges, ListsLabels, TellsVerdict};
 
 use crate::demo::DEMO;
 use crate::listing::{ListFault, write_edges, write_least_labels};
 use crate::outcome::Outcome;
 use crate::running::{LineFault, run_lines};
+use crate::translating::{TranslationFault, Way, translate};
 use crate::verdict::Verdict;
+use crate::watching::{Watched, run_watched};
 use crate::writing::write_whole;
 use command_words::{Command, WordsFault, read_words};
 use config_reader::read_config;
@@ -52,6 +55,16 @@ pub fn outcome_of(answer: Result<u64, LineFault>) -> Outcome
     }
 }
 
+/// How a command ended whose input was translated so.
+pub fn translated(answer: Result<(), TranslationFault>) -> Outcome
+    ensures { result ≡ outcomes.translated answer }
+{
+    match answer {
+        Ok(_) => Outcome::Done,
+        Err(fault) => Outcome::Untranslated(fault),
+    }
+}
+
 /// How a command ended whose list was written so.
 pub fn listed(answer: Result<(), ListFault>) -> Outcome
     ensures { result ≡ outcomes.listed answer }
@@ -63,11 +76,11 @@ pub fn listed(answer: Result<(), ListFault>) -> Outcome
 }
 
 /// Does what the words of a command line ask for, the program's name first, and answers the exit status: `demo` and `run CONFIG`
-/// answer the step lines of the input on the output, by the configuration in the file that they name; `edges CONFIG` and
-/// `label CONFIG` print its edges and its least labels there; `check CONFIG LABELS` comes to a verdict on it and on the labels in
-/// a second file, which is read only where the configuration has no fault. A verdict stands on the output and what explains it on
-/// the error stream; help and the version stand on the output where the words ask for these; any other fault stands on the error
-/// stream.
+/// answer the step lines of the input on the output, by the configuration in the file that they name, and with `-v` tell of each
+/// line on the error stream; `edges CONFIG` and `label CONFIG` print its edges and its least labels there; `check CONFIG LABELS`
+/// comes to a verdict on it and on the labels in a second file, which is read only where the configuration has no fault; `encode`
+/// and `decode` translate the input onto the output. A verdict stands on the output and what explains it on the error stream; help
+/// and the version stand on the output where the words ask for these; any other fault stands on the error stream.
 pub fn run_program<H: Files + AllocGlobal, I: Read, O: Write, E: Write>(
     rt: &H,
     words: &[String],
@@ -80,17 +93,19 @@ pub fn run_program<H: Files + AllocGlobal, I: Read, O: Write, E: Write>(
     // Help and the version have status 0, unless memory was refused or they can't be written.
     ensures helped { AskForHelp (map string_bytes words.now) → (result ≡ 0) ⊎ (result ≡ 3) }
 {
-    let outcome = with_verdict(rt.alloc(), asked(rt, words, input, output), output);
+    let outcome = asked(rt, words, input, output, errors);
+    let outcome = with_verdict(rt.alloc(), outcome, output);
     tell(rt.alloc(), &outcome, errors);
     outcome.status()
 }
 
 /// Does what words ask for.
-fn asked<H: Files + AllocGlobal, I: Read, O: Write>(
+fn asked<H: Files + AllocGlobal, I: Read, O: Write, E: Write>(
     rt: &H,
     words: &[String],
     input: &mut I,
     output: &mut O,
+    errors: &mut E,
 ) -> Outcome
     ensures { command_of (map string_bytes words.now) ≡ None → IsNoCommand (map string_bytes words.now) result }
 {
@@ -98,7 +113,7 @@ fn asked<H: Files + AllocGlobal, I: Read, O: Write>(
         return Outcome::Words(WordsFault::Memory);
     };
     match read_words(rt.alloc(), &texts) {
-        Ok(command) => answer(rt, command, input, output),
+        Ok(command) => answer(rt, command, input, output, errors),
         Err(fault) => Outcome::Words(fault),
     }
 }
@@ -115,44 +130,93 @@ fn texts_of(alloc: Global, words: &[String]) -> Result<Vec<&str>, Memory>
 }
 
 /// Does what a command asks for.
-fn answer<H: Files + AllocGlobal, I: Read, O: Write>(
+fn answer<H: Files + AllocGlobal, I: Read, O: Write, E: Write>(
     rt: &H,
     command: Command<'_>,
     input: &mut I,
     output: &mut O,
+    errors: &mut E,
 ) -> Outcome {
-    let file = match command {
-        Command::Demo => return answer_text(rt.alloc(), DEMO_SOURCE, input, output),
-        Command::Run { config }
-        | Command::Edges { config }
-        | Command::Label { config }
-        | Command::Check { config, .. } => config,
-    };
-    match read_text(rt, file) {
-        Ok(text) => {
-            let config = Source {
-                file,
-                text: text.as_str(),
-            };
-            answer_over(rt, command, config, input, output)
+    let alloc = rt.alloc();
+    match command {
+        Command::Demo { is_verbose } => {
+            answer_lines_of(alloc, DEMO_SOURCE, is_verbose, input, output, errors)
         }
-        Err(why) => unread(rt.alloc(), file, why),
+        Command::Run { config, is_verbose } => {
+            run_file(rt, config, is_verbose, input, output, errors)
+        }
+        Command::Edges { config } => list_edges_of_file(rt, config, output),
+        Command::Label { config } => list_labels_of_file(rt, config, output),
+        Command::Check { config, labels } => check_files(rt, config, labels),
+        Command::Encode => translated(translate(alloc, Way::Encode, input, output)),
+        Command::Decode => translated(translate(alloc, Way::Decode, input, output)),
     }
 }
 
-/// Does what a command asks for over a configuration.
-fn answer_over<H: Files + AllocGlobal, I: Read, O: Write>(
+/// The text of a file, or that it isn't read.
+fn text_of_file<H: Files + AllocGlobal>(rt: &H, file: &str) -> Result<String, Outcome> {
+    match read_text(rt, file) {
+        Ok(text) => Ok(text),
+        Err(why) => Err(unread(rt.alloc(), file, why)),
+    }
+}
+
+/// Answers the lines of the input by the configuration in a file.
+fn run_file<H: Files + AllocGlobal, I: Read, O: Write, E: Write>(
     rt: &H,
-    command: Command<'_>,
-    config: Source<'_>,
+    file: &str,
+    is_verbose: bool,
     input: &mut I,
     output: &mut O,
+    errors: &mut E,
 ) -> Outcome {
-    match command {
-        Command::Demo | Command::Run { .. } => answer_text(rt.alloc(), config, input, output),
-        Command::Edges { .. } => list_edges(rt.alloc(), config, output),
-        Command::Label { .. } => list_labels(rt.alloc(), config, output),
-        Command::Check { labels, .. } => check_file(rt, config, labels),
+    match text_of_file(rt, file) {
+        Ok(text) => {
+            let config = source_of(file, &text);
+            answer_lines_of(rt.alloc(), config, is_verbose, input, output, errors)
+        }
+        Err(outcome) => outcome,
+    }
+}
+
+/// Writes the edges of the configuration in a file.
+fn list_edges_of_file<H: Files + AllocGlobal, O: Write>(
+    rt: &H,
+    file: &str,
+    output: &mut O,
+) -> Outcome {
+    match text_of_file(rt, file) {
+        Ok(text) => list_edges(rt.alloc(), source_of(file, &text), output),
+        Err(outcome) => outcome,
+    }
+}
+
+/// Writes the least labels of the configuration in a file.
+fn list_labels_of_file<H: Files + AllocGlobal, O: Write>(
+    rt: &H,
+    file: &str,
+    output: &mut O,
+) -> Outcome {
+    match text_of_file(rt, file) {
+        Ok(text) => list_labels(rt.alloc(), source_of(file, &text), output),
+        Err(outcome) => outcome,
+    }
+}
+
+/// The verdict on the configuration in a file and on the labels in another, which is read only where the configuration has no
+/// fault.
+fn check_files<H: Files + AllocGlobal>(rt: &H, config: &str, labels: &str) -> Outcome {
+    match text_of_file(rt, config) {
+        Ok(text) => check_file(rt, source_of(config, &text), labels),
+        Err(outcome) => outcome,
+    }
+}
+
+/// A file by its path, with its text.
+fn source_of<'a>(file: &'a str, text: &'a String) -> Source<'a> {
+    Source {
+        file,
+        text: text.as_str(),
     }
 }
 
@@ -162,16 +226,33 @@ fn check_file<H: Files + AllocGlobal>(rt: &H, config: Source<'_>, file: &str) ->
         Ok(made) => made,
         Err(fault) => return faulty(rt.alloc(), config, fault),
     };
-    match read_text(rt, file) {
+    match text_of_file(rt, file) {
         Ok(text) => {
-            let labels = Source {
-                file,
-                text: text.as_str(),
-            };
+            let labels = source_of(file, &text);
             let verdict = judge_labels(rt.alloc(), plan, &policy, labels.text);
             judged(rt.alloc(), config, labels, verdict)
         }
-        Err(why) => unread(rt.alloc(), file, why),
+        Err(outcome) => outcome,
+    }
+}
+
+/// Answers the lines of the input by a configuration, and tells of each on the error stream where that is asked for.
+fn answer_lines_of<I: Read, O: Write, E: Write>(
+    alloc: Global,
+    config: Source<'_>,
+    is_verbose: bool,
+    input: &mut I,
+    output: &mut O,
+    errors: &mut E,
+) -> Outcome
+    ensures { AnswersText config.entry (config_of config.entry.text.now)
+        (record { unread = I.remaining input.old; written = O.contents output.old })
+        (record { unread = I.remaining input.new; written = O.contents output.new }) result }
+{
+    if is_verbose {
+        answer_aloud(alloc, config, input, output, errors)
+    } else {
+        answer_text(alloc, config, input, output)
     }
 }
 
@@ -192,6 +273,41 @@ pub fn answer_text<I: Read, O: Write>(
         Ok((plan, _policy)) => outcome_of(run_lines(alloc, &plan, input, output)),
         Err(fault) => faulty(alloc, config, fault),
     }
+}
+
+/// Answers the lines of the input by a configuration as `answer_text` does, and tells of each on the error stream, once it is
+/// answered: what it asked, what was answered and what changed, in words.
+pub fn answer_aloud<I: Read, O: Write, E: Write>(
+    alloc: Global,
+    config: Source<'_>,
+    input: &mut I,
+    output: &mut O,
+    errors: &mut E,
+) -> Outcome
+    ensures { AnswersText config.entry (config_of config.entry.text.now)
+        (record { unread = I.remaining input.old; written = O.contents output.old })
+        (record { unread = I.remaining input.new; written = O.contents output.new }) result }
+{
+    match read_config(alloc, config.text) {
+        Ok((plan, _policy)) => outcome_of(run_aloud(alloc, &plan, input, output, errors)),
+        Err(fault) => faulty(alloc, config, fault),
+    }
+}
+
+/// Answers the lines of the input by a meter of the plan that begins at its start, and tells of each on the error stream.
+fn run_aloud<I: Read, O: Write, E: Write>(
+    alloc: Global,
+    plan: &Plan,
+    input: &mut I,
+    output: &mut O,
+    errors: &mut E,
+) -> Result<u64, LineFault>
+    ensures { RunsLines plan.now
+        (record { unread = I.remaining input.old; written = O.contents output.old })
+        (record { unread = I.remaining input.new; written = O.contents output.new }) result }
+{
+    let mut watched = Watched::start(alloc, plan, errors)?;
+    run_watched(alloc, &mut watched, input, output)
 }
 
 /// Writes the edges of a configuration on the output, and says how that ended: `Done`, a fault of the list, or the verdict where

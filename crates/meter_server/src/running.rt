@@ -121,6 +121,27 @@ impl<'a> Solo<'a> {
         };
         Ok(Solo { plan, held })
     }
+
+    /// Its plan.
+    pub(crate) fn plan(&self) -> &Plan
+        ensures { result.now ≡ self.now.plan }
+    {
+        self.plan
+    }
+
+    /// The meter as it is now.
+    pub(crate) fn meter(&self) -> &Meter
+        ensures { result.now ≡ self.now.meter }
+    {
+        &self.held.meter
+    }
+
+    /// The meter has a value of the declared kind in each cell of its plan.
+    pub(crate) fn known(&self)
+        ensures { IsState self.now.plan self.now.meter }
+    {
+        let _held = &self.held;
+    }
 }
 
 impl<'a> AnswersLines for Solo<'a> {

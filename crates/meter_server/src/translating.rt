@@ -1,0 +1,121 @@
+//! Texts that are translated between words and hex, from an input onto an output (own profile).
+ghost use Rattle.std.specs.Prelude.{◌≡◌, IfOk};
+ghost use Rattle.step_words.specs.Texts.{Gives};
+ghost use Rattle.meter_server.specs.Translating as spec;
+ghost use Rattle.meter_server.specs.Translating.{ReadsAll, Translates};
+
+use crate::writing::{WriteFailed, write_whole};
+use cosem_data::memory::Memory;
+use std::alloc::Global;
+use std::error::Error;
+use std::fmt;
+use std::io::{ErrorKind, Read, Write};
+use step_words::fault::TextFault;
+use step_words::texts::{decode_text, encode_text};
+
+/// Which way a text is translated (own profile).
+#[derive(Clone, Copy, Debug)]
+pub enum Way {
+    /// Steps in words are made into step lines.
+    Encode,
+    /// Step lines and replies are made into words.
+    Decode,
+}
+
+/// Why a text wasn't translated, or not written whole.
+#[derive(Debug, Drop)]
+pub enum TranslationFault {
+    /// A read failed.
+    Read,
+    /// A write failed, or took no byte.
+    Write,
+    /// The text has this fault, or memory was refused while it was translated.
+    Text(TextFault),
+    /// Memory was refused while it was read.
+    Memory,
+}
+
+impl fmt::Display for TranslationFault {
+    ghost use Rattle.std.specs.Prelude.{Some};
+    ghost use Rattle.meter_server.specs.Translating.{fault_words};
+
+    ghost output = { λ fault. Some (fault_words fault) };
+
+    fn fmt<W: fmt::Write>(&self, f: &mut fmt::Formatter<W>) -> fmt::Result {
+        match self {
+            TranslationFault::Read => f.write_str("the input can't be read"),
+            TranslationFault::Write => f.write_str("the output can't be written"),
+            TranslationFault::Text(fault) => write!(f, "{fault}"),
+            TranslationFault::Memory => f.write_str("out of memory"),
+        }
+    }
+}
+
+impl Error for TranslationFault {}
+
+impl From<TextFault> for TranslationFault {
+    ghost use Rattle.std.specs.Prelude.{◌≡◌};
+    ghost use Rattle.meter_server.specs.declared.translating.TranslationFault.TheVariants as faults;
+
+    ghost from_gives = { λ text fault. fault ≡ faults.Text text };
+
+    fn from(fault: TextFault) -> Self {
+        TranslationFault::Text(fault)
+    }
+}
+
+impl From<WriteFailed> for TranslationFault {
+    ghost use Rattle.std.specs.Prelude.{◌≡◌};
+    ghost use Rattle.meter_server.specs.declared.translating.TranslationFault.TheVariants as faults;
+
+    ghost from_gives = { λ _ fault. fault ≡ faults.Write };
+
+    fn from(_: WriteFailed) -> Self {
+        TranslationFault::Write
+    }
+}
+
+/// Translates all that the reader gives, and writes what is made of it on the writer. The text is in memory whole, since nothing
+/// is written of one that has a fault.
+///
+/// # Errors
+/// `Text` with the first line of which nothing is made, and where in it and what was asked there; `Read`, `Memory`: nothing was
+/// written then. `Write`: a beginning was written.
+pub fn translate<R: Read, W: Write>(
+    alloc: Global,
+    way: Way,
+    reader: &mut R,
+    writer: &mut W,
+) -> Result<(), TranslationFault>
+    ensures { Translates way
+        (record { unread = R.remaining reader.old; written = W.contents writer.old })
+        (record { unread = R.remaining reader.new; written = W.contents writer.new }) result }
+{
+    let text = read_all(alloc, reader)?;
+    let made = translated(alloc, way, &text)?;
+    write_whole(writer, &made)?;
+    Ok(())
+}
+
+/// All that the reader gives.
+fn read_all<R: Read>(alloc: Global, reader: &mut R) -> Result<Vec<u8>, TranslationFault>
+    ensures all { IfOk result (λ text. ReadsAll text.items (R.remaining reader.old) (R.remaining reader.new)) }
+    ensures err { spec.IsUnread result }
+{
+    let mut text = Vec::new(alloc);
+    match reader.read_to_end(&mut text) {
+        Ok(_) => Ok(text),
+        Err(error) if error.kind() == ErrorKind::OutOfMemory => Err(TranslationFault::Memory),
+        Err(_) => Err(TranslationFault::Read),
+    }
+}
+
+/// What is made of a text.
+fn translated(alloc: Global, way: Way, text: &[u8]) -> Result<Vec<u8>, TextFault>
+    ensures { Gives (λ made. made.items) result (spec.made_of way text.now) }
+{
+    match way {
+        Way::Encode => encode_text(alloc, text),
+        Way::Decode => decode_text(alloc, text),
+    }
+}
