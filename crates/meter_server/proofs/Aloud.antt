@@ -2,13 +2,13 @@
 use Rattle.std.proofs.Common.{◌≡◌, ℕ, ◌+◌, List, [], ◌∷◌, ◌++◌, length, Option, Some, None, OnOk, Result, Ok, Err, refl, sym, ap, subst, ◌∙◌, append_assoc, append-nil, inl, inr, arith}
 use Rattle.std.proofs.KnownBytes.{Appends-nil, Appends-trans}
 use Rattle.std.specs.Io.KnownBytes.{Appends}
-use Rattle.meter_theory.specs.Plan.{Plan, start}
+use Rattle.meter_theory.specs.Plan.{start}
 use Rattle.meter_theory.specs.State.{State}
 use Rattle.line_words.specs.Telling.{told_text}
 use Rattle.step_words.specs.StepLines.{decoded_step}
 use Rattle.meter_server.specs.declared.running.LineFault.{LineFault}
 use Rattle.meter_server.specs.declared.running.LineFault.TheVariants.{Write}
-use Rattle.meter_server.specs.Lines.{Moment, Turn, lines_of, text_of_lines, with_last, Leads, Hears, StopsBy, EndsWith, Ends, IsTextFor, Breaks, AnswersAll}
+use Rattle.meter_server.specs.Lines.{Moment, Turn, lines_of, Leads, Hears, EndsWith, Ends, IsTextFor, Breaks, AnswersAll}
 use Rattle.meter_server.specs.Running.{RunsLines, tasks_in}
 use Rattle.meter_server.specs.Spelling.{line_of}
 use Rattle.meter_server.specs.Solo.{Solo, AnswersLine, StopsAtLine, told}
@@ -117,8 +117,8 @@ led-told old new count (turn ∷ turns) text start l t =
     let mid = l.0 in
     let one = telling plan (count + 1) meter turn.line in
     let first : Told (text ++ one) mid.watch start mid.told =
-        subst (λ (x : List ℕ). Told (text ++ x) mid.watch start mid.told) (line-told old mid (count + 1) turn.line turn.text l.1.0)
-        (told-more text _ mid.solo.meter old.watch mid.watch start old.told mid.told t l.1.1)
+    subst (λ (x : List ℕ). Told (text ++ x) mid.watch start mid.told) (line-told old mid (count + 1) turn.line turn.text l.1.0)
+    (told-more text _ mid.solo.meter old.watch mid.watch start old.told mid.told t l.1.1)
     in
     let others = led-told mid new (count + 1) turns (text ++ one) start l.2 first in
     subst (λ (x : List ℕ). Told x new.watch start new.told) (append_assoc text one (tellings plan (count + 1) (meter_behind plan meter turn.line) (lines_of turns)))

@@ -102,7 +102,15 @@ fn tell<E: Write>(
 {
     solo.known();
     let mut text = Vec::new(alloc);
-    push_told(alloc, solo.plan(), solo.meter(), &mut watch, answered, &mut text).ok()?;
+    push_told(
+        alloc,
+        solo.plan(),
+        solo.meter(),
+        &mut watch,
+        answered,
+        &mut text,
+    )
+    .ok()?;
     write_whole(errors, &text).ok()?;
     Some(watch)
 }

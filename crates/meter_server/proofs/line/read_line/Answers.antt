@@ -1,9 +1,8 @@
-use Rattle.std.proofs.Common.{rules, ◌≡◌, ◌==◌, false, ℕ, List, ◌∷◌, ap, sym, subst, ◌∙◌}
-use Rattle.std.specs.Prelude.{position, Option}
+use Rattle.std.proofs.Common.{◌≡◌, ◌==◌, false, ℕ, List, ◌∷◌, sym, subst}
+use Rattle.std.specs.Prelude.{position}
 use Rattle.meter_theory.specs.Plan.{Plan}
 use Rattle.meter_server.specs.declared.line.Line.{Line}
 use Rattle.meter_server.specs.Spelling.{ends_in_return, line_of, said_at, with_return}
-use Rattle.meter_server.proofs.line.read_line.Goals as goal
 
 -- a line that is neither empty nor begins with `#`
 says : (plan : Plan) (line : List ℕ) (b : ℕ) (bs : List ℕ) (x : Line) → line ≡ b ∷ bs → (b == 35) ≡ false
