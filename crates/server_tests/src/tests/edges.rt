@@ -62,16 +62,25 @@ fn put_edge(rt: &impl Abort, alloc: Global, edge: &Edge, text: &mut Vec<u8>) -> 
     Ok(())
 }
 
+/// The edges' lines are these.
+fn are_told(rt: &impl Abort, alloc: Global, list: &[Edge], want: &[u8]) -> Result<(), Fail> {
+    let mut text = Vec::new(alloc);
+    for edge in list {
+        put_edge(rt, alloc, edge, &mut text)?;
+    }
+    assert_eq!(rt; text.as_slice(), want);
+    Ok(())
+}
+
+fn has_edges(rt: &impl Abort, alloc: Global, plan: &Plan, want: &[u8]) -> Result<(), Fail> {
+    let list = edges(alloc, plan)?;
+    are_told(rt, alloc, &list, want)
+}
+
 #[test]
 fn edges_are_listed(rt: HostRuntime) -> Result<(), Fail> {
     let plan = plan_of(rt.alloc(), DEMO)?;
-    let mut text = Vec::new(rt.alloc());
-    let list = edges(rt.alloc(), &plan)?;
-    for edge in &list {
-        put_edge(&rt, rt.alloc(), edge, &mut text)?;
-    }
-    assert_eq!(rt; text.as_slice(), EDGES);
-    Ok(())
+    has_edges(&rt, rt.alloc(), &plan, EDGES)
 }
 
 /// A class, a name and an index, and the number of the cell that they name, if they name one.
@@ -80,7 +89,7 @@ type Row = (u16, LogicalName, u8, Option<u16>);
 /// The cells are numbered in the order of their objects, what the monitor has seen behind its thresholds. No cells are a fixed
 /// attribute, an attribute under another class, the monitor's index 1, one of a script table, and one of an object that isn't
 /// there.
-const NUMBERS: [Row; 14] = [
+static NUMBERS: [Row; 14] = [
     (3, ENERGY, 2, Some(0)),
     (1, ALARM, 2, Some(1)),
     (21, MONITOR, 2, Some(2)),

@@ -35,11 +35,16 @@ fn are_written(
     Ok(())
 }
 
+/// The least labels of the plan are written so.
+fn are_least(rt: &impl Abort, alloc: Global, plan: &Plan, want: &str) -> Result<(), Fail> {
+    let labels = make_labels(alloc, plan)?;
+    are_written(rt, alloc, plan, &labels, want)
+}
+
 #[test]
 fn least_labels_are_made(rt: HostRuntime) -> Result<(), Fail> {
     let plan = plan_of(rt.alloc(), DEMO)?;
-    let labels = make_labels(rt.alloc(), &plan)?;
-    are_written(&rt, rt.alloc(), &plan, &labels, LABELS)
+    are_least(&rt, rt.alloc(), &plan, LABELS)
 }
 
 /// A label file without its lines in the middle, and with clients in all their places.
@@ -69,7 +74,7 @@ type Row = (&'static str, Result<usize, (LabelCode, u64)>);
 /// A last line without its newline, the number of what has `seen` for its name, a client that isn't there, a cell that stands
 /// twice or behind a later one, names out of order or twice; beside them texts without the fault. Then the first fault of a
 /// line, and the first bad line.
-const ROWS: [Row; 15] = [
+static ROWS: [Row; 15] = [
     (
         "3/1.0.1.8.0.255/2 influence=- learn=-\n1/0.0.96.11.0.255/2 influence=- learn=-",
         Err((Form, 2)),

@@ -116,33 +116,47 @@ const REPLIES: &[u8] = b"C401C100060001E240\nC401C10103\nC501C100\nC401C1001101\
 /// The last digit of the name is no text in UTF-8.
 const UNREADABLE: (&[u8], &[u8]) = (b"eval 0.0.16.1.0.25\xFF", b"line 1: unreadable\n");
 
+/// An input and the whole text that answers it; at which calls reader and writer fail; the answer, and how many bytes are
+/// written.
+type Row = (
+    (&'static [u8], &'static [u8]),
+    (u64, u64),
+    (Result<u64, LineFault>, usize),
+);
+
+const ANSWERED: (&[u8], &[u8]) = (LINES, REPLIES);
+
 /// A reading fails in a line, between two lines and behind the last one: the lines before it are answered. A writing fails at
 /// the first byte, in a reply, at its end, behind it and at the last byte: nothing is written behind it. All bytes take 52
 /// calls.
+static ROWS: [Row; 12] = [
+    (ANSWERED, (46, 0), (Err(LineFault::Read), 0)),
+    (ANSWERED, (47, 0), (Err(LineFault::Read), 19)),
+    (ANSWERED, (121, 0), (Err(LineFault::Read), 39)),
+    (ANSWERED, (154, 0), (Err(LineFault::Read), 39)),
+    (ANSWERED, (0, 1), (Err(LineFault::Write), 0)),
+    (ANSWERED, (0, 5), (Err(LineFault::Write), 4)),
+    (ANSWERED, (0, 19), (Err(LineFault::Write), 18)),
+    (ANSWERED, (0, 20), (Err(LineFault::Write), 19)),
+    (ANSWERED, (0, 52), (Err(LineFault::Write), 51)),
+    (ANSWERED, (0, 53), (Ok(6), 52)),
+    (
+        UNREADABLE,
+        (0, 0),
+        (Err(LineFault::Line(1, Reason::Name)), 19),
+    ),
+    (UNREADABLE, (0, 5), (Err(LineFault::Write), 4)),
+];
+
+fn all_end(rt: &impl Abort, alloc: Global, plan: &Plan, rows: &[Row]) -> Result<(), Fail> {
+    for row in rows {
+        ends(rt, alloc, plan, row.0, row.1, row.2)?;
+    }
+    Ok(())
+}
+
 #[test]
 fn a_failing_call_ends_a_run(rt: HostRuntime) -> Result<(), Fail> {
     let plan = plan_of(rt.alloc(), TEXT)?;
-    let lines = (LINES, REPLIES);
-    for (texts, fails, answer, count) in [
-        (lines, (46, 0), Err(LineFault::Read), 0),
-        (lines, (47, 0), Err(LineFault::Read), 19),
-        (lines, (121, 0), Err(LineFault::Read), 39),
-        (lines, (154, 0), Err(LineFault::Read), 39),
-        (lines, (0, 1), Err(LineFault::Write), 0),
-        (lines, (0, 5), Err(LineFault::Write), 4),
-        (lines, (0, 19), Err(LineFault::Write), 18),
-        (lines, (0, 20), Err(LineFault::Write), 19),
-        (lines, (0, 52), Err(LineFault::Write), 51),
-        (lines, (0, 53), Ok(6), 52),
-        (
-            UNREADABLE,
-            (0, 0),
-            Err(LineFault::Line(1, Reason::Name)),
-            19,
-        ),
-        (UNREADABLE, (0, 5), Err(LineFault::Write), 4),
-    ] {
-        ends(&rt, rt.alloc(), &plan, texts, fails, (answer, count))?;
-    }
-    Ok(())
+    all_end(&rt, rt.alloc(), &plan, &ROWS)
 }

@@ -12,18 +12,33 @@ use std::alloc::Global;
 use std::process::Abort;
 use std::test::Fail;
 
+fn has_clients(rt: &impl Abort, plan: &Plan) -> Result<(), Fail> {
+    let reader = plan.client(READER).ok_or("no reader")?;
+    assert_eq!(rt; reader.name(), b"reader".as_slice());
+    assert!(rt; plan.client(NOBODY).is_none());
+    Ok(())
+}
+
+fn has_objects(rt: &impl Abort, plan: &Plan) -> Result<(), Fail> {
+    let device = plan.object(2).ok_or("no third object")?;
+    assert_eq!(rt; device.name(), DEVICE);
+    assert!(rt; plan.object(3).is_none());
+    Ok(())
+}
+
+fn has_cells(rt: &impl Abort, alloc: Global, plan: &Plan) -> Result<(), Fail> {
+    let values = [cell(3, ENERGY, 2), cell(1, ALARM, 2), cell(1, DEVICE, 2)];
+    let cells = plan.cells(alloc)?;
+    assert_eq!(rt; cells.as_slice(), values.as_slice());
+    Ok(())
+}
+
 #[test]
 fn a_plan_has_its_parts(rt: HostRuntime) -> Result<(), Fail> {
     let plan = plan_of(rt.alloc(), TEXT)?;
-    let reader = plan.client(READER).ok_or("no reader")?;
-    assert_eq!(rt; reader.name(), b"reader".as_slice());
-    let device = plan.object(2).ok_or("no third object")?;
-    assert_eq!(rt; device.name(), DEVICE);
-    assert!(rt; plan.client(NOBODY).is_none() && plan.object(3).is_none());
-    let values = [cell(3, ENERGY, 2), cell(1, ALARM, 2), cell(1, DEVICE, 2)];
-    let cells = plan.cells(rt.alloc())?;
-    assert_eq!(rt; cells.as_slice(), values.as_slice());
-    Ok(())
+    has_clients(&rt, &plan)?;
+    has_objects(&rt, &plan)?;
+    has_cells(&rt, rt.alloc(), &plan)
 }
 
 /// Of an attribute that is no cell null-data is held.
@@ -41,13 +56,24 @@ fn holds_the_start(rt: &impl Abort, alloc: Global, plan: &Plan, meter: &Meter) -
     Ok(())
 }
 
+/// A copy of the meter holds the start too.
+fn is_copied(rt: &impl Abort, alloc: Global, plan: &Plan, meter: &Meter) -> Result<(), Fail>
+    requires { IsState plan.now meter.now }
+{
+    let copy = meter.try_clone(alloc)?;
+    holds_the_start(rt, alloc, plan, &copy)
+}
+
+fn starts_as_configured(rt: &impl Abort, alloc: Global, plan: &Plan) -> Result<(), Fail> {
+    let meter = started(plan, alloc)?;
+    holds_the_start(rt, alloc, plan, &meter)?;
+    is_copied(rt, alloc, plan, &meter)
+}
+
 #[test]
 fn a_meter_starts_as_configured(rt: HostRuntime) -> Result<(), Fail> {
     let plan = plan_of(rt.alloc(), TEXT)?;
-    let meter = started(&plan, rt.alloc())?;
-    holds_the_start(&rt, rt.alloc(), &plan, &meter)?;
-    let copy = meter.try_clone(rt.alloc())?;
-    holds_the_start(&rt, rt.alloc(), &plan, &copy)
+    starts_as_configured(&rt, rt.alloc(), &plan)
 }
 
 /// Whether a client is in the set, for public, reader, installer and manager; no other is.

@@ -73,7 +73,7 @@ const TIMES: &str = "010102020904000000FF0905FFFFFFFEFF";
 
 /// Requests; evaluations, the second of which finds 100 crossed, sets the alarm and captures into a full profile; further
 /// captures into it; the longer script, by schedule; a reset, and the script again, by request.
-const ROWS: [Row; 21] = [
+static ROWS: [Row; 21] = [
     (SET_AB, "0", 5, AB, "00", NO_ROWS, 0),
     (GET_ALARM, AB, 5, AB, "00", NO_ROWS, 0),
     (CAPTURE, "0", 5, AB, "00", ROW_5, 1),
@@ -138,8 +138,49 @@ fn taken(
     again
 }
 
-/// Each step has its reply and leaves in the cells what its row says, also where memory is refused once. The monitor's
-/// threshold of 100, the profile's period and the schedule's times stay.
+/// What all cells hold behind the step of a row. The monitor's threshold of 100, the profile's period and the schedule's times
+/// stay.
+fn all_of(alloc: Global, row: &Row) -> Result<String, Memory> {
+    let (_, _, register, alarm, seen, rows, count) = row;
+    Ok(format!(in alloc;
+        "06{register:08X}{alarm}01010600000064{seen}{rows}0600000384060000000{count}{TIMES}"
+    )?)
+}
+
+/// The cells hold this, told as encodings in hex.
+fn are_held(
+    rt: &impl Abort,
+    alloc: Global,
+    plan: &Plan,
+    cells: &[CellRef],
+    meter: &Meter,
+    want: &str,
+) -> Result<(), Memory>
+    requires { IsState plan.now meter.now }
+{
+    let held = all_held(rt, alloc, plan, cells, meter)?;
+    assert_eq!(rt; held.as_str(), want);
+    Ok(())
+}
+
+/// The step of a row has its reply, also where memory is refused once.
+fn survives(
+    rt: &impl Abort,
+    alloc: Global,
+    plan: &Plan,
+    cells: &[CellRef],
+    meter: &mut Meter,
+    row: &Row,
+) -> Result<(), Fail>
+    requires { IsState plan.now meter.old }
+    ensures { IsState plan.now meter.new }
+{
+    let step = step(alloc, row.0)?;
+    let reply = taken(rt, alloc, plan, cells, meter, &step)?;
+    is_this(rt, alloc, &reply, row.1)
+}
+
+/// Each step has its reply and leaves in the cells what its row says.
 fn survives_all(
     rt: &impl Abort,
     alloc: Global,
@@ -151,23 +192,32 @@ fn survives_all(
     requires { IsState plan.now meter.old }
 {
     for row in table {
-        let (event, want, register, alarm, seen, rows, count) = *row;
-        let reply = taken(rt, alloc, plan, cells, meter, &step(alloc, event)?)?;
-        is_this(rt, alloc, &reply, want)?;
-        let all = format!(in alloc;
-            "06{register:08X}{alarm}01010600000064{seen}{rows}0600000384060000000{count}{TIMES}"
-        )?;
-        let held = all_held(rt, alloc, plan, cells, meter)?;
-        assert_eq!(rt; held.as_str(), all.as_str());
+        survives(rt, alloc, plan, cells, meter, row)?;
+        let all = all_of(alloc, row)?;
+        are_held(rt, alloc, plan, cells, meter, all.as_str())?;
     }
     Ok(())
+}
+
+/// A meter at its start survives the steps of the table.
+fn survives_from_start(
+    rt: &impl Abort,
+    alloc: Global,
+    plan: &Plan,
+    cells: &[CellRef],
+) -> Result<(), Fail> {
+    let mut meter = started(plan, alloc)?;
+    survives_all(rt, alloc, plan, cells, &mut meter, &ROWS)
+}
+
+fn survives_in(rt: &impl Abort, alloc: Global, plan: &Plan) -> Result<(), Fail> {
+    let cells = plan.cells(alloc)?;
+    survives_from_start(rt, alloc, plan, &cells)
 }
 
 /// Whichever growth of a step is refused, the meter is as it was, and takes the step next.
 #[test]
 fn a_refused_growth_leaves_the_meter(rt: HostRuntime) -> Result<(), Fail> {
     let plan = plan_of(rt.alloc(), OCTETS_TEXT)?;
-    let mut meter = started(&plan, rt.alloc())?;
-    let cells = plan.cells(rt.alloc())?;
-    survives_all(&rt, rt.alloc(), &plan, &cells, &mut meter, &ROWS)
+    survives_in(&rt, rt.alloc(), &plan)
 }

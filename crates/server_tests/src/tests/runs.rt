@@ -4,6 +4,7 @@ use super::samples::{ALARM, cell, is_written, plan_of, started};
 use super::steps::Event::{Evaluate, Input};
 use super::steps::{AB, C, EMPTY, Event, GET_ALARM, OCTETS_TEXT, SET_AB, is_this, step};
 use cosem_data::memory::Memory;
+use meter_core::reply::Reply;
 use meter_core::run::{Stopped, run};
 use meter_core::step::Step;
 use object_model::meter::Meter;
@@ -14,7 +15,7 @@ use std::test::Fail;
 
 /// Steps, their replies, and the alarm behind each. The monitor's threshold is 100. From 90 on 100 crosses it upwards, another
 /// 100 doesn't, and 99 crosses it downwards; what the manager sets stays where nothing is crossed.
-const CROSSINGS: [(Event, &str, &str); 13] = [
+static CROSSINGS: [(Event, &str, &str); 13] = [
     (Input(90), "quiet", EMPTY),
     (Evaluate, "quiet", EMPTY),
     (GET_ALARM, EMPTY, EMPTY),
@@ -32,10 +33,20 @@ const CROSSINGS: [(Event, &str, &str); 13] = [
 
 fn steps_of_crossings(alloc: Global) -> Result<Vec<Step>, Fail> {
     let mut steps = Vec::new(alloc);
-    for (event, _, _) in CROSSINGS {
-        steps.push(step(alloc, event)?)?;
+    for row in &CROSSINGS {
+        steps.push(step(alloc, row.0)?)?;
     }
     Ok(steps)
+}
+
+/// The replies are the first ones of the table. The result is the alarm behind them.
+fn are_told(rt: &impl Abort, alloc: Global, replies: &[Reply]) -> Result<&'static str, Fail> {
+    let mut alarm = EMPTY;
+    for (reply, row) in replies.iter().zip(&CROSSINGS) {
+        is_this(rt, alloc, reply, row.1)?;
+        alarm = row.2;
+    }
+    Ok(alarm)
 }
 
 /// Where memory is refused, the replies are the first ones and the meter stands behind their steps.
@@ -54,19 +65,29 @@ fn are_run(
     };
     let held = meter.value(alloc, plan, &cell(1, ALARM, 2));
     assert_eq!(rt; is_whole, replies.len() == CROSSINGS.len());
-    let mut alarm = EMPTY;
-    for (reply, (_, want, behind)) in replies.iter().zip(CROSSINGS) {
-        is_this(rt, alloc, reply, want)?;
-        alarm = behind;
-    }
+    let alarm = are_told(rt, alloc, &replies)?;
     is_written(rt, alloc, held, alarm)?;
     if is_whole { Ok(()) } else { Err(Memory.into()) }
+}
+
+/// A meter at its start runs the steps.
+fn are_run_from_start(
+    rt: &impl Abort,
+    alloc: Global,
+    plan: &Plan,
+    steps: &[Step],
+) -> Result<(), Fail> {
+    let mut meter = started(plan, alloc)?;
+    are_run(rt, alloc, plan, &mut meter, steps)
+}
+
+fn are_run_in(rt: &impl Abort, alloc: Global, plan: &Plan) -> Result<(), Fail> {
+    let steps = steps_of_crossings(alloc)?;
+    are_run_from_start(rt, alloc, plan, &steps)
 }
 
 #[test]
 fn crossings_are_run(rt: HostRuntime) -> Result<(), Fail> {
     let plan = plan_of(rt.alloc(), OCTETS_TEXT)?;
-    let mut meter = started(&plan, rt.alloc())?;
-    let steps = steps_of_crossings(rt.alloc())?;
-    are_run(&rt, rt.alloc(), &plan, &mut meter, &steps)
+    are_run_in(&rt, rt.alloc(), &plan)
 }

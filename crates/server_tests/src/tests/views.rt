@@ -9,7 +9,9 @@ use cosem_class::class::{ClassFault, InterfaceClass};
 use cosem_data::data::Data;
 use meter_theory::access::AccessCode;
 use object_model::argument::Argument;
-use object_model::plan::ASSOCIATION;
+use object_model::plan::{ASSOCIATION, Plan};
+use std::alloc::Global;
+use std::process::Abort;
 use std::test::Fail;
 
 /// The object_list of who has no right: the current association alone, which is Association LN, version 0, all its attributes
@@ -19,63 +21,95 @@ const LIST: &str = "0101020412000F110009060000280000FF0202\
     02030F0616010002030F0716000002030F08160100\
     010402020F01030002020F02030002020F03030002020F040300";
 
+/// A client's place, an attribute of its association and the value there, as its encoding in hex.
+type Row = (u8, u8, &'static str);
+
 /// User information (5) and secret (7) are null-data; the place of no client has no partners (3) and no mechanism (6).
+static ROWS: [Row; 7] = [
+    (READER, 3, "02020F20120001"),
+    (READER, 6, "090760857405080201"),
+    (READER, 5, "00"),
+    (READER, 7, "00"),
+    (READER, 9, "00"),
+    (NOBODY, 3, "00"),
+    (NOBODY, 6, "00"),
+];
+
+/// The value of an attribute is the one in its row, also where it is asked for as a fixed attribute.
+fn has_attribute(rt: &impl Abort, alloc: Global, plan: &Plan, row: &Row) -> Result<(), Fail> {
+    let (client, index, want) = *row;
+    let value = association_attribute(alloc, plan, client, index);
+    is_written(rt, alloc, value, want)?;
+    let value = fixed_attribute(alloc, plan, client, &cell(15, ASSOCIATION, index));
+    is_written(rt, alloc, value, want)
+}
+
+fn have_attributes(rt: &impl Abort, alloc: Global, plan: &Plan, rows: &[Row]) -> Result<(), Fail> {
+    for row in rows {
+        has_attribute(rt, alloc, plan, row)?;
+    }
+    Ok(())
+}
+
 #[test]
 fn associations_have_their_attributes(rt: HostRuntime) -> Result<(), Fail> {
     let plan = plan_of(rt.alloc(), TEXT)?;
-    for (client, index, want) in [
-        (READER, 3, "02020F20120001"),
-        (READER, 6, "090760857405080201"),
-        (READER, 5, "00"),
-        (READER, 7, "00"),
-        (READER, 9, "00"),
-        (NOBODY, 3, "00"),
-        (NOBODY, 6, "00"),
-    ] {
-        let value = association_attribute(rt.alloc(), &plan, client, index);
-        is_written(&rt, rt.alloc(), value, want)?;
-        let at = cell(15, ASSOCIATION, index);
-        let value = fixed_attribute(rt.alloc(), &plan, client, &at);
-        is_written(&rt, rt.alloc(), value, want)?;
+    have_attributes(&rt, rt.alloc(), &plan, &ROWS)
+}
+
+/// Attributes that the view of a client without rights is asked for, and their values.
+static READINGS: [(u8, &str); 3] = [(1, "09060000280000FF"), (5, "00"), (8, "1602")];
+
+fn are_read(rt: &impl Abort, alloc: Global, view: &View) -> Result<(), Fail> {
+    for (index, want) in &READINGS {
+        let value = view.read(alloc, (), *index)?;
+        is_written(rt, alloc, Ok(value), want)?;
     }
+    Ok(())
+}
+
+fn no_index_is_told(rt: &impl Abort, alloc: Global, view: &View) {
+    let other = view.read(alloc, (), 9).err();
+    assert_eq!(rt; other, Some(ClassFault::NoIndex));
+}
+
+fn is_seen(rt: &impl Abort, alloc: Global, view: &View) -> Result<(), Fail> {
+    is_written(rt, alloc, view.object_list(alloc), LIST)?;
+    are_read(rt, alloc, view)?;
+    no_index_is_told(rt, alloc, view);
     Ok(())
 }
 
 #[test]
 fn a_view_is_read(rt: HostRuntime) -> Result<(), Fail> {
     let plan = plan_of(rt.alloc(), TEXT)?;
-    let view = View::of(&plan, INSTALLER);
-    is_written(&rt, rt.alloc(), view.object_list(rt.alloc()), LIST)?;
-    for (index, want) in [(1, "09060000280000FF"), (5, "00"), (8, "1602")] {
-        let value = view.read(rt.alloc(), (), index)?;
-        is_written(&rt, rt.alloc(), Ok(value), want)?;
-    }
-    let other = view.read(rt.alloc(), (), 9).err();
-    assert_eq!(rt; other, Some(ClassFault::NoIndex));
-    Ok(())
+    is_seen(&rt, rt.alloc(), &View::of(&plan, INSTALLER))
+}
+
+/// A GET, a SET and an ACTION of a client are answered so.
+fn are_answered(rt: &impl Abort, plan: &Plan, client: u8, want: Result<(), AccessCode>) {
+    let got = permit_get(plan, client, &descriptor((15, ASSOCIATION, 2)), &None);
+    assert_eq!(rt; got, want, "GET by {client}");
+    let value = Argument::Value(Data::Unsigned(1));
+    let set = permit_set(plan, client, &descriptor((1, ALARM, 2)), false, &value);
+    assert_eq!(rt; set, want, "SET by {client}");
+    let method = descriptor((3, ENERGY, 1));
+    let called = permit_action(plan, client, &method, &Argument::Absent);
+    assert_eq!(rt; called, want, "ACTION by {client}");
+}
+
+fn no_value_is_refused(rt: &impl Abort, plan: &Plan) {
+    let alarm = descriptor((1, ALARM, 2));
+    let absent = permit_set(plan, MANAGER, &alarm, false, &Argument::Absent);
+    assert_eq!(rt; absent, Err(AccessCode::TypeUnmatched));
 }
 
 /// The manager may do all of this but set no value; at the place of no client nothing is seen.
 #[test]
 fn requests_are_permitted(rt: HostRuntime) -> Result<(), Fail> {
     let plan = plan_of(rt.alloc(), TEXT)?;
-    let alarm = descriptor((1, ALARM, 2));
-    for (client, want) in [
-        (MANAGER, Ok(())),
-        (NOBODY, Err(AccessCode::ObjectUndefined)),
-    ] {
-        let got = permit_get(&plan, client, &descriptor((15, ASSOCIATION, 2)), &None);
-        let value = Argument::Value(Data::Unsigned(1));
-        let set = permit_set(&plan, client, &alarm, false, &value);
-        let called = permit_action(
-            &plan,
-            client,
-            &descriptor((3, ENERGY, 1)),
-            &Argument::Absent,
-        );
-        assert_eq!(rt; (got, set, called), (want, want, want), "by {client}");
-    }
-    let absent = permit_set(&plan, MANAGER, &alarm, false, &Argument::Absent);
-    assert_eq!(rt; absent, Err(AccessCode::TypeUnmatched));
+    are_answered(&rt, &plan, MANAGER, Ok(()));
+    are_answered(&rt, &plan, NOBODY, Err(AccessCode::ObjectUndefined));
+    no_value_is_refused(&rt, &plan);
     Ok(())
 }
