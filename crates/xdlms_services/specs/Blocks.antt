@@ -48,7 +48,7 @@ next_block t = record { is_last = length (behind t).unsent == 0; number = t.numb
 
 -- what is kept between two blocks: how many bytes of an encoding were sent, in so many blocks with a byte at least; a block's number fits four bytes (IEC 62056-5-3, Unsigned32), and an APDU has 16 to 1,024 bytes at most (own profile)
 pub record IsLongGet (encoding : List ℕ) (sent number limit : ℕ) : Type 0 where
-  pub sent_some : number ≤ sent
+  pub byte_each : number ≤ sent
   pub within : sent ≤ length encoding
   pub numbered : length encoding < 2 ^ 32
   pub room : 16 ≤ limit

@@ -1,5 +1,5 @@
 //! Laws of the forms, over all requests, replies, blocks and bytes.
-ghost use Rattle.xdlms_services.specs.BlockLaws.{BlocksBringValue, BlocksEnd, SizeOfBlock, MostRawFits};
+ghost use Rattle.xdlms_services.specs.BlockLaws.{BlocksBringValue, BlocksEnd, SizeOfBlock, MostRawFits, OneBlock, OneFault, BlockIsNoFault};
 ghost use Rattle.xdlms_services.specs.Grammar.{OneRequest};
 ghost use Rattle.xdlms_services.specs.Reading.{ReadingIsGrammar};
 ghost use Rattle.xdlms_services.specs.Replies.{OneReply};
@@ -39,4 +39,11 @@ pub fn blocks_are_the_value()
 pub fn blocks_keep_within_the_limit()
     ensures size { SizeOfBlock }
     ensures most { MostRawFits }
+{}
+
+/// An APDU is that of one block at most, or of one fault: it determines the invoke byte, and the block or the number and the fault.
+pub fn one_block()
+    ensures block { OneBlock }
+    ensures fault { OneFault }
+    ensures apart { BlockIsNoFault }
 {}

@@ -15,7 +15,7 @@ invariant_of-self c =
     let some = most_some c.self.inside.limit (omega arith) in
     let same = ap (λ (bytes : List ℕ). length bytes) c.deref.ensures.value in
     record {
-      sent_some = omega (arith, length-take {A = ℕ}, length-drop {A = ℕ}, left, some, same, c.most_raw.ensures, c.min-count.ensures);
+      byte_each = omega (arith, length-take {A = ℕ}, length-drop {A = ℕ}, left, some, same, c.most_raw.ensures, c.min-count.ensures);
       within = omega (arith, length-take {A = ℕ}, length-drop {A = ℕ}, same, c.most_raw.ensures, c.min-count.ensures);
       numbered = c.self.invariant.numbered;
       room = c.self.invariant.room;
