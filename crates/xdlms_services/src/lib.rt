@@ -2,12 +2,14 @@
 //! replies, as APDUs.
 #![tactic(auto)]
 
+pub mod blocks;
 pub mod laws;
 pub mod reading;
 pub mod request;
 pub mod requests;
 pub mod writing;
 
+pub use blocks::{BlockFault, LongGet, fault_block};
 pub use reading::{ApduFault, read_apdu};
 pub use request::Request;
 pub use requests::write_request;

@@ -25,7 +25,7 @@ pub enum Service {
 }
 
 /// The tags of the replies.
-const GET_RESPONSE: u8 = 0xC4;
+pub(crate) const GET_RESPONSE: u8 = 0xC4;
 
 const SET_RESPONSE: u8 = 0xC5;
 
