@@ -92,7 +92,9 @@ fn encode_command<'a>(alloc: Global) -> Command<'a>
 {
     Command::new(alloc, "encode")
         .about("Make steps in words on standard input into step lines")
-        .after_help("Example: cosem-flow encode < steps.txt | cosem-flow run mine.toml | cosem-flow decode")
+        .after_help(
+            "Example: cosem-flow encode < steps.txt | cosem-flow run mine.toml | cosem-flow decode",
+        )
 }
 
 fn decode_command<'a>(alloc: Global) -> Command<'a>
