@@ -24,7 +24,7 @@ use Rattle.value_words.proofs.Octets.{octets_take}
 use Rattle.xdlms_services.specs.declared.request.Request.{Request}
 use Rattle.xdlms_services.specs.declared.request.Request.TheVariants.{Get, Set, Act}
 use Rattle.xdlms_services.specs.Requests.{request_bytes, IsWritableValue, IsArgumentInRange, CanAsk}
-use Rattle.xdlms_services.proofs.Asking.{written_requests_are_read_lem}
+use Rattle.xdlms_services.proofs.Shortest.{written_requests_are_read_lem}
 use Rattle.step_words.specs.declared.fault.Asked.TheVariants as asked
 use Rattle.step_words.specs.declared.stop.Stop.{Stop}
 use Rattle.step_words.specs.Parts.{◌>>=◌, CanBeSent, stops, ended}

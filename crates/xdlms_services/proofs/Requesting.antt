@@ -1,9 +1,9 @@
 -- Reading an APDU and its forms are one.
-use Rattle.std.proofs.Common.{◌≡◌, ℕ, ℤ, zero, suc, ◌<◌, ◌≤◌, ◌==◌, true, false, List, [], ◌∷◌, ◌++◌, length, drop, get_or, Option, Some, None, Result, Ok, Err, refl, sym, ap, subst, ◌∙◌, append-nil, arith, inl, inr, IfOk}
+use Rattle.std.proofs.Common.{◌≡◌, ℕ, ℤ, zero, suc, ◌<◌, ◌≤◌, ◌==◌, ◌&&◌, true, false, List, [], ◌∷◌, ◌++◌, length, drop, get_or, Option, Some, None, Result, Ok, Err, refl, sym, ap, subst, ◌∙◌, append-nil, arith, inl, inr, IfOk}
 use Rattle.std.specs.Prelude.{nat_lt, slice_index, MatchResult, IsSome, IsErrOf}
 use Rattle.std.specs.Option.{option_map}
-use Rattle.std.specs.Int.{w8, w16, from_be_bytes, to_be_bytes, cast_signed, cast_unsigned}
-use Rattle.std.proofs.lemmas.Bool.{ltb-false, le-ltb, eqb-true}
+use Rattle.std.specs.Int.{w8, w16, w32, from_be_bytes, to_be_bytes, cast_signed, cast_unsigned}
+use Rattle.std.proofs.lemmas.Bool.{and_parts, ltb-false, le-ltb, eqb-true, ne_eqb}
 use Rattle.cosem_data.specs.Tree.{Tree, depth}
 use Rattle.cosem_data.specs.View.{tree, data_of-tree, tree-data_of}
 use Rattle.cosem_data.specs.declared.data.Data.{Data}
@@ -12,17 +12,17 @@ use Rattle.meter_theory.specs.declared.refs.Descriptor.{Descriptor}
 use Rattle.cosem_axdr.specs.declared.fault.ReadFault.{ReadFault}
 use Rattle.cosem_axdr.specs.Grammar.{IsEncoding}
 use Rattle.cosem_axdr.specs.Reading.{data_at}
-use Rattle.cosem_axdr.proofs.Numbers.{IsBytes, IsBytes-drop, IsBytes-behind, chosen, wide8, wide16, signed8}
+use Rattle.cosem_axdr.proofs.Numbers.{IsBytes, IsBytes-drop, IsBytes-behind, chosen, wide8, wide16, wide32, signed8}
 use Rattle.cosem_axdr.proofs.Values.{data_takes, data_again}
 use Rattle.object_model.specs.declared.argument.Argument.{Argument}
 use Rattle.object_model.specs.declared.argument.Argument.TheVariants.{Absent, Value, Unreadable}
 use Rattle.xdlms_services.specs.declared.request.Request.{Request}
-use Rattle.xdlms_services.specs.declared.request.Request.TheVariants.{Get, Set, Act}
+use Rattle.xdlms_services.specs.declared.request.Request.TheVariants.{Get, Set, Act, Next}
 use Rattle.xdlms_services.specs.declared.reading.Front.{Front}
 use Rattle.xdlms_services.specs.declared.reading.ApduFault.{ApduFault}
 use Rattle.xdlms_services.specs.declared.reading.ApduFault.TheVariants as faults
-use Rattle.xdlms_services.specs.Grammar.{IsArgument, IsHeaded, IsInvocation, IsRequest, IsNoRequest, OneRequest}
-use Rattle.xdlms_services.specs.Reading.{ReadingIsGrammar, Reads, argument_from, argument_at, selected_at, get_with, get_of, set_of, act_with, act_of, service_of, front_at, request_at}
+use Rattle.xdlms_services.specs.Grammar.{IsArgument, IsHeaded, IsInvocation, IsNext, IsRequest, IsNoRequest, OneRequest}
+use Rattle.xdlms_services.specs.Reading.{ReadingIsGrammar, Reads, argument_from, argument_at, selected_at, get_with, get_of, set_of, act_with, act_of, service_of, front_at, next_at, request_at}
 
 -- ---- arguments
 
@@ -89,6 +89,11 @@ two_bytes : (xs : List ℕ) → length xs ≡ 2 → (a b : ℕ) × (xs ≡ a ∷
 two_bytes (a ∷ b ∷ []) h = (a, b, refl)
 two_bytes _ h = absurd (omega arith)
 
+-- a list of four bytes
+four_bytes : (xs : List ℕ) → length xs ≡ 4 → (a b c d : ℕ) × (xs ≡ a ∷ b ∷ c ∷ d ∷ [])
+four_bytes (a ∷ b ∷ c ∷ d ∷ []) h = (a, b, c, d, refl)
+four_bytes _ h = absurd (omega arith)
+
 -- a list of six bytes
 six_bytes : (xs : List ℕ) → length xs ≡ 6 → (a b c d e f : ℕ) × (xs ≡ a ∷ b ∷ c ∷ d ∷ e ∷ f ∷ [])
 six_bytes (a ∷ b ∷ c ∷ d ∷ e ∷ f ∷ []) h = (a, b, c, d, e, f, refl)
@@ -127,8 +132,9 @@ headed-takes _ h b e = absurd (omega arith)
 pub request-there : (bytes text : List ℕ) (f : Front) → 13 ≤ length bytes → slice_index bytes 1 ≡ 1 → front_at bytes ≡ f → drop 13 bytes ≡ text → request_at bytes ≡ service_of f text
 unfolding request_at
 request-there bytes text f le one e d =
+    let other : (length bytes == 7) ≡ false = ne_eqb (length bytes) 7 (λ e. omega arith) in
     let long : nat_lt (length bytes) 13 ≡ false = le-ltb (length bytes) 13 le in
-    rw long (rw one (ap (λ (g : Front). service_of g (drop 13 bytes)) e ∙ ap (service_of f) d))
+    rw other (rw long (rw one (ap (λ (g : Front). service_of g (drop 13 bytes)) e ∙ ap (service_of f) d)))
 
 -- the same of bytes written out
 explicit-again : (service invoke c0 c1 n0 n1 n2 n3 n4 n5 x flag : ℕ) (text : List ℕ) (d : Descriptor)
@@ -177,6 +183,20 @@ parameter-again invoke d a bytes rest text b h is e =
     let text_bytes : IsBytes text = λ k. rest-bytes 195 invoke d bytes (1 ∷ text) b headed (suc k) in
     headed-again 195 invoke d bytes 1 text headed ∙ ap (λ (x : Argument). Some (Act invoke d x)) (argument-again a text text_bytes is)
 
+-- seven bytes written out are read as a request for the next block
+seven-again : (invoke a b c d block : ℕ) → from_be_bytes w32 (a ∷ b ∷ c ∷ d ∷ []) ≡ block → request_at (192 ∷ 2 ∷ invoke ∷ a ∷ b ∷ c ∷ d ∷ []) ≡ Some (Next invoke block)
+unfolding request_at
+seven-again invoke a b c d block e = ap (λ (n : ℕ). Some (Next invoke n)) e
+
+-- a request for the next block is read as that request
+pub next-again : (invoke block : ℕ) (bytes : List ℕ) → IsNext invoke block bytes → request_at bytes ≡ Some (Next invoke block)
+next-again invoke block bytes h =
+    let number = h.0 in
+    let is = h.1 in
+    let f = four_bytes number (ap (λ (t : List ℕ). length t) is.1 ∙ wide32.len block) in
+    let again : from_be_bytes w32 (f.0 ∷ f.1 ∷ f.2 ∷ f.3 ∷ []) ≡ block = ap (from_be_bytes w32) (sym f.4 ∙ is.1) ∙ wide32.again block is.0 in
+    ap request_at (h.2 ∙ ap (λ (t : List ℕ). 192 ∷ 2 ∷ invoke ∷ t) f.4) ∙ seven-again invoke f.0 f.1 f.2 f.3 block again
+
 -- a form of a request is read as that request
 pub request-again : (r : Request) (bytes : List ℕ) → IsBytes bytes → IsRequest r bytes → request_at bytes ≡ Some r
 request-again (Get invoke d None) bytes b h =
@@ -204,6 +224,7 @@ request-again (Act invoke d (Value v)) bytes b h =
 request-again (Act invoke d Unreadable) bytes b h =
     let p = h.2 in
     parameter-again invoke d Unreadable bytes h.0 p.0 b h.1 p.1 p.2
+request-again (Next invoke block) bytes b h = next-again invoke block bytes h
 
 -- ---- and back
 
@@ -291,15 +312,34 @@ service-takes f bytes rest r b h e =
       ]
     ]
 
+-- what is read of seven bytes has this form
+next-takes : (bytes : List ℕ) (r : Request) → length bytes ≡ 7 → IsBytes bytes → next_at bytes ≡ Some r → IsRequest r bytes
+next-takes (s ∷ form ∷ i ∷ n0 ∷ n1 ∷ n2 ∷ n3 ∷ []) r len b e =
+    elim (chosen (s == 192 && form == 2) _ _ (Some r) e) [
+      | inl p ↦
+          let both = and_parts (s == 192) (form == 2) p.0 in
+          let number : IsBytes (n0 ∷ n1 ∷ n2 ∷ n3 ∷ []) = IsBytes-drop 3 (s ∷ form ∷ i ∷ n0 ∷ n1 ∷ n2 ∷ n3 ∷ []) b in
+          subst (λ (x : Request). IsRequest x (s ∷ form ∷ i ∷ n0 ∷ n1 ∷ n2 ∷ n3 ∷ [])) (some_is (Next i (from_be_bytes w32 (n0 ∷ n1 ∷ n2 ∷ n3 ∷ []))) r p.1) (
+            n0 ∷ n1 ∷ n2 ∷ n3 ∷ [],
+            (wide32.below (n0 ∷ n1 ∷ n2 ∷ n3 ∷ []) number, sym (wide32.back (n0 ∷ n1 ∷ n2 ∷ n3 ∷ []) refl number)),
+            ap (λ (y : ℕ). y ∷ form ∷ i ∷ n0 ∷ n1 ∷ n2 ∷ n3 ∷ []) (eqb-true s 192 both.0) ∙ ap (λ (y : ℕ). 192 ∷ y ∷ i ∷ n0 ∷ n1 ∷ n2 ∷ n3 ∷ []) (eqb-true form 2 both.1),
+          )
+      | inr p ↦ absurd cc
+    ]
+next-takes _ r len b e = absurd (omega arith)
+
 -- what is read has this form
 pub request-takes : (bytes : List ℕ) (r : Request) → IsBytes bytes → request_at bytes ≡ Some r → IsRequest r bytes
 unfolding request_at
 request-takes bytes r b e =
-    elim (chosen (nat_lt (length bytes) 13) _ _ (Some r) e) [
-      | inl p ↦ absurd cc
-      | inr p ↦ elim (chosen (slice_index bytes 1 == 1) _ _ (Some r) p.1) [
-        | inl q ↦ service-takes (front_at bytes) bytes (drop 13 bytes) r (IsBytes-drop 13 bytes b) (headed-takes bytes (ltb-false (length bytes) 13 p.0) b (eqb-true (slice_index bytes 1) 1 q.0)) q.1
-        | inr q ↦ absurd cc
+    elim (chosen (length bytes == 7) _ _ (Some r) e) [
+      | inl seven ↦ next-takes bytes r (eqb-true (length bytes) 7 seven.0) b seven.1
+      | inr other ↦ elim (chosen (nat_lt (length bytes) 13) _ _ (Some r) other.1) [
+        | inl p ↦ absurd cc
+        | inr p ↦ elim (chosen (slice_index bytes 1 == 1) _ _ (Some r) p.1) [
+          | inl q ↦ service-takes (front_at bytes) bytes (drop 13 bytes) r (IsBytes-drop 13 bytes b) (headed-takes bytes (ltb-false (length bytes) 13 p.0) b (eqb-true (slice_index bytes 1) 1 q.0)) q.1
+          | inr q ↦ absurd cc
+        ]
       ]
     ]
 

@@ -1,6 +1,6 @@
 -- The forms of a request (IEC 62056-5-3): a relation between requests and whole byte lists.
 use Rattle.std.specs.Prelude.{◌≡◌, ℕ, ◌<◌, ◌≤◌, Bool, true, false, List, [], ◌∷◌, ◌++◌, length, slice_index, Option, Some, None}
-use Rattle.std.specs.Int.{w8, w16}
+use Rattle.std.specs.Int.{w8, w16, w32}
 use Rattle.cosem_data.specs.Tree.{Tree, depth}
 use Rattle.cosem_data.specs.View.{tree}
 use Rattle.cosem_axdr.specs.Grammar.{IsEncoding, IsUnsigned, IsSigned}
@@ -8,7 +8,7 @@ use Rattle.meter_theory.specs.declared.refs.Descriptor.{Descriptor}
 use Rattle.object_model.specs.declared.argument.Argument.{Argument}
 use Rattle.object_model.specs.declared.argument.Argument.TheVariants.{Absent, Value, Unreadable}
 use Rattle.xdlms_services.specs.declared.request.Request.{Request}
-use Rattle.xdlms_services.specs.declared.request.Request.TheVariants.{Get, Set, Act}
+use Rattle.xdlms_services.specs.declared.request.Request.TheVariants.{Get, Set, Act, Next}
 
 -- the bytes are an encoding of the value (IEC 62056-5-3, Data), or of none; that values nest at most 16 deep is own profile
 abbrev pub IsArgument : Argument → List ℕ → Type 0
@@ -40,11 +40,16 @@ abbrev pub IsInvocation : Argument → List ℕ → Type 0
 IsInvocation Absent rest = rest ≡ 0 ∷ []
 IsInvocation argument rest = (text : List ℕ) × IsArgument argument text × (rest ≡ 1 ∷ text)
 
+-- C0 02, the invoke byte, and the number of the block that was sent last in four bytes (IEC 62056-5-3, Get-Request-Next)
+abbrev pub IsNext : ℕ → ℕ → List ℕ → Type 0
+IsNext invoke block bytes = (number : List ℕ) × IsUnsigned w32 block number × (bytes ≡ 0xC0 ∷ 2 ∷ invoke ∷ number)
+
 -- the bytes are a form of the request (IEC 62056-5-3, xDLMS-APDU: C0 is get-request, C1 is set-request, C3 is action-request)
 abbrev pub IsRequest : Request → List ℕ → Type 0
 IsRequest (Get invoke d selection) bytes = (rest : List ℕ) × IsHeaded 0xC0 invoke d bytes rest × IsSelection selection rest
 IsRequest (Set invoke d selected value) bytes = (rest : List ℕ) × IsHeaded 0xC1 invoke d bytes rest × IsSetting selected value rest
 IsRequest (Act invoke d argument) bytes = (rest : List ℕ) × IsHeaded 0xC3 invoke d bytes rest × IsInvocation argument rest
+IsRequest (Next invoke block) bytes = IsNext invoke block bytes
 
 -- the bytes are a form of no request
 abbrev pub IsNoRequest : List ℕ → Type 0

@@ -1,7 +1,7 @@
 -- Reading an APDU from left to right.
-use Rattle.std.specs.Prelude.{◌≡◌, ◌<◌, ◌↔◌, ℕ, ◌==◌, nat_lt, List, [], ◌∷◌, length, drop, slice_index, Option, Some, None, IsSome, Result, Ok, Err, if◌then◌else◌, true, false}
+use Rattle.std.specs.Prelude.{◌≡◌, ◌<◌, ◌↔◌, ℕ, ◌==◌, nat_lt, List, [], ◌∷◌, length, drop, slice_index, Option, Some, None, IsSome, Result, Ok, Err, ◌&&◌, if◌then◌else◌, true, false}
 use Rattle.std.specs.Option.{option_map}
-use Rattle.std.specs.Int.{w8, w16, from_be_bytes, cast_signed}
+use Rattle.std.specs.Int.{w8, w16, w32, from_be_bytes, cast_signed}
 use Rattle.cosem_data.specs.Tree.{Tree}
 use Rattle.cosem_data.specs.View.{data_of}
 use Rattle.cosem_axdr.specs.declared.fault.ReadFault.{ReadFault}
@@ -9,7 +9,7 @@ use Rattle.cosem_axdr.specs.Reading.{data_at}
 use Rattle.object_model.specs.declared.argument.Argument.{Argument}
 use Rattle.object_model.specs.declared.argument.Argument.TheVariants.{Absent, Value, Unreadable}
 use Rattle.xdlms_services.specs.declared.request.Request.{Request}
-use Rattle.xdlms_services.specs.declared.request.Request.TheVariants.{Get, Set, Act}
+use Rattle.xdlms_services.specs.declared.request.Request.TheVariants.{Get, Set, Act, Next}
 use Rattle.xdlms_services.specs.Grammar.{IsRequest}
 use Rattle.xdlms_services.specs.declared.reading.Front.{Front}
 use Rattle.xdlms_services.specs.declared.reading.ApduFault.{ApduFault}
@@ -87,10 +87,18 @@ front_at bytes = record {
   flag = slice_index bytes 12;
 }
 
+-- the request for the next block that seven bytes are: C0 02, Invoke-Id-And-Priority and the number of the block that was sent last (IEC 62056-5-3, Get-Request-Next)
+abbrev pub next_at : List ℕ → Option Request
+next_at bytes =
+    if slice_index bytes 0 == 0xC0 && slice_index bytes 1 == 2
+    then Some (Next (slice_index bytes 2) (from_be_bytes w32 (slice_index bytes 3 ∷ slice_index bytes 4 ∷ slice_index bytes 5 ∷ slice_index bytes 6 ∷ [])))
+    else None
+
 -- the request that the bytes are, if they are one (IEC 62056-5-3, xDLMS-APDU)
 unfoldable pub request_at : List ℕ → Option Request
 request_at bytes =
-    if nat_lt (length bytes) 13 then None
+    if length bytes == 7 then next_at bytes
+    else if nat_lt (length bytes) 13 then None
     else if slice_index bytes 1 == 1 then service_of (front_at bytes) (drop 13 bytes)
     else None
 

@@ -1,6 +1,6 @@
 -- The shortest bytes of a request, which a client sends (IEC 62056-5-3).
 use Rattle.std.specs.Prelude.{◌≡◌, ℕ, ◌<◌, ◌≤◌, ◌^◌, FitsSigned, false, List, [], ◌∷◌, ◌++◌, length, slice_index, Option, Some, None, IfSome}
-use Rattle.std.specs.Int.{w8, w16, to_be_bytes, cast_unsigned}
+use Rattle.std.specs.Int.{w8, w16, w32, to_be_bytes, cast_unsigned}
 use Rattle.cosem_data.specs.Tree.{depth}
 use Rattle.cosem_data.specs.View.{tree}
 use Rattle.cosem_axdr.specs.Canonical.{canonical, HasLengths}
@@ -9,7 +9,7 @@ use Rattle.meter_theory.specs.declared.refs.Descriptor.{Descriptor}
 use Rattle.object_model.specs.declared.argument.Argument.{Argument}
 use Rattle.object_model.specs.declared.argument.Argument.TheVariants.{Absent, Value}
 use Rattle.xdlms_services.specs.declared.request.Request.{Request}
-use Rattle.xdlms_services.specs.declared.request.Request.TheVariants.{Get, Set, Act}
+use Rattle.xdlms_services.specs.declared.request.Request.TheVariants.{Get, Set, Act, Next}
 use Rattle.xdlms_services.specs.Reading.{request_at}
 
 -- the tag, 01 for the normal form, the invoke byte, and what is named: class in two bytes, name in six, index in one (IEC 62056-5-3, Cosem-Attribute-Descriptor and Cosem-Method-Descriptor)
@@ -31,11 +31,16 @@ abbrev pub invocation_bytes : Argument → List ℕ
 invocation_bytes Absent = 0 ∷ []
 invocation_bytes argument = 1 ∷ argument_bytes argument
 
--- the request in its shortest form: lengths take the fewest bytes, and true is 01 (IEC 62056-5-3, Get-Request-Normal, Set-Request-Normal and Action-Request-Normal; that it is the shortest of the forms is own profile)
+-- C0 02, the invoke byte, and the number of the block that was sent last in four bytes (IEC 62056-5-3, Get-Request-Next)
+abbrev pub next_bytes : ℕ → ℕ → List ℕ
+next_bytes invoke block = 0xC0 ∷ 2 ∷ invoke ∷ to_be_bytes w32 block
+
+-- the request in its shortest form: lengths take the fewest bytes, and true is 01 (IEC 62056-5-3, Get-Request-Normal, Get-Request-Next, Set-Request-Normal and Action-Request-Normal; that it is the shortest of the forms is own profile)
 abbrev pub request_bytes : Request → List ℕ
 request_bytes (Get invoke d selection) = front_bytes 0xC0 invoke d ++ selection_bytes selection
 request_bytes (Set invoke d selected value) = front_bytes 0xC1 invoke d ++ (0 ∷ argument_bytes value)
 request_bytes (Act invoke d argument) = front_bytes 0xC3 invoke d ++ invocation_bytes argument
+request_bytes (Next invoke block) = next_bytes invoke block
 
 -- the argument is a value that can be written, and is nested at most 16 deep (own profile)
 abbrev pub IsWritableValue : Argument → Type 0
@@ -52,6 +57,7 @@ abbrev pub IsWritable : Request → Type 0
 IsWritable (Get invoke d selection) = IfSome selection (λ s. IsWritableValue s.1)
 IsWritable (Set invoke d selected value) = (selected ≡ false) × IsWritableValue value
 IsWritable (Act invoke d argument) = IsWritableParameter argument
+IsWritable (Next invoke block) = Unit {0}
 
 -- class, name and index fit their two, six and one bytes (IEC 62056-5-3, Cosem-Attribute-Descriptor and Cosem-Method-Descriptor)
 abbrev pub IsDescriptorInRange : Descriptor → Type 0
@@ -62,11 +68,12 @@ abbrev pub IsArgumentInRange : Argument → Type 0
 IsArgumentInRange (Value value) = HasRanges (tree value)
 IsArgumentInRange _ = Unit {0}
 
--- each number of the request fits the bytes that it has (IEC 62056-5-3, Get-Request-Normal, Set-Request-Normal and Action-Request-Normal)
+-- each number of the request fits the bytes that it has (IEC 62056-5-3, Get-Request-Normal, Get-Request-Next, Set-Request-Normal and Action-Request-Normal)
 abbrev pub IsInRange : Request → Type 0
 IsInRange (Get invoke d selection) = (invoke < 256) × IsDescriptorInRange d × IfSome selection (λ s. (s.0 < 256) × IsArgumentInRange s.1)
 IsInRange (Set invoke d selected value) = (invoke < 256) × IsDescriptorInRange d × IsArgumentInRange value
 IsInRange (Act invoke d argument) = (invoke < 256) × IsDescriptorInRange d × IsArgumentInRange argument
+IsInRange (Next invoke block) = (invoke < 256) × (block < 2 ^ 32)
 
 -- the request has such bytes (IEC 62056-5-3, xDLMS-APDU)
 abbrev pub CanAsk : Request → Type 0

@@ -2,6 +2,7 @@
 //! replies, as APDUs.
 #![tactic(auto)]
 
+pub mod asking;
 pub mod blocks;
 pub mod laws;
 pub mod reading;
@@ -9,6 +10,7 @@ pub mod request;
 pub mod requests;
 pub mod writing;
 
+pub use asking::{Asking, Exception, write_exception};
 pub use blocks::{BlockFault, LongGet, fault_block};
 pub use reading::{ApduFault, read_apdu};
 pub use request::Request;

@@ -1,6 +1,6 @@
 ghost use Rattle.std.specs.Prelude.{◌≡◌, ◌≤◌, length, IfOk, IsErrOf, Err, MatchResult};
 ghost use Rattle.xdlms_services.specs.declared.request.Request.{Request as RequestValue};
-ghost use Rattle.xdlms_services.specs.Reading.{Reads, front_at, argument_at, request_at, service_of, get_of, set_of, act_of};
+ghost use Rattle.xdlms_services.specs.Reading.{Reads, front_at, argument_at, request_at, service_of, get_of, set_of, act_of, next_at};
 ghost use Rattle.xdlms_services.specs.Grammar.{IsRequest, IsNoRequest};
 
 use crate::request::Request;
@@ -40,7 +40,10 @@ pub(crate) const ACTION_REQUEST: u8 = 0xC3;
 /// The form for one attribute or method, in one APDU.
 pub(crate) const NORMAL: u8 = 1;
 
-/// The request that an APDU is to its end: Get-Request-Normal, Set-Request-Normal or
+/// The form for the next block of a value.
+pub(crate) const NEXT: u8 = 2;
+
+/// The request that an APDU is to its end: Get-Request-Normal, Get-Request-Next, Set-Request-Normal or
 /// Action-Request-Normal of IEC 62056-5-3.
 ///
 /// A value or a parameter that can't be read is no fault of the APDU. It is `Argument::Unreadable`,
@@ -62,11 +65,17 @@ pub fn read_apdu(alloc: Global, bytes: &[u8]) -> Result<Request, ApduFault>
     request_of(alloc, bytes)
 }
 
+/// How many bytes the request for the next block of a value has.
+const NEXT_LENGTH: usize = 7;
+
 /// The request that the bytes are, read from left to right.
 #[tactic(auto, unfolding(crate::specs::Reading::request_at))]
 fn request_of(alloc: Global, bytes: &[u8]) -> Result<Request, ApduFault>
     ensures { Reads result (request_at bytes.now) }
 {
+    if bytes.len() == NEXT_LENGTH {
+        return next_request(bytes);
+    }
     if bytes.len() < 13 {
         return Err(ApduFault::Unreadable);
     }
@@ -77,6 +86,20 @@ fn request_of(alloc: Global, bytes: &[u8]) -> Result<Request, ApduFault>
     } else {
         Err(ApduFault::Unreadable)
     }
+}
+
+/// The request for the next block of a value that seven bytes are.
+fn next_request(bytes: &[u8]) -> Result<Request, ApduFault>
+    requires { length bytes.now ≡ 7 }
+    ensures { Reads result (next_at bytes.now) }
+{
+    if bytes[0] != GET_REQUEST || bytes[1] != NEXT {
+        return Err(ApduFault::Unreadable);
+    }
+    Ok(Request::Next {
+        invoke: bytes[2],
+        block: u32::from_be_bytes([bytes[3], bytes[4], bytes[5], bytes[6]]),
+    })
 }
 
 /// What stands in front of a request.

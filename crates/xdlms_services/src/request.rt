@@ -1,7 +1,7 @@
 use meter_theory::refs::Descriptor;
 use object_model::argument::Argument;
 
-/// What a client asks of one attribute, or of one method.
+/// What a client asks of one attribute or of one method, or that it asks for the next block of a value.
 ///
 /// The descriptor (IEC 62056-5-3, Cosem-Attribute-Descriptor or Cosem-Method-Descriptor) is as it was sent: it need not be that
 /// of any attribute or method. The invoke byte is the Invoke-Id-And-Priority, which the reply brings back.
@@ -28,5 +28,11 @@ pub enum Request {
         invoke: u8,
         method: Descriptor,
         argument: Argument,
+    },
+    /// Get-Request-Next: the block after the one with this number, which was sent last, of a value that is sent in
+    /// blocks.
+    Next {
+        invoke: u8,
+        block: u32,
     },
 }

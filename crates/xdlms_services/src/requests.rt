@@ -2,9 +2,9 @@
 ghost use Rattle.std.specs.Prelude.{◌≡◌, ◌++◌, IfSome, OnErr, OnOk};
 ghost use Rattle.cosem_axdr.specs.Canonical.{Extends};
 ghost use Rattle.xdlms_services.specs.Grammar.{IsRequest};
-ghost use Rattle.xdlms_services.specs.Requests.{front_bytes, argument_bytes, selection_bytes, invocation_bytes, request_bytes, IsWritable, IsWritableValue, IsWritableParameter, CanAsk};
+ghost use Rattle.xdlms_services.specs.Requests.{front_bytes, argument_bytes, selection_bytes, invocation_bytes, next_bytes, request_bytes, IsWritable, IsWritableValue, IsWritableParameter, CanAsk};
 
-use crate::reading::{ACTION_REQUEST, GET_REQUEST, NORMAL, SET_REQUEST};
+use crate::reading::{ACTION_REQUEST, GET_REQUEST, NEXT, NORMAL, SET_REQUEST};
 use crate::request::Request;
 use cosem_axdr::writing::write_data;
 use cosem_data::memory::Memory;
@@ -16,7 +16,7 @@ const ABSENT: u8 = 0;
 
 const PRESENT: u8 = 1;
 
-/// Puts the APDU of a request behind what is there: Get-Request-Normal, Set-Request-Normal or
+/// Puts the APDU of a request behind what is there: Get-Request-Normal, Get-Request-Next, Set-Request-Normal or
 /// Action-Request-Normal of IEC 62056-5-3, each value in its shortest encoding.
 ///
 /// Each value that the request brings along can be written, and is nested at most 16 deep; a SET has
@@ -24,7 +24,7 @@ const PRESENT: u8 = 1;
 ///
 /// # Errors
 /// `Memory` where memory is refused; the vector then has what it had before.
-#[tactic(auto, using(crate::proofs::Asking::form_on_ok))]
+#[tactic(auto, using(crate::proofs::Shortest::form_on_ok))]
 pub fn write_request(request: &Request, out: &mut Vec<u8>) -> Result<(), Memory>
     requires { CanAsk request.now }
     // Of the forms of the request it is the shortest.
@@ -73,7 +73,18 @@ fn put_request(request: &Request, out: &mut Vec<u8>) -> Result<(), Memory>
             put_front(ACTION_REQUEST, *invoke, method, out)?;
             put_parameter(argument, out)
         }
+        Request::Next { invoke, block } => put_next(*invoke, *block, out),
     }
+}
+
+/// The request for the block after the one with this number.
+fn put_next(invoke: u8, block: u32, out: &mut Vec<u8>) -> Result<(), Memory>
+    ensures ok { OnOk result (out.new.items ≡ out.old.items ++ next_bytes invoke block) }
+    ensures err { OnErr result (Extends out.old.items out.new.items) }
+{
+    out.extend_from_slice(&[GET_REQUEST, NEXT, invoke])?;
+    out.extend_from_slice(&block.to_be_bytes())?;
+    Ok(())
 }
 
 /// What stands in front of a request, up to the index of what it names.

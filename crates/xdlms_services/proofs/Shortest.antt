@@ -1,7 +1,7 @@
 -- The shortest bytes of a request are a form of it, and are read as it.
 use Rattle.std.proofs.Common.{◌≡◌, ℕ, false, true, List, [], ◌∷◌, ◌++◌, Some, None, Result, Ok, Err, refl, ap, ◌∙◌, append_assoc}
 use Rattle.std.specs.Prelude.{OnOk}
-use Rattle.std.specs.Int.{w8, w16, to_be_bytes, cast_unsigned}
+use Rattle.std.specs.Int.{w8, w16, w32, to_be_bytes, cast_unsigned}
 use Rattle.cosem_data.specs.View.{tree}
 use Rattle.cosem_data.specs.declared.memory.Memory.{Memory}
 use Rattle.cosem_axdr.specs.Canonical.{canonical}
@@ -10,11 +10,11 @@ use Rattle.meter_theory.specs.declared.refs.Descriptor.{Descriptor}
 use Rattle.object_model.specs.declared.argument.Argument.{Argument}
 use Rattle.object_model.specs.declared.argument.Argument.TheVariants.{Absent, Value, Unreadable}
 use Rattle.xdlms_services.specs.declared.request.Request.{Request}
-use Rattle.xdlms_services.specs.declared.request.Request.TheVariants.{Get, Set, Act}
+use Rattle.xdlms_services.specs.declared.request.Request.TheVariants.{Get, Set, Act, Next}
 use Rattle.xdlms_services.specs.Grammar.{IsArgument, IsHeaded, IsRequest}
 use Rattle.xdlms_services.specs.Reading.{argument_at}
-use Rattle.xdlms_services.specs.Requests.{front_bytes, argument_bytes, request_bytes, IsWritableValue, IsDescriptorInRange, IsArgumentInRange, CanAsk, WrittenRequestsAreRead}
-use Rattle.xdlms_services.proofs.Requesting.{value-again, headed-again}
+use Rattle.xdlms_services.specs.Requests.{front_bytes, argument_bytes, next_bytes, request_bytes, IsWritableValue, IsDescriptorInRange, IsArgumentInRange, CanAsk, WrittenRequestsAreRead}
+use Rattle.xdlms_services.proofs.Requesting.{value-again, headed-again, next-again}
 
 -- three lists and the rest
 in_three : (a b c rest : List ℕ) → (a ++ (b ++ c)) ++ rest ≡ a ++ (b ++ (c ++ rest))
@@ -53,6 +53,7 @@ shortest_is_request (Act invoke d Absent) c = (0 ∷ [], front-is 195 invoke d (
 shortest_is_request (Act invoke d (Value v)) c =
     (1 ∷ canonical (tree v), front-is 195 invoke d (1 ∷ canonical (tree v)) c.1.1, (canonical (tree v), argument-is (Value v) c.0 c.1.2, refl))
 shortest_is_request (Act invoke d Unreadable) c = absurd c.0
+shortest_is_request (Next invoke block) c = (to_be_bytes w32 block, (c.1.1, refl), refl)
 
 pub written_requests_are_read_lem : WrittenRequestsAreRead
 written_requests_are_read_lem (Get invoke d None) c = headed-again 192 invoke d (front_bytes 192 invoke d ++ 0 ∷ []) 0 [] (front-is 192 invoke d (0 ∷ []) c.1.1)
@@ -71,6 +72,7 @@ written_requests_are_read_lem (Act invoke d (Value v)) c =
     headed-again 195 invoke d (front_bytes 195 invoke d ++ 1 ∷ rest) 1 rest (front-is 195 invoke d (1 ∷ rest) c.1.1)
     ∙ ap (λ (a : Argument). Some (Act invoke d a)) (shortest-again (Value v) c.0 c.1.2)
 written_requests_are_read_lem (Act invoke d Unreadable) c = absurd c.0
+written_requests_are_read_lem (Next invoke block) c = next-again invoke block (next_bytes invoke block) (to_be_bytes w32 block, (c.1.1, refl), refl)
 
 -- and so wherever they were written
 pub form_on_ok : (request : Request) (r : Result (Unit {0}) Memory) → CanAsk request → OnOk r (IsRequest request (request_bytes request))
