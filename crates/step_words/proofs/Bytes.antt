@@ -16,7 +16,7 @@ use Rattle.meter_theory.specs.declared.refs.Descriptor.{Descriptor}
 use Rattle.object_model.specs.declared.argument.Argument.{Argument}
 use Rattle.object_model.specs.declared.argument.Argument.TheVariants.{Absent, Value, Unreadable}
 use Rattle.xdlms_services.specs.declared.request.Request.{Request}
-use Rattle.xdlms_services.specs.declared.request.Request.TheVariants.{Get, Set, Act}
+use Rattle.xdlms_services.specs.declared.request.Request.TheVariants.{Get, Set, Act, Next}
 use Rattle.xdlms_services.specs.Requests.{front_bytes, argument_bytes, invocation_bytes, request_bytes, IsDescriptorInRange, IsArgumentInRange, CanAsk}
 use Rattle.step_words.proofs.Ranges.{AreBytes}
 
@@ -129,8 +129,10 @@ request_are_bytes (Get invoke d None) c = front_are 192 invoke d (0 ∷ []) (ome
 request_are_bytes (Get invoke d (Some s)) c = front_are 192 invoke d (1 ∷ s.0 ∷ argument_bytes s.1) (omega arith) c.1.0 c.1.1 (omega arith, (c.1.2.0, argument_are s.1 c.1.2.1))
 request_are_bytes (Set invoke d selected value) c = front_are 193 invoke d (0 ∷ argument_bytes value) (omega arith) c.1.0 c.1.1 (omega arith, argument_are value c.1.2)
 request_are_bytes (Act invoke d a) c = front_are 195 invoke d (invocation_bytes a) (omega arith) c.1.0 c.1.1 (invocation_are a c.1.2)
+request_are_bytes (Next invoke block) c = (omega arith, (omega arith, (c.1.0, high_first 4 block)))
 
 pub request_has_bytes : (r : Request) → 0 < length (request_bytes r)
 request_has_bytes (Get invoke d selection) = omega arith
 request_has_bytes (Set invoke d selected value) = omega arith
 request_has_bytes (Act invoke d a) = omega arith
+request_has_bytes (Next invoke block) = omega arith

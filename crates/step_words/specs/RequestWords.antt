@@ -44,7 +44,7 @@ abbrev pub get_words : ℕ → Descriptor → Option (ℕ × Argument) → Optio
 get_words invoke d None = Some (named_words (codes "get ") d ++ invoke_words invoke)
 get_words invoke d (Some selection) = option_map (λ e. (named_words (codes "get ") d ++ entries_words e) ++ invoke_words invoke) (entries_in selection)
 
--- the words of a request; those with another selection, and those whose value can't be read, have none (own profile)
+-- the words of a request; those with another selection, those whose value can't be read, and those for the next block of a value have none (own profile)
 abbrev pub request_words : Request → Option (List ℕ)
 request_words (Get invoke d selection) = get_words invoke d selection
 request_words (Set invoke d false (Value v)) = Some ((named_words (codes "set ") d ++ given_words (tree v)) ++ invoke_words invoke)
