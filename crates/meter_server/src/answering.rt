@@ -1,7 +1,8 @@
 ghost use Rattle.std.specs.Prelude.{◌≡◌, ◌⊎◌, ◌++◌, Some, OnOk, OnErr};
 ghost use Rattle.meter_theory.specs.States.{IsState};
-ghost use Rattle.meter_theory.specs.Steps.{next};
-ghost use Rattle.meter_server.specs.Answering.{exception, next_of, next_by, reply_of_ask, reply_by};
+ghost use Rattle.meter_core.specs.StepView.{step_of};
+ghost use Rattle.xdlms_services.specs.Asking.{IsServiceOf, asked, asking_of};
+ghost use Rattle.meter_server.specs.Answering.{next_of, next_by, reply_of_ask, reply_by};
 
 use cosem_data::memory::Memory;
 use meter_core::apply::apply;
@@ -11,9 +12,10 @@ use object_model::meter::Meter;
 use object_model::plan::Plan;
 use std::alloc::Global;
 use std::marker::Model;
+use xdlms_services::asking::{Asking, Exception, write_exception};
 use xdlms_services::reading::{ApduFault, read_apdu};
 use xdlms_services::request::Request;
-use xdlms_services::writing::{Service, write_reply, write_shown};
+use xdlms_services::writing::{write_reply, write_shown};
 
 /// An APDU of a client, which is named by its place in the plan. Contracts see the two as a record.
 #[derive(Debug, Drop)]
@@ -40,10 +42,6 @@ impl<'a> Ask<'a> {
     }
 }
 
-/// The reply to what is no request: Exception-Response of IEC 62056-5-3 with the state error
-/// service-unknown and the service error service-not-supported.
-const EXCEPTION: [u8; 3] = [0xD8, 2, 2];
-
 /// Puts the APDU that is replied to an APDU of a client behind what is there; the meter takes the step that it asks for.
 ///
 /// What is no GET or SET of one attribute and no ACTION of one method is replied an exception, and changes
@@ -64,21 +62,12 @@ pub fn answer(
 {
     match read_apdu(alloc, ask.apdu) {
         Ok(request) => answer_request(alloc, plan, meter, ask.client, request, out),
-        Err(ApduFault::Unreadable) => put_exception(out),
+        Err(ApduFault::Unreadable) => write_exception(Exception::Unknown, out),
         Err(ApduFault::Memory) => Err(Memory),
     }
 }
 
-/// Puts the exception behind what is there.
-fn put_exception(out: &mut Vec<u8>) -> Result<(), Memory>
-    ensures { OnOk result (out.new.items ≡ out.old.items ++ exception) }
-{
-    out.extend_from_slice(&EXCEPTION)?;
-    Ok(())
-}
-
-/// Puts the APDU that is replied to a request behind what is there; the meter takes the step that it is. The value of a GET is
-/// written from where it stands.
+/// Puts the APDU that is replied to a request behind what is there; the meter takes the step that it asks for, if it asks one.
 fn answer_request(
     alloc: Global,
     plan: &Plan,
@@ -89,47 +78,45 @@ fn answer_request(
 ) -> Result<(), Memory>
     requires { IsState plan.now meter.old }
     ensures state { IsState plan.now meter.new }
-    ensures reply { OnOk result (out.new.items ≡ out.old.items ++ reply_by plan.now meter.old client (Some request)) }
-    ensures next { OnOk result (meter.new ≡ next_by plan.now meter.old client (Some request)) }
-    ensures err { OnErr result ((meter.new ≡ meter.old) ⊎ (meter.new ≡ next_by plan.now meter.old client (Some request))) }
+    ensures reply { OnOk result (out.new.items ≡ out.old.items ++ reply_by plan.now meter.old (asking_of client request)) }
+    ensures next { OnOk result (meter.new ≡ next_by plan.now meter.old (asking_of client request)) }
+    ensures err { OnErr result ((meter.new ≡ meter.old) ⊎ (meter.new ≡ next_by plan.now meter.old (asking_of client request))) }
+{
+    match request.into_asking(client) {
+        Some(asking) => answer_asking(alloc, plan, meter, &asking, out),
+        None => write_exception(Exception::Unknown, out),
+    }
+}
+
+/// Puts the APDU that is replied to what is asked behind what is there; the meter takes the step. The value of a GET is
+/// written from where it stands.
+fn answer_asking(
+    alloc: Global,
+    plan: &Plan,
+    meter: &mut Meter,
+    asking: &Asking,
+    out: &mut Vec<u8>,
+) -> Result<(), Memory>
+    requires state { IsState plan.now meter.old }
+    requires service { IsServiceOf (step_of asking.now.step) asking.now.service }
+    ensures state { IsState plan.now meter.new }
+    ensures reply { OnOk result (out.new.items ≡ out.old.items ++ reply_by plan.now meter.old (Some (asked asking.now))) }
+    ensures next { OnOk result (meter.new ≡ next_by plan.now meter.old (Some (asked asking.now))) }
+    ensures err { OnErr result ((meter.new ≡ meter.old) ⊎ (meter.new ≡ next_by plan.now meter.old (Some (asked asking.now)))) }
 {
     plan.known();
-    match request {
-        Request::Get {
-            invoke,
+    match &asking.step {
+        Step::Get {
+            client,
             attribute,
             selection,
         } => {
-            let shown = show(alloc, plan, meter, client, &attribute, &selection)?;
-            write_shown(invoke, &shown, out)
+            let shown = show(alloc, plan, meter, *client, attribute, selection)?;
+            write_shown(asking.invoke, &shown, out)
         }
-        Request::Set {
-            invoke,
-            attribute,
-            selected,
-            value,
-        } => {
-            let step = Step::Set {
-                client,
-                attribute,
-                selected,
-                value,
-            };
-            let reply = apply(alloc, plan, meter, &step)?;
-            write_reply(invoke, &reply, Service::Set, out)
-        }
-        Request::Act {
-            invoke,
-            method,
-            argument,
-        } => {
-            let step = Step::Act {
-                client,
-                method,
-                argument,
-            };
-            let reply = apply(alloc, plan, meter, &step)?;
-            write_reply(invoke, &reply, Service::Act, out)
+        step => {
+            let reply = apply(alloc, plan, meter, step)?;
+            write_reply(asking.invoke, &reply, asking.service, out)
         }
     }
 }

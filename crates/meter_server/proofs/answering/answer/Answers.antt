@@ -28,12 +28,12 @@ returns-in-Ok-clause-err c =
 
 pub returns-in-Err-Unreadable-clause-reply : goal.returns-in-Err-Unreadable-clause-reply
 returns-in-Err-Unreadable-clause-reply c =
-    subst (λ (a : Ask). OnOk c.put_exception.result (c.put_exception.new.out.items ≡ c.args.out.now.items ++ reply_of_ask c.args.plan.now c.args.meter.now a)) c.ask.view_is
-    (subst (λ (t : List ℕ). OnOk c.put_exception.result (c.put_exception.new.out.items ≡ c.args.out.now.items ++ t))
-    (reply_of_ask-at c.args.plan.now c.args.meter.now (asked c.ask.inside.client c.ask.inside.apdu.now) None (rw c.in-Err-Unreadable.field-0-is at c.in-Err-Unreadable.ensures.exact)) c.put_exception.ensures)
+    subst (λ (a : Ask). OnOk c.write_exception.result (c.write_exception.new.out.items ≡ c.args.out.now.items ++ reply_of_ask c.args.plan.now c.args.meter.now a)) c.ask.view_is
+    (subst (λ (t : List ℕ). OnOk c.write_exception.result (c.write_exception.new.out.items ≡ c.args.out.now.items ++ t))
+    (reply_of_ask-at c.args.plan.now c.args.meter.now (asked c.ask.inside.client c.ask.inside.apdu.now) None (rw c.in-Err-Unreadable.field-0-is at c.in-Err-Unreadable.ensures.exact)) c.write_exception.ensures.ok)
 
 pub returns-in-Err-Unreadable-clause-next : goal.returns-in-Err-Unreadable-clause-next
 returns-in-Err-Unreadable-clause-next c =
-    subst (λ (a : Ask). OnOk c.put_exception.result (c.args.meter.now ≡ next_of c.args.plan.now c.args.meter.now a)) c.ask.view_is
-    (subst (λ (s : State). OnOk c.put_exception.result (c.args.meter.now ≡ s))
+    subst (λ (a : Ask). OnOk c.write_exception.result (c.args.meter.now ≡ next_of c.args.plan.now c.args.meter.now a)) c.ask.view_is
+    (subst (λ (s : State). OnOk c.write_exception.result (c.args.meter.now ≡ s))
     (next_of-at c.args.plan.now c.args.meter.now (asked c.ask.inside.client c.ask.inside.apdu.now) None (rw c.in-Err-Unreadable.field-0-is at c.in-Err-Unreadable.ensures.exact)) (search rules))
