@@ -46,7 +46,7 @@ asking_at client bytes = option_and_then (asking_of client) (request_at bytes)
 abbrev pub apdu_of : Asked → Reply → List ℕ
 apdu_of asked reply = reply_bytes asked.service asked.invoke reply
 
--- the APDU of an exception: D8, the state error and the service error; service-not-allowed and operation-not-possible, or service-unknown and service-not-supported (IEC 62056-5-3, Exception-Response; which of the two answers what is own profile)
+-- the APDU of an exception: the tag 0xD8, the state error and the service error; service-not-allowed and operation-not-possible, or service-unknown and service-not-supported (IEC 62056-5-3, Exception-Response; which of the two answers what is own profile)
 abbrev pub exception_bytes : Exception → List ℕ
 exception_bytes exceptions.NotAllowed = 0xD8 ∷ 1 ∷ 1 ∷ []
 exception_bytes exceptions.Unknown = 0xD8 ∷ 2 ∷ 2 ∷ []
