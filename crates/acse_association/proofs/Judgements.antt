@@ -13,6 +13,7 @@ use Rattle.acse_association.specs.declared.diagnostic.Diagnostic.{Diagnostic}
 use Rattle.acse_association.specs.declared.initiate.Initiate.{Initiate}
 use Rattle.acse_association.proofs.FieldsRead.{bind_some}
 use Rattle.acse_association.proofs.InitiateRead.{takes-some}
+use Rattle.acse_association.proofs.Clients.{client-within, client-sap}
 
 -- an answer that accepts has both the client and the InitiateRequest
 record Accepts (source : ℕ) (client : Option ℕ) (initiate : Option Initiate) (association : Association) : Type 0 where
@@ -59,7 +60,12 @@ judged-range P source contents a e =
 judged-client : (P : Plan) (source : ℕ) (contents : Option Contents) (a : Association) → judged P source contents ≡ Ok a → IsClientOf P source a
 judged-client P source contents a e =
     let h = answer-ok source (refusal P source contents) (client_at P source) (contents >>= λ c. initiate_of c.information) a e in
-    let of_agreed : IsClientOf P source (agreed source h.place h.request) = record { source_is = refl; client_is = h.client_is } in
+    let of_agreed : IsClientOf P source (agreed source h.place h.request) = record {
+      source_is = refl;
+      client_is = h.client_is;
+      within = client-within P source h.place h.client_is;
+      sap_is = client-sap P source h.place h.client_is;
+    } in
     subst (IsClientOf P source) h.agreed_is of_agreed
 
 pub accepted-range : (P : Plan) (source : ℕ) (contents : Option Contents) (r : Result Association Diagnostic) → r ≡ judged P source contents → IfOk r InRange

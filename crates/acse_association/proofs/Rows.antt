@@ -1,9 +1,9 @@
 -- Rows of AARQ and AARE, by which the definitions are tried.
-use Rattle.std.proofs.Common.{◌≡◌, ℕ, List, [], ◌∷◌, Some, None, Ok, refl}
-use Rattle.meter_theory.specs.Plan.{Plan, Client}
+use Rattle.std.proofs.Common.{◌≡◌, [], ◌∷◌, Some, None, Ok, refl}
+use Rattle.meter_theory.specs.Plan.{Plan}
 use Rattle.acse_association.specs.Fields.{length_at, counted_at, field_at, fields_within, content_at}
 use Rattle.acse_association.specs.Initiate.{behind, behind_optional, proposal_at, initiate_at}
-use Rattle.acse_association.specs.Judging.{associated, agreed}
+use Rattle.acse_association.specs.Judging.{associated}
 use Rattle.acse_association.specs.Answers.{aare_bytes}
 
 -- a client without a password, and one with 12345678

@@ -1,5 +1,5 @@
 -- How an AARQ is judged: which client asks, why it is refused, and what is agreed (IEC 62056-5-3, ACSE services; the order of the places is own profile).
-use Rattle.std.specs.Prelude.{◌≡◌, ℕ, ◌==◌, ◌≤◌, min, Bool, true, false, not, ◌||◌, List, [], ◌∷◌, Option, Some, None, is_none, option_map, option_and_then, Result, Ok, Err, if◌then◌else◌, slice_get}
+use Rattle.std.specs.Prelude.{◌≡◌, ℕ, ◌==◌, ◌<◌, ◌≤◌, length, min, Bool, true, false, not, ◌||◌, List, [], ◌∷◌, Option, Some, None, is_none, option_map, option_and_then, Result, Ok, Err, if◌then◌else◌, slice_get}
 use Rattle.std.specs.List.{position_from}
 use Rattle.std.specs.Str.{bytes_eq}
 use Rattle.std.specs.Int.RustNames.{bit_and}
@@ -140,3 +140,5 @@ pub record InRange (association : Association) : Type 0 where
 pub record IsClientOf (P : Plan) (source : ℕ) (association : Association) : Type 0 where
   pub source_is : association.source ≡ source
   pub client_is : client_at P source ≡ Some association.client
+  pub within : association.client < length P.clients
+  pub sap_is : option_map (λ client. client.sap) (slice_get P.clients association.client) ≡ Some source
