@@ -1,6 +1,7 @@
 //! The judgement of an AARQ.
 ghost use Rattle.std.specs.Prelude.{◌≡◌, option_map, slice_get, IfOk, Some};
-ghost use Rattle.acse_association.specs.Judging.{logical_names, is_content, knows_mechanism, has_sap, client_at, password_of, gives_password, initiate_of, limit_of, judged, associated, InRange, IsClientOf};
+ghost use Rattle.std.specs.Int.RustNames.{bit_and};
+ghost use Rattle.acse_association.specs.Judging.{logical_names, is_content, knows_mechanism, has_sap, client_at, password_of, gives_password, initiate_of, limit_of, offered, judged, associated, InRange, IsClientOf};
 
 use crate::association::Association;
 use crate::conformance::Conformance;
@@ -69,7 +70,7 @@ fn judge(plan: &Plan, source: u16, aarq: &Aarq<'_>) -> Result<Association, Diagn
         source,
         client,
         limit: limit_of(initiate.max_pdu),
-        conformance: Conformance::from_bits_truncate(initiate.conformance),
+        conformance: agreed(initiate.conformance),
     })
 }
 
@@ -151,4 +152,11 @@ fn limit_of(max_pdu: u16) -> u16
     } else {
         max_pdu.min(MOST)
     }
+}
+
+/// What is agreed of the services that a client proposes: those that the server has.
+fn agreed(proposed: u32) -> Conformance
+    ensures { result.0 ≡ bit_and proposed offered }
+{
+    Conformance::from_bits_truncate(proposed)
 }

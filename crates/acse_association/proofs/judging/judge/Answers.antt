@@ -1,5 +1,4 @@
 use Rattle.std.proofs.Common.{rules, ◌≡◌, ℕ, List, Option, Some, None, Result, Ok, true, ap, sym, refl, ◌∙◌}
-use Rattle.bitflags.specs.Sets.{known_from}
 use Rattle.acse_association.specs.Judging.{logical_names, is_content, knows_mechanism, client_at, password_of, names_password, gives_password, initiate_of, limit_of, agreed}
 use Rattle.acse_association.specs.declared.association.Association.{Association}
 use Rattle.acse_association.specs.declared.diagnostic.Diagnostic.{Diagnostic}
@@ -8,7 +7,6 @@ use Rattle.acse_association.proofs.judging.judge.Goals as goal
 use Rattle.acse_association.proofs.judging.judge.Goals.{in-Some+else-not-is_content-2+else-not-gives_password, in_default}
 
 pub returns : goal.returns
-unfolding known_from
 returns c =
     let P = c.args.plan.now in
     let contents = c.args.aarq.now in
@@ -16,8 +14,8 @@ returns c =
     let client_is : client_at P c.args.source ≡ Some c.in_ok-client.client = search rules in
     let known : knows_mechanism contents.mechanism ≡ true = search rules in
     let initiate_is : initiate_of contents.information ≡ Some c.in_ok-initiate.initiate = search rules in
-    let agreed_is : (let a : Association = record { source = c.args.source; client = c.in_ok-client.client; limit = c.limit_of.result; conformance = c.from_bits_truncate.result } in a) ≡ agreed c.args.source c.in_ok-client.client c.in_ok-initiate.initiate =
-    association-is c.args.source c.in_ok-client.client c.limit_of.result (limit_of c.in_ok-initiate.initiate.max_pdu) c.from_bits_truncate.result _ (search rules) (c.from_bits_truncate.ensures tt) in
+    let agreed_is : (let a : Association = record { source = c.args.source; client = c.in_ok-client.client; limit = c.limit_of.result; conformance = c.agreed.result } in a) ≡ agreed c.args.source c.in_ok-client.client c.in_ok-initiate.initiate =
+    association-is c.args.source c.in_ok-client.client c.limit_of.result (limit_of c.in_ok-initiate.initiate.max_pdu) c.agreed.result _ (search rules) c.agreed.ensures in
     elim c.match-password_of.branch [
       | in-Some+else-not-is_content-2+else-not-gives_password w ↦
           let password : Option (List ℕ) = Some w.in-Some.password.now in
