@@ -155,6 +155,7 @@ fn limit_of(max_pdu: u16) -> u16
 }
 
 /// What is agreed of the services that a client proposes: those that the server has.
+#[tactic(auto, unfolding(bitflags::specs::Sets::known_from))]
 fn agreed(proposed: u32) -> Conformance
     ensures { result.0 ≡ bit_and proposed offered }
 {
