@@ -1,4 +1,5 @@
 mod codes;
 mod data;
 mod encoding;
+mod frames;
 mod moments;
