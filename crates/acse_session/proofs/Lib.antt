@@ -1,0 +1,5 @@
+pub mod Equal
+pub mod OneTurn
+pub mod Refining
+pub mod Sendable
+pub mod Sending

@@ -1,0 +1,96 @@
+use Rattle.std.proofs.Common.{◌≡◌, ◌+◌, ◌<◌, ◌≤◌, ◌^◌, List, ℕ, [], take, length, ap, refl, subst, ◌∙◌, arith, Option}
+use Rattle.std.proofs.lemmas.Result.{err_from_is_err_and}
+use Rattle.std.specs.Io.KnownBytes.{Consumes}
+use Rattle.acse_session.specs.Keeping.{Kept}
+use Rattle.frame_server.proofs.Standing.{stands-init, stops-reading, stops-counting, ends-clean, ends-cut, piece-stops, piece-ends, piece-stands, few-frames, stops-at_limit}
+use Rattle.std.proofs.Common.{lit<}
+use Rattle.std.proofs.lemmas.Bool.{false≢true}
+use Rattle.frame_server.proofs.serving.answer_input.Goals as goal
+use Rattle.frame_server.proofs.serving.answer_input.Goals.{then-is_idle, else-is_idle}
+
+pub loop-init : goal.loop-init
+loop-init g c = record {
+  so_far = ([], [], [], stands-init g.A.Asker.answers c.args.plan.now _ c.new-session.result c.new-feeder.result c.new-session.ensures c.new-feeder.ensures);
+  plan = c.requires;
+  same_plan = ap (λ (s : Kept). s.plan) c.new-session.ensures;
+  room = lit< tt;
+}
+
+pub returns-in_default : goal.returns-in_default
+returns-in_default g c =
+    let s = c.loop.invariant.so_far in
+    record {
+      serves = stops-reading g.A.Asker.answers c.args.plan.now _ _ c.loop.session c.loop.feeder c.loop.answered c.loop.total s.0 s.1 s.2 (g.R.Read.remaining c.read.new.self) s.3 c.in_default.ensures.bytes;
+      plan = c.loop.invariant.plan;
+    }
+
+none-taken : (old new : Option (List ℕ)) (n : ℕ) (bytes : List ℕ) → n ≡ 0 → Consumes old new (take n bytes) → Consumes old new []
+none-taken old new n bytes e h = subst (λ (k : ℕ). Consumes old new (take k bytes)) e h
+
+pub returns-then-count-eq0 : goal.returns-then-count-eq0
+returns-then-count-eq0 g c =
+    let s = c.loop.invariant.so_far in
+    let unread = g.R.Read.remaining c.read.new.self in
+    let zero = c.if-count-eq0.true in
+    let taken = none-taken (g.R.Read.remaining c.loop.reader) unread c.in-Ok.count c.read.new.buf zero c.in-Ok.ensures.bytes.0 in
+    let at_end = c.in-Ok.ensures.bytes.1 zero (omega (arith, c.loop.invariant.room, c.read.auto.buf)) in
+    elim c.if-is_idle.branch [
+      | then-is_idle w ↦ record { serves = rw w.result-is (ends-clean g.A.Asker.answers c.args.plan.now _ _ c.loop.session c.loop.feeder c.loop.answered c.loop.total s.0 s.1 s.2 unread s.3 taken at_end (w.if-is_idle.ensures.0 refl)); plan = c.loop.invariant.plan }
+      | else-is_idle w ↦ record { serves = rw w.result-is (ends-cut g.A.Asker.answers c.args.plan.now _ _ c.loop.session c.loop.feeder c.loop.answered c.loop.total s.0 s.1 s.2 unread s.3 taken at_end (λ e. false≢true (w.if-is_idle.ensures.1 e))); plan = c.loop.invariant.plan }
+    ]
+
+not-below : (m n k : ℕ) → (m + n < 2 ^ 64 → ⊥) → n ≡ k → 2 ^ 64 ≤ m + k
+not-below m n k h e = omega (arith, h)
+
+pub returns-in_default-checked_add : goal.returns-in_default-checked_add
+returns-in_default-checked_add g c =
+    let s = c.loop.invariant.so_far in
+    record {
+      serves = stops-counting g.A.Asker.answers c.args.plan.now _ _ c.loop.session c.loop.feeder c.loop.answered c.loop.total s.0 s.1 s.2 (take c.in-Ok.count c.read.new.buf) (g.R.Read.remaining c.read.new.self) s.3 c.in-Ok.ensures.bytes.0
+          (not-below c.loop.total c.in-Ok.count (length (take c.in-Ok.count c.read.new.buf)) c.in_default-checked_add.ensures c.in-Ok.ensures.bound.1);
+      plan = c.loop.invariant.plan;
+    }
+
+pub returns-in_err-answer_all : goal.returns-in_err-answer_all
+returns-in_err-answer_all g c =
+    let p = err_from_is_err_and c.from_residual.result c.from_residual.ensures.1 in
+    record {
+      serves = rw (p.1, p.2) (piece-stops g.A.Asker.answers c.args.plan.now _ _ _ c.loop.session c.answer_all.new.session c.loop.feeder c.feed-fed.new.self c.loop.answered c.loop.total
+          c.loop.invariant.so_far.0 c.loop.invariant.so_far.1 c.loop.invariant.so_far.2 (take c.in-Ok.count c.read.new.buf) c.feed-fed.result.frames.items c.deref.result.now c.feed-fed.result.fault c.in_err-answer_all.field-0.0
+          c.loop.invariant.so_far.3 c.feed-fed.ensures.so_far c.in-Ok.ensures.bytes.0 c.deref.ensures.value c.in_err-answer_all.ensures.all);
+      plan = c.answer_all.ensures.plan ∙ c.loop.invariant.plan;
+    }
+
+pub overflow_add-answered : goal.overflow_add-answered
+overflow_add-answered g c =
+    let few = few-frames g.A.Asker.answers c.args.plan.now _ _ c.loop.session c.loop.feeder c.feed-fed.new.self c.loop.answered c.loop.total
+    c.loop.invariant.so_far.0 c.loop.invariant.so_far.1 c.loop.invariant.so_far.2 (take c.in-Ok.count c.read.new.buf) c.feed-fed.result.frames.items c.feed-fed.result.fault c.loop.invariant.so_far.3 c.feed-fed.ensures.so_far in
+    omega (arith, few, c.in-Some.ensures.0, c.len.ensures, c.in-Ok.ensures.bound.1, c.deref.ensures.len, c.feed-fed.result.frames.ok.0)
+
+pub returns-in-Some-fault : goal.returns-in-Some-fault
+returns-in-Some-fault g c =
+    record {
+      serves = rw c.stop_of.ensures (piece-ends g.A.Asker.answers c.args.plan.now _ _ _ c.loop.session c.answer_all.new.session c.loop.feeder c.feed-fed.new.self c.loop.answered c.loop.total
+          c.loop.invariant.so_far.0 c.loop.invariant.so_far.1 c.loop.invariant.so_far.2 (take c.in-Ok.count c.read.new.buf) c.feed-fed.result.frames.items c.deref.result.now c.feed-fed.result.fault c.in-Some-fault.fault tt
+          c.loop.invariant.so_far.3 c.feed-fed.ensures.so_far c.in-Ok.ensures.bytes.0 c.deref.ensures.value c.in_ok-answer_all.ensures.all c.in-Some-fault.is);
+      plan = c.answer_all.ensures.plan ∙ c.loop.invariant.plan;
+    }
+
+pub loop-preserved : goal.loop-preserved
+loop-preserved g c =
+    record {
+      so_far = piece-stands g.A.Asker.answers c.args.plan.now _ _ _ c.loop.session c.answer_all.new.session c.loop.feeder c.feed-fed.new.self c.loop.answered c.loop.total c.len.result c.in-Some.sum
+          c.loop.invariant.so_far.0 c.loop.invariant.so_far.1 c.loop.invariant.so_far.2 (take c.in-Ok.count c.read.new.buf) c.feed-fed.result.frames.items c.deref.result.now c.feed-fed.result.fault tt
+          c.loop.invariant.so_far.3 c.feed-fed.ensures.so_far c.in-Ok.ensures.bytes.0 c.deref.ensures.value c.in_ok-answer_all.ensures.all c.in_default-fault.is
+          (omega (arith, c.len.ensures, c.feed-fed.result.frames.ok.0)) (omega (arith, c.in-Some.ensures.1, c.in-Ok.ensures.bound.1));
+      plan = c.answer_all.ensures.plan ∙ c.loop.invariant.plan;
+      same_plan = c.answer_all.ensures.same_plan ∙ c.loop.invariant.same_plan;
+      room = omega (arith, c.loop.invariant.room, c.read.auto.buf);
+    }
+
+pub returns : goal.returns
+returns g c =
+    record {
+      serves = stops-at_limit g.A.Asker.answers c.args.plan.now _ _ c.loop.session c.loop.feeder c.loop.answered c.loop.total c.loop.invariant.so_far.0 c.loop.invariant.so_far.1 c.loop.invariant.so_far.2 c.loop.invariant.so_far.3;
+      plan = c.loop.invariant.plan;
+    }

@@ -1,0 +1,149 @@
+//! The frames of a connection are answered, one after another.
+ghost use Rattle.std.specs.Prelude.{◌≡◌, ◌≤◌, ◌<◌, ◌⊎◌, List, ℕ, [], length, Some, Ok, Err};
+ghost use Rattle.tcp_wrapper.specs.Stream.{Splits, Refuses, IsPartial};
+ghost use Rattle.tcp_wrapper.specs.declared.message.Message.{Message as MessageValue};
+ghost use Rattle.tcp_wrapper.specs.declared.fault.WrapFault.{WrapFault as FaultValue};
+ghost use Rattle.frame_server.specs.Serving.{Connection, Serves, AnswersOne, AnswersAll, stop_of_fault, IsOther};
+
+use crate::fault::ServeFault;
+use crate::writing::write_whole;
+use acse_session::asker::Asker;
+use acse_session::session::Session;
+use object_model::plan::Plan;
+use std::alloc::Global;
+use std::io::{Read, Write};
+use tcp_wrapper::fault::WrapFault;
+use tcp_wrapper::feeder::Feeder;
+use tcp_wrapper::framing::{SERVER_PORT, frame};
+use tcp_wrapper::message::Message;
+
+/// How many bytes are read at once at most.
+const PIECE: usize = 65536;
+
+/// Answers the frames that the reader gives, one after another, and says how many there were.
+///
+/// Each frame's answer is written before the next frame is answered, and the answers to all frames of a piece before the next read. It
+/// goes to the wPort that the frame came from. The steps that the frames ask are asked of the asker, a meter of the plan.
+///
+/// # Errors
+/// Where a fault ends the connection, the answers to the frames before it were written, but after `Write` what was written breaks off
+/// in an answer. After `Write` and `Memory` the step of the frame that was being answered may have been taken.
+pub fn serve<R: Read, W: Write, A: Asker>(
+    alloc: Global,
+    reader: &mut R,
+    writer: &mut W,
+    plan: &Plan,
+    asker: &mut A,
+) -> Result<u64, ServeFault>
+    requires { A.plan_of asker.old ≡ plan.now }
+    // What was read, written and asked.
+    ensures serves { Serves A.answers plan.now
+        (record { asker = asker.old; unread = R.remaining reader.old; written = W.contents writer.old })
+        (record { asker = asker.new; unread = R.remaining reader.new; written = W.contents writer.new }) result }
+    // Where a wrong header stands in a frame's place, that is the end.
+    ensures wrong_header { (input : List ℕ) (frames : List MessageValue) (rest : List ℕ) (fault : FaultValue) →
+        R.remaining reader.old ≡ Some input → Splits input frames rest → Refuses fault rest →
+        (result ≡ Err (ServeFault.Wrap fault)) ⊎ IsOther result }
+    // Where the input ends inside a frame, that is the end.
+    ensures cut { (input : List ℕ) (frames : List MessageValue) (rest : List ℕ) →
+        R.remaining reader.old ≡ Some input → Splits input frames rest → IsPartial rest → 0 < length rest →
+        (result ≡ Err ServeFault.Cut) ⊎ IsOther result }
+    // Where the input is whole frames, all are answered.
+    ensures whole { (input : List ℕ) (frames : List MessageValue) →
+        R.remaining reader.old ≡ Some input → Splits input frames [] → (result ≡ Ok (length frames)) ⊎ IsOther result }
+    ensures plan { A.plan_of asker.new ≡ plan.now }
+{
+    answer_input(alloc, reader, writer, plan, asker)
+}
+
+/// As `serve`, of which the other clauses follow.
+fn answer_input<R: Read, W: Write, A: Asker>(
+    alloc: Global,
+    reader: &mut R,
+    writer: &mut W,
+    plan: &Plan,
+    asker: &mut A,
+) -> Result<u64, ServeFault>
+    requires { A.plan_of asker.old ≡ plan.now }
+    ensures serves { Serves A.answers plan.now
+        (record { asker = asker.old; unread = R.remaining reader.old; written = W.contents writer.old })
+        (record { asker = asker.new; unread = R.remaining reader.new; written = W.contents writer.new }) result }
+    ensures plan { A.plan_of asker.new ≡ plan.now }
+{
+    let mut feeder = Feeder::new(alloc);
+    let mut session = Session::new(plan);
+    let mut answered = 0u64;
+    let mut total = 0u64;
+    let mut buffer = [0u8; PIECE];
+    for _ in 0..u64::MAX {
+        let Ok(count) = reader.read(&mut buffer) else {
+            return Err(ServeFault::Read);
+        };
+        if count == 0 {
+            return if feeder.is_idle() {
+                Ok(answered)
+            } else {
+                Err(ServeFault::Cut)
+            };
+        }
+        let Some(sum) = total.checked_add(count as u64) else {
+            return Err(ServeFault::Read);
+        };
+        total = sum;
+        let fed = feeder.feed(alloc, &buffer[..count]);
+        answer_all(alloc, writer, &mut session, asker, &fed.frames)?;
+        answered += fed.frames.len() as u64;
+        if let Some(fault) = fed.fault {
+            return Err(stop_of(fault));
+        }
+    }
+    Err(ServeFault::Read)
+}
+
+/// How a connection ends where its stream is read no further.
+fn stop_of(fault: WrapFault) -> ServeFault
+    ensures { result ≡ stop_of_fault fault }
+{
+    match fault {
+        WrapFault::Memory => ServeFault::Memory,
+        other => ServeFault::Wrap(other),
+    }
+}
+
+/// Answers what some frames brought.
+fn answer_all<W: Write, A: Asker>(
+    alloc: Global,
+    writer: &mut W,
+    session: &mut Session<'_>,
+    asker: &mut A,
+    messages: &[Message],
+) -> Result<(), ServeFault>
+    requires { A.plan_of asker.old ≡ session.old.plan }
+    ensures all { AnswersAll A.answers asker.old asker.new (W.contents writer.old) (W.contents writer.new) session.old session.new messages.now result }
+    ensures plan { A.plan_of asker.new ≡ A.plan_of asker.old }
+    ensures same_plan { session.new.plan ≡ session.old.plan }
+{
+    for message in messages {
+        answer_one(alloc, writer, session, asker, message)?;
+    }
+    Ok(())
+}
+
+/// Answers what a frame brought.
+fn answer_one<W: Write, A: Asker>(
+    alloc: Global,
+    writer: &mut W,
+    session: &mut Session<'_>,
+    asker: &mut A,
+    message: &Message,
+) -> Result<(), ServeFault>
+    requires { A.plan_of asker.old ≡ session.old.plan }
+    ensures one { AnswersOne A.answers asker.old asker.new (W.contents writer.old) (W.contents writer.new) session.old session.new message.now result }
+    ensures plan { A.plan_of asker.new ≡ A.plan_of asker.old }
+    ensures same_plan { session.new.plan ≡ session.old.plan }
+{
+    let answer = session.answer(alloc, message.source, message.apdu.as_slice(), asker)?;
+    let bytes = frame(alloc, SERVER_PORT, message.source, &answer)?;
+    write_whole(writer, &bytes)?;
+    Ok(())
+}
