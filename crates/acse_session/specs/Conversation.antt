@@ -1,12 +1,12 @@
 -- What was asked of a meter, and what it answered.
-use Rattle.std.specs.Prelude.{◌≡◌, ◌<◌, ◌^◌, List, [], ◌∷◌, length, Option, Some, None, Result, Ok, Err}
+use Rattle.std.specs.Prelude.{◌≡◌, ℕ, ◌<◌, ◌^◌, List, [], ◌∷◌, ◌++◌, length, Option, Some, None, Result, Ok, Err}
 use Rattle.cosem_data.specs.declared.memory.Memory.{Memory}
 use Rattle.cosem_axdr.specs.Canonical.{canonical, HasLengths}
 use Rattle.meter_theory.specs.Steps.{Step}
 use Rattle.meter_theory.specs.Replies.{Reply, Value, Code}
 use Rattle.meter_core.specs.StepView.{reply_of}
 use Rattle.meter_core.specs.declared.reply.Reply.{Reply as CodeReply}
-use Rattle.xdlms_services.specs.Asking.{IsServiceOf}
+use Rattle.xdlms_services.specs.Asking.{Asked, IsServiceOf, apdu_of}
 use Rattle.xdlms_services.specs.declared.writing.Service.{Service}
 use Rattle.xdlms_services.specs.declared.writing.Service.TheVariants as services
 
@@ -43,3 +43,11 @@ CanSend _ _ = ⊥
 -- the reply to a client's step can be sent to it (own profile)
 abbrev pub IsSendable : Step → Reply → Type 0
 IsSendable step reply = (service : Service) → IsServiceOf step service → CanSend service reply
+
+-- the step that is asked was taken, and the APDU that brings its reply was put behind what was there (IEC 62056-5-3, Get-Response-Normal, Set-Response-Normal and Action-Response-Normal)
+abbrev pub PutsReply : {A : Type 0} → Answers A → A → A → Asked → List ℕ → List ℕ → Type 0
+PutsReply answers old new asked before after = (reply : Reply) × answers old asked.step (Ok reply) new × (after ≡ before ++ apdu_of asked reply)
+
+-- the step that is asked was asked once, whatever was replied (own profile)
+abbrev pub LosesReply : {A : Type 0} → Answers A → A → A → Asked → Type 0
+LosesReply answers old new asked = (reply : Result Reply Memory) × answers old asked.step reply new

@@ -2,7 +2,8 @@
 use Rattle.std.specs.Prelude.{List, [], ◌∷◌, Some, codes, false, map, true}
 use Rattle.clap.specs.Words.{App, Kinds, Rule, Shape, Text, fault_of, new_app, new_rule, with_rule}
 use Rattle.clap.specs.Simple.{new_shape}
-use Rattle.clap.specs.declared.builder.action.ArgAction.TheVariants.{Count, Set}
+use Rattle.clap.specs.declared.builder.action.ArgAction.TheVariants.{Append, Count, Set}
+use Rattle.clap.specs.declared.builder.value_parser.ValueParser.TheVariants.{Unsigned}
 
 -- a file that has to be named (own profile)
 abbrev pub file : Text → Rule
@@ -19,6 +20,22 @@ labels_file = file (codes "labels")
 -- `-v` or `--verbose`, also more than once (own profile)
 abbrev pub verbose : Rule
 verbose = record (new_rule (codes "verbose")) { short = Some 118; long = Some (codes "verbose"); action = Some Count }
+
+-- an option with one value, `--id` (own profile)
+abbrev pub option : Text → Rule
+option id = record (new_rule id) { long = Some id; action = Some Set; value_names = 1 }
+
+-- `--workers N`, which has to stand there: a number from 1 to 64 (own profile)
+abbrev pub workers : Rule
+workers = record (option (codes "workers")) { required = true; parser = Some (Unsigned 1 64) }
+
+-- `--progress`, also more than once (own profile)
+abbrev pub progress : Rule
+progress = record (new_rule (codes "progress")) { long = Some (codes "progress"); action = Some Count }
+
+-- one name or more (own profile)
+abbrev pub names : Rule
+names = record (new_rule (codes "name")) { required = true; action = Some Append; value_names = 1 }
 
 -- `demo` (own profile)
 abbrev pub demo_app : App
@@ -40,6 +57,14 @@ label_app = with_rule (new_app (codes "label")) config_file
 abbrev pub check_app : App
 check_app = with_rule (with_rule (new_app (codes "check")) config_file) labels_file
 
+-- `audit --workers N [--progress] NAME...` (own profile)
+abbrev pub audit_app : App
+audit_app = with_rule (with_rule (with_rule (new_app (codes "audit")) workers) progress) names
+
+-- `session CONFIG` (own profile)
+abbrev pub session_app : App
+session_app = with_rule (new_app (codes "session")) config_file
+
 -- `encode` (own profile)
 abbrev pub encode_app : App
 encode_app = new_app (codes "encode")
@@ -58,7 +83,7 @@ bare_program = record { top = record program { is_leaf = true }; subs = [] }
 
 -- the commands of the program (own profile)
 abbrev pub commands : List App
-commands = demo_app ∷ run_app ∷ edges_app ∷ label_app ∷ check_app ∷ encode_app ∷ decode_app ∷ []
+commands = demo_app ∷ run_app ∷ edges_app ∷ label_app ∷ check_app ∷ audit_app ∷ session_app ∷ encode_app ∷ decode_app ∷ []
 
 -- the program with its commands (own profile)
 abbrev pub app : App

@@ -1,18 +1,25 @@
 -- What the words of a command line ask for. All of it is own profile.
-use Rattle.std.specs.Prelude.{◌==◌, Bool, List, ℕ, Option, Some, None, codes, length, nat_lt, option_and_then, option_map, if◌then◌else◌}
+use Rattle.std.specs.Prelude.{◌==◌, Bool, List, ℕ, Option, Some, None, codes, length, map, nat_lt, option_and_then, option_map}
+use Rattle.std.specs.Prelude.{if◌then◌else◌}
+use Rattle.std.specs.Int.NonZero.{non_zero_usize_get}
 use Rattle.std.specs.Str.{bytes_eq}
-use Rattle.clap.specs.Words.{Row, Text, count_of, first_of, subcommand_of}
+use Rattle.std.specs.Str.Parse.{digits_value, without_leading_plus}
+use Rattle.clap.specs.ValueTests.{is_unsigned_in}
+use Rattle.clap.specs.Words.{Row, Text, all_of, count_of, first_of, one_of, subcommand_of}
 use Rattle.command_words.specs.CommandLine.{app, kinds_of}
 use Rattle.command_words.specs.declared.command.Command.{Command}
 use Rattle.command_words.specs.declared.command.Command.TheVariants as commands
 
--- what is asked for, with the paths of the files that are named (own profile)
+-- what is asked for, with the paths of the files that are named: of an audit how many workers, which names, and whether it is
+-- told how far it is (own profile)
 pub data Asked : Type 0 where
   Demo : Bool → Asked
   Run : List ℕ → Bool → Asked
   Edges : List ℕ → Asked
   Label : List ℕ → Asked
   Check : List ℕ → List ℕ → Asked
+  Audit : ℕ → List (List ℕ) → Bool → Asked
+  Session : List ℕ → Asked
   Encode : Asked
   Decode : Asked
 
@@ -23,6 +30,9 @@ asked_by (commands.Run config is_verbose) = Run config.now is_verbose
 asked_by (commands.Edges config) = Edges config.now
 asked_by (commands.Label config) = Label config.now
 asked_by (commands.Check config labels) = Check config.now labels.now
+asked_by (commands.Audit workers names tells_progress) =
+    Audit (non_zero_usize_get workers) (map (λ name. name.now) names.items) tells_progress
+asked_by (commands.Session config) = Session config.now
 asked_by commands.Encode = Encode
 asked_by commands.Decode = Decode
 
@@ -39,6 +49,30 @@ abbrev pub check_in : List Row → Option Asked
 check_in rows =
     option_and_then (λ config. option_map (Check config) (first_of (codes "labels") rows)) (first_of (codes "config") rows)
 
+-- go on with what was found, if anything was
+infixl 10 ◌>>=◌
+abbrev pub ◌>>=◌ : {A B : Type 0} → Option A → (A → Option B) → Option B
+found >>= f = option_and_then f found
+
+-- the number of a text of decimal digits, a plus before them or not, where it is from `least` to `most` (own profile)
+abbrev pub number_in : ℕ → ℕ → Text → Option ℕ
+number_in least most text = if is_unsigned_in least most text then Some (digits_value 10 (without_leading_plus text)) else None
+
+-- how many workers, at least 1: the option's rule lets no more than 64 through (own profile)
+abbrev pub workers_in : List Row → Option ℕ
+workers_in rows = one_of (codes "workers") rows >>= number_in 1 18446744073709551615
+
+-- whether it is to be told how far an audit is: --progress stands there (own profile)
+abbrev pub tells_progress : List Row → Bool
+tells_progress rows = nat_lt 0 (count_of (codes "progress") rows)
+
+-- how many workers, all names, and whether it is told how far the audit is (own profile)
+abbrev pub audit_in : List Row → Option Asked
+audit_in rows = do
+  workers ← workers_in rows
+  names ← all_of (codes "name") rows
+  Some (Audit workers names (tells_progress rows))
+
 -- a command by its name, and what clap found for it in the words (own profile)
 abbrev pub asked_in : Text × List Row → Option Asked
 asked_in p =
@@ -47,6 +81,8 @@ asked_in p =
     else if bytes_eq p.0 (codes "edges") then option_map Edges (first_of (codes "config") p.1)
     else if bytes_eq p.0 (codes "label") then option_map Label (first_of (codes "config") p.1)
     else if bytes_eq p.0 (codes "check") then check_in p.1
+    else if bytes_eq p.0 (codes "audit") then audit_in p.1
+    else if bytes_eq p.0 (codes "session") then option_map Session (first_of (codes "config") p.1)
     else if bytes_eq p.0 (codes "encode") then Some Encode
     else if bytes_eq p.0 (codes "decode") then Some Decode
     else None

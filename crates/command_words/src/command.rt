@@ -1,18 +1,43 @@
 //! What a command line asks for.
 
+use std::num::NonZeroUsize;
+
 /// What a command line asks for, with the paths of the files that it names (own profile).
-#[derive(Clone, Copy, Debug)]
+#[derive(Debug, Drop)]
 pub enum Command<'a> {
     /// To answer step lines by the demo configuration, and to tell of each line in words where that is asked for.
-    Demo { is_verbose: bool },
+    Demo {
+        is_verbose: bool,
+    },
     /// To answer step lines by a configuration, and to tell of each line in words where that is asked for.
-    Run { config: &'a str, is_verbose: bool },
+    Run {
+        config: &'a str,
+        is_verbose: bool,
+    },
     /// To print the edges of a configuration.
-    Edges { config: &'a str },
+    Edges {
+        config: &'a str,
+    },
     /// To print the least labels of a configuration.
-    Label { config: &'a str },
+    Label {
+        config: &'a str,
+    },
     /// To print the verdict on a configuration and on labels for it.
-    Check { config: &'a str, labels: &'a str },
+    Check {
+        config: &'a str,
+        labels: &'a str,
+    },
+    /// To print the verdicts on configurations and their labels, which so many workers come to, from 1 to 64. Each name stands for
+    /// two files, NAME.toml and NAME.labels. Where that is asked for, it is told how far the audit is.
+    Audit {
+        workers: NonZeroUsize,
+        names: Vec<&'a str>,
+        tells_progress: bool,
+    },
+    /// To answer the frames of one connection by a configuration.
+    Session {
+        config: &'a str,
+    },
     /// To make steps in words into step lines.
     Encode,
     /// To make step lines and replies into words.

@@ -4,7 +4,7 @@ ghost use Rattle.clap.specs.Words.{app_of, new_app, rule_of};
 ghost use Rattle.clap.specs.declared.builder.command.Command.TheViews.{out-Command};
 ghost use Rattle.command_words.specs.CommandLine as spec;
 
-use clap::{Arg, ArgAction, Command};
+use clap::{Arg, ArgAction, Command, value_parser};
 use std::alloc::{AllocError, Global};
 
 /// All commands of the program.
@@ -17,6 +17,8 @@ pub fn all_commands<'a>(alloc: Global) -> Result<Command<'a>, AllocError>
         .subcommand(edges_command(alloc)?)?
         .subcommand(label_command(alloc)?)?
         .subcommand(check_command(alloc)?)?
+        .subcommand(audit_command(alloc)?)?
+        .subcommand(session_command(alloc)?)?
         .subcommand(encode_command(alloc))?
         .subcommand(decode_command(alloc))
 }
@@ -86,6 +88,28 @@ fn check_command<'a>(alloc: Global) -> Result<Command<'a>, AllocError>
         .arg(labels_file(alloc))
 }
 
+fn audit_command<'a>(alloc: Global) -> Result<Command<'a>, AllocError>
+    ensures app { IfOk result (λ c. app_of c ≡ spec.audit_app) }
+    ensures local { IfOk result (λ c. (out-Command c).has_globals ≡ false) }
+{
+    Command::new(alloc, "audit")
+        .about("Print the verdicts on many configurations and their labels")
+        .after_help("Example: cosem-flow audit --workers 4 north south")
+        .arg(workers(alloc))?
+        .arg(progress(alloc))?
+        .arg(names(alloc))
+}
+
+fn session_command<'a>(alloc: Global) -> Result<Command<'a>, AllocError>
+    ensures app { IfOk result (λ c. app_of c ≡ spec.session_app) }
+    ensures local { IfOk result (λ c. (out-Command c).has_globals ≡ false) }
+{
+    Command::new(alloc, "session")
+        .about("Answer the frames of one connection on standard input by a configuration")
+        .after_help("Example: cosem-flow session mine.toml < frames.bin > answers.bin")
+        .arg(config_file(alloc))
+}
+
 fn encode_command<'a>(alloc: Global) -> Command<'a>
     ensures app { app_of result ≡ spec.encode_app }
     ensures local { (out-Command result).has_globals ≡ false }
@@ -138,4 +162,41 @@ fn labels_file<'a>(alloc: Global) -> Arg<'a>
         .action(ArgAction::Set)
         .value_name("LABELS")
         .help("The file of the labels, in the form that `label` prints")
+}
+
+/// How many workers share the work.
+fn workers<'a>(alloc: Global) -> Arg<'a>
+    ensures rule { rule_of result ≡ spec.workers }
+    ensures local { result.global ≡ false }
+{
+    Arg::new(alloc, "workers")
+        .long("workers")
+        .required(true)
+        .action(ArgAction::Set)
+        .value_parser(value_parser!(usize).range(1..=64))
+        .value_name("N")
+        .help("How many workers share the configurations, from 1 to 64")
+}
+
+/// Whether it is told how far an audit is. The launcher `cosem-flow` at the repository's top asks for it on a terminal.
+fn progress<'a>(alloc: Global) -> Arg<'a>
+    ensures rule { rule_of result ≡ spec.progress }
+    ensures local { result.global ≡ false }
+{
+    Arg::new(alloc, "progress")
+        .long("progress")
+        .action(ArgAction::Count)
+        .help("Tell on standard error how far the audit is; the launcher adds this on a terminal")
+}
+
+/// One name or more, each of which stands for two files.
+fn names<'a>(alloc: Global) -> Arg<'a>
+    ensures rule { rule_of result ≡ spec.names }
+    ensures local { result.global ≡ false }
+{
+    Arg::new(alloc, "name")
+        .required(true)
+        .action(ArgAction::Append)
+        .value_name("NAME")
+        .help("The name of two files: the configuration NAME.toml and its labels NAME.labels")
 }

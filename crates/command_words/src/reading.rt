@@ -1,6 +1,7 @@
 //! Command lines, read.
 ghost use Rattle.std.specs.Prelude.{◌≡◌, ◌⊎◌, [], IfErr, IfOk, None, Some, map, option_and_then, option_map};
-ghost use Rattle.clap.specs.Words.{IsAmong, first_of, found_of, rows_of, subcommand_rows_of};
+ghost use Rattle.std.specs.Int.NonZero.{non_zero_usize_get};
+ghost use Rattle.clap.specs.Words.{IsAmong, all_of, first_of, found_of, rows_of, subcommand_rows_of};
 ghost use Rattle.clap.specs.declared.error.kind.ErrorKind.TheVariants.{DisplayHelp, DisplayVersion, MissingSubcommand};
 ghost use Rattle.command_words.specs.Commands as spec;
 ghost use Rattle.command_words.specs.Commands.{asked_by, command_of};
@@ -11,7 +12,8 @@ use crate::command::Command;
 use crate::commands::all_commands;
 use crate::fault::{WordsFault, fault_told};
 use clap::ArgMatches;
-use std::alloc::Global;
+use std::alloc::{AllocError, Global};
+use std::num::NonZeroUsize;
 
 /// What the words of a command line ask for, the program's name first. The error is that they ask for help or the version, that
 /// they are no command, or that memory was refused.
@@ -29,7 +31,7 @@ pub fn read_words<'a>(alloc: Global, words: &'a [&'a str]) -> Result<Command<'a>
         ⊎ HasMistake (kinds_of (map (λ word. word.now) words.now)))) }
 {
     match all_commands(alloc)?.try_get_matches_from(words) {
-        Ok(matches) => match command_in(&matches) {
+        Ok(matches) => match command_in(alloc, &matches)? {
             Some(command) => Ok(command),
             None => Err(nothing_named(alloc)),
         },
@@ -48,41 +50,52 @@ fn nothing_named(alloc: Global) -> WordsFault
 }
 
 /// The command that the matches name.
-fn command_in<'a>(matches: &ArgMatches<'a>) -> Option<Command<'a>>
-    ensures { option_map asked_by result ≡ option_and_then spec.asked_in (subcommand_rows_of matches.now) }
+fn command_in<'a>(
+    alloc: Global,
+    matches: &ArgMatches<'a>,
+) -> Result<Option<Command<'a>>, AllocError>
+    ensures { IfOk result (λ command. option_map asked_by command
+        ≡ option_and_then spec.asked_in (subcommand_rows_of matches.now)) }
 {
-    let (name, found) = matches.subcommand()?;
-    command_named(name, found)
+    match matches.subcommand() {
+        Some((name, found)) => command_named(alloc, name, found),
+        None => Ok(None),
+    }
 }
 
 /// The command of this name, with what was found of its words.
-fn command_named<'a>(name: &str, found: &ArgMatches<'a>) -> Option<Command<'a>>
-    ensures { option_map asked_by result ≡ spec.asked_in (name.now, rows_of (found_of found.now)) }
+fn command_named<'a>(
+    alloc: Global,
+    name: &str,
+    found: &ArgMatches<'a>,
+) -> Result<Option<Command<'a>>, AllocError>
+    ensures { IfOk result (λ command. option_map asked_by command
+        ≡ spec.asked_in (name.now, rows_of (found_of found.now))) }
 {
-    match name {
+    Ok(match name {
         "demo" => Some(Command::Demo {
             is_verbose: is_verbose(found),
         }),
-        "run" => {
-            let config = value(found, "config")?;
-            Some(Command::Run {
-                config,
-                is_verbose: is_verbose(found),
-            })
-        }
-        "edges" => {
-            let config = value(found, "config")?;
-            Some(Command::Edges { config })
-        }
-        "label" => {
-            let config = value(found, "config")?;
-            Some(Command::Label { config })
-        }
+        "run" => run_in(found),
+        "edges" => value(found, "config").map(|config| Command::Edges { config }),
+        "label" => value(found, "config").map(|config| Command::Label { config }),
         "check" => check_in(found),
+        "audit" => audit_in(alloc, found)?,
+        "session" => value(found, "config").map(|config| Command::Session { config }),
         "encode" => Some(Command::Encode),
         "decode" => Some(Command::Decode),
         _ => None,
-    }
+    })
+}
+
+fn run_in<'a>(found: &ArgMatches<'a>) -> Option<Command<'a>>
+    ensures { option_map asked_by result ≡ spec.run_in (rows_of (found_of found.now)) }
+{
+    let config = value(found, "config")?;
+    Some(Command::Run {
+        config,
+        is_verbose: is_verbose(found),
+    })
 }
 
 fn check_in<'a>(found: &ArgMatches<'a>) -> Option<Command<'a>>
@@ -93,6 +106,24 @@ fn check_in<'a>(found: &ArgMatches<'a>) -> Option<Command<'a>>
     Some(Command::Check { config, labels })
 }
 
+fn audit_in<'a>(alloc: Global, found: &ArgMatches<'a>) -> Result<Option<Command<'a>>, AllocError>
+    ensures { IfOk result (λ command. option_map asked_by command
+        ≡ spec.audit_in (rows_of (found_of found.now))) }
+{
+    let Some(workers) = workers(found) else {
+        return Ok(None);
+    };
+    let Some(names) = values(found, "name") else {
+        return Ok(None);
+    };
+    let names = Vec::from_slice(alloc, names)?;
+    Ok(Some(Command::Audit {
+        workers,
+        names,
+        tells_progress: tells_progress(found),
+    }))
+}
+
 /// Whether each line is to be told of.
 fn is_verbose<'a>(found: &ArgMatches<'a>) -> bool
     ensures { result ≡ spec.is_verbose (rows_of (found_of found.now)) }
@@ -100,9 +131,30 @@ fn is_verbose<'a>(found: &ArgMatches<'a>) -> bool
     0 < found.get_count("verbose")
 }
 
+/// Whether it is to be told how far an audit is.
+fn tells_progress<'a>(found: &ArgMatches<'a>) -> bool
+    ensures { result ≡ spec.tells_progress (rows_of (found_of found.now)) }
+{
+    0 < found.get_count("progress")
+}
+
 /// The first value of an argument.
 fn value<'a>(found: &ArgMatches<'a>, id: &str) -> Option<&'a str>
     ensures { option_map (λ text. text.now) result ≡ first_of id.now (rows_of (found_of found.now)) }
 {
     found.get_str(id)
+}
+
+/// All values of an argument.
+fn values<'m, 'a>(found: &'m ArgMatches<'a>, id: &str) -> Option<&'m [&'a str]>
+    ensures { option_map (λ texts. map (λ text. text.now) texts.now) result
+        ≡ all_of id.now (rows_of (found_of found.now)) }
+{
+    found.get_strs(id)
+}
+
+fn workers(found: &ArgMatches<'_>) -> Option<NonZeroUsize>
+    ensures { option_map non_zero_usize_get result ≡ spec.workers_in (rows_of (found_of found.now)) }
+{
+    NonZeroUsize::new(found.get_one("workers")?)
 }

@@ -1,14 +1,21 @@
 //! One case, or a table of them, against what it must give.
 use crate::command::is_done;
+use crate::connection::{is_served, is_told};
 use crate::copies::{with_copies, with_ends};
 use crate::explained::is_explained;
 use crate::translation::is_translated;
+use config_reader::read_config;
+use fleet_audit::judging::verdict_of;
+use fleet_audit::verdict::verdict_text;
 use meter_server::demo::DEMO;
 use meter_server::outcome::Outcome;
-use meter_server::program::{Source, answer_text, verdict_of};
-use meter_server::verdict::verdict_text;
+use meter_server::program::{Source, answer_text};
+use object_model::plan::Plan;
 use std::alloc::Global;
 use std::fs;
+use std::rt::Files;
+use std::thread::Threads;
+use std::time::Clock;
 
 /// The name under which a configuration is explained.
 pub(crate) const FILE: &str = "demo.toml";
@@ -54,6 +61,49 @@ impl Table {
     }
 }
 
+/// What the parts of a table in hex are.
+#[derive(Clone, Copy)]
+enum Hex {
+    /// Connections, one a row.
+    Frames,
+    /// Stories of sessions, which empty lines part.
+    Sessions,
+}
+
+impl Hex {
+    /// The folder with the tables of this kind.
+    fn folder(self) -> &'static str {
+        match self {
+            Hex::Frames => "frames",
+            Hex::Sessions => "sessions",
+        }
+    }
+
+    /// What stands between two parts.
+    fn end(self) -> &'static str {
+        match self {
+            Hex::Frames => "\n",
+            Hex::Sessions => "\n\n",
+        }
+    }
+
+    /// Whether a part is passed over. A story may begin with a comment.
+    fn is_comment(self, part: &str) -> bool {
+        match self {
+            Hex::Frames => part.starts_with('#'),
+            Hex::Sessions => false,
+        }
+    }
+
+    /// Whether a part is as expected over a plan.
+    fn is_well(self, alloc: Global, plan: &Plan, part: &str) -> Option<bool> {
+        match self {
+            Hex::Frames => is_served(alloc, plan, part),
+            Hex::Sessions => is_told(alloc, plan, part),
+        }
+    }
+}
+
 /// How many cases were as expected, and how many fell short.
 #[derive(Drop)]
 pub(crate) struct Tally {
@@ -71,7 +121,11 @@ impl Tally {
     }
 
     /// Tries the case, or the table of cases, of a line of the list.
-    pub(crate) fn count(&mut self, rt: &HostRuntime, line: &str) {
+    pub(crate) fn count(
+        &mut self,
+        rt: &(impl Files + AllocGlobal + Clock + Print + Threads + Sync),
+        line: &str,
+    ) {
         let mut words = line.split(' ');
         match (words.next(), words.next(), words.next(), words.next()) {
             (Some("lines"), Some(configuration), Some(name), None) => {
@@ -91,6 +145,22 @@ impl Tally {
                     self.tell(rt, false, line);
                 }
             }
+            (Some("frames"), Some(configuration), Some(name), None) => {
+                if self
+                    .count_parts(rt, configuration, Hex::Frames, name)
+                    .is_none()
+                {
+                    self.tell(rt, false, line);
+                }
+            }
+            (Some("sessions"), Some(configuration), Some(name), None) => {
+                if self
+                    .count_parts(rt, configuration, Hex::Sessions, name)
+                    .is_none()
+                {
+                    self.tell(rt, false, line);
+                }
+            }
             (Some("explained"), Some(configuration), Some(name), None) => {
                 if self.count_explained(rt, configuration, name).is_none() {
                     self.tell(rt, false, line);
@@ -107,7 +177,12 @@ impl Tally {
     }
 
     /// Counts a case, and tells one that fell short.
-    fn tell(&mut self, rt: &HostRuntime, is_well: bool, case: &str) {
+    fn tell(
+        &mut self,
+        rt: &(impl Files + AllocGlobal + Print + Threads + Sync),
+        is_well: bool,
+        case: &str,
+    ) {
         if is_well {
             self.count = self.count.saturating_add(1);
         } else {
@@ -116,8 +191,36 @@ impl Tally {
         }
     }
 
+    /// Tries each part of a table over a configuration, as a connection or a story of sessions.
+    fn count_parts(
+        &mut self,
+        rt: &(impl Files + AllocGlobal + Print + Threads + Sync),
+        configuration: &str,
+        kind: Hex,
+        name: &str,
+    ) -> Option<()> {
+        let text = read_configuration(rt, configuration)?;
+        let (plan, _policy) = read_config(rt.alloc(), text.as_str()).ok()?;
+        let folder = kind.folder();
+        let path = format!(in rt.alloc(); "{folder}/{name}").ok()?;
+        let table = fs::read_to_string(rt, path.as_str()).ok()?;
+        let table = with_copies(rt.alloc(), table.as_str())?;
+        for part in table.as_str().split(kind.end()) {
+            if !part.is_empty() && !kind.is_comment(part) {
+                let is_well = kind.is_well(rt.alloc(), &plan, part);
+                self.tell(rt, is_well == Some(true), part);
+            }
+        }
+        Some(())
+    }
+
     /// Tries each verdict of a table over a configuration and its labels, with what explains it.
-    fn count_explained(&mut self, rt: &HostRuntime, configuration: &str, name: &str) -> Option<()> {
+    fn count_explained(
+        &mut self,
+        rt: &(impl Files + AllocGlobal + Print + Threads + Sync),
+        configuration: &str,
+        name: &str,
+    ) -> Option<()> {
         let text = read_configuration(rt, configuration)?;
         let labels = read_labels(rt, configuration)?;
         let path = format!(in rt.alloc(); "explained/{name}").ok()?;
@@ -132,7 +235,11 @@ impl Tally {
     }
 
     /// Tries each row of a table of texts that are translated.
-    fn count_translations(&mut self, rt: &HostRuntime, name: &str) -> Option<()> {
+    fn count_translations(
+        &mut self,
+        rt: &(impl Files + AllocGlobal + Print + Threads + Sync),
+        name: &str,
+    ) -> Option<()> {
         let path = format!(in rt.alloc(); "words/{name}").ok()?;
         let rows = fs::read_to_string(rt, path.as_str()).ok()?;
         for row in rows.as_str().split('\n') {
@@ -147,7 +254,7 @@ impl Tally {
     /// Tries each row of a table over a configuration.
     fn count_rows(
         &mut self,
-        rt: &HostRuntime,
+        rt: &(impl Files + AllocGlobal + Print + Threads + Sync),
         table: Option<Table>,
         configuration: &str,
         name: &str,
@@ -169,19 +276,28 @@ impl Tally {
 }
 
 /// The text of a configuration of the cases.
-fn read_configuration(rt: &HostRuntime, name: &str) -> Option<String> {
+fn read_configuration(
+    rt: &(impl Files + AllocGlobal + Print + Threads + Sync),
+    name: &str,
+) -> Option<String> {
     let path = format!(in rt.alloc(); "{name}.toml").ok()?;
     fs::read_to_string(rt, path.as_str()).ok()
 }
 
 /// Whether a configuration has the text of the demo by which the program answers.
-fn is_demo(rt: &HostRuntime, configuration: &str) -> Option<bool> {
+fn is_demo(
+    rt: &(impl Files + AllocGlobal + Print + Threads + Sync),
+    configuration: &str,
+) -> Option<bool> {
     let text = read_configuration(rt, configuration)?;
     Some(text.as_str() == DEMO)
 }
 
 /// The text of the labels of a configuration; of one that has none it is empty.
-fn read_labels(rt: &HostRuntime, name: &str) -> Option<String> {
+fn read_labels(
+    rt: &(impl Files + AllocGlobal + Print + Threads + Sync),
+    name: &str,
+) -> Option<String> {
     let path = format!(in rt.alloc(); "{name}.labels").ok()?;
     match fs::read_to_string(rt, path.as_str()) {
         Ok(text) => Some(text),
@@ -274,7 +390,11 @@ fn is_unreadable(alloc: Global, text: &str, line: &str) -> Option<bool> {
 }
 
 /// Whether the lines of the case give what they must.
-fn is_answered(rt: &HostRuntime, configuration: &str, name: &str) -> Option<bool> {
+fn is_answered(
+    rt: &(impl Files + AllocGlobal + Print + Threads + Sync),
+    configuration: &str,
+    name: &str,
+) -> Option<bool> {
     let alloc = rt.alloc();
     let text = read_configuration(rt, configuration)?;
     let lines = fs::read_to_string(rt, format!(in alloc; "lines/{name}.in").ok()?.as_str()).ok()?;

@@ -2,10 +2,17 @@
 use meter_server::program::run_program;
 use std::alloc::Global;
 use std::fs;
+use std::rt::Files;
+use std::thread::Threads;
+use std::time::Clock;
 
 /// Whether the command line of the case ends with the status and tells what it must: its words are the lines of
 /// `commands/NAME.words`, its input those of `commands/NAME.in`, and `NAME.out` and `NAME.err` have what it must write.
-pub(crate) fn is_done(rt: &HostRuntime, name: &str, status: &str) -> Option<bool> {
+pub(crate) fn is_done(
+    rt: &(impl Files + AllocGlobal + Clock + Print + Threads + Sync),
+    name: &str,
+    status: &str,
+) -> Option<bool> {
     let words = words_of(rt.alloc(), read(rt, name, "words")?.as_str())?;
     let input = read(rt, name, "in")?;
     let mut output = Vec::new(rt.alloc());
@@ -19,7 +26,11 @@ pub(crate) fn is_done(rt: &HostRuntime, name: &str, status: &str) -> Option<bool
 }
 
 /// One of the files of a case; one that isn't there is empty.
-fn read(rt: &HostRuntime, name: &str, part: &str) -> Option<String> {
+fn read(
+    rt: &(impl Files + AllocGlobal + Print + Threads + Sync),
+    name: &str,
+    part: &str,
+) -> Option<String> {
     let path = format!(in rt.alloc(); "commands/{name}.{part}").ok()?;
     match fs::read_to_string(rt, path.as_str()) {
         Ok(text) => Some(text),

@@ -1,7 +1,8 @@
 //! A verdict and what explains it.
 use crate::case::{Edited, FILE};
-use meter_server::program::{Source, explain_verdict, verdict_of};
-use meter_server::verdict::verdict_text;
+use fleet_audit::judging::verdict_of;
+use fleet_audit::verdict::verdict_text;
+use meter_server::program::{Source, explain_verdict};
 use std::alloc::Global;
 
 /// The name under which labels are explained.

@@ -19,11 +19,16 @@
 //!   `line 1: unreadable` and ends the run.
 //! - `words NAME`: each row `encode TEXT => MADE` or `decode TEXT => MADE` of `words/NAME` is a case: this is made of the text, or
 //!   nothing, and MADE is `fault` and what is told of it. In both `\n` and `\r` stand for bytes as below.
+//! - `frames CONFIGURATION NAME`: each row `FRAMES => ANSWERS => END` of `frames/NAME` is a case: a connection over which these
+//!   bytes come, in hex, is answered by these, and ends so; END is `N frames`, or the fault in words.
+//! - `sessions CONFIGURATION NAME`: each story of `sessions/NAME`, which empty lines part, is a case: its lines `SESSION WPORT APDU =>
+//!   ANSWER` are answered so, in their order, by the sessions `first` and `second` on one meter. In both tables spaces may stand
+//!   between hex digits.
 //! - `command NAME STATUS`: the program with the words of `commands/NAME.words`, one a line, and the input `NAME.in` ends
 //!   with this status and writes `NAME.out` on standard output and `NAME.err` on standard error; a file that isn't there is
 //!   empty.
 //!
-//! Each case goes through the calls that the commands of `cosem-flow` make. In lines and in NEW `<<N*TEXT>>` stands for N
+//! Each case goes through the calls that the commands of `cosem-flow` make. In lines, in both tables of hex and in NEW `<<N*TEXT>>` stands for N
 //! copies of the text, with numbers in place of `&$` (`copies`); in OLD and NEW `\n` stands for the end of a line,
 //! and `\r` for the byte that some put before it.
 //!
@@ -32,6 +37,7 @@
 
 mod case;
 mod command;
+mod connection;
 mod copies;
 mod explained;
 mod translation;
@@ -39,6 +45,9 @@ mod translation;
 use case::Tally;
 use std::fs;
 use std::process::ExitCode;
+use std::rt::Files;
+use std::thread::Threads;
+use std::time::Clock;
 
 /// The file that lists the cases, in the current folder.
 const CASES: &str = "cases";
@@ -55,7 +64,9 @@ fn main(rt: HostRuntime) -> ExitCode {
 }
 
 /// Tries each case that is listed, and says whether all came out as they must.
-fn run_cases(rt: &HostRuntime) -> Option<bool> {
+fn run_cases(
+    rt: &(impl Files + AllocGlobal + Clock + Print + Eprint + Threads + Sync),
+) -> Option<bool> {
     let list = fs::read_to_string(rt, CASES).ok()?;
     let mut tally = Tally::new();
     for line in list.as_str().lines() {

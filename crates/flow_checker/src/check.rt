@@ -20,6 +20,7 @@ use object_model::plan::Plan;
 use object_model::policy::Policy;
 use std::alloc::Global;
 use std::marker::Model;
+use std::sync::Arc;
 
 /// Why labels are refused: the first cell, right or edge of the plan that fails the first clause which any fails, or that
 /// memory was refused (own profile). A client is told by its name.
@@ -41,15 +42,23 @@ pub enum Refused {
     Memory,
 }
 
-/// A plan and its policy, for which labels were accepted: only [`check`] makes one (own profile).
+/// A plan and its policy, for which labels were accepted: only [`check`] makes one, and [`Checked::share`] another owner of it
+/// (own profile).
 #[derive(Drop)]
 pub struct Checked {
+    admitted: Arc<Admitted>,
+}
+
+/// What the owners share.
+#[derive(Drop)]
+struct Admitted {
     plan: Plan,
     policy: Policy,
 }
 
 impl Model for Checked {
     ghost use Rattle.flow_checker.specs.Accepted.{Accepted, IsAdmitted};
+    ghost use Rattle.std.specs.Arc.{arc_value};
     ghost use Rattle.std.specs.Coded.{codes};
     ghost use Rattle.meter_theory.specs.PlanCode.{plan_code};
 
@@ -57,9 +66,9 @@ impl Model for Checked {
 
     ghost coded = { Prim.hlevel (codes, plan_code) };
 
-    ghost view = { λ c. record { plan = c.plan; policy = c.policy } };
+    ghost view = { λ c. record { plan = (arc_value c.admitted).plan; policy = (arc_value c.admitted).policy } };
 
-    ghost invariant = { λ c. IsAdmitted (record { plan = c.plan; policy = c.policy }) };
+    ghost invariant = { λ c. IsAdmitted (record { plan = (arc_value c.admitted).plan; policy = (arc_value c.admitted).policy }) };
 }
 
 impl Checked {
@@ -73,7 +82,7 @@ impl Checked {
         ensures secrecy { Secrecy self.now.plan (labelling_of_policy self.now.plan self.now.policy) }
         ensures unequal { UnequalSecrecy self.now.plan (labelling_of_policy self.now.plan self.now.policy) }
     {
-        let _plan = &self.plan;
+        let _admitted = &self.admitted;
         admitted_is_influence_safe();
         admitted_is_secret();
         admitted_is_secret_but_for_quiet_steps();
@@ -83,14 +92,23 @@ impl Checked {
     pub fn plan(&self) -> &Plan
         ensures { result.now ≡ self.now.plan }
     {
-        &self.plan
+        &self.admitted.plan
     }
 
     /// The policy.
     pub fn policy(&self) -> &Policy
         ensures { result.now ≡ self.now.policy }
     {
-        &self.policy
+        &self.admitted.policy
+    }
+
+    /// Another owner of the plan and its policy, neither of which is copied. The only error is that memory was refused.
+    pub fn share(&self) -> Result<Checked, Memory>
+        ensures { IfOk result (λ other. other ≡ self.now) }
+    {
+        Ok(Checked {
+            admitted: Arc::try_clone(&self.admitted)?,
+        })
     }
 }
 
@@ -116,7 +134,10 @@ pub fn check(
     admitted_is_secret();
     admitted_is_secret_but_for_quiet_steps();
     match judged(alloc, &plan, policy, labels) {
-        Ok(policy) => Ok(Checked { plan, policy }),
+        Ok(policy) => match Arc::new(alloc, Admitted { plan, policy }) {
+            Ok(admitted) => Ok(Checked { admitted }),
+            Err(failed) => Err((Refused::Memory, failed.value.plan)),
+        },
         Err(refused) => Err((refused, plan)),
     }
 }

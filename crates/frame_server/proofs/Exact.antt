@@ -10,7 +10,7 @@ use Rattle.meter_theory.specs.Plan.{Plan}
 use Rattle.acse_session.specs.Conversation.{Answers}
 use Rattle.acse_session.specs.Turns.{Turn}
 use Rattle.frame_server.specs.declared.fault.ServeFault.{ServeFault}
-use Rattle.frame_server.specs.declared.fault.ServeFault.TheVariants.{Read, Write, Wrap, Cut, Memory}
+use Rattle.frame_server.specs.declared.fault.ServeFault.TheVariants.{Read, Write, Wrap, Cut, Memory, GaveUp}
 use Rattle.frame_server.specs.Serving.{message_of, messages_of, Connection, Answered, Serves, IsOther}
 
 -- all known bytes are the frames and the rest
@@ -67,6 +67,7 @@ module _ {A : Type 0} (answers : Answers A) (plan : Plan) where
       inl (ap (λ (w : WrapFault). let r : Result ℕ ServeFault = Err (Wrap w) in r) (same-fault input (messages_of s.0) frames (s.1 ++ p.0) rest other fault split (refused-more other s.1 p.0 s.3) t f))
   exact-wrap before after (Err Cut) s input frames rest fault e t f = absurd (exact-partial input (messages_of s.0) frames s.1 rest fault (splits-all before after input s.0 s.1 e s.2 s.5) s.3 t f)
   exact-wrap before after (Err Memory) s input frames rest fault e t f = inr tt
+  exact-wrap before after (Err GaveUp) s input frames rest fault e t f = inr tt
 
   pub exact-cut : (before after : Connection A) (result : Result ℕ ServeFault) → Serves answers plan before after result
       → (input : List ℕ) (frames : List Message) (rest : List ℕ) → before.unread ≡ Some input → Splits input frames rest → IsPartial rest → 0 < length rest → (result ≡ Err Cut) ⊎ IsOther result
@@ -81,6 +82,7 @@ module _ {A : Type 0} (answers : Answers A) (plan : Plan) where
       absurd (exact-partial input frames (messages_of s.0) rest (s.1 ++ q.0) other t p split (refused-more other s.1 q.0 s.3))
   exact-cut before after (Err Cut) s input frames rest e t p l = inl refl
   exact-cut before after (Err Memory) s input frames rest e t p l = inr tt
+  exact-cut before after (Err GaveUp) s input frames rest e t p l = inr tt
 
   pub exact-whole : (before after : Connection A) (result : Result ℕ ServeFault) → Serves answers plan before after result
       → (input : List ℕ) (frames : List Message) → before.unread ≡ Some input → Splits input frames [] → (result ≡ Ok (length frames)) ⊎ IsOther result
@@ -97,3 +99,4 @@ module _ {A : Type 0} (answers : Answers A) (plan : Plan) where
       let one = one_reading input (messages_of s.0) frames s.1 [] (splits-all before after input s.0 s.1 e s.2 s.5) t (inl s.3) (inl (inl (omega arith))) in
       absurd (omega (arith, s.4, ap (λ (x : List ℕ). length x) one.1))
   exact-whole before after (Err Memory) s input frames e t = inr tt
+  exact-whole before after (Err GaveUp) s input frames e t = inr tt

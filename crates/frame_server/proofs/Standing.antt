@@ -16,7 +16,7 @@ use Rattle.acse_session.specs.Turns.{Turn}
 use Rattle.acse_session.specs.Answering.{IsSpoken, kept_of}
 use Rattle.acse_session.specs.Keeping.{Kept}
 use Rattle.frame_server.specs.declared.fault.ServeFault.{ServeFault}
-use Rattle.frame_server.specs.declared.fault.ServeFault.TheVariants.{Read, Write, Wrap, Cut, Memory}
+use Rattle.frame_server.specs.declared.fault.ServeFault.TheVariants.{Read, Write, Wrap, Cut, Memory, GaveUp}
 use Rattle.frame_server.specs.Serving.{message_of, messages_of, answer_of, answers_of, conversation_of, Connection, Served, Answered, BeginsWithFrame, Stops, Serves, Run, Talks, AnswersAll, BreaksOff, stop_of_fault}
 use Rattle.frame_server.proofs.Talking.{Talks-append}
 
@@ -90,6 +90,19 @@ module _ {A : Type 0} (answers : Answers A) (plan : Plan) where
     spoken = spoken-from_run plan turns session t.run;
   }
 
+  -- all that came next were answered
+  joined : (before between after : Connection A) (session to : Kept) (turns us : List Turn)
+      → Talks answers before.asker between.asker before.written between.written (kept_of plan []) session turns (conversation_of turns) (answers_of turns)
+      → Talks answers between.asker after.asker between.written after.written session to us (conversation_of us) (answers_of us)
+      → Talks answers before.asker after.asker before.written after.written (kept_of plan []) to (turns ++ us) (conversation_of (turns ++ us)) (answers_of (turns ++ us))
+  joined before between after session to turns us t u =
+      let talks = Talks-append answers before.asker between.asker after.asker before.written between.written after.written (kept_of plan []) session to turns us (conversation_of us) (answers_of us) t u in
+      record {
+        run = talks.run;
+        asked = subst (λ (xs : List Exchange). Leads answers before.asker xs after.asker) (sym (flat_map-append (λ (v : Turn). asked_list v.asked) turns us)) talks.asked;
+        wrote = subst (Appends before.written after.written) (sym (flat_map-append answer_of turns us)) talks.wrote;
+      }
+
   -- Frames that came next were answered, but for one.
   pub stops-in : (before between after : Connection A) (session to : Kept) (turns : List Turn) (read piece : List ℕ) (frames : List Message) (fault : Option WrapFault) (feeder : Option (List ℕ)) (e : ServeFault)
       → Talks answers before.asker between.asker before.written between.written (kept_of plan []) session turns (conversation_of turns) (answers_of turns)
@@ -108,6 +121,16 @@ module _ {A : Type 0} (answers : Answers A) (plan : Plan) where
         subst (λ (xs : List Exchange). Served answers plan before after (turns ++ h.0) (frames_of h.1 ++ s.0) xs (answers_of turns ++ h.2)) (sym (flat_map-append (λ (u : Turn). asked_list u.asked) turns h.0))
             (served before after h.3 (turns ++ h.0) (read ++ piece) (frames_of h.1 ++ s.0) (conversation_of turns ++ conversation_of h.0) (answers_of turns ++ h.2) cut r talks),
         breaks-behind turns h.0 h.2 h.6,
+      )
+  stops-in before between after session to turns read piece frames fault feeder GaveUp t r f h =
+      let s = Reads-splits (read ++ piece) (messages_of turns ++ frames) fault feeder f in
+      let split = ap (λ (ms : List Message). messages_of turns ++ ms) h.3 ∙ sym (append_assoc (messages_of turns) (messages_of h.0) (h.1 ∷ h.2)) ∙ ap (λ (ms : List Message). ms ++ h.1 ∷ h.2) (sym (map-append message_of turns h.0)) in
+      let all = subst (λ (ms : List Message). Splits (read ++ piece) ms s.0) split s.1 in
+      let cut = Splits-cut (read ++ piece) (messages_of (turns ++ h.0)) (h.1 ∷ h.2) s.0 all in (
+        turns ++ h.0,
+        frames_of (h.1 ∷ h.2) ++ s.0,
+        served before after to (turns ++ h.0) (read ++ piece) (frames_of (h.1 ∷ h.2) ++ s.0) (conversation_of (turns ++ h.0)) (answers_of (turns ++ h.0)) cut r (joined before between after session to turns h.0 t h.4),
+        begins-there (read ++ piece) (messages_of (turns ++ h.0)) h.1 h.2 s.0 all,
       )
   stops-in before between after session to turns read piece frames fault feeder Memory t r f h =
       let s = Reads-splits (read ++ piece) (messages_of turns ++ frames) fault feeder f in
@@ -128,19 +151,6 @@ module _ {A : Type 0} (answers : Answers A) (plan : Plan) where
   stops-in before between after session to turns read piece frames fault feeder Read t r f h = absurd h
   stops-in before between after session to turns read piece frames fault feeder (Wrap w) t r f h = absurd h
   stops-in before between after session to turns read piece frames fault feeder Cut t r f h = absurd h
-
-  -- all that came next were answered
-  joined : (before between after : Connection A) (session to : Kept) (turns us : List Turn)
-      → Talks answers before.asker between.asker before.written between.written (kept_of plan []) session turns (conversation_of turns) (answers_of turns)
-      → Talks answers between.asker after.asker between.written after.written session to us (conversation_of us) (answers_of us)
-      → Talks answers before.asker after.asker before.written after.written (kept_of plan []) to (turns ++ us) (conversation_of (turns ++ us)) (answers_of (turns ++ us))
-  joined before between after session to turns us t u =
-      let talks = Talks-append answers before.asker between.asker after.asker before.written between.written after.written (kept_of plan []) session to turns us (conversation_of us) (answers_of us) t u in
-      record {
-        run = talks.run;
-        asked = subst (λ (xs : List Exchange). Leads answers before.asker xs after.asker) (sym (flat_map-append (λ (v : Turn). asked_list v.asked) turns us)) talks.asked;
-        wrote = subst (Appends before.written after.written) (sym (flat_map-append answer_of turns us)) talks.wrote;
-      }
 
   -- and then a fault stands
   pub stops-after : (before between after : Connection A) (session to : Kept) (turns us : List Turn) (read piece : List ℕ) (frames : List Message) (fault : WrapFault) (feeder : Option (List ℕ))

@@ -10,7 +10,7 @@ use Rattle.acse_session.specs.Turns.{Turn}
 use Rattle.acse_session.specs.Answering.{Speaks}
 use Rattle.acse_session.specs.Keeping.{Kept}
 use Rattle.frame_server.specs.declared.fault.ServeFault.{ServeFault}
-use Rattle.frame_server.specs.declared.fault.ServeFault.TheVariants.{Read, Write, Wrap, Cut, Memory}
+use Rattle.frame_server.specs.declared.fault.ServeFault.TheVariants.{Read, Write, Wrap, Cut, Memory, GaveUp}
 use Rattle.frame_server.specs.Serving.{message_of, messages_of, answer_of, answers_of, conversation_of, Run, Talks, AnswersOne, AnswersAll}
 
 -- ---- one turn more
@@ -87,6 +87,8 @@ module _ {A : Type 0} (answers : Answers A) where
       wrote = subst (λ (w : Option (List ℕ)). Appends w0 w (answers_of turns)) (sym h.2) k.wrote;
     },
   )
+  stops-there old mid new w0 w1 w2 s0 s1 s2 turns messages f more GaveUp split k h =
+      (turns, f, more, split, rw (h.0, h.1, h.2) k)
   stops-there old mid new w0 w1 w2 s0 s1 s2 turns messages f more Read split k h = absurd h
   stops-there old mid new w0 w1 w2 s0 s1 s2 turns messages f more (Wrap fault) split k h = absurd h
   stops-there old mid new w0 w1 w2 s0 s1 s2 turns messages f more Cut split k h = absurd h

@@ -12,7 +12,7 @@ use Rattle.acse_session.specs.Turns.{Turn}
 use Rattle.acse_session.specs.Answering.{Speaks, IsSpoken}
 use Rattle.acse_session.specs.Keeping.{Kept}
 use Rattle.frame_server.specs.declared.fault.ServeFault.{ServeFault}
-use Rattle.frame_server.specs.declared.fault.ServeFault.TheVariants.{Read, Write, Wrap, Cut, Memory}
+use Rattle.frame_server.specs.declared.fault.ServeFault.TheVariants.{Read, Write, Wrap, Cut, Memory, GaveUp}
 
 -- ---- a list of turns as bytes
 
@@ -84,6 +84,9 @@ Stops answers plan before after Cut =
 -- the frame that met it may have been asked for
 Stops answers plan before after Memory =
     (turns : List Turn) × (rest : List ℕ) × (last : Option Exchange) × Served answers plan before after turns rest (conversation_of turns ++ asked_list last) (answers_of turns) × (IsSome last → BeginsWithFrame rest)
+-- the frame before which the seat gave up wasn't answered
+Stops answers plan before after GaveUp =
+    (turns : List Turn) × (rest : List ℕ) × Answered answers plan before after turns rest × BeginsWithFrame rest
 
 abbrev pub Serves : {A : Type 0} → Answers A → Plan → Connection A → Connection A → Result ℕ ServeFault → Type 0
 Serves answers plan before after (Ok count) =
@@ -98,6 +101,7 @@ IsOther (Err Write) = Unit {0}
 IsOther (Err (Wrap fault)) = ⊥
 IsOther (Err Cut) = ⊥
 IsOther (Err Memory) = Unit {0}
+IsOther (Err GaveUp) = Unit {0}
 
 -- ---- the parts
 
@@ -127,6 +131,7 @@ AnswersOne answers old new before after from to message (Err Write) =
     (turn : Turn) × (front : List ℕ) × (left : List ℕ) × (message_of turn ≡ message) × Speaks from to turn × Leads answers old (asked_list turn.asked) new × Appends before after front × (answer_of turn ≡ front ++ left) × (0 < length left)
 AnswersOne answers old new before after from to message (Err Memory) =
     (last : Option Exchange) × Leads answers old (asked_list last) new × (after ≡ before)
+AnswersOne answers old new before after from to message (Err GaveUp) = (new ≡ old) × (to ≡ from) × (after ≡ before)
 AnswersOne answers old new before after from to message (Err Read) = ⊥
 AnswersOne answers old new before after from to message (Err (Wrap fault)) = ⊥
 AnswersOne answers old new before after from to message (Err Cut) = ⊥
@@ -139,6 +144,8 @@ AnswersAll answers old new before after from to messages (Err Write) =
     (turns : List Turn) × (more : List Message) × (written : List ℕ) × (between : Kept) × (messages ≡ messages_of turns ++ more) × Talks answers old new before after from between turns (conversation_of turns) written × BreaksOff turns written
 AnswersAll answers old new before after from to messages (Err Memory) =
     (turns : List Turn) × (f : Message) × (more : List Message) × (last : Option Exchange) × (between : Kept) × (messages ≡ messages_of turns ++ f ∷ more) × Talks answers old new before after from between turns (conversation_of turns ++ asked_list last) (answers_of turns)
+AnswersAll answers old new before after from to messages (Err GaveUp) =
+    (turns : List Turn) × (f : Message) × (more : List Message) × (messages ≡ messages_of turns ++ f ∷ more) × Talks answers old new before after from to turns (conversation_of turns) (answers_of turns)
 AnswersAll answers old new before after from to messages (Err Read) = ⊥
 AnswersAll answers old new before after from to messages (Err (Wrap fault)) = ⊥
 AnswersAll answers old new before after from to messages (Err Cut) = ⊥

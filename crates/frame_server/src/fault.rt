@@ -20,6 +20,8 @@ pub enum ServeFault {
     Cut,
     /// Memory was refused.
     Memory,
+    /// The gate had the seat give up.
+    GaveUp,
 }
 
 impl fmt::Display for ServeFault {
@@ -35,6 +37,7 @@ impl fmt::Display for ServeFault {
             ServeFault::Wrap(fault) => write!(f, "{fault}"),
             ServeFault::Cut => f.write_str("input ended inside a frame"),
             ServeFault::Memory => f.write_str("out of memory"),
+            ServeFault::GaveUp => f.write_str("the seat gave up"),
         }
     }
 }

@@ -1,5 +1,5 @@
 //! The frames of a connection are answered, one after another.
-ghost use Rattle.std.specs.Prelude.{◌≡◌, ◌≤◌, ◌<◌, ◌⊎◌, List, ℕ, [], length, Some, Ok, Err};
+ghost use Rattle.std.specs.Prelude.{◌≡◌, ◌≢◌, ◌≤◌, ◌<◌, ◌⊎◌, List, ℕ, [], length, Some, Ok, Err};
 ghost use Rattle.tcp_wrapper.specs.Stream.{Splits, Refuses, IsPartial};
 ghost use Rattle.tcp_wrapper.specs.declared.message.Message.{Message as MessageValue};
 ghost use Rattle.tcp_wrapper.specs.declared.fault.WrapFault.{WrapFault as FaultValue};
@@ -9,6 +9,7 @@ use crate::fault::ServeFault;
 use crate::writing::write_whole;
 use acse_session::asker::Asker;
 use acse_session::session::Session;
+use gates::{Gate, Go, Open};
 use object_model::plan::Plan;
 use std::alloc::Global;
 use std::io::{Read, Write};
@@ -20,6 +21,15 @@ use tcp_wrapper::message::Message;
 /// How many bytes are read at once at most.
 const PIECE: usize = 65536;
 
+/// A seat, by its number, and the gate before which its frames wait.
+#[derive(Drop)]
+pub struct Seat<'g, G: Gate> {
+    /// The number, from 0.
+    pub number: usize,
+    /// What stands before and behind each answer.
+    pub gate: &'g G,
+}
+
 /// Answers the frames that the reader gives, one after another, and says how many there were.
 ///
 /// Each frame's answer is written before the next frame is answered, and the answers to all frames of a piece before the next read. It
@@ -27,7 +37,7 @@ const PIECE: usize = 65536;
 ///
 /// # Errors
 /// Where a fault ends the connection, the answers to the frames before it were written, but after `Write` what was written breaks off
-/// in an answer. After `Write` and `Memory` the step of the frame that was being answered may have been taken.
+/// in an answer. After `Write` and `Memory` the step of the frame that was being answered may have been taken. No seat gives up.
 pub fn serve<R: Read, W: Write, A: Asker>(
     alloc: Global,
     reader: &mut R,
@@ -51,23 +61,65 @@ pub fn serve<R: Read, W: Write, A: Asker>(
     // Where the input is whole frames, all are answered.
     ensures whole { (input : List ℕ) (frames : List MessageValue) →
         R.remaining reader.old ≡ Some input → Splits input frames [] → (result ≡ Ok (length frames)) ⊎ IsOther result }
+    ensures goes_on { result ≢ Err ServeFault.GaveUp }
     ensures plan { A.plan_of asker.new ≡ plan.now }
 {
-    answer_input(alloc, reader, writer, plan, asker)
+    let seat = Seat {
+        number: 0,
+        gate: &Open,
+    };
+    serve_gated(alloc, reader, writer, plan, asker, &seat)
 }
 
-/// As `serve`, of which the other clauses follow.
-fn answer_input<R: Read, W: Write, A: Asker>(
+/// Answers the frames that the reader gives as `serve` does, at a seat. The gate stands before each frame that was read whole, and is
+/// told once its answer was written.
+///
+/// # Errors
+/// As `serve`; and `GaveUp` where the gate had the seat give up, before a frame that was then not answered.
+pub fn serve_gated<R: Read, W: Write, A: Asker, G: Gate>(
     alloc: Global,
     reader: &mut R,
     writer: &mut W,
     plan: &Plan,
     asker: &mut A,
+    seat: &Seat<'_, G>,
+) -> Result<u64, ServeFault>
+    requires { A.plan_of asker.old ≡ plan.now }
+    // What was read, written and asked.
+    ensures serves { Serves A.answers plan.now
+        (record { asker = asker.old; unread = R.remaining reader.old; written = W.contents writer.old })
+        (record { asker = asker.new; unread = R.remaining reader.new; written = W.contents writer.new }) result }
+    // Where a wrong header stands in a frame's place, that is the end.
+    ensures wrong_header { (input : List ℕ) (frames : List MessageValue) (rest : List ℕ) (fault : FaultValue) →
+        R.remaining reader.old ≡ Some input → Splits input frames rest → Refuses fault rest →
+        (result ≡ Err (ServeFault.Wrap fault)) ⊎ IsOther result }
+    // Where the input ends inside a frame, that is the end.
+    ensures cut { (input : List ℕ) (frames : List MessageValue) (rest : List ℕ) →
+        R.remaining reader.old ≡ Some input → Splits input frames rest → IsPartial rest → 0 < length rest →
+        (result ≡ Err ServeFault.Cut) ⊎ IsOther result }
+    // Where the input is whole frames, all are answered.
+    ensures whole { (input : List ℕ) (frames : List MessageValue) →
+        R.remaining reader.old ≡ Some input → Splits input frames [] → (result ≡ Ok (length frames)) ⊎ IsOther result }
+    ensures gave_up { result ≡ Err ServeFault.GaveUp → G.may_give_up seat.now.gate.now seat.now.number }
+    ensures plan { A.plan_of asker.new ≡ plan.now }
+{
+    answer_input(alloc, reader, writer, plan, asker, seat)
+}
+
+/// As `serve_gated`, of which the other clauses follow.
+fn answer_input<R: Read, W: Write, A: Asker, G: Gate>(
+    alloc: Global,
+    reader: &mut R,
+    writer: &mut W,
+    plan: &Plan,
+    asker: &mut A,
+    seat: &Seat<'_, G>,
 ) -> Result<u64, ServeFault>
     requires { A.plan_of asker.old ≡ plan.now }
     ensures serves { Serves A.answers plan.now
         (record { asker = asker.old; unread = R.remaining reader.old; written = W.contents writer.old })
         (record { asker = asker.new; unread = R.remaining reader.new; written = W.contents writer.new }) result }
+    ensures gave_up { result ≡ Err ServeFault.GaveUp → G.may_give_up seat.now.gate.now seat.now.number }
     ensures plan { A.plan_of asker.new ≡ plan.now }
 {
     let mut feeder = Feeder::new(alloc);
@@ -91,7 +143,7 @@ fn answer_input<R: Read, W: Write, A: Asker>(
         };
         total = sum;
         let fed = feeder.feed(alloc, &buffer[..count]);
-        answer_all(alloc, writer, &mut session, asker, &fed.frames)?;
+        answer_all(alloc, writer, &mut session, asker, &fed.frames, seat)?;
         answered += fed.frames.len() as u64;
         if let Some(fault) = fed.fault {
             return Err(stop_of(fault));
@@ -111,39 +163,47 @@ fn stop_of(fault: WrapFault) -> ServeFault
 }
 
 /// Answers what some frames brought.
-fn answer_all<W: Write, A: Asker>(
+fn answer_all<W: Write, A: Asker, G: Gate>(
     alloc: Global,
     writer: &mut W,
     session: &mut Session<'_>,
     asker: &mut A,
     messages: &[Message],
+    seat: &Seat<'_, G>,
 ) -> Result<(), ServeFault>
     requires { A.plan_of asker.old ≡ session.old.plan }
+    ensures gave_up { result ≡ Err ServeFault.GaveUp → G.may_give_up seat.now.gate.now seat.now.number }
     ensures all { AnswersAll A.answers asker.old asker.new (W.contents writer.old) (W.contents writer.new) session.old session.new messages.now result }
     ensures plan { A.plan_of asker.new ≡ A.plan_of asker.old }
     ensures same_plan { session.new.plan ≡ session.old.plan }
 {
     for message in messages {
-        answer_one(alloc, writer, session, asker, message)?;
+        answer_one(alloc, writer, session, asker, message, seat)?;
     }
     Ok(())
 }
 
-/// Answers what a frame brought.
-fn answer_one<W: Write, A: Asker>(
+/// Answers what a frame brought, once the gate lets it.
+fn answer_one<W: Write, A: Asker, G: Gate>(
     alloc: Global,
     writer: &mut W,
     session: &mut Session<'_>,
     asker: &mut A,
     message: &Message,
+    seat: &Seat<'_, G>,
 ) -> Result<(), ServeFault>
     requires { A.plan_of asker.old ≡ session.old.plan }
+    ensures gave_up { result ≡ Err ServeFault.GaveUp → G.may_give_up seat.now.gate.now seat.now.number }
     ensures one { AnswersOne A.answers asker.old asker.new (W.contents writer.old) (W.contents writer.new) session.old session.new message.now result }
     ensures plan { A.plan_of asker.new ≡ A.plan_of asker.old }
     ensures same_plan { session.new.plan ≡ session.old.plan }
 {
+    if seat.gate.before(seat.number) == Go::GaveUp {
+        return Err(ServeFault::GaveUp);
+    }
     let answer = session.answer(alloc, message.source, message.apdu.as_slice(), asker)?;
     let bytes = frame(alloc, SERVER_PORT, message.source, &answer)?;
     write_whole(writer, &bytes)?;
+    seat.gate.after(seat.number);
     Ok(())
 }

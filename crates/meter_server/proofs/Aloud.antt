@@ -6,15 +6,16 @@ use Rattle.meter_theory.specs.Plan.{start}
 use Rattle.meter_theory.specs.State.{State}
 use Rattle.line_words.specs.Telling.{told_text}
 use Rattle.step_words.specs.StepLines.{decoded_step}
-use Rattle.meter_server.specs.declared.running.LineFault.{LineFault}
-use Rattle.meter_server.specs.declared.running.LineFault.TheVariants.{Write}
-use Rattle.meter_server.specs.Lines.{Moment, Turn, lines_of, Leads, Hears, EndsWith, Ends, IsTextFor, Breaks, AnswersAll}
-use Rattle.meter_server.specs.Running.{RunsLines, tasks_in}
-use Rattle.meter_server.specs.Spelling.{line_of}
-use Rattle.meter_server.specs.Solo.{Solo, AnswersLine, StopsAtLine, told}
+use Rattle.acse_session.specs.Solo.{Alone}
+use Rattle.line_server.specs.declared.running.LineFault.{LineFault}
+use Rattle.line_server.specs.declared.running.LineFault.TheVariants.{Write}
+use Rattle.line_server.specs.Lines.{Moment, Turn, lines_of, Leads, Hears, EndsWith, Ends, IsTextFor, Breaks, AnswersAll}
+use Rattle.line_server.specs.Running.{RunsLines, tasks_in}
+use Rattle.line_server.specs.Spelling.{line_of}
+use Rattle.line_server.specs.Solo.{AnswersLine, StopsAtLine, told}
 use Rattle.meter_server.specs.Watching.{Watched, AnswersAloud, StopsAloud, Tells, TellsAll, meter_behind, telling, tellings}
-use Rattle.meter_server.proofs.Alone.{runs}
-use Rattle.meter_server.proofs.Taking.{Leads-push, lines-push}
+use Rattle.line_server.proofs.Alone.{runs}
+use Rattle.line_server.proofs.Taking.{Leads-push, lines-push}
 
 -- ---- the meter alone
 
@@ -106,7 +107,7 @@ line-told : (old new : Watched) (number : ℕ) (line text : List ℕ) → Answer
     → told_text number (decoded_step line) text old.solo.meter new.solo.meter ≡ telling old.solo.plan number old.solo.meter line
 line-told old new number line text a =
     ap (λ (t : List ℕ). told_text number (decoded_step line) t old.solo.meter new.solo.meter) a.1
-    ∙ ap (λ (s : Solo). told_text number (decoded_step line) (told old.solo.plan old.solo.meter (tasks_in old.solo.plan (line_of old.solo.plan line))) old.solo.meter s.meter) a.2
+    ∙ ap (λ (s : Alone). told_text number (decoded_step line) (told old.solo.plan old.solo.meter (tasks_in old.solo.plan (line_of old.solo.plan line))) old.solo.meter s.meter) a.2
 
 led-told : (old new : Watched) (count : ℕ) (turns : List Turn) (text : List ℕ) (start : Option (List ℕ)) → Leads AnswersAloud old count turns new → Told text old.watch start old.told
     → Told (text ++ tellings old.solo.plan count old.solo.meter (lines_of turns)) new.watch start new.told
@@ -122,7 +123,7 @@ led-told old new count (turn ∷ turns) text start l t =
     in
     let others = led-told mid new (count + 1) turns (text ++ one) start l.2 first in
     subst (λ (x : List ℕ). Told x new.watch start new.told) (append_assoc text one (tellings plan (count + 1) (meter_behind plan meter turn.line) (lines_of turns)))
-    (subst (λ (s : Solo). Told ((text ++ one) ++ tellings s.plan (count + 1) s.meter (lines_of turns)) new.watch start new.told) l.1.0.2 others)
+    (subst (λ (s : Alone). Told ((text ++ one) ++ tellings s.plan (count + 1) s.meter (lines_of turns)) new.watch start new.told) l.1.0.2 others)
 
 all-told : (old new : Watched) (turns : List Turn) → Leads AnswersAloud old 0 turns new → Told (tellings old.solo.plan 0 old.solo.meter (lines_of turns)) new.watch old.told new.told
 all-told old new turns l = led-told old new 0 turns [] old.told l (record { front = []; left = []; is = refl; told = Appends-nil old.told; all = λ held e. refl })

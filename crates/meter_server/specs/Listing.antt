@@ -7,7 +7,7 @@ use Rattle.meter_theory.specs.declared.flow.Edge.{Edge}
 use Rattle.explanations.specs.Cells.{cause_word, edge_text}
 use Rattle.flow_edges.specs.declared.table.Link.{Link}
 use Rattle.label_certificate.specs.LabelText.{text_of_labels}
-use Rattle.meter_server.specs.Lines.{ended}
+use Rattle.line_server.specs.Lines.{ended}
 use Rattle.meter_server.specs.declared.listing.ListFault.{ListFault}
 use Rattle.meter_server.specs.declared.listing.ListFault.TheVariants as faults
 

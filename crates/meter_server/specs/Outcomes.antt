@@ -1,28 +1,36 @@
 -- What the program tells whoever started it of how a command ended (own profile throughout).
 use Rattle.std.specs.Fmt.{decimal}
-use Rattle.std.specs.Prelude.{ℕ, List, [], ◌++◌, string_bytes, codes, Result, Ok, Err}
+use Rattle.std.specs.Prelude.{ℕ, List, [], ◌++◌, if◌then◌else◌, string_bytes, codes, Result, Ok, Err}
 use Rattle.command_words.specs.declared.fault.WordsFault.{WordsFault}
 use Rattle.command_words.specs.declared.fault.WordsFault.TheVariants as words
 use Rattle.explanations.specs.Files as files
 use Rattle.explanations.specs.Printable.{printable}
 use Rattle.explanations.specs.declared.file.FileFault.{FileFault}
-use Rattle.meter_server.specs.Faults.{fault_words, reason_words}
+use Rattle.fleet_audit.specs.Faults as audits
+use Rattle.frame_server.specs.Faults.{serve_fault_words}
+use Rattle.frame_server.specs.declared.fault.ServeFault.{ServeFault}
+use Rattle.line_server.specs.Faults.{fault_words, reason_words}
 use Rattle.meter_server.specs.Listing as lists
 use Rattle.meter_server.specs.Translating as translations
-use Rattle.meter_server.specs.Verdicts.{verdict_line}
+use Rattle.fleet_audit.specs.Verdicts.{verdict_line}
 use Rattle.meter_server.specs.declared.listing.ListFault.{ListFault}
 use Rattle.meter_server.specs.declared.outcome.Outcome.{Outcome}
-use Rattle.meter_server.specs.declared.outcome.Outcome.TheVariants.{Done, Judged, Words, Unread, Fault, Unwritten, Untranslated}
-use Rattle.meter_server.specs.declared.running.LineFault.{LineFault}
-use Rattle.meter_server.specs.declared.running.LineFault.TheVariants.{Line}
+use Rattle.meter_server.specs.declared.outcome.Outcome.TheVariants.{Done, Judged, Words, Unread, Fault, Broken, Audited, Unaudited, Unwritten, Untranslated}
+use Rattle.line_server.specs.declared.running.LineFault.{LineFault}
+use Rattle.line_server.specs.declared.running.LineFault.TheVariants.{Line}
 use Rattle.meter_server.specs.declared.translating.TranslationFault.{TranslationFault}
-use Rattle.meter_server.specs.declared.verdict.Verdict.{Verdict}
-use Rattle.meter_server.specs.declared.verdict.Verdict.TheVariants.{Accepted, Config, Labels, Refused}
+use Rattle.fleet_audit.specs.declared.verdict.Verdict.{Verdict}
+use Rattle.fleet_audit.specs.declared.verdict.Verdict.TheVariants.{Accepted, Config, Labels, Refused}
 
 -- how a command ended whose lines were answered so
 abbrev pub outcome_of : Result ℕ LineFault → Outcome
 outcome_of (Ok count) = Done
 outcome_of (Err fault) = Fault fault
+
+-- how a command ended whose connection was served so
+abbrev pub served : Result ℕ ServeFault → Outcome
+served (Ok count) = Done
+served (Err fault) = Broken fault
 
 -- how a command ended whose list was written so
 abbrev pub listed : Result (Unit {0}) ListFault → Outcome
@@ -55,12 +63,16 @@ status_of (Judged verdict explanation) = status_of_verdict verdict
 status_of (Words fault) = status_of_words fault
 status_of (Unread file why) = 3
 status_of (Fault fault) = 3
+status_of (Broken fault) = 3
+status_of (Audited text accepts) = if accepts then 0 else 1
+status_of (Unaudited fault) = 3
 status_of (Unwritten fault) = 3
 status_of (Untranslated fault) = 3
 
--- what standard output tells behind what the command wrote: its verdict, help or the version
+-- what standard output tells behind what the command wrote: its verdict or verdicts, help or the version
 abbrev pub output_of : Outcome → List ℕ
 output_of (Judged verdict explanation) = verdict_line verdict
+output_of (Audited text accepts) = string_bytes text
 output_of (Words (words.Help text)) = string_bytes text
 output_of (Words (words.Version text)) = string_bytes text
 output_of _ = []
@@ -80,5 +92,8 @@ error_of (Words words.Memory) = codes "cosem-flow: out of memory\n"
 error_of (Unread file why) = unread_line (string_bytes file) why
 error_of (Fault (Line number why)) = codes "cosem-flow: line " ++ (decimal number ++ (codes ": " ++ (reason_words why ++ codes "\n")))
 error_of (Fault fault) = codes "cosem-flow: " ++ (fault_words fault ++ codes "\n")
+error_of (Audited text accepts) = []
+error_of (Unaudited fault) = codes "cosem-flow: " ++ (audits.fault_words fault ++ codes "\n")
+error_of (Broken fault) = codes "cosem-flow: " ++ (serve_fault_words fault ++ codes "\n")
 error_of (Unwritten fault) = codes "cosem-flow: " ++ (lists.fault_words fault ++ codes "\n")
 error_of (Untranslated fault) = codes "cosem-flow: " ++ (translations.fault_words fault ++ codes "\n")

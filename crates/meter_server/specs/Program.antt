@@ -6,7 +6,6 @@ use Rattle.command_words.specs.CommandLine.{kinds_of}
 use Rattle.command_words.specs.Commands.{command_of}
 use Rattle.command_words.specs.Faults.{HasMistake}
 use Rattle.command_words.specs.declared.fault.WordsFault.TheVariants as words
-use Rattle.config_rules.specs.Faultless.{IsPolicyOf}
 use Rattle.config_rules.specs.PlanOf.{plan_of}
 use Rattle.config_text.specs.Fault.{Fault as ConfigFault, Fails}
 use Rattle.config_text.specs.Parts.{ConfigText}
@@ -14,23 +13,17 @@ use Rattle.config_text.specs.declared.fault.ConfigFault.{ConfigFault as FaultTol
 use Rattle.explanations.specs.Config.{Explains}
 use Rattle.explanations.specs.Labels as label_words
 use Rattle.explanations.specs.Refusals as refusal_words
-use Rattle.flow_checker.specs.Answer.{IsRefusedAs}
-use Rattle.label_certificate.specs.Faults as label_faults
-use Rattle.label_certificate.specs.LabelText.{labels_of_text}
 use Rattle.meter_theory.specs.Edges.{edges}
-use Rattle.meter_theory.specs.Labels as theory
-use Rattle.meter_theory.specs.Labels.{Admits, Policy, labelling_of_policy}
-use Rattle.meter_theory.specs.Plan.{Plan}
-use Rattle.meter_server.specs.Lines.{Moment}
+use Rattle.line_server.specs.Lines.{Moment}
 use Rattle.meter_server.specs.Listing.{WritesLeast, WritesText, edges_text}
 use Rattle.meter_server.specs.Outcomes.{output_of}
-use Rattle.meter_server.specs.Running.{RunsLines}
+use Rattle.line_server.specs.Running.{RunsLines}
 use Rattle.meter_server.specs.declared.listing.ListFault.{ListFault}
 use Rattle.meter_server.specs.declared.outcome.Outcome.{Outcome}
 use Rattle.meter_server.specs.declared.outcome.Outcome.TheVariants.{Done, Judged, Words, Fault, Unwritten}
 use Rattle.meter_server.specs.declared.program.Source.{Source}
-use Rattle.meter_server.specs.declared.verdict.Verdict.{Verdict}
-use Rattle.meter_server.specs.declared.verdict.Verdict.TheVariants.{Accepted, Config, Labels, Refused}
+use Rattle.fleet_audit.specs.declared.verdict.Verdict.{Verdict}
+use Rattle.fleet_audit.specs.declared.verdict.Verdict.TheVariants.{Accepted, Config, Labels, Refused}
 
 -- Words
 
@@ -108,15 +101,3 @@ ListsEdges config said before after outcome = Lists (λ c. WritesText (edges_tex
 -- its least labels, as the text from which they are read
 abbrev pub ListsLabels : Source → Result ConfigText ConfigFault → (before after : Option (List ℕ)) → Outcome → Type 0
 ListsLabels config said before after outcome = Lists (λ c. WritesLeast (plan_of c) before after) config said before after outcome
-
--- what a verdict says of the labels that a text holds for a plan and its policy: they are admitted; or the text has this fault; or the first clause that fails is told, and what fails it first
-abbrev pub IsVerdictOn : Plan → Policy → List ℕ → Verdict → Type 0
-IsVerdictOn P policy text Accepted = (labels : theory.Labels) × (labels_of_text P text ≡ Ok labels) × Admits P (labelling_of_policy P policy) labels
-IsVerdictOn P policy text (Labels fault) = label_faults.Fails fault (labels_of_text P text)
-IsVerdictOn P policy text (Refused refused) = (labels : theory.Labels) × (labels_of_text P text ≡ Ok labels) × IsRefusedAs P (labelling_of_policy P policy) labels refused
-IsVerdictOn P policy text (Config fault) = ⊥
-
--- what a verdict says of a configuration's text and of one of labels: the first has this fault, or it says what the second is judged by
-abbrev pub IsVerdict : Result ConfigText ConfigFault → List ℕ → Verdict → Type 0
-IsVerdict said text (Config fault) = Fails fault said
-IsVerdict said text verdict = (c : ConfigText) × (policy : Policy) × (said ≡ Ok c) × IsPolicyOf c policy × IsVerdictOn (plan_of c) policy text verdict

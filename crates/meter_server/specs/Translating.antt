@@ -4,7 +4,7 @@ use Rattle.std.specs.Io.KnownBytes.{Appends, Consumes, IsAtEnd}
 use Rattle.step_words.specs.Faults as texts
 use Rattle.step_words.specs.Texts.{Fails, decoded, encoded}
 use Rattle.step_words.specs.declared.fault.TextFault.{TextFault}
-use Rattle.meter_server.specs.Lines.{Moment}
+use Rattle.line_server.specs.Lines.{Moment}
 use Rattle.meter_server.specs.declared.translating.TranslationFault.{TranslationFault}
 use Rattle.meter_server.specs.declared.translating.TranslationFault.TheVariants as faults
 use Rattle.meter_server.specs.declared.translating.Way.{Way}

@@ -5,28 +5,29 @@ use Rattle.std.specs.Io.KnownBytes.{Appends, Consumes}
 use Rattle.meter_theory.specs.Plan.{Plan, start}
 use Rattle.meter_theory.specs.PlanCode.{state_code}
 use Rattle.meter_theory.specs.State.{State}
+use Rattle.acse_session.specs.Solo.{Alone, alone_code}
 use Rattle.step_words.specs.StepLines.{decoded_step}
 use Rattle.line_words.specs.Telling.{told_text}
-use Rattle.meter_server.specs.declared.running.LineFault.{LineFault}
-use Rattle.meter_server.specs.Spelling.{line_of}
-use Rattle.meter_server.specs.Lines.{text_of_lines, with_last}
-use Rattle.meter_server.specs.Running.{tasks_in}
-use Rattle.meter_server.specs.Solo.{Solo, solo_code, AnswersLine, StopsAtLine, meter_after, told}
+use Rattle.line_server.specs.declared.running.LineFault.{LineFault}
+use Rattle.line_server.specs.Spelling.{line_of}
+use Rattle.line_server.specs.Lines.{text_of_lines, with_last}
+use Rattle.line_server.specs.Running.{tasks_in}
+use Rattle.line_server.specs.Solo.{AnswersLine, StopsAtLine, meter_after, told}
 
 -- a meter alone that is watched: what it held when it was looked at last, unless nothing more is told of it; and what was told, where that is known (own profile)
 pub record Watched : Type 0 where
-  pub solo : Solo
+  pub solo : Alone
   pub watch : Option State
   pub told : Option (List ℕ)
 
 -- it is stored as pairs
 abbrev pub watched_code : Coded Watched
 watched_code =
-    code_by (Solo × (Option State × Option (List ℕ))) (coded× solo_code (coded× (coded_option state_code) (coded_option (coded_list coded_ℕ)))) (λ w. (w.solo, (w.watch, w.told)))
+    code_by (Alone × (Option State × Option (List ℕ))) (coded× alone_code (coded× (coded_option state_code) (coded_option (coded_list coded_ℕ)))) (λ w. (w.solo, (w.watch, w.told)))
     (λ p. record { solo = p.0; watch = p.1.0; told = p.1.1 }) (λ _. refl)
 
 -- it was looked at last behind the line before, if it is watched (own profile)
-abbrev pub IsWatched : Solo → Option State → Type 0
+abbrev pub IsWatched : Alone → Option State → Type 0
 IsWatched solo None = Unit {0}
 IsWatched solo (Some held) = held ≡ solo.meter
 

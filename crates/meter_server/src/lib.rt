@@ -1,22 +1,16 @@
-//! A meter server over lines of text: the APDUs of its clients in hex and the meter's own steps come in, the
-//! replies in hex go out.
+//! What the program does with the words of its command line: step lines and connections are answered by a configuration, lists and
+//! verdicts are printed, texts are translated.
 #![tactic(auto)]
 
-mod answering;
+pub mod auditing;
+pub mod connecting;
 pub mod demo;
-mod driving;
-pub mod feeding;
-mod line;
-pub mod lines;
 pub mod listing;
 pub mod outcome;
 pub mod program;
-pub mod reason;
-pub mod running;
-mod text;
+pub mod progress;
 pub mod translating;
-pub mod verdict;
 pub mod watching;
-mod writing;
 
-pub use running::{LineFault, run_lines};
+pub use frame_server::serving::serve;
+pub use line_server::running::{LineFault, run_lines};

@@ -5,12 +5,12 @@ ghost use Rattle.value_text.specs.Texts.{cell_text};
 ghost use Rattle.label_certificate.specs.Least.{AreLinks};
 ghost use Rattle.meter_server.specs.Listing.{WritesLeast, WritesText, edges_text, link_text, links_text};
 
-use crate::writing::{WriteFailed, write_full, write_waiting, write_whole};
 use cosem_data::cell::CellRef;
 use cosem_data::memory::Memory;
 use explanations::cell::word_of;
 use flow_edges::edges::edge_table;
 use flow_edges::table::Link;
+use frame_server::writing::{WriteFailed, write_full, write_waiting, write_whole};
 use label_certificate::least::make_labels;
 use label_certificate::writing::write_labels;
 use object_model::plan::Plan;

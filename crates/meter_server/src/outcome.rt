@@ -3,13 +3,15 @@ ghost use Rattle.std.specs.Prelude.{◌≡◌, IfOk, string_bytes};
 ghost use Rattle.meter_server.specs.Outcomes.{error_of, output_of, status_of, unread_line};
 
 use crate::listing::ListFault;
-use crate::running::LineFault;
 use crate::translating::TranslationFault;
-use crate::verdict::{Verdict, verdict_text};
 use command_words::WordsFault;
 use cosem_data::memory::Memory;
 use explanations::file::FileFault;
 use explanations::printable::printable_text;
+use fleet_audit::fleet::AuditFault;
+use fleet_audit::verdict::{Verdict, verdict_text};
+use frame_server::fault::ServeFault;
+use line_server::running::LineFault;
 use std::alloc::Global;
 
 /// How a command ended.
@@ -26,6 +28,12 @@ pub enum Outcome {
     Unread(String, FileFault),
     /// A fault stopped the run of lines.
     Fault(LineFault),
+    /// A fault ended the connection.
+    Broken(ServeFault),
+    /// It came to the verdicts on many configurations, which these lines tell, and of which all accept or not.
+    Audited { text: String, is_accepted: bool },
+    /// It came to no verdicts on them.
+    Unaudited(AuditFault),
     /// Its list or its verdict can't be written whole.
     Unwritten(ListFault),
     /// A text wasn't translated, or not written whole.
@@ -43,14 +51,17 @@ impl Outcome {
             Outcome::Words(WordsFault::Help(_) | WordsFault::Version(_)) => 0,
             Outcome::Words(WordsFault::Usage(_)) => 2,
             Outcome::Words(WordsFault::Memory) => 3,
+            Outcome::Audited { is_accepted, .. } => u8::from(!is_accepted),
             Outcome::Unread(_, _)
+            | Outcome::Unaudited(_)
             | Outcome::Fault(_)
+            | Outcome::Broken(_)
             | Outcome::Unwritten(_)
             | Outcome::Untranslated(_) => 3,
         }
     }
 
-    /// What is told on standard output behind what the command wrote: its verdict, or the help or the version that was asked for.
+    /// What is told on standard output behind what the command wrote: its verdict or verdicts, or the help or the version that was asked for.
     pub fn output(&self, alloc: Global) -> Result<String, Memory>
         ensures { IfOk result (λ text. string_bytes text ≡ output_of self.now) }
     {
@@ -59,6 +70,7 @@ impl Outcome {
             Outcome::Words(WordsFault::Help(text) | WordsFault::Version(text)) => {
                 Ok(String::from_str(alloc, text.as_str())?)
             }
+            Outcome::Audited { text, .. } => Ok(String::from_str(alloc, text.as_str())?),
             _ => Ok(String::new(alloc)),
         }
     }
@@ -69,7 +81,7 @@ impl Outcome {
         ensures { IfOk result (λ text. string_bytes text ≡ error_of self.now) }
     {
         match self {
-            Outcome::Done => Ok(String::new(alloc)),
+            Outcome::Done | Outcome::Audited { .. } => Ok(String::new(alloc)),
             Outcome::Judged(_, explanation) => Ok(String::from_str(alloc, explanation.as_str())?),
             Outcome::Words(WordsFault::Help(_) | WordsFault::Version(_)) => Ok(String::new(alloc)),
             Outcome::Words(WordsFault::Usage(text)) => Ok(String::from_str(alloc, text.as_str())?),
@@ -81,6 +93,8 @@ impl Outcome {
                 Ok(format!(in alloc; "cosem-flow: line {number}: {why}\n")?)
             }
             Outcome::Fault(fault) => Ok(format!(in alloc; "cosem-flow: {fault}\n")?),
+            Outcome::Unaudited(fault) => Ok(format!(in alloc; "cosem-flow: {fault}\n")?),
+            Outcome::Broken(fault) => Ok(format!(in alloc; "cosem-flow: {fault}\n")?),
             Outcome::Unwritten(fault) => Ok(format!(in alloc; "cosem-flow: {fault}\n")?),
             Outcome::Untranslated(fault) => Ok(format!(in alloc; "cosem-flow: {fault}\n")?),
         }

@@ -2,20 +2,20 @@
 ghost use Rattle.std.specs.Prelude.{◌≡◌, ◌⊎◌, IfOk, None, map, string_bytes};
 ghost use Rattle.config_reader.specs.ConfigOf.{config_of};
 ghost use Rattle.command_words.specs.Commands.{command_of};
+ghost use Rattle.meter_server.specs.Connecting.{AnswersFrames};
 ghost use Rattle.meter_server.specs.Listing.{WritesText};
 ghost use Rattle.meter_server.specs.Outcomes as outcomes;
 ghost use Rattle.meter_server.specs.Outcomes.{output_of};
-ghost use Rattle.meter_server.specs.Running.{RunsLines};
-ghost use Rattle.meter_server.specs.Program.{AnswersText, AreMistaken, AskForHelp, ExplainsVerdict, IsFaulty, IsJudged, IsNoCommand, IsVerdict, IsVerdictOn, ListsEdges, ListsLabels, TellsVerdict};
+ghost use Rattle.line_server.specs.Running.{RunsLines};
+ghost use Rattle.meter_server.specs.Program.{AnswersText, AreMistaken, AskForHelp, ExplainsVerdict, IsFaulty, IsJudged, IsNoCommand, ListsEdges, ListsLabels, TellsVerdict};
 
+use crate::auditing::{audit_texts, audit_texts_aloud};
+use crate::connecting::serve_alone;
 use crate::demo::DEMO;
 use crate::listing::{ListFault, write_edges, write_least_labels};
 use crate::outcome::Outcome;
-use crate::running::{LineFault, run_lines};
 use crate::translating::{TranslationFault, Way, translate};
-use crate::verdict::Verdict;
 use crate::watching::{Watched, run_watched};
-use crate::writing::write_whole;
 use command_words::{Command, WordsFault, read_words};
 use config_reader::read_config;
 use config_text::fault::ConfigFault;
@@ -24,13 +24,19 @@ use explanations::config::explain_config;
 use explanations::file::{FileFault, read_text};
 use explanations::labels::explain_labels;
 use explanations::refusal::explain_refusal;
-use flow_checker::check::check;
-use label_certificate::reading::read_labels;
+use fleet_audit::fleet::{AuditFault, Text};
+use fleet_audit::judging::judge_labels;
+use fleet_audit::verdict::Verdict;
+use frame_server::fault::ServeFault;
+use frame_server::writing::write_whole;
+use line_server::running::{LineFault, run_lines};
 use object_model::plan::Plan;
-use object_model::policy::Policy;
 use std::alloc::Global;
 use std::io::{Read, Write};
+use std::num::NonZeroUsize;
 use std::rt::Files;
+use std::thread::Threads;
+use std::time::Clock;
 
 /// A file by its path, with its text.
 #[derive(Clone, Copy, Debug)]
@@ -52,6 +58,16 @@ pub fn outcome_of(answer: Result<u64, LineFault>) -> Outcome
     match answer {
         Ok(_) => Outcome::Done,
         Err(fault) => Outcome::Fault(fault),
+    }
+}
+
+/// How a command ended whose connection was served so.
+pub fn served(answer: Result<u64, ServeFault>) -> Outcome
+    ensures { result ≡ outcomes.served answer }
+{
+    match answer {
+        Ok(_) => Outcome::Done,
+        Err(fault) => Outcome::Broken(fault),
     }
 }
 
@@ -78,16 +94,17 @@ pub fn listed(answer: Result<(), ListFault>) -> Outcome
 /// Does what the words of a command line ask for, the program's name first, and answers the exit status: `demo` and `run CONFIG`
 /// answer the step lines of the input on the output, by the configuration in the file that they name, and with `-v` tell of each
 /// line on the error stream; `edges CONFIG` and `label CONFIG` print its edges and its least labels there; `check CONFIG LABELS`
-/// comes to a verdict on it and on the labels in a second file, which is read only where the configuration has no fault; `encode`
-/// and `decode` translate the input onto the output. A verdict stands on the output and what explains it on the error stream; help
-/// and the version stand on the output where the words ask for these; any other fault stands on the error stream.
-pub fn run_program<H: Files + AllocGlobal, I: Read, O: Write, E: Write>(
-    rt: &H,
-    words: &[String],
-    input: &mut I,
-    output: &mut O,
-    errors: &mut E,
-) -> u8
+/// comes to a verdict on it and on the labels in a second file, which is read only where the configuration has no fault; `audit NAME`
+/// comes to one on each of many, by many workers, and with `--progress` tells on the error stream how far it is; `session CONFIG`
+/// answers the frames of the input, those of one connection, on the output; `encode` and `decode` translate the input onto the output.
+/// A verdict stands on the output and what explains it on the error stream; help and the version stand on the output where the words
+/// ask for these; any other fault stands on the error stream.
+pub fn run_program<
+    H: Files + AllocGlobal + Clock + Threads + Sync,
+    I: Read,
+    O: Write,
+    E: Write + Send,
+>(rt: &H, words: &[String], input: &mut I, output: &mut O, errors: &mut E) -> u8
     // A wrong command line has status 2, unless memory was refused.
     ensures mistaken { AreMistaken (map string_bytes words.now) → (result ≡ 2) ⊎ (result ≡ 3) }
     // Help and the version have status 0, unless memory was refused or they can't be written.
@@ -100,7 +117,7 @@ pub fn run_program<H: Files + AllocGlobal, I: Read, O: Write, E: Write>(
 }
 
 /// Does what words ask for.
-fn asked<H: Files + AllocGlobal, I: Read, O: Write, E: Write>(
+fn asked<H: Files + AllocGlobal + Clock + Threads + Sync, I: Read, O: Write, E: Write + Send>(
     rt: &H,
     words: &[String],
     input: &mut I,
@@ -130,7 +147,7 @@ fn texts_of(alloc: Global, words: &[String]) -> Result<Vec<&str>, Memory>
 }
 
 /// Does what a command asks for.
-fn answer<H: Files + AllocGlobal, I: Read, O: Write, E: Write>(
+fn answer<H: Files + AllocGlobal + Clock + Threads + Sync, I: Read, O: Write, E: Write + Send>(
     rt: &H,
     command: Command<'_>,
     input: &mut I,
@@ -148,6 +165,12 @@ fn answer<H: Files + AllocGlobal, I: Read, O: Write, E: Write>(
         Command::Edges { config } => list_edges_of_file(rt, config, output),
         Command::Label { config } => list_labels_of_file(rt, config, output),
         Command::Check { config, labels } => check_files(rt, config, labels),
+        Command::Audit {
+            workers,
+            names,
+            tells_progress,
+        } => audit_files(rt, workers, &names, tells_progress, errors),
+        Command::Session { config } => connect_file(rt, config, input, output),
         Command::Encode => translated(translate(alloc, Way::Encode, input, output)),
         Command::Decode => translated(translate(alloc, Way::Decode, input, output)),
     }
@@ -175,6 +198,56 @@ fn run_file<H: Files + AllocGlobal, I: Read, O: Write, E: Write>(
             let config = source_of(file, &text);
             answer_lines_of(rt.alloc(), config, is_verbose, input, output, errors)
         }
+        Err(outcome) => outcome,
+    }
+}
+
+/// The verdicts on many configurations and their labels, each in a line behind its name. All files are read first. Where that is
+/// asked for, it is told on the error stream how far the audit is.
+fn audit_files<H: Files + AllocGlobal + Clock + Threads + Sync, E: Write + Send>(
+    rt: &H,
+    workers: NonZeroUsize,
+    names: &[&str],
+    tells_progress: bool,
+    errors: &mut E,
+) -> Outcome {
+    match texts_named(rt, names) {
+        Ok(texts) if tells_progress => audit_texts_aloud(rt, names, texts, workers, errors),
+        Ok(texts) => audit_texts(rt, names, texts, workers),
+        Err(outcome) => outcome,
+    }
+}
+
+/// The texts of the files that these names stand for, name by name, or that one isn't read.
+fn texts_named<H: Files + AllocGlobal>(rt: &H, names: &[&str]) -> Result<Vec<Text>, Outcome> {
+    let mut texts = Vec::new(rt.alloc());
+    for name in names {
+        let config = text_named(rt, name, "toml")?;
+        let labels = text_named(rt, name, "labels")?;
+        if texts.push(Text { config, labels }).is_err() {
+            return Err(Outcome::Unaudited(AuditFault::Memory));
+        }
+    }
+    Ok(texts)
+}
+
+/// The text of the file with this name and this ending, or that it isn't read.
+fn text_named<H: Files + AllocGlobal>(rt: &H, name: &str, ending: &str) -> Result<String, Outcome> {
+    match format!(in rt.alloc(); "{name}.{ending}") {
+        Ok(file) => text_of_file(rt, file.as_str()),
+        Err(_) => Err(Outcome::Unaudited(AuditFault::Memory)),
+    }
+}
+
+/// Answers the frames of the input by the configuration in a file.
+fn connect_file<H: Files + AllocGlobal, I: Read, O: Write>(
+    rt: &H,
+    file: &str,
+    input: &mut I,
+    output: &mut O,
+) -> Outcome {
+    match text_of_file(rt, file) {
+        Ok(text) => answer_frames(rt.alloc(), source_of(file, &text), input, output),
         Err(outcome) => outcome,
     }
 }
@@ -275,6 +348,25 @@ pub fn answer_text<I: Read, O: Write>(
     }
 }
 
+/// Answers the frames of the input, those of one connection, by a configuration, on the output, and says how that ended: `Done`, a
+/// fault of the connection, or the verdict where the configuration has a fault or memory was refused while it was read; then nothing
+/// was read of the input, and nothing written.
+pub fn answer_frames<I: Read, O: Write>(
+    alloc: Global,
+    config: Source<'_>,
+    input: &mut I,
+    output: &mut O,
+) -> Outcome
+    ensures { AnswersFrames config.entry (config_of config.entry.text.now)
+        (record { unread = I.remaining input.old; written = O.contents output.old })
+        (record { unread = I.remaining input.new; written = O.contents output.new }) result }
+{
+    match read_config(alloc, config.text) {
+        Ok((plan, _policy)) => served(serve_alone(alloc, &plan, input, output)),
+        Err(fault) => faulty(alloc, config, fault),
+    }
+}
+
 /// Answers the lines of the input by a configuration as `answer_text` does, and tells of each on the error stream, once it is
 /// answered: what it asked, what was answered and what changed, in words.
 pub fn answer_aloud<I: Read, O: Write, E: Write>(
@@ -328,32 +420,6 @@ pub fn list_labels<O: Write>(alloc: Global, config: Source<'_>, output: &mut O) 
     match read_config(alloc, config.text) {
         Ok((plan, _policy)) => listed(write_least_labels(alloc, &plan, output)),
         Err(fault) => faulty(alloc, config, fault),
-    }
-}
-
-/// The verdict on a configuration and on labels for it, both as texts (own profile). The text of the labels is read only where
-/// the configuration has no fault.
-pub fn verdict_of(alloc: Global, config: &str, labels: &str) -> Verdict
-    ensures { IsVerdict (config_of config.now) labels.now result }
-{
-    match read_config(alloc, config) {
-        Ok((plan, policy)) => judge_labels(alloc, plan, &policy, labels),
-        Err(fault) => Verdict::Config(fault),
-    }
-}
-
-/// The verdict on the labels that a text holds for a plan and its policy: the fault of the text, or else whether they are
-/// accepted (own profile).
-pub fn judge_labels(alloc: Global, plan: Plan, policy: &Policy, labels: &str) -> Verdict
-    ensures { IsVerdictOn plan policy.now labels.now result }
-{
-    let labels = match read_labels(alloc, &plan, labels) {
-        Ok(labels) => labels,
-        Err(fault) => return Verdict::Labels(fault),
-    };
-    match check(alloc, plan, policy, &labels) {
-        Ok(_checked) => Verdict::Accepted,
-        Err((refused, _plan)) => Verdict::Refused(refused),
     }
 }
 

@@ -4,8 +4,8 @@ ghost use Rattle.step_words.specs.Texts.{Gives};
 ghost use Rattle.meter_server.specs.Translating as spec;
 ghost use Rattle.meter_server.specs.Translating.{ReadsAll, Translates};
 
-use crate::writing::{WriteFailed, write_whole};
 use cosem_data::memory::Memory;
+use frame_server::writing::{WriteFailed, write_whole};
 use std::alloc::Global;
 use std::error::Error;
 use std::fmt;

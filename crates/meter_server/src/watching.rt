@@ -4,13 +4,13 @@ ghost use Rattle.meter_theory.specs.Plan.{cells, start};
 ghost use Rattle.meter_theory.specs.State.{keys};
 ghost use Rattle.line_words.specs.Telling.{told_text};
 ghost use Rattle.step_words.specs.StepLines.{decoded_step};
-ghost use Rattle.meter_server.specs.Running.{RunsLines};
+ghost use Rattle.line_server.specs.Running.{RunsLines};
 ghost use Rattle.meter_server.specs.Watching.{Tells, TellsAll};
 
-use crate::lines::{AnswersLines, answer_lines};
-use crate::running::{LineFault, Solo};
-use crate::writing::write_whole;
 use cosem_data::memory::Memory;
+use frame_server::writing::write_whole;
+use line_server::lines::{AnswersLines, answer_lines};
+use line_server::running::{LineFault, Solo};
 use line_words::telling::{Answered, push_told};
 use line_words::watch::Watch;
 use object_model::plan::Plan;

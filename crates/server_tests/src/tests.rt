@@ -3,6 +3,7 @@ mod faults;
 mod labels;
 mod lines;
 mod plans;
+mod progress;
 mod refusals;
 mod runs;
 mod samples;

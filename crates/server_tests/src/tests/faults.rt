@@ -1,5 +1,5 @@
-use meter_server::reason::Reason;
-use meter_server::running::LineFault;
+use line_server::reason::Reason;
+use line_server::running::LineFault;
 use std::test::Fail;
 
 #[test]

@@ -2,8 +2,8 @@ ghost use Rattle.std.specs.Prelude.{Some};
 
 use super::samples::{TEXT, plan_of};
 use cosem_data::memory::Memory;
-use meter_server::reason::Reason;
-use meter_server::running::{LineFault, run_lines};
+use line_server::reason::Reason;
+use line_server::running::{LineFault, run_lines};
 use object_model::plan::Plan;
 use std::alloc::Global;
 use std::io;

@@ -1,10 +1,10 @@
 use super::labels::LABELS;
 use config_text::fault::ConfigFault;
+use fleet_audit::judging::verdict_of;
+use fleet_audit::verdict::{Verdict, verdict_text};
 use flow_checker::check::Refused;
 use label_certificate::fault::LabelFault;
 use meter_server::demo::DEMO;
-use meter_server::program::verdict_of;
-use meter_server::verdict::{Verdict, verdict_text};
 use std::alloc::Global;
 use std::process::Abort;
 use std::test::Fail;

@@ -8,5 +8,7 @@ returns c =
     let edges = added _ _ _ _ _ c.in_ok-edges_command.ensures.local run c.in_ok-edges_command.ensures.app c.in_ok-subcommand-3.ensures in
     let label = added _ _ _ _ _ c.in_ok-label_command.ensures.local edges c.in_ok-label_command.ensures.app c.in_ok-subcommand-4.ensures in
     let check = added _ _ _ _ _ c.in_ok-check_command.ensures.local label c.in_ok-check_command.ensures.app c.in_ok-subcommand-5.ensures in
-    let encode = added _ _ _ _ _ c.encode_command.ensures.local check c.encode_command.ensures.app c.in_ok-subcommand-6.ensures in
-    added-ok _ _ _ _ _ c.decode_command.ensures.local encode c.decode_command.ensures.app c.subcommand-7.ensures
+    let audit = added _ _ _ _ _ c.in_ok-audit_command.ensures.local check c.in_ok-audit_command.ensures.app c.in_ok-subcommand-6.ensures in
+    let session = added _ _ _ _ _ c.in_ok-session_command.ensures.local audit c.in_ok-session_command.ensures.app c.in_ok-subcommand-7.ensures in
+    let encode = added _ _ _ _ _ c.encode_command.ensures.local session c.encode_command.ensures.app c.in_ok-subcommand-8.ensures in
+    added-ok _ _ _ _ _ c.decode_command.ensures.local encode c.decode_command.ensures.app c.subcommand-9.ensures

@@ -1,4 +1,4 @@
-use Rattle.std.proofs.Common.{◌≡◌, ◌∙◌, ◌⊎◌, List, Some, None, map, sym, ap, subst}
+use Rattle.std.proofs.Common.{◌≡◌, ◌∙◌, ◌⊎◌, List, Some, None, map, option_map, rules, sym, ap, subst}
 use Rattle.clap.specs.Words.{App, IsAmong, Text, app_of, fault_of, is_simple, is_simple_and_free, kind_of, subcommand_of, subcommand_rows_of}
 use Rattle.clap.specs.declared.error.kind.ErrorKind.TheVariants.{OutOfMemory}
 use Rattle.command_words.specs.CommandLine.{app, kinds_of}
@@ -14,7 +14,9 @@ returns-in-Some-clause-command c =
     let m = c.in-Ok in
     let none = ap (λ (a : App). fault_of a words) (sym app_is) ∙ m.ensures.kinds (ap is_simple_and_free app_is) in
     let rows = (m.ensures.matches (ap is_simple app_is)).1 ∙ ap (λ (a : App). subcommand_of a words) app_is in
-    command_of-taken words (subcommand_rows_of m.matches) (Some (asked_by c.in-Some.command)) none rows c.in-Some.ensures
+    let is : Some c.in-Some.command ≡ c.in_ok-command-in-Ok.field-0 = search rules in
+    command_of-taken words (subcommand_rows_of m.matches) (Some (asked_by c.in-Some.command)) none rows
+    (ap (option_map asked_by) is ∙ c.in_ok-command-in-Ok.ensures)
 
 pub returns-in-Ok-clause-no_command : goal.returns-in-Ok-clause-no_command
 returns-in-Ok-clause-no_command c =
@@ -23,7 +25,9 @@ returns-in-Ok-clause-no_command c =
     let m = c.in-Ok in
     let none = ap (λ (a : App). fault_of a words) (sym app_is) ∙ m.ensures.kinds (ap is_simple_and_free app_is) in
     let rows = (m.ensures.matches (ap is_simple app_is)).1 ∙ ap (λ (a : App). subcommand_of a words) app_is in
-    unnamed-no_command words c.nothing_named.result (command_of-taken words (subcommand_rows_of m.matches) None none rows c.in-None.ensures)
+    let is : None ≡ c.in_ok-command-in-Ok.field-0 = search rules in
+    unnamed-no_command words c.nothing_named.result
+    (command_of-taken words (subcommand_rows_of m.matches) None none rows (ap (option_map asked_by) is ∙ c.in_ok-command-in-Ok.ensures))
 
 pub returns-in-Ok-clause-help : goal.returns-in-Ok-clause-help
 returns-in-Ok-clause-help c = unnamed-help _ c.nothing_named.result c.nothing_named.ensures

@@ -1,32 +1,10 @@
-use Rattle.std.proofs.Common.{◌≡◌, ℕ, Result, Ok, Err, refl, sym, subst}
-use Rattle.meter_theory.specs.Labels.{Policy}
-use Rattle.meter_theory.specs.Plan.{Plan}
-use Rattle.config_text.specs.Fault.{Fault as ConfigFault}
-use Rattle.config_text.specs.Parts.{ConfigText}
-use Rattle.config_rules.specs.PlanOf.{plan_of}
-use Rattle.config_reader.specs.ConfigOf.{Reads, config_of}
-use Rattle.meter_server.specs.declared.running.LineFault.{LineFault}
-use Rattle.meter_server.specs.Lines.{Moment}
-use Rattle.meter_server.specs.Running.{RunsLines}
-use Rattle.meter_server.specs.Outcomes.{outcome_of}
+use Rattle.std.proofs.Common.{sym, subst}
+use Rattle.config_reader.specs.ConfigOf.{config_of}
 use Rattle.meter_server.specs.Program.{AnswersText}
-use Rattle.meter_server.specs.declared.program.Source.{Source}
+use Rattle.meter_server.proofs.Made.{lines-answered}
 use Rattle.meter_server.proofs.program.answer_aloud.Goals as goal
-
--- what was read is what the text says
-said-of : (made : Plan × Policy) (said : Result ConfigText ConfigFault) → Reads (Ok made) said → (c : ConfigText) × (said ≡ Ok c) × (made.0 ≡ plan_of c)
-said-of made (Ok c) h = (c, refl, h.0)
-said-of made (Err fault) h = absurd h
-
--- a run over the plan of what the text says
-answers : (config : Source) (made : Plan × Policy) (said : Result ConfigText ConfigFault) (before after : Moment) (r : Result ℕ LineFault) → Reads (Ok made) said → RunsLines made.0 before after r
-    → AnswersText config said before after (outcome_of r)
-answers config made said before after (Ok count) h run =
-    let s = said-of made said h in (s.0, s.1, count, subst (λ (plan : Plan). RunsLines plan before after (Ok count)) s.2 run)
-answers config made said before after (Err fault) h run =
-    let s = said-of made said h in (s.0, s.1, subst (λ (plan : Plan). RunsLines plan before after (Err fault)) s.2 run)
 
 pub returns-in-Ok : goal.returns-in-Ok
 returns-in-Ok g c =
     subst (AnswersText c.args.config (config_of c.args.config.text.now) _ _) (sym c.outcome_of.ensures)
-    (answers c.args.config (c.in-Ok.plan, c.in-Ok._policy) (config_of c.args.config.text.now) _ _ c.run_aloud.result c.in-Ok.ensures c.run_aloud.ensures)
+    (lines-answered c.args.config (c.in-Ok.plan, c.in-Ok._policy) (config_of c.args.config.text.now) _ _ c.run_aloud.result c.in-Ok.ensures c.run_aloud.ensures)

@@ -1,5 +1,5 @@
 use Rattle.std.proofs.lemmas.Result.{err_from_is_err_and}
-use Rattle.meter_server.proofs.Alone.{stops-at_start}
+use Rattle.line_server.proofs.Alone.{stops-at_start}
 use Rattle.meter_server.proofs.program.run_aloud.Goals as goal
 
 pub returns-in_err-watched : goal.returns-in_err-watched

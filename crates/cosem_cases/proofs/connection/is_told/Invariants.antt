@@ -1,0 +1,8 @@
+use Rattle.std.proofs.Common.{◌≡◌}
+use Rattle.cosem_cases.proofs.connection.is_told.Given as goal
+
+abbrev pub invariant-loop-line : goal.invariant-loop-line
+invariant-loop-line l = record {
+  first : l.pair.first.plan ≡ l.solo.plan;
+  second : l.pair.second.plan ≡ l.solo.plan;
+}

@@ -1,0 +1,120 @@
+//! The verdicts on a fleet of configurations, by many workers.
+ghost use Rattle.std.specs.Prelude.{◌≡◌, ◌<◌, ◌≤◌, IfErr, IfOk, MatchResult, length};
+ghost use Rattle.fleet_audit.specs.Audits.{Audits};
+ghost use Rattle.fleet_audit.specs.Giving.{IsFaultAt};
+ghost use Rattle.fleet_audit.specs.Turns.{every};
+
+use crate::turns::{all_done, in_turn};
+use crate::verdict::Verdict;
+use crate::watch::{Unwatched, Watch};
+use crate::worker::work;
+use gates::Gate;
+use std::alloc::{AllocError, AllocFailed};
+use std::error::Error;
+use std::num::NonZeroUsize;
+use std::thread::Threads;
+use std::{fmt, thread};
+
+/// A configuration and labels for it, as texts.
+#[derive(Debug, Drop)]
+pub struct Text {
+    pub config: String,
+    pub labels: String,
+}
+
+/// Why an audit ended early (own profile).
+#[derive(Clone, Copy, Debug, PartialEq, Eq, Drop)]
+pub enum AuditFault {
+    /// 1: memory was refused for the list of verdicts. Where it is refused in a judgement, the verdict says so.
+    Memory,
+    /// 2: the gate gave up.
+    GaveUp,
+}
+
+impl fmt::Display for AuditFault {
+    ghost use Rattle.std.specs.Prelude.{Some};
+    ghost use Rattle.fleet_audit.specs.Faults.{fault_words};
+
+    ghost output = { λ fault. Some (fault_words fault) };
+
+    fn fmt<W: fmt::Write>(&self, f: &mut fmt::Formatter<W>) -> fmt::Result {
+        match self {
+            AuditFault::Memory => f.write_str("out of memory"),
+            AuditFault::GaveUp => f.write_str("the gate gave up"),
+        }
+    }
+}
+
+impl Error for AuditFault {}
+
+impl From<AllocError> for AuditFault {
+    ghost use Rattle.std.specs.Prelude.{◌≡◌};
+    ghost use Rattle.fleet_audit.specs.declared.fleet.AuditFault.TheVariants as faults;
+
+    ghost from_gives = { λ _ fault. fault ≡ faults.Memory };
+
+    fn from(_: AllocError) -> Self {
+        AuditFault::Memory
+    }
+}
+
+impl<T: Drop> From<AllocFailed<T>> for AuditFault {
+    ghost use Rattle.std.specs.Prelude.{◌≡◌};
+    ghost use Rattle.fleet_audit.specs.declared.fleet.AuditFault.TheVariants as faults;
+
+    ghost from_gives = { λ _ fault. fault ≡ faults.Memory };
+
+    fn from(_: AllocFailed<T>) -> Self {
+        AuditFault::Memory
+    }
+}
+
+/// The verdicts on texts, in their order, by so many workers (own profile): worker w, counted from 0, judges the texts w,
+/// w + workers and so on, in a thread of its own, or in the caller's where none can be started. The gate is asked before each
+/// text, and told behind it.
+///
+/// # Errors
+/// That memory was refused for a list, or that the gate gave up: the fault of the first worker that has one. The others judge all
+/// their texts.
+pub fn audit<R: Threads + AllocGlobal + Sync, G: Gate + Sync>(
+    rt: &R,
+    texts: Vec<Text>,
+    workers: NonZeroUsize,
+    gate: &G,
+) -> Result<Vec<Verdict>, AuditFault>
+    ensures verdicts { IfOk result (λ verdicts. Audits texts.items verdicts.items) }
+    // The gate gave up only where it may.
+    ensures fault { IfErr result (λ fault. IsFaultAt (G.may_give_up gate.now) (length texts.items) fault) }
+{
+    audit_watched(rt, texts, workers, gate, &Unwatched)
+}
+
+/// The verdicts on texts as `audit` comes to them, of which each worker tells the watch as soon as the gate was told.
+///
+/// # Errors
+/// Those of `audit`.
+pub fn audit_watched<R: Threads + AllocGlobal + Sync, G: Gate + Sync, W: Watch + Sync>(
+    rt: &R,
+    texts: Vec<Text>,
+    workers: NonZeroUsize,
+    gate: &G,
+    watch: &W,
+) -> Result<Vec<Verdict>, AuditFault>
+    ensures verdicts { IfOk result (λ verdicts. Audits texts.items verdicts.items) }
+    // The gate gave up only where it may.
+    ensures fault { IfErr result (λ fault. IsFaultAt (G.may_give_up gate.now) (length texts.items) fault) }
+{
+    let alloc = rt.alloc();
+    let workers = workers.get().min(texts.len());
+    let lent = texts.as_slice();
+    let shares = thread::map_indices(
+        rt,
+        alloc,
+        workers,
+        &|first| -> Result<Vec<Verdict>, AuditFault>
+            requires { (first < workers) × (workers ≤ length lent.now) }
+            ensures { MatchResult result (λ verdicts. Audits (every workers first lent.entry.now) verdicts.items) (λ fault. IsFaultAt (G.may_give_up gate.entry.now) (length lent.entry.now) fault) }
+        { work(alloc, lent, first, workers, gate, watch) },
+    )?;
+    in_turn(alloc, all_done(alloc, shares)?, texts.len())
+}

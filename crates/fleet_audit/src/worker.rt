@@ -1,0 +1,41 @@
+//! One worker of an audit.
+ghost use Rattle.std.specs.Prelude.{◌≡◌, ◌<◌, ◌≤◌, MatchResult, length};
+ghost use Rattle.fleet_audit.specs.Audits.{Audits};
+ghost use Rattle.fleet_audit.specs.Giving.{IsFaultAt};
+ghost use Rattle.fleet_audit.specs.Turns.{every};
+
+use crate::fleet::{AuditFault, Text};
+use crate::judging::judge;
+use crate::verdict::Verdict;
+use crate::watch::Watch;
+use gates::{Gate, Go};
+use std::alloc::Global;
+
+/// The verdicts of a worker: on the text at the first seat, and on each that stands `workers` behind the one before. It begins
+/// no further text once the gate has given up, and tells the watch of each verdict.
+pub(crate) fn work<G: Gate, W: Watch>(
+    alloc: Global,
+    texts: &[Text],
+    first: usize,
+    workers: usize,
+    gate: &G,
+    watch: &W,
+) -> Result<Vec<Verdict>, AuditFault>
+    requires some { 0 < workers }
+    requires few { workers ≤ length texts.now }
+    ensures { MatchResult result (λ verdicts. Audits (every workers first texts.now) verdicts.items) (λ fault. IsFaultAt (G.may_give_up gate.now) (length texts.now) fault) }
+{
+    let mut verdicts = Vec::with_capacity(alloc, texts.len() / workers + 1)?;
+    let mut seat = first;
+    while let Some(text) = texts.get(seat) {
+        if gate.before(seat) == Go::GaveUp {
+            return Err(AuditFault::GaveUp);
+        }
+        let verdict = judge(alloc, text);
+        gate.after(seat);
+        watch.judged(seat, &verdict);
+        verdicts.push(verdict)?;
+        seat += workers;
+    }
+    Ok(verdicts)
+}

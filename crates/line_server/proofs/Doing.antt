@@ -1,0 +1,166 @@
+-- What lines give an asker to do, and what it does to a meter alone.
+use Rattle.std.proofs.Common.{◌≡◌, ℕ, ◌+◌, ◌<◌, List, [], ◌∷◌, ◌++◌, map, take, drop, length, get_or, Option, Some, None, Result, Ok, Err, OnOk, OnErr, inl, refl, sym, ap, subst, ◌∙◌, append-nil, append_assoc}
+use Rattle.std.specs.Prelude.{option_to_list, option_and_then, IfErr}
+use Rattle.std.specs.List.{flat_map, filter_map}
+use Rattle.std.proofs.lemmas.List.{take_more, take-append-drop, drop_more}
+use Rattle.std.proofs.lemmas.List.Elements.{filter_map-append}
+use Rattle.cosem_data.specs.declared.memory.Memory.{Memory as NoMemory}
+use Rattle.meter_theory.specs.Plan.{Plan, Object}
+use Rattle.meter_theory.specs.State.{State}
+use Rattle.meter_theory.specs.Steps.{Step, next}
+use Rattle.meter_theory.specs.Times.{Moment}
+use Rattle.xdlms_services.specs.declared.request.Request.{Request}
+use Rattle.xdlms_services.specs.Asking.{Asked, asking_at, asking_of, apdu_of}
+use Rattle.xdlms_services.specs.Reading.{request_at}
+use Rattle.acse_session.specs.Conversation.{Answers}
+use Rattle.acse_session.specs.Solo.{Alone, AnswersAlone}
+use Rattle.line_server.specs.Asking.{Ask}
+use Rattle.line_server.specs.Answering.{Task, Answer, Take, next_by, reply_by, next_of, reply_of_ask}
+use Rattle.line_server.specs.Doing.{DoesAsked, AnswersAsk, MayAsk, FailsAsk, Does, TakesAll, StopsBehind, TakesLine}
+use Rattle.line_server.specs.Driving.{offered, moment_steps}
+use Rattle.line_server.specs.Lines.{Puts}
+use Rattle.line_server.specs.Running.{tasks_in}
+use Rattle.line_server.specs.Solo.{meter_after, replies_to, told, AnswersLine, StopsAtLine}
+use Rattle.line_server.specs.Spelling.{line_of, reply_text, unreadable_text}
+use Rattle.line_server.specs.declared.line.Line.{Line as LineValue}
+use Rattle.line_server.specs.declared.line.Line.TheVariants.{Unreadable, At}
+use Rattle.line_server.specs.declared.running.LineFault.{LineFault}
+use Rattle.line_server.specs.declared.running.LineFault.TheVariants.{Read, Write, Line, Memory}
+
+-- ---- one APDU
+
+-- what is asked is what the bytes are
+pub answers_ask-at : {A : Type 0} (answers : Answers A) (old : A) (ask : Ask) (read : Option Request) (apdu : List ℕ) (new : A)
+    → request_at ask.apdu ≡ read → DoesAsked answers old (option_and_then (asking_of ask.client) read) apdu new → AnswersAsk answers old ask apdu new
+unfolding AnswersAsk
+answers_ask-at answers old ask read apdu new e d = subst (λ (r : Option Request). DoesAsked answers old (option_and_then (asking_of ask.client) r) apdu new) (sym e) d
+
+pub fails_ask-at : {A : Type 0} (answers : Answers A) (old : A) (ask : Ask) (read : Option Request) (new : A)
+    → request_at ask.apdu ≡ read → MayAsk answers old (option_and_then (asking_of ask.client) read) new → FailsAsk answers old ask new
+unfolding FailsAsk
+fails_ask-at answers old ask read new e d = subst (λ (r : Option Request). MayAsk answers old (option_and_then (asking_of ask.client) r) new) (sym e) d
+
+-- nothing was done yet
+stays : {A : Type 0} (answers : Answers A) (old : A) (asked : Option Asked) → MayAsk answers old asked old
+stays answers old None = refl
+stays answers old (Some asked) = inl refl
+
+pub fails_ask-first : {A : Type 0} (answers : Answers A) (old : A) (ask : Ask) → FailsAsk answers old ask old
+unfolding FailsAsk
+fails_ask-first answers old ask = stays answers old (asking_at ask.client ask.apdu)
+
+-- ---- steps, one after another
+
+pub takes-append : {A : Type 0} (answers : Answers A) (old mid new : A) (xs ys : List Step) → TakesAll answers old xs mid → TakesAll answers mid ys new → TakesAll answers old (xs ++ ys) new
+takes-append answers old mid new [] ys t u = subst (λ (a : _). TakesAll answers a ys new) t.1 u
+takes-append answers old mid new (x ∷ xs) ys t u = (t.0, t.1, t.2, takes-append answers t.0 mid new xs ys t.3 u)
+
+-- memory was refused behind more steps
+stops-push : {A : Type 0} (answers : Answers A) (old mid new : A) (xs ys more : List Step) → TakesAll answers old xs mid → StopsBehind answers mid ys new → StopsBehind answers old (xs ++ (ys ++ more)) new
+stops-push answers old mid new xs ys more t s = (
+  xs ++ s.0,
+  s.1,
+  s.2 ++ more,
+  s.3,
+  s.4,
+  ap (λ (l : List Step). xs ++ (l ++ more)) s.5 ∙ ap (λ (l : List Step). xs ++ l) (append_assoc s.0 (s.1 ∷ s.2) more) ∙ sym (append_assoc xs s.0 (s.1 ∷ (s.2 ++ more))),
+  takes-append answers old mid s.3 xs s.0 t s.6,
+  s.7,
+)
+
+-- memory was refused for the first step
+pub stops-first : {A : Type 0} (answers : Answers A) (old new : A) (found : Option Step) (step : Step) (refused : NoMemory) (r : Result (Unit {0}) NoMemory)
+    → found ≡ Some step → answers old step (Err refused) new → OnErr r (StopsBehind answers old (option_to_list found) new)
+stops-first answers old new found step refused (Ok u) is a = tt
+stops-first answers old new found step refused (Err e) is a =
+    subst (λ (o : Option Step). StopsBehind answers old (option_to_list o) new) (sym is) ([], step, [], old, refused, refl, (refl, refl), a)
+
+-- ---- a moment
+
+one_offered : {X Y : Type 0} (f : X → Option Y) (x : X) (found : Option Y) → f x ≡ found → filter_map f (x ∷ []) ≡ option_to_list found
+one_offered f x None e = rw e refl
+one_offered f x (Some y) e = rw e refl
+
+-- what is offered to the objects up to one more
+offered_up-to : (t : Moment) (objects : List Object) (i : ℕ) (o : Object) → i < length objects → o ≡ get_or objects i o
+    → filter_map (offered t) (take i objects) ++ option_to_list (offered t o) ≡ filter_map (offered t) (take (i + 1) objects)
+offered_up-to t objects i o within is =
+    let front = filter_map (offered t) (take i objects) in
+    ap (λ (l : List Step). front ++ l) (sym (one_offered (offered t) o (offered t o) refl))
+    ∙ ap (λ (x : Object). front ++ filter_map (offered t) (x ∷ [])) is
+    ∙ sym (filter_map-append (offered t) (take i objects) (get_or objects i o ∷ []))
+    ∙ ap (λ (l : List Object). filter_map (offered t) l) (sym (take_more objects i o within))
+
+-- the asker behind one object more
+pub offered-more : {A : Type 0} (answers : Answers A) (old mid new : A) (t : Moment) (objects : List Object) (i : ℕ) (o : Object) → i < length objects → o ≡ get_or objects i o
+    → TakesAll answers old (filter_map (offered t) (take i objects)) mid → TakesAll answers mid (option_to_list (offered t o)) new
+    → TakesAll answers old (filter_map (offered t) (take (i + 1) objects)) new
+offered-more answers old mid new t objects i o within is before after =
+    subst (λ (steps : List Step). TakesAll answers old steps new) (offered_up-to t objects i o within is)
+    (takes-append answers old mid new (filter_map (offered t) (take i objects)) (option_to_list (offered t o)) before after)
+
+-- memory was refused for an object's step
+pub offered-stops : {A : Type 0} (answers : Answers A) (old mid new : A) (t : Moment) (objects : List Object) (i : ℕ) (o : Object) → i < length objects → o ≡ get_or objects i o
+    → TakesAll answers old (filter_map (offered t) (take i objects)) mid → StopsBehind answers mid (option_to_list (offered t o)) new → StopsBehind answers old (filter_map (offered t) objects) new
+offered-stops answers old mid new t objects i o within is before stop =
+    let front = filter_map (offered t) (take i objects) in
+    let more = filter_map (offered t) (drop (i + 1) objects) in
+    subst (λ (steps : List Step). StopsBehind answers old steps new)
+    (sym (append_assoc front (option_to_list (offered t o)) more)
+    ∙ ap (λ (l : List Step). l ++ more) (offered_up-to t objects i o within is)
+    ∙ sym (filter_map-append (offered t) (take (i + 1) objects) (drop (i + 1) objects))
+    ∙ ap (filter_map (offered t)) (take-append-drop (i + 1) objects))
+    (stops-push answers old mid new front (option_to_list (offered t o)) more before stop)
+
+-- ---- one line
+
+-- a line says this, and it was done
+pub line-done : {A : Type 0} (answers : Answers A) (plan : Plan) (old new : A) (number : ℕ) (line waiting texts : List ℕ) (said : LineValue) (apdus : List (List ℕ)) (u : Unit {0})
+    → said ≡ line_of plan line → ((why : _) → said ≡ Unreadable why → ⊥) → Does answers old (tasks_in plan said) apdus new → texts ≡ waiting ++ flat_map reply_text apdus
+    → TakesLine answers plan old new number line waiting texts (Ok u)
+line-done answers plan old new number line waiting texts said apdus u e readable d is = (
+  λ why bad. readable why (e ∙ bad),
+  apdus,
+  subst (λ (s : LineValue). Does answers old (tasks_in plan s) apdus new) e d,
+  is,
+)
+
+-- ---- a meter alone
+
+abbrev alone : Plan → State → Alone
+alone plan meter = record { plan = plan; meter = meter }
+
+asked-alone : (plan : Plan) (meter : State) (asked : Option Asked) (apdu : List ℕ) (new : Alone) → DoesAsked AnswersAlone (alone plan meter) asked apdu new
+    → (apdu ≡ reply_by plan meter asked) × (new ≡ alone plan (next_by plan meter asked))
+asked-alone plan meter None apdu new d = d
+asked-alone plan meter (Some asked) apdu new (reply, (is, now), put) = (put ∙ ap (apdu_of asked) is, now)
+
+ask-alone : (plan : Plan) (meter : State) (ask : Ask) (apdu : List ℕ) (new : Alone) → AnswersAsk AnswersAlone (alone plan meter) ask apdu new
+    → (apdu ≡ reply_of_ask plan meter ask) × (new ≡ alone plan (next_of plan meter ask))
+unfolding AnswersAsk reply_of_ask next_of
+ask-alone plan meter ask apdu new d = asked-alone plan meter (asking_at ask.client ask.apdu) apdu new d
+
+-- a meter alone does tasks by the run of their steps
+does-alone : (plan : Plan) (meter : State) (tasks : List Task) (apdus : List (List ℕ)) (new : Alone) → Does AnswersAlone (alone plan meter) tasks apdus new
+    → (apdus ≡ replies_to plan meter tasks) × (new ≡ alone plan (meter_after plan meter tasks))
+does-alone plan meter [] apdus new d = d
+does-alone plan meter (Answer ask ∷ tasks) apdus new (mid, apdu, others, a, d, is) =
+    let k = ask-alone plan meter ask apdu mid a in
+    let more = does-alone plan (next_of plan meter ask) tasks others new (subst (λ (s : Alone). Does AnswersAlone s tasks others new) k.1 d) in
+    (is ∙ ap (λ (x : List ℕ). x ∷ others) k.0 ∙ ap (λ (l : List (List ℕ)). reply_of_ask plan meter ask ∷ l) more.0, more.1)
+does-alone plan meter (Take step ∷ tasks) apdus new (mid, reply, a, d) = does-alone plan (next plan meter step) tasks apdus new (subst (λ (s : Alone). Does AnswersAlone s tasks apdus new) a.1 d)
+
+-- what a line does to it, as its text
+pub line-answered : (old new : Alone) (number : ℕ) (line waiting texts : List ℕ) (r : Result (Unit {0}) LineFault) → TakesLine AnswersAlone old.plan old new number line waiting texts r
+    → OnOk r (Puts waiting texts (λ text. AnswersLine old number line text new))
+line-answered old new number line waiting texts (Ok u) (readable, apdus, d, is) =
+    let k = does-alone old.plan old.meter (tasks_in old.plan (line_of old.plan line)) apdus new d in (flat_map reply_text apdus, is, (readable, ap (flat_map reply_text) k.0, k.1))
+line-answered old new number line waiting texts (Err fault) t = tt
+
+pub line-stopped : (old new : Alone) (number : ℕ) (line waiting texts : List ℕ) (r : Result (Unit {0}) LineFault) → TakesLine AnswersAlone old.plan old new number line waiting texts r
+    → IfErr r (λ fault. Puts waiting texts (λ text. StopsAtLine old number line text fault))
+line-stopped old new number line waiting texts (Ok u) t = tt
+line-stopped old new number line waiting texts (Err Read) t = absurd t
+line-stopped old new number line waiting texts (Err Write) t = absurd t
+line-stopped old new number line waiting texts (Err (Line n why)) (bad, is, put, same) = (unreadable_text number, put, (bad, is, refl))
+line-stopped old new number line waiting texts (Err Memory) t = ([], t ∙ sym (append-nil waiting), refl)

@@ -1,0 +1,12 @@
+pub mod Answering
+pub mod Asking
+pub mod Doing
+pub mod Driving
+pub mod Faults
+pub mod Feeding
+pub mod Lines
+pub mod Pieces
+pub mod Running
+pub mod Solo
+pub mod Spelling
+pub mod Words

@@ -1,0 +1,73 @@
+ghost use Rattle.std.specs.Prelude.{◌≡◌, ◌++◌, List, ℕ, OnOk, OnErr};
+ghost use Rattle.xdlms_services.specs.Asking.{asking_of};
+ghost use Rattle.line_server.specs.Doing.{AnswersAsk, DoesAsked, FailsAsk, MayAsk};
+
+use acse_session::asker::Asker;
+use cosem_data::memory::Memory;
+use std::alloc::Global;
+use std::marker::Model;
+use xdlms_services::asking::{Exception, write_exception};
+use xdlms_services::reading::{ApduFault, read_apdu};
+use xdlms_services::request::Request;
+
+/// An APDU of a client, which is named by its place in the plan. Contracts see the two as a record.
+#[derive(Debug, Drop)]
+pub struct Ask<'a> {
+    client: u8,
+    apdu: &'a [u8],
+}
+
+impl<'a> Model for Ask<'a> {
+    ghost use Rattle.line_server.specs.Asking.{Ask as Asked};
+
+    ghost Value = { Asked };
+
+    ghost view = { λ a. record { client = a.client; apdu = a.apdu.now } };
+}
+
+impl<'a> Ask<'a> {
+    /// What this client asks by this APDU.
+    pub fn new(client: u8, apdu: &'a [u8]) -> Self
+        ensures client { result.client ≡ client }
+        ensures apdu { result.apdu ≡ apdu.now }
+    {
+        Ask { client, apdu }
+    }
+}
+
+/// Puts the APDU that is replied to an APDU of a client behind what is there; the asker takes the step that it asks for.
+///
+/// What is no GET or SET of one attribute and no ACTION of one method is replied an exception, and asks nothing. The only error is
+/// want of memory; the reply is then lost, and the step was asked once or not at all.
+pub fn answer<A: Asker>(
+    alloc: Global,
+    asker: &mut A,
+    ask: &Ask<'_>,
+    out: &mut Vec<u8>,
+) -> Result<(), Memory>
+    ensures reply { OnOk result ((apdu : List ℕ) × AnswersAsk A.answers asker.old ask.now apdu asker.new × (out.new.items ≡ out.old.items ++ apdu)) }
+    ensures err { OnErr result (FailsAsk A.answers asker.old ask.now asker.new) }
+{
+    match read_apdu(alloc, ask.apdu) {
+        Ok(request) => answer_request(alloc, asker, ask.client, request, out),
+        Err(ApduFault::Unreadable) => write_exception(Exception::Unknown, out),
+        Err(ApduFault::Memory) => Err(Memory),
+    }
+}
+
+/// Puts the APDU that is replied to a request behind what is there; the asker takes the step that it asks for, if it asks one.
+fn answer_request<A: Asker>(
+    alloc: Global,
+    asker: &mut A,
+    client: u8,
+    request: Request,
+    out: &mut Vec<u8>,
+) -> Result<(), Memory>
+    ensures reply { OnOk result ((apdu : List ℕ) × DoesAsked A.answers asker.old (asking_of client request) apdu asker.new × (out.new.items ≡ out.old.items ++ apdu)) }
+    ensures err { OnErr result (MayAsk A.answers asker.old (asking_of client request) asker.new) }
+{
+    match request.into_asking(client) {
+        Some(asking) => asker.put_reply(alloc, asking, out),
+        None => write_exception(Exception::Unknown, out),
+    }
+}

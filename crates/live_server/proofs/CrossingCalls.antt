@@ -1,0 +1,30 @@
+-- What the threads of a server take along may cross to them.
+use mathlib.Core.List.{[], ◌∷◌}
+use denote.RattleType.{RattleType}
+use denote.Struct.Field.{row_field, u64-field}
+use denote.Struct.Tuple.{TupleAt, type_at}
+use denote.Param.Send.{IsSend, IsSync, sendable}
+use denote.Param.SendFields.{as_row_send, declared_send}
+use mir.Syntax.{Sym}
+use Rattle.core.specs.contracts.sync.Mutex as mutexes
+use Rattle.std.proofs.Crossing.{crosses}
+use Rattle.live_server.specs.contracts.seats.Taken as taken
+use Rattle.live_server.specs.contracts.sessions.Driven as driven
+
+-- three things that a closure takes along
+pub three_send : (ν : Sym) (A B C : RattleType) → IsSend A → IsSend B → IsSend C → IsSend (TupleAt ν (A ∷ B ∷ C ∷ []))
+three_send ν A B C a b c = declared_send (type_at ν (A ∷ B ∷ C ∷ [])) (as_row_send (row_field A) a, (as_row_send (row_field B) b, (as_row_send (row_field C) c, tt)))
+
+-- seven
+pub seven_send : (ν : Sym) (A B C D E F G : RattleType) → IsSend A → IsSend B → IsSend C → IsSend D → IsSend E → IsSend F → IsSend G → IsSend (TupleAt ν (A ∷ B ∷ C ∷ D ∷ E ∷ F ∷ G ∷ []))
+seven_send ν A B C D E F G a b c d e f g = declared_send (type_at ν (A ∷ B ∷ C ∷ D ∷ E ∷ F ∷ G ∷ []))
+    (as_row_send (row_field A) a, (as_row_send (row_field B) b, (as_row_send (row_field C) c, (as_row_send (row_field D) d, (as_row_send (row_field E) e, (as_row_send (row_field F) f, (as_row_send (row_field G) g, tt)))))))
+
+pub driven_send : (I F : RattleType) → IsSend I → IsSend F → IsSend (driven.the_row I F)
+driven_send I F i f = declared_send (driven.the_type I F) (as_row_send (row_field I) i, (as_row_send (row_field F) f, tt))
+
+pub taken_sync : IsSync (mutexes.the_row taken.the_row)
+taken_sync = search (crosses, sendable) depth 20
+
+pub number_send : IsSend u64-field.row
+number_send = search sendable depth 12

@@ -1,0 +1,28 @@
+-- What a live meter answers can be sent, and what a reader saw it goes on to see.
+use Rattle.std.proofs.Common.{◌≡◌, List, sym, subst}
+use Rattle.meter_theory.specs.Plan.{Plan, start}
+use Rattle.meter_theory.specs.Replies.{Reply, reply_to, run}
+use Rattle.meter_theory.specs.Sound.{IsSound}
+use Rattle.meter_theory.specs.Steps.{Step, Get, Set, Act, Input, CaptureAt, Evaluate, ScheduleAt}
+use Rattle.meter_theory.proofs.Start.{start-is-state}
+use Rattle.meter_theory.proofs.KeepSteps.{run-keeps}
+use Rattle.xdlms_services.specs.declared.writing.Service.{Service}
+use Rattle.xdlms_services.specs.declared.writing.Service.TheVariants as services
+use Rattle.acse_session.specs.Conversation.{CanSend, IsSendable}
+use Rattle.acse_session.proofs.Sendable.{reply-sendable}
+use Rattle.meter_live.specs.Changes.{Answers}
+
+-- what a port answers
+pub answers-sendable : (P : Plan) → IsSound P → (step : Step) (reply : Reply) → Answers P step reply → IsSendable step reply
+answers-sendable P sound (Get c d selection) reply (s, k, is) = subst (IsSendable (Get c d selection)) (sym is) (reply-sendable P sound s k (Get c d selection))
+answers-sendable P sound (Set c d selected v) reply is = λ service e. subst (λ (x : Service). CanSend x reply) (sym e) (subst (CanSend services.Set) (sym is) tt)
+answers-sendable P sound (Act c d argument) reply is = λ service e. subst (λ (x : Service). CanSend x reply) (sym e) (subst (CanSend services.Act) (sym is) tt)
+answers-sendable P sound (Input x v) reply h = λ service e. absurd e
+answers-sendable P sound (CaptureAt n t) reply h = λ service e. absurd e
+answers-sendable P sound (Evaluate n) reply h = λ service e. absurd e
+answers-sendable P sound (ScheduleAt n t) reply h = λ service e. absurd e
+
+-- what a reader answers
+pub read-sendable : (P : Plan) → IsSound P → (seen : List Step) (step : Step) (reply : Reply) → reply ≡ reply_to P (run P (start P) seen) step → IsSendable step reply
+read-sendable P sound seen step reply is =
+    subst (IsSendable step) (sym is) (reply-sendable P sound (run P (start P) seen) (run-keeps P sound (start P) seen (start-is-state P sound)) step)

@@ -1,0 +1,177 @@
+//! What a session of a live meter asks.
+ghost use Rattle.std.specs.Prelude.{◌≡◌, true, IfOk, None, Some};
+ghost use mathlib.Core.List.{IsPrefix};
+ghost use Rattle.meter_live.specs.Changes.{is_get};
+ghost use Rattle.meter_theory.specs.Plan.{start};
+ghost use Rattle.meter_theory.specs.Replies.{reply_to, run};
+ghost use Rattle.meter_core.specs.StepView.{reply_of, step_of};
+ghost use Rattle.acse_session.specs.Conversation.{answered, IsSendable};
+ghost use Rattle.live_server.specs.Asking.{AnswersLive};
+
+use acse_session::asker::Asker;
+use association_views::permits::permit_get;
+use cosem_data::memory::Memory;
+use meter_core::reply::Reply;
+use meter_core::step::Step;
+use meter_live::board::Port;
+use meter_live::desk::BoardReader;
+use meter_live::names::Naming;
+use meter_live::share::Share;
+use object_model::plan::Plan;
+use std::alloc::Global;
+use std::sync::Wait;
+use std::sync::ledger::Ledger;
+
+/// A place at a live meter, for one session after another: a port, its share, and its reader, where it got one.
+///
+/// Its reader answers GETs, without the lock, and all else is a step under it. A seat without a reader asks everything under the lock.
+#[derive(Drop)]
+pub struct PortAsker<'b, N: Naming, S: Ledger, C: Ledger, W: Wait + Drop, R: Wait> {
+    rt: &'b R,
+    port: Port<'b, N, S, C, W>,
+    share: Share<S, C>,
+    reader: Option<BoardReader<N>>,
+    /// Whether a step was taken here that the reader wasn't told of.
+    is_behind: bool,
+}
+
+impl<'b, N: Naming, S: Ledger, C: Ledger, W: Wait + Drop, R: Wait> PortAsker<'b, N, S, C, W, R> {
+    /// A seat at this port, which gives its reader now.
+    pub fn new(rt: &'b R, port: Port<'b, N, S, C, W>, share: Share<S, C>) -> Self
+        ensures { result.share ≡ share }
+    {
+        let reader = port.reader(rt).ok();
+        PortAsker {
+            rt,
+            port,
+            share,
+            reader,
+            is_behind: false,
+        }
+    }
+
+    /// The plan of the meter.
+    pub fn plan(&self) -> &'b Plan
+        ensures { result.now ≡ N.accepted.plan }
+    {
+        self.port.plan()
+    }
+
+    /// Publishes all steps that are pending, and tells the reader. Where memory is refused, that is left to the next telling.
+    pub fn tell(&mut self) {
+        if let Some(reader) = &mut self.reader {
+            self.is_behind = self.port.tell(self.rt, reader).is_err();
+        }
+    }
+
+    /// Its share.
+    pub fn into_share(self) -> Share<S, C>
+        ensures { result ≡ self.entry.share }
+    {
+        self.share
+    }
+}
+
+impl<'b, N: Naming, S: Ledger, C: Ledger, W: Wait + Drop, R: Wait> Asker
+    for PortAsker<'b, N, S, C, W, R> {
+    ghost use Rattle.live_server.specs.Asking.{AnswersLive};
+
+    ghost plan_of = { λ _. N.accepted.plan };
+
+    ghost answers = { λ old step reply new.
+        AnswersLive N.accepted.plan (record { seen = old.reader; share = old.share }) step reply (record { seen = new.reader; share = new.share }) };
+
+    fn ask(&mut self, alloc: Global, step: Step) -> Result<Reply, Memory> {
+        match &mut self.reader {
+            Some(reader) => ask_read(
+                self.rt,
+                alloc,
+                &self.port,
+                &mut self.share,
+                reader,
+                &mut self.is_behind,
+                step,
+            ),
+            None => ask_locked(self.rt, alloc, &self.port, &mut self.share, step),
+        }
+    }
+}
+
+/// A GET is answered by the reader, and all else under the lock, where the reader is told of it too.
+fn ask_read<N: Naming, S: Ledger, C: Ledger, W: Wait + Drop, R: Wait>(
+    rt: &R,
+    alloc: Global,
+    port: &Port<'_, N, S, C, W>,
+    share: &mut Share<S, C>,
+    reader: &mut BoardReader<N>,
+    is_behind: &mut bool,
+    step: Step,
+) -> Result<Reply, Memory>
+    ensures answer { AnswersLive N.accepted.plan (record { seen = Some reader.old; share = share.old }) (step_of step) (answered result) (record { seen = Some reader.new; share = share.new }) }
+    ensures sendable { IfOk result (λ reply. IsSendable (step_of step) (reply_of reply)) }
+{
+    if let Step::Get { .. } = &step {
+        return read(rt, alloc, port, reader, is_behind, &step);
+    }
+    port.plan().known();
+    let (reply, is_told) = port
+        .put(rt, alloc, share, reader, step)
+        .map_err(|_| Memory)?;
+    *is_behind = !is_told;
+    Ok(reply)
+}
+
+/// A GET is answered by the reader. Where the plan grants it, the reader is first told of a step that it wasn't told of yet.
+fn read<N: Naming, S: Ledger, C: Ledger, W: Wait + Drop, R: Wait>(
+    rt: &R,
+    alloc: Global,
+    port: &Port<'_, N, S, C, W>,
+    reader: &mut BoardReader<N>,
+    is_behind: &mut bool,
+    step: &Step,
+) -> Result<Reply, Memory>
+    requires { is_get (step_of step.now) ≡ true }
+    ensures later { IsPrefix reader.old reader.new }
+    ensures reply { IfOk result (λ reply. reply_of reply ≡ reply_to N.accepted.plan (run N.accepted.plan (start N.accepted.plan) reader.new) (step_of step.now)) }
+    ensures sendable { IfOk result (λ reply. IsSendable (step_of step.now) (reply_of reply)) }
+{
+    port.plan().known();
+    if *is_behind && is_granted(port.plan(), step) {
+        port.tell(rt, reader)?;
+        *is_behind = false;
+    }
+    match reader.get(alloc, step) {
+        Ok(reply) => Ok(reply),
+        Err(_) => Err(Memory),
+    }
+}
+
+/// Whether the plan grants a GET.
+fn is_granted(plan: &Plan, step: &Step) -> bool {
+    match step {
+        Step::Get {
+            client,
+            attribute,
+            selection,
+        } => permit_get(plan, *client, attribute, selection).is_ok(),
+        _ => false,
+    }
+}
+
+/// A step is taken under the lock.
+fn ask_locked<N: Naming, S: Ledger, C: Ledger, W: Wait + Drop, R: Wait>(
+    rt: &R,
+    alloc: Global,
+    port: &Port<'_, N, S, C, W>,
+    share: &mut Share<S, C>,
+    step: Step,
+) -> Result<Reply, Memory>
+    ensures answer { AnswersLive N.accepted.plan (record { seen = None; share = share.old }) (step_of step) (answered result) (record { seen = None; share = share.new }) }
+    ensures sendable { IfOk result (λ reply. IsSendable (step_of step) (reply_of reply)) }
+{
+    port.plan().known();
+    match port.act(rt, alloc, share, step) {
+        Ok(reply) => Ok(reply),
+        Err(_) => Err(Memory),
+    }
+}

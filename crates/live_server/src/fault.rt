@@ -1,0 +1,36 @@
+//! Why connections are no longer served.
+ghost use Rattle.std.specs.Prelude.{◌≡◌};
+
+use std::error::Error;
+use std::fmt;
+
+/// Why connections are no longer served (own profile).
+#[derive(Clone, Copy, Debug, PartialEq, Eq, Drop)]
+pub enum ServerFault {
+    /// No connection can be taken at the address.
+    Listen,
+    /// Memory was refused, or no thread was there for the driver.
+    Memory,
+    /// The gate had a seat give up.
+    GaveUp,
+    /// The board had no port for a seat, or wasn't closed for want of a share.
+    Board,
+}
+
+impl fmt::Display for ServerFault {
+    ghost use Rattle.std.specs.Prelude.{Some};
+    ghost use Rattle.live_server.specs.Faults.{fault_words};
+
+    ghost output = { λ fault. Some (fault_words fault) };
+
+    fn fmt<W: fmt::Write>(&self, f: &mut fmt::Formatter<W>) -> fmt::Result {
+        match self {
+            ServerFault::Listen => f.write_str("connections can't be taken there"),
+            ServerFault::Memory => f.write_str("out of memory"),
+            ServerFault::GaveUp => f.write_str("a seat gave up"),
+            ServerFault::Board => f.write_str("the meter has no port for a seat"),
+        }
+    }
+}
+
+impl Error for ServerFault {}

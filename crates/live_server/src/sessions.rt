@@ -1,0 +1,268 @@
+//! Connections over TCP, each in a thread of its own, on one board.
+ghost use Rattle.std.specs.Prelude.{◌≡◌, ◌<◌, IfOk};
+ghost use denote.Param.Send.{IsSend, IsSync};
+ghost use Rattle.meter_theory.specs.States.{IsState};
+
+use crate::asking::PortAsker;
+use crate::driver::{Driver, PassedOver};
+use crate::fault::ServerFault;
+use crate::seats::{Taken, open_seat, open_seats, shares_of};
+use flow_checker::check::Checked;
+use frame_server::fault::ServeFault;
+use frame_server::serving::{Seat, serve_gated};
+use gates::Gate;
+use line_server::lines::answer_lines;
+use meter_live::board::{Blanks, Board, Closed, NotAll};
+use meter_live::names::Naming;
+use meter_live::share::Share;
+use std::alloc::Global;
+use std::io::{Read, Write};
+use std::marker::Brand;
+use std::net::{TcpListener, TcpStream};
+use std::sync::ledger::Ledger;
+use std::sync::{Mutex, Wait};
+use std::thread;
+use std::thread::Threads;
+
+/// Where connections come from, how many are answered before the end (0 for no end), and the gate that stands before each answer.
+#[derive(Drop)]
+pub struct Service<'a, G: Gate> {
+    pub listener: &'a TcpListener,
+    pub sessions: u64,
+    pub gate: &'a G,
+}
+
+/// The driver's lines, and where it is told which of them are refused.
+#[derive(Drop)]
+pub struct Driven<I: Read + Drop, F: Write + Drop> {
+    pub steps: I,
+    pub faults: F,
+}
+
+/// Answers so many connections, each in a thread of its own at the lowest free seat, and takes the meter's own steps from the driver's
+/// lines; then closes the board. A connection that finds no free seat, or no thread, is closed, and counts.
+///
+/// # Errors
+/// No connection can be taken, memory was refused, a seat gave up, or the board had no port for a seat. The board has ended then.
+pub fn serve_sessions<N, S, C, W, R, I, F, G>(
+    rt: &R,
+    alloc: Global,
+    board: Board<N, S, C, W>,
+    service: Service<'_, G>,
+    driven: Driven<I, F>,
+) -> Result<Closed, ServerFault>
+where
+    N: Naming + Send + Sync,
+    S: Ledger + Send + Sync,
+    C: Ledger + Send + Sync,
+    W: Wait + Drop + Send + Sync,
+    R: Threads + Wait + Sync,
+    I: Read + Send + Drop,
+    F: Write + Send + Drop,
+    G: Gate + Sync,
+    requires { (S.parts ≡ 256) × (C.parts ≡ 256) }
+    ensures plan { IfOk result (λ closed. closed.plan ≡ N.accepted) }
+    ensures meter { IfOk result (λ closed. IsState N.accepted.plan closed.meter) }
+{
+    match run_sessions(rt, alloc, &board, service, driven) {
+        Ok(shares) => match board.close(rt, shares) {
+            Ok(closed) => Ok(closed),
+            Err(NotAll { board, .. }) => {
+                board.end(rt);
+                Err(ServerFault::Board)
+            }
+        },
+        Err(fault) => {
+            board.end(rt);
+            Err(fault)
+        }
+    }
+}
+
+/// Answers the connections, takes the driver's lines, and gives the shares of all seats.
+fn run_sessions<N, S, C, W, R, I, F, G>(
+    rt: &R,
+    alloc: Global,
+    board: &Board<N, S, C, W>,
+    service: Service<'_, G>,
+    driven: Driven<I, F>,
+) -> Result<Vec<Share<S, C>>, ServerFault>
+where
+    N: Naming + Send + Sync,
+    S: Ledger + Send + Sync,
+    C: Ledger + Send + Sync,
+    W: Wait + Drop + Send + Sync,
+    R: Threads + Wait + Sync,
+    I: Read + Send + Drop,
+    F: Write + Send + Drop,
+    G: Gate + Sync,
+{
+    let driver = Driver::new(alloc, open_seat(rt, board)?);
+    let seats = open_seats(rt, alloc, board)?;
+    let taken = Mutex::new(Taken::new());
+    let lent = seats.as_slice();
+    let shared = &taken;
+    let (driver, ended) = thread::join(
+        rt,
+        move || drive(alloc, driver, driven),
+        || accept_all(rt, alloc, lent, shared, &service),
+    );
+    ended?;
+    if taken.into_inner().gave_up {
+        return Err(ServerFault::GaveUp);
+    }
+    shares_of(alloc, driver.into_seat(), seats)
+}
+
+/// The driver takes its lines, to their end or to a read that fails.
+fn drive<N: Naming, S: Ledger, C: Ledger, W: Wait + Drop, R: Wait, I: Read + Drop, F: Write + Drop>(
+    alloc: Global,
+    mut driver: Driver<'_, N, S, C, W, R>,
+    driven: Driven<I, F>,
+) -> Driver<'_, N, S, C, W, R> {
+    let Driven { mut steps, faults } = driven;
+    let mut faults = PassedOver(faults);
+    let _ = answer_lines(alloc, &mut driver, &mut steps, &mut faults);
+    driver
+}
+
+/// Takes connections until there were so many, and waits for their threads.
+fn accept_all<N, S, C, W, R, G>(
+    rt: &R,
+    alloc: Global,
+    seats: &[Mutex<PortAsker<'_, N, S, C, W, R>>],
+    taken: &Mutex<Taken>,
+    service: &Service<'_, G>,
+) -> Result<(), ServerFault>
+where
+    N: Naming + Send + Sync,
+    S: Ledger + Send + Sync,
+    C: Ledger + Send + Sync,
+    W: Wait + Drop + Send + Sync,
+    R: Threads + Wait + Sync,
+    G: Gate + Sync,
+{
+    thread::scope(
+        thread::scope_env(),
+        rt,
+        move |scope| -> Result<(), ServerFault>
+            requires send { IsSend N.row × IsSend S.row × IsSend C.row × IsSend W.row }
+            requires sync { IsSync R.row × IsSync G.row }
+        {
+            let mut count = 0u64;
+            for stream in service.listener.incoming() {
+                let Ok(stream) = stream else {
+                    return Err(ServerFault::Listen);
+                };
+                let free = taken.lock(rt).take();
+                if let Some(number) = free {
+                    if let Some(seat) = seats.get(number) {
+                        let gate = service.gate;
+                        let run = move || sit(rt, alloc, &stream, seat, taken, number, gate);
+                        if scope.spawn(run).is_err() {
+                            taken.lock(rt).free(number);
+                        }
+                    }
+                }
+                count = count.wrapping_add(1);
+                if count == service.sessions {
+                    break;
+                }
+            }
+            Ok(())
+        },
+    )
+}
+
+/// One connection at a seat, which is free again afterwards. What ends the connection is no fault of the others.
+fn sit<N: Naming, S: Ledger, C: Ledger, W: Wait + Drop, R: Wait, G: Gate>(
+    rt: &R,
+    alloc: Global,
+    stream: &TcpStream,
+    asker: &Mutex<PortAsker<'_, N, S, C, W, R>>,
+    taken: &Mutex<Taken>,
+    number: usize,
+    gate: &G,
+)
+    requires { number < 64 }
+{
+    let _ = stream.set_nodelay(true);
+    let ended = converse(rt, alloc, stream, asker, &Seat { number, gate });
+    let mut taken = taken.lock(rt);
+    if ended == Err(ServeFault::GaveUp) {
+        taken.gave_up = true;
+    }
+    taken.free(number);
+}
+
+/// The frames of one connection, answered at a seat.
+fn converse<N: Naming, S: Ledger, C: Ledger, W: Wait + Drop, R: Wait, G: Gate>(
+    rt: &R,
+    alloc: Global,
+    stream: &TcpStream,
+    asker: &Mutex<PortAsker<'_, N, S, C, W, R>>,
+    seat: &Seat<'_, G>,
+) -> Result<u64, ServeFault> {
+    let mut reader = stream;
+    let mut writer = stream;
+    let mut asker = asker.lock(rt);
+    let plan = asker.plan();
+    serve_gated(alloc, &mut reader, &mut writer, plan, &mut *asker, seat)
+}
+
+/// Opens a live meter of what was accepted, and answers connections as `serve_sessions` does.
+///
+/// # Errors
+/// As `serve_sessions`; and memory was refused for the meter.
+pub fn serve_accepted<R, I, F, G>(
+    rt: &R,
+    alloc: Global,
+    checked: Checked,
+    service: Service<'_, G>,
+    driven: Driven<I, F>,
+) -> Result<Closed, ServerFault>
+where
+    R: Threads + Wait + Sync,
+    I: Read + Send + Drop,
+    F: Write + Send + Drop,
+    G: Gate + Sync,
+    ensures plan { IfOk result (λ closed. closed.plan ≡ checked) }
+    ensures meter { IfOk result (λ closed. IsState checked.plan closed.meter) }
+{
+    let blanks = Blanks::new();
+    open_and_serve::<Brand, Brand, Brand, &R, R, I, F, G>(
+        rt, rt, alloc, checked, blanks, service, driven,
+    )
+}
+
+/// The same, with what names the board.
+fn open_and_serve<N, S, C, W, R, I, F, G>(
+    rt: &R,
+    keep: W,
+    alloc: Global,
+    checked: Checked,
+    blanks: Blanks,
+    service: Service<'_, G>,
+    driven: Driven<I, F>,
+) -> Result<Closed, ServerFault>
+where
+    N: Naming + Send + Sync,
+    S: Ledger + Send + Sync,
+    C: Ledger + Send + Sync,
+    W: Wait + Drop + Send + Sync,
+    R: Threads + Wait + Sync,
+    I: Read + Send + Drop,
+    F: Write + Send + Drop,
+    G: Gate + Sync,
+    requires plan { checked ≡ N.accepted }
+    requires book { blanks.history ≡ N.book }
+    requires steps { (blanks.steps.name ≡ S.name) × (S.parts ≡ 256) }
+    requires changes { (blanks.changes.name ≡ C.name) × (C.parts ≡ 256) }
+    ensures plan { IfOk result (λ closed. closed.plan ≡ checked) }
+    ensures meter { IfOk result (λ closed. IsState checked.plan closed.meter) }
+{
+    match Board::<N, S, C, W>::open(keep, alloc, checked, blanks) {
+        Ok(board) => serve_sessions(rt, alloc, board, service, driven),
+        Err(_) => Err(ServerFault::Memory),
+    }
+}

@@ -1,0 +1,176 @@
+//! A live meter in one thread.
+ghost use Rattle.std.specs.Prelude.{◌≡◌, IfOk};
+
+use super::samples::{
+    ALARM_CELL, ENERGY, accepted, energy_is, get_energy, is_quiet, number_in, set_alarm,
+};
+use meter_core::reply::Reply;
+use meter_core::step::Step;
+use meter_live::fault::{LiveFault, ReadRefused};
+use meter_live::live::Live;
+use meter_live::reader::Reader;
+use std::alloc::Global;
+use std::process::Abort;
+use std::sync::Wait;
+use std::test::Fail;
+
+/// A live meter of the accepted plan. Where memory is refused it is made once more of what was given back.
+fn begun<R: Wait>(rt: &R, alloc: Global) -> Result<Live, Fail> {
+    match Live::new(rt, alloc, accepted(alloc)?, 1) {
+        Ok(live) => Ok(live),
+        Err(checked) => Live::new(rt, alloc, checked, 1).map_err(|_| "refused once more".into()),
+    }
+}
+
+/// Takes a step by port 7. Where memory is refused nothing was counted or kept, and the step is taken once more.
+fn taken(rt: &impl Abort, alloc: Global, live: &mut Live, step: &Step) -> Result<Reply, Fail>
+    ensures { live.new.book ≡ live.old.book }
+{
+    let count = live.meter().count();
+    let entries = live.meter().trail().len();
+    match live.act(alloc, 7, step) {
+        Ok(reply) => Ok(reply),
+        Err(LiveFault::Full) => Err("full".into()),
+        Err(LiveFault::Memory) => {
+            assert_eq!(rt; live.meter().count(), count);
+            assert_eq!(rt; live.meter().trail().len(), entries);
+            live.act(alloc, 7, step)
+                .map_err(|_| "refused once more".into())
+        }
+    }
+}
+
+/// The answer to a GET of the register.
+fn taken_get(rt: &impl Abort, alloc: Global, live: &mut Live) -> Result<Reply, Fail> {
+    taken(rt, alloc, live, &get_energy())
+}
+
+/// The answer to a value that comes into the register.
+fn taken_input(rt: &impl Abort, alloc: Global, live: &mut Live) -> Result<Reply, Fail>
+    ensures { live.new.book ≡ live.old.book }
+{
+    taken(rt, alloc, live, &energy_is(5))
+}
+
+/// So many steps were taken, and the trail has so many entries.
+fn has_taken(rt: &impl Abort, live: &Live, count: u64, entries: usize) {
+    assert_eq!(rt; live.meter().count(), count);
+    assert_eq!(rt; live.meter().trail().len(), entries);
+}
+
+/// Takes a first step and then GETs of the register, until the trail is closed.
+fn take_past_the_trail(
+    rt: &impl Abort,
+    alloc: Global,
+    live: &mut Live,
+    first: &Step,
+) -> Result<(), Fail> {
+    let _first = taken(rt, alloc, live, first)?;
+    for _i in 1..4096 {
+        let reply = taken_get(rt, alloc, live)?;
+        assert_eq!(rt; number_in(&reply), Some(u64::from(ENERGY)));
+    }
+    has_taken(rt, live, 4096, 4096);
+    let _last = taken_get(rt, alloc, live)?;
+    has_taken(rt, live, 4097, 1);
+    Ok(())
+}
+
+/// The alarm in the state where the trail begins.
+fn alarm_where_it_begins(alloc: Global, live: &Live) -> Result<Option<u64>, Fail> {
+    live.known();
+    let opening = live.meter().opening();
+    let value = opening.value(alloc, live.plan(), &ALARM_CELL)?;
+    Ok(number_in(&Reply::Value(value)))
+}
+
+/// The trail is closed, and then begins in a state with this alarm.
+fn is_closed(
+    rt: &impl Abort,
+    alloc: Global,
+    live: &mut Live,
+    first: &Step,
+    alarm: u64,
+) -> Result<(), Fail> {
+    take_past_the_trail(rt, alloc, live, first)?;
+    let begins = alarm_where_it_begins(alloc, live)?;
+    assert_eq!(rt; begins, Some(alarm));
+    Ok(())
+}
+
+/// A full trail is closed before the next step, and begins in the state before that.
+fn trail_is_closed<R: Wait + Abort>(
+    rt: &R,
+    alloc: Global,
+    first: &Step,
+    alarm: u64,
+) -> Result<(), Fail> {
+    let mut live = begun(rt, alloc)?;
+    let closed = is_closed(rt, alloc, &mut live, first, alarm);
+    live.end(rt);
+    closed
+}
+
+#[test]
+fn a_full_trail_of_gets_is_closed(rt: HostRuntime) -> Result<(), Fail> {
+    trail_is_closed(&rt, rt.alloc(), &get_energy(), 0)
+}
+
+#[test]
+fn a_full_trail_is_closed_in_the_state_then(rt: HostRuntime) -> Result<(), Fail> {
+    trail_is_closed(&rt, rt.alloc(), &set_alarm(1), 1)
+}
+
+/// The answer to a GET of the register.
+fn read(alloc: Global, reader: &mut Reader) -> Result<Reply, ReadRefused>
+    ensures { reader.new.book ≡ reader.old.book }
+{
+    reader.get(alloc, &get_energy())
+}
+
+/// The register as the reader sees it, where memory is refused at most once.
+fn seen(alloc: Global, reader: &mut Reader) -> Option<u64>
+    ensures { reader.new.book ≡ reader.old.book }
+{
+    let reply = match read(alloc, reader) {
+        Ok(reply) => Ok(reply),
+        Err(_) => read(alloc, reader),
+    };
+    number_in(&reply.ok()?)
+}
+
+/// A value that came in is seen once the reader is told. Where the telling is refused for memory, the reader sees what it saw, and is
+/// told once more.
+fn is_told<R: Wait + Abort>(
+    rt: &R,
+    alloc: Global,
+    live: &mut Live,
+    reader: &mut Reader,
+) -> Result<(), Fail>
+    requires { reader.old.book ≡ live.old.book }
+{
+    let reply = taken_input(rt, alloc, live)?;
+    assert!(rt; is_quiet(&reply));
+    assert_eq!(rt; seen(alloc, reader), Some(u64::from(ENERGY)));
+    if live.tell(rt, reader).is_err() {
+        assert_eq!(rt; seen(alloc, reader), Some(u64::from(ENERGY)));
+        live.tell(rt, reader)?;
+    }
+    assert_eq!(rt; seen(alloc, reader), Some(5));
+    Ok(())
+}
+
+fn is_told_from_start<R: Wait + Abort>(rt: &R, alloc: Global, live: &mut Live) -> Result<(), Fail> {
+    let Some(mut reader) = live.reader() else {
+        return Err("no reader".into());
+    };
+    is_told(rt, alloc, live, &mut reader)
+}
+
+#[test]
+fn a_reader_sees_what_it_is_told(rt: HostRuntime) -> Result<(), Fail> {
+    let mut live = begun(&rt, rt.alloc())?;
+    let told = is_told_from_start(&rt, rt.alloc(), &mut live);
+    live.end(&rt);
+    told
+}

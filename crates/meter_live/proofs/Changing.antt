@@ -1,0 +1,79 @@
+-- Steps that change nothing, and what a port answers.
+use Rattle.std.proofs.Common.{◌≡◌, ◌≤◌, Bool, true, false, refl, sym, arith}
+use Rattle.association_views.specs.Permits.{permitted}
+use Rattle.std.specs.Prelude.{cond, List, [], is_ok}
+use Rattle.cosem_data.specs.Tree.{Tree}
+use Rattle.cosem_data.specs.View.{tree}
+use Rattle.meter_core.specs.Copies.{has_value}
+use Rattle.meter_core.specs.StepView.{reply_of}
+use Rattle.meter_core.specs.declared.reply.Reply.{Reply as CodeReply}
+use Rattle.meter_core.specs.declared.reply.Reply.TheVariants as kinds
+use Rattle.meter_theory.specs.Access.{is_success}
+use Rattle.meter_theory.specs.declared.access.AccessCode.{AccessCode}
+use Rattle.meter_theory.specs.declared.access.AccessCode.TheVariants as codes
+use Rattle.meter_theory.specs.Plan.{Plan}
+use Rattle.meter_theory.specs.Replies.{Reply, Value, reply_to}
+use Rattle.meter_theory.specs.Rights.{set_answer, act_answer, method_of, cell_of}
+use Rattle.meter_theory.specs.State.{State}
+use Rattle.meter_theory.specs.States.{IsState}
+use Rattle.meter_theory.specs.Steps.{Effect, Step, Get, Set, Act, Input, CaptureAt, Evaluate, ScheduleAt, next, effects, given_value, method_effects}
+use Rattle.meter_live.specs.Changes.{is_changing, changes_of, Answers}
+
+-- a request is permitted where its code is success
+pub permits : (code : AccessCode) → is_ok (permitted code) ≡ is_success code
+permits codes.Success = refl
+permits codes.TemporaryFailure = refl
+permits codes.ReadWriteDenied = refl
+permits codes.ObjectUndefined = refl
+permits codes.ObjectClassInconsistent = refl
+permits codes.TypeUnmatched = refl
+permits codes.ScopeOfAccessViolated = refl
+permits codes.OtherReason = refl
+
+-- effects that aren't taken
+not_taken : (P : Plan) (s : State) (granted : Bool) (es : List Effect) → granted ≡ false → effects P s (cond granted es []) ≡ s
+not_taken P s true es is = absurd (cc is)
+not_taken P s false es is = refl
+
+-- a step that may not change the meter doesn't
+pub unchanged : (P : Plan) (s : State) (step : Step) → is_changing P step ≡ false → next P s step ≡ s
+unchanged P s (Get c d selection) is = refl
+unchanged P s (Set c d selected v) is = not_taken P s (is_success (set_answer P c d selected v)) (given_value (cell_of d) v) is
+unchanged P s (Act c d argument) is = not_taken P s (is_success (act_answer P c d argument)) (method_effects P (method_of d) argument) is
+unchanged P s (Input x v) is = absurd (cc is)
+unchanged P s (CaptureAt n t) is = absurd (cc is)
+unchanged P s (Evaluate n) is = absurd (cc is)
+unchanged P s (ScheduleAt n t) is = absurd (cc is)
+
+-- what is answered with a value changes nothing
+pub valued : (P : Plan) (s : State) (step : Step) (v : Tree) → reply_to P s step ≡ Value v → next P s step ≡ s
+valued P s (Get c d selection) v is = refl
+valued P s (Set c d selected w) v is = absurd (cc is)
+valued P s (Act c d argument) v is = absurd (cc is)
+valued P s (Input x w) v is = absurd (cc is)
+valued P s (CaptureAt n t) v is = absurd (cc is)
+valued P s (Evaluate n) v is = absurd (cc is)
+valued P s (ScheduleAt n t) v is = absurd (cc is)
+
+-- what is answered with a reply whose copy takes memory changes nothing
+pub copied : (P : Plan) (s : State) (step : Step) (reply : CodeReply) → reply_of reply ≡ reply_to P s step → ¬ (has_value reply ≡ false) → next P s step ≡ s
+copied P s step (kinds.Value v) is held = valued P s step (tree v) (sym is)
+copied P s step (kinds.Code code) is held = absurd (held refl)
+copied P s step kinds.Quiet is held = absurd (held refl)
+
+-- the reply in a state of the plan is one that a port may answer
+pub answers : (P : Plan) (s : State) (step : Step) (reply : Reply) → IsState P s → reply ≡ reply_to P s step → Answers P step reply
+answers P s (Get c d selection) reply fits is = (s, fits, is)
+answers P s (Set c d selected v) reply fits is = is
+answers P s (Act c d argument) reply fits is = is
+answers P s (Input x v) reply fits is = (s, fits, is)
+answers P s (CaptureAt n t) reply fits is = (s, fits, is)
+answers P s (Evaluate n) reply fits is = (s, fits, is)
+answers P s (ScheduleAt n t) reply fits is = (s, fits, is)
+
+one_at_most : (b : Bool) → cond b 1 0 ≤ 1
+one_at_most true = omega arith
+one_at_most false = omega arith
+
+pub changes_le : (P : Plan) (step : Step) → changes_of P step ≤ 1
+changes_le P step = one_at_most (is_changing P step)

@@ -1,0 +1,9 @@
+pub mod Adding
+pub mod Changing
+pub mod Fronts
+pub mod Kept
+pub mod Lasts
+pub mod Notes
+pub mod Posted
+pub mod Telling
+pub mod Trails

@@ -1,0 +1,14 @@
+-- What a share counts. All of it is own profile.
+use Rattle.std.specs.Prelude.{ℕ, ◌+◌}
+
+-- steps that were taken, and those among them that may have changed the meter
+pub record Tally : Type 0 where
+  pub steps : ℕ
+  pub changes : ℕ
+
+-- one step more
+abbrev pub counted : Tally → ℕ → Tally
+counted t changes = record { steps = t.steps + 1; changes = t.changes + changes }
+
+abbrev pub nothing : Tally
+nothing = record { steps = 0; changes = 0 }

@@ -1,0 +1,68 @@
+-- A meter with the trail of its last steps. All of it is own profile.
+use Rattle.std.specs.Prelude.{◌≡◌, ℕ, ◌+◌, ◌≤◌, Bool, List, [], ◌∷◌, ◌++◌, length, map, cond, nat_lt}
+use Rattle.flow_checker.specs.Accepted.{Accepted, IsAdmitted}
+use Rattle.meter_theory.specs.Plan.{start}
+use Rattle.meter_theory.specs.Replies.{Reply, reply_to, run, replies}
+use Rattle.meter_theory.specs.State.{State}
+use Rattle.meter_theory.specs.States.{IsState}
+use Rattle.meter_theory.specs.Steps.{Step, next}
+use Rattle.meter_live.specs.Changes.{changes_of}
+use Rattle.meter_live.specs.declared.traced.TheConstants as limits
+
+-- a step that was taken: by which port, and what was answered
+pub record Taken : Type 0 where
+  pub port : ℕ
+  pub step : Step
+  pub reply : Reply
+
+-- The plan with its policy, the state where the trail begins, the state now, and the trail between them; how many steps were
+-- taken, and how many of them may have changed the meter.
+pub record Traced : Type 0 where
+  pub accepted : Accepted
+  pub opening : State
+  pub state : State
+  pub trail : List Taken
+  pub count : ℕ
+  pub changes : ℕ
+
+-- the steps of a trail
+abbrev pub steps_of : List Taken → List Step
+steps_of trail = map (λ e. e.step) trail
+
+-- the replies of a trail
+abbrev pub replies_of : List Taken → List Reply
+replies_of trail = map (λ e. e.reply) trail
+
+-- The plan was accepted for its policy, the state is the run of the trail from the opening state, each reply is the one at its
+-- place, and the trail keeps to its length.
+pub record IsTraced (t : Traced) : Type 0 where
+  pub accepted : IsAdmitted t.accepted
+  pub opened : IsState t.accepted.plan t.opening
+  pub fits : IsState t.accepted.plan t.state
+  pub state : t.state ≡ run t.accepted.plan t.opening (steps_of t.trail)
+  pub replies : replies_of t.trail ≡ replies t.accepted.plan t.opening (steps_of t.trail)
+  pub short : length t.trail ≤ limits.TRAIL
+  pub fewer : t.changes ≤ t.count
+
+-- a step that is taken now, with its reply
+abbrev pub taken : Traced → ℕ → Step → Taken
+taken t port step = record { port = port; step = step; reply = reply_to t.accepted.plan t.state step }
+
+-- there is room in the trail
+abbrev pub has_room : Traced → Bool
+has_room t = nat_lt (length t.trail) limits.TRAIL
+
+-- After a step by this port. A full trail is closed first: then it begins with this step, in the state before it.
+abbrev pub after : Traced → ℕ → Step → Traced
+after t port step = record {
+  accepted = t.accepted;
+  opening = cond (has_room t) t.opening t.state;
+  state = next t.accepted.plan t.state step;
+  trail = cond (has_room t) (t.trail ++ taken t port step ∷ []) (taken t port step ∷ []);
+  count = t.count + 1;
+  changes = t.changes + changes_of t.accepted.plan step;
+}
+
+-- before any step
+abbrev pub unstepped : Accepted → Traced
+unstepped a = record { accepted = a; opening = start a.plan; state = start a.plan; trail = []; count = 0; changes = 0 }

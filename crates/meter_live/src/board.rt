@@ -1,0 +1,263 @@
+//! A live meter that many threads use.
+ghost use Rattle.std.specs.Prelude.{◌≡◌, ◌<◌, ◌++◌, ◌∷◌, [], List, true, IfOk, IfErr, OnOk, OnErr, MatchBool, sum_by, vec_len};
+ghost use Rattle.std.specs.Coded.{codes};
+ghost use mathlib.Core.List.{IsPrefix};
+ghost use Rattle.logbook.specs.Pages.{book_coded};
+ghost use Rattle.meter_core.specs.StepView.{reply_of, step_of};
+ghost use Rattle.meter_theory.specs.PlanCode.{plan_code};
+ghost use Rattle.meter_theory.specs.States.{IsState};
+ghost use Rattle.meter_theory.specs.Steps as steps;
+ghost use Rattle.meter_live.specs.Changes.{Answers, changes_of, is_changing};
+ghost use Rattle.meter_live.specs.Codes.{step_code};
+ghost use Rattle.meter_live.specs.Tally.{counted, nothing};
+
+use crate::desk::{BoardReader, Desk};
+use crate::fault::{LiveFault, NoReader, PortFault};
+use crate::history::{Front, History};
+use crate::live::Live;
+use crate::names::Naming;
+use crate::share::Share;
+use cosem_data::memory::Memory;
+use flow_checker::check::Checked;
+use meter_core::reply::Reply;
+use meter_core::step::Step;
+use object_model::meter::Meter;
+use object_model::plan::Plan;
+use std::alloc::Global;
+use std::sync::ledger::{Blank, Ledger};
+use std::sync::{Mutex, MutexGuard, Wait};
+
+/// A board has at most so many ports, numbered from 0, each with a reader (own profile).
+pub const PORTS: u16 = 256;
+
+/// What a board is opened with: an empty history, and two ledgers of a part for each port. By them its types name it.
+#[derive(Drop)]
+pub struct Blanks {
+    pub history: History,
+    pub written: Front,
+    pub steps: Blank,
+    pub changes: Blank,
+    pub ghost empty: { (written.book ≡ history) × (written.steps ≡ []) } by { Prim.hlevel (codes, step_code, book_coded) },
+    pub ghost parts: { (steps.parts ≡ 256) × (changes.parts ≡ 256) },
+}
+
+impl Blanks {
+    /// What one board is opened with. It takes no memory.
+    pub fn new() -> Blanks {
+        let (history, written) = History::open();
+        Blanks {
+            history,
+            written,
+            steps: Blank::new(256),
+            changes: Blank::new(256),
+        }
+    }
+}
+
+/// A live meter under a lock, with its plan beside the lock.
+#[derive(Drop)]
+pub struct Board<N: Naming, S: Ledger, C: Ledger, W: Wait + Drop> {
+    desk: Mutex<Desk<N, S, C, W>>,
+    checked: Checked,
+    ghost plan_is: { checked ≡ N.accepted } by { Prim.hlevel (codes, plan_code) },
+}
+
+/// What a thread asks by. It borrows the board, so that none outlives it.
+#[derive(Drop)]
+pub struct Port<'b, N: Naming, S: Ledger, C: Ledger, W: Wait + Drop> {
+    board: &'b Board<N, S, C, W>,
+    number: u8,
+}
+
+/// What is left of a board that was closed.
+#[derive(Drop)]
+pub struct Closed {
+    /// What was accepted.
+    pub plan: Checked,
+    /// The meter, which is of the plan.
+    pub meter: Meter,
+    /// How many steps were taken.
+    pub count: u64,
+    /// How many of them may have changed the meter.
+    pub changes: u64,
+}
+
+/// A board that wasn't closed, since there were fewer shares than opened ports. Both are handed back.
+#[derive(Drop)]
+pub struct NotAll<N: Naming, S: Ledger, C: Ledger, W: Wait + Drop> {
+    pub board: Board<N, S, C, W>,
+    pub shares: Vec<Share<S, C>>,
+    /// How many ports were opened.
+    pub opened: usize,
+}
+
+impl<N: Naming, S: Ledger, C: Ledger, W: Wait + Drop> Board<N, S, C, W> {
+    /// Opens a board of a meter that no step has reached. Where memory is refused, what was accepted is given back.
+    pub fn open(
+        rt: W,
+        alloc: Global,
+        checked: Checked,
+        blanks: Blanks,
+    ) -> Result<Board<N, S, C, W>, Checked>
+        requires plan { checked ≡ N.accepted }
+        requires book { blanks.history ≡ N.book }
+        requires steps { (blanks.steps.name ≡ S.name) × (S.parts ≡ 256) }
+        requires changes { (blanks.changes.name ≡ C.name) × (C.parts ≡ 256) }
+        ensures err { IfErr result (λ given. given ≡ checked) }
+    {
+        let Ok(beside) = checked.share() else {
+            return Err(checked);
+        };
+        let Blanks {
+            history,
+            written,
+            steps,
+            changes,
+        } = blanks;
+        let live = Live::of(&rt, alloc, checked, history, written, usize::from(PORTS))?;
+        Ok(Board {
+            desk: Mutex::new(Desk::new(rt, alloc, live, steps, changes)),
+            checked: beside,
+        })
+    }
+
+    /// The plan, without the lock.
+    pub fn plan(&self) -> &Plan
+        ensures { result.now ≡ N.accepted.plan }
+    {
+        self.checked.plan()
+    }
+
+    /// What was accepted, without the lock.
+    pub fn checked(&self) -> &Checked
+        ensures { result.now ≡ N.accepted }
+    {
+        &self.checked
+    }
+
+    /// Holds the lock, to look at the meter with its trail: until the guard is let go no step is taken. Readers go on.
+    pub fn lock<R: Wait>(&self, rt: &R) -> MutexGuard<'_, Desk<N, S, C, W>> {
+        self.desk.lock(rt)
+    }
+
+    /// A new port, and the share that counts what it takes.
+    pub fn port<R: Wait>(&self, rt: &R) -> Result<(Port<'_, N, S, C, W>, Share<S, C>), PortFault>
+        ensures { IfOk result (λ r. r.1 ≡ nothing) }
+    {
+        let (number, share) = self.desk.lock(rt).open_port()?;
+        Ok((
+            Port {
+                board: self,
+                number,
+            },
+            share,
+        ))
+    }
+
+    /// Closes the board, once the shares of all opened ports are back: the numbers of steps and changes are their sums. It waits for
+    /// the readers.
+    pub fn close<R: Wait>(
+        self,
+        rt: &R,
+        shares: Vec<Share<S, C>>,
+    ) -> Result<Closed, NotAll<N, S, C, W>>
+        requires { (S.parts ≡ 256) × (C.parts ≡ 256) }
+        ensures count { IfOk result (λ c. c.count ≡ sum_by (λ s. s.steps) shares.items) }
+        ensures changes { IfOk result (λ c. c.changes ≡ sum_by (λ s. s.changes) shares.items) }
+        ensures plan { IfOk result (λ c. c.plan ≡ N.accepted) }
+        ensures meter { IfOk result (λ c. IsState N.accepted.plan c.meter) }
+        ensures fewer { IfErr result (λ n. (n.shares.items ≡ shares.items) × (vec_len shares < n.opened)) }
+    {
+        let Board { desk, checked } = self;
+        let desk = desk.into_inner();
+        let opened = desk.ports.len();
+        if shares.len() < opened {
+            let board = Board {
+                desk: Mutex::new(desk),
+                checked,
+            };
+            return Err(NotAll {
+                board,
+                shares,
+                opened,
+            });
+        }
+        let (plan, meter, count, changes) = desk.settle(rt, shares);
+        Ok(Closed {
+            plan,
+            meter,
+            count,
+            changes,
+        })
+    }
+
+    /// Ends a board that isn't closed, after waiting for the readers.
+    pub fn end<R: Wait>(self, rt: &R) {
+        let Board {
+            desk,
+            checked: _checked,
+        } = self;
+        desk.into_inner().end(rt);
+    }
+}
+
+impl<'b, N: Naming, S: Ledger, C: Ledger, W: Wait + Drop> Port<'b, N, S, C, W> {
+    /// The plan, without the lock.
+    pub fn plan(&self) -> &'b Plan
+        ensures { result.now ≡ N.accepted.plan }
+    {
+        self.board.plan()
+    }
+
+    /// The reader of this port, which has seen what is published. A port gives one.
+    pub fn reader<R: Wait>(&self, rt: &R) -> Result<BoardReader<N>, NoReader> {
+        self.board.desk.lock(rt).give_reader(self.number)
+    }
+
+    /// One step under the lock, which the share counts. Where it is refused, nothing changes.
+    pub fn act<R: Wait>(
+        &self,
+        rt: &R,
+        alloc: Global,
+        share: &mut Share<S, C>,
+        step: Step,
+    ) -> Result<Reply, LiveFault>
+        ensures reply { IfOk result (λ reply. Answers N.accepted.plan (step_of step) (reply_of reply)) }
+        ensures share { OnOk result (share.new ≡ counted share.old (changes_of N.accepted.plan (step_of step))) }
+        ensures err { OnErr result (share.new ≡ share.old) }
+    {
+        self.board
+            .desk
+            .lock(rt)
+            .act(alloc, self.number, share, &step)
+    }
+
+    /// One step and its telling, under one lock. With true the reader has seen it, and all steps before it; with false its telling
+    /// was refused for memory, and the reader is as it was. Where the step is refused, nothing changes.
+    pub fn put<R: Wait>(
+        &self,
+        rt: &R,
+        alloc: Global,
+        share: &mut Share<S, C>,
+        reader: &mut BoardReader<N>,
+        step: Step,
+    ) -> Result<(Reply, bool), LiveFault>
+        ensures reply { IfOk result (λ r. Answers N.accepted.plan (step_of step) (reply_of r.0)) }
+        ensures share { OnOk result (share.new ≡ counted share.old (changes_of N.accepted.plan (step_of step))) }
+        ensures told { IfOk result (λ r. MatchBool r.1 (IsPrefix reader.old reader.new × (is_changing N.accepted.plan (step_of step) ≡ true → (l : List steps.Step) × (reader.new ≡ l ++ step_of step ∷ []))) (reader.new ≡ reader.old)) }
+        ensures err { OnErr result ((share.new ≡ share.old) × (reader.new ≡ reader.old)) }
+    {
+        self.board
+            .desk
+            .lock(rt)
+            .put(rt, alloc, self.number, share, reader, &step)
+    }
+
+    /// Publishes all pending steps in order, and tells the reader. Where memory is refused, the reader is as it was.
+    pub fn tell<R: Wait>(&self, rt: &R, reader: &mut BoardReader<N>) -> Result<(), Memory>
+        ensures later { IsPrefix reader.old reader.new }
+        ensures err { OnErr result (reader.new ≡ reader.old) }
+    {
+        self.board.desk.lock(rt).tell(rt, reader)
+    }
+}

@@ -1,0 +1,79 @@
+//! Steps that are published.
+ghost use Rattle.std.specs.Prelude.{◌≡◌, IfOk};
+ghost use Rattle.meter_core.specs.StepView.{step_of};
+ghost use Rattle.meter_live.specs.Changes.{changes_of, is_changing};
+
+use association_views::permits::{permit_action, permit_set};
+use cosem_data::memory::Memory;
+use meter_core::step::Step;
+use object_model::plan::Plan;
+use std::alloc::Global;
+use std::marker::Model;
+
+/// A step that is published. Contracts see the step of the theory.
+#[derive(Drop)]
+pub struct Change {
+    step: Step,
+}
+
+impl Model for Change {
+    ghost use Rattle.meter_theory.specs.Steps as steps;
+    ghost use Rattle.meter_core.specs.StepView.{step_of};
+    ghost use Rattle.meter_live.specs.Codes.{step_code};
+
+    ghost Value = { steps.Step };
+
+    ghost coded = { step_code };
+
+    ghost view = { λ c. step_of c.step };
+}
+
+impl Change {
+    /// A copy of the step. The only error is that memory was refused.
+    pub(crate) fn of(alloc: Global, step: &Step) -> Result<Change, Memory>
+        ensures { IfOk result (λ change. change ≡ step_of step.now) }
+    {
+        Ok(Change {
+            step: step.try_clone(alloc)?,
+        })
+    }
+
+    /// The step.
+    pub fn step(&self) -> &Step
+        ensures { step_of result.now ≡ self.now }
+    {
+        &self.step
+    }
+}
+
+/// Whether a step may change a meter of the plan, which no state decides: a SET or an ACTION that is granted may, and each step of
+/// the meter itself (own profile).
+pub fn is_change(plan: &Plan, step: &Step) -> bool
+    ensures { result ≡ is_changing plan.now (step_of step.now) }
+{
+    match step {
+        Step::Get { .. } => false,
+        Step::Set {
+            client,
+            attribute,
+            selected,
+            value,
+        } => permit_set(plan, *client, attribute, *selected, value).is_ok(),
+        Step::Act {
+            client,
+            method,
+            argument,
+        } => permit_action(plan, *client, method, argument).is_ok(),
+        Step::Input { .. }
+        | Step::CaptureAt { .. }
+        | Step::Evaluate { .. }
+        | Step::ScheduleAt { .. } => true,
+    }
+}
+
+/// How many changes a step is: one where it may change a meter of the plan, else none.
+pub(crate) fn changes_in(plan: &Plan, step: &Step) -> u64
+    ensures { result ≡ changes_of plan.now (step_of step.now) }
+{
+    if is_change(plan, step) { 1 } else { 0 }
+}

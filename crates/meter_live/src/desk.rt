@@ -1,0 +1,281 @@
+//! What lies under the lock of a board.
+ghost use Rattle.std.specs.Prelude.{◌≡◌, ◌+◌, ◌++◌, ◌∷◌, [], ◌≤◌, List, true, IfOk, IfErr, OnOk, OnErr, MatchBool, sum_by, vec_len};
+ghost use Rattle.std.specs.Coded.{codes};
+ghost use mathlib.Core.List.{IsPrefix};
+ghost use Rattle.meter_core.specs.StepView.{reply_of, step_of};
+ghost use Rattle.meter_theory.specs.Plan.{start};
+ghost use Rattle.meter_theory.specs.PlanCode.{plan_code};
+ghost use Rattle.meter_theory.specs.Replies.{reply_to, run};
+ghost use Rattle.meter_theory.specs.States.{IsState};
+ghost use Rattle.meter_theory.specs.Steps as steps;
+ghost use Rattle.meter_live.specs.Changes.{Answers, changes_of, is_changing, is_get};
+ghost use Rattle.meter_live.specs.Tally.{counted, nothing};
+ghost use Rattle.meter_live.specs.Told.{acted, posted};
+
+use crate::change::changes_in;
+use crate::fault::{LiveFault, NoReader, PortFault, ReadRefused};
+use crate::live::Live;
+use crate::names::Naming;
+use crate::reader::Reader;
+use crate::share::{Share, gather};
+use crate::traced::TracedMeter;
+use cosem_data::memory::Memory;
+use flow_checker::check::Checked;
+use meter_core::reply::Reply;
+use meter_core::step::Step;
+use object_model::meter::Meter;
+use std::alloc::Global;
+use std::marker::{Model, PhantomData};
+use std::sync::ledger::{Blank, Book, Ledger};
+use std::sync::{Wait, ledger};
+
+/// A reader of the published copies of a board's meter. Contracts see the steps that it has seen.
+#[derive(Drop)]
+pub struct BoardReader<N: Naming> {
+    reader: Reader,
+    of: PhantomData<N>,
+}
+
+impl<N: Naming> Model for BoardReader<N> {
+    ghost use Rattle.std.specs.Prelude.{◌≡◌, List};
+    ghost use Rattle.std.specs.Coded.{coded_list};
+    ghost use Rattle.meter_theory.specs.Steps as steps;
+    ghost use Rattle.meter_live.specs.Codes.{step_code};
+
+    ghost Value = { List steps.Step };
+
+    ghost coded = { coded_list step_code };
+
+    ghost view = { λ r. r.reader.seen };
+
+    ghost invariant = { λ r. (r.reader.plan ≡ N.accepted.plan) × (r.reader.book ≡ N.book) };
+}
+
+impl<N: Naming> BoardReader<N> {
+    /// The answer to a GET after a list of published steps, which the reader has seen then, and which begins with all that it saw
+    /// before. It takes no lock, and waits for nobody.
+    pub fn get(&mut self, alloc: Global, step: &Step) -> Result<Reply, ReadRefused>
+        requires { is_get (step_of step.now) ≡ true }
+        ensures later { IsPrefix self.old self.new }
+        ensures reply { IfOk result (λ reply. reply_of reply ≡ reply_to N.accepted.plan (run N.accepted.plan (start N.accepted.plan) self.new) (step_of step.now)) }
+    {
+        self.reader.get(alloc, step)
+    }
+}
+
+/// A live meter and the books of what was taken. It keeps a handle, since its drop waits for the readers.
+pub struct Desk<N: Naming, S: Ledger, C: Ledger, W: Wait + Drop> {
+    pub(crate) live: Live,
+    rt: W,
+    steps: Book<S>,
+    changes: Book<C>,
+    steps_left: ledger::Share<S>,
+    changes_left: ledger::Share<C>,
+    // Whether each port was given a reader.
+    pub(crate) ports: Vec<bool>,
+    of: PhantomData<N>,
+    ghost plan_is: { live.meter.accepted ≡ N.accepted } by { Prim.hlevel (codes, plan_code) },
+    ghost book_is: { live.book ≡ N.book },
+    ghost counted: { live.meter.count ≡ steps.total },
+    ghost changed: { live.meter.changes ≡ changes.total },
+    ghost steps_parts: { steps_left.parts + vec_len ports ≡ 256 },
+    ghost changes_parts: { changes_left.parts + vec_len ports ≡ 256 },
+    ghost none_left: { (steps_left.amount ≡ 0) × (changes_left.amount ≡ 0) },
+}
+
+impl<N: Naming, S: Ledger, C: Ledger, W: Wait + Drop> Desk<N, S, C, W> {
+    /// A desk of a meter that no step has reached, without ports.
+    pub(crate) fn new(
+        rt: W,
+        alloc: Global,
+        live: Live,
+        steps: Blank,
+        changes: Blank,
+    ) -> Desk<N, S, C, W>
+        requires plan { live.meter.accepted ≡ N.accepted }
+        requires book { live.book ≡ N.book }
+        requires unused { (live.meter.count ≡ 0) × (live.meter.changes ≡ 0) }
+        requires steps { (steps.name ≡ S.name) × (steps.parts ≡ 256) × (S.parts ≡ 256) }
+        requires changes { (changes.name ≡ C.name) × (changes.parts ≡ 256) × (C.parts ≡ 256) }
+    {
+        let (steps, steps_left) = steps.open::<S>();
+        let (changes, changes_left) = changes.open::<C>();
+        Desk {
+            live,
+            rt,
+            steps,
+            changes,
+            steps_left,
+            changes_left,
+            ports: Vec::new(alloc),
+            of: PhantomData,
+        }
+    }
+
+    /// The meter with its trail.
+    pub fn meter(&self) -> &TracedMeter
+        ensures { result.now ≡ self.now.live.meter }
+    {
+        self.live.meter()
+    }
+
+    /// One step of a port, which its share counts.
+    pub(crate) fn act(
+        &mut self,
+        alloc: Global,
+        port: u8,
+        share: &mut Share<S, C>,
+        step: &Step,
+    ) -> Result<Reply, LiveFault>
+        ensures reply { IfOk result (λ reply. Answers N.accepted.plan (step_of step.now) (reply_of reply)) }
+        ensures live { OnOk result (self.new.live ≡ acted self.old.live port (step_of step.now)) }
+        ensures share { OnOk result (share.new ≡ counted share.old (changes_of N.accepted.plan (step_of step.now))) }
+        ensures err { OnErr result ((share.new ≡ share.old) × (self.new.live ≡ self.old.live)) }
+    {
+        let Desk {
+            live,
+            rt: _,
+            steps,
+            changes,
+            steps_left: _,
+            changes_left: _,
+            ports: _,
+            of: _,
+        } = self;
+        live.known();
+        let changed = changes_in(live.plan(), step);
+        let reply = live.act(alloc, port, step)?;
+        steps.add(&mut share.steps, 1);
+        changes.add(&mut share.changes, changed);
+        Ok(reply)
+    }
+
+    /// Publishes all pending steps in order, and tells the reader of the whole list.
+    pub(crate) fn tell<R: Wait>(
+        &mut self,
+        rt: &R,
+        reader: &mut BoardReader<N>,
+    ) -> Result<(), Memory>
+        ensures ok { OnOk result ((self.new.live ≡ posted self.old.live) × (reader.new ≡ self.new.live.published) × IsPrefix reader.old reader.new) }
+        ensures err { OnErr result ((self.new.live ≡ self.old.live) × (reader.new ≡ reader.old)) }
+    {
+        self.live.tell(rt, &mut reader.reader)
+    }
+
+    /// One step of a port, and its telling, which says whether it was told.
+    pub(crate) fn put<R: Wait>(
+        &mut self,
+        rt: &R,
+        alloc: Global,
+        port: u8,
+        share: &mut Share<S, C>,
+        reader: &mut BoardReader<N>,
+        step: &Step,
+    ) -> Result<(Reply, bool), LiveFault>
+        ensures reply { IfOk result (λ r. Answers N.accepted.plan (step_of step.now) (reply_of r.0)) }
+        ensures share { OnOk result (share.new ≡ counted share.old (changes_of N.accepted.plan (step_of step.now))) }
+        ensures told { IfOk result (λ r. MatchBool r.1 (IsPrefix reader.old reader.new × (is_changing N.accepted.plan (step_of step.now) ≡ true → (l : List steps.Step) × (reader.new ≡ l ++ step_of step.now ∷ []))) (reader.new ≡ reader.old)) }
+        ensures err { OnErr result ((share.new ≡ share.old) × (reader.new ≡ reader.old) × (self.new.live ≡ self.old.live)) }
+    {
+        let reply = self.act(alloc, port, share, step)?;
+        match self.tell(rt, reader) {
+            Ok(()) => Ok((reply, true)),
+            Err(_) => Ok((reply, false)),
+        }
+    }
+
+    /// The number of a new port, and its share.
+    pub(crate) fn open_port(&mut self) -> Result<(u8, Share<S, C>), PortFault>
+        ensures share { IfOk result (λ r. r.1 ≡ nothing) }
+        ensures live { self.new.live ≡ self.old.live }
+    {
+        let Ok(number) = u8::try_from(self.ports.len()) else {
+            return Err(PortFault::NoPort);
+        };
+        if self.ports.reserve(1).is_err() {
+            return Err(PortFault::Memory);
+        }
+        self.ports.push_reserved(false);
+        let steps = self.steps_left.split_off(1, 0);
+        let changes = self.changes_left.split_off(1, 0);
+        Ok((number, Share { steps, changes }))
+    }
+
+    /// The reader of a port that was given none, which has seen what is published.
+    pub(crate) fn give_reader(&mut self, port: u8) -> Result<BoardReader<N>, NoReader>
+        ensures reader { IfOk result (λ r. r ≡ self.old.live.published) }
+        ensures live { self.new.live ≡ self.old.live }
+    {
+        let port = usize::from(port);
+        if port >= self.ports.len() || self.ports[port] {
+            return Err(NoReader);
+        }
+        let Some(reader) = self.live.reader() else {
+            return Err(NoReader);
+        };
+        self.ports[port] = true;
+        Ok(BoardReader {
+            reader,
+            of: PhantomData,
+        })
+    }
+
+    /// Takes the shares of all ports in: then the numbers of steps and changes are their sums. It waits for the readers.
+    pub(crate) fn settle<R: Wait>(
+        self,
+        rt: &R,
+        shares: Vec<Share<S, C>>,
+    ) -> (Checked, Meter, u64, u64)
+        requires parts { (S.parts ≡ 256) × (C.parts ≡ 256) }
+        requires all { vec_len self.ports ≤ vec_len shares }
+        ensures plan { (result.0 ≡ N.accepted) × IsState N.accepted.plan result.1 }
+        ensures counted { result.2 ≡ sum_by (λ s. s.steps) shares.items }
+        ensures changed { result.3 ≡ sum_by (λ s. s.changes) shares.items }
+    {
+        let Desk {
+            live,
+            rt: _rt,
+            mut steps,
+            mut changes,
+            mut steps_left,
+            mut changes_left,
+            ports: _ports,
+            of: _,
+        } = self;
+        gather(&mut steps_left, &mut changes_left, shares);
+        steps.audit(&mut steps_left);
+        changes.audit(&mut changes_left);
+        live.into_parts(rt)
+    }
+
+    /// Ends the desk, after waiting for the readers.
+    pub(crate) fn end<R: Wait>(self, rt: &R) {
+        let Desk {
+            live,
+            rt: _rt,
+            steps: _steps,
+            changes: _changes,
+            steps_left: _steps_left,
+            changes_left: _changes_left,
+            ports: _ports,
+            of: _,
+        } = self;
+        live.end(rt);
+    }
+}
+
+impl<N: Naming, S: Ledger, C: Ledger, W: Wait + Drop> Drop for Desk<N, S, C, W> {
+    fn drop(self) {
+        let Self {
+            live,
+            rt,
+            steps: _steps,
+            changes: _changes,
+            steps_left: _steps_left,
+            changes_left: _changes_left,
+            ports: _ports,
+            of: _,
+        } = self;
+        live.end(&rt);
+    }
+}

@@ -1,0 +1,58 @@
+//! Why a step or a call of a live meter was refused. Numbers stand in the order of the variants (own profile).
+ghost use Rattle.std.specs.Prelude.{◌≡◌};
+
+use cosem_data::memory::Memory;
+
+/// Why a step was not taken.
+#[derive(Clone, Copy, PartialEq, Eq, Debug)]
+pub enum LiveFault {
+    /// Memory was refused.
+    Memory,
+    /// No step can be counted any more: 2^64 - 1 were taken.
+    Full,
+}
+
+impl From<Memory> for LiveFault {
+    ghost use Rattle.std.specs.Prelude.{◌≡◌};
+    ghost use Rattle.meter_live.specs.declared.fault.LiveFault.TheVariants.{Memory};
+
+    ghost from_gives = { λ _ fault. fault ≡ Memory };
+
+    fn from(_memory: Memory) -> LiveFault {
+        LiveFault::Memory
+    }
+}
+
+/// Why no port was opened.
+#[derive(Clone, Copy, PartialEq, Eq, Debug)]
+pub enum PortFault {
+    /// Memory was refused.
+    Memory,
+    /// All 256 ports were opened.
+    NoPort,
+}
+
+impl From<Memory> for PortFault {
+    fn from(_memory: Memory) -> PortFault {
+        PortFault::Memory
+    }
+}
+
+/// A port got no reader: it got one before, or `left_right` gave no reading end.
+#[derive(Clone, Copy, PartialEq, Eq, Debug)]
+pub struct NoReader;
+
+/// Why a reader gave no answer.
+#[derive(Clone, Copy, PartialEq, Eq, Debug)]
+pub enum ReadRefused {
+    /// Memory was refused.
+    Memory,
+    /// `left_right` gave no entry into a copy.
+    NoEntry,
+}
+
+impl From<Memory> for ReadRefused {
+    fn from(_memory: Memory) -> ReadRefused {
+        ReadRefused::Memory
+    }
+}

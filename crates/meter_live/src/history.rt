@@ -1,0 +1,161 @@
+//! The one history of the steps that are published. It exists in proofs alone: in memory it is the number of its batches.
+ghost use Rattle.std.specs.Prelude.{◌≡◌, ◌++◌, [], length, IsTrue};
+ghost use mathlib.Core.List.{IsPrefix};
+
+use crate::change::Change;
+use crate::names::Lot;
+use logbook::{Gain, Offer, Plain, Play, Rule, Seen, Start, Word};
+use std::collections::LinkedList;
+use std::marker::{Model, PhantomData};
+
+/// Steps that are published at once. No value of it is made.
+pub type Batch = LinkedList<Change>;
+
+/// The rule of the history: its word is the number of its batches.
+pub struct Law;
+
+impl Rule<Batch, u64> for Law {
+    ghost use Rattle.std.specs.Prelude.{[]};
+    ghost use base.Fml.{ftrue};
+    ghost use Rattle.meter_live.specs.Marks.{IsCounted};
+
+    ghost holds = { λ cells log. IsCounted cells log };
+
+    ghost first = { [] };
+
+    ghost hinted = { λ n log. Unit {0} };
+
+    ghost shows = { λ log. [] };
+
+    ghost keeps = { λ names log. ftrue };
+
+    ghost moves = { λ ask before after answer. Unit {0} };
+}
+
+/// Who adds a batch trades nothing for it.
+pub struct Nothing;
+
+impl Gain<Batch, u64> for Nothing {
+    ghost use base.Fml.{ftrue};
+
+    ghost after = { λ names about answer. ftrue };
+}
+
+/// A lot is added as a batch.
+pub struct Add<L: Lot>(PhantomData<L>);
+
+impl<L: Lot> Play<Batch, u64> for Add<L> {
+    ghost use Rattle.meter_live.specs.Marks.{Adds};
+
+    ghost then = { Adds };
+}
+
+impl<L: Lot> Plain<(), Batch, u64> for Add<L> {
+    ghost use Rattle.std.specs.Prelude.{None};
+
+    ghost ask = { λ _. L.steps };
+
+    ghost state = { λ _. None };
+}
+
+/// The number of batches of the one history. Contracts see which history it is.
+#[derive(Drop)]
+pub struct History {
+    head: Word<Batch, u64, Law>,
+}
+
+impl Model for History {
+    ghost use Rattle.std.specs.Prelude.{◌≡◌};
+    ghost use Rattle.logbook.specs.Pages.{Book};
+    ghost use Rattle.meter_live.specs.Marks.{head_of};
+
+    ghost Value = { Book };
+
+    ghost view = { λ h. h.head.book };
+
+    ghost invariant = { λ h. h.head ≡ head_of h.head.book };
+}
+
+/// A beginning of the history. Contracts see which history it is, and the steps.
+#[derive(Drop)]
+pub struct Front {
+    batches: u64,
+    seen: Seen<Batch, u64, Law>,
+}
+
+impl Model for Front {
+    ghost use Rattle.std.specs.Prelude.{◌≡◌, length};
+    ghost use Rattle.meter_live.specs.Codes.{mark_code};
+    ghost use Rattle.meter_live.specs.Marks.{Mark, joined};
+
+    ghost Value = { Mark };
+
+    ghost coded = { mark_code };
+
+    ghost view = { λ f. record { book = f.seen.book; steps = joined f.seen.log } };
+
+    ghost invariant = { λ f. f.batches ≡ length f.seen.log };
+}
+
+impl History {
+    /// An empty history, and its beginning.
+    pub fn open() -> (History, Front)
+        ensures { (result.1.book ≡ result.0) × (result.1.steps ≡ []) }
+    {
+        let (seen, mut first, _second) = Seen::open(Start::alone(), 0, 0);
+        let head = Word::tracked(0, &mut first);
+        (History { head }, Front { batches: 0, seen })
+    }
+}
+
+impl Front {
+    /// The same beginning.
+    pub fn again(&self) -> Front
+        ensures { result ≡ self.now }
+    {
+        Front {
+            batches: self.batches,
+            seen: self.seen.again(),
+        }
+    }
+
+    /// Whether another beginning has as many batches: then it has the same steps.
+    pub fn equals(&self, other: &Front) -> bool
+        requires { other.now.book ≡ self.now.book }
+        ensures { IsTrue result → self.now.steps ≡ other.now.steps }
+    {
+        let mut both = self.seen.again();
+        both.learn(&other.seen);
+        if self.batches == other.batches {
+            return true;
+        }
+        false
+    }
+
+    /// Adds a lot to the steps of this beginning, where the history has no others, and says whether it did.
+    pub fn add<L: Lot>(&mut self, history: &History) -> bool
+        requires { history.now ≡ self.old.book }
+        ensures book { self.new.book ≡ self.old.book }
+        ensures added { IsTrue result → self.new.steps ≡ self.old.steps ++ L.steps }
+    {
+        let batches = self.batches;
+        if batches == u64::MAX {
+            return false;
+        }
+        let mut offer: Offer<Batch, u64, Law, Nothing> = self
+            .seen
+            .plain::<Nothing, (), Add<L>>(&());
+        let mut pen = self.seen.no_pen();
+        let found = history
+            .head
+            .compare_exchange::<Add<L>, Nothing>(
+                batches,
+                batches + 1,
+                &mut self.seen,
+                &mut offer,
+                &mut pen,
+            );
+        self.batches = if found == batches { batches + 1 } else { found };
+        found == batches
+    }
+}

@@ -1,0 +1,167 @@
+//! A live meter: its steps are taken one after another, and published to readers.
+ghost use Rattle.std.specs.Prelude.{◌≡◌, ◌-◌, ◌^◌, ◌<◌, ◌↔◌, ◌++◌, [], IfOk, IfErr, IfSome, OnOk, OnErr};
+ghost use mathlib.Core.List.{IsPrefix};
+ghost use Rattle.meter_core.specs.StepView.{reply_of, step_of};
+ghost use Rattle.meter_theory.specs.Replies.{reply_to};
+ghost use Rattle.meter_theory.specs.States.{IsState};
+
+use crate::change::{Change, is_change};
+use crate::fault::LiveFault;
+use crate::history::{Front, History};
+use crate::outbox::Outbox;
+use crate::reader::Reader;
+use crate::traced::TracedMeter;
+use cosem_data::memory::Memory;
+use flow_checker::check::Checked;
+use meter_core::reply::Reply;
+use meter_core::step::Step;
+use object_model::meter::Meter;
+use object_model::plan::Plan;
+use std::alloc::Global;
+use std::marker::Model;
+use std::sync::Wait;
+
+/// A meter of an accepted plan, which takes steps, and publishes those that may have changed it. It can't be dropped: it ends by
+/// [`Live::end`], which waits for the readers.
+pub struct Live {
+    meter: TracedMeter,
+    outbox: Outbox,
+}
+
+impl Model for Live {
+    ghost use Rattle.std.specs.Coded.{codes};
+    ghost use Rattle.logbook.specs.Pages.{book_coded};
+    ghost use Rattle.meter_theory.specs.PlanCode.{plan_code, state_code};
+    ghost use Rattle.meter_live.specs.Codes.{step_code, taken_code};
+    ghost use Rattle.meter_live.specs.Told.{Told, IsTold};
+
+    ghost Value = { Told };
+
+    ghost coded = { Prim.hlevel (codes, plan_code, state_code, book_coded, step_code, taken_code) };
+
+    ghost view = { λ l. record { meter = l.meter; book = l.outbox.book; published = l.outbox.published; pending = l.outbox.pending } };
+
+    ghost invariant = { λ l. IsTold l.outbox.plan (record { meter = l.meter; book = l.outbox.book; published = l.outbox.published; pending = l.outbox.pending }) };
+}
+
+impl Live {
+    ghost use Rattle.meter_live.specs.Trail.{IsTraced, unstepped};
+    ghost use Rattle.meter_live.specs.Told.{Told, IsPublished, acted, posted};
+
+    /// A meter that no step has reached, with room for so many readers at once. Where memory is refused, what was accepted is given
+    /// back.
+    pub fn new<R: Wait>(
+        rt: &R,
+        alloc: Global,
+        checked: Checked,
+        readers: usize,
+    ) -> Result<Live, Checked>
+        requires { (0 < readers) × (readers < 2 ^ 32) }
+        ensures ok { IfOk result (λ l. (l.meter ≡ unstepped checked) × (l.published ≡ []) × (l.pending ≡ [])) }
+        ensures err { IfErr result (λ given. given ≡ checked) }
+    {
+        let (history, written) = History::open();
+        Live::of(rt, alloc, checked, history, written, readers)
+    }
+
+    /// A meter that no step has reached, whose published steps will be this history.
+    pub(crate) fn of<R: Wait>(
+        rt: &R,
+        alloc: Global,
+        checked: Checked,
+        history: History,
+        written: Front,
+        readers: usize,
+    ) -> Result<Live, Checked>
+        requires readers { (0 < readers) × (readers < 2 ^ 32) }
+        requires empty { (written.book ≡ history) × (written.steps ≡ []) }
+        ensures ok { IfOk result (λ l. l ≡ record { meter = unstepped checked; book = history; published = []; pending = [] }) }
+        ensures err { IfErr result (λ given. given ≡ checked) }
+    {
+        let meter = TracedMeter::new(alloc, checked)?;
+        match Outbox::new(rt, alloc, meter.checked(), history, written, readers) {
+            Ok(outbox) => Ok(Live { meter, outbox }),
+            Err(_) => Err(meter.into_parts().0),
+        }
+    }
+
+    /// What the type keeps, for callers: the plan was accepted, the state and the replies are the run of the trail, the trail has at
+    /// most 4,096 entries, and the run from the start over the published and the pending steps is the state.
+    pub fn known(&self)
+        ensures traced { IsTraced self.now.meter }
+        ensures published { IsPublished self.now }
+    {
+        self.meter.known();
+        let _outbox = &self.outbox;
+    }
+
+    /// The plan.
+    pub fn plan(&self) -> &Plan
+        ensures { result.now ≡ self.now.meter.accepted.plan }
+    {
+        self.meter.checked().plan()
+    }
+
+    /// The meter with its trail.
+    pub fn meter(&self) -> &TracedMeter
+        ensures { result.now ≡ self.now.meter }
+    {
+        &self.meter
+    }
+
+    /// A reader that has seen what is published. None where `left_right` gave no reading end, as where all its room is taken.
+    pub fn reader(&mut self) -> Option<Reader>
+        ensures same { self.new ≡ self.old }
+        ensures reader { IfSome result (λ r. r ≡ record { plan = self.old.meter.accepted.plan; book = self.old.book; seen = self.old.published }) }
+    {
+        self.outbox.reader()
+    }
+
+    /// Takes one step of a port, and answers it: the state afterwards and the reply are those of the old state, the step stands
+    /// behind the trail, and one that may change the meter behind the pending ones. Where it is refused, nothing changes.
+    pub fn act(&mut self, alloc: Global, port: u8, step: &Step) -> Result<Reply, LiveFault>
+        ensures reply { IfOk result (λ reply. reply_of reply ≡ reply_to self.old.meter.accepted.plan self.old.meter.state (step_of step.now)) }
+        ensures live { OnOk result (self.new ≡ acted self.old port (step_of step.now)) }
+        ensures full { (result ≡ Err LiveFault.Full) ↔ (self.old.meter.count ≡ 2 ^ 64 - 1) }
+        ensures err { OnErr result (self.new ≡ self.old) }
+    {
+        let Live { meter, outbox } = self;
+        if !is_change(meter.checked().plan(), step) {
+            return meter.act(alloc, port, step);
+        }
+        if meter.is_full() {
+            return Err(LiveFault::Full);
+        }
+        outbox.make_room()?;
+        let change = Change::of(alloc, step)?;
+        let reply = meter.act(alloc, port, step)?;
+        outbox.put(change);
+        Ok(reply)
+    }
+
+    /// Publishes all pending steps in order, and tells the reader of the whole list. Where memory is refused, they stay pending and
+    /// the reader stays as it was.
+    pub fn tell<R: Wait>(&mut self, rt: &R, reader: &mut Reader) -> Result<(), Memory>
+        requires { reader.old.book ≡ self.old.book }
+        ensures ok { OnOk result (self.new ≡ posted self.old) }
+        ensures told { OnOk result ((reader.new ≡ record reader.old { seen = self.new.published }) × IsPrefix reader.old.seen reader.new.seen) }
+        ensures err { OnErr result ((self.new ≡ self.old) × (reader.new ≡ reader.old)) }
+    {
+        self.outbox.tell(rt, reader)
+    }
+
+    /// Waits for the readers, and leaves what was accepted, the state, and the numbers of steps and changes.
+    pub(crate) fn into_parts<R: Wait>(self, rt: &R) -> (Checked, Meter, u64, u64)
+        ensures parts { (result.0 ≡ self.meter.accepted) × (result.1 ≡ self.meter.state) × (result.2 ≡ self.meter.count) × (result.3 ≡ self.meter.changes) }
+        ensures fits { IsState self.meter.accepted.plan self.meter.state }
+    {
+        let Live { meter, outbox } = self;
+        outbox.end(rt);
+        meter.into_parts()
+    }
+
+    /// Ends the live meter, after waiting for its readers.
+    pub fn end<R: Wait>(self, rt: &R) {
+        let _parts = self.into_parts(rt);
+    }
+}

@@ -1,0 +1,262 @@
+//! A meter with the trail of its last steps.
+ghost use Rattle.std.specs.Prelude.{◌≡◌, ◌+◌, ◌-◌, ◌^◌, ◌↔◌, ◌<◌, ◌∷◌, ◌++◌, [], length, vec_len, vec_capacity, cond, nat_lt, is_some, unwrap_or, None, Some, MatchOption, IsTrue, IfOk, IfErr, OnOk, OnErr};
+ghost use Rattle.meter_core.specs.StepView.{reply_of, step_of};
+ghost use Rattle.meter_theory.specs.Replies.{reply_to};
+ghost use Rattle.meter_theory.specs.States.{IsState};
+ghost use Rattle.meter_theory.specs.Steps.{next};
+ghost use Rattle.meter_live.specs.declared.traced.TheConstants as limits;
+
+use crate::change::changes_in;
+use crate::fault::LiveFault;
+use cosem_data::memory::Memory;
+use flow_checker::check::Checked;
+use meter_core::apply::apply;
+use meter_core::reply::Reply;
+use meter_core::step::Step;
+use meter_theory::laws::states_are_kept;
+use object_model::meter::Meter;
+use object_model::plan::Plan;
+use std::alloc::Global;
+use std::marker::Model;
+
+/// A trail has at most so many entries (own profile).
+pub const TRAIL: usize = 4096;
+
+/// A step that was taken: by which port, and what was answered. Contracts see the step and the reply of the theory.
+#[derive(Drop)]
+pub struct Entry {
+    port: u8,
+    step: Step,
+    reply: Reply,
+}
+
+impl Model for Entry {
+    ghost use Rattle.meter_core.specs.StepView.{reply_of, step_of};
+    ghost use Rattle.meter_live.specs.Codes.{taken_code};
+    ghost use Rattle.meter_live.specs.Trail.{Taken};
+
+    ghost Value = { Taken };
+
+    ghost coded = { taken_code };
+
+    ghost view = { λ e. record { port = e.port; step = step_of e.step; reply = reply_of e.reply } };
+}
+
+impl Entry {
+    /// The port that took the step.
+    pub fn port(&self) -> u8
+        ensures { result ≡ self.now.port }
+    {
+        self.port
+    }
+
+    /// The step.
+    pub fn step(&self) -> &Step
+        ensures { step_of result.now ≡ self.now.step }
+    {
+        &self.step
+    }
+
+    /// What was answered.
+    pub fn reply(&self) -> &Reply
+        ensures { reply_of result.now ≡ self.now.reply }
+    {
+        &self.reply
+    }
+}
+
+/// A meter of an accepted plan, with the trail of its last steps. Its state is the run of the trail from the opening state.
+#[derive(Drop)]
+pub struct TracedMeter {
+    checked: Checked,
+    opening: Meter,
+    state: Meter,
+    trail: Vec<Entry>,
+    count: u64,
+    changes: u64,
+}
+
+impl Model for TracedMeter {
+    ghost use Rattle.std.specs.Coded.{codes};
+    ghost use Rattle.meter_theory.specs.PlanCode.{plan_code, state_code};
+    ghost use Rattle.meter_live.specs.Codes.{taken_code};
+    ghost use Rattle.meter_live.specs.Trail.{Traced, IsTraced};
+
+    ghost Value = { Traced };
+
+    ghost coded = { Prim.hlevel (codes, plan_code, state_code, taken_code) };
+
+    ghost view = { λ t. record { accepted = t.checked; opening = t.opening; state = t.state; trail = t.trail.items; count = t.count; changes = t.changes } };
+
+    ghost invariant = { λ t. IsTraced (record { accepted = t.checked; opening = t.opening; state = t.state; trail = t.trail.items; count = t.count; changes = t.changes }) };
+}
+
+impl TracedMeter {
+    ghost use Rattle.meter_live.specs.Trail.{Traced, IsTraced, after, unstepped};
+
+    /// A meter that no step has reached. Where memory is refused, what was accepted is given back.
+    pub(crate) fn new(alloc: Global, checked: Checked) -> Result<TracedMeter, Checked>
+        ensures ok { IfOk result (λ t. t ≡ unstepped checked) }
+        ensures err { IfErr result (λ given. given ≡ checked) }
+    {
+        checked.known();
+        let plan = checked.plan();
+        plan.known();
+        states_are_kept();
+        let Ok(opening) = plan.start(alloc) else {
+            return Err(checked);
+        };
+        let Ok(state) = plan.start(alloc) else {
+            return Err(checked);
+        };
+        Ok(TracedMeter {
+            checked,
+            opening,
+            state,
+            trail: Vec::new(alloc),
+            count: 0,
+            changes: 0,
+        })
+    }
+
+    /// What the type keeps, for callers.
+    pub fn known(&self)
+        ensures { IsTraced self.now }
+    {
+        let _checked = &self.checked;
+    }
+
+    /// What was accepted.
+    pub fn checked(&self) -> &Checked
+        ensures { result.now ≡ self.now.accepted }
+    {
+        &self.checked
+    }
+
+    /// The state where the trail begins.
+    pub fn opening(&self) -> &Meter
+        ensures { result.now ≡ self.now.opening }
+    {
+        &self.opening
+    }
+
+    /// The state now.
+    pub fn state(&self) -> &Meter
+        ensures { result.now ≡ self.now.state }
+    {
+        &self.state
+    }
+
+    /// The last steps, and what was answered to them.
+    pub fn trail(&self) -> &[Entry]
+        ensures { result.now ≡ self.now.trail }
+    {
+        self.trail.as_slice()
+    }
+
+    /// How many steps were taken.
+    pub fn count(&self) -> u64
+        ensures { result ≡ self.now.count }
+    {
+        self.count
+    }
+
+    /// How many of them may have changed the meter.
+    pub fn changes(&self) -> u64
+        ensures { result ≡ self.now.changes }
+    {
+        self.changes
+    }
+
+    /// Whether no step can be counted any more.
+    pub fn is_full(&self) -> bool
+        ensures { IsTrue result ↔ (self.now.count ≡ 2 ^ 64 - 1) }
+    {
+        self.count == u64::MAX
+    }
+
+    /// What was accepted, the state, and the numbers of steps and changes.
+    pub(crate) fn into_parts(self) -> (Checked, Meter, u64, u64)
+        ensures parts { (result.0 ≡ self.accepted) × (result.1 ≡ self.state) × (result.2 ≡ self.count) × (result.3 ≡ self.changes) }
+        ensures kept { IsTraced self }
+    {
+        let TracedMeter {
+            checked,
+            opening: _opening,
+            state,
+            trail: _trail,
+            count,
+            changes,
+        } = self;
+        (checked, state, count, changes)
+    }
+
+    /// Takes one step, and answers it. Where it is refused, nothing changes.
+    pub(crate) fn act(&mut self, alloc: Global, port: u8, step: &Step) -> Result<Reply, LiveFault>
+        ensures reply { IfOk result (λ reply. reply_of reply ≡ reply_to self.old.accepted.plan self.old.state (step_of step.now)) }
+        ensures live { OnOk result (self.new ≡ after self.old port (step_of step.now)) }
+        ensures full { (result ≡ Err LiveFault.Full) ↔ (self.old.count ≡ 2 ^ 64 - 1) }
+        ensures err { OnErr result (self.new ≡ self.old) }
+    {
+        if self.count == u64::MAX {
+            return Err(LiveFault::Full);
+        }
+        // All that can be refused comes before the first change that stays.
+        let step = step.try_clone(alloc)?;
+        let closed = make_room(alloc, &mut self.trail, &self.state)?;
+        let plan = self.checked.plan();
+        let changed = changes_in(plan, &step);
+        let (reply, told) = apply_twice(alloc, plan, &mut self.state, &step)?;
+        let entry = Entry { port, step, reply };
+        put_entry(&mut self.trail, &mut self.opening, closed, entry);
+        self.count += 1;
+        self.changes += changed;
+        Ok(told)
+    }
+}
+
+/// Takes one step, and answers it twice: for the trail and for who asked. Where memory is refused the meter is as it was.
+fn apply_twice(
+    alloc: Global,
+    plan: &Plan,
+    meter: &mut Meter,
+    step: &Step,
+) -> Result<(Reply, Reply), Memory>
+    requires { IsState plan.now meter.old }
+    ensures state { IsState plan.now meter.new }
+    ensures ok { OnOk result (meter.new ≡ next plan.now meter.old (step_of step.now)) }
+    ensures replies { IfOk result (λ r. (reply_of r.0 ≡ reply_to plan.now meter.old (step_of step.now)) × (r.1 ≡ r.0)) }
+    ensures err { OnErr result (meter.new ≡ meter.old) }
+{
+    let reply = apply(alloc, plan, meter, step)?;
+    // A copy takes memory where it has a value, which only a GET is answered with, and a GET changes nothing.
+    let told = reply.try_clone(alloc)?;
+    Ok((reply, told))
+}
+
+/// Makes room for an entry. Where the trail is full it is to be closed, and a copy of the state is given. The only error is that
+/// memory was refused.
+fn make_room(alloc: Global, trail: &mut Vec<Entry>, state: &Meter) -> Result<Option<Meter>, Memory>
+    ensures same { trail.new.items ≡ trail.old.items }
+    ensures room { IfOk result (λ closed. MatchOption closed (vec_len trail.new < vec_capacity trail.new) (λ _. 0 < vec_capacity trail.new)) }
+    ensures closed { IfOk result (λ closed. closed ≡ cond (nat_lt (length trail.old.items) limits.TRAIL) None (Some state.now)) }
+{
+    if trail.len() < TRAIL {
+        trail.reserve(1)?;
+        return Ok(None);
+    }
+    Ok(Some(state.try_clone(alloc)?))
+}
+
+/// Puts an entry behind the trail, which is closed first where that is due.
+fn put_entry(trail: &mut Vec<Entry>, opening: &mut Meter, closed: Option<Meter>, entry: Entry)
+    requires { MatchOption closed (vec_len trail.old < vec_capacity trail.old) (λ _. 0 < vec_capacity trail.old) }
+    ensures trail { trail.new.items ≡ cond (is_some closed) (entry ∷ []) (trail.old.items ++ entry ∷ []) }
+    ensures opening { opening.new ≡ unwrap_or closed opening.old }
+{
+    if let Some(state) = closed {
+        *opening = state;
+        trail.clear();
+    }
+    trail.push_reserved(entry);
+}

@@ -1,0 +1,54 @@
+use Rattle.std.proofs.Common.{◌≡◌, ◌∙◌, [], None, Err, refl, sym, ap, subst}
+use Rattle.std.proofs.lemmas.List.Elements.{All-nil}
+use Rattle.std.proofs.lemmas.Result.{err_from_is_err_and}
+use Rattle.std.proofs.KnownBytes.{Appends-nil, Consumes-nil}
+use Rattle.tcp_wrapper.specs.Stream.{IsFrame}
+use Rattle.meter_theory.specs.Plan.{Plan, start}
+use Rattle.meter_theory.specs.State.{State}
+use Rattle.meter_theory.specs.States.{IsState}
+use Rattle.meter_theory.proofs.Start.{start-is-state}
+use Rattle.acse_session.specs.Solo.{Alone, AnswersAlone}
+use Rattle.frame_server.specs.Serving.{Serves}
+use Rattle.frame_server.specs.declared.fault.ServeFault.TheVariants.{Memory}
+use Rattle.meter_server.specs.Connecting.{ServesAlone, connected}
+use Rattle.line_server.specs.Lines.{Moment}
+use Rattle.meter_server.proofs.connecting.serve_alone.Goals as goal
+
+-- a meter that isn't there yet answers nothing
+nothing-served : (plan : Plan) (m : Moment) → ServesAlone plan m m (Err Memory)
+nothing-served plan m = (
+  record { plan = plan; meter = start plan },
+  (
+    [],
+    [],
+    None,
+    record {
+      each = All-nil IsFrame;
+      read = Consumes-nil m.unread;
+      wrote = Appends-nil m.written;
+      asked = refl;
+      spoken = tt;
+    },
+    λ some. absurd cc,
+  ),
+)
+
+pub returns-in_err-start : goal.returns-in_err-start
+returns-in_err-start g c =
+    let p = err_from_is_err_and c.from_residual.result c.from_residual.ensures.1 in rw (p.1, p.2) (nothing-served c.args.plan.now _)
+
+pub new-solo-requires : goal.new-solo-requires
+new-solo-requires g c = subst (IsState c.args.plan.now) (sym c.in_ok-start.ensures) (start-is-state c.args.plan.now c.known.ensures.sound)
+
+abbrev alone : Plan → State → Alone
+alone plan meter = record { plan = plan; meter = meter }
+
+pub returns : goal.returns
+returns g c =
+    let plan = c.args.plan.now in
+    let solo = c.new-solo.result in
+    let is : solo ≡ alone plan (start plan) = ap (λ (P : Plan). alone P solo.meter) c.new-solo.ensures.plan ∙ ap (alone plan) (c.new-solo.ensures.meter ∙ c.in_ok-start.ensures) in (
+      c.serve.new.asker,
+      subst (λ (a : Alone). Serves AnswersAlone plan (connected a (record { unread = g.R.Read.remaining c.args.reader.now; written = g.W.Write.contents c.args.writer.now }))
+          (connected c.serve.new.asker (record { unread = g.R.Read.remaining c.serve.new.reader; written = g.W.Write.contents c.serve.new.writer })) c.serve.result) is c.serve.ensures.serves,
+    )

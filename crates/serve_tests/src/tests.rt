@@ -1,0 +1,3 @@
+mod holding;
+mod samples;
+mod sessions;

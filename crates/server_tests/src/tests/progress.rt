@@ -1,0 +1,155 @@
+use config_text::fault::ConfigFault;
+use fleet_audit::fleet::Text;
+use fleet_audit::verdict::Verdict;
+use fleet_audit::watch::Watch;
+use meter_server::auditing::audit_texts_aloud;
+use meter_server::outcome::Outcome;
+use meter_server::progress::Progress;
+use std::alloc::Global;
+use std::io;
+use std::io::{ErrorKind, Write};
+use std::num::NonZeroUsize;
+use std::sync::atomic::{AtomicUsize, Ordering};
+use std::test::Fail;
+use std::time::{Clock, Duration};
+
+/// A clock that has these times, in milliseconds, one each time that it is read, and can't be read behind them.
+#[derive(Drop)]
+struct Times<const COUNT: usize> {
+    times: [u64; COUNT],
+    next: AtomicUsize,
+}
+
+impl<const COUNT: usize> Times<COUNT> {
+    fn of(times: [u64; COUNT]) -> Self {
+        Times {
+            times,
+            next: AtomicUsize::new(0),
+        }
+    }
+}
+
+impl<const COUNT: usize> Clock for Times<COUNT> {
+    fn monotonic(&self) -> io::Result<Duration> {
+        match self.times.get(self.next.fetch_add(1, Ordering::SeqCst)) {
+            Some(time) => Ok(Duration::from_millis(*time)),
+            None => Err(ErrorKind::Other.into()),
+        }
+    }
+
+    fn since_1970(&self) -> io::Result<Duration> {
+        Err(ErrorKind::Other.into())
+    }
+}
+
+/// A writer that takes nothing.
+#[derive(Drop)]
+struct Shut;
+
+impl Write for Shut {
+    fn write(&mut self, _bytes: &[u8]) -> io::Result<usize> {
+        Err(ErrorKind::Other.into())
+    }
+
+    fn flush(&mut self) -> io::Result<()> {
+        Ok(())
+    }
+}
+
+/// A verdict that accepts, and one that doesn't.
+const VERDICTS: [Verdict; 2] = [Verdict::Accepted, Verdict::Config(ConfigFault::Memory)];
+
+/// Tells of four verdicts in turn, every other of which accepts, and ends.
+fn tell_four<C: Clock, E: Write + Drop>(progress: Progress<'_, C, E>) {
+    for seat in 0..4usize {
+        progress.judged(seat, &VERDICTS[seat % 2]);
+    }
+    progress.end();
+}
+
+/// Behind four verdicts at these times of the clock this was written. Where memory is refused no line is, so the test fails and
+/// doesn't end the process.
+fn are_told<const COUNT: usize>(
+    alloc: Global,
+    times: [u64; COUNT],
+    want: &str,
+) -> Result<(), Fail> {
+    let clock = Times::of(times);
+    let mut written = Vec::new(alloc);
+    tell_four(Progress::start(alloc, &clock, 4, &mut written));
+    if written.as_slice() == want.as_bytes() {
+        Ok(())
+    } else {
+        Err(Fail::new("other lines were written"))
+    }
+}
+
+/// A line comes a tenth of a second behind the one before at the soonest, and covers it.
+#[test]
+fn lines_come_ten_times_a_second(rt: HostRuntime) -> Result<(), Fail> {
+    are_told(
+        rt.alloc(),
+        [5000, 5060, 5100, 5199, 6000, 6400],
+        "\r2 of 4 done, 1 refused, 2 left, 20 a second\
+         \r4 of 4 done, 2 refused, 0 left, 4 a second \
+         \r4 of 4 done, 2 refused, 0 left, 2 a second\n",
+    )
+}
+
+/// An audit that is done at once has one line.
+#[test]
+fn the_last_line_is_written_at_once(rt: HostRuntime) -> Result<(), Fail> {
+    are_told(
+        rt.alloc(),
+        [0, 1, 2, 3, 4, 5],
+        "\r4 of 4 done, 2 refused, 0 left, 800 a second\n",
+    )
+}
+
+/// A clock that stands still, goes back or can't be read says nothing of a second.
+#[test]
+fn clocks_may_fail(rt: HostRuntime) -> Result<(), Fail> {
+    let want = "\r4 of 4 done, 2 refused, 0 left, 0 a second\n";
+    are_told(rt.alloc(), [7, 7, 7, 7, 7, 7], want)?;
+    are_told(rt.alloc(), [700, 600, 500, 400, 300, 200], want)?;
+    are_told(rt.alloc(), [700], want)?;
+    are_told(rt.alloc(), [], want)
+}
+
+/// A write that fails is passed over.
+#[test]
+fn a_writer_may_fail(rt: HostRuntime) -> Result<(), Fail> {
+    let clock = Times::of([0, 1000, 2000, 3000, 4000, 5000]);
+    tell_four(Progress::start(rt.alloc(), &clock, 4, Shut));
+    Ok(())
+}
+
+/// The verdicts are as they would be if nothing were told, and the last line tells of all of them.
+#[test]
+fn an_audit_tells_how_far_it_is(rt: HostRuntime) -> Result<(), Fail> {
+    let alloc = rt.alloc();
+    let mut texts = Vec::with_capacity(alloc, 3)?;
+    for config in ["", "=", ""] {
+        texts.push(Text {
+            config: String::from_str(alloc, config)?,
+            labels: String::new(alloc),
+        })?;
+    }
+    let workers = NonZeroUsize::new(2).expect(&rt, "there is a worker");
+    let mut told = Vec::new(alloc);
+    let outcome = audit_texts_aloud(&rt, &["one", "two", "six"], texts, workers, &mut told);
+    let lines = "one: config C2 at version\ntwo: config C1 at text\nsix: config C2 at version\n";
+    let Outcome::Audited { text, is_accepted } = outcome else {
+        return Err(Fail::new("there are no verdicts"));
+    };
+    let told = String::from_utf8_lossy(alloc, &told)?;
+    let last = told.as_str().rsplit('\r').next();
+    let is_whole = last.is_some_and(|line| {
+        line.starts_with("3 of 3 done, 3 refused, 0 left, ") && line.ends_with(" a second\n")
+    });
+    if text.as_str() == lines && !is_accepted && is_whole {
+        Ok(())
+    } else {
+        Err(Fail::new("other lines were written"))
+    }
+}
