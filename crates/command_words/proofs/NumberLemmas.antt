@@ -49,6 +49,11 @@ module _ (E : Type 0) (k least most : ℕ) (ends : most + 1 ≡ 2 ^ k) (small : 
   number_read G parses (Some t) (Some v) none some = taken t v (parses t (Ok v) (some t refl))
   number_read G parses (Some t) None none some = let read = some t refl in refused t read.0 (parses t (Err read.0) read.1)
 
+-- each number is at least 0
+pub from_zero : (r : Option ℕ) → at_least 0 r ≡ r
+from_zero None = refl
+from_zero (Some n) = ap (λ (b : Bool). if b then Some n else None) (le-leb 0 n (omega arith))
+
 -- a number of a type without 0, made of what was read
 pub without_zero : {X : Type 0} (get : X → ℕ) → ((x : X) → 0 < get x) → (n : ℕ) (made : Option X) → MatchOption made (n ≡ 0) (λ x. get x ≡ n)
     → option_map get made ≡ at_least 1 (Some n)

@@ -1,9 +1,9 @@
 -- The command line as clap's definition of a simple command sees it. All of it is own profile.
-use Rattle.std.specs.Prelude.{List, [], ◌∷◌, Some, codes, false, map, true}
+use Rattle.std.specs.Prelude.{List, [], ◌∷◌, Some, codes, false, map, pos, true}
 use Rattle.clap.specs.Words.{App, Kinds, Rule, Shape, Text, fault_of, new_app, new_rule, with_rule}
 use Rattle.clap.specs.Simple.{new_shape}
 use Rattle.clap.specs.declared.builder.action.ArgAction.TheVariants.{Append, Count, Set}
-use Rattle.clap.specs.declared.builder.value_parser.ValueParser.TheVariants.{Unsigned}
+use Rattle.clap.specs.declared.builder.value_parser.ValueParser.TheVariants.{Signed, Unsigned}
 
 -- a file that has to be named (own profile)
 abbrev pub file : Text → Rule
@@ -32,6 +32,22 @@ workers = record (option (codes "workers")) { required = true; parser = Some (Un
 -- `--progress`, also more than once (own profile)
 abbrev pub progress : Rule
 progress = record (new_rule (codes "progress")) { long = Some (codes "progress"); action = Some Count }
+
+-- an option with one value, which has this one where it isn't given (own profile)
+abbrev pub option_or : Text → Text → Rule
+option_or id default = record (option id) { defaults = default ∷ [] }
+
+-- `--bind ADDRESS`, the machine itself where it isn't given (own profile)
+abbrev pub bind : Rule
+bind = option_or (codes "bind") (codes "127.0.0.1")
+
+-- `--port N`, a number from 1 to 65535: 4059, which is registered for DLMS/COSEM, where it isn't given (own profile)
+abbrev pub port : Rule
+port = record (option_or (codes "port") (codes "4059")) { parser = Some (Signed (pos 1) (pos 65535)) }
+
+-- `--sessions N`, a number of 64 bits: 0, which is without end, where it isn't given (own profile)
+abbrev pub sessions : Rule
+sessions = record (option_or (codes "sessions") (codes "0")) { parser = Some (Unsigned 0 18446744073709551615) }
 
 -- one name or more (own profile)
 abbrev pub names : Rule
@@ -65,6 +81,10 @@ audit_app = with_rule (with_rule (with_rule (new_app (codes "audit")) workers) p
 abbrev pub session_app : App
 session_app = with_rule (new_app (codes "session")) config_file
 
+-- `serve CONFIG LABELS [--bind ADDRESS] [--port N] [--sessions N]` (own profile)
+abbrev pub serve_app : App
+serve_app = with_rule (with_rule (with_rule (with_rule (with_rule (new_app (codes "serve")) config_file) labels_file) bind) port) sessions
+
 -- `encode` (own profile)
 abbrev pub encode_app : App
 encode_app = new_app (codes "encode")
@@ -83,7 +103,7 @@ bare_program = record { top = record program { is_leaf = true }; subs = [] }
 
 -- the commands of the program (own profile)
 abbrev pub commands : List App
-commands = demo_app ∷ run_app ∷ edges_app ∷ label_app ∷ check_app ∷ audit_app ∷ session_app ∷ encode_app ∷ decode_app ∷ []
+commands = demo_app ∷ run_app ∷ edges_app ∷ label_app ∷ check_app ∷ audit_app ∷ session_app ∷ serve_app ∷ encode_app ∷ decode_app ∷ []
 
 -- the program with its commands (own profile)
 abbrev pub app : App

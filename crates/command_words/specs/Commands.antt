@@ -1,7 +1,7 @@
 -- What the words of a command line ask for. All of it is own profile.
 use Rattle.std.specs.Prelude.{◌==◌, Bool, List, ℕ, Option, Some, None, codes, length, map, nat_lt, option_and_then, option_map}
 use Rattle.std.specs.Prelude.{if◌then◌else◌}
-use Rattle.std.specs.Int.NonZero.{non_zero_usize_get}
+use Rattle.std.specs.Int.NonZero.{non_zero_u16_get, non_zero_usize_get}
 use Rattle.std.specs.Str.{bytes_eq}
 use Rattle.std.specs.Str.Parse.{digits_value, without_leading_plus}
 use Rattle.clap.specs.ValueTests.{is_unsigned_in}
@@ -11,7 +11,7 @@ use Rattle.command_words.specs.declared.command.Command.{Command}
 use Rattle.command_words.specs.declared.command.Command.TheVariants as commands
 
 -- what is asked for, with the paths of the files that are named: of an audit how many workers, which names, and whether it is
--- told how far it is (own profile)
+-- told how far it is; of a served meter the address, the port and how many connections (own profile)
 pub data Asked : Type 0 where
   Demo : Bool → Asked
   Run : List ℕ → Bool → Asked
@@ -20,6 +20,7 @@ pub data Asked : Type 0 where
   Check : List ℕ → List ℕ → Asked
   Audit : ℕ → List (List ℕ) → Bool → Asked
   Session : List ℕ → Asked
+  Serve : List ℕ → List ℕ → List ℕ → ℕ → ℕ → Asked
   Encode : Asked
   Decode : Asked
 
@@ -33,6 +34,7 @@ asked_by (commands.Check config labels) = Check config.now labels.now
 asked_by (commands.Audit workers names tells_progress) =
     Audit (non_zero_usize_get workers) (map (λ name. name.now) names.items) tells_progress
 asked_by (commands.Session config) = Session config.now
+asked_by (commands.Serve config labels bind port sessions) = Serve config.now labels.now bind.now (non_zero_u16_get port) sessions
 asked_by commands.Encode = Encode
 asked_by commands.Decode = Decode
 
@@ -73,6 +75,24 @@ audit_in rows = do
   names ← all_of (codes "name") rows
   Some (Audit workers names (tells_progress rows))
 
+-- the port, at least 1: the option's rule lets no more than 65535 through (own profile)
+abbrev pub port_in : List Row → Option ℕ
+port_in rows = one_of (codes "port") rows >>= number_in 1 65535
+
+-- how many connections, 0 for no end (own profile)
+abbrev pub sessions_in : List Row → Option ℕ
+sessions_in rows = one_of (codes "sessions") rows >>= number_in 0 18446744073709551615
+
+-- a configuration and labels, and where how many connections are taken (own profile)
+abbrev pub serve_in : List Row → Option Asked
+serve_in rows = do
+  config ← first_of (codes "config") rows
+  labels ← first_of (codes "labels") rows
+  bind ← first_of (codes "bind") rows
+  port ← port_in rows
+  sessions ← sessions_in rows
+  Some (Serve config labels bind port sessions)
+
 -- a command by its name, and what clap found for it in the words (own profile)
 abbrev pub asked_in : Text × List Row → Option Asked
 asked_in p =
@@ -83,6 +103,7 @@ asked_in p =
     else if bytes_eq p.0 (codes "check") then check_in p.1
     else if bytes_eq p.0 (codes "audit") then audit_in p.1
     else if bytes_eq p.0 (codes "session") then option_map Session (first_of (codes "config") p.1)
+    else if bytes_eq p.0 (codes "serve") then serve_in p.1
     else if bytes_eq p.0 (codes "encode") then Some Encode
     else if bytes_eq p.0 (codes "decode") then Some Decode
     else None

@@ -1,6 +1,6 @@
 //! What a command line asks for.
 
-use std::num::NonZeroUsize;
+use std::num::{NonZeroU16, NonZeroUsize};
 
 /// What a command line asks for, with the paths of the files that it names (own profile).
 #[derive(Debug, Drop)]
@@ -37,6 +37,15 @@ pub enum Command<'a> {
     /// To answer the frames of one connection by a configuration.
     Session {
         config: &'a str,
+    },
+    /// To answer connections over TCP by a configuration, where the labels for it are accepted: at this address and port, so many
+    /// connections before the end, or without end where that is 0.
+    Serve {
+        config: &'a str,
+        labels: &'a str,
+        bind: &'a str,
+        port: NonZeroU16,
+        sessions: u64,
     },
     /// To make steps in words into step lines.
     Encode,

@@ -19,6 +19,7 @@ pub fn all_commands<'a>(alloc: Global) -> Result<Command<'a>, AllocError>
         .subcommand(check_command(alloc)?)?
         .subcommand(audit_command(alloc)?)?
         .subcommand(session_command(alloc)?)?
+        .subcommand(serve_command(alloc)?)?
         .subcommand(encode_command(alloc))?
         .subcommand(decode_command(alloc))
 }
@@ -110,6 +111,20 @@ fn session_command<'a>(alloc: Global) -> Result<Command<'a>, AllocError>
         .arg(config_file(alloc))
 }
 
+fn serve_command<'a>(alloc: Global) -> Result<Command<'a>, AllocError>
+    ensures app { IfOk result (λ c. app_of c ≡ spec.serve_app) }
+    ensures local { IfOk result (λ c. (out-Command c).has_globals ≡ false) }
+{
+    Command::new(alloc, "serve")
+        .about("Answer connections over TCP by a configuration whose labels are accepted")
+        .after_help("Example: cosem-flow serve mine.toml mine.labels --port 4059 < steps.txt")
+        .arg(config_file(alloc))?
+        .arg(labels_file(alloc))?
+        .arg(bind(alloc))?
+        .arg(port(alloc))?
+        .arg(sessions(alloc))
+}
+
 fn encode_command<'a>(alloc: Global) -> Command<'a>
     ensures app { app_of result ≡ spec.encode_app }
     ensures local { (out-Command result).has_globals ≡ false }
@@ -187,6 +202,47 @@ fn progress<'a>(alloc: Global) -> Arg<'a>
         .long("progress")
         .action(ArgAction::Count)
         .help("Tell on standard error how far the audit is; the launcher adds this on a terminal")
+}
+
+/// Where connections are taken.
+fn bind<'a>(alloc: Global) -> Arg<'a>
+    ensures rule { rule_of result ≡ spec.bind }
+    ensures local { result.global ≡ false }
+{
+    Arg::new(alloc, "bind")
+        .long("bind")
+        .action(ArgAction::Set)
+        .default_value("127.0.0.1")
+        .value_name("ADDRESS")
+        .help("The IP address or the name of the host where connections are taken")
+}
+
+/// At which port connections are taken. 4059 is the one registered for DLMS/COSEM.
+fn port<'a>(alloc: Global) -> Arg<'a>
+    ensures rule { rule_of result ≡ spec.port }
+    ensures local { result.global ≡ false }
+{
+    Arg::new(alloc, "port")
+        .long("port")
+        .action(ArgAction::Set)
+        .default_value("4059")
+        .value_parser(value_parser!(u16).range(1..=65535))
+        .value_name("N")
+        .help("The TCP port where connections are taken, from 1 to 65535")
+}
+
+/// How many connections are answered before the end.
+fn sessions<'a>(alloc: Global) -> Arg<'a>
+    ensures rule { rule_of result ≡ spec.sessions }
+    ensures local { result.global ≡ false }
+{
+    Arg::new(alloc, "sessions")
+        .long("sessions")
+        .action(ArgAction::Set)
+        .default_value("0")
+        .value_parser(value_parser!(u64))
+        .value_name("N")
+        .help("After how many connections the meter ends, 0 for never")
 }
 
 /// One name or more, each of which stands for two files.

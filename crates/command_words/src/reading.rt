@@ -1,6 +1,6 @@
 //! Command lines, read.
 ghost use Rattle.std.specs.Prelude.{◌≡◌, ◌⊎◌, [], IfErr, IfOk, None, Some, map, option_and_then, option_map};
-ghost use Rattle.std.specs.Int.NonZero.{non_zero_usize_get};
+ghost use Rattle.std.specs.Int.NonZero.{non_zero_u16_get, non_zero_usize_get};
 ghost use Rattle.clap.specs.Words.{IsAmong, all_of, first_of, found_of, rows_of, subcommand_rows_of};
 ghost use Rattle.clap.specs.declared.error.kind.ErrorKind.TheVariants.{DisplayHelp, DisplayVersion, MissingSubcommand};
 ghost use Rattle.command_words.specs.Commands as spec;
@@ -13,7 +13,7 @@ use crate::commands::all_commands;
 use crate::fault::{WordsFault, fault_told};
 use clap::ArgMatches;
 use std::alloc::{AllocError, Global};
-use std::num::NonZeroUsize;
+use std::num::{NonZeroU16, NonZeroUsize};
 
 /// What the words of a command line ask for, the program's name first. The error is that they ask for help or the version, that
 /// they are no command, or that memory was refused.
@@ -82,6 +82,7 @@ fn command_named<'a>(
         "check" => check_in(found),
         "audit" => audit_in(alloc, found)?,
         "session" => value(found, "config").map(|config| Command::Session { config }),
+        "serve" => serve_in(found),
         "encode" => Some(Command::Encode),
         "decode" => Some(Command::Decode),
         _ => None,
@@ -124,6 +125,21 @@ fn audit_in<'a>(alloc: Global, found: &ArgMatches<'a>) -> Result<Option<Command<
     }))
 }
 
+fn serve_in<'a>(found: &ArgMatches<'a>) -> Option<Command<'a>>
+    ensures { option_map asked_by result ≡ spec.serve_in (rows_of (found_of found.now)) }
+{
+    let config = value(found, "config")?;
+    let labels = value(found, "labels")?;
+    let bind = value(found, "bind")?;
+    Some(Command::Serve {
+        config,
+        labels,
+        bind,
+        port: port(found)?,
+        sessions: sessions(found)?,
+    })
+}
+
 /// Whether each line is to be told of.
 fn is_verbose<'a>(found: &ArgMatches<'a>) -> bool
     ensures { result ≡ spec.is_verbose (rows_of (found_of found.now)) }
@@ -157,4 +173,16 @@ fn workers(found: &ArgMatches<'_>) -> Option<NonZeroUsize>
     ensures { option_map non_zero_usize_get result ≡ spec.workers_in (rows_of (found_of found.now)) }
 {
     NonZeroUsize::new(found.get_one("workers")?)
+}
+
+fn port(found: &ArgMatches<'_>) -> Option<NonZeroU16>
+    ensures { option_map non_zero_u16_get result ≡ spec.port_in (rows_of (found_of found.now)) }
+{
+    NonZeroU16::new(found.get_one("port")?)
+}
+
+fn sessions(found: &ArgMatches<'_>) -> Option<u64>
+    ensures { result ≡ spec.sessions_in (rows_of (found_of found.now)) }
+{
+    found.get_one("sessions")
 }

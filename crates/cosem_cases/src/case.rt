@@ -13,7 +13,9 @@ use meter_server::program::{Source, answer_text};
 use object_model::plan::Plan;
 use std::alloc::Global;
 use std::fs;
+use std::net::{Net, TcpListener, TcpStream};
 use std::rt::Files;
+use std::sync::Wait;
 use std::thread::Threads;
 use std::time::Clock;
 
@@ -123,7 +125,14 @@ impl Tally {
     /// Tries the case, or the table of cases, of a line of the list.
     pub(crate) fn count(
         &mut self,
-        rt: &(impl Files + AllocGlobal + Clock + Print + Threads + Sync),
+        rt: &(impl Files
+            + AllocGlobal
+            + Clock
+            + Net<Stream = TcpStream, Listener = TcpListener>
+            + Print
+            + Threads
+            + Wait
+            + Sync),
         line: &str,
     ) {
         let mut words = line.split(' ');

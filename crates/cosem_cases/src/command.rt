@@ -2,14 +2,23 @@
 use meter_server::program::run_program;
 use std::alloc::Global;
 use std::fs;
+use std::net::{Net, TcpListener, TcpStream};
 use std::rt::Files;
+use std::sync::Wait;
 use std::thread::Threads;
 use std::time::Clock;
 
 /// Whether the command line of the case ends with the status and tells what it must: its words are the lines of
 /// `commands/NAME.words`, its input those of `commands/NAME.in`, and `NAME.out` and `NAME.err` have what it must write.
 pub(crate) fn is_done(
-    rt: &(impl Files + AllocGlobal + Clock + Print + Threads + Sync),
+    rt: &(impl Files
+        + AllocGlobal
+        + Clock
+        + Net<Stream = TcpStream, Listener = TcpListener>
+        + Print
+        + Threads
+        + Wait
+        + Sync),
     name: &str,
     status: &str,
 ) -> Option<bool> {

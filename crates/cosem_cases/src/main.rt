@@ -44,8 +44,10 @@ mod translation;
 
 use case::Tally;
 use std::fs;
+use std::net::{Net, TcpListener, TcpStream};
 use std::process::ExitCode;
 use std::rt::Files;
+use std::sync::Wait;
 use std::thread::Threads;
 use std::time::Clock;
 
@@ -65,7 +67,15 @@ fn main(rt: HostRuntime) -> ExitCode {
 
 /// Tries each case that is listed, and says whether all came out as they must.
 fn run_cases(
-    rt: &(impl Files + AllocGlobal + Clock + Print + Eprint + Threads + Sync),
+    rt: &(impl Files
+        + AllocGlobal
+        + Clock
+        + Net<Stream = TcpStream, Listener = TcpListener>
+        + Print
+        + Eprint
+        + Threads
+        + Wait
+        + Sync),
 ) -> Option<bool> {
     let list = fs::read_to_string(rt, CASES).ok()?;
     let mut tally = Tally::new();

@@ -10,12 +10,14 @@ use Rattle.fleet_audit.specs.Faults as audits
 use Rattle.frame_server.specs.Faults.{serve_fault_words}
 use Rattle.frame_server.specs.declared.fault.ServeFault.{ServeFault}
 use Rattle.line_server.specs.Faults.{fault_words, reason_words}
+use Rattle.live_server.specs.Faults as servers
+use Rattle.live_server.specs.declared.fault.ServerFault.{ServerFault}
 use Rattle.meter_server.specs.Listing as lists
 use Rattle.meter_server.specs.Translating as translations
 use Rattle.fleet_audit.specs.Verdicts.{verdict_line}
 use Rattle.meter_server.specs.declared.listing.ListFault.{ListFault}
 use Rattle.meter_server.specs.declared.outcome.Outcome.{Outcome}
-use Rattle.meter_server.specs.declared.outcome.Outcome.TheVariants.{Done, Judged, Words, Unread, Fault, Broken, Audited, Unaudited, Unwritten, Untranslated}
+use Rattle.meter_server.specs.declared.outcome.Outcome.TheVariants.{Done, Judged, Words, Unread, Fault, Broken, Unserved, Audited, Unaudited, Unwritten, Untranslated}
 use Rattle.line_server.specs.declared.running.LineFault.{LineFault}
 use Rattle.line_server.specs.declared.running.LineFault.TheVariants.{Line}
 use Rattle.meter_server.specs.declared.translating.TranslationFault.{TranslationFault}
@@ -31,6 +33,11 @@ outcome_of (Err fault) = Fault fault
 abbrev pub served : Result ℕ ServeFault → Outcome
 served (Ok count) = Done
 served (Err fault) = Broken fault
+
+-- how a command ended whose live meter ended so
+abbrev pub ended : {A : Type 0} → Result A ServerFault → Outcome
+ended (Ok closed) = Done
+ended (Err fault) = Unserved fault
 
 -- how a command ended whose list was written so
 abbrev pub listed : Result (Unit {0}) ListFault → Outcome
@@ -64,6 +71,7 @@ status_of (Words fault) = status_of_words fault
 status_of (Unread file why) = 3
 status_of (Fault fault) = 3
 status_of (Broken fault) = 3
+status_of (Unserved fault) = 3
 status_of (Audited text accepts) = if accepts then 0 else 1
 status_of (Unaudited fault) = 3
 status_of (Unwritten fault) = 3
@@ -95,5 +103,6 @@ error_of (Fault fault) = codes "cosem-flow: " ++ (fault_words fault ++ codes "\n
 error_of (Audited text accepts) = []
 error_of (Unaudited fault) = codes "cosem-flow: " ++ (audits.fault_words fault ++ codes "\n")
 error_of (Broken fault) = codes "cosem-flow: " ++ (serve_fault_words fault ++ codes "\n")
+error_of (Unserved fault) = codes "cosem-flow: " ++ (servers.fault_words fault ++ codes "\n")
 error_of (Unwritten fault) = codes "cosem-flow: " ++ (lists.fault_words fault ++ codes "\n")
 error_of (Untranslated fault) = codes "cosem-flow: " ++ (translations.fault_words fault ++ codes "\n")

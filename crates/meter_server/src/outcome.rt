@@ -12,6 +12,7 @@ use fleet_audit::fleet::AuditFault;
 use fleet_audit::verdict::{Verdict, verdict_text};
 use frame_server::fault::ServeFault;
 use line_server::running::LineFault;
+use live_server::fault::ServerFault;
 use std::alloc::Global;
 
 /// How a command ended.
@@ -30,6 +31,8 @@ pub enum Outcome {
     Fault(LineFault),
     /// A fault ended the connection.
     Broken(ServeFault),
+    /// A fault ended the live meter, or let it not begin.
+    Unserved(ServerFault),
     /// It came to the verdicts on many configurations, which these lines tell, and of which all accept or not.
     Audited { text: String, is_accepted: bool },
     /// It came to no verdicts on them.
@@ -56,6 +59,7 @@ impl Outcome {
             | Outcome::Unaudited(_)
             | Outcome::Fault(_)
             | Outcome::Broken(_)
+            | Outcome::Unserved(_)
             | Outcome::Unwritten(_)
             | Outcome::Untranslated(_) => 3,
         }
@@ -95,6 +99,7 @@ impl Outcome {
             Outcome::Fault(fault) => Ok(format!(in alloc; "cosem-flow: {fault}\n")?),
             Outcome::Unaudited(fault) => Ok(format!(in alloc; "cosem-flow: {fault}\n")?),
             Outcome::Broken(fault) => Ok(format!(in alloc; "cosem-flow: {fault}\n")?),
+            Outcome::Unserved(fault) => Ok(format!(in alloc; "cosem-flow: {fault}\n")?),
             Outcome::Unwritten(fault) => Ok(format!(in alloc; "cosem-flow: {fault}\n")?),
             Outcome::Untranslated(fault) => Ok(format!(in alloc; "cosem-flow: {fault}\n")?),
         }

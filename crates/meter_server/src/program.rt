@@ -14,6 +14,7 @@ use crate::connecting::serve_alone;
 use crate::demo::DEMO;
 use crate::listing::{ListFault, write_edges, write_least_labels};
 use crate::outcome::Outcome;
+use crate::serving::{Place, serve_at};
 use crate::translating::{TranslationFault, Way, translate};
 use crate::watching::{Watched, run_watched};
 use command_words::{Command, WordsFault, read_words};
@@ -25,16 +26,21 @@ use explanations::file::{FileFault, read_text};
 use explanations::labels::explain_labels;
 use explanations::refusal::explain_refusal;
 use fleet_audit::fleet::{AuditFault, Text};
-use fleet_audit::judging::judge_labels;
+use fleet_audit::judging::accepted;
 use fleet_audit::verdict::Verdict;
+use flow_checker::check::Checked;
 use frame_server::fault::ServeFault;
 use frame_server::writing::write_whole;
 use line_server::running::{LineFault, run_lines};
+use live_server::fault::ServerFault;
+use meter_live::board::Closed;
 use object_model::plan::Plan;
 use std::alloc::Global;
 use std::io::{Read, Write};
+use std::net::{Net, TcpListener, TcpStream};
 use std::num::NonZeroUsize;
 use std::rt::Files;
+use std::sync::Wait;
 use std::thread::Threads;
 use std::time::Clock;
 
@@ -71,6 +77,16 @@ pub fn served(answer: Result<u64, ServeFault>) -> Outcome
     }
 }
 
+/// How a command ended whose live meter ended so.
+pub fn ended(answer: Result<Closed, ServerFault>) -> Outcome
+    ensures { result ≡ outcomes.ended answer }
+{
+    match answer {
+        Ok(_) => Outcome::Done,
+        Err(fault) => Outcome::Unserved(fault),
+    }
+}
+
 /// How a command ended whose input was translated so.
 pub fn translated(answer: Result<(), TranslationFault>) -> Outcome
     ensures { result ≡ outcomes.translated answer }
@@ -96,15 +112,29 @@ pub fn listed(answer: Result<(), ListFault>) -> Outcome
 /// line on the error stream; `edges CONFIG` and `label CONFIG` print its edges and its least labels there; `check CONFIG LABELS`
 /// comes to a verdict on it and on the labels in a second file, which is read only where the configuration has no fault; `audit NAME`
 /// comes to one on each of many, by many workers, and with `--progress` tells on the error stream how far it is; `session CONFIG`
-/// answers the frames of the input, those of one connection, on the output; `encode` and `decode` translate the input onto the output.
+/// answers the frames of the input, those of one connection, on the output; `serve CONFIG LABELS` answers connections over TCP by a live
+/// meter, where the verdict accepts, and takes the meter's own steps from the lines of the input; `encode` and `decode` translate the input
+/// onto the output.
 /// A verdict stands on the output and what explains it on the error stream; help and the version stand on the output where the words
 /// ask for these; any other fault stands on the error stream.
-pub fn run_program<
-    H: Files + AllocGlobal + Clock + Threads + Sync,
-    I: Read,
+pub fn run_program<H, I, O, E>(
+    rt: &H,
+    words: &[String],
+    input: &mut I,
+    output: &mut O,
+    errors: &mut E,
+) -> u8
+where
+    H: Files
+        + AllocGlobal
+        + Clock
+        + Net<Stream = TcpStream, Listener = TcpListener>
+        + Threads
+        + Wait
+        + Sync,
+    I: Read + Send,
     O: Write,
     E: Write + Send,
->(rt: &H, words: &[String], input: &mut I, output: &mut O, errors: &mut E) -> u8
     // A wrong command line has status 2, unless memory was refused.
     ensures mistaken { AreMistaken (map string_bytes words.now) → (result ≡ 2) ⊎ (result ≡ 3) }
     // Help and the version have status 0, unless memory was refused or they can't be written.
@@ -117,13 +147,24 @@ pub fn run_program<
 }
 
 /// Does what words ask for.
-fn asked<H: Files + AllocGlobal + Clock + Threads + Sync, I: Read, O: Write, E: Write + Send>(
+fn asked<H, I, O, E>(
     rt: &H,
     words: &[String],
     input: &mut I,
     output: &mut O,
     errors: &mut E,
 ) -> Outcome
+where
+    H: Files
+        + AllocGlobal
+        + Clock
+        + Net<Stream = TcpStream, Listener = TcpListener>
+        + Threads
+        + Wait
+        + Sync,
+    I: Read + Send,
+    O: Write,
+    E: Write + Send,
     ensures { command_of (map string_bytes words.now) ≡ None → IsNoCommand (map string_bytes words.now) result }
 {
     let Ok(texts) = texts_of(rt.alloc(), words) else {
@@ -147,13 +188,25 @@ fn texts_of(alloc: Global, words: &[String]) -> Result<Vec<&str>, Memory>
 }
 
 /// Does what a command asks for.
-fn answer<H: Files + AllocGlobal + Clock + Threads + Sync, I: Read, O: Write, E: Write + Send>(
+fn answer<H, I, O, E>(
     rt: &H,
     command: Command<'_>,
     input: &mut I,
     output: &mut O,
     errors: &mut E,
-) -> Outcome {
+) -> Outcome
+where
+    H: Files
+        + AllocGlobal
+        + Clock
+        + Net<Stream = TcpStream, Listener = TcpListener>
+        + Threads
+        + Wait
+        + Sync,
+    I: Read + Send,
+    O: Write,
+    E: Write + Send,
+{
     let alloc = rt.alloc();
     match command {
         Command::Demo { is_verbose } => {
@@ -171,6 +224,20 @@ fn answer<H: Files + AllocGlobal + Clock + Threads + Sync, I: Read, O: Write, E:
             tells_progress,
         } => audit_files(rt, workers, &names, tells_progress, errors),
         Command::Session { config } => connect_file(rt, config, input, output),
+        Command::Serve {
+            config,
+            labels,
+            bind,
+            port,
+            sessions,
+        } => {
+            let place = Place {
+                address: bind,
+                port,
+                sessions,
+            };
+            serve_files(rt, config, labels, place, input, errors)
+        }
         Command::Encode => translated(translate(alloc, Way::Encode, input, output)),
         Command::Decode => translated(translate(alloc, Way::Decode, input, output)),
     }
@@ -276,12 +343,57 @@ fn list_labels_of_file<H: Files + AllocGlobal, O: Write>(
     }
 }
 
-/// The verdict on the configuration in a file and on the labels in another, which is read only where the configuration has no
-/// fault.
+/// The verdict on the configuration in a file and on the labels in another.
 fn check_files<H: Files + AllocGlobal>(rt: &H, config: &str, labels: &str) -> Outcome {
-    match text_of_file(rt, config) {
-        Ok(text) => check_file(rt, source_of(config, &text), labels),
+    match accepted_of_files(rt, config, labels) {
+        Ok(_checked) => Outcome::Judged(Verdict::Accepted, String::new(rt.alloc())),
         Err(outcome) => outcome,
+    }
+}
+
+/// Answers connections by the configuration in a file, where the labels in another are accepted for it.
+fn serve_files<H, I, E>(
+    rt: &H,
+    config: &str,
+    labels: &str,
+    place: Place<'_>,
+    input: &mut I,
+    errors: &mut E,
+) -> Outcome
+where
+    H: Files
+        + AllocGlobal
+        + Net<Stream = TcpStream, Listener = TcpListener>
+        + Threads
+        + Wait
+        + Sync,
+    I: Read + Send,
+    E: Write + Send,
+{
+    match accepted_of_files(rt, config, labels) {
+        Ok(checked) => ended(serve_at(rt, checked, place, input, errors)),
+        Err(outcome) => outcome,
+    }
+}
+
+/// What is accepted of the configuration in a file and of the labels in another, which is read only where the configuration has no
+/// fault; or how a command ends that needs it.
+fn accepted_of_files<H: Files + AllocGlobal>(
+    rt: &H,
+    config: &str,
+    labels: &str,
+) -> Result<Checked, Outcome> {
+    let text = text_of_file(rt, config)?;
+    let config = source_of(config, &text);
+    let (plan, policy) = match read_config(rt.alloc(), config.text) {
+        Ok(made) => made,
+        Err(fault) => return Err(faulty(rt.alloc(), config, fault)),
+    };
+    let text = text_of_file(rt, labels)?;
+    let labels = source_of(labels, &text);
+    match accepted(rt.alloc(), plan, &policy, labels.text) {
+        Ok(checked) => Ok(checked),
+        Err(verdict) => Err(judged(rt.alloc(), config, labels, verdict)),
     }
 }
 
@@ -290,22 +402,6 @@ fn source_of<'a>(file: &'a str, text: &'a String) -> Source<'a> {
     Source {
         file,
         text: text.as_str(),
-    }
-}
-
-/// The verdict on a configuration and on the labels in a file, or that the file isn't read.
-fn check_file<H: Files + AllocGlobal>(rt: &H, config: Source<'_>, file: &str) -> Outcome {
-    let (plan, policy) = match read_config(rt.alloc(), config.text) {
-        Ok(made) => made,
-        Err(fault) => return faulty(rt.alloc(), config, fault),
-    };
-    match text_of_file(rt, file) {
-        Ok(text) => {
-            let labels = source_of(file, &text);
-            let verdict = judge_labels(rt.alloc(), plan, &policy, labels.text);
-            judged(rt.alloc(), config, labels, verdict)
-        }
-        Err(outcome) => outcome,
     }
 }
 

@@ -10,5 +10,6 @@ returns c =
     let check = added _ _ _ _ _ c.in_ok-check_command.ensures.local label c.in_ok-check_command.ensures.app c.in_ok-subcommand-5.ensures in
     let audit = added _ _ _ _ _ c.in_ok-audit_command.ensures.local check c.in_ok-audit_command.ensures.app c.in_ok-subcommand-6.ensures in
     let session = added _ _ _ _ _ c.in_ok-session_command.ensures.local audit c.in_ok-session_command.ensures.app c.in_ok-subcommand-7.ensures in
-    let encode = added _ _ _ _ _ c.encode_command.ensures.local session c.encode_command.ensures.app c.in_ok-subcommand-8.ensures in
-    added-ok _ _ _ _ _ c.decode_command.ensures.local encode c.decode_command.ensures.app c.subcommand-9.ensures
+    let serve = added _ _ _ _ _ c.in_ok-serve_command.ensures.local session c.in_ok-serve_command.ensures.app c.in_ok-subcommand-8.ensures in
+    let encode = added _ _ _ _ _ c.encode_command.ensures.local serve c.encode_command.ensures.app c.in_ok-subcommand-9.ensures in
+    added-ok _ _ _ _ _ c.decode_command.ensures.local encode c.decode_command.ensures.app c.subcommand-10.ensures
