@@ -7,6 +7,7 @@ use live_server::sessions::{Driven, Service, serve_accepted};
 use meter_live::board::Closed;
 use std::alloc::Global;
 use std::net::{Net, SocketAddr, TcpListener, TcpStream};
+use std::process::Abort;
 use std::sync::Wait;
 use std::sync::atomic::{AtomicU64, Ordering};
 use std::test::Fail;
@@ -58,37 +59,84 @@ fn ask_two<R: Net<Stream = TcpStream>>(rt: &R, alloc: Global, address: SocketAdd
     first.is_sent(REGISTER)
 }
 
-/// Both sessions are answered, though the first waits for the second.
-#[test]
-fn a_held_session_holds_no_other(rt: HostRuntime) -> Result<(), Fail> {
+/// Holds the second frames of seats 0 and 1 until both have come.
+#[derive(Drop)]
+struct Crosses {
+    first: AtomicU64,
+    second: AtomicU64,
+}
+
+impl Gate for Crosses {
+    fn before(&self, seat: usize) -> Go {
+        let (own, other) = match seat {
+            0 => (&self.first, &self.second),
+            1 => (&self.second, &self.first),
+            _ => return Go::On,
+        };
+        if own.fetch_add(1, Ordering::SeqCst) == 0 {
+            return Go::On;
+        }
+        waits(other, 2)
+    }
+
+    fn after(&self, _seat: usize) {}
+}
+
+/// Two sessions on one meter are answered at this gate, and nothing that they ask counts.
+fn both_are_answered<R, G>(rt: &R, gate: &G) -> Result<(), Fail>
+where
+    R: Abort
+        + AllocGlobal
+        + Net<Stream = TcpStream, Listener = TcpListener>
+        + Threads
+        + Wait
+        + Sync,
+    G: Gate + Sync,
+{
     let alloc = rt.alloc();
     let checked = accepted(alloc)?;
-    let listener = TcpListener::bind(&rt, "127.0.0.1:0")?;
+    let listener = TcpListener::bind(rt, "127.0.0.1:0")?;
     let address = listener.local_addr()?;
-    let gate = HoldsFirst {
-        begun: AtomicU64::new(0),
-        answered: AtomicU64::new(0),
-    };
     let (answered, served) = thread::join(
-        &rt,
-        || ask_two(&rt, alloc, address),
+        rt,
+        || ask_two(rt, alloc, address),
         || -> Result<Closed, ServerFault> {
             let service = Service {
                 listener: &listener,
                 sessions: 2,
-                gate: &gate,
+                gate,
             };
             let driven = Driven {
                 steps: &b""[..],
                 faults: Vec::new(alloc),
             };
-            serve_accepted(&rt, alloc, checked, service, driven)
+            serve_accepted(rt, alloc, checked, service, driven)
         },
     );
-    assert_eq!(&rt; answered, Some(()));
+    assert_eq!(rt; answered, Some(()));
     let Ok(closed) = served else {
         return Err("not served".into());
     };
-    assert_eq!(&rt; closed.count, 0);
+    assert_eq!(rt; closed.count, 0);
     Ok(())
+}
+
+/// Both sessions are answered, though the first waits for the second.
+#[test]
+fn a_held_session_holds_no_other(rt: HostRuntime) -> Result<(), Fail> {
+    let gate = HoldsFirst {
+        begun: AtomicU64::new(0),
+        answered: AtomicU64::new(0),
+    };
+    both_are_answered(&rt, &gate)
+}
+
+/// Both sessions are answered, though each waits for the other: neither would be if one thread did all work.
+#[test]
+fn two_sessions_cross(rt: HostRuntime) -> Result<(), Fail> {
+    let gate = Crosses {
+        first: AtomicU64::new(0),
+        second: AtomicU64::new(0),
+    };
+    both_are_answered(&rt, &gate)
 }

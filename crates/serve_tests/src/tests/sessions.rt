@@ -57,13 +57,15 @@ fn what_is_written_is_read(rt: HostRuntime) -> Result<(), Fail> {
 const FIRST_BLOCK: &str =
     "C402C1000000000100360A6441414141414141414141414141414141414141414141414141414141414141414141414141414141414141414141414141414141";
 
-/// 64 clients are answered at once, and one more is closed. One that closes in the midst of a value leaves its seat to another.
+/// 64 clients are answered at once, and one more is closed. One that closes in the midst of a value leaves its seat to another, and
+/// what the others ask is answered as it would be without it.
 fn fill<R: Net<Stream = TcpStream>>(rt: &R, alloc: Global, address: SocketAddr) -> Option<()> {
     let mut short = Client::connected(rt, alloc, address, READER)?;
     short.is_answered(SHORT_AARQ, AARE)?;
     short.is_answered("C001C100010000600100FF0200", FIRST_BLOCK)?;
+    let mut manager = Client::associated(rt, alloc, address, MANAGER)?;
     let mut clients = Vec::new(alloc);
-    for _ in 0..63 {
+    for _ in 0..62 {
         clients
             .push(Client::associated(rt, alloc, address, READER)?)
             .ok()?;
@@ -74,6 +76,7 @@ fn fill<R: Net<Stream = TcpStream>>(rt: &R, alloc: Global, address: SocketAddr) 
     }
     drop(short);
     finds_a_seat(rt, alloc, address)?;
+    manager.is_answered("C101C100010000600B00FF02001105", "C501C100")?;
     for client in clients.iter_mut() {
         client.is_answered(GET_REGISTER, REGISTER)?;
     }
@@ -98,6 +101,7 @@ fn finds_a_seat<R: Net<Stream = TcpStream>>(
     is_seated.then_some(())
 }
 
+/// The step of the manager alone is counted: the session that was closed early asked none.
 #[test]
 fn a_seat_is_free_again(rt: HostRuntime) -> Result<(), Fail> {
     let alloc = rt.alloc();
@@ -124,7 +128,7 @@ fn a_seat_is_free_again(rt: HostRuntime) -> Result<(), Fail> {
     let Ok(closed) = served else {
         return Err("not served".into());
     };
-    assert_eq!(&rt; closed.count, 0);
+    assert_eq!(&rt; (closed.count, closed.changes), (1, 1));
     Ok(())
 }
 
