@@ -47,12 +47,15 @@ outbox_send = view_send _ _ _ _ _ (declared_send outboxes_inside.the_type (histo
 live_send : IsSend lives.the_row
 live_send = view_send _ _ _ _ _ (declared_send lives_inside.the_type (traced_send, (outbox_send, tt)))
 
-pub reader_send : IsSend readers.the_row
+reader_send : IsSend readers.the_row
 reader_send = view_send _ _ _ _ _ (declared_send readers_inside.the_type (search (ends.the_send, shown_sync, send, sync, frees) depth 12, tt))
 
+pub board_reader_send : (N : RattleType) (g : naming.Ghosts N.Denot) → IsSend N → IsSend (board_readers.the_row N g)
+board_reader_send N g n = view_send _ _ _ _ _ (declared_send (board_readers_inside.the_type N g) (reader_send, (search (n, sendable) depth 12, tt)))
+
 module _ (N S C W : RattleType) (g : naming.Ghosts N.Denot) (h : ledgers.Ghosts S.Denot) (k : ledgers.Ghosts C.Denot) (n : IsSend N) (s : IsSend S) (c : IsSend C) (w : IsSend W) where
-  board_reader_send : IsSend (board_readers.the_row N g)
-  board_reader_send = view_send _ _ _ _ _ (declared_send (board_readers_inside.the_type N g) (reader_send, (search (n, sendable) depth 12, tt)))
+  seat_reader_send : IsSend (board_readers.the_row N g)
+  seat_reader_send = board_reader_send N g n
 
   share_send : IsSend (shares.the_row S C h k)
   share_send = search (shares_sent.the_send, sendable) depth 12
@@ -80,7 +83,7 @@ module _ (N S C W : RattleType) (g : naming.Ghosts N.Denot) (h : ledgers.Ghosts 
     port_send = declared_send (ports.the_type a N S C W g h k) (shr_send a.mir a.lft _ board_sync, (search sendable depth 12, tt))
 
     pub asker_send : IsSend (askers.the_row a N S C W R g h k)
-    asker_send = declared_send (askers.the_type a N S C W R g h k) (shr_send a.mir a.lft R y, (port_send, (share_send, (search (board_reader_send, sendable) depth 12, (search sendable depth 12, tt)))))
+    asker_send = declared_send (askers.the_type a N S C W R g h k) (shr_send a.mir a.lft R y, (port_send, (share_send, (search (seat_reader_send, sendable) depth 12, (search sendable depth 12, tt)))))
 
     pub driver_send : IsSend (drivers.the_row a N S C W R g h k)
     driver_send = declared_send (drivers.the_type a N S C W R g h k) (asker_send, (search (crosses, sendable) depth 20, tt))

@@ -37,6 +37,13 @@ fn is_set(flag: &AtomicBool) -> bool {
     false
 }
 
+/// How far the two threads have come.
+#[derive(Drop)]
+struct Steps {
+    is_locked: AtomicBool,
+    is_read: AtomicBool,
+}
+
 /// The reader's client, the first of the plan, reads the register.
 fn get_register() -> Step
     ensures { is_get (step_of result) ≡ true }
@@ -53,17 +60,12 @@ fn get_register() -> Step
 }
 
 /// Once the lock is held, whether the reader answers the register's value from the start, 123456.
-fn reads<N: Naming>(
-    alloc: Global,
-    reader: &mut BoardReader<N>,
-    is_locked: &AtomicBool,
-    is_read: &AtomicBool,
-) -> bool {
-    if !is_set(is_locked) {
+fn reads<N: Naming>(alloc: Global, mut reader: BoardReader<N>, steps: &Steps) -> bool {
+    if !is_set(&steps.is_locked) {
         return false;
     }
     let reply = reader.get(alloc, &get_register());
-    is_read.store(true, Ordering::SeqCst);
+    steps.is_read.store(true, Ordering::SeqCst);
     matches!(reply, Ok(Reply::Value(Data::DoubleLongUnsigned(123_456))))
 }
 
@@ -71,12 +73,11 @@ fn reads<N: Naming>(
 fn holds<N: Naming, S: Ledger, C: Ledger, W: Wait + Drop, R: Wait>(
     rt: &R,
     board: &Board<N, S, C, W>,
-    is_locked: &AtomicBool,
-    is_read: &AtomicBool,
+    steps: &Steps,
 ) -> bool {
     let _guard = board.lock(rt);
-    is_locked.store(true, Ordering::SeqCst);
-    is_set(is_read)
+    steps.is_locked.store(true, Ordering::SeqCst);
+    is_set(&steps.is_read)
 }
 
 /// Another thread reads while this one holds the lock.
@@ -84,7 +85,7 @@ fn is_read_while_held<N, S, C, W, R>(
     rt: &R,
     alloc: Global,
     board: &Board<N, S, C, W>,
-    mut reader: BoardReader<N>,
+    reader: BoardReader<N>,
 ) -> bool
 where
     N: Naming + Send,
@@ -93,13 +94,15 @@ where
     W: Wait + Drop,
     R: Threads + Wait + Sync,
 {
-    let is_locked = AtomicBool::new(false);
-    let is_read = AtomicBool::new(false);
-    let (locked, read) = (&is_locked, &is_read);
+    let steps = Steps {
+        is_locked: AtomicBool::new(false),
+        is_read: AtomicBool::new(false),
+    };
+    let shared = &steps;
     let (is_right, was_held) = thread::join(
         rt,
-        move || reads(alloc, &mut reader, locked, read),
-        || holds(rt, board, &is_locked, &is_read),
+        move || reads(alloc, reader, shared),
+        || holds(rt, board, &steps),
     );
     is_right && was_held
 }
