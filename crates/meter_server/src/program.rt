@@ -51,6 +51,26 @@ pub struct Source<'a> {
     pub text: &'a str,
 }
 
+/// What the program needs of whatever runs it.
+pub trait Machine: Files
+    + AllocGlobal
+    + Clock
+    + Net<Stream = TcpStream, Listener = TcpListener>
+    + Threads
+    + Wait
+    + Sync {}
+
+impl<H> Machine for H
+where
+    H: Files
+        + AllocGlobal
+        + Clock
+        + Net<Stream = TcpStream, Listener = TcpListener>
+        + Threads
+        + Wait
+        + Sync,
+{}
+
 /// The demo configuration, under the name of the file that people copy.
 const DEMO_SOURCE: Source<'static> = Source {
     file: "demo.toml",
@@ -125,13 +145,7 @@ pub fn run_program<H, I, O, E>(
     errors: &mut E,
 ) -> u8
 where
-    H: Files
-        + AllocGlobal
-        + Clock
-        + Net<Stream = TcpStream, Listener = TcpListener>
-        + Threads
-        + Wait
-        + Sync,
+    H: Machine,
     I: Read + Send,
     O: Write,
     E: Write + Send,
@@ -155,13 +169,7 @@ fn asked<H, I, O, E>(
     errors: &mut E,
 ) -> Outcome
 where
-    H: Files
-        + AllocGlobal
-        + Clock
-        + Net<Stream = TcpStream, Listener = TcpListener>
-        + Threads
-        + Wait
-        + Sync,
+    H: Machine,
     I: Read + Send,
     O: Write,
     E: Write + Send,
@@ -196,13 +204,7 @@ fn answer<H, I, O, E>(
     errors: &mut E,
 ) -> Outcome
 where
-    H: Files
-        + AllocGlobal
-        + Clock
-        + Net<Stream = TcpStream, Listener = TcpListener>
-        + Threads
-        + Wait
-        + Sync,
+    H: Machine,
     I: Read + Send,
     O: Write,
     E: Write + Send,
