@@ -8,6 +8,6 @@ use Rattle.serve_tests.proofs.tests.threads.Steps.TheSendSync as steps
 use Rattle.serve_tests.proofs.tests.threads.is_read_while_held.Goals as goal
 
 -- the reader goes to its thread, with the allocator and what both threads see
-pub join-requires-send-F : goal.join-requires-send-F
-join-requires-send-F g c κs within =
+pub join-is_right-requires-send-F : goal.join-is_right-requires-send-F
+join-is_right-requires-send-F g c κs within =
     let b = c.type_bounds in param_send 1 _ (arg_send _ no _ (three_send _ _ _ _ send (board_reader_send (param 0 g.row.N) g.N.Naming b.send-N) (shr_send _ _ _ steps.the_sync)))
