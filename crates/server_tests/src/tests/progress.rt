@@ -15,13 +15,13 @@ use std::time::{Clock, Duration};
 
 /// A clock that has these times, in milliseconds, one each time that it is read, and can't be read behind them.
 #[derive(Drop)]
-struct Times<const COUNT: usize> {
-    times: [u64; COUNT],
+struct Times<'a> {
+    times: &'a [u64],
     next: AtomicUsize,
 }
 
-impl<const COUNT: usize> Times<COUNT> {
-    fn of(times: [u64; COUNT]) -> Self {
+impl<'a> Times<'a> {
+    fn of(times: &'a [u64]) -> Self {
         Times {
             times,
             next: AtomicUsize::new(0),
@@ -29,7 +29,7 @@ impl<const COUNT: usize> Times<COUNT> {
     }
 }
 
-impl<const COUNT: usize> Clock for Times<COUNT> {
+impl Clock for Times<'_> {
     fn monotonic(&self) -> io::Result<Duration> {
         match self.times.get(self.next.fetch_add(1, Ordering::SeqCst)) {
             Some(time) => Ok(Duration::from_millis(*time)),
@@ -69,11 +69,7 @@ fn tell_four<C: Clock, E: Write + Drop>(progress: Progress<'_, C, E>) {
 
 /// Behind four verdicts at these times of the clock this was written. Where memory is refused no line is, so the test fails and
 /// doesn't end the process.
-fn are_told<const COUNT: usize>(
-    alloc: Global,
-    times: [u64; COUNT],
-    want: &str,
-) -> Result<(), Fail> {
+fn are_told(alloc: Global, times: &[u64], want: &str) -> Result<(), Fail> {
     let clock = Times::of(times);
     let mut written = Vec::new(alloc);
     tell_four(Progress::start(alloc, &clock, 4, &mut written));
@@ -89,7 +85,7 @@ fn are_told<const COUNT: usize>(
 fn lines_come_ten_times_a_second(rt: HostRuntime) -> Result<(), Fail> {
     are_told(
         rt.alloc(),
-        [5000, 5060, 5100, 5199, 6000, 6400],
+        &[5000, 5060, 5100, 5199, 6000, 6400],
         "\r2 of 4 done, 1 refused, 2 left, 20 a second\
          \r4 of 4 done, 2 refused, 0 left, 4 a second \
          \r4 of 4 done, 2 refused, 0 left, 2 a second\n",
@@ -101,7 +97,7 @@ fn lines_come_ten_times_a_second(rt: HostRuntime) -> Result<(), Fail> {
 fn the_last_line_is_written_at_once(rt: HostRuntime) -> Result<(), Fail> {
     are_told(
         rt.alloc(),
-        [0, 1, 2, 3, 4, 5],
+        &[0, 1, 2, 3, 4, 5],
         "\r4 of 4 done, 2 refused, 0 left, 800 a second\n",
     )
 }
@@ -110,16 +106,16 @@ fn the_last_line_is_written_at_once(rt: HostRuntime) -> Result<(), Fail> {
 #[test]
 fn clocks_may_fail(rt: HostRuntime) -> Result<(), Fail> {
     let want = "\r4 of 4 done, 2 refused, 0 left, 0 a second\n";
-    are_told(rt.alloc(), [7, 7, 7, 7, 7, 7], want)?;
-    are_told(rt.alloc(), [700, 600, 500, 400, 300, 200], want)?;
-    are_told(rt.alloc(), [700], want)?;
-    are_told(rt.alloc(), [], want)
+    are_told(rt.alloc(), &[7, 7, 7, 7, 7, 7], want)?;
+    are_told(rt.alloc(), &[700, 600, 500, 400, 300, 200], want)?;
+    are_told(rt.alloc(), &[700], want)?;
+    are_told(rt.alloc(), &[], want)
 }
 
 /// A write that fails is passed over.
 #[test]
 fn a_writer_may_fail(rt: HostRuntime) -> Result<(), Fail> {
-    let clock = Times::of([0, 1000, 2000, 3000, 4000, 5000]);
+    let clock = Times::of(&[0, 1000, 2000, 3000, 4000, 5000]);
     tell_four(Progress::start(rt.alloc(), &clock, 4, Shut));
     Ok(())
 }
