@@ -51,26 +51,6 @@ pub struct Source<'a> {
     pub text: &'a str,
 }
 
-/// What the program needs of whatever runs it.
-pub trait Machine: Files
-    + AllocGlobal
-    + Clock
-    + Net<Stream = TcpStream, Listener = TcpListener>
-    + Threads
-    + Wait
-    + Sync {}
-
-impl<H> Machine for H
-where
-    H: Files
-        + AllocGlobal
-        + Clock
-        + Net<Stream = TcpStream, Listener = TcpListener>
-        + Threads
-        + Wait
-        + Sync,
-{}
-
 /// The demo configuration, under the name of the file that people copy.
 const DEMO_SOURCE: Source<'static> = Source {
     file: "demo.toml",
@@ -145,7 +125,13 @@ pub fn run_program<H, I, O, E>(
     errors: &mut E,
 ) -> u8
 where
-    H: Machine,
+    H: Files
+        + AllocGlobal
+        + Clock
+        + Net<Stream = TcpStream, Listener = TcpListener>
+        + Threads
+        + Wait
+        + Sync,
     I: Read + Send,
     O: Write,
     E: Write + Send,
@@ -169,7 +155,13 @@ fn asked<H, I, O, E>(
     errors: &mut E,
 ) -> Outcome
 where
-    H: Machine,
+    H: Files
+        + AllocGlobal
+        + Clock
+        + Net<Stream = TcpStream, Listener = TcpListener>
+        + Threads
+        + Wait
+        + Sync,
     I: Read + Send,
     O: Write,
     E: Write + Send,
@@ -204,7 +196,13 @@ fn answer<H, I, O, E>(
     errors: &mut E,
 ) -> Outcome
 where
-    H: Machine,
+    H: Files
+        + AllocGlobal
+        + Clock
+        + Net<Stream = TcpStream, Listener = TcpListener>
+        + Threads
+        + Wait
+        + Sync,
     I: Read + Send,
     O: Write,
     E: Write + Send,
