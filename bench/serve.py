@@ -109,7 +109,7 @@ int main(int words, char **word) {
         }
     } else {
         if (bind(listener, (struct sockaddr *)&address, sizeof address) || listen(listener, 64)) return perror("listen"), 1;
-        fprintf(stderr, "echo: listening at 127.0.0.1:%s\n", word[1]);
+        fprintf(stderr, "echo: connections are taken at 127.0.0.1:%s\n", word[1]);
     }
     pthread_t threads[64];
     for (int k = 0; k < sessions; k++) {
@@ -142,7 +142,7 @@ def started(name, command, port, steps=subprocess.DEVNULL):
     """A server that has said under its name where it listens."""
     server = subprocess.Popen(command, stdin=steps, stderr=subprocess.PIPE)
     line = server.stderr.readline().decode()
-    if line != f"{name}: listening at {HOST}:{port}\n":
+    if line != f"{name}: connections are taken at {HOST}:{port}\n":
         server.kill()
         sys.exit(f"{' '.join(command)} doesn't say where it listens, but: {line}{server.stderr.read().decode()}")
     return server
