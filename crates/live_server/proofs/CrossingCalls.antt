@@ -1,13 +1,15 @@
 -- What the threads of a server take along may cross to them.
 use mathlib.Core.List.{[], ◌∷◌}
 use denote.RattleType.{RattleType}
+use denote.Ref.{NamedLft}
 use denote.Struct.Field.{row_field, u64-field}
 use denote.Struct.Tuple.{TupleAt, type_at}
-use denote.Param.Send.{IsSend, IsSync, sendable}
+use denote.Param.Send.{IsSend, IsSync, shr_send, sendable}
 use denote.Param.SendFields.{as_row_send, declared_send}
 use mir.Syntax.{Sym}
 use Rattle.core.specs.contracts.sync.Mutex as mutexes
 use Rattle.std.proofs.Crossing.{crosses}
+use Rattle.gates.specs.declared.Gate as gates
 use Rattle.live_server.specs.contracts.seats.Taken as taken
 use Rattle.live_server.specs.contracts.sessions.Driven as driven
 
@@ -23,8 +25,11 @@ seven_send ν A B C D E F G a b c d e f g = declared_send (type_at ν (A ∷ B �
 pub driven_send : (I F : RattleType) → IsSend I → IsSend F → IsSend (driven.the_row I F)
 driven_send I F i f = declared_send (driven.the_type I F) (as_row_send (row_field I) i, (as_row_send (row_field F) f, tt))
 
-pub taken_sync : IsSync (mutexes.the_row taken.the_row)
-taken_sync = search (crosses, sendable) depth 20
+taken_send : (a : NamedLft) (G : RattleType) (h : gates.Ghosts G.Denot) → IsSync G → IsSend (taken.the_row a G h)
+taken_send a G h y = declared_send (taken.the_type a G h) (search (crosses, sendable) depth 20, (search sendable depth 12, (shr_send a.mir a.lft G y, tt)))
+
+pub taken_sync : (a : NamedLft) (G : RattleType) (h : gates.Ghosts G.Denot) → IsSync G → IsSync (mutexes.the_row (taken.the_row a G h))
+taken_sync a G h y = let sent = taken_send a G h y in search (sent, crosses, sendable) depth 20
 
 pub number_send : IsSend u64-field.row
 number_send = search sendable depth 12

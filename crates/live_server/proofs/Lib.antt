@@ -1,3 +1,4 @@
+pub mod Asked
 pub mod CrossingBoards
 pub mod CrossingCalls
 pub mod CrossingParts

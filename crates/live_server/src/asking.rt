@@ -1,11 +1,14 @@
 //! What a session of a live meter asks.
-ghost use Rattle.std.specs.Prelude.{◌≡◌, true, IfOk, None, Some};
+ghost use Rattle.std.specs.Prelude.{◌≡◌, false, true, IfOk, IfSome, None, OnOk, Some};
 ghost use mathlib.Core.List.{IsPrefix};
-ghost use Rattle.meter_live.specs.Changes.{is_get};
+ghost use Rattle.std.proofs.Props.{props};
+ghost use Rattle.meter_live.specs.Changes as changes;
+ghost use Rattle.meter_live.specs.Tally.{HasSeen, nothing};
 ghost use Rattle.meter_theory.specs.Plan.{start};
 ghost use Rattle.meter_theory.specs.Replies.{reply_to, run};
 ghost use Rattle.meter_core.specs.StepView.{reply_of, step_of};
 ghost use Rattle.acse_session.specs.Conversation.{answered, IsSendable};
+ghost use Rattle.live_server.specs.Asking as spec;
 ghost use Rattle.live_server.specs.Asking.{AnswersLive};
 
 use acse_session::asker::Asker;
@@ -13,8 +16,9 @@ use association_views::permits::permit_get;
 use cosem_data::memory::Memory;
 use meter_core::reply::Reply;
 use meter_core::step::Step;
-use meter_live::board::Port;
+use meter_live::board::{Board, Port};
 use meter_live::desk::BoardReader;
+use meter_live::fault::PortFault;
 use meter_live::names::Naming;
 use meter_live::share::Share;
 use object_model::plan::Plan;
@@ -33,21 +37,23 @@ pub struct PortAsker<'b, N: Naming, S: Ledger, C: Ledger, W: Wait + Drop, R: Wai
     reader: Option<BoardReader<N>>,
     /// Whether a step was taken here that the reader wasn't told of.
     is_behind: bool,
+    ghost noted: { is_behind ≡ false → IfSome reader (λ seen. HasSeen share seen) } by { Prim.hlevel props },
 }
 
 impl<'b, N: Naming, S: Ledger, C: Ledger, W: Wait + Drop, R: Wait> PortAsker<'b, N, S, C, W, R> {
-    /// A seat at this port, which gives its reader now.
-    pub fn new(rt: &'b R, port: Port<'b, N, S, C, W>, share: Share<S, C>) -> Self
-        ensures { result.share ≡ share }
+    /// A seat at a new port of the board, which gives its reader now.
+    pub fn open(rt: &'b R, board: &'b Board<N, S, C, W>) -> Result<Self, PortFault>
+        ensures { IfOk result (λ asker. asker.share ≡ nothing) }
     {
+        let (port, share) = board.port(rt)?;
         let reader = port.reader(rt).ok();
-        PortAsker {
+        Ok(PortAsker {
             rt,
             port,
             share,
             reader,
             is_behind: false,
-        }
+        })
     }
 
     /// The plan of the meter.
@@ -60,7 +66,7 @@ impl<'b, N: Naming, S: Ledger, C: Ledger, W: Wait + Drop, R: Wait> PortAsker<'b,
     /// Publishes all steps that are pending, and tells the reader. Where memory is refused, that is left to the next telling.
     pub fn tell(&mut self) {
         if let Some(reader) = &mut self.reader {
-            self.is_behind = self.port.tell(self.rt, reader).is_err();
+            self.is_behind = self.port.tell(self.rt, &mut self.share, reader).is_err();
         }
     }
 
@@ -107,47 +113,102 @@ fn ask_read<N: Naming, S: Ledger, C: Ledger, W: Wait + Drop, R: Wait>(
     is_behind: &mut bool,
     step: Step,
 ) -> Result<Reply, Memory>
+    requires { is_behind.old ≡ false → HasSeen share.old reader.old }
     ensures answer { AnswersLive N.accepted.plan (record { seen = Some reader.old; share = share.old }) (step_of step) (answered result) (record { seen = Some reader.new; share = share.new }) }
     ensures sendable { IfOk result (λ reply. IsSendable (step_of step) (reply_of reply)) }
+    ensures noted { is_behind.new ≡ false → HasSeen share.new reader.new }
 {
-    if let Step::Get { .. } = &step {
-        return read(rt, alloc, port, reader, is_behind, &step);
+    if is_get(&step) {
+        read(rt, alloc, port, share, reader, is_behind, &step)
+    } else {
+        put(rt, alloc, port, share, reader, is_behind, step)
     }
-    port.plan().known();
-    let (reply, is_told) = port
-        .put(rt, alloc, share, reader, step)
-        .map_err(|_| Memory)?;
-    *is_behind = !is_told;
-    Ok(reply)
 }
 
-/// A GET is answered by the reader. Where the plan grants it, the reader is first told of a step that it wasn't told of yet.
+/// Whether a step is a GET.
+fn is_get(step: &Step) -> bool
+    ensures { result ≡ changes.is_get (step_of step.now) }
+{
+    matches!(step, Step::Get { .. })
+}
+
+/// A step that is no GET is taken under the lock, where the reader is told of it, or is behind from then on.
+fn put<N: Naming, S: Ledger, C: Ledger, W: Wait + Drop, R: Wait>(
+    rt: &R,
+    alloc: Global,
+    port: &Port<'_, N, S, C, W>,
+    share: &mut Share<S, C>,
+    reader: &mut BoardReader<N>,
+    is_behind: &mut bool,
+    step: Step,
+) -> Result<Reply, Memory>
+    requires other { changes.is_get (step_of step) ≡ false }
+    requires noted { is_behind.old ≡ false → HasSeen share.old reader.old }
+    ensures answer { AnswersLive N.accepted.plan (record { seen = Some reader.old; share = share.old }) (step_of step) (answered result) (record { seen = Some reader.new; share = share.new }) }
+    ensures sendable { IfOk result (λ reply. IsSendable (step_of step) (reply_of reply)) }
+    ensures noted { is_behind.new ≡ false → HasSeen share.new reader.new }
+{
+    port.plan().known();
+    match port.put(rt, alloc, share, reader, step) {
+        Ok((reply, is_told)) => {
+            *is_behind = !is_told;
+            Ok(reply)
+        }
+        Err(_) => Err(Memory),
+    }
+}
+
+/// A GET is answered by the reader. Where the plan grants it, the reader is first told of the steps that it wasn't told of yet.
 fn read<N: Naming, S: Ledger, C: Ledger, W: Wait + Drop, R: Wait>(
     rt: &R,
     alloc: Global,
     port: &Port<'_, N, S, C, W>,
+    share: &mut Share<S, C>,
     reader: &mut BoardReader<N>,
     is_behind: &mut bool,
     step: &Step,
 ) -> Result<Reply, Memory>
-    requires { is_get (step_of step.now) ≡ true }
-    ensures later { IsPrefix reader.old reader.new }
-    ensures reply { IfOk result (λ reply. reply_of reply ≡ reply_to N.accepted.plan (run N.accepted.plan (start N.accepted.plan) reader.new) (step_of step.now)) }
+    requires get { changes.is_get (step_of step.now) ≡ true }
+    requires noted { is_behind.old ≡ false → HasSeen share.old reader.old }
+    ensures answer { AnswersLive N.accepted.plan (record { seen = Some reader.old; share = share.old }) (step_of step.now) (answered result) (record { seen = Some reader.new; share = share.new }) }
     ensures sendable { IfOk result (λ reply. IsSendable (step_of step.now) (reply_of reply)) }
+    ensures noted { is_behind.new ≡ false → HasSeen share.new reader.new }
 {
     port.plan().known();
-    if *is_behind && is_granted(port.plan(), step) {
-        port.tell(rt, reader)?;
-        *is_behind = false;
-    }
+    let is_granted = is_granted(port.plan(), step);
+    catch_up(rt, port, share, reader, is_behind, is_granted)?;
     match reader.get(alloc, step) {
         Ok(reply) => Ok(reply),
         Err(_) => Err(Memory),
     }
 }
 
+/// Where that is asked for, the reader is told of the steps that it wasn't told of yet.
+fn catch_up<N: Naming, S: Ledger, C: Ledger, W: Wait + Drop, R: Wait>(
+    rt: &R,
+    port: &Port<'_, N, S, C, W>,
+    share: &mut Share<S, C>,
+    reader: &mut BoardReader<N>,
+    is_behind: &mut bool,
+    is_asked: bool,
+) -> Result<(), Memory>
+    requires { is_behind.old ≡ false → HasSeen share.old reader.old }
+    ensures later { IsPrefix reader.old reader.new }
+    ensures share { share.new ≡ share.old }
+    ensures seen { OnOk result (is_asked ≡ true → HasSeen share.old reader.new) }
+    ensures noted { is_behind.new ≡ false → HasSeen share.new reader.new }
+{
+    if is_asked && *is_behind {
+        port.tell(rt, share, reader)?;
+        *is_behind = false;
+    }
+    Ok(())
+}
+
 /// Whether the plan grants a GET.
-fn is_granted(plan: &Plan, step: &Step) -> bool {
+fn is_granted(plan: &Plan, step: &Step) -> bool
+    ensures { result ≡ spec.is_granted plan.now (step_of step.now) }
+{
     match step {
         Step::Get {
             client,

@@ -11,7 +11,7 @@ pub enum ServerFault {
     Listen,
     /// Memory was refused, or no thread was there for the driver.
     Memory,
-    /// The gate had a seat give up.
+    /// The gate had a seat give up, as one that is open never does.
     GaveUp,
     /// The board had no port for a seat, or wasn't closed for want of a share.
     Board,

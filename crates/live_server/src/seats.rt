@@ -1,8 +1,10 @@
 //! The seats of a board, and which are taken.
-ghost use Rattle.std.specs.Prelude.{◌≡◌, ◌<◌, IfSome};
+ghost use Rattle.std.specs.Prelude.{◌≡◌, ◌<◌, ◌⊎◌, true, IfErr, IfSome};
+ghost use Rattle.live_server.specs.Faults.{IsFaultBy, MayGiveUp};
 
 use crate::asking::PortAsker;
 use crate::fault::ServerFault;
+use gates::Gate;
 use meter_live::board::Board;
 use meter_live::names::Naming;
 use meter_live::share::Share;
@@ -17,11 +19,10 @@ pub(crate) const SEATS: usize = 64;
 pub(crate) fn open_seat<'b, N: Naming, S: Ledger, C: Ledger, W: Wait + Drop, R: Wait>(
     rt: &'b R,
     board: &'b Board<N, S, C, W>,
-) -> Result<PortAsker<'b, N, S, C, W, R>, ServerFault> {
-    match board.port(rt) {
-        Ok((port, share)) => Ok(PortAsker::new(rt, port, share)),
-        Err(_) => Err(ServerFault::Board),
-    }
+) -> Result<PortAsker<'b, N, S, C, W, R>, ServerFault>
+    ensures { IfErr result (λ fault. fault ≡ ServerFault.Board) }
+{
+    PortAsker::open(rt, board).map_err(|_| ServerFault::Board)
 }
 
 /// Opens a seat for each connection that is answered at once, under a lock of its own.
@@ -29,7 +30,9 @@ pub(crate) fn open_seats<'b, N: Naming, S: Ledger, C: Ledger, W: Wait + Drop, R:
     rt: &'b R,
     alloc: Global,
     board: &'b Board<N, S, C, W>,
-) -> Result<Vec<Mutex<PortAsker<'b, N, S, C, W, R>>>, ServerFault> {
+) -> Result<Vec<Mutex<PortAsker<'b, N, S, C, W, R>>>, ServerFault>
+    ensures { IfErr result (λ fault. (fault ≡ ServerFault.Board) ⊎ (fault ≡ ServerFault.Memory)) }
+{
     let mut seats = Vec::new(alloc);
     for _ in 0..SEATS {
         let seat = open_seat(rt, board)?;
@@ -45,7 +48,9 @@ pub(crate) fn shares_of<N: Naming, S: Ledger, C: Ledger, W: Wait + Drop, R: Wait
     alloc: Global,
     driver: PortAsker<'_, N, S, C, W, R>,
     seats: Vec<Mutex<PortAsker<'_, N, S, C, W, R>>>,
-) -> Result<Vec<Share<S, C>>, ServerFault> {
+) -> Result<Vec<Share<S, C>>, ServerFault>
+    ensures { IfErr result (λ fault. fault ≡ ServerFault.Memory) }
+{
     let mut shares = Vec::new(alloc);
     shares
         .push(driver.into_share())
@@ -58,20 +63,41 @@ pub(crate) fn shares_of<N: Naming, S: Ledger, C: Ledger, W: Wait + Drop, R: Wait
     Ok(shares)
 }
 
-/// Which seats are taken, and whether one gave up.
+/// Which seats are taken, and whether one gave up at its gate.
 #[derive(Drop)]
-pub(crate) struct Taken {
+pub(crate) struct Taken<'g, G: Gate> {
     is_taken: [bool; SEATS],
-    pub(crate) gave_up: bool,
+    gave_up: bool,
+    gate: &'g G,
+    ghost fault: { gave_up ≡ true → MayGiveUp (G.may_give_up gate.now) },
 }
 
-impl Taken {
-    /// No seat is taken yet.
-    pub(crate) fn new() -> Taken {
+impl<'g, G: Gate> Taken<'g, G> {
+    /// No seat is taken yet, and none gave up at this gate.
+    pub(crate) fn new(gate: &'g G) -> Taken<'g, G> {
         Taken {
             is_taken: [false; SEATS],
             gave_up: false,
+            gate,
         }
+    }
+
+    /// Notes that a seat gave up at this gate.
+    pub(crate) fn give_up(&mut self, gate: &'g G)
+        requires { MayGiveUp (G.may_give_up gate.now) }
+    {
+        self.gate = gate;
+        self.gave_up = true;
+    }
+
+    /// That no seat gave up, or that one did.
+    pub(crate) fn ended(self) -> Result<(), ServerFault>
+        ensures { IfErr result (λ fault. IsFaultBy G.may_give_up fault) }
+    {
+        if self.gave_up {
+            return Err(ServerFault::GaveUp);
+        }
+        Ok(())
     }
 
     /// Takes the lowest free seat.

@@ -1,7 +1,8 @@
 //! Connections over TCP, each in a thread of its own, on one board.
-ghost use Rattle.std.specs.Prelude.{◌≡◌, ◌<◌, IfOk};
+ghost use Rattle.std.specs.Prelude.{◌≡◌, ◌<◌, true, IfErr, IfOk, Err};
 ghost use denote.Param.Send.{IsSend, IsSync};
 ghost use Rattle.meter_theory.specs.States.{IsState};
+ghost use Rattle.live_server.specs.Faults.{IsFaultBy};
 
 use crate::asking::PortAsker;
 use crate::driver::{Driver, PassedOver};
@@ -16,7 +17,7 @@ use meter_live::board::{Blanks, Board, Closed, NotAll};
 use meter_live::names::Naming;
 use meter_live::share::Share;
 use std::alloc::Global;
-use std::io::{Read, Write};
+use std::io::{self, Read, Write};
 use std::marker::Brand;
 use std::net::{TcpListener, TcpStream};
 use std::sync::ledger::Ledger;
@@ -43,7 +44,8 @@ pub struct Driven<I: Read + Drop, F: Write + Drop> {
 /// lines; then closes the board. A connection that finds no free seat, or no thread, is closed, and counts.
 ///
 /// # Errors
-/// No connection can be taken, memory was refused, a seat gave up, or the board had no port for a seat. The board has ended then.
+/// No connection can be taken, memory was refused, a seat gave up at its gate, or the board had no port for a seat. The board has ended
+/// then.
 pub fn serve_sessions<N, S, C, W, R, I, F, G>(
     rt: &R,
     alloc: Global,
@@ -63,6 +65,8 @@ where
     requires { (S.parts ≡ 256) × (C.parts ≡ 256) }
     ensures plan { IfOk result (λ closed. closed.plan ≡ N.accepted) }
     ensures meter { IfOk result (λ closed. IsState N.accepted.plan closed.meter) }
+    // A seat gave up only where a gate may have it do so.
+    ensures fault { IfErr result (λ fault. IsFaultBy G.may_give_up fault) }
 {
     match run_sessions(rt, alloc, &board, service, driven) {
         Ok(shares) => match board.close(rt, shares) {
@@ -96,10 +100,11 @@ where
     I: Read + Send + Drop,
     F: Write + Send + Drop,
     G: Gate + Sync,
+    ensures { IfErr result (λ fault. IsFaultBy G.may_give_up fault) }
 {
     let driver = Driver::new(alloc, open_seat(rt, board)?);
     let seats = open_seats(rt, alloc, board)?;
-    let taken = Mutex::new(Taken::new());
+    let taken = Mutex::new(Taken::new(service.gate));
     let lent = seats.as_slice();
     let shared = &taken;
     let (driver, ended) = thread::join(
@@ -107,10 +112,8 @@ where
         move || drive(alloc, driver, driven),
         || accept_all(rt, alloc, lent, shared, &service),
     );
-    ended?;
-    if taken.into_inner().gave_up {
-        return Err(ServerFault::GaveUp);
-    }
+    ended.map_err(|_| ServerFault::Listen)?;
+    taken.into_inner().ended()?;
     shares_of(alloc, driver.into_seat(), seats)
 }
 
@@ -126,14 +129,14 @@ fn drive<N: Naming, S: Ledger, C: Ledger, W: Wait + Drop, R: Wait, I: Read + Dro
     driver
 }
 
-/// Takes connections until there were so many, and waits for their threads.
-fn accept_all<N, S, C, W, R, G>(
+/// Takes connections until there were so many, or one can't be taken, and waits for their threads.
+fn accept_all<'g, N, S, C, W, R, G>(
     rt: &R,
     alloc: Global,
     seats: &[Mutex<PortAsker<'_, N, S, C, W, R>>],
-    taken: &Mutex<Taken>,
-    service: &Service<'_, G>,
-) -> Result<(), ServerFault>
+    taken: &Mutex<Taken<'g, G>>,
+    service: &Service<'g, G>,
+) -> io::Result<()>
 where
     N: Naming + Send + Sync,
     S: Ledger + Send + Sync,
@@ -145,15 +148,13 @@ where
     thread::scope(
         thread::scope_env(),
         rt,
-        move |scope| -> Result<(), ServerFault>
+        move |scope| -> io::Result<()>
             requires send { IsSend N.row × IsSend S.row × IsSend C.row × IsSend W.row }
             requires sync { IsSync R.row × IsSync G.row }
         {
             let mut count = 0u64;
             for stream in service.listener.incoming() {
-                let Ok(stream) = stream else {
-                    return Err(ServerFault::Listen);
-                };
+                let stream = stream?;
                 let free = taken.lock(rt).take();
                 if let Some(number) = free {
                     if let Some(seat) = seats.get(number) {
@@ -175,24 +176,33 @@ where
 }
 
 /// One connection at a seat, which is free again afterwards. What ends the connection is no fault of the others.
-fn sit<N: Naming, S: Ledger, C: Ledger, W: Wait + Drop, R: Wait, G: Gate>(
+fn sit<'g, N: Naming, S: Ledger, C: Ledger, W: Wait + Drop, R: Wait, G: Gate>(
     rt: &R,
     alloc: Global,
     stream: &TcpStream,
     asker: &Mutex<PortAsker<'_, N, S, C, W, R>>,
-    taken: &Mutex<Taken>,
+    taken: &Mutex<Taken<'g, G>>,
     number: usize,
-    gate: &G,
+    gate: &'g G,
 )
     requires { number < 64 }
 {
     let _ = stream.set_nodelay(true);
     let ended = converse(rt, alloc, stream, asker, &Seat { number, gate });
     let mut taken = taken.lock(rt);
-    if ended == Err(ServeFault::GaveUp) {
-        taken.gave_up = true;
+    if let Err(fault) = ended {
+        if is_given_up(fault) {
+            taken.give_up(gate);
+        }
     }
     taken.free(number);
+}
+
+/// Whether a connection ended because its seat gave up.
+fn is_given_up(fault: ServeFault) -> bool
+    ensures { result ≡ true → fault ≡ ServeFault.GaveUp }
+{
+    matches!(fault, ServeFault::GaveUp)
 }
 
 /// The frames of one connection, answered at a seat.
@@ -202,7 +212,9 @@ fn converse<N: Naming, S: Ledger, C: Ledger, W: Wait + Drop, R: Wait, G: Gate>(
     stream: &TcpStream,
     asker: &Mutex<PortAsker<'_, N, S, C, W, R>>,
     seat: &Seat<'_, G>,
-) -> Result<u64, ServeFault> {
+) -> Result<u64, ServeFault>
+    ensures { result ≡ Err ServeFault.GaveUp → G.may_give_up seat.now.gate.now seat.now.number }
+{
     let mut reader = stream;
     let mut writer = stream;
     let mut asker = asker.lock(rt);
@@ -228,6 +240,8 @@ where
     G: Gate + Sync,
     ensures plan { IfOk result (λ closed. closed.plan ≡ checked) }
     ensures meter { IfOk result (λ closed. IsState checked.plan closed.meter) }
+    // A seat gave up only where a gate may have it do so.
+    ensures fault { IfErr result (λ fault. IsFaultBy G.may_give_up fault) }
 {
     let blanks = Blanks::new();
     open_and_serve::<Brand, Brand, Brand, &R, R, I, F, G>(
@@ -260,6 +274,7 @@ where
     requires changes { (blanks.changes.name ≡ C.name) × (C.parts ≡ 256) }
     ensures plan { IfOk result (λ closed. closed.plan ≡ checked) }
     ensures meter { IfOk result (λ closed. IsState checked.plan closed.meter) }
+    ensures fault { IfErr result (λ fault. IsFaultBy G.may_give_up fault) }
 {
     match Board::<N, S, C, W>::open(keep, alloc, checked, blanks) {
         Ok(board) => serve_sessions(rt, alloc, board, service, driven),

@@ -9,7 +9,7 @@ ghost use Rattle.meter_theory.specs.States.{IsState};
 ghost use Rattle.meter_theory.specs.Steps as steps;
 ghost use Rattle.meter_live.specs.Changes.{Answers, changes_of, is_changing};
 ghost use Rattle.meter_live.specs.Codes.{step_code};
-ghost use Rattle.meter_live.specs.Tally.{counted, nothing};
+ghost use Rattle.meter_live.specs.Tally.{HasSeen, counted, nothing};
 
 use crate::desk::{BoardReader, Desk};
 use crate::fault::{LiveFault, NoReader, PortFault};
@@ -245,6 +245,8 @@ impl<'b, N: Naming, S: Ledger, C: Ledger, W: Wait + Drop> Port<'b, N, S, C, W> {
         ensures reply { IfOk result (λ r. Answers N.accepted.plan (step_of step) (reply_of r.0)) }
         ensures share { OnOk result (share.new ≡ counted share.old (changes_of N.accepted.plan (step_of step))) }
         ensures told { IfOk result (λ r. MatchBool r.1 (IsPrefix reader.old reader.new × (is_changing N.accepted.plan (step_of step) ≡ true → (l : List steps.Step) × (reader.new ≡ l ++ step_of step ∷ []))) (reader.new ≡ reader.old)) }
+        // The reader has seen as many changes as the share counts, or more.
+        ensures seen { IfOk result (λ r. r.1 ≡ true → HasSeen share.new reader.new) }
         ensures err { OnErr result ((share.new ≡ share.old) × (reader.new ≡ reader.old)) }
     {
         self.board
@@ -253,11 +255,19 @@ impl<'b, N: Naming, S: Ledger, C: Ledger, W: Wait + Drop> Port<'b, N, S, C, W> {
             .put(rt, alloc, self.number, share, reader, &step)
     }
 
-    /// Publishes all pending steps in order, and tells the reader. Where memory is refused, the reader is as it was.
-    pub fn tell<R: Wait>(&self, rt: &R, reader: &mut BoardReader<N>) -> Result<(), Memory>
+    /// Publishes all pending steps in order, and tells the reader, which has then seen as many changes as the share of this port counts,
+    /// or more. The share is lent to compare it with the books, and stays. Where memory is refused, the reader is as it was.
+    pub fn tell<R: Wait>(
+        &self,
+        rt: &R,
+        share: &mut Share<S, C>,
+        reader: &mut BoardReader<N>,
+    ) -> Result<(), Memory>
         ensures later { IsPrefix reader.old reader.new }
+        ensures seen { OnOk result (HasSeen share.old reader.new) }
+        ensures share { share.new ≡ share.old }
         ensures err { OnErr result (reader.new ≡ reader.old) }
     {
-        self.board.desk.lock(rt).tell(rt, reader)
+        self.board.desk.lock(rt).tell(rt, share, reader)
     }
 }

@@ -9,7 +9,7 @@ ghost use Rattle.meter_theory.specs.Replies.{reply_to, run};
 ghost use Rattle.meter_theory.specs.States.{IsState};
 ghost use Rattle.meter_theory.specs.Steps as steps;
 ghost use Rattle.meter_live.specs.Changes.{Answers, changes_of, is_changing, is_get};
-ghost use Rattle.meter_live.specs.Tally.{counted, nothing};
+ghost use Rattle.meter_live.specs.Tally.{HasSeen, counted, nothing};
 ghost use Rattle.meter_live.specs.Told.{acted, posted};
 
 use crate::change::changes_in;
@@ -150,16 +150,33 @@ impl<N: Naming, S: Ledger, C: Ledger, W: Wait + Drop> Desk<N, S, C, W> {
         Ok(reply)
     }
 
-    /// Publishes all pending steps in order, and tells the reader of the whole list.
+    /// Publishes all pending steps in order, and tells the reader of the whole list, which is no shorter than the changes that the share
+    /// counts.
     pub(crate) fn tell<R: Wait>(
         &mut self,
         rt: &R,
+        share: &mut Share<S, C>,
         reader: &mut BoardReader<N>,
     ) -> Result<(), Memory>
         ensures ok { OnOk result ((self.new.live ≡ posted self.old.live) × (reader.new ≡ self.new.live.published) × IsPrefix reader.old reader.new) }
+        ensures seen { OnOk result (HasSeen share.old reader.new) }
+        ensures share { share.new ≡ share.old }
         ensures err { OnErr result ((self.new.live ≡ self.old.live) × (reader.new ≡ reader.old)) }
     {
-        self.live.tell(rt, &mut reader.reader)
+        let Desk {
+            live,
+            rt: _,
+            steps: _,
+            changes,
+            steps_left: _,
+            changes_left: _,
+            ports: _,
+            of: _,
+        } = self;
+        live.known();
+        // No share counts more than there were changes.
+        changes.audit(&mut share.changes);
+        live.tell(rt, &mut reader.reader)
     }
 
     /// One step of a port, and its telling, which says whether it was told.
@@ -175,10 +192,11 @@ impl<N: Naming, S: Ledger, C: Ledger, W: Wait + Drop> Desk<N, S, C, W> {
         ensures reply { IfOk result (λ r. Answers N.accepted.plan (step_of step.now) (reply_of r.0)) }
         ensures share { OnOk result (share.new ≡ counted share.old (changes_of N.accepted.plan (step_of step.now))) }
         ensures told { IfOk result (λ r. MatchBool r.1 (IsPrefix reader.old reader.new × (is_changing N.accepted.plan (step_of step.now) ≡ true → (l : List steps.Step) × (reader.new ≡ l ++ step_of step.now ∷ []))) (reader.new ≡ reader.old)) }
+        ensures seen { IfOk result (λ r. r.1 ≡ true → HasSeen share.new reader.new) }
         ensures err { OnErr result ((share.new ≡ share.old) × (reader.new ≡ reader.old) × (self.new.live ≡ self.old.live)) }
     {
         let reply = self.act(alloc, port, share, step)?;
-        match self.tell(rt, reader) {
+        match self.tell(rt, share, reader) {
             Ok(()) => Ok((reply, true)),
             Err(_) => Ok((reply, false)),
         }

@@ -9,9 +9,11 @@ pub mod listing;
 pub mod outcome;
 pub mod program;
 pub mod progress;
+mod reading;
 pub mod serving;
 pub mod translating;
 pub mod watching;
 
-pub use frame_server::serving::serve;
+pub use frame_server::serving::{serve, serve_gated};
 pub use line_server::running::{LineFault, run_lines};
+pub use live_server::sessions::serve_sessions;

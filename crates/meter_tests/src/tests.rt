@@ -1,4 +1,5 @@
 mod attributes;
+mod callers;
 mod classes;
 mod copies;
 mod monitors;

@@ -1,4 +1,5 @@
 mod blocks;
+mod callers;
 mod connections;
 mod refusals;
 mod samples;

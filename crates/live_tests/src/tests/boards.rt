@@ -71,7 +71,7 @@ fn put_and_read<N: Naming, S: Ledger, C: Ledger, W: Wait + Drop, R: Wait + Abort
     assert!(rt; is_quiet(&reply));
     if !told {
         assert_eq!(rt; seen(alloc, reader), Some(u64::from(old)));
-        port.tell(rt, reader)?;
+        port.tell(rt, share, reader)?;
     }
     assert_eq!(rt; seen(alloc, reader), Some(u64::from(new)));
     Ok(())
