@@ -14,7 +14,6 @@ use crate::connecting::serve_alone;
 use crate::demo::DEMO;
 use crate::listing::{ListFault, write_edges, write_least_labels};
 use crate::outcome::Outcome;
-use crate::reading::{FleetFault, read_fleet};
 use crate::serving::{Place, serve_at};
 use crate::translating::{TranslationFault, Way, translate};
 use crate::watching::{Watched, run_watched};
@@ -26,7 +25,7 @@ use explanations::config::explain_config;
 use explanations::file::{FileFault, read_text};
 use explanations::labels::explain_labels;
 use explanations::refusal::explain_refusal;
-use fleet_audit::fleet::AuditFault;
+use fleet_audit::fleet::{AuditFault, Text};
 use fleet_audit::judging::accepted;
 use fleet_audit::verdict::Verdict;
 use flow_checker::check::Checked;
@@ -270,8 +269,8 @@ fn run_file<H: Files + AllocGlobal, I: Read, O: Write, E: Write>(
     }
 }
 
-/// The verdicts on many configurations and their labels, each in a line behind its name. All files are read first, by the same number
-/// of workers. Where that is asked for, it is told on the error stream how far the audit is.
+/// The verdicts on many configurations and their labels, each in a line behind its name. All files are read first. Where that is
+/// asked for, it is told on the error stream how far the audit is.
 fn audit_files<H: Files + AllocGlobal + Clock + Threads + Sync, E: Write + Send>(
     rt: &H,
     workers: NonZeroUsize,
@@ -279,18 +278,31 @@ fn audit_files<H: Files + AllocGlobal + Clock + Threads + Sync, E: Write + Send>
     tells_progress: bool,
     errors: &mut E,
 ) -> Outcome {
-    match read_fleet(rt, names, workers) {
+    match texts_named(rt, names) {
         Ok(texts) if tells_progress => audit_texts_aloud(rt, names, texts, workers, errors),
         Ok(texts) => audit_texts(rt, names, texts, workers),
-        Err(fault) => fleet_unread(fault),
+        Err(outcome) => outcome,
     }
 }
 
-/// How a command ended whose fleet isn't read.
-fn fleet_unread(fault: FleetFault) -> Outcome {
-    match fault {
-        FleetFault::Unread(file, why) => Outcome::Unread(file, why),
-        FleetFault::Memory => Outcome::Unaudited(AuditFault::Memory),
+/// The texts of the files that these names stand for, name by name, or that one isn't read.
+fn texts_named<H: Files + AllocGlobal>(rt: &H, names: &[&str]) -> Result<Vec<Text>, Outcome> {
+    let mut texts = Vec::new(rt.alloc());
+    for name in names {
+        let config = text_named(rt, name, "toml")?;
+        let labels = text_named(rt, name, "labels")?;
+        if texts.push(Text { config, labels }).is_err() {
+            return Err(Outcome::Unaudited(AuditFault::Memory));
+        }
+    }
+    Ok(texts)
+}
+
+/// The text of the file with this name and this ending, or that it isn't read.
+fn text_named<H: Files + AllocGlobal>(rt: &H, name: &str, ending: &str) -> Result<String, Outcome> {
+    match format!(in rt.alloc(); "{name}.{ending}") {
+        Ok(file) => text_of_file(rt, file.as_str()),
+        Err(_) => Err(Outcome::Unaudited(AuditFault::Memory)),
     }
 }
 
