@@ -3,12 +3,17 @@
 
     bench/audit.py
 
-There are 200 configurations of 64 objects, and 25 of 512, made as those of bench/check.py, each with its least labels. What a loop
-of `check` within one process takes is told as the sum of its times over all files, each less the time in which a program begins. The
-time to read the configurations' text is told as a share of that: it is the sum of runs without lines, less the beginning too.
+There are 200 configurations of 64 objects, and 25 of 512, made as those of bench/check.py, each with its least labels. One worker,
+four, and four programs at once that each audit every fourth name by one worker take turns; each figure is the least of its runs, and
+behind the ratio of the least stands the median of the ratios turn by turn. The four programs share nothing: they show how many times
+one the machine itself gives then. Of four workers it is told how long the files are read, which one thread does before the first text
+is judged. What a loop of `check` within one process takes is told as the sum of its times over all files, each less the time in which
+a program begins. The time to read the configurations' text is told as a share of that: it is the sum of runs without lines, less the
+beginning too.
 Run `./cosem-flow demo < /dev/null` first, which builds the program.
 """
 import os
+import statistics
 import subprocess
 import sys
 import tempfile
@@ -20,6 +25,43 @@ from demo import PROGRAM
 FLEETS = ((64, 200), (512, 25))
 WORKERS = 4
 RUNS = 5
+TURNS = 11
+
+
+def audits(workers, names):
+    """The command that audits these names."""
+    return [PROGRAM, "audit", "--workers", str(workers), *names]
+
+
+def seconds_at_once(commands, status):
+    """The seconds until all of these commands, begun at once, have ended with this status, and what the first prints."""
+    begin = time.perf_counter()
+    runs = [subprocess.Popen(it, stdin=subprocess.DEVNULL, stdout=subprocess.PIPE, stderr=subprocess.DEVNULL) for it in commands]
+    texts = [run.communicate()[0] for run in runs]
+    seconds = time.perf_counter() - begin
+    if any(run.returncode != status for run in runs):
+        sys.exit("an audit ended otherwise than it must")
+    return seconds, texts[0]
+
+
+def in_turns(names):
+    """The seconds of each turn of one worker, of several, and of as many programs of one worker each."""
+    one, several, apart = [], [], []
+    for _ in range(TURNS):
+        seconds, list_of_one = seconds_at_once([audits(1, names)], 0)
+        one.append(seconds)
+        seconds, list_of_several = seconds_at_once([audits(WORKERS, names)], 0)
+        several.append(seconds)
+        if list_of_one != list_of_several:
+            sys.exit("the lists of one worker and of several differ")
+        seconds, _ = seconds_at_once([audits(1, names[first::WORKERS]) for first in range(WORKERS)], 0)
+        apart.append(seconds)
+    return one, several, apart
+
+
+def times(one, other):
+    """How many times faster the other is than the one: by the least of each, and in the median turn."""
+    return f"{min(one) / min(other):.2f} ({statistics.median(a / b for a, b in zip(one, other)):.2f})"
 
 
 def seconds_of(command):
@@ -54,16 +96,17 @@ def main():
         begun, _ = seconds_of([PROGRAM, "run", written(folder, "bare.toml", config(0))])
         for objects, count in FLEETS:
             names = fleet(folder, objects, count)
-            alone, list_alone = seconds_of([PROGRAM, "audit", "--workers", "1", *names])
-            shared, list_shared = seconds_of([PROGRAM, "audit", "--workers", str(WORKERS), *names])
-            if list_alone != list_shared:
-                sys.exit("the lists of one worker and of several differ")
+            one, several, apart = in_turns(names)
+            # Where the last name has no files, all are read and none is judged.
+            unread = [*names, os.path.join(folder, "nowhere")]
+            files = min(seconds_at_once([audits(WORKERS, unread)], 3)[0] for _ in range(RUNS))
             checked = sum(seconds_of([PROGRAM, "check", f"{name}.toml", f"{name}.labels"])[0] - begun for name in names)
             read = sum(seconds_of([PROGRAM, "run", f"{name}.toml"])[0] - begun for name in names)
             print(
-                f"{count} configurations of {objects} objects: {WORKERS} workers {shared:.3f} s, one {alone:.3f} s, {alone / shared:.2f} times "
-                f"that; `check` of each {checked:.3f} s, so one worker takes {alone / checked:.2f} times that; of this the reading of the text is "
-                f"{100 * read / checked:.0f} percent"
+                f"{count} configurations of {objects} objects: one worker {min(one):.3f} s, {WORKERS} workers {min(several):.3f} s, "
+                f"{times(one, several)} times faster; {WORKERS} programs at once {min(apart):.3f} s, {times(one, apart)} times; the files are "
+                f"read in {files:.3f} s; `check` of each {checked:.3f} s, so one worker takes {min(one) / checked:.2f} times that; of this the "
+                f"reading of the text is {100 * read / checked:.0f} percent"
             )
 
 
