@@ -133,6 +133,7 @@ impl Tally {
             + Threads
             + Wait
             + Sync),
+        files: &HostRuntime,
         line: &str,
     ) {
         let mut words = line.split(' ');
@@ -142,7 +143,7 @@ impl Tally {
                 self.tell(rt, is_well, line);
             }
             (Some("command"), Some(name), Some(status), None) => {
-                let is_well = is_done(rt, name, status) == Some(true);
+                let is_well = is_done(rt, files, name, status) == Some(true);
                 self.tell(rt, is_well, line);
             }
             (Some("demo"), Some(configuration), None, None) => {

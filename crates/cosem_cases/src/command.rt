@@ -19,6 +19,7 @@ pub(crate) fn is_done(
         + Threads
         + Wait
         + Sync),
+    files: &HostRuntime,
     name: &str,
     status: &str,
 ) -> Option<bool> {
@@ -26,7 +27,14 @@ pub(crate) fn is_done(
     let input = read(rt, name, "in")?;
     let mut output = Vec::new(rt.alloc());
     let mut errors = Vec::new(rt.alloc());
-    let found = run_program(rt, &words, &mut input.as_bytes(), &mut output, &mut errors);
+    let found = run_program(
+        rt,
+        files,
+        &words,
+        &mut input.as_bytes(),
+        &mut output,
+        &mut errors,
+    );
     Some(
         status.parse::<u8>().ok()? == found
             && output.as_slice() == read(rt, name, "out")?.as_bytes()

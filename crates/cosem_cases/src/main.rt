@@ -55,7 +55,7 @@ use std::time::Clock;
 const CASES: &str = "cases";
 
 fn main(rt: HostRuntime) -> ExitCode {
-    match run_cases(&rt) {
+    match run_cases(&rt, &rt) {
         Some(true) => ExitCode::SUCCESS,
         Some(false) => ExitCode::FAILURE,
         None => {
@@ -76,12 +76,13 @@ fn run_cases(
         + Threads
         + Wait
         + Sync),
+    files: &HostRuntime,
 ) -> Option<bool> {
     let list = fs::read_to_string(rt, CASES).ok()?;
     let mut tally = Tally::new();
     for line in list.as_str().lines() {
         if !line.is_empty() && !line.starts_with('#') {
-            tally.count(rt, line);
+            tally.count(rt, files, line);
         }
     }
     let (count, failed) = (tally.count, tally.failed);

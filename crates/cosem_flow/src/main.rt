@@ -50,6 +50,7 @@ fn main(rt: HostRuntime) -> ExitCode {
     };
     let status = run_program(
         &rt,
+        &rt,
         &words,
         &mut rt.reader(),
         &mut io::writer(&rt),

@@ -9,6 +9,7 @@ pub mod listing;
 pub mod outcome;
 pub mod program;
 pub mod progress;
+mod reading;
 pub mod serving;
 pub mod translating;
 pub mod watching;

@@ -14,6 +14,7 @@ use crate::connecting::serve_alone;
 use crate::demo::DEMO;
 use crate::listing::{ListFault, write_edges, write_least_labels};
 use crate::outcome::Outcome;
+use crate::reading::{FleetFault, read_fleet};
 use crate::serving::{Place, serve_at};
 use crate::translating::{TranslationFault, Way, translate};
 use crate::watching::{Watched, run_watched};
@@ -25,7 +26,7 @@ use explanations::config::explain_config;
 use explanations::file::{FileFault, read_text};
 use explanations::labels::explain_labels;
 use explanations::refusal::explain_refusal;
-use fleet_audit::fleet::{AuditFault, Text};
+use fleet_audit::fleet::AuditFault;
 use fleet_audit::judging::accepted;
 use fleet_audit::verdict::Verdict;
 use flow_checker::check::Checked;
@@ -39,7 +40,6 @@ use std::alloc::Global;
 use std::io::{Read, Write};
 use std::net::{Net, TcpListener, TcpStream};
 use std::num::NonZeroUsize;
-use std::rt::Files;
 use std::sync::Wait;
 use std::thread::Threads;
 use std::time::Clock;
@@ -117,16 +117,17 @@ pub fn listed(answer: Result<(), ListFault>) -> Outcome
 /// onto the output.
 /// A verdict stands on the output and what explains it on the error stream; help and the version stand on the output where the words
 /// ask for these; any other fault stands on the error stream.
+/// `files` is the handle that opens files. Its type is no parameter, so that threads may be given it.
 pub fn run_program<H, I, O, E>(
     rt: &H,
+    files: &HostRuntime,
     words: &[String],
     input: &mut I,
     output: &mut O,
     errors: &mut E,
 ) -> u8
 where
-    H: Files
-        + AllocGlobal
+    H: AllocGlobal
         + Clock
         + Net<Stream = TcpStream, Listener = TcpListener>
         + Threads
@@ -140,7 +141,7 @@ where
     // Help and the version have status 0, unless memory was refused or they can't be written.
     ensures helped { AskForHelp (map string_bytes words.now) → (result ≡ 0) ⊎ (result ≡ 3) }
 {
-    let outcome = asked(rt, words, input, output, errors);
+    let outcome = asked(rt, files, words, input, output, errors);
     let outcome = with_verdict(rt.alloc(), outcome, output);
     tell(rt.alloc(), &outcome, errors);
     outcome.status()
@@ -149,14 +150,14 @@ where
 /// Does what words ask for.
 fn asked<H, I, O, E>(
     rt: &H,
+    files: &HostRuntime,
     words: &[String],
     input: &mut I,
     output: &mut O,
     errors: &mut E,
 ) -> Outcome
 where
-    H: Files
-        + AllocGlobal
+    H: AllocGlobal
         + Clock
         + Net<Stream = TcpStream, Listener = TcpListener>
         + Threads
@@ -171,7 +172,7 @@ where
         return Outcome::Words(WordsFault::Memory);
     };
     match read_words(rt.alloc(), &texts) {
-        Ok(command) => answer(rt, command, input, output, errors),
+        Ok(command) => answer(rt, files, command, input, output, errors),
         Err(fault) => Outcome::Words(fault),
     }
 }
@@ -190,14 +191,14 @@ fn texts_of(alloc: Global, words: &[String]) -> Result<Vec<&str>, Memory>
 /// Does what a command asks for.
 fn answer<H, I, O, E>(
     rt: &H,
+    files: &HostRuntime,
     command: Command<'_>,
     input: &mut I,
     output: &mut O,
     errors: &mut E,
 ) -> Outcome
 where
-    H: Files
-        + AllocGlobal
+    H: AllocGlobal
         + Clock
         + Net<Stream = TcpStream, Listener = TcpListener>
         + Threads
@@ -213,17 +214,17 @@ where
             answer_lines_of(alloc, DEMO_SOURCE, is_verbose, input, output, errors)
         }
         Command::Run { config, is_verbose } => {
-            run_file(rt, config, is_verbose, input, output, errors)
+            run_file(files, config, is_verbose, input, output, errors)
         }
-        Command::Edges { config } => list_edges_of_file(rt, config, output),
-        Command::Label { config } => list_labels_of_file(rt, config, output),
-        Command::Check { config, labels } => check_files(rt, config, labels),
+        Command::Edges { config } => list_edges_of_file(files, config, output),
+        Command::Label { config } => list_labels_of_file(files, config, output),
+        Command::Check { config, labels } => check_files(files, config, labels),
         Command::Audit {
             workers,
             names,
             tells_progress,
-        } => audit_files(rt, workers, &names, tells_progress, errors),
-        Command::Session { config } => connect_file(rt, config, input, output),
+        } => audit_files(rt, files, workers, &names, tells_progress, errors),
+        Command::Session { config } => connect_file(files, config, input, output),
         Command::Serve {
             config,
             labels,
@@ -236,7 +237,7 @@ where
                 port,
                 sessions,
             };
-            serve_files(rt, config, labels, place, input, errors)
+            serve_files(rt, files, config, labels, place, input, errors)
         }
         Command::Encode => translated(translate(alloc, Way::Encode, input, output)),
         Command::Decode => translated(translate(alloc, Way::Decode, input, output)),
@@ -244,109 +245,89 @@ where
 }
 
 /// The text of a file, or that it isn't read.
-fn text_of_file<H: Files + AllocGlobal>(rt: &H, file: &str) -> Result<String, Outcome> {
-    match read_text(rt, file) {
+fn text_of_file(files: &HostRuntime, file: &str) -> Result<String, Outcome> {
+    match read_text(files, file) {
         Ok(text) => Ok(text),
-        Err(why) => Err(unread(rt.alloc(), file, why)),
+        Err(why) => Err(unread(files.alloc(), file, why)),
     }
 }
 
 /// Answers the lines of the input by the configuration in a file.
-fn run_file<H: Files + AllocGlobal, I: Read, O: Write, E: Write>(
-    rt: &H,
+fn run_file<I: Read, O: Write, E: Write>(
+    files: &HostRuntime,
     file: &str,
     is_verbose: bool,
     input: &mut I,
     output: &mut O,
     errors: &mut E,
 ) -> Outcome {
-    match text_of_file(rt, file) {
+    match text_of_file(files, file) {
         Ok(text) => {
             let config = source_of(file, &text);
-            answer_lines_of(rt.alloc(), config, is_verbose, input, output, errors)
+            answer_lines_of(files.alloc(), config, is_verbose, input, output, errors)
         }
         Err(outcome) => outcome,
     }
 }
 
-/// The verdicts on many configurations and their labels, each in a line behind its name. All files are read first. Where that is
-/// asked for, it is told on the error stream how far the audit is.
-fn audit_files<H: Files + AllocGlobal + Clock + Threads + Sync, E: Write + Send>(
+/// The verdicts on many configurations and their labels, each in a line behind its name. All files are read first, by the same number
+/// of workers. Where that is asked for, it is told on the error stream how far the audit is.
+fn audit_files<H: AllocGlobal + Clock + Threads + Sync, E: Write + Send>(
     rt: &H,
+    files: &HostRuntime,
     workers: NonZeroUsize,
     names: &[&str],
     tells_progress: bool,
     errors: &mut E,
 ) -> Outcome {
-    match texts_named(rt, names) {
+    match read_fleet(rt, files, names, workers) {
         Ok(texts) if tells_progress => audit_texts_aloud(rt, names, texts, workers, errors),
         Ok(texts) => audit_texts(rt, names, texts, workers),
-        Err(outcome) => outcome,
+        Err(fault) => fleet_unread(fault),
     }
 }
 
-/// The texts of the files that these names stand for, name by name, or that one isn't read.
-fn texts_named<H: Files + AllocGlobal>(rt: &H, names: &[&str]) -> Result<Vec<Text>, Outcome> {
-    let mut texts = Vec::new(rt.alloc());
-    for name in names {
-        let config = text_named(rt, name, "toml")?;
-        let labels = text_named(rt, name, "labels")?;
-        if texts.push(Text { config, labels }).is_err() {
-            return Err(Outcome::Unaudited(AuditFault::Memory));
-        }
-    }
-    Ok(texts)
-}
-
-/// The text of the file with this name and this ending, or that it isn't read.
-fn text_named<H: Files + AllocGlobal>(rt: &H, name: &str, ending: &str) -> Result<String, Outcome> {
-    match format!(in rt.alloc(); "{name}.{ending}") {
-        Ok(file) => text_of_file(rt, file.as_str()),
-        Err(_) => Err(Outcome::Unaudited(AuditFault::Memory)),
+/// How a command ended whose fleet isn't read.
+fn fleet_unread(fault: FleetFault) -> Outcome {
+    match fault {
+        FleetFault::Unread(file, why) => Outcome::Unread(file, why),
+        FleetFault::Memory => Outcome::Unaudited(AuditFault::Memory),
     }
 }
 
 /// Answers the frames of the input by the configuration in a file.
-fn connect_file<H: Files + AllocGlobal, I: Read, O: Write>(
-    rt: &H,
+fn connect_file<I: Read, O: Write>(
+    files: &HostRuntime,
     file: &str,
     input: &mut I,
     output: &mut O,
 ) -> Outcome {
-    match text_of_file(rt, file) {
-        Ok(text) => answer_frames(rt.alloc(), source_of(file, &text), input, output),
+    match text_of_file(files, file) {
+        Ok(text) => answer_frames(files.alloc(), source_of(file, &text), input, output),
         Err(outcome) => outcome,
     }
 }
 
 /// Writes the edges of the configuration in a file.
-fn list_edges_of_file<H: Files + AllocGlobal, O: Write>(
-    rt: &H,
-    file: &str,
-    output: &mut O,
-) -> Outcome {
-    match text_of_file(rt, file) {
-        Ok(text) => list_edges(rt.alloc(), source_of(file, &text), output),
+fn list_edges_of_file<O: Write>(files: &HostRuntime, file: &str, output: &mut O) -> Outcome {
+    match text_of_file(files, file) {
+        Ok(text) => list_edges(files.alloc(), source_of(file, &text), output),
         Err(outcome) => outcome,
     }
 }
 
 /// Writes the least labels of the configuration in a file.
-fn list_labels_of_file<H: Files + AllocGlobal, O: Write>(
-    rt: &H,
-    file: &str,
-    output: &mut O,
-) -> Outcome {
-    match text_of_file(rt, file) {
-        Ok(text) => list_labels(rt.alloc(), source_of(file, &text), output),
+fn list_labels_of_file<O: Write>(files: &HostRuntime, file: &str, output: &mut O) -> Outcome {
+    match text_of_file(files, file) {
+        Ok(text) => list_labels(files.alloc(), source_of(file, &text), output),
         Err(outcome) => outcome,
     }
 }
 
 /// The verdict on the configuration in a file and on the labels in another.
-fn check_files<H: Files + AllocGlobal>(rt: &H, config: &str, labels: &str) -> Outcome {
-    match accepted_of_files(rt, config, labels) {
-        Ok(_checked) => Outcome::Judged(Verdict::Accepted, String::new(rt.alloc())),
+fn check_files(files: &HostRuntime, config: &str, labels: &str) -> Outcome {
+    match accepted_of_files(files, config, labels) {
+        Ok(_checked) => Outcome::Judged(Verdict::Accepted, String::new(files.alloc())),
         Err(outcome) => outcome,
     }
 }
@@ -354,6 +335,7 @@ fn check_files<H: Files + AllocGlobal>(rt: &H, config: &str, labels: &str) -> Ou
 /// Answers connections by the configuration in a file, where the labels in another are accepted for it.
 fn serve_files<H, I, E>(
     rt: &H,
+    files: &HostRuntime,
     config: &str,
     labels: &str,
     place: Place<'_>,
@@ -361,16 +343,11 @@ fn serve_files<H, I, E>(
     errors: &mut E,
 ) -> Outcome
 where
-    H: Files
-        + AllocGlobal
-        + Net<Stream = TcpStream, Listener = TcpListener>
-        + Threads
-        + Wait
-        + Sync,
+    H: AllocGlobal + Net<Stream = TcpStream, Listener = TcpListener> + Threads + Wait + Sync,
     I: Read + Send,
     E: Write + Send,
 {
-    match accepted_of_files(rt, config, labels) {
+    match accepted_of_files(files, config, labels) {
         Ok(checked) => ended(serve_at(rt, checked, place, input, errors)),
         Err(outcome) => outcome,
     }
@@ -378,22 +355,18 @@ where
 
 /// What is accepted of the configuration in a file and of the labels in another, which is read only where the configuration has no
 /// fault; or how a command ends that needs it.
-fn accepted_of_files<H: Files + AllocGlobal>(
-    rt: &H,
-    config: &str,
-    labels: &str,
-) -> Result<Checked, Outcome> {
-    let text = text_of_file(rt, config)?;
+fn accepted_of_files(files: &HostRuntime, config: &str, labels: &str) -> Result<Checked, Outcome> {
+    let text = text_of_file(files, config)?;
     let config = source_of(config, &text);
-    let (plan, policy) = match read_config(rt.alloc(), config.text) {
+    let (plan, policy) = match read_config(files.alloc(), config.text) {
         Ok(made) => made,
-        Err(fault) => return Err(faulty(rt.alloc(), config, fault)),
+        Err(fault) => return Err(faulty(files.alloc(), config, fault)),
     };
-    let text = text_of_file(rt, labels)?;
+    let text = text_of_file(files, labels)?;
     let labels = source_of(labels, &text);
-    match accepted(rt.alloc(), plan, &policy, labels.text) {
+    match accepted(files.alloc(), plan, &policy, labels.text) {
         Ok(checked) => Ok(checked),
-        Err(verdict) => Err(judged(rt.alloc(), config, labels, verdict)),
+        Err(verdict) => Err(judged(files.alloc(), config, labels, verdict)),
     }
 }
 

@@ -1,3 +1,4 @@
+mod callers;
 mod edges;
 mod faults;
 mod labels;
