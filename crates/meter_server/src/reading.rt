@@ -59,7 +59,11 @@ fn read_part(files: &HostRuntime, names: &[&str]) -> Result<Vec<Text>, FleetFaul
 fn read_named(files: &HostRuntime, name: &str, ending: &str) -> Result<String, FleetFault> {
     let file = format!(in files.alloc(); "{name}.{ending}")?;
     match read_text(files, file.as_str()) {
-        Ok(text) => Ok(text),
+        Ok(mut text) => {
+            // The whole fleet is kept, and reading leaves up to as much room behind a text as it has.
+            text.shrink_to_fit();
+            Ok(text)
+        }
         Err(why) => Err(FleetFault::Unread(file, why)),
     }
 }
