@@ -6,9 +6,10 @@
 There are 200 configurations of 64 objects, and 25 of 512, made as those of bench/check.py, each with its least labels. One worker,
 four, and four programs at once that each audit every fourth name by one worker take turns; each figure is the least of its runs, and
 behind the ratio of the least stands the median of the ratios turn by turn. The four programs share nothing: they show how many times
-one the machine itself gives then; a virtual machine may give much less than four. Of four workers it is told how long they read the files, which is before the first text is judged. What a loop of `check` within one process takes is told as the sum of its times over all files, each less the time in which
-a program begins. The time to read the configurations' text is told as a share of that: it is the sum of runs without lines, less the
-beginning too.
+one the machine itself gives then; a virtual machine may give much less than four. Of four workers it is told how long they read the
+files, which is before the first text is judged. What a loop of `check` within one process takes is told as the sum of its times over
+all files, each less the time in which a program begins. The time to read the configurations' text is told as a share of that: it is
+the sum of runs without lines, less the beginning too.
 Run `./cosem-flow demo < /dev/null` first, which builds the program.
 """
 import os
