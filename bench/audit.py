@@ -9,10 +9,13 @@ behind the ratio of the least stands the median of the ratios turn by turn. The 
 one the machine itself gives then; a virtual machine may give much less than four. Of four workers it is told how long they read the
 files, which is before the first text is judged. What a loop of `check` within one process takes is told as the sum of its times over
 all files, each less the time in which a program begins. The time to read the configurations' text is told as a share of that: it is
-the sum of runs without lines, less the beginning too.
+the sum of runs without lines, less the beginning too. Last, by valgrind, how many times the instructions of the longest thread of four
+workers go into those of one worker: that repeats from run to run, whatever the machine gives.
 Run `./cosem-flow demo < /dev/null` first, which builds the program.
 """
+import glob
 import os
+import re
 import statistics
 import subprocess
 import sys
@@ -22,6 +25,7 @@ import time
 from check import config, written
 from demo import PROGRAM
 
+COUNTED = re.compile(r"^summary: (\d+)", re.MULTILINE)
 FLEETS = ((64, 200), (512, 25))
 WORKERS = 4
 RUNS = 5
@@ -64,6 +68,14 @@ def times(one, other):
     return f"{min(one) / min(other):.2f} ({statistics.median(a / b for a, b in zip(one, other)):.2f})"
 
 
+def longest_thread(folder, workers, names):
+    """The instructions of that thread of an audit which executes most."""
+    counts = os.path.join(folder, f"counts_{workers}")
+    counting = ["valgrind", "--tool=callgrind", "--separate-threads=yes", f"--callgrind-out-file={counts}"]
+    subprocess.run([*counting, *audits(workers, names)], stdin=subprocess.DEVNULL, capture_output=True, check=True)
+    return max(int(COUNTED.search(open(file).read()).group(1)) for file in glob.glob(f"{counts}-*"))
+
+
 def seconds_of(command):
     """The least seconds of some runs of a command, and what it prints."""
     least, text = None, b""
@@ -102,11 +114,12 @@ def main():
             files = min(seconds_at_once([audits(WORKERS, unread)], 3)[0] for _ in range(RUNS))
             checked = sum(seconds_of([PROGRAM, "check", f"{name}.toml", f"{name}.labels"])[0] - begun for name in names)
             read = sum(seconds_of([PROGRAM, "run", f"{name}.toml"])[0] - begun for name in names)
+            shared = longest_thread(folder, 1, names) / longest_thread(folder, WORKERS, names)
             print(
                 f"{count} configurations of {objects} objects: one worker {min(one):.3f} s, {WORKERS} workers {min(several):.3f} s, "
                 f"{times(one, several)} times faster; {WORKERS} programs at once {min(apart):.3f} s, {times(one, apart)} times; the files are "
                 f"read in {files:.3f} s; `check` of each {checked:.3f} s, so one worker takes {min(one) / checked:.2f} times that; of this the "
-                f"reading of the text is {100 * read / checked:.0f} percent"
+                f"reading of the text is {100 * read / checked:.0f} percent; in instructions {WORKERS} workers are {shared:.2f} times faster"
             )
 
 
