@@ -13,11 +13,6 @@ use meter_server::program::{Source, answer_text};
 use object_model::plan::Plan;
 use std::alloc::Global;
 use std::fs;
-use std::net::{Net, TcpListener, TcpStream};
-use std::rt::Files;
-use std::sync::Wait;
-use std::thread::Threads;
-use std::time::Clock;
 
 /// The name under which a configuration is explained.
 pub(crate) const FILE: &str = "demo.toml";
@@ -123,19 +118,7 @@ impl Tally {
     }
 
     /// Tries the case, or the table of cases, of a line of the list.
-    pub(crate) fn count(
-        &mut self,
-        rt: &(impl Files
-            + AllocGlobal
-            + Clock
-            + Net<Stream = TcpStream, Listener = TcpListener>
-            + Print
-            + Threads
-            + Wait
-            + Sync),
-        files: &HostRuntime,
-        line: &str,
-    ) {
+    pub(crate) fn count(&mut self, rt: &HostRuntime, line: &str) {
         let mut words = line.split(' ');
         match (words.next(), words.next(), words.next(), words.next()) {
             (Some("lines"), Some(configuration), Some(name), None) => {
@@ -143,7 +126,7 @@ impl Tally {
                 self.tell(rt, is_well, line);
             }
             (Some("command"), Some(name), Some(status), None) => {
-                let is_well = is_done(rt, files, name, status) == Some(true);
+                let is_well = is_done(rt, name, status) == Some(true);
                 self.tell(rt, is_well, line);
             }
             (Some("demo"), Some(configuration), None, None) => {
@@ -187,12 +170,7 @@ impl Tally {
     }
 
     /// Counts a case, and tells one that fell short.
-    fn tell(
-        &mut self,
-        rt: &(impl Files + AllocGlobal + Print + Threads + Sync),
-        is_well: bool,
-        case: &str,
-    ) {
+    fn tell(&mut self, rt: &HostRuntime, is_well: bool, case: &str) {
         if is_well {
             self.count = self.count.saturating_add(1);
         } else {
@@ -204,7 +182,7 @@ impl Tally {
     /// Tries each part of a table over a configuration, as a connection or a story of sessions.
     fn count_parts(
         &mut self,
-        rt: &(impl Files + AllocGlobal + Print + Threads + Sync),
+        rt: &HostRuntime,
         configuration: &str,
         kind: Hex,
         name: &str,
@@ -225,12 +203,7 @@ impl Tally {
     }
 
     /// Tries each verdict of a table over a configuration and its labels, with what explains it.
-    fn count_explained(
-        &mut self,
-        rt: &(impl Files + AllocGlobal + Print + Threads + Sync),
-        configuration: &str,
-        name: &str,
-    ) -> Option<()> {
+    fn count_explained(&mut self, rt: &HostRuntime, configuration: &str, name: &str) -> Option<()> {
         let text = read_configuration(rt, configuration)?;
         let labels = read_labels(rt, configuration)?;
         let path = format!(in rt.alloc(); "explained/{name}").ok()?;
@@ -245,11 +218,7 @@ impl Tally {
     }
 
     /// Tries each row of a table of texts that are translated.
-    fn count_translations(
-        &mut self,
-        rt: &(impl Files + AllocGlobal + Print + Threads + Sync),
-        name: &str,
-    ) -> Option<()> {
+    fn count_translations(&mut self, rt: &HostRuntime, name: &str) -> Option<()> {
         let path = format!(in rt.alloc(); "words/{name}").ok()?;
         let rows = fs::read_to_string(rt, path.as_str()).ok()?;
         for row in rows.as_str().split('\n') {
@@ -264,7 +233,7 @@ impl Tally {
     /// Tries each row of a table over a configuration.
     fn count_rows(
         &mut self,
-        rt: &(impl Files + AllocGlobal + Print + Threads + Sync),
+        rt: &HostRuntime,
         table: Option<Table>,
         configuration: &str,
         name: &str,
@@ -286,28 +255,19 @@ impl Tally {
 }
 
 /// The text of a configuration of the cases.
-fn read_configuration(
-    rt: &(impl Files + AllocGlobal + Print + Threads + Sync),
-    name: &str,
-) -> Option<String> {
+fn read_configuration(rt: &HostRuntime, name: &str) -> Option<String> {
     let path = format!(in rt.alloc(); "{name}.toml").ok()?;
     fs::read_to_string(rt, path.as_str()).ok()
 }
 
 /// Whether a configuration has the text of the demo by which the program answers.
-fn is_demo(
-    rt: &(impl Files + AllocGlobal + Print + Threads + Sync),
-    configuration: &str,
-) -> Option<bool> {
+fn is_demo(rt: &HostRuntime, configuration: &str) -> Option<bool> {
     let text = read_configuration(rt, configuration)?;
     Some(text.as_str() == DEMO)
 }
 
 /// The text of the labels of a configuration; of one that has none it is empty.
-fn read_labels(
-    rt: &(impl Files + AllocGlobal + Print + Threads + Sync),
-    name: &str,
-) -> Option<String> {
+fn read_labels(rt: &HostRuntime, name: &str) -> Option<String> {
     let path = format!(in rt.alloc(); "{name}.labels").ok()?;
     match fs::read_to_string(rt, path.as_str()) {
         Ok(text) => Some(text),
@@ -400,11 +360,7 @@ fn is_unreadable(alloc: Global, text: &str, line: &str) -> Option<bool> {
 }
 
 /// Whether the lines of the case give what they must.
-fn is_answered(
-    rt: &(impl Files + AllocGlobal + Print + Threads + Sync),
-    configuration: &str,
-    name: &str,
-) -> Option<bool> {
+fn is_answered(rt: &HostRuntime, configuration: &str, name: &str) -> Option<bool> {
     let alloc = rt.alloc();
     let text = read_configuration(rt, configuration)?;
     let lines = fs::read_to_string(rt, format!(in alloc; "lines/{name}.in").ok()?.as_str()).ok()?;

@@ -2,34 +2,17 @@
 use meter_server::program::run_program;
 use std::alloc::Global;
 use std::fs;
-use std::net::{Net, TcpListener, TcpStream};
-use std::rt::Files;
-use std::sync::Wait;
-use std::thread::Threads;
-use std::time::Clock;
 
 /// Whether the command line of the case ends with the status and tells what it must: its words are the lines of
 /// `commands/NAME.words`, its input those of `commands/NAME.in`, and `NAME.out` and `NAME.err` have what it must write.
-pub(crate) fn is_done(
-    rt: &(impl Files
-        + AllocGlobal
-        + Clock
-        + Net<Stream = TcpStream, Listener = TcpListener>
-        + Print
-        + Threads
-        + Wait
-        + Sync),
-    files: &HostRuntime,
-    name: &str,
-    status: &str,
-) -> Option<bool> {
+pub(crate) fn is_done(rt: &HostRuntime, name: &str, status: &str) -> Option<bool> {
     let words = words_of(rt.alloc(), read(rt, name, "words")?.as_str())?;
     let input = read(rt, name, "in")?;
     let mut output = Vec::new(rt.alloc());
     let mut errors = Vec::new(rt.alloc());
     let found = run_program(
         rt,
-        files,
+        rt,
         &words,
         &mut input.as_bytes(),
         &mut output,
@@ -43,11 +26,7 @@ pub(crate) fn is_done(
 }
 
 /// One of the files of a case; one that isn't there is empty.
-fn read(
-    rt: &(impl Files + AllocGlobal + Print + Threads + Sync),
-    name: &str,
-    part: &str,
-) -> Option<String> {
+fn read(rt: &HostRuntime, name: &str, part: &str) -> Option<String> {
     let path = format!(in rt.alloc(); "commands/{name}.{part}").ok()?;
     match fs::read_to_string(rt, path.as_str()) {
         Ok(text) => Some(text),

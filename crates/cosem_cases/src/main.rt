@@ -44,18 +44,13 @@ mod translation;
 
 use case::Tally;
 use std::fs;
-use std::net::{Net, TcpListener, TcpStream};
 use std::process::ExitCode;
-use std::rt::Files;
-use std::sync::Wait;
-use std::thread::Threads;
-use std::time::Clock;
 
 /// The file that lists the cases, in the current folder.
 const CASES: &str = "cases";
 
 fn main(rt: HostRuntime) -> ExitCode {
-    match run_cases(&rt, &rt) {
+    match run_cases(&rt) {
         Some(true) => ExitCode::SUCCESS,
         Some(false) => ExitCode::FAILURE,
         None => {
@@ -66,23 +61,12 @@ fn main(rt: HostRuntime) -> ExitCode {
 }
 
 /// Tries each case that is listed, and says whether all came out as they must.
-fn run_cases(
-    rt: &(impl Files
-        + AllocGlobal
-        + Clock
-        + Net<Stream = TcpStream, Listener = TcpListener>
-        + Print
-        + Eprint
-        + Threads
-        + Wait
-        + Sync),
-    files: &HostRuntime,
-) -> Option<bool> {
+fn run_cases(rt: &HostRuntime) -> Option<bool> {
     let list = fs::read_to_string(rt, CASES).ok()?;
     let mut tally = Tally::new();
     for line in list.as_str().lines() {
         if !line.is_empty() && !line.starts_with('#') {
-            tally.count(rt, files, line);
+            tally.count(rt, line);
         }
     }
     let (count, failed) = (tally.count, tally.failed);

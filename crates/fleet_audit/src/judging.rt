@@ -1,5 +1,5 @@
 //! The verdict on one configuration and on labels for it.
-ghost use Rattle.std.specs.Prelude.{◌≡◌, IfErr, IfOk};
+ghost use Rattle.std.specs.Prelude.{◌≡◌, ◌≢◌, IfErr, IfOk};
 ghost use Rattle.config_reader.specs.ConfigOf.{config_of};
 ghost use Rattle.fleet_audit.specs.Judging.{IsVerdict, IsVerdictOf, IsVerdictOn};
 
@@ -51,6 +51,7 @@ pub fn accepted(
     ensures plan { IfOk result (λ checked. checked.plan ≡ plan) }
     ensures admitted { IfOk result (λ _. IsVerdictOn plan policy.now labels.now Verdict.Accepted) }
     ensures err { IfErr result (λ verdict. IsVerdictOn plan policy.now labels.now verdict) }
+    ensures refused { IfErr result (λ verdict. verdict ≢ Verdict.Accepted) }
 {
     let labels = match read_labels(alloc, &plan, labels) {
         Ok(labels) => labels,

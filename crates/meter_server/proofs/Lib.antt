@@ -1,3 +1,5 @@
+pub mod Aloud
+pub mod Answered
+pub mod Fleets
 pub mod Listed
 pub mod Made
-pub mod Aloud

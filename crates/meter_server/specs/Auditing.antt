@@ -3,6 +3,7 @@ use Rattle.std.specs.Prelude.{◌≡◌, ℕ, List, [], ◌∷◌, ◌++◌, Boo
 use Rattle.std.specs.List.{list_all}
 use Rattle.fleet_audit.specs.Audits.{Audits}
 use Rattle.fleet_audit.specs.Verdicts.{verdict_line}
+use Rattle.fleet_audit.specs.declared.fleet.AuditFault.TheVariants as faults
 use Rattle.fleet_audit.specs.declared.fleet.Text.{Text}
 use Rattle.fleet_audit.specs.declared.verdict.Verdict.{Verdict}
 use Rattle.fleet_audit.specs.declared.verdict.Verdict.TheVariants.{Accepted}
@@ -26,10 +27,10 @@ is_accepted _ = false
 -- these verdicts are told so: the lines, and whether all of them accept; or memory was refused
 abbrev pub TellsVerdicts : List (List ℕ) → List Verdict → Outcome → Type 0
 TellsVerdicts names verdicts (Audited text accepts) = (string_bytes text ≡ verdicts_text names verdicts) × (accepts ≡ list_all is_accepted verdicts)
-TellsVerdicts names verdicts (Unaudited fault) = Unit {0}
+TellsVerdicts names verdicts (Unaudited fault) = fault ≡ faults.Memory
 TellsVerdicts names verdicts _ = ⊥
 
 -- how many configurations were judged: each text has a verdict that is its own, in the order of the names, and these are told; or memory was refused
 abbrev pub AuditsTexts : List (List ℕ) → List Text → Outcome → Type 0
-AuditsTexts names texts (Unaudited fault) = Unit {0}
+AuditsTexts names texts (Unaudited fault) = fault ≡ faults.Memory
 AuditsTexts names texts outcome = (verdicts : List Verdict) × Audits texts verdicts × TellsVerdicts names verdicts outcome

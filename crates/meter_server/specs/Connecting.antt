@@ -1,5 +1,5 @@
 -- The frames of one connection, answered by the configuration that a text says. All of it is own profile; what the frames bring and what answers them is not.
-use Rattle.std.specs.Prelude.{◌≡◌, ℕ, List, string_bytes, Result, Ok, Err}
+use Rattle.std.specs.Prelude.{◌≡◌, ℕ, string_bytes, Result, Ok, Err}
 use Rattle.acse_session.specs.Solo.{Alone, AnswersAlone}
 use Rattle.config_rules.specs.PlanOf.{plan_of}
 use Rattle.config_text.specs.Fault.{Fault as ConfigFault, Fails}

@@ -1,8 +1,10 @@
+pub mod Answering
 pub mod Auditing
 pub mod Connecting
 pub mod Listing
 pub mod Outcomes
 pub mod Program
 pub mod Progress
+pub mod Reading
 pub mod Translating
 pub mod Watching

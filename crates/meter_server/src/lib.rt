@@ -2,14 +2,16 @@
 //! verdicts are printed, texts are translated.
 #![tactic(auto)]
 
+pub mod answering;
 pub mod auditing;
 pub mod connecting;
 pub mod demo;
+pub mod files;
 pub mod listing;
 pub mod outcome;
 pub mod program;
 pub mod progress;
-mod reading;
+pub mod reading;
 pub mod serving;
 pub mod translating;
 pub mod watching;

@@ -1,35 +1,30 @@
 //! What the program does with its words: which files it reads, what it tells and where, and its exit status (own profile).
-ghost use Rattle.std.specs.Prelude.{◌≡◌, ◌⊎◌, IfOk, None, map, string_bytes};
-ghost use Rattle.config_reader.specs.ConfigOf.{config_of};
+ghost use Rattle.std.specs.Prelude.{◌≡◌, ◌⊎◌, IfOk, map, string_bytes, true};
 ghost use Rattle.command_words.specs.Commands.{command_of};
+ghost use Rattle.config_reader.specs.ConfigOf.{config_of};
+ghost use Rattle.meter_server.specs.Answering.{Does, Runs, TellsError, is_quiet};
 ghost use Rattle.meter_server.specs.Connecting.{AnswersFrames};
 ghost use Rattle.meter_server.specs.Listing.{WritesText};
 ghost use Rattle.meter_server.specs.Outcomes as outcomes;
 ghost use Rattle.meter_server.specs.Outcomes.{output_of};
 ghost use Rattle.line_server.specs.Running.{RunsLines};
-ghost use Rattle.meter_server.specs.Program.{AnswersText, AreMistaken, AskForHelp, ExplainsVerdict, IsFaulty, IsJudged, IsNoCommand, ListsEdges, ListsLabels, TellsVerdict};
+ghost use Rattle.meter_server.specs.Program.{AnswersText, AreMistaken, AskForHelp, ExplainsVerdict, IsFaulty, IsJudged, ListsEdges, ListsLabels, TellsVerdict};
 
-use crate::auditing::{audit_texts, audit_texts_aloud};
+use crate::answering::answer;
 use crate::connecting::serve_alone;
-use crate::demo::DEMO;
+use crate::files::TextFiles;
 use crate::listing::{ListFault, write_edges, write_least_labels};
 use crate::outcome::Outcome;
-use crate::reading::{FleetFault, read_fleet};
-use crate::serving::{Place, serve_at};
-use crate::translating::{TranslationFault, Way, translate};
+use crate::translating::TranslationFault;
 use crate::watching::{Watched, run_watched};
-use command_words::{Command, WordsFault, read_words};
+use command_words::{WordsFault, read_words};
 use config_reader::read_config;
 use config_text::fault::ConfigFault;
 use cosem_data::memory::Memory;
 use explanations::config::explain_config;
-use explanations::file::{FileFault, read_text};
 use explanations::labels::explain_labels;
 use explanations::refusal::explain_refusal;
-use fleet_audit::fleet::AuditFault;
-use fleet_audit::judging::accepted;
 use fleet_audit::verdict::Verdict;
-use flow_checker::check::Checked;
 use frame_server::fault::ServeFault;
 use frame_server::writing::write_whole;
 use line_server::running::{LineFault, run_lines};
@@ -39,7 +34,6 @@ use object_model::plan::Plan;
 use std::alloc::Global;
 use std::io::{Read, Write};
 use std::net::{Net, TcpListener, TcpStream};
-use std::num::NonZeroUsize;
 use std::sync::Wait;
 use std::thread::Threads;
 use std::time::Clock;
@@ -50,12 +44,6 @@ pub struct Source<'a> {
     pub file: &'a str,
     pub text: &'a str,
 }
-
-/// The demo configuration, under the name of the file that people copy.
-const DEMO_SOURCE: Source<'static> = Source {
-    file: "demo.toml",
-    text: DEMO,
-};
 
 /// How a command ended whose lines were answered so.
 pub fn outcome_of(answer: Result<u64, LineFault>) -> Outcome
@@ -117,10 +105,10 @@ pub fn listed(answer: Result<(), ListFault>) -> Outcome
 /// onto the output.
 /// A verdict stands on the output and what explains it on the error stream; help and the version stand on the output where the words
 /// ask for these; any other fault stands on the error stream.
-/// `files` is the handle that opens files. Its type is no parameter, so that threads may be given it.
-pub fn run_program<H, I, O, E>(
+/// `rt` is the handle that starts threads, waits, opens sockets and tells the time; `files` reads the files that the words name.
+pub fn run_program<H, F, I, O, E>(
     rt: &H,
-    files: &HostRuntime,
+    files: &F,
     words: &[String],
     input: &mut I,
     output: &mut O,
@@ -133,9 +121,15 @@ where
         + Threads
         + Wait
         + Sync,
+    F: TextFiles + Sync,
     I: Read + Send,
     O: Write,
     E: Write + Send,
+    // What the words ask for is done, and then told.
+    ensures runs { Runs (F.may_read files.now) (map string_bytes words.now)
+        (record { unread = I.remaining input.old; written = O.contents output.old })
+        (record { unread = I.remaining input.new; written = O.contents output.new })
+        (E.contents errors.old) (E.contents errors.new) result }
     // A wrong command line has status 2, unless memory was refused.
     ensures mistaken { AreMistaken (map string_bytes words.now) → (result ≡ 2) ⊎ (result ≡ 3) }
     // Help and the version have status 0, unless memory was refused or they can't be written.
@@ -148,9 +142,9 @@ where
 }
 
 /// Does what words ask for.
-fn asked<H, I, O, E>(
+fn asked<H, F, I, O, E>(
     rt: &H,
-    files: &HostRuntime,
+    files: &F,
     words: &[String],
     input: &mut I,
     output: &mut O,
@@ -163,10 +157,14 @@ where
         + Threads
         + Wait
         + Sync,
+    F: TextFiles + Sync,
     I: Read + Send,
     O: Write,
     E: Write + Send,
-    ensures { command_of (map string_bytes words.now) ≡ None → IsNoCommand (map string_bytes words.now) result }
+    ensures does { Does (F.may_read files.now) (map string_bytes words.now)
+        (record { unread = I.remaining input.old; written = O.contents output.old })
+        (record { unread = I.remaining input.new; written = O.contents output.new }) result }
+    ensures quiet { is_quiet (command_of (map string_bytes words.now)) ≡ true → E.contents errors.new ≡ E.contents errors.old }
 {
     let Ok(texts) = texts_of(rt.alloc(), words) else {
         return Outcome::Words(WordsFault::Memory);
@@ -186,216 +184,6 @@ fn texts_of(alloc: Global, words: &[String]) -> Result<Vec<&str>, Memory>
         texts.push(word.as_str())?;
     }
     Ok(texts)
-}
-
-/// Does what a command asks for.
-fn answer<H, I, O, E>(
-    rt: &H,
-    files: &HostRuntime,
-    command: Command<'_>,
-    input: &mut I,
-    output: &mut O,
-    errors: &mut E,
-) -> Outcome
-where
-    H: AllocGlobal
-        + Clock
-        + Net<Stream = TcpStream, Listener = TcpListener>
-        + Threads
-        + Wait
-        + Sync,
-    I: Read + Send,
-    O: Write,
-    E: Write + Send,
-{
-    let alloc = rt.alloc();
-    match command {
-        Command::Demo { is_verbose } => {
-            answer_lines_of(alloc, DEMO_SOURCE, is_verbose, input, output, errors)
-        }
-        Command::Run { config, is_verbose } => {
-            run_file(files, config, is_verbose, input, output, errors)
-        }
-        Command::Edges { config } => list_edges_of_file(files, config, output),
-        Command::Label { config } => list_labels_of_file(files, config, output),
-        Command::Check { config, labels } => check_files(files, config, labels),
-        Command::Audit {
-            workers,
-            names,
-            tells_progress,
-        } => audit_files(rt, files, workers, &names, tells_progress, errors),
-        Command::Session { config } => connect_file(files, config, input, output),
-        Command::Serve {
-            config,
-            labels,
-            bind,
-            port,
-            sessions,
-        } => {
-            let place = Place {
-                address: bind,
-                port,
-                sessions,
-            };
-            serve_files(rt, files, config, labels, place, input, errors)
-        }
-        Command::Encode => translated(translate(alloc, Way::Encode, input, output)),
-        Command::Decode => translated(translate(alloc, Way::Decode, input, output)),
-    }
-}
-
-/// The text of a file, or that it isn't read.
-fn text_of_file(files: &HostRuntime, file: &str) -> Result<String, Outcome> {
-    match read_text(files, file) {
-        Ok(text) => Ok(text),
-        Err(why) => Err(unread(files.alloc(), file, why)),
-    }
-}
-
-/// Answers the lines of the input by the configuration in a file.
-fn run_file<I: Read, O: Write, E: Write>(
-    files: &HostRuntime,
-    file: &str,
-    is_verbose: bool,
-    input: &mut I,
-    output: &mut O,
-    errors: &mut E,
-) -> Outcome {
-    match text_of_file(files, file) {
-        Ok(text) => {
-            let config = source_of(file, &text);
-            answer_lines_of(files.alloc(), config, is_verbose, input, output, errors)
-        }
-        Err(outcome) => outcome,
-    }
-}
-
-/// The verdicts on many configurations and their labels, each in a line behind its name. All files are read first, by the same number
-/// of workers. Where that is asked for, it is told on the error stream how far the audit is.
-fn audit_files<H: AllocGlobal + Clock + Threads + Sync, E: Write + Send>(
-    rt: &H,
-    files: &HostRuntime,
-    workers: NonZeroUsize,
-    names: &[&str],
-    tells_progress: bool,
-    errors: &mut E,
-) -> Outcome {
-    match read_fleet(rt, files, names, workers) {
-        Ok(texts) if tells_progress => audit_texts_aloud(rt, names, texts, workers, errors),
-        Ok(texts) => audit_texts(rt, names, texts, workers),
-        Err(fault) => fleet_unread(fault),
-    }
-}
-
-/// How a command ended whose fleet isn't read.
-fn fleet_unread(fault: FleetFault) -> Outcome {
-    match fault {
-        FleetFault::Unread(file, why) => Outcome::Unread(file, why),
-        FleetFault::Memory => Outcome::Unaudited(AuditFault::Memory),
-    }
-}
-
-/// Answers the frames of the input by the configuration in a file.
-fn connect_file<I: Read, O: Write>(
-    files: &HostRuntime,
-    file: &str,
-    input: &mut I,
-    output: &mut O,
-) -> Outcome {
-    match text_of_file(files, file) {
-        Ok(text) => answer_frames(files.alloc(), source_of(file, &text), input, output),
-        Err(outcome) => outcome,
-    }
-}
-
-/// Writes the edges of the configuration in a file.
-fn list_edges_of_file<O: Write>(files: &HostRuntime, file: &str, output: &mut O) -> Outcome {
-    match text_of_file(files, file) {
-        Ok(text) => list_edges(files.alloc(), source_of(file, &text), output),
-        Err(outcome) => outcome,
-    }
-}
-
-/// Writes the least labels of the configuration in a file.
-fn list_labels_of_file<O: Write>(files: &HostRuntime, file: &str, output: &mut O) -> Outcome {
-    match text_of_file(files, file) {
-        Ok(text) => list_labels(files.alloc(), source_of(file, &text), output),
-        Err(outcome) => outcome,
-    }
-}
-
-/// The verdict on the configuration in a file and on the labels in another.
-fn check_files(files: &HostRuntime, config: &str, labels: &str) -> Outcome {
-    match accepted_of_files(files, config, labels) {
-        Ok(_checked) => Outcome::Judged(Verdict::Accepted, String::new(files.alloc())),
-        Err(outcome) => outcome,
-    }
-}
-
-/// Answers connections by the configuration in a file, where the labels in another are accepted for it.
-fn serve_files<H, I, E>(
-    rt: &H,
-    files: &HostRuntime,
-    config: &str,
-    labels: &str,
-    place: Place<'_>,
-    input: &mut I,
-    errors: &mut E,
-) -> Outcome
-where
-    H: AllocGlobal + Net<Stream = TcpStream, Listener = TcpListener> + Threads + Wait + Sync,
-    I: Read + Send,
-    E: Write + Send,
-{
-    match accepted_of_files(files, config, labels) {
-        Ok(checked) => ended(serve_at(rt, checked, place, input, errors)),
-        Err(outcome) => outcome,
-    }
-}
-
-/// What is accepted of the configuration in a file and of the labels in another, which is read only where the configuration has no
-/// fault; or how a command ends that needs it.
-fn accepted_of_files(files: &HostRuntime, config: &str, labels: &str) -> Result<Checked, Outcome> {
-    let text = text_of_file(files, config)?;
-    let config = source_of(config, &text);
-    let (plan, policy) = match read_config(files.alloc(), config.text) {
-        Ok(made) => made,
-        Err(fault) => return Err(faulty(files.alloc(), config, fault)),
-    };
-    let text = text_of_file(files, labels)?;
-    let labels = source_of(labels, &text);
-    match accepted(files.alloc(), plan, &policy, labels.text) {
-        Ok(checked) => Ok(checked),
-        Err(verdict) => Err(judged(files.alloc(), config, labels, verdict)),
-    }
-}
-
-/// A file by its path, with its text.
-fn source_of<'a>(file: &'a str, text: &'a String) -> Source<'a> {
-    Source {
-        file,
-        text: text.as_str(),
-    }
-}
-
-/// Answers the lines of the input by a configuration, and tells of each on the error stream where that is asked for.
-fn answer_lines_of<I: Read, O: Write, E: Write>(
-    alloc: Global,
-    config: Source<'_>,
-    is_verbose: bool,
-    input: &mut I,
-    output: &mut O,
-    errors: &mut E,
-) -> Outcome
-    ensures { AnswersText config.entry (config_of config.entry.text.now)
-        (record { unread = I.remaining input.old; written = O.contents output.old })
-        (record { unread = I.remaining input.new; written = O.contents output.new }) result }
-{
-    if is_verbose {
-        answer_aloud(alloc, config, input, output, errors)
-    } else {
-        answer_text(alloc, config, input, output)
-    }
 }
 
 /// Answers the lines of the input by a configuration, on the output, and says how that ended: `Done`, a fault of the run, or the
@@ -511,7 +299,12 @@ pub fn explain_verdict(
 }
 
 /// A command that came to a verdict on the configuration in a file and the labels in another, with what explains it.
-fn judged(alloc: Global, config: Source<'_>, labels: Source<'_>, verdict: Verdict) -> Outcome
+pub(crate) fn judged(
+    alloc: Global,
+    config: Source<'_>,
+    labels: Source<'_>,
+    verdict: Verdict,
+) -> Outcome
     ensures { IsJudged config.entry labels.entry verdict result }
 {
     match explain_verdict(alloc, config, labels, &verdict) {
@@ -521,20 +314,12 @@ fn judged(alloc: Global, config: Source<'_>, labels: Source<'_>, verdict: Verdic
 }
 
 /// A command whose configuration has a fault, with what explains it.
-fn faulty(alloc: Global, config: Source<'_>, fault: ConfigFault) -> Outcome
+pub(crate) fn faulty(alloc: Global, config: Source<'_>, fault: ConfigFault) -> Outcome
     ensures { IsFaulty config.entry fault result }
 {
     match explain_config(alloc, config.file, config.text, &fault) {
         Ok(text) => Outcome::Judged(Verdict::Config(fault), text),
         Err(_) => Outcome::Judged(Verdict::Config(fault), String::new(alloc)),
-    }
-}
-
-/// A file that isn't read.
-fn unread(alloc: Global, file: &str, why: FileFault) -> Outcome {
-    match String::from_str(alloc, file) {
-        Ok(file) => Outcome::Unread(file, why),
-        Err(_) => Outcome::Fault(LineFault::Memory),
     }
 }
 
@@ -563,7 +348,9 @@ fn write_verdict<O: Write>(
 }
 
 /// Tells on the error stream how a command ended.
-fn tell<E: Write>(alloc: Global, outcome: &Outcome, errors: &mut E) {
+fn tell<E: Write>(alloc: Global, outcome: &Outcome, errors: &mut E)
+    ensures { TellsError outcome.now (E.contents errors.old) (E.contents errors.new) }
+{
     let _ = match outcome.error(alloc) {
         Ok(text) => write_whole(errors, text.as_bytes()),
         Err(_) => write_whole(errors, b"cosem-flow: out of memory\n"),

@@ -1,14 +1,19 @@
 //! The files of a fleet, read by many workers.
-use explanations::file::{FileFault, read_text};
+ghost use Rattle.std.specs.Prelude.{IfErr, IfOk, MatchResult, Ok, map, string_bytes};
+ghost use Rattle.std.specs.List.{AllZip};
+ghost use Rattle.meter_server.specs.Reading.{AreTextsOf, TellsFile, TellsFirst, TellsName};
+
+use crate::files::TextFiles;
+use explanations::file::FileFault;
 use fleet_audit::fleet::Text;
-use std::alloc::AllocError;
+use std::alloc::{AllocError, AllocFailed, Global};
 use std::num::NonZeroUsize;
 use std::thread;
 use std::thread::Threads;
 
 /// Why a fleet isn't read.
 #[derive(Debug, Drop)]
-pub(crate) enum FleetFault {
+pub enum FleetFault {
     /// The file with this path isn't read as text, and why.
     Unread(String, FileFault),
     /// Memory was refused.
@@ -16,7 +21,23 @@ pub(crate) enum FleetFault {
 }
 
 impl From<AllocError> for FleetFault {
+    ghost use Rattle.std.specs.Prelude.{◌≡◌};
+    ghost use Rattle.meter_server.specs.declared.reading.FleetFault.TheVariants as faults;
+
+    ghost from_gives = { λ _ fault. fault ≡ faults.Memory };
+
     fn from(_: AllocError) -> Self {
+        FleetFault::Memory
+    }
+}
+
+impl<T: Drop> From<AllocFailed<T>> for FleetFault {
+    ghost use Rattle.std.specs.Prelude.{◌≡◌};
+    ghost use Rattle.meter_server.specs.declared.reading.FleetFault.TheVariants as faults;
+
+    ghost from_gives = { λ _ fault. fault ≡ faults.Memory };
+
+    fn from(_: AllocFailed<T>) -> Self {
         FleetFault::Memory
     }
 }
@@ -26,15 +47,29 @@ impl From<AllocError> for FleetFault {
 ///
 /// # Errors
 /// The first file, in this order, that isn't read; or memory was refused.
-pub(crate) fn read_fleet<H: AllocGlobal + Threads + Sync>(
+pub fn read_fleet<H: AllocGlobal + Threads + Sync, F: TextFiles + Sync>(
     rt: &H,
-    files: &HostRuntime,
+    files: &F,
     names: &[&str],
     workers: NonZeroUsize,
-) -> Result<Vec<Text>, FleetFault> {
+) -> Result<Vec<Text>, FleetFault>
+    ensures texts { IfOk result (λ texts.
+        AllZip (AreTextsOf (F.may_read files.now)) (map (λ name. name.now) names.now) texts.items) }
+    ensures fault { IfErr result (TellsFirst (F.may_read files.now) (map (λ name. name.now) names.now)) }
+{
     let alloc = rt.alloc();
     let each = names.len().div_ceil(workers.get()).max(1);
-    let parts = thread::map_chunks(rt, alloc, names, each, &|_, part| read_part(files, part))?;
+    let parts = thread::map_chunks(
+        rt,
+        alloc,
+        names,
+        each,
+        &|_, part| -> Result<Vec<Text>, FleetFault>
+            ensures { MatchResult result
+                (λ texts. AllZip (AreTextsOf (F.may_read files.entry.now)) (map (λ name. name.now) part.entry.now) texts.items)
+                (TellsFirst (F.may_read files.entry.now) (map (λ name. name.now) part.entry.now)) }
+        { read_part(alloc, files, part) },
+    )?;
     let mut texts = Vec::with_capacity(alloc, names.len())?;
     for part in parts {
         texts.append(&mut part?)?;
@@ -43,27 +78,43 @@ pub(crate) fn read_fleet<H: AllocGlobal + Threads + Sync>(
 }
 
 /// The texts of the files that these names stand for, name by name.
-fn read_part(files: &HostRuntime, names: &[&str]) -> Result<Vec<Text>, FleetFault> {
-    let mut texts = Vec::with_capacity(files.alloc(), names.len())?;
+fn read_part<F: TextFiles>(
+    alloc: Global,
+    files: &F,
+    names: &[&str],
+) -> Result<Vec<Text>, FleetFault>
+    ensures { MatchResult result
+        (λ texts. AllZip (AreTextsOf (F.may_read files.now)) (map (λ name. name.now) names.now) texts.items)
+        (TellsFirst (F.may_read files.now) (map (λ name. name.now) names.now)) }
+{
+    let mut texts = Vec::with_capacity(alloc, names.len())?;
     for name in names {
-        let config = read_named(files, name, "toml")?;
-        let labels = read_named(files, name, "labels")?;
-        texts
-            .push(Text { config, labels })
-            .map_err(|_| FleetFault::Memory)?;
+        texts.push(read_named(alloc, files, name)?)?;
     }
     Ok(texts)
 }
 
-/// The text of the file with this name and this ending.
-fn read_named(files: &HostRuntime, name: &str, ending: &str) -> Result<String, FleetFault> {
-    let file = format!(in files.alloc(); "{name}.{ending}")?;
-    match read_text(files, file.as_str()) {
+/// The texts of the two files that a name stands for.
+fn read_named<F: TextFiles>(alloc: Global, files: &F, name: &str) -> Result<Text, FleetFault>
+    ensures { MatchResult result (AreTextsOf (F.may_read files.now) name.now) (TellsName (F.may_read files.now) name.now) }
+{
+    let config = read_kept(files, format!(in alloc; "{name}.toml")?)?;
+    let labels = read_kept(files, format!(in alloc; "{name}.labels")?)?;
+    Ok(Text { config, labels })
+}
+
+/// The text of the file with this path, to be kept.
+fn read_kept<F: TextFiles>(files: &F, path: String) -> Result<String, FleetFault>
+    ensures { MatchResult result
+        (λ text. F.may_read files.now (string_bytes path) (Ok (string_bytes text)))
+        (λ fault. TellsFile (F.may_read files.now) (string_bytes path) fault) }
+{
+    match files.read(path.as_str()) {
         Ok(mut text) => {
             // The whole fleet is kept, and reading leaves up to as much room behind a text as it has.
             text.shrink_to_fit();
             Ok(text)
         }
-        Err(why) => Err(FleetFault::Unread(file, why)),
+        Err(why) => Err(FleetFault::Unread(path, why)),
     }
 }

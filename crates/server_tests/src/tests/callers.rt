@@ -7,6 +7,7 @@ ghost use Rattle.meter_server.specs.Program.{AreMistaken};
 
 use cosem_data::memory::Memory;
 use line_server::running::LineFault;
+use meter_server::files::TextFiles;
 use meter_server::outcome::Outcome;
 use meter_server::program::{outcome_of, run_program};
 use std::alloc::Global;
@@ -38,9 +39,9 @@ pub(super) fn ended_so(answer: Result<u64, LineFault>) -> Outcome
 }
 
 /// Words that are no command are told, with the status of a wrong command line or of refused memory.
-pub(super) fn run_mistaken<H, I, O, E>(
+pub(super) fn run_mistaken<H, F, I, O, E>(
     rt: &H,
-    files: &HostRuntime,
+    files: &F,
     words: &[String],
     input: &mut I,
     output: &mut O,
@@ -53,6 +54,7 @@ where
         + Threads
         + Wait
         + Sync,
+    F: TextFiles + Sync,
     I: Read + Send,
     O: Write,
     E: Write + Send,

@@ -1,21 +1,6 @@
-use Rattle.std.proofs.Common.{ℕ, List, Result, Ok, Err, refl, subst}
-use Rattle.meter_theory.specs.Labels.{Policy}
-use Rattle.meter_theory.specs.Plan.{Plan}
-use Rattle.config_text.specs.Fault.{Fault as ConfigFault}
-use Rattle.config_text.specs.Parts.{ConfigText}
-use Rattle.config_reader.specs.ConfigOf.{Reads, config_of}
-use Rattle.fleet_audit.specs.declared.verdict.Verdict.{Verdict}
-use Rattle.fleet_audit.specs.declared.verdict.Verdict.TheVariants.{Accepted, Config, Labels, Refused}
-use Rattle.fleet_audit.specs.Judging.{IsVerdict, IsVerdictOn}
+use Rattle.config_reader.specs.ConfigOf.{config_of}
+use Rattle.fleet_audit.proofs.Judged.{judged}
 use Rattle.fleet_audit.proofs.judging.verdict_of.Goals as goal
-
--- a verdict over the plan and the policy of what the text says
-judged : (made : Plan × Policy) (said : Result ConfigText ConfigFault) (text : List ℕ) (verdict : Verdict) → Reads (Ok made) said → IsVerdictOn made.0 made.1 text verdict → IsVerdict said text verdict
-judged made (Err fault) text verdict h is = absurd h
-judged made (Ok c) text Accepted h is = (c, made.1, refl, h.1, subst (λ (P : Plan). IsVerdictOn P made.1 text Accepted) h.0 is)
-judged made (Ok c) text (Labels fault) h is = (c, made.1, refl, h.1, subst (λ (P : Plan). IsVerdictOn P made.1 text (Labels fault)) h.0 is)
-judged made (Ok c) text (Refused refused) h is = (c, made.1, refl, h.1, subst (λ (P : Plan). IsVerdictOn P made.1 text (Refused refused)) h.0 is)
-judged made (Ok c) text (Config fault) h is = absurd is
 
 pub returns-in-Ok : goal.returns-in-Ok
 returns-in-Ok c = judged (c.in-Ok.plan, c.in-Ok.policy) (config_of c.args.config.now) c.args.labels.now c.judge_labels.result c.in-Ok.ensures c.judge_labels.ensures

@@ -1,9 +1,8 @@
-use Rattle.std.proofs.Common.{◌≡◌, ℕ, Result, Ok, Err, refl, sym, subst}
+use Rattle.std.proofs.Common.{ℕ, Result, Ok, Err, sym, subst}
 use Rattle.meter_theory.specs.Labels.{Policy}
 use Rattle.meter_theory.specs.Plan.{Plan}
 use Rattle.config_text.specs.Fault.{Fault as ConfigFault}
 use Rattle.config_text.specs.Parts.{ConfigText}
-use Rattle.config_rules.specs.PlanOf.{plan_of}
 use Rattle.config_reader.specs.ConfigOf.{Reads, config_of}
 use Rattle.frame_server.specs.declared.fault.ServeFault.{ServeFault}
 use Rattle.meter_server.specs.Connecting.{AnswersFrames, ServesAlone}

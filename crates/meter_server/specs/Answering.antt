@@ -1,0 +1,185 @@
+-- What each command does with the files that it names, its input and its output (own profile throughout).
+use Rattle.std.specs.Prelude.{◌≡◌, ◌⊎◌, ◌++◌, ℕ, List, Bool, true, false, not, codes, string_bytes, Option, Some, None, Result, Ok, Err}
+use Rattle.std.specs.Io.KnownBytes.{Appends}
+use Rattle.std.specs.List.{AllZip}
+use Rattle.command_words.specs.Commands.{Asked, command_of}
+use Rattle.command_words.specs.Commands.Asked.{Demo, Run, Edges, Label, Check, Audit, Session, Serve, Encode, Decode}
+use Rattle.command_words.specs.declared.fault.WordsFault.TheVariants as words
+use Rattle.config_reader.specs.ConfigOf.{config_of}
+use Rattle.config_rules.specs.PlanOf.{plan_of}
+use Rattle.config_text.specs.Fault.{Fault as Faulty, Fails}
+use Rattle.config_text.specs.Parts.{ConfigText}
+use Rattle.config_text.specs.declared.fault.ConfigFault.{ConfigFault}
+use Rattle.explanations.specs.declared.file.FileFault.{FileFault}
+use Rattle.fleet_audit.specs.Judging.{IsVerdict}
+use Rattle.fleet_audit.specs.declared.fleet.AuditFault.TheVariants as audits
+use Rattle.fleet_audit.specs.declared.fleet.Text.{Text}
+use Rattle.fleet_audit.specs.declared.verdict.Verdict.{Verdict}
+use Rattle.fleet_audit.specs.declared.verdict.Verdict.TheVariants.{Accepted}
+use Rattle.flow_checker.specs.declared.check.Checked.{Checked}
+use Rattle.line_server.specs.Lines.{Moment}
+use Rattle.line_server.specs.declared.running.LineFault.TheVariants as lines
+use Rattle.meter_server.specs.Auditing.{AuditsTexts}
+use Rattle.meter_server.specs.Connecting.{AnswersFrames}
+use Rattle.meter_server.specs.Outcomes.{error_of, status_of, translated}
+use Rattle.meter_server.specs.Program.{AnswersText, IsFaulty, IsJudged, IsNoCommand, ListsEdges, ListsLabels, TellsVerdict}
+use Rattle.meter_server.specs.Reading.{AreTextsOf, FailsFirst, MayRead}
+use Rattle.meter_server.specs.Translating.{Translates}
+use Rattle.meter_server.specs.declared.demo.TheConstants.{DEMO}
+use Rattle.meter_server.specs.declared.outcome.Outcome.{Outcome}
+use Rattle.meter_server.specs.declared.outcome.Outcome.TheVariants.{Done, Judged, Words, Unread, Fault, Unaudited, Unserved}
+use Rattle.meter_server.specs.declared.program.Source.{Source}
+use Rattle.meter_server.specs.declared.reading.FleetFault.{FleetFault}
+use Rattle.meter_server.specs.declared.reading.FleetFault.TheVariants as fleets
+use Rattle.meter_server.specs.declared.translating.TranslationFault.{TranslationFault}
+use Rattle.meter_server.specs.declared.translating.Way.TheVariants as ways
+
+-- Files
+
+-- the file with this path was read, and has this text
+pub record IsFile (reads : MayRead) (path : List ℕ) (source : Source) : Type 0 where
+  pub file : source.file.now ≡ path
+  pub text : reads path (Ok source.text.now)
+
+-- a command tells that the file with this path isn't read, and why; or memory was refused for that
+abbrev pub TellsUnread : List ℕ → FileFault → Outcome → Type 0
+TellsUnread path why (Unread file told) = (string_bytes file ≡ path) × (told ≡ why)
+TellsUnread path why (Fault lines.Memory) = Unit {0}
+TellsUnread path why _ = ⊥
+
+-- the file with this path isn't read, and a command tells that
+abbrev pub IsUnread : MayRead → List ℕ → Outcome → Type 0
+IsUnread reads path outcome = (why : FileFault) × reads path (Err why) × TellsUnread path why outcome
+
+-- what a command does with the file that has this path: this, where it is read; else it tells that it isn't, and this stays as it was
+abbrev pub ByFile : MayRead → List ℕ → (Source → Outcome → Type 0) → Type 0 → Outcome → Type 0
+ByFile reads path Does Stays outcome = ((source : Source) × IsFile reads path source × Does source outcome) ⊎ (IsUnread reads path outcome × Stays)
+
+-- Verdicts
+
+-- a command came to the fault of the configuration in a file
+abbrev pub TellsFault : Source → Outcome → Type 0
+TellsFault config outcome = (fault : ConfigFault) × Fails fault (config_of config.text.now) × IsFaulty config fault outcome
+
+-- a command came to the verdict on the configuration in a file and the labels in another
+abbrev pub TellsJudgement : Source → Source → Outcome → Type 0
+TellsJudgement config labels outcome = (verdict : Verdict) × IsVerdict (config_of config.text.now) labels.text.now verdict × IsJudged config labels verdict outcome
+
+-- a command came to a verdict on the configuration and the labels in these two files: the labels are read only where the configuration has no fault
+abbrev pub JudgesFiles : MayRead → (config labels : List ℕ) → Outcome → Type 0
+JudgesFiles reads config labels outcome =
+    ByFile reads config (λ config outcome.
+    TellsFault config outcome
+    ⊎ (((c : ConfigText) × (config_of config.text.now ≡ Ok c)) × ByFile reads labels (TellsJudgement config) (Unit {0}) outcome)) (Unit {0}) outcome
+
+-- what is accepted of the labels in one file for the configuration in another
+pub record IsAcceptedOf (reads : MayRead) (config_path labels_path : List ℕ) (checked : Checked) : Type 0 where
+  pub config : Source
+  pub config_is : IsFile reads config_path config
+  pub labels : Source
+  pub labels_are : IsFile reads labels_path labels
+  pub said : ConfigText
+  pub faultless : config_of config.text.now ≡ Ok said
+  pub plan_is : checked.plan ≡ plan_of said
+  pub accepted : IsVerdict (config_of config.text.now) labels.text.now Accepted
+
+-- a live meter has ended, or didn't begin
+abbrev pub IsServed : Outcome → Type 0
+IsServed Done = Unit {0}
+IsServed (Unserved fault) = Unit {0}
+IsServed _ = ⊥
+
+-- a command didn't come to accept
+abbrev pub IsNoAcceptance : Outcome → Type 0
+IsNoAcceptance (Judged Accepted text) = ⊥
+IsNoAcceptance outcome = Unit {0}
+
+-- labels in one file aren't accepted for the configuration in another, or one of these isn't read, and a command tells that
+abbrev pub RefusesFiles : MayRead → (config labels : List ℕ) → Outcome → Type 0
+RefusesFiles reads config labels outcome = JudgesFiles reads config labels outcome × IsNoAcceptance outcome
+
+-- connections are answered by the configuration in one file, where the labels in another are accepted for it; else a verdict is told, and nothing is read of the input
+abbrev pub ServesFiles : MayRead → (config labels : List ℕ) → (unread left : Option (List ℕ)) → Outcome → Type 0
+ServesFiles reads config labels unread left outcome =
+    (RefusesFiles reads config labels outcome × (left ≡ unread)) ⊎ (((checked : Checked) × IsAcceptedOf reads config labels checked) × IsServed outcome)
+
+-- Fleets
+
+-- how a command ended whose fleet isn't read
+abbrev pub unread_fleet : FleetFault → Outcome
+unread_fleet (fleets.Unread path why) = Unread path why
+unread_fleet fleets.Memory = Unaudited audits.Memory
+
+-- how the files that names stand for are audited: all are read, and the verdicts on their texts are told; or the first that isn't read is told; or memory was refused
+abbrev pub AuditsFiles : MayRead → List (List ℕ) → Outcome → Type 0
+AuditsFiles reads names (Unread path why) = FailsFirst reads names (string_bytes path) why
+AuditsFiles reads names (Unaudited fault) = fault ≡ audits.Memory
+AuditsFiles reads names outcome = (texts : List Text) × AllZip (AreTextsOf reads) names texts × AuditsTexts names texts outcome
+
+-- Commands
+
+-- how the lines of an input are answered by the configuration in a file
+abbrev pub RunsFile : MayRead → List ℕ → (before after : Moment) → Outcome → Type 0
+RunsFile reads path before after outcome = ByFile reads path (λ config. AnswersText config (config_of config.text.now) before after) (after ≡ before) outcome
+
+-- how the frames of an input are answered by it
+abbrev pub ConnectsFile : MayRead → List ℕ → (before after : Moment) → Outcome → Type 0
+ConnectsFile reads path before after outcome = ByFile reads path (λ config. AnswersFrames config (config_of config.text.now) before after) (after ≡ before) outcome
+
+-- a list of what the configuration in a text has
+abbrev pub Lister : Type 1
+Lister = Source → Result ConfigText Faulty → (before after : Option (List ℕ)) → Outcome → Type 0
+
+-- how what the configuration in a file has is listed
+abbrev pub ListsFile : Lister → MayRead → List ℕ → (before after : Option (List ℕ)) → Outcome → Type 0
+ListsFile Lists reads path before after outcome = ByFile reads path (λ config. Lists config (config_of config.text.now) before after) (after ≡ before) outcome
+
+-- what a command does
+abbrev pub Answers : MayRead → Asked → (before after : Moment) → Outcome → Type 0
+Answers reads (Demo is_verbose) before after outcome =
+    (demo : Source) × (demo.file.now ≡ codes "demo.toml") × (demo.text.now ≡ DEMO.now) × AnswersText demo (config_of demo.text.now) before after outcome
+Answers reads (Run path is_verbose) before after outcome = RunsFile reads path before after outcome
+Answers reads (Edges path) before after outcome = (after.unread ≡ before.unread) × ListsFile ListsEdges reads path before.written after.written outcome
+Answers reads (Label path) before after outcome = (after.unread ≡ before.unread) × ListsFile ListsLabels reads path before.written after.written outcome
+Answers reads (Check config labels) before after outcome = (after ≡ before) × JudgesFiles reads config labels outcome
+Answers reads (Audit workers names tells_progress) before after outcome = (after ≡ before) × AuditsFiles reads names outcome
+Answers reads (Session path) before after outcome = ConnectsFile reads path before after outcome
+Answers reads (Serve config labels address port sessions) before after outcome =
+    (after.written ≡ before.written) × ServesFiles reads config labels before.unread after.unread outcome
+Answers reads Encode before after outcome = (result : Result (Unit {0}) TranslationFault) × Translates ways.Encode before after result × (outcome ≡ translated result)
+Answers reads Decode before after outcome = (result : Result (Unit {0}) TranslationFault) × Translates ways.Decode before after result × (outcome ≡ translated result)
+
+-- memory was refused before it was known what the words ask for, and nothing was done
+abbrev pub IsForgotten : (before after : Moment) → Outcome → Type 0
+IsForgotten before after outcome = (outcome ≡ Words words.Memory) × (after ≡ before)
+
+-- what is done for words, the program's name first: what they ask for; or they are no command
+pub record Does (reads : MayRead) (ws : List (List ℕ)) (before after : Moment) (outcome : Outcome) : Type 0 where
+  pub command : (asked : Asked) → command_of ws ≡ Some asked → Answers reads asked before after outcome ⊎ IsForgotten before after outcome
+  pub no_command : command_of ws ≡ None → IsNoCommand ws outcome × (after ≡ before)
+
+-- whether nothing is written on standard error until the command has ended: it isn't asked to tell of lines or of its progress, and serves no meter
+abbrev pub is_quiet : Option Asked → Bool
+is_quiet (Some (Demo is_verbose)) = not is_verbose
+is_quiet (Some (Run path is_verbose)) = not is_verbose
+is_quiet (Some (Audit workers names tells_progress)) = not tells_progress
+is_quiet (Some (Serve config labels address port sessions)) = false
+is_quiet _ = true
+
+-- how a command ended is told on standard error: all of that, or that there was no memory for it; or a beginning, where a write failed
+abbrev pub TellsError : Outcome → (before after : Option (List ℕ)) → Type 0
+TellsError outcome before after =
+    (front : List ℕ) × (left : List ℕ) × ((error_of outcome ≡ front ++ left) ⊎ (codes "cosem-flow: out of memory\n" ≡ front ++ left)) × Appends before after front
+
+-- what the program does for words, up to its exit status: what they ask for, and then it tells on standard output and standard error how that ended
+pub record Runs (reads : MayRead) (ws : List (List ℕ)) (before after : Moment) (error_before error_after : Option (List ℕ)) (status : ℕ) : Type 0 where
+  pub between : Moment
+  pub error_between : Option (List ℕ)
+  pub outcome : Outcome
+  pub does : Does reads ws before between outcome
+  pub quiet : is_quiet (command_of ws) ≡ true → error_between ≡ error_before
+  pub told : Outcome
+  pub tells : TellsVerdict outcome between.written after.written told
+  pub explains : TellsError told error_between error_after
+  pub left : after.unread ≡ between.unread
+  pub ends : status ≡ status_of told

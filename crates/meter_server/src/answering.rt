@@ -1,0 +1,319 @@
+//! What each command does with the files that it names, its input and its output (own profile).
+ghost use Rattle.std.specs.Prelude.{◌≡◌, false, true, MatchResult, Ok, Some, map, string_bytes};
+ghost use Rattle.command_words.specs.Commands.{asked_by};
+ghost use Rattle.config_reader.specs.ConfigOf.{config_of};
+ghost use Rattle.meter_server.specs.Answering.{Answers, AuditsFiles, ConnectsFile, IsAcceptedOf, IsUnread, JudgesFiles, ListsFile, RefusesFiles, RunsFile, ServesFiles, TellsUnread, is_quiet, unread_fleet};
+ghost use Rattle.meter_server.specs.Program.{AnswersText, ListsEdges, ListsLabels};
+
+use crate::auditing::{audit_texts, audit_texts_aloud};
+use crate::demo::DEMO;
+use crate::files::TextFiles;
+use crate::outcome::Outcome;
+use crate::program::{
+    Source, answer_aloud, answer_frames, answer_text, ended, faulty, judged, list_edges,
+    list_labels, translated,
+};
+use crate::reading::{FleetFault, read_fleet};
+use crate::serving::{Place, serve_at};
+use crate::translating::{Way, translate};
+use command_words::Command;
+use config_reader::read_config;
+use explanations::file::FileFault;
+use fleet_audit::fleet::AuditFault;
+use fleet_audit::judging::accepted;
+use fleet_audit::verdict::Verdict;
+use flow_checker::check::Checked;
+use line_server::running::LineFault;
+use std::alloc::Global;
+use std::io::{Read, Write};
+use std::net::{Net, TcpListener, TcpStream};
+use std::num::NonZeroUsize;
+use std::sync::Wait;
+use std::thread::Threads;
+use std::time::Clock;
+
+/// The demo configuration, under the name of the file that people copy.
+const DEMO_SOURCE: Source<'static> = Source {
+    file: "demo.toml",
+    text: DEMO,
+};
+
+/// Does what a command asks for.
+pub fn answer<H, F, I, O, E>(
+    rt: &H,
+    files: &F,
+    command: Command<'_>,
+    input: &mut I,
+    output: &mut O,
+    errors: &mut E,
+) -> Outcome
+where
+    H: AllocGlobal
+        + Clock
+        + Net<Stream = TcpStream, Listener = TcpListener>
+        + Threads
+        + Wait
+        + Sync,
+    F: TextFiles + Sync,
+    I: Read + Send,
+    O: Write,
+    E: Write + Send,
+    ensures answers { Answers (F.may_read files.now) (asked_by command.entry)
+        (record { unread = I.remaining input.old; written = O.contents output.old })
+        (record { unread = I.remaining input.new; written = O.contents output.new }) result }
+    ensures quiet { is_quiet (Some (asked_by command.entry)) ≡ true → E.contents errors.new ≡ E.contents errors.old }
+{
+    let alloc = rt.alloc();
+    match command {
+        Command::Demo { is_verbose } => {
+            answer_lines_of(alloc, DEMO_SOURCE, is_verbose, input, output, errors)
+        }
+        Command::Run { config, is_verbose } => {
+            run_file(alloc, files, config, is_verbose, input, output, errors)
+        }
+        Command::Edges { config } => list_edges_of_file(alloc, files, config, output),
+        Command::Label { config } => list_labels_of_file(alloc, files, config, output),
+        Command::Check { config, labels } => check_files(alloc, files, config, labels),
+        Command::Audit {
+            workers,
+            names,
+            tells_progress,
+        } => audit_files(rt, files, workers, &names, tells_progress, errors),
+        Command::Session { config } => connect_file(alloc, files, config, input, output),
+        Command::Serve {
+            config,
+            labels,
+            bind,
+            port,
+            sessions,
+        } => {
+            let place = Place {
+                address: bind,
+                port,
+                sessions,
+            };
+            serve_files(rt, files, config, labels, place, input, errors)
+        }
+        Command::Encode => translated(translate(alloc, Way::Encode, input, output)),
+        Command::Decode => translated(translate(alloc, Way::Decode, input, output)),
+    }
+}
+
+/// Answers the lines of the input by the configuration in a file.
+fn run_file<F: TextFiles, I: Read, O: Write, E: Write>(
+    alloc: Global,
+    files: &F,
+    file: &str,
+    is_verbose: bool,
+    input: &mut I,
+    output: &mut O,
+    errors: &mut E,
+) -> Outcome
+    ensures runs { RunsFile (F.may_read files.now) file.now
+        (record { unread = I.remaining input.old; written = O.contents output.old })
+        (record { unread = I.remaining input.new; written = O.contents output.new }) result }
+    ensures quiet { is_verbose ≡ false → E.contents errors.new ≡ E.contents errors.old }
+{
+    match text_of_file(alloc, files, file) {
+        Ok(text) => {
+            let config = source_of(file, &text);
+            answer_lines_of(alloc, config, is_verbose, input, output, errors)
+        }
+        Err(outcome) => outcome,
+    }
+}
+
+/// Answers the lines of the input by a configuration, and tells of each on the error stream where that is asked for.
+fn answer_lines_of<I: Read, O: Write, E: Write>(
+    alloc: Global,
+    config: Source<'_>,
+    is_verbose: bool,
+    input: &mut I,
+    output: &mut O,
+    errors: &mut E,
+) -> Outcome
+    ensures answers { AnswersText config.entry (config_of config.entry.text.now)
+        (record { unread = I.remaining input.old; written = O.contents output.old })
+        (record { unread = I.remaining input.new; written = O.contents output.new }) result }
+    ensures quiet { is_verbose ≡ false → E.contents errors.new ≡ E.contents errors.old }
+{
+    if is_verbose {
+        answer_aloud(alloc, config, input, output, errors)
+    } else {
+        answer_text(alloc, config, input, output)
+    }
+}
+
+/// Answers the frames of the input by the configuration in a file.
+fn connect_file<F: TextFiles, I: Read, O: Write>(
+    alloc: Global,
+    files: &F,
+    file: &str,
+    input: &mut I,
+    output: &mut O,
+) -> Outcome
+    ensures { ConnectsFile (F.may_read files.now) file.now
+        (record { unread = I.remaining input.old; written = O.contents output.old })
+        (record { unread = I.remaining input.new; written = O.contents output.new }) result }
+{
+    match text_of_file(alloc, files, file) {
+        Ok(text) => answer_frames(alloc, source_of(file, &text), input, output),
+        Err(outcome) => outcome,
+    }
+}
+
+/// Writes the edges of the configuration in a file.
+fn list_edges_of_file<F: TextFiles, O: Write>(
+    alloc: Global,
+    files: &F,
+    file: &str,
+    output: &mut O,
+) -> Outcome
+    ensures { ListsFile ListsEdges (F.may_read files.now) file.now (O.contents output.old) (O.contents output.new) result }
+{
+    match text_of_file(alloc, files, file) {
+        Ok(text) => list_edges(alloc, source_of(file, &text), output),
+        Err(outcome) => outcome,
+    }
+}
+
+/// Writes the least labels of the configuration in a file.
+fn list_labels_of_file<F: TextFiles, O: Write>(
+    alloc: Global,
+    files: &F,
+    file: &str,
+    output: &mut O,
+) -> Outcome
+    ensures { ListsFile ListsLabels (F.may_read files.now) file.now (O.contents output.old) (O.contents output.new) result }
+{
+    match text_of_file(alloc, files, file) {
+        Ok(text) => list_labels(alloc, source_of(file, &text), output),
+        Err(outcome) => outcome,
+    }
+}
+
+/// The verdict on the configuration in a file and on the labels in another.
+fn check_files<F: TextFiles>(alloc: Global, files: &F, config: &str, labels: &str) -> Outcome
+    ensures { JudgesFiles (F.may_read files.now) config.now labels.now result }
+{
+    match accepted_of_files(alloc, files, config, labels) {
+        Ok(_checked) => Outcome::Judged(Verdict::Accepted, String::new(alloc)),
+        Err(outcome) => outcome,
+    }
+}
+
+/// Answers connections by the configuration in a file, where the labels in another are accepted for it.
+fn serve_files<H, F, I, E>(
+    rt: &H,
+    files: &F,
+    config: &str,
+    labels: &str,
+    place: Place<'_>,
+    input: &mut I,
+    errors: &mut E,
+) -> Outcome
+where
+    H: AllocGlobal + Net<Stream = TcpStream, Listener = TcpListener> + Threads + Wait + Sync,
+    F: TextFiles,
+    I: Read + Send,
+    E: Write + Send,
+    ensures { ServesFiles (F.may_read files.now) config.now labels.now (I.remaining input.old) (I.remaining input.new) result }
+{
+    match accepted_of_files(rt.alloc(), files, config, labels) {
+        Ok(checked) => ended(serve_at(rt, checked, place, input, errors)),
+        Err(outcome) => outcome,
+    }
+}
+
+/// What is accepted of the configuration in a file and of the labels in another, which is read only where the configuration has no
+/// fault; or how a command ends that needs it.
+fn accepted_of_files<F: TextFiles>(
+    alloc: Global,
+    files: &F,
+    config: &str,
+    labels: &str,
+) -> Result<Checked, Outcome>
+    ensures { MatchResult result
+        (IsAcceptedOf (F.may_read files.now) config.now labels.now)
+        (RefusesFiles (F.may_read files.now) config.now labels.now) }
+{
+    let text = text_of_file(alloc, files, config)?;
+    let config = source_of(config, &text);
+    let (plan, policy) = match read_config(alloc, config.text) {
+        Ok(made) => made,
+        Err(fault) => return Err(faulty(alloc, config, fault)),
+    };
+    let text = text_of_file(alloc, files, labels)?;
+    let labels = source_of(labels, &text);
+    match accepted(alloc, plan, &policy, labels.text) {
+        Ok(checked) => Ok(checked),
+        Err(verdict) => Err(judged(alloc, config, labels, verdict)),
+    }
+}
+
+/// The verdicts on many configurations and their labels, each in a line behind its name. All files are read first, by the same number
+/// of workers. Where that is asked for, it is told on the error stream how far the audit is.
+fn audit_files<H, F, E>(
+    rt: &H,
+    files: &F,
+    workers: NonZeroUsize,
+    names: &[&str],
+    tells_progress: bool,
+    errors: &mut E,
+) -> Outcome
+where
+    H: AllocGlobal + Clock + Threads + Sync,
+    F: TextFiles + Sync,
+    E: Write + Send,
+    ensures audits { AuditsFiles (F.may_read files.now) (map (λ name. name.now) names.now) result }
+    ensures quiet { tells_progress ≡ false → E.contents errors.new ≡ E.contents errors.old }
+{
+    match read_fleet(rt, files, names, workers) {
+        Ok(texts) if tells_progress => audit_texts_aloud(rt, names, texts, workers, errors),
+        Ok(texts) => audit_texts(rt, names, texts, workers),
+        Err(fault) => fleet_unread(fault),
+    }
+}
+
+/// How a command ended whose fleet isn't read.
+fn fleet_unread(fault: FleetFault) -> Outcome
+    ensures { result ≡ unread_fleet fault }
+{
+    match fault {
+        FleetFault::Unread(file, why) => Outcome::Unread(file, why),
+        FleetFault::Memory => Outcome::Unaudited(AuditFault::Memory),
+    }
+}
+
+/// The text of a file, or that it isn't read.
+fn text_of_file<F: TextFiles>(alloc: Global, files: &F, file: &str) -> Result<String, Outcome>
+    ensures { MatchResult result
+        (λ text. F.may_read files.now file.now (Ok (string_bytes text)))
+        (IsUnread (F.may_read files.now) file.now) }
+{
+    match files.read(file) {
+        Ok(text) => Ok(text),
+        Err(why) => Err(unread(alloc, file, why)),
+    }
+}
+
+/// A file that isn't read.
+fn unread(alloc: Global, file: &str, why: FileFault) -> Outcome
+    ensures { TellsUnread file.now why result }
+{
+    match String::from_str(alloc, file) {
+        Ok(file) => Outcome::Unread(file, why),
+        Err(_) => Outcome::Fault(LineFault::Memory),
+    }
+}
+
+/// A file by its path, with its text.
+fn source_of<'a>(file: &'a str, text: &'a String) -> Source<'a>
+    ensures file { result.file.now ≡ file.now }
+    ensures text { result.text.now ≡ string_bytes text.now }
+{
+    Source {
+        file,
+        text: text.as_str(),
+    }
+}
