@@ -13,6 +13,10 @@ use meter_server::program::{Source, answer_text};
 use object_model::plan::Plan;
 use std::alloc::Global;
 use std::fs;
+use std::net::{Net, TcpListener, TcpStream};
+use std::sync::Wait;
+use std::thread::Threads;
+use std::time::Clock;
 
 /// The name under which a configuration is explained.
 pub(crate) const FILE: &str = "demo.toml";
@@ -118,113 +122,128 @@ impl Tally {
     }
 
     /// Tries the case, or the table of cases, of a line of the list.
-    pub(crate) fn count(&mut self, rt: &HostRuntime, line: &str) {
+    pub(crate) fn count(
+        &mut self,
+        rt: &(impl AllocGlobal
+            + Clock
+            + Net<Stream = TcpStream, Listener = TcpListener>
+            + Threads
+            + Wait
+            + Sync),
+        host: &HostRuntime,
+        line: &str,
+    ) {
         let mut words = line.split(' ');
         match (words.next(), words.next(), words.next(), words.next()) {
             (Some("lines"), Some(configuration), Some(name), None) => {
-                let is_well = is_answered(rt, configuration, name) == Some(true);
-                self.tell(rt, is_well, line);
+                let is_well = is_answered(host, configuration, name) == Some(true);
+                self.tell(host, is_well, line);
             }
             (Some("command"), Some(name), Some(status), None) => {
-                let is_well = is_done(rt, name, status) == Some(true);
-                self.tell(rt, is_well, line);
+                let is_well = is_done(rt, host, name, status) == Some(true);
+                self.tell(host, is_well, line);
             }
             (Some("demo"), Some(configuration), None, None) => {
-                let is_well = is_demo(rt, configuration) == Some(true);
-                self.tell(rt, is_well, line);
+                let is_well = is_demo(host, configuration) == Some(true);
+                self.tell(host, is_well, line);
             }
             (Some("words"), Some(name), None, None) => {
-                if self.count_translations(rt, name).is_none() {
-                    self.tell(rt, false, line);
+                if self.count_translations(host, name).is_none() {
+                    self.tell(host, false, line);
                 }
             }
             (Some("frames"), Some(configuration), Some(name), None) => {
                 if self
-                    .count_parts(rt, configuration, Hex::Frames, name)
+                    .count_parts(host, configuration, Hex::Frames, name)
                     .is_none()
                 {
-                    self.tell(rt, false, line);
+                    self.tell(host, false, line);
                 }
             }
             (Some("sessions"), Some(configuration), Some(name), None) => {
                 if self
-                    .count_parts(rt, configuration, Hex::Sessions, name)
+                    .count_parts(host, configuration, Hex::Sessions, name)
                     .is_none()
                 {
-                    self.tell(rt, false, line);
+                    self.tell(host, false, line);
                 }
             }
             (Some("explained"), Some(configuration), Some(name), None) => {
-                if self.count_explained(rt, configuration, name).is_none() {
-                    self.tell(rt, false, line);
+                if self.count_explained(host, configuration, name).is_none() {
+                    self.tell(host, false, line);
                 }
             }
             (Some(kind), Some(configuration), Some(name), None) => {
                 let table = Table::read(kind);
-                if self.count_rows(rt, table, configuration, name).is_none() {
-                    self.tell(rt, false, line);
+                if self.count_rows(host, table, configuration, name).is_none() {
+                    self.tell(host, false, line);
                 }
             }
-            _ => self.tell(rt, false, line),
+            _ => self.tell(host, false, line),
         }
     }
 
     /// Counts a case, and tells one that fell short.
-    fn tell(&mut self, rt: &HostRuntime, is_well: bool, case: &str) {
+    fn tell(&mut self, host: &HostRuntime, is_well: bool, case: &str) {
         if is_well {
             self.count = self.count.saturating_add(1);
         } else {
             self.failed = self.failed.saturating_add(1);
-            let _ = println!(rt; "not as expected: {case}");
+            let _ = println!(host; "not as expected: {case}");
         }
     }
 
     /// Tries each part of a table over a configuration, as a connection or a story of sessions.
     fn count_parts(
         &mut self,
-        rt: &HostRuntime,
+        host: &HostRuntime,
         configuration: &str,
         kind: Hex,
         name: &str,
     ) -> Option<()> {
-        let text = read_configuration(rt, configuration)?;
-        let (plan, _policy) = read_config(rt.alloc(), text.as_str()).ok()?;
+        let text = read_configuration(host, configuration)?;
+        let (plan, _policy) = read_config(host.alloc(), text.as_str()).ok()?;
         let folder = kind.folder();
-        let path = format!(in rt.alloc(); "{folder}/{name}").ok()?;
-        let table = fs::read_to_string(rt, path.as_str()).ok()?;
-        let table = with_copies(rt.alloc(), table.as_str())?;
+        let path = format!(in host.alloc(); "{folder}/{name}").ok()?;
+        let table = fs::read_to_string(host, path.as_str()).ok()?;
+        let table = with_copies(host.alloc(), table.as_str())?;
         for part in table.as_str().split(kind.end()) {
             if !part.is_empty() && !kind.is_comment(part) {
-                let is_well = kind.is_well(rt.alloc(), &plan, part);
-                self.tell(rt, is_well == Some(true), part);
+                let is_well = kind.is_well(host.alloc(), &plan, part);
+                self.tell(host, is_well == Some(true), part);
             }
         }
         Some(())
     }
 
     /// Tries each verdict of a table over a configuration and its labels, with what explains it.
-    fn count_explained(&mut self, rt: &HostRuntime, configuration: &str, name: &str) -> Option<()> {
-        let text = read_configuration(rt, configuration)?;
-        let labels = read_labels(rt, configuration)?;
-        let path = format!(in rt.alloc(); "explained/{name}").ok()?;
-        let table = fs::read_to_string(rt, path.as_str()).ok()?;
+    fn count_explained(
+        &mut self,
+        host: &HostRuntime,
+        configuration: &str,
+        name: &str,
+    ) -> Option<()> {
+        let text = read_configuration(host, configuration)?;
+        let labels = read_labels(host, configuration)?;
+        let path = format!(in host.alloc(); "explained/{name}").ok()?;
+        let table = fs::read_to_string(host, path.as_str()).ok()?;
         for case in table.as_str().split("\n\n") {
             if !case.starts_with('#') {
-                let is_well = is_explained(rt.alloc(), text.as_str(), labels.as_str(), case);
-                self.tell(rt, is_well == Some(true), case);
+                let is_well = is_explained(host.alloc(), text.as_str(), labels.as_str(), case);
+                self.tell(host, is_well == Some(true), case);
             }
         }
         Some(())
     }
 
     /// Tries each row of a table of texts that are translated.
-    fn count_translations(&mut self, rt: &HostRuntime, name: &str) -> Option<()> {
-        let path = format!(in rt.alloc(); "words/{name}").ok()?;
-        let rows = fs::read_to_string(rt, path.as_str()).ok()?;
+    fn count_translations(&mut self, host: &HostRuntime, name: &str) -> Option<()> {
+        let path = format!(in host.alloc(); "words/{name}").ok()?;
+        let rows = fs::read_to_string(host, path.as_str()).ok()?;
         for row in rows.as_str().split('\n') {
             if !row.is_empty() && !row.starts_with('#') {
-                let is_well = is_translated(rt.alloc(), row);
-                self.tell(rt, is_well == Some(true), row);
+                let is_well = is_translated(host.alloc(), row);
+                self.tell(host, is_well == Some(true), row);
             }
         }
         Some(())
@@ -233,21 +252,21 @@ impl Tally {
     /// Tries each row of a table over a configuration.
     fn count_rows(
         &mut self,
-        rt: &HostRuntime,
+        host: &HostRuntime,
         table: Option<Table>,
         configuration: &str,
         name: &str,
     ) -> Option<()> {
         let table = table?;
-        let text = read_configuration(rt, configuration)?;
-        let labels = read_labels(rt, configuration)?;
+        let text = read_configuration(host, configuration)?;
+        let labels = read_labels(host, configuration)?;
         let folder = table.folder();
-        let path = format!(in rt.alloc(); "{folder}/{name}").ok()?;
-        let rows = fs::read_to_string(rt, path.as_str()).ok()?;
+        let path = format!(in host.alloc(); "{folder}/{name}").ok()?;
+        let rows = fs::read_to_string(host, path.as_str()).ok()?;
         for row in rows.as_str().split('\n') {
             if !row.is_empty() && !row.starts_with('#') {
-                let is_well = table.is_well(rt.alloc(), text.as_str(), labels.as_str(), row);
-                self.tell(rt, is_well == Some(true), row);
+                let is_well = table.is_well(host.alloc(), text.as_str(), labels.as_str(), row);
+                self.tell(host, is_well == Some(true), row);
             }
         }
         Some(())
@@ -255,23 +274,23 @@ impl Tally {
 }
 
 /// The text of a configuration of the cases.
-fn read_configuration(rt: &HostRuntime, name: &str) -> Option<String> {
-    let path = format!(in rt.alloc(); "{name}.toml").ok()?;
-    fs::read_to_string(rt, path.as_str()).ok()
+fn read_configuration(host: &HostRuntime, name: &str) -> Option<String> {
+    let path = format!(in host.alloc(); "{name}.toml").ok()?;
+    fs::read_to_string(host, path.as_str()).ok()
 }
 
 /// Whether a configuration has the text of the demo by which the program answers.
-fn is_demo(rt: &HostRuntime, configuration: &str) -> Option<bool> {
-    let text = read_configuration(rt, configuration)?;
+fn is_demo(host: &HostRuntime, configuration: &str) -> Option<bool> {
+    let text = read_configuration(host, configuration)?;
     Some(text.as_str() == DEMO)
 }
 
 /// The text of the labels of a configuration; of one that has none it is empty.
-fn read_labels(rt: &HostRuntime, name: &str) -> Option<String> {
-    let path = format!(in rt.alloc(); "{name}.labels").ok()?;
-    match fs::read_to_string(rt, path.as_str()) {
+fn read_labels(host: &HostRuntime, name: &str) -> Option<String> {
+    let path = format!(in host.alloc(); "{name}.labels").ok()?;
+    match fs::read_to_string(host, path.as_str()) {
         Ok(text) => Some(text),
-        Err(_) => Some(String::new(rt.alloc())),
+        Err(_) => Some(String::new(host.alloc())),
     }
 }
 
@@ -360,11 +379,14 @@ fn is_unreadable(alloc: Global, text: &str, line: &str) -> Option<bool> {
 }
 
 /// Whether the lines of the case give what they must.
-fn is_answered(rt: &HostRuntime, configuration: &str, name: &str) -> Option<bool> {
-    let alloc = rt.alloc();
-    let text = read_configuration(rt, configuration)?;
-    let lines = fs::read_to_string(rt, format!(in alloc; "lines/{name}.in").ok()?.as_str()).ok()?;
-    let wanted = fs::read_to_string(rt, format!(in alloc; "lines/{name}.out").ok()?.as_str()).ok()?;
+fn is_answered(host: &HostRuntime, configuration: &str, name: &str) -> Option<bool> {
+    let alloc = host.alloc();
+    let text = read_configuration(host, configuration)?;
+    let lines = fs::read_to_string(host, format!(in alloc; "lines/{name}.in").ok()?.as_str()).ok()?;
+    let wanted = fs::read_to_string(
+        host,
+        format!(in alloc; "lines/{name}.out").ok()?.as_str(),
+    ).ok()?;
     let lines = with_copies(alloc, lines.as_str())?;
     let found = answers(alloc, text.as_str(), lines.as_bytes())?;
     Some(found.as_slice() == wanted.as_bytes())

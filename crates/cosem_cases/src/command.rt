@@ -2,17 +2,31 @@
 use meter_server::program::run_program;
 use std::alloc::Global;
 use std::fs;
+use std::net::{Net, TcpListener, TcpStream};
+use std::sync::Wait;
+use std::thread::Threads;
+use std::time::Clock;
 
 /// Whether the command line of the case ends with the status and tells what it must: its words are the lines of
 /// `commands/NAME.words`, its input those of `commands/NAME.in`, and `NAME.out` and `NAME.err` have what it must write.
-pub(crate) fn is_done(rt: &HostRuntime, name: &str, status: &str) -> Option<bool> {
-    let words = words_of(rt.alloc(), read(rt, name, "words")?.as_str())?;
-    let input = read(rt, name, "in")?;
+pub(crate) fn is_done(
+    rt: &(impl AllocGlobal
+        + Clock
+        + Net<Stream = TcpStream, Listener = TcpListener>
+        + Threads
+        + Wait
+        + Sync),
+    host: &HostRuntime,
+    name: &str,
+    status: &str,
+) -> Option<bool> {
+    let words = words_of(rt.alloc(), read(host, name, "words")?.as_str())?;
+    let input = read(host, name, "in")?;
     let mut output = Vec::new(rt.alloc());
     let mut errors = Vec::new(rt.alloc());
     let found = run_program(
         rt,
-        rt,
+        host,
         &words,
         &mut input.as_bytes(),
         &mut output,
@@ -20,17 +34,17 @@ pub(crate) fn is_done(rt: &HostRuntime, name: &str, status: &str) -> Option<bool
     );
     Some(
         status.parse::<u8>().ok()? == found
-            && output.as_slice() == read(rt, name, "out")?.as_bytes()
-            && errors.as_slice() == read(rt, name, "err")?.as_bytes(),
+            && output.as_slice() == read(host, name, "out")?.as_bytes()
+            && errors.as_slice() == read(host, name, "err")?.as_bytes(),
     )
 }
 
 /// One of the files of a case; one that isn't there is empty.
-fn read(rt: &HostRuntime, name: &str, part: &str) -> Option<String> {
-    let path = format!(in rt.alloc(); "commands/{name}.{part}").ok()?;
-    match fs::read_to_string(rt, path.as_str()) {
+fn read(host: &HostRuntime, name: &str, part: &str) -> Option<String> {
+    let path = format!(in host.alloc(); "commands/{name}.{part}").ok()?;
+    match fs::read_to_string(host, path.as_str()) {
         Ok(text) => Some(text),
-        Err(_) => Some(String::new(rt.alloc())),
+        Err(_) => Some(String::new(host.alloc())),
     }
 }
 

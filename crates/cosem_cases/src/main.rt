@@ -44,13 +44,17 @@ mod translation;
 
 use case::Tally;
 use std::fs;
+use std::net::{Net, TcpListener, TcpStream};
 use std::process::ExitCode;
+use std::sync::Wait;
+use std::thread::Threads;
+use std::time::Clock;
 
 /// The file that lists the cases, in the current folder.
 const CASES: &str = "cases";
 
 fn main(rt: HostRuntime) -> ExitCode {
-    match run_cases(&rt) {
+    match run_cases(&rt, &rt) {
         Some(true) => ExitCode::SUCCESS,
         Some(false) => ExitCode::FAILURE,
         None => {
@@ -61,15 +65,23 @@ fn main(rt: HostRuntime) -> ExitCode {
 }
 
 /// Tries each case that is listed, and says whether all came out as they must.
-fn run_cases(rt: &HostRuntime) -> Option<bool> {
-    let list = fs::read_to_string(rt, CASES).ok()?;
+fn run_cases(
+    rt: &(impl AllocGlobal
+        + Clock
+        + Net<Stream = TcpStream, Listener = TcpListener>
+        + Threads
+        + Wait
+        + Sync),
+    host: &HostRuntime,
+) -> Option<bool> {
+    let list = fs::read_to_string(host, CASES).ok()?;
     let mut tally = Tally::new();
     for line in list.as_str().lines() {
         if !line.is_empty() && !line.starts_with('#') {
-            tally.count(rt, line);
+            tally.count(rt, host, line);
         }
     }
     let (count, failed) = (tally.count, tally.failed);
-    let is_told = println!(rt; "{count} cases as expected").is_ok();
+    let is_told = println!(host; "{count} cases as expected").is_ok();
     Some(failed == 0 && is_told)
 }
