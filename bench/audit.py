@@ -4,9 +4,11 @@
     bench/audit.py
 
 There are 200 configurations of 64 objects, and 25 of 512, made as those of bench/check.py, each with its least labels. One worker,
-four, and four programs at once that each audit every fourth name by one worker take turns; each figure is the least of its runs, and
-behind the ratio of the least stands the median of the ratios turn by turn. The four programs share nothing: they show how many times
-one the machine itself gives then; a virtual machine may give much less than four. Of four workers it is told how long they read the
+four, four programs at once that each audit every fourth name by one worker, and one worker again take turns; each figure is the least of
+its runs, and behind the ratio of the least stands the median of the ratios turn by turn. The four programs share nothing: they show how
+many times one the machine itself gives then; a virtual machine may give much less than four, and change from second to second. So the median
+is told too of those turns alone in which it gave four programs nearly four times one, by the second run of one worker, which has no part in
+the ratio that is told. Of four workers it is told how long they read the
 files, which is before the first text is judged. What a loop of `check` within one process takes is told as the sum of its times over
 all files, each less the time in which a program begins. The time to read the configurations' text is told as a share of that: it is
 the sum of runs without lines, less the beginning too. Last, by valgrind, how many times the instructions of the longest thread of four
@@ -30,6 +32,8 @@ FLEETS = ((64, 200), (512, 25))
 WORKERS = 4
 RUNS = 5
 TURNS = 41
+# How many times one programs that share nothing have to gain in a turn, so that the machine is taken to have cores for them all.
+GIVEN = 3.5
 
 
 def audits(workers, names):
@@ -49,8 +53,8 @@ def seconds_at_once(commands, status):
 
 
 def in_turns(names):
-    """The seconds of each turn of one worker, of several, and of as many programs of one worker each."""
-    one, several, apart = [], [], []
+    """The seconds of each turn of one worker, of several, of as many programs of one worker each, and of one worker again."""
+    one, several, apart, again = [], [], [], []
     for _ in range(TURNS):
         seconds, list_of_one = seconds_at_once([audits(1, names)], 0)
         one.append(seconds)
@@ -60,7 +64,15 @@ def in_turns(names):
             sys.exit("the lists of one worker and of several differ")
         seconds, _ = seconds_at_once([audits(1, names[first::WORKERS]) for first in range(WORKERS)], 0)
         apart.append(seconds)
-    return one, several, apart
+        seconds, _ = seconds_at_once([audits(1, names)], 0)
+        again.append(seconds)
+    return one, several, apart, again
+
+
+def when_given(one, several, apart, again):
+    """How many times faster several are than one where the machine gave as many programs nearly that many times one, and how often it did."""
+    ratios = [a / b for a, b, c, d in zip(one, several, apart, again) if d / c >= GIVEN]
+    return f"{statistics.median(ratios):.2f} times in the {len(ratios)} of {TURNS} turns" if ratios else f"not told, since in none of {TURNS} turns"
 
 
 def times(one, other):
@@ -108,7 +120,7 @@ def main():
         begun, _ = seconds_of([PROGRAM, "run", written(folder, "bare.toml", config(0))])
         for objects, count in FLEETS:
             names = fleet(folder, objects, count)
-            one, several, apart = in_turns(names)
+            one, several, apart, again = in_turns(names)
             # Where the last name has no files, all are read and none is judged.
             unread = [*names, os.path.join(folder, "nowhere")]
             files = min(seconds_at_once([audits(WORKERS, unread)], 3)[0] for _ in range(RUNS))
@@ -117,7 +129,8 @@ def main():
             shared = longest_thread(folder, 1, names) / longest_thread(folder, WORKERS, names)
             print(
                 f"{count} configurations of {objects} objects: one worker {min(one):.3f} s, {WORKERS} workers {min(several):.3f} s, "
-                f"{times(one, several)} times faster; {WORKERS} programs at once {min(apart):.3f} s, {times(one, apart)} times; the files are "
+                f"{times(one, several)} times faster; {WORKERS} programs at once {min(apart):.3f} s, {times(one, apart)} times; {WORKERS} workers are faster "
+                f"{when_given(one, several, apart, again)} in which {WORKERS} programs were {GIVEN} times faster; the files are "
                 f"read in {files:.3f} s; `check` of each {checked:.3f} s, so one worker takes {min(one) / checked:.2f} times that; of this the "
                 f"reading of the text is {100 * read / checked:.0f} percent; in instructions {WORKERS} workers are {shared:.2f} times faster"
             )

@@ -65,12 +65,17 @@ TellsFault config outcome = (fault : ConfigFault) × Fails fault (config_of conf
 abbrev pub TellsJudgement : Source → Source → Outcome → Type 0
 TellsJudgement config labels outcome = (verdict : Verdict) × IsVerdict (config_of config.text.now) labels.text.now verdict × IsJudged config labels verdict outcome
 
+-- the configuration in a file has no fault
+abbrev pub IsFaultless : Source → Type 0
+IsFaultless config = (c : ConfigText) × (config_of config.text.now ≡ Ok c)
+
+-- a command came to the fault of the configuration in a file, or else to the verdict on it and the labels in the file with this path
+abbrev pub JudgesLabels : MayRead → (labels : List ℕ) → Source → Outcome → Type 0
+JudgesLabels reads labels config outcome = TellsFault config outcome ⊎ (IsFaultless config × ByFile reads labels (TellsJudgement config) (Unit {0}) outcome)
+
 -- a command came to a verdict on the configuration and the labels in these two files: the labels are read only where the configuration has no fault
 abbrev pub JudgesFiles : MayRead → (config labels : List ℕ) → Outcome → Type 0
-JudgesFiles reads config labels outcome =
-    ByFile reads config (λ config outcome.
-    TellsFault config outcome
-    ⊎ (((c : ConfigText) × (config_of config.text.now ≡ Ok c)) × ByFile reads labels (TellsJudgement config) (Unit {0}) outcome)) (Unit {0}) outcome
+JudgesFiles reads config labels outcome = ByFile reads config (JudgesLabels reads labels) (Unit {0}) outcome
 
 -- what is accepted of the labels in one file for the configuration in another
 pub record IsAcceptedOf (reads : MayRead) (config_path labels_path : List ℕ) (checked : Checked) : Type 0 where
@@ -150,12 +155,12 @@ Answers reads Encode before after outcome = (result : Result (Unit {0}) Translat
 Answers reads Decode before after outcome = (result : Result (Unit {0}) TranslationFault) × Translates ways.Decode before after result × (outcome ≡ translated result)
 
 -- memory was refused before it was known what the words ask for, and nothing was done
-abbrev pub IsForgotten : (before after : Moment) → Outcome → Type 0
-IsForgotten before after outcome = (outcome ≡ Words words.Memory) × (after ≡ before)
+abbrev pub IsOutOfMemory : (before after : Moment) → Outcome → Type 0
+IsOutOfMemory before after outcome = (outcome ≡ Words words.Memory) × (after ≡ before)
 
 -- what is done for words, the program's name first: what they ask for; or they are no command
 pub record Does (reads : MayRead) (ws : List (List ℕ)) (before after : Moment) (outcome : Outcome) : Type 0 where
-  pub command : (asked : Asked) → command_of ws ≡ Some asked → Answers reads asked before after outcome ⊎ IsForgotten before after outcome
+  pub command : (asked : Asked) → command_of ws ≡ Some asked → Answers reads asked before after outcome ⊎ IsOutOfMemory before after outcome
   pub no_command : command_of ws ≡ None → IsNoCommand ws outcome × (after ≡ before)
 
 -- whether nothing is written on standard error until the command has ended: it isn't asked to tell of lines or of its progress, and serves no meter
