@@ -4,16 +4,17 @@
     bench/audit.py
 
 There are 200 configurations of 64 objects, and 25 of 512, made as those of bench/check.py, each with its least labels. One worker,
-four, four programs at once that each audit every fourth name by one worker, and one worker again take turns; each figure is the least of
-its runs, and behind the ratio of the least stands the median of the ratios turn by turn. The four programs share nothing: they show how
-many times one the machine itself gives then; a virtual machine may give much less than four, and change from second to second. So the median
-is told too of those turns alone in which it gave four programs nearly four times one, by the second run of one worker, which has no part in
-the ratio that is told. Of four workers it is told how long they read the
+four, and four programs at once that each audit every fourth name by one worker take turns; each figure is the least of its runs, and
+behind the ratio of the least stands the median of the ratios turn by turn. The four programs share nothing: they show how many times
+one the machine itself gives then; a virtual machine may give much less than four. Of four workers it is told how long they read the
 files, which is before the first text is judged. What a loop of `check` within one process takes is told as the sum of its times over
 all files, each less the time in which a program begins. The time to read the configurations' text is told as a share of that: it is
-the sum of runs without lines, less the beginning too. Last, by valgrind, how many times the instructions of the longest thread of four
-workers go into those of one worker: that repeats from run to run, whatever the machine gives.
-Run `./cosem-flow demo < /dev/null` first, which builds the program.
+the sum of runs without lines, less the beginning too.
+Two figures repeat from run to run, whatever the machine gives. With all threads on one core, the processor time of one worker is divided by
+that of what takes longest of four: the caller, which does a share of its own and all that comes before and behind, or the longest of the
+others at reading and then at judging. So many times faster four equal cores are, but for what threads wait for each other and for their
+start. And by valgrind, how many times the instructions of the longest thread of four workers go into those of one worker.
+It needs gcc; run `./cosem-flow demo < /dev/null` first, which builds the program.
 """
 import glob
 import os
@@ -32,8 +33,36 @@ FLEETS = ((64, 200), (512, 25))
 WORKERS = 4
 RUNS = 5
 TURNS = 41
-# How many times one programs that share nothing have to gain in a turn, so that the machine is taken to have cores for them all.
-GIVEN = 3.5
+# Has each thread tell its processor time on standard error, in seconds, once it has done its work.
+TIMED_THREADS = r"""
+#define _GNU_SOURCE
+#include <dlfcn.h>
+#include <pthread.h>
+#include <stdio.h>
+#include <stdlib.h>
+#include <time.h>
+
+struct work { void *(*function)(void *); void *argument; };
+
+static void *timed(void *given) {
+    struct work work = *(struct work *)given;
+    struct timespec spent;
+    free(given);
+    void *result = work.function(work.argument);
+    clock_gettime(CLOCK_THREAD_CPUTIME_ID, &spent);
+    fprintf(stderr, "thread %ld.%09ld\n", (long)spent.tv_sec, spent.tv_nsec);
+    return result;
+}
+
+int pthread_create(pthread_t *thread, const pthread_attr_t *attributes, void *(*function)(void *), void *argument) {
+    int (*create)(pthread_t *, const pthread_attr_t *, void *(*)(void *), void *) = dlsym(RTLD_NEXT, "pthread_create");
+    struct work *work = malloc(sizeof *work);
+    if (!work) return 11;
+    work->function = function;
+    work->argument = argument;
+    return create(thread, attributes, timed, work);
+}
+"""
 
 
 def audits(workers, names):
@@ -53,8 +82,8 @@ def seconds_at_once(commands, status):
 
 
 def in_turns(names):
-    """The seconds of each turn of one worker, of several, of as many programs of one worker each, and of one worker again."""
-    one, several, apart, again = [], [], [], []
+    """The seconds of each turn of one worker, of several, and of as many programs of one worker each."""
+    one, several, apart = [], [], []
     for _ in range(TURNS):
         seconds, list_of_one = seconds_at_once([audits(1, names)], 0)
         one.append(seconds)
@@ -64,15 +93,7 @@ def in_turns(names):
             sys.exit("the lists of one worker and of several differ")
         seconds, _ = seconds_at_once([audits(1, names[first::WORKERS]) for first in range(WORKERS)], 0)
         apart.append(seconds)
-        seconds, _ = seconds_at_once([audits(1, names)], 0)
-        again.append(seconds)
-    return one, several, apart, again
-
-
-def when_given(one, several, apart, again):
-    """How many times faster several are than one where the machine gave as many programs nearly that many times one, and how often it did."""
-    ratios = [a / b for a, b, c, d in zip(one, several, apart, again) if d / c >= GIVEN]
-    return f"{statistics.median(ratios):.2f} times in the {len(ratios)} of {TURNS} turns" if ratios else f"not told, since in none of {TURNS} turns"
+    return one, several, apart
 
 
 def times(one, other):
@@ -86,6 +107,36 @@ def longest_thread(folder, workers, names):
     counting = ["valgrind", "--tool=callgrind", "--separate-threads=yes", f"--callgrind-out-file={counts}"]
     subprocess.run([*counting, *audits(workers, names)], stdin=subprocess.DEVNULL, capture_output=True, check=True)
     return max(int(COUNTED.search(open(file).read()).group(1)) for file in glob.glob(f"{counts}-*"))
+
+
+def timed_threads(folder):
+    """The library that has each thread tell its processor time."""
+    source, library = os.path.join(folder, "timed.c"), os.path.join(folder, "timed.so")
+    with open(source, "w") as file:
+        file.write(TIMED_THREADS)
+    subprocess.run(["gcc", "-O2", "-shared", "-fPIC", "-o", library, source, "-ldl"], check=True)
+    return library
+
+
+def longest_seconds(library, workers, names):
+    """The processor time, all threads on one core, of what takes longest of so many workers."""
+    run = subprocess.Popen(
+        audits(workers, names), stdin=subprocess.DEVNULL, stdout=subprocess.DEVNULL, stderr=subprocess.PIPE, text=True,
+        env={**os.environ, "LD_PRELOAD": library}, preexec_fn=lambda: os.sched_setaffinity(0, {max(os.sched_getaffinity(0))}),
+    )
+    threads = [float(spent) for spent in re.findall(r"^thread ([\d.]+)$", run.stderr.read(), re.MULTILINE)]
+    _, run.returncode, used = os.wait4(run.pid, 0)
+    if run.returncode or len(threads) != 2 * (workers - 1):
+        sys.exit("an audit ended otherwise than it must")
+    # Those that read have ended before one that judges begins.
+    reading, judging = threads[: workers - 1], threads[workers - 1 :]
+    return max(used.ru_utime + used.ru_stime - sum(threads), max(reading, default=0) + max(judging, default=0))
+
+
+def times_on_one_core(library, names):
+    """How many times less the longest of several workers takes than one, in the median of some turns."""
+    turns = [longest_seconds(library, 1, names) / longest_seconds(library, WORKERS, names) for _ in range(3 * RUNS)]
+    return statistics.median(turns)
 
 
 def seconds_of(command):
@@ -117,22 +168,23 @@ def fleet(folder, objects, count):
 
 def main():
     with tempfile.TemporaryDirectory() as folder:
+        library = timed_threads(folder)
         begun, _ = seconds_of([PROGRAM, "run", written(folder, "bare.toml", config(0))])
         for objects, count in FLEETS:
             names = fleet(folder, objects, count)
-            one, several, apart, again = in_turns(names)
+            one, several, apart = in_turns(names)
             # Where the last name has no files, all are read and none is judged.
             unread = [*names, os.path.join(folder, "nowhere")]
             files = min(seconds_at_once([audits(WORKERS, unread)], 3)[0] for _ in range(RUNS))
             checked = sum(seconds_of([PROGRAM, "check", f"{name}.toml", f"{name}.labels"])[0] - begun for name in names)
             read = sum(seconds_of([PROGRAM, "run", f"{name}.toml"])[0] - begun for name in names)
+            equal = times_on_one_core(library, names)
             shared = longest_thread(folder, 1, names) / longest_thread(folder, WORKERS, names)
             print(
                 f"{count} configurations of {objects} objects: one worker {min(one):.3f} s, {WORKERS} workers {min(several):.3f} s, "
-                f"{times(one, several)} times faster; {WORKERS} programs at once {min(apart):.3f} s, {times(one, apart)} times; {WORKERS} workers are faster "
-                f"{when_given(one, several, apart, again)} in which {WORKERS} programs were {GIVEN} times faster; the files are "
+                f"{times(one, several)} times faster; {WORKERS} programs at once {min(apart):.3f} s, {times(one, apart)} times; the files are "
                 f"read in {files:.3f} s; `check` of each {checked:.3f} s, so one worker takes {min(one) / checked:.2f} times that; of this the "
-                f"reading of the text is {100 * read / checked:.0f} percent; in instructions {WORKERS} workers are {shared:.2f} times faster"
+                f"reading of the text is {100 * read / checked:.0f} percent; by processor time {WORKERS} workers on equal cores are {equal:.2f} times faster, by instructions {shared:.2f} times"
             )
 
 
