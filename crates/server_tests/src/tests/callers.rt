@@ -1,6 +1,7 @@
 //! Callers that no other crate has. Each rests on a clause that nothing else needs, so that it is proved no more where a contract, and with
 //! it a body, does less.
 ghost use Rattle.std.specs.Prelude.{◌≡◌, ◌⊎◌, IfOk, map, string_bytes};
+ghost use Rattle.meter_server.specs.Answering.{Runs};
 ghost use Rattle.meter_server.specs.Outcomes as outcomes;
 ghost use Rattle.meter_server.specs.Outcomes.{output_of, status_of};
 ghost use Rattle.meter_server.specs.Program.{AreMistaken};
@@ -38,8 +39,9 @@ pub(super) fn ended_so(answer: Result<u64, LineFault>) -> Outcome
     outcome_of(answer)
 }
 
-/// Words that are no command are told, with the status of a wrong command line or of refused memory.
-pub(super) fn run_mistaken<H, F, I, O, E>(
+/// What words ask for is done, and then told, whatever reads the files. Words that are no command are told, with the status of a wrong
+/// command line or of refused memory.
+pub(super) fn run_asked<H, F, I, O, E>(
     rt: &H,
     files: &F,
     words: &[String],
@@ -58,8 +60,11 @@ where
     I: Read + Send,
     O: Write,
     E: Write + Send,
-    requires { AreMistaken (map string_bytes words.now) }
-    ensures { (result ≡ 2) ⊎ (result ≡ 3) }
+    ensures runs { Runs (F.may_read files.now) (map string_bytes words.now)
+        (record { unread = I.remaining input.old; written = O.contents output.old })
+        (record { unread = I.remaining input.new; written = O.contents output.new })
+        (E.contents errors.old) (E.contents errors.new) result }
+    ensures mistaken { AreMistaken (map string_bytes words.now) → (result ≡ 2) ⊎ (result ≡ 3) }
 {
     run_program(rt, files, words, input, output, errors)
 }
