@@ -12,8 +12,8 @@ all files, each less the time in which a program begins. The time to read the co
 the sum of runs without lines, less the beginning too.
 Two figures repeat from run to run, whatever the machine gives. With all threads on one core, the processor time of one worker is divided by
 that of what takes longest of four: the caller, which does a share of its own and all that comes before and behind, or the longest of the
-others at reading and then at judging. So many times faster four equal cores are, but for what threads wait for each other and for their
-start. And by valgrind, how many times the instructions of the longest thread of four workers go into those of one worker.
+others at reading and then at judging. That is an estimate of what four equal cores give; it leaves out what threads wait for each other and
+for their start, and what cores that work at once take from each other. And by valgrind, how many times the instructions of the longest thread of four workers go into those of one worker.
 It needs gcc; run `./cosem-flow demo < /dev/null` first, which builds the program.
 """
 import glob
@@ -184,7 +184,7 @@ def main():
                 f"{count} configurations of {objects} objects: one worker {min(one):.3f} s, {WORKERS} workers {min(several):.3f} s, "
                 f"{times(one, several)} times faster; {WORKERS} programs at once {min(apart):.3f} s, {times(one, apart)} times; the files are "
                 f"read in {files:.3f} s; `check` of each {checked:.3f} s, so one worker takes {min(one) / checked:.2f} times that; of this the "
-                f"reading of the text is {100 * read / checked:.0f} percent; by processor time {WORKERS} workers on equal cores are {equal:.2f} times faster, by instructions {shared:.2f} times"
+                f"reading of the text is {100 * read / checked:.0f} percent; by processor time on one core the longest of {WORKERS} workers has {equal:.2f} times less to do, by instructions {shared:.2f} times"
             )
 
 
