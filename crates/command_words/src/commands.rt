@@ -1,6 +1,6 @@
 //! The commands of the program, as clap takes them, with the texts of their help.
 ghost use Rattle.std.specs.Prelude.{◌≡◌, IfOk, false};
-ghost use Rattle.clap.specs.Words.{app_of, new_app, rule_of};
+ghost use Rattle.clap.specs.Words.{App, app_of, new_app, rule_of, with_subcommand};
 ghost use Rattle.clap.specs.declared.builder.command.Command.TheViews.{out-Command};
 ghost use Rattle.command_words.specs.CommandLine as spec;
 
@@ -11,17 +11,28 @@ use std::alloc::{AllocError, Global};
 pub fn all_commands<'a>(alloc: Global) -> Result<Command<'a>, AllocError>
     ensures { IfOk result (λ c. app_of c ≡ spec.app) }
 {
-    program(alloc)?
-        .subcommand(demo_command(alloc)?)?
-        .subcommand(run_command(alloc)?)?
-        .subcommand(edges_command(alloc)?)?
-        .subcommand(label_command(alloc)?)?
-        .subcommand(check_command(alloc)?)?
-        .subcommand(audit_command(alloc)?)?
-        .subcommand(session_command(alloc)?)?
-        .subcommand(serve_command(alloc)?)?
-        .subcommand(encode_command(alloc))?
-        .subcommand(decode_command(alloc))
+    let commands = with(program(alloc), demo_command(alloc));
+    let commands = with(commands, run_command(alloc));
+    let commands = with(commands, edges_command(alloc));
+    let commands = with(commands, label_command(alloc));
+    let commands = with(commands, check_command(alloc));
+    let commands = with(commands, audit_command(alloc));
+    let commands = with(commands, session_command(alloc));
+    let commands = with(commands, serve_command(alloc));
+    let commands = with(commands, Ok(encode_command(alloc)));
+    with(commands, Ok(decode_command(alloc)))
+}
+
+/// A command with one more below it, the last in its help. It is a function of its own since each `?` drops what the other
+/// command holds, which is long to prove.
+fn with<'a>(
+    commands: Result<Command<'a>, AllocError>,
+    added: Result<Command<'a>, AllocError>,
+) -> Result<Command<'a>, AllocError>
+    ensures { (above below : App) → IfOk commands.entry (λ c. app_of c ≡ above) → IfOk added.entry (λ c. app_of c ≡ below)
+        → IfOk added.entry (λ c. (out-Command c).has_globals ≡ false) → IfOk result (λ c. app_of c ≡ with_subcommand above below.top) }
+{
+    commands?.subcommand(added?)
 }
 
 /// The program, without its commands.
