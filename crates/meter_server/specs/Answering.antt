@@ -1,5 +1,5 @@
 -- What each command does with the files that it names, its input and its output (own profile throughout).
-use Rattle.std.specs.Prelude.{◌≡◌, ◌⊎◌, ◌++◌, ℕ, List, Bool, true, false, not, codes, string_bytes, Option, Some, None, Result, Ok, Err}
+use Rattle.std.specs.Prelude.{◌≡◌, ◌⊎◌, ◌++◌, ℕ, List, Bool, true, false, not, codes, string_bytes, Option, Some, None, Result, Ok, Err, []}
 use Rattle.std.specs.Io.KnownBytes.{Appends}
 use Rattle.std.specs.List.{AllZip}
 use Rattle.command_words.specs.Commands.{Asked, command_of}
@@ -21,11 +21,14 @@ use Rattle.line_server.specs.Lines.{Moment}
 use Rattle.line_server.specs.declared.running.LineFault.TheVariants as lines
 use Rattle.meter_server.specs.Auditing.{AuditsTexts}
 use Rattle.meter_server.specs.Connecting.{AnswersFrames}
+use Rattle.meter_server.specs.Listing.{WritesText}
 use Rattle.meter_server.specs.Outcomes.{error_of, status_of, translated}
 use Rattle.meter_server.specs.Program.{AnswersText, IsFaulty, IsJudged, IsNoCommand, ListsEdges, ListsLabels, TellsVerdict}
 use Rattle.meter_server.specs.Reading.{AreTextsOf, FailsFirst, MayRead}
 use Rattle.meter_server.specs.Translating.{Translates}
 use Rattle.meter_server.specs.declared.demo.TheConstants.{DEMO}
+use Rattle.meter_server.specs.declared.listing.ListFault.{ListFault}
+use Rattle.meter_server.specs.declared.listing.ListFault.TheVariants as lists
 use Rattle.meter_server.specs.declared.outcome.Outcome.{Outcome}
 use Rattle.meter_server.specs.declared.outcome.Outcome.TheVariants.{Done, Judged, Words, Unread, Fault, Unaudited, Unserved}
 use Rattle.meter_server.specs.declared.program.Source.{Source}
@@ -171,10 +174,16 @@ is_quiet (Some (Audit workers names tells_progress)) = not tells_progress
 is_quiet (Some (Serve config labels address port sessions)) = false
 is_quiet _ = true
 
--- how a command ended is told on standard error: all of that, or that there was no memory for it; or a beginning, where a write failed
+-- how a command ended is written on standard error: all of that, or a beginning of it, behind which a write failed; nothing, where there was no memory for it
+abbrev pub WritesError : Outcome → (before after : Option (List ℕ)) → Result (Unit {0}) ListFault → Type 0
+WritesError outcome before after (Err lists.Memory) = Appends before after []
+WritesError outcome before after written = WritesText (error_of outcome) before after written
+
+-- how a command ended is told on standard error: as it is written there; and where there was no memory for that, this, or a beginning of it, where a write failed
 abbrev pub TellsError : Outcome → (before after : Option (List ℕ)) → Type 0
 TellsError outcome before after =
-    (front : List ℕ) × (left : List ℕ) × ((error_of outcome ≡ front ++ left) ⊎ (codes "cosem-flow: out of memory\n" ≡ front ++ left)) × Appends before after front
+    WritesError outcome before after (Ok tt) ⊎ WritesError outcome before after (Err lists.Write)
+    ⊎ (front : List ℕ) × (left : List ℕ) × (codes "cosem-flow: out of memory\n" ≡ front ++ left) × Appends before after front
 
 -- what the program does for words, up to its exit status: what they ask for, and then it tells on standard output and standard error how that ended
 pub record Runs (reads : MayRead) (ws : List (List ℕ)) (before after : Moment) (error_before error_after : Option (List ℕ)) (status : ℕ) : Type 0 where

@@ -2,7 +2,7 @@
 ghost use Rattle.std.specs.Prelude.{◌≡◌, ◌⊎◌, IfOk, map, string_bytes, true};
 ghost use Rattle.command_words.specs.Commands.{command_of};
 ghost use Rattle.config_reader.specs.ConfigOf.{config_of};
-ghost use Rattle.meter_server.specs.Answering.{Does, Runs, TellsError, is_quiet};
+ghost use Rattle.meter_server.specs.Answering.{Does, Runs, TellsError, WritesError, is_quiet};
 ghost use Rattle.meter_server.specs.Connecting.{AnswersFrames};
 ghost use Rattle.meter_server.specs.Listing.{WritesText};
 ghost use Rattle.meter_server.specs.Outcomes as outcomes;
@@ -347,12 +347,20 @@ fn write_verdict<O: Write>(
     Ok(())
 }
 
-/// Tells on the error stream how a command ended.
+/// Tells on the error stream how a command ended. A write that fails there ends the telling: no stream is left to tell of it.
 fn tell<E: Write>(alloc: Global, outcome: &Outcome, errors: &mut E)
     ensures { TellsError outcome.now (E.contents errors.old) (E.contents errors.new) }
 {
-    let _ = match outcome.error(alloc) {
-        Ok(text) => write_whole(errors, text.as_bytes()),
-        Err(_) => write_whole(errors, b"cosem-flow: out of memory\n"),
-    };
+    if let Err(ListFault::Memory) = write_error(alloc, outcome, errors) {
+        let _ = write_whole(errors, b"cosem-flow: out of memory\n");
+    }
+}
+
+/// Writes on the error stream how a command ended; nothing, where memory is refused.
+fn write_error<E: Write>(alloc: Global, outcome: &Outcome, errors: &mut E) -> Result<(), ListFault>
+    ensures { WritesError outcome.now (E.contents errors.old) (E.contents errors.new) result }
+{
+    let text = outcome.error(alloc)?;
+    write_whole(errors, text.as_bytes())?;
+    Ok(())
 }

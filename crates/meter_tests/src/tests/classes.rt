@@ -59,6 +59,18 @@ fn limits_are_met_exactly(rt: HostRuntime) -> Result<(), Fail> {
     Ok(())
 }
 
+static STEPS_OF_DATA: [Step<'static>; 9] = [
+    Step::Shows(1, &[0x09, 0x06, 0, 0, 96, 1, 0, 255]),
+    Step::Hides(0),
+    Step::Hides(3),
+    Step::Writes(1, &[0x12, 0, 2], Err(ClassFault::NotSettable)),
+    Step::Writes(3, &[0x12, 0, 2], Err(ClassFault::NoIndex)),
+    Step::Writes(2, &[0x11, 2], Err(ClassFault::Kind)),
+    Step::Shows(2, &[0x12, 0, 1]),
+    Step::Writes(2, &[0x12, 0, 2], Ok(())),
+    Step::Shows(2, &[0x12, 0, 2]),
+];
+
 #[test]
 fn data_is_read_and_written(rt: HostRuntime) -> Result<(), Fail> {
     let part = DataPart {
@@ -71,18 +83,7 @@ fn data_is_read_and_written(rt: HostRuntime) -> Result<(), Fail> {
     let mut object = Data1 {
         value: Data::LongUnsigned(1),
     };
-    let steps = [
-        Step::Shows(1, &[0x09, 0x06, 0, 0, 96, 1, 0, 255]),
-        Step::Hides(0),
-        Step::Hides(3),
-        Step::Writes(1, &[0x12, 0, 2], Err(ClassFault::NotSettable)),
-        Step::Writes(3, &[0x12, 0, 2], Err(ClassFault::NoIndex)),
-        Step::Writes(2, &[0x11, 2], Err(ClassFault::Kind)),
-        Step::Shows(2, &[0x12, 0, 1]),
-        Step::Writes(2, &[0x12, 0, 2], Ok(())),
-        Step::Shows(2, &[0x12, 0, 2]),
-    ];
-    take(&rt, rt.alloc(), lent, &mut object, &steps)
+    take(&rt, rt.alloc(), lent, &mut object, &STEPS_OF_DATA)
 }
 
 /// What a plan lends of a register with this part.
@@ -111,6 +112,18 @@ fn call(
     )
 }
 
+static STEPS_OF_A_REGISTER: [Step<'static>; 8] = [
+    Step::Shows(1, &[0x09, 0x06, 1, 0, 1, 8, 0, 255]),
+    Step::Shows(3, &[0x02, 0x02, 0x0F, 0xFD, 0x16, 30]),
+    Step::Hides(4),
+    Step::Writes(1, &[0x06, 0, 0, 0, 8], Err(ClassFault::NotSettable)),
+    Step::Writes(3, &[0x06, 0, 0, 0, 8], Err(ClassFault::NotSettable)),
+    Step::Writes(2, &[0x05, 0, 0, 0, 8], Err(ClassFault::Kind)),
+    // 123,457 is 0x1E241.
+    Step::Shows(2, &[0x06, 0x00, 0x01, 0xE2, 0x41]),
+    Step::Writes(2, &[0x06, 0, 0, 0, 8], Ok(())),
+];
+
 /// Writes a register, and calls its methods: a reset puts the default.
 fn writes_and_resets(
     rt: &impl Abort,
@@ -118,18 +131,7 @@ fn writes_and_resets(
     part: &RegisterPart,
     object: &mut Register,
 ) -> Result<(), Fail> {
-    let writes = [
-        Step::Shows(1, &[0x09, 0x06, 1, 0, 1, 8, 0, 255]),
-        Step::Shows(3, &[0x02, 0x02, 0x0F, 0xFD, 0x16, 30]),
-        Step::Hides(4),
-        Step::Writes(1, &[0x06, 0, 0, 0, 8], Err(ClassFault::NotSettable)),
-        Step::Writes(3, &[0x06, 0, 0, 0, 8], Err(ClassFault::NotSettable)),
-        Step::Writes(2, &[0x05, 0, 0, 0, 8], Err(ClassFault::Kind)),
-        // 123,457 is 0x1E241.
-        Step::Shows(2, &[0x06, 0x00, 0x01, 0xE2, 0x41]),
-        Step::Writes(2, &[0x06, 0, 0, 0, 8], Ok(())),
-    ];
-    take(rt, a, lent(part), object, &writes)?;
+    take(rt, a, lent(part), object, &STEPS_OF_A_REGISTER)?;
     let other = call(a, part, object, 2).err();
     assert!(rt; other == Some(ClassFault::NoIndex), "{other:?}");
     shows(rt, a, lent(part), object, 2, &[0x06, 0, 0, 0, 8])?;

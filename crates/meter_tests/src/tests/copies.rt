@@ -78,11 +78,24 @@ fn is_the_get(step: &Step) -> bool {
     }
 }
 
+/// A copy of a SET, of a GET and of a reply equals what it was made of.
+fn sets_are_copied(alloc: Global) -> Result<bool, Memory> {
+    Ok(is_the_set(&copied_set(alloc)?))
+}
+
+fn gets_are_copied(alloc: Global) -> Result<bool, Memory> {
+    Ok(is_the_get(&copied_get(alloc)?))
+}
+
+fn replies_are_copied(alloc: Global) -> Result<bool, Memory> {
+    let reply = Reply::Value(text(alloc)?).try_clone(alloc)?;
+    Ok(matches!(&reply, Reply::Value(value) if is_text(value)))
+}
+
 #[test]
 fn copies_equal_their_originals(rt: HostRuntime) -> Result<(), Fail> {
-    assert!(rt; is_the_set(&copied_set(rt.alloc())?));
-    assert!(rt; is_the_get(&copied_get(rt.alloc())?));
-    let reply = Reply::Value(text(rt.alloc())?).try_clone(rt.alloc())?;
-    assert!(rt; matches!(&reply, Reply::Value(value) if is_text(value)));
+    assert!(rt; sets_are_copied(rt.alloc())?);
+    assert!(rt; gets_are_copied(rt.alloc())?);
+    assert!(rt; replies_are_copied(rt.alloc())?);
     Ok(())
 }

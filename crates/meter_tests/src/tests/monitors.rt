@@ -80,28 +80,29 @@ pub(crate) const ONE_PAIR: [u8; 30] = [
     0x02, 0x02, 0x09, 0x06, 0x00, 0x00, 0x0A, 0x00, 0x64, 0xFF, 0x12, 0x00, 0x02, // script 2
 ];
 
+static STEPS: [Step<'static>; 15] = [
+    Step::Shows(1, &[0x09, 0x06, 0, 0, 16, 1, 0, 255]),
+    Step::Shows(3, &MONITORED_VALUE),
+    Step::Shows(4, &ONE_PAIR),
+    Step::Hides(0),
+    Step::Hides(5),
+    Step::Writes(0, &[0x00], Err(ClassFault::NoIndex)),
+    Step::Writes(5, &[0x00], Err(ClassFault::NoIndex)),
+    Step::Writes(1, &[0x00], Err(ClassFault::NotSettable)),
+    Step::Writes(3, &[0x00], Err(ClassFault::NotSettable)),
+    Step::Writes(4, &[0x00], Err(ClassFault::NotSettable)),
+    Step::Writes(2, &[0x00], Err(ClassFault::Kind)),
+    Step::Writes(2, &TWO_THRESHOLDS, Err(ClassFault::Rule)),
+    Step::Shows(2, &ONE_THRESHOLD),
+    Step::Writes(2, &[0x01, 0x01, 0x06, 0, 0, 0, 7], Ok(())),
+    Step::Shows(2, &[0x01, 0x01, 0x06, 0, 0, 0, 7]),
+];
+
 #[test]
 fn a_monitor_is_read_and_its_thresholds_written(rt: HostRuntime) -> Result<(), Fail> {
-    let steps = [
-        Step::Shows(1, &[0x09, 0x06, 0, 0, 16, 1, 0, 255]),
-        Step::Shows(3, &MONITORED_VALUE),
-        Step::Shows(4, &ONE_PAIR),
-        Step::Hides(0),
-        Step::Hides(5),
-        Step::Writes(0, &[0x00], Err(ClassFault::NoIndex)),
-        Step::Writes(5, &[0x00], Err(ClassFault::NoIndex)),
-        Step::Writes(1, &[0x00], Err(ClassFault::NotSettable)),
-        Step::Writes(3, &[0x00], Err(ClassFault::NotSettable)),
-        Step::Writes(4, &[0x00], Err(ClassFault::NotSettable)),
-        Step::Writes(2, &[0x00], Err(ClassFault::Kind)),
-        Step::Writes(2, &TWO_THRESHOLDS, Err(ClassFault::Rule)),
-        Step::Shows(2, &ONE_THRESHOLD),
-        Step::Writes(2, &[0x01, 0x01, 0x06, 0, 0, 0, 7], Ok(())),
-        Step::Shows(2, &[0x01, 0x01, 0x06, 0, 0, 0, 7]),
-    ];
     let a = rt.alloc();
     let part = monitor_part(a)?;
-    take(&rt, a, watch(&part), &mut monitor(a, &part)?, &steps)
+    take(&rt, a, watch(&part), &mut monitor(a, &part)?, &STEPS)
 }
 
 /// This script alone is due at this value, or none, and the value is remembered.

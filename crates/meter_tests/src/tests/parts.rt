@@ -16,22 +16,16 @@ use std::test::Fail;
 /// The name of an object with each of the parts.
 const NAME: LogicalName = LogicalName([1, 0, 99, 1, 0, 255]);
 
-fn profile(alloc: Global) -> Result<Part, Fail> {
-    Ok(Part::ProfileGeneric(two_entries(alloc)?))
-}
-
-fn table(alloc: Global) -> Result<Part, Fail> {
-    Ok(Part::ScriptTable(scripts(alloc)?))
-}
-
-/// A monitor with one threshold.
-fn monitor(alloc: Global) -> Result<Part, Fail> {
-    Ok(Part::RegisterMonitor(monitor_part(alloc)?))
-}
-
-/// A schedule of type 1: one time, with wildcards.
-fn schedule(alloc: Global) -> Result<Part, Fail> {
-    Ok(Part::SingleActionSchedule(schedule_part(alloc)?))
+/// A part of an object of this class: a profile of two entries, two scripts, a monitor with one threshold, a schedule of type 1 with
+/// one time, with wildcards.
+fn part_of(alloc: Global, class_id: u16) -> Result<Part, Fail> {
+    Ok(match class_id {
+        7 => Part::ProfileGeneric(two_entries(alloc)?),
+        9 => Part::ScriptTable(scripts(alloc)?),
+        21 => Part::RegisterMonitor(monitor_part(alloc)?),
+        22 => Part::SingleActionSchedule(schedule_part(alloc)?),
+        _ => return Err("a class without a part".into()),
+    })
 }
 
 /// The start value at this index, if these are the cells.
@@ -44,15 +38,27 @@ fn start_at<'a>(cells: &[(u8, &'a [u8])], index: u8) -> Option<&'a [u8]> {
     None
 }
 
-/// An object with this part has these cells of the class and no other, and each starts with a value of the kind of the one
-/// that these bytes encode.
-fn starts(
-    rt: &impl Abort,
-    a: Global,
-    part: Part,
-    class_id: u16,
-    cells: &[(u8, &[u8])],
-) -> Result<(), Fail> {
+/// A class, and the cells of its part, each with the bytes that encode a value of its kind.
+type Start = (u16, &'static [(u8, &'static [u8])]);
+
+/// The cells of a profile at the start are an empty buffer, 900 seconds, and no entry in use.
+static STARTS: [Start; 4] = [
+    (
+        7,
+        &[
+            (2, &[0x01, 0x00]),
+            (4, &[0x06, 0, 0, 0x03, 0x84]),
+            (7, &[0x06, 0, 0, 0, 0]),
+        ],
+    ),
+    (9, &[]),
+    (21, &[(2, &ONE_THRESHOLD), (Monitor::SEEN, &[0x00])]),
+    (22, &[(4, &EACH_MONTH_END)]),
+];
+
+/// An object with this part has these cells of the class and no other, and each starts with a value of this kind.
+fn starts(rt: &impl Abort, a: Global, part: &Part, start: &Start) -> Result<(), Fail> {
+    let (class_id, cells) = *start;
     for index in 0..=16 {
         let cell = CellRef {
             class_id,
@@ -70,71 +76,77 @@ fn starts(
     Ok(())
 }
 
-/// The cells of a profile at the start: an empty buffer, 900 seconds, and no entry in use.
-const PROFILE_START: [(u8, &[u8]); 3] = [
-    (2, &[0x01, 0x00]),
-    (4, &[0x06, 0, 0, 0x03, 0x84]),
-    (7, &[0x06, 0, 0, 0, 0]),
+/// A class, a fixed attribute of its part, and the bytes that encode its value.
+type Fixed = (u16, u8, &'static [u8]);
+
+/// A cell isn't fixed.
+static FIXED: [Fixed; 7] = [
+    (7, 8, &[0x06, 0, 0, 0, 2]),
+    (9, 2, &TWO_SCRIPTS),
+    (21, 3, &MONITORED_VALUE),
+    (21, 4, &ONE_PAIR),
+    (22, 2, &SCRIPT_OF_TABLE),
+    (22, 3, &[0x16, 0x01]),
+    (21, 2, &[0x00]),
 ];
 
-#[test]
-fn parts_start_with_their_cells(rt: HostRuntime) -> Result<(), Fail> {
-    let a = rt.alloc();
-    starts(&rt, a, profile(a)?, 7, &PROFILE_START)?;
-    starts(&rt, a, table(a)?, 9, &[])?;
-    starts(
-        &rt,
-        a,
-        monitor(a)?,
-        21,
-        &[(2, &ONE_THRESHOLD), (Monitor::SEEN, &[0x00])],
-    )?;
-    starts(&rt, a, schedule(a)?, 22, &[(4, &EACH_MONTH_END)])
-}
-
-/// The fixed attribute is the value that these bytes encode.
-fn fixes(rt: &impl Abort, a: Global, part: Part, index: u8, bytes: &[u8]) -> Result<(), Fail> {
-    is_encoded(rt, a, &part.fixed(a, index)?, bytes)
-}
-
-#[test]
-fn parts_fix_attributes(rt: HostRuntime) -> Result<(), Fail> {
-    let a = rt.alloc();
-    fixes(&rt, a, profile(a)?, 8, &[0x06, 0, 0, 0, 2])?;
-    fixes(&rt, a, table(a)?, 2, &TWO_SCRIPTS)?;
-    fixes(&rt, a, monitor(a)?, 3, &MONITORED_VALUE)?;
-    fixes(&rt, a, monitor(a)?, 4, &ONE_PAIR)?;
-    fixes(&rt, a, schedule(a)?, 2, &SCRIPT_OF_TABLE)?;
-    fixes(&rt, a, schedule(a)?, 3, &[0x16, 0x01])?;
-    // A cell isn't fixed.
-    fixes(&rt, a, monitor(a)?, 2, &[0x00])
-}
-
-/// This is judged of the value that these bytes encode, where a register monitor watches a double-long-unsigned.
-fn judges(
-    rt: &impl Abort,
-    a: Global,
-    part: Part,
-    (index, bytes): (u8, &[u8]),
-    want: Result<(), AccessCode>,
-) -> Result<(), Fail> {
-    let value = value_of(rt, a, bytes)?;
-    let judged = part.judge(Kind::DoubleLongUnsigned, index, &value);
-    assert!(rt; judged == want, "{judged:?} at {index}");
+/// The part fixes attributes so.
+fn fixes(rt: &impl Abort, a: Global, part: &Part, of_class: u16) -> Result<(), Fail> {
+    for (class_id, index, bytes) in &FIXED {
+        if *class_id == of_class {
+            is_encoded(rt, a, &part.fixed(a, *index)?, bytes)?;
+        }
+    }
     Ok(())
 }
 
+/// A class, an attribute of its part, and what is judged of the value that these bytes encode, where a register monitor watches a
+/// double-long-unsigned.
+type Judged = (u16, u8, &'static [u8], Result<(), AccessCode>);
+
+const UNMATCHED: Result<(), AccessCode> = Err(AccessCode::TypeUnmatched);
+
+const OTHER: Result<(), AccessCode> = Err(AccessCode::OtherReason);
+
+static JUDGED: [Judged; 8] = [
+    (7, 4, &[0x06, 0, 0, 0, 60], Ok(())),
+    (7, 4, &[0x12, 0, 60], UNMATCHED),
+    (7, 7, &[0x06, 0, 0, 0, 60], UNMATCHED),
+    (9, 2, &[0x06, 0, 0, 0, 60], UNMATCHED),
+    (21, 2, &ONE_THRESHOLD, Ok(())),
+    (21, 2, &TWO_THRESHOLDS, OTHER),
+    (22, 4, &EACH_MONTH_END, Ok(())),
+    (22, 4, &TWO_NOONS, OTHER),
+];
+
+/// The part judges values so.
+fn judges(rt: &impl Abort, a: Global, part: &Part, of_class: u16) -> Result<(), Fail> {
+    for (class_id, index, bytes, want) in &JUDGED {
+        if *class_id == of_class {
+            let judged = part.judge(Kind::DoubleLongUnsigned, *index, &value_of(rt, a, bytes)?);
+            assert!(rt; judged == *want, "{judged:?} at {index}");
+        }
+    }
+    Ok(())
+}
+
+/// A part is as all three tables have it. It is lent to what tries it, since an owner has to drop it at each of its ends, which is
+/// long to prove.
+fn is_told(rt: &impl Abort, a: Global, start: &Start) -> Result<(), Fail> {
+    let part = part_of(a, start.0)?;
+    is_all(rt, a, &part, start)
+}
+
+fn is_all(rt: &impl Abort, a: Global, part: &Part, start: &Start) -> Result<(), Fail> {
+    starts(rt, a, part, start)?;
+    fixes(rt, a, part, start.0)?;
+    judges(rt, a, part, start.0)
+}
+
 #[test]
-fn parts_judge_values(rt: HostRuntime) -> Result<(), Fail> {
-    let a = rt.alloc();
-    let unmatched = Err(AccessCode::TypeUnmatched);
-    let other = Err(AccessCode::OtherReason);
-    judges(&rt, a, profile(a)?, (4, &[0x06, 0, 0, 0, 60]), Ok(()))?;
-    judges(&rt, a, profile(a)?, (4, &[0x12, 0, 60]), unmatched)?;
-    judges(&rt, a, profile(a)?, (7, &[0x06, 0, 0, 0, 60]), unmatched)?;
-    judges(&rt, a, table(a)?, (2, &[0x06, 0, 0, 0, 60]), unmatched)?;
-    judges(&rt, a, monitor(a)?, (2, &ONE_THRESHOLD), Ok(()))?;
-    judges(&rt, a, monitor(a)?, (2, &TWO_THRESHOLDS), other)?;
-    judges(&rt, a, schedule(a)?, (4, &EACH_MONTH_END), Ok(()))?;
-    judges(&rt, a, schedule(a)?, (4, &TWO_NOONS), other)
+fn parts_are_as_their_classes_have_them(rt: HostRuntime) -> Result<(), Fail> {
+    for start in &STARTS {
+        is_told(&rt, rt.alloc(), start)?;
+    }
+    Ok(())
 }

@@ -52,31 +52,32 @@ pub(crate) const TWO_NOONS: [u8; 32] = [
     0x02, 0x02, 0x09, 0x04, 12, 0, 0, 0, 0x09, 0x05, 0x07, 0xEA, 12, 24, 0xFF,
 ];
 
+static STEPS: [Step<'static>; 15] = [
+    Step::Shows(1, &[0x09, 0x06, 0, 0, 15, 0, 0, 255]),
+    Step::Shows(2, &SCRIPT_OF_TABLE),
+    Step::Shows(3, &[0x16, 0x01]),
+    Step::Hides(0),
+    Step::Hides(5),
+    Step::Writes(0, &[0x00], Err(ClassFault::NoIndex)),
+    Step::Writes(5, &[0x00], Err(ClassFault::NoIndex)),
+    Step::Writes(1, &[0x00], Err(ClassFault::NotSettable)),
+    Step::Writes(2, &[0x00], Err(ClassFault::NotSettable)),
+    Step::Writes(3, &[0x00], Err(ClassFault::NotSettable)),
+    Step::Writes(4, &[0x00], Err(ClassFault::Kind)),
+    Step::Writes(4, &TWO_NOONS, Err(ClassFault::Rule)),
+    // The start is kept.
+    Step::Shows(4, &EACH_MONTH_END),
+    Step::Writes(4, &ONE_NOON, Ok(())),
+    Step::Shows(4, &ONE_NOON),
+];
+
 #[test]
 fn a_schedule_is_read_and_its_times_written(rt: HostRuntime) -> Result<(), Fail> {
-    let steps = [
-        Step::Shows(1, &[0x09, 0x06, 0, 0, 15, 0, 0, 255]),
-        Step::Shows(2, &SCRIPT_OF_TABLE),
-        Step::Shows(3, &[0x16, 0x01]),
-        Step::Hides(0),
-        Step::Hides(5),
-        Step::Writes(0, &[0x00], Err(ClassFault::NoIndex)),
-        Step::Writes(5, &[0x00], Err(ClassFault::NoIndex)),
-        Step::Writes(1, &[0x00], Err(ClassFault::NotSettable)),
-        Step::Writes(2, &[0x00], Err(ClassFault::NotSettable)),
-        Step::Writes(3, &[0x00], Err(ClassFault::NotSettable)),
-        Step::Writes(4, &[0x00], Err(ClassFault::Kind)),
-        Step::Writes(4, &TWO_NOONS, Err(ClassFault::Rule)),
-        // The start is kept.
-        Step::Shows(4, &EACH_MONTH_END),
-        Step::Writes(4, &ONE_NOON, Ok(())),
-        Step::Shows(4, &ONE_NOON),
-    ];
     let a = rt.alloc();
     let part = schedule_part(a)?;
     let lent = Lent {
         name: SCHEDULE,
         part: &part,
     };
-    take(&rt, a, lent, &mut schedule(a, &part)?, &steps)
+    take(&rt, a, lent, &mut schedule(a, &part)?, &STEPS)
 }

@@ -97,18 +97,19 @@ fn calls(
     Ok(())
 }
 
+static STEPS: [Step<'static>; 7] = [
+    Step::Shows(1, &[0x09, 0x06, 0, 0, 10, 0, 100, 255]),
+    Step::Shows(2, &TWO_SCRIPTS),
+    Step::Hides(0),
+    Step::Hides(3),
+    Step::Writes(1, &[0x00], Err(ClassFault::NotSettable)),
+    Step::Writes(2, &[0x00], Err(ClassFault::NotSettable)),
+    Step::Writes(3, &[0x00], Err(ClassFault::NoIndex)),
+];
+
 /// Shows its scripts, which a long-unsigned calls. Script 0 is the null script.
 fn is_read_and_called(rt: &impl Abort, a: Global, part: &ScriptTablePart) -> Result<(), Fail> {
-    let steps = [
-        Step::Shows(1, &[0x09, 0x06, 0, 0, 10, 0, 100, 255]),
-        Step::Shows(2, &TWO_SCRIPTS),
-        Step::Hides(0),
-        Step::Hides(3),
-        Step::Writes(1, &[0x00], Err(ClassFault::NotSettable)),
-        Step::Writes(2, &[0x00], Err(ClassFault::NotSettable)),
-        Step::Writes(3, &[0x00], Err(ClassFault::NoIndex)),
-    ];
-    take(rt, a, lent(part), &mut ScriptTable, &steps)?;
+    take(rt, a, lent(part), &mut ScriptTable, &STEPS)?;
     let unknown = Err(ClassFault::UnknownScript);
     calls(rt, a, part, (1, &[0x12, 0, 0]), Ok(()))?;
     calls(rt, a, part, (1, &[0x12, 0, 1]), Ok(()))?;

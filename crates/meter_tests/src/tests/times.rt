@@ -27,53 +27,56 @@ pub(crate) fn element(alloc: Global, time: &[u8], date: &[u8]) -> Result<Data, M
     structure(alloc, [time, date])
 }
 
+/// A time, a date, and whether they make an element.
+static ELEMENTS: [([u8; 4], [u8; 5], bool); 19] = [
+    ([23, 59, 59, 0], ONE_DAY, true),
+    ([0xFF; 4], [0xFF; 5], true),
+    ([24, 0, 0, 0], ONE_DAY, false),
+    ([0, 60, 0, 0], ONE_DAY, false),
+    ([0, 0, 60, 0], ONE_DAY, false),
+    ([0, 0, 0, 1], ONE_DAY, false),
+    // The years 9999 and 10000.
+    (NOON, [0x27, 0x0F, 1, 1, 1], true),
+    (NOON, [0x27, 0x10, 1, 1, 1], false),
+    (NOON, [0x07, 0xEA, 0, 1, 1], false),
+    (NOON, [0x07, 0xEA, 13, 1, 1], false),
+    (NOON, [0x07, 0xEA, 0xFD, 1, 1], false),
+    (NOON, [0x07, 0xEA, 12, 0, 1], false),
+    (NOON, [0x07, 0xEA, 12, 31, 7], true),
+    (NOON, [0x07, 0xEA, 12, 32, 1], false),
+    (NOON, [0x07, 0xEA, 12, 0xFC, 1], false),
+    (NOON, [0x07, 0xEA, 12, 0xFD, 1], true),
+    (NOON, [0x07, 0xEA, 12, 0xFE, 1], true),
+    (NOON, [0x07, 0xEA, 12, 1, 0], false),
+    (NOON, [0x07, 0xEA, 12, 1, 8], false),
+];
+
 #[test]
 fn fields_keep_to_their_ranges(rt: HostRuntime) -> Result<(), Fail> {
-    let cases = [
-        ([23, 59, 59, 0], ONE_DAY, true),
-        ([0xFF; 4], [0xFF; 5], true),
-        ([24, 0, 0, 0], ONE_DAY, false),
-        ([0, 60, 0, 0], ONE_DAY, false),
-        ([0, 0, 60, 0], ONE_DAY, false),
-        ([0, 0, 0, 1], ONE_DAY, false),
-        // The years 9999 and 10000.
-        (NOON, [0x27, 0x0F, 1, 1, 1], true),
-        (NOON, [0x27, 0x10, 1, 1, 1], false),
-        (NOON, [0x07, 0xEA, 0, 1, 1], false),
-        (NOON, [0x07, 0xEA, 13, 1, 1], false),
-        (NOON, [0x07, 0xEA, 0xFD, 1, 1], false),
-        (NOON, [0x07, 0xEA, 12, 0, 1], false),
-        (NOON, [0x07, 0xEA, 12, 31, 7], true),
-        (NOON, [0x07, 0xEA, 12, 32, 1], false),
-        (NOON, [0x07, 0xEA, 12, 0xFC, 1], false),
-        (NOON, [0x07, 0xEA, 12, 0xFD, 1], true),
-        (NOON, [0x07, 0xEA, 12, 0xFE, 1], true),
-        (NOON, [0x07, 0xEA, 12, 1, 0], false),
-        (NOON, [0x07, 0xEA, 12, 1, 8], false),
-    ];
-    for (time, date, want) in &cases {
+    for (time, date, want) in &ELEMENTS {
         let is_element = is_execution_time(&element(rt.alloc(), time, date)?);
         assert!(rt; is_element == *want, "{time:?} of {date:?}");
     }
     Ok(())
 }
 
+static OTHERS: [&[u8]; 5] = [
+    // A structure of noon, one of noon and null-data, and null-data.
+    &[0x02, 0x01, 0x09, 0x04, 12, 0, 0, 0],
+    &[0x02, 0x02, 0x09, 0x04, 12, 0, 0, 0, 0x00],
+    &[0x00],
+    // A time of three bytes, and a date of six.
+    &[
+        0x02, 0x02, 0x09, 3, 12, 0, 0, 0x09, 5, 0x07, 0xEA, 12, 24, 0xFF,
+    ],
+    &[
+        0x02, 0x02, 0x09, 4, 12, 0, 0, 0, 0x09, 6, 0x07, 0xEA, 12, 24, 0xFF, 0,
+    ],
+];
+
 #[test]
 fn elements_have_a_time_and_a_date(rt: HostRuntime) -> Result<(), Fail> {
-    let others: [&[u8]; 5] = [
-        // A structure of noon, one of noon and null-data, and null-data.
-        &[0x02, 0x01, 0x09, 0x04, 12, 0, 0, 0],
-        &[0x02, 0x02, 0x09, 0x04, 12, 0, 0, 0, 0x00],
-        &[0x00],
-        // A time of three bytes, and a date of six.
-        &[
-            0x02, 0x02, 0x09, 3, 12, 0, 0, 0x09, 5, 0x07, 0xEA, 12, 24, 0xFF,
-        ],
-        &[
-            0x02, 0x02, 0x09, 4, 12, 0, 0, 0, 0x09, 6, 0x07, 0xEA, 12, 24, 0xFF, 0,
-        ],
-    ];
-    for bytes in others {
+    for bytes in OTHERS {
         let value = value_of(&rt, rt.alloc(), bytes)?;
         assert!(rt; !is_execution_time(&value), "{bytes:?}");
     }
