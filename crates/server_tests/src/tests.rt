@@ -1,7 +1,5 @@
 mod callers;
-mod edges;
 mod faults;
-mod labels;
 mod lines;
 mod plans;
 mod progress;

@@ -50,8 +50,29 @@ fn seen_under_lock<N: Naming, S: Ledger, C: Ledger, W: Wait + Drop, R: Wait>(
     seen(alloc, reader)
 }
 
-/// A value comes into the register, and is read back without the lock. Where the step is refused for memory, it is taken once more;
-/// where its telling is refused, the reader sees the old value until it is told.
+/// A value comes into the register, and has no answer. Where the step is refused for memory, it is taken once more. Whether the
+/// reader is told of it.
+fn put<N: Naming, S: Ledger, C: Ledger, W: Wait + Drop, R: Wait + Abort>(
+    rt: &R,
+    alloc: Global,
+    port: &Port<'_, N, S, C, W>,
+    share: &mut Share<S, C>,
+    reader: &mut BoardReader<N>,
+    value: u32,
+) -> Result<bool, Fail> {
+    let put = match port.put(rt, alloc, share, reader, energy_is(value)) {
+        Err(LiveFault::Memory) => port.put(rt, alloc, share, reader, energy_is(value)),
+        put => put,
+    };
+    let Ok((reply, told)) = put else {
+        return Err("refused once more".into());
+    };
+    assert!(rt; is_quiet(&reply));
+    Ok(told)
+}
+
+/// A value comes into the register, and is read back without the lock. Where its telling is refused for memory, the reader sees the
+/// old value until it is told.
 fn put_and_read<N: Naming, S: Ledger, C: Ledger, W: Wait + Drop, R: Wait + Abort>(
     rt: &R,
     alloc: Global,
@@ -61,15 +82,7 @@ fn put_and_read<N: Naming, S: Ledger, C: Ledger, W: Wait + Drop, R: Wait + Abort
     old: u32,
     new: u32,
 ) -> Result<(), Fail> {
-    let put = match port.put(rt, alloc, share, reader, energy_is(new)) {
-        Err(LiveFault::Memory) => port.put(rt, alloc, share, reader, energy_is(new)),
-        put => put,
-    };
-    let Ok((reply, told)) = put else {
-        return Err("refused once more".into());
-    };
-    assert!(rt; is_quiet(&reply));
-    if !told {
+    if !put(rt, alloc, port, share, reader, new)? {
         assert_eq!(rt; seen(alloc, reader), Some(u64::from(old)));
         port.tell(rt, share, reader)?;
     }
@@ -77,9 +90,38 @@ fn put_and_read<N: Naming, S: Ledger, C: Ledger, W: Wait + Drop, R: Wait + Abort
     Ok(())
 }
 
-/// Opens a port and its reader, where memory is refused at most once, takes three values in, reads while
-/// the lock is held, and is denied once. A second reader
-/// isn't given.
+/// A step is denied, where memory is refused at most once.
+fn is_denied<N: Naming, S: Ledger, C: Ledger, W: Wait + Drop, R: Wait + Abort>(
+    rt: &R,
+    alloc: Global,
+    port: &Port<'_, N, S, C, W>,
+    share: &mut Share<S, C>,
+) {
+    let denied = match port.act(rt, alloc, share, set_denied()) {
+        Err(LiveFault::Memory) => port.act(rt, alloc, share, set_denied()),
+        denied => denied,
+    };
+    assert!(rt; denied.is_ok_and(|reply| !is_success(&reply)));
+}
+
+/// Takes three values in, reads while the lock is held, and is denied once.
+fn use_reader<N: Naming, S: Ledger, C: Ledger, W: Wait + Drop, R: Wait + Abort>(
+    rt: &R,
+    alloc: Global,
+    board: &Board<N, S, C, W>,
+    port: &Port<'_, N, S, C, W>,
+    share: &mut Share<S, C>,
+    reader: &mut BoardReader<N>,
+) -> Result<(), Fail> {
+    put_and_read(rt, alloc, port, share, reader, ENERGY, 5)?;
+    put_and_read(rt, alloc, port, share, reader, 5, 7)?;
+    put_and_read(rt, alloc, port, share, reader, 7, 0)?;
+    assert_eq!(rt; seen_under_lock(rt, alloc, board, reader), Some(0));
+    is_denied(rt, alloc, port, share);
+    Ok(())
+}
+
+/// Opens a port and its reader, where memory is refused at most once, and uses both. A second reader isn't given.
 fn use_port<N: Naming, S: Ledger, C: Ledger, W: Wait + Drop, R: Wait + Abort>(
     rt: &R,
     alloc: Global,
@@ -96,15 +138,7 @@ fn use_port<N: Naming, S: Ledger, C: Ledger, W: Wait + Drop, R: Wait + Abort>(
         return Err("no reader".into());
     };
     assert!(rt; port.reader(rt).is_err());
-    put_and_read(rt, alloc, &port, &mut share, &mut reader, ENERGY, 5)?;
-    put_and_read(rt, alloc, &port, &mut share, &mut reader, 5, 7)?;
-    put_and_read(rt, alloc, &port, &mut share, &mut reader, 7, 0)?;
-    assert_eq!(rt; seen_under_lock(rt, alloc, board, &mut reader), Some(0));
-    let denied = match port.act(rt, alloc, &mut share, set_denied()) {
-        Err(LiveFault::Memory) => port.act(rt, alloc, &mut share, set_denied()),
-        denied => denied,
-    };
-    assert!(rt; denied.is_ok_and(|reply| !is_success(&reply)));
+    use_reader(rt, alloc, board, &port, &mut share, &mut reader)?;
     Ok(share)
 }
 

@@ -46,10 +46,7 @@ pub(super) const ENERGY: u32 = 123_456;
 pub(super) fn accepted(alloc: Global) -> Result<Checked, Fail> {
     let (plan, policy) = read_config(alloc, TEXT)?;
     let labels = make_labels(alloc, &plan)?;
-    match check(alloc, plan, &policy, &labels) {
-        Ok(checked) => Ok(checked),
-        Err(_) => Err("the plan is refused".into()),
-    }
+    check(alloc, plan, &policy, &labels).map_err(|_| "the plan is refused".into())
 }
 
 /// The reader reads the value of the register.

@@ -8,6 +8,7 @@ use config_reader::read_config;
 use cosem_data::clients::ClientSet;
 use object_model::meter::Meter;
 use object_model::plan::Plan;
+use object_model::policy::Policy;
 use std::alloc::Global;
 use std::process::Abort;
 use std::test::Fail;
@@ -33,12 +34,10 @@ fn has_cells(rt: &impl Abort, alloc: Global, plan: &Plan) -> Result<(), Fail> {
     Ok(())
 }
 
-#[test]
-fn a_plan_has_its_parts(rt: HostRuntime) -> Result<(), Fail> {
-    let plan = plan_of(rt.alloc(), TEXT)?;
-    has_clients(&rt, &plan)?;
-    has_objects(&rt, &plan)?;
-    has_cells(&rt, rt.alloc(), &plan)
+fn has_its_parts(rt: &impl Abort, alloc: Global, plan: &Plan) -> Result<(), Fail> {
+    has_clients(rt, plan)?;
+    has_objects(rt, plan)?;
+    has_cells(rt, alloc, plan)
 }
 
 /// Of an attribute that is no cell null-data is held.
@@ -70,10 +69,15 @@ fn starts_as_configured(rt: &impl Abort, alloc: Global, plan: &Plan) -> Result<(
     is_copied(rt, alloc, plan, &meter)
 }
 
+fn is_as_configured(rt: &impl Abort, alloc: Global, plan: &Plan) -> Result<(), Fail> {
+    has_its_parts(rt, alloc, plan)?;
+    starts_as_configured(rt, alloc, plan)
+}
+
 #[test]
-fn a_meter_starts_as_configured(rt: HostRuntime) -> Result<(), Fail> {
+fn a_plan_is_as_configured(rt: HostRuntime) -> Result<(), Fail> {
     let plan = plan_of(rt.alloc(), TEXT)?;
-    starts_as_configured(&rt, rt.alloc(), &plan)
+    is_as_configured(&rt, rt.alloc(), &plan)
 }
 
 /// Whether a client is in the set, for public, reader, installer and manager; no other is.
@@ -88,14 +92,18 @@ fn has_just(set: ClientSet, members: [bool; 4]) -> bool {
 }
 
 /// The device has a label of its own, and the alarm that of the policy.
-#[test]
-fn a_policy_labels_each_cell(rt: HostRuntime) -> Result<(), Fail> {
-    let (_plan, policy) = read_config(rt.alloc(), TEXT)?;
+fn labels_each_cell(rt: &impl Abort, policy: &Policy) {
     let alarm = policy.label(&cell(1, ALARM, 2));
     assert!(rt; has_just(alarm.influence, [false, false, false, true]));
     assert!(rt; has_just(alarm.learn, [false, true, false, true]));
     let device = policy.label(&cell(1, DEVICE, 2));
     assert!(rt; has_just(device.influence, [false, false, true, false]));
     assert!(rt; has_just(device.learn, [false, true, true, true]));
+}
+
+#[test]
+fn a_policy_labels_each_cell(rt: HostRuntime) -> Result<(), Fail> {
+    let (_plan, policy) = read_config(rt.alloc(), TEXT)?;
+    labels_each_cell(&rt, &policy);
     Ok(())
 }

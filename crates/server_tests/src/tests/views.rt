@@ -51,12 +51,6 @@ fn have_attributes(rt: &impl Abort, alloc: Global, plan: &Plan, rows: &[Row]) ->
     Ok(())
 }
 
-#[test]
-fn associations_have_their_attributes(rt: HostRuntime) -> Result<(), Fail> {
-    let plan = plan_of(rt.alloc(), TEXT)?;
-    have_attributes(&rt, rt.alloc(), &plan, &ROWS)
-}
-
 /// Attributes that the view of a client without rights is asked for, and their values.
 static READINGS: [(u8, &str); 3] = [(1, "09060000280000FF"), (5, "00"), (8, "1602")];
 
@@ -80,12 +74,6 @@ fn is_seen(rt: &impl Abort, alloc: Global, view: &View) -> Result<(), Fail> {
     Ok(())
 }
 
-#[test]
-fn a_view_is_read(rt: HostRuntime) -> Result<(), Fail> {
-    let plan = plan_of(rt.alloc(), TEXT)?;
-    is_seen(&rt, rt.alloc(), &View::of(&plan, INSTALLER))
-}
-
 /// A GET, a SET and an ACTION of a client are answered so.
 fn are_answered(rt: &impl Abort, plan: &Plan, client: u8, want: Result<(), AccessCode>) {
     let got = permit_get(plan, client, &descriptor((15, ASSOCIATION, 2)), &None);
@@ -105,11 +93,21 @@ fn no_value_is_refused(rt: &impl Abort, plan: &Plan) {
 }
 
 /// The manager may do all of this but set no value; at the place of no client nothing is seen.
-#[test]
-fn requests_are_permitted(rt: HostRuntime) -> Result<(), Fail> {
-    let plan = plan_of(rt.alloc(), TEXT)?;
-    are_answered(&rt, &plan, MANAGER, Ok(()));
-    are_answered(&rt, &plan, NOBODY, Err(AccessCode::ObjectUndefined));
-    no_value_is_refused(&rt, &plan);
+fn requests_are_permitted(rt: &impl Abort, plan: &Plan) {
+    are_answered(rt, plan, MANAGER, Ok(()));
+    are_answered(rt, plan, NOBODY, Err(AccessCode::ObjectUndefined));
+    no_value_is_refused(rt, plan);
+}
+
+fn all_see_their_objects(rt: &impl Abort, alloc: Global, plan: &Plan) -> Result<(), Fail> {
+    have_attributes(rt, alloc, plan, &ROWS)?;
+    is_seen(rt, alloc, &View::of(plan, INSTALLER))?;
+    requests_are_permitted(rt, plan);
     Ok(())
+}
+
+#[test]
+fn clients_see_their_objects(rt: HostRuntime) -> Result<(), Fail> {
+    let plan = plan_of(rt.alloc(), TEXT)?;
+    all_see_their_objects(&rt, rt.alloc(), &plan)
 }

@@ -241,14 +241,23 @@ fn is_filled_and_sent(
     )
 }
 
+/// To clients of all limits go these bytes.
+fn all_are_sent(rt: &impl Abort, alloc: Global, plan: &Plan, bytes: &[u8]) -> Result<(), Memory> {
+    assert_eq!(rt; bytes.len(), 104_004);
+    for sending in &SENDINGS {
+        is_filled_and_sent(rt, alloc, plan, sending, bytes)?;
+    }
+    Ok(())
+}
+
 /// To clients of all limits go the same bytes, those of the buffer as it was when it was asked for.
+fn buffer_is_sent(rt: &impl Abort, alloc: Global, plan: &Plan) -> Result<(), Memory> {
+    let bytes = buffer(alloc)?;
+    all_are_sent(rt, alloc, plan, &bytes)
+}
+
 #[test]
 fn a_long_value_goes_in_blocks(rt: HostRuntime) -> Result<(), Fail> {
     let plan = plan_of(rt.alloc(), TEXT)?;
-    let bytes = buffer(rt.alloc())?;
-    assert_eq!(rt; bytes.len(), 104_004);
-    for sending in &SENDINGS {
-        is_filled_and_sent(&rt, rt.alloc(), &plan, sending, &bytes)?;
-    }
-    Ok(())
+    Ok(buffer_is_sent(&rt, rt.alloc(), &plan)?)
 }

@@ -150,53 +150,41 @@ fn ends(
 /// finds the end.
 static READS: [(u64, u64, usize); 4] = [(1, 39, 0), (40, 60, 51), (61, 73, 71), (74, 74, 84)];
 
-#[test]
-fn a_failing_read_ends_a_connection(rt: HostRuntime) -> Result<(), Fail> {
-    let plan = plan_of(rt.alloc(), TEXT)?;
+fn ends_where_reading_fails(rt: &impl Abort, alloc: Global, plan: &Plan) -> Result<(), Memory> {
     for (first, last, count) in &READS {
+        let end = (Err(ServeFault::Read), *count);
         for call in *first..=*last {
-            ends(
-                &rt,
-                rt.alloc(),
-                &plan,
-                frames(),
-                (call, 0),
-                (Err(ServeFault::Read), *count),
-            )?;
+            ends(rt, alloc, plan, frames(), (call, 0), end)?;
         }
     }
     Ok(())
 }
 
 /// Nothing is written behind the call that fails.
-#[test]
-fn a_failing_write_ends_a_connection(rt: HostRuntime) -> Result<(), Fail> {
-    let plan = plan_of(rt.alloc(), TEXT)?;
+fn ends_where_writing_fails(rt: &impl Abort, alloc: Global, plan: &Plan) -> Result<(), Memory> {
     for count in 0..84 {
-        ends(
-            &rt,
-            rt.alloc(),
-            &plan,
-            frames(),
-            (0, count as u64 + 1),
-            (Err(ServeFault::Write), count),
-        )?;
+        let call = count as u64 + 1;
+        let end = (Err(ServeFault::Write), count);
+        ends(rt, alloc, plan, frames(), (0, call), end)?;
     }
     Ok(())
 }
 
 /// The input ends behind a frame, or inside one.
+fn ends_with_the_input(rt: &impl Abort, alloc: Global, plan: &Plan) -> Result<(), Memory> {
+    ends(rt, alloc, plan, frames(), (0, 0), (Ok(3), 84))?;
+    ends(rt, alloc, plan, &INPUT, (0, 0), (Err(ServeFault::Cut), 84))
+}
+
+/// A connection ends so.
+fn all_end(rt: &impl Abort, alloc: Global, plan: &Plan) -> Result<(), Memory> {
+    ends_with_the_input(rt, alloc, plan)?;
+    ends_where_reading_fails(rt, alloc, plan)?;
+    ends_where_writing_fails(rt, alloc, plan)
+}
+
 #[test]
-fn the_input_ends_a_connection(rt: HostRuntime) -> Result<(), Fail> {
+fn a_failing_call_ends_a_connection(rt: HostRuntime) -> Result<(), Fail> {
     let plan = plan_of(rt.alloc(), TEXT)?;
-    ends(&rt, rt.alloc(), &plan, frames(), (0, 0), (Ok(3), 84))?;
-    ends(
-        &rt,
-        rt.alloc(),
-        &plan,
-        &INPUT,
-        (0, 0),
-        (Err(ServeFault::Cut), 84),
-    )?;
-    Ok(())
+    Ok(all_end(&rt, rt.alloc(), &plan)?)
 }

@@ -118,16 +118,33 @@ fn converses(
     Ok(())
 }
 
+/// All APDUs have their answers, where not at once, then in a second try.
+fn converses_at_last(
+    rt: &impl Abort,
+    alloc: Global,
+    session: &mut Session<'_>,
+    asker: &mut Solo<'_>,
+) -> Result<(), Memory>
+    requires { asker.old.plan ≡ session.old.plan }
+{
+    if converses(rt, alloc, session, asker).is_ok() {
+        return Ok(());
+    }
+    converses(rt, alloc, session, asker)
+}
+
+/// A new meter's session answers all at last.
+fn session_goes_on(rt: &impl Abort, alloc: Global, plan: &Plan) -> Result<(), Memory> {
+    let mut asker = Solo::new(plan, started(plan, alloc)?);
+    let mut session = Session::new(plan);
+    converses_at_last(rt, alloc, &mut session, &mut asker)
+}
+
 /// Whichever growth is refused, the session goes on, or begins anew and answers all then.
 #[test]
 fn a_refused_growth_leaves_a_session(rt: HostRuntime) -> Result<(), Fail> {
     let plan = plan_of(rt.alloc(), TEXT)?;
-    let mut asker = Solo::new(&plan, started(&plan, rt.alloc())?);
-    let mut session = Session::new(&plan);
-    if converses(&rt, rt.alloc(), &mut session, &mut asker).is_err() {
-        converses(&rt, rt.alloc(), &mut session, &mut asker)?;
-    }
-    Ok(())
+    Ok(session_goes_on(&rt, rt.alloc(), &plan)?)
 }
 
 /// As `ANSWERS`, but the GET is answered by temporary-failure.
@@ -157,14 +174,19 @@ fn is_served(rt: &impl Abort, alloc: Global, plan: &Plan) -> Result<(), Memory> 
     Err(Memory)
 }
 
+/// A connection that is cut is followed by one that isn't.
+fn is_served_at_last(rt: &impl Abort, alloc: Global, plan: &Plan) -> Result<(), Memory> {
+    if is_served(rt, alloc, plan).is_ok() {
+        return Ok(());
+    }
+    is_served(rt, alloc, plan)
+}
+
 /// Whichever growth is refused, a connection ends in all answers, or is cut behind one; and all is answered in the next one.
 #[test]
 fn a_refused_growth_cuts_no_answer(rt: HostRuntime) -> Result<(), Fail> {
     let plan = plan_of(rt.alloc(), TEXT)?;
-    if is_served(&rt, rt.alloc(), &plan).is_err() {
-        is_served(&rt, rt.alloc(), &plan)?;
-    }
-    Ok(())
+    Ok(is_served_at_last(&rt, rt.alloc(), &plan)?)
 }
 
 /// A meter of the plan that is refused memory for each step.
@@ -192,21 +214,29 @@ static REFUSALS: [(&[u8], &[u8]); 5] = [
     (GET_REGISTER, GET_FAILS),
 ];
 
+/// Each APDU is answered so.
+fn all_fail(
+    rt: &impl Abort,
+    alloc: Global,
+    session: &mut Session<'_>,
+    asker: &mut Refused<'_>,
+) -> Result<(), Memory>
+    requires { asker.old.plan.now ≡ session.old.plan }
+{
+    for (apdu, want) in &REFUSALS {
+        is_answered(rt, alloc, session, asker, MANAGER, apdu, want)?;
+    }
+    Ok(())
+}
+
+fn all_are_refused(rt: &impl Abort, alloc: Global, plan: &Plan) -> Result<(), Memory> {
+    let mut asker = Refused { plan };
+    let mut session = Session::new(plan);
+    all_fail(rt, alloc, &mut session, &mut asker)
+}
+
 #[test]
 fn what_a_meter_has_no_memory_for_fails(rt: HostRuntime) -> Result<(), Fail> {
     let plan = plan_of(rt.alloc(), TEXT)?;
-    let mut asker = Refused { plan: &plan };
-    let mut session = Session::new(&plan);
-    for (apdu, want) in &REFUSALS {
-        is_answered(
-            &rt,
-            rt.alloc(),
-            &mut session,
-            &mut asker,
-            MANAGER,
-            apdu,
-            want,
-        )?;
-    }
-    Ok(())
+    Ok(all_are_refused(&rt, rt.alloc(), &plan)?)
 }

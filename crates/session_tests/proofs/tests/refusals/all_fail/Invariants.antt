@@ -1,5 +1,5 @@
 use Rattle.std.proofs.Common.{◌≡◌}
-use Rattle.session_tests.proofs.tests.refusals.what_a_meter_has_no_memory_for_fails.Given as goal
+use Rattle.session_tests.proofs.tests.refusals.all_fail.Given as goal
 
 -- meter and session have one plan
 abbrev pub invariant-loop-apdu : goal.invariant-loop-apdu
