@@ -133,54 +133,55 @@ impl Tally {
         host: &HostRuntime,
         line: &str,
     ) {
-        let mut words = line.split(' ');
-        match (words.next(), words.next(), words.next(), words.next()) {
-            (Some("lines"), Some(configuration), Some(name), None) => {
-                let is_well = is_answered(host, configuration, name) == Some(true);
-                self.tell(host, is_well, line);
+        let is_tried = match line.split_once(" ") {
+            Some(("command", words)) => {
+                self.tell(host, is_done(rt, host, words) == Some(true), line);
+                true
             }
-            (Some("command"), Some(name), Some(status), None) => {
-                let is_well = is_done(rt, host, name, status) == Some(true);
-                self.tell(host, is_well, line);
-            }
-            (Some("demo"), Some(configuration), None, None) => {
-                let is_well = is_demo(host, configuration) == Some(true);
-                self.tell(host, is_well, line);
-            }
-            (Some("words"), Some(name), None, None) => {
-                if self.count_translations(host, name).is_none() {
-                    self.tell(host, false, line);
-                }
-            }
-            (Some("frames"), Some(configuration), Some(name), None) => {
-                if self
-                    .count_parts(host, configuration, Hex::Frames, name)
-                    .is_none()
-                {
-                    self.tell(host, false, line);
-                }
-            }
-            (Some("sessions"), Some(configuration), Some(name), None) => {
-                if self
-                    .count_parts(host, configuration, Hex::Sessions, name)
-                    .is_none()
-                {
-                    self.tell(host, false, line);
-                }
-            }
-            (Some("explained"), Some(configuration), Some(name), None) => {
-                if self.count_explained(host, configuration, name).is_none() {
-                    self.tell(host, false, line);
-                }
-            }
-            (Some(kind), Some(configuration), Some(name), None) => {
-                let table = Table::read(kind);
-                if self.count_rows(host, table, configuration, name).is_none() {
-                    self.tell(host, false, line);
-                }
-            }
-            _ => self.tell(host, false, line),
+            Some((kind, words)) => self.count_kind(host, kind, words, line).is_some(),
+            None => false,
+        };
+        if !is_tried {
+            self.tell(host, false, line);
         }
+    }
+
+    /// Tries a case, or the table of cases, of this kind.
+    fn count_kind(
+        &mut self,
+        host: &HostRuntime,
+        kind: &str,
+        words: &str,
+        line: &str,
+    ) -> Option<()> {
+        match kind {
+            "demo" => self.tell(host, is_demo(host, words)?, line),
+            "words" => self.count_translations(host, words)?,
+            _ => {
+                let (configuration, name) = words.split_once(" ")?;
+                self.count_over(host, kind, configuration, name, line)?;
+            }
+        }
+        Some(())
+    }
+
+    /// Tries a case, or the table of cases, of this kind over a configuration.
+    fn count_over(
+        &mut self,
+        host: &HostRuntime,
+        kind: &str,
+        configuration: &str,
+        name: &str,
+        line: &str,
+    ) -> Option<()> {
+        match kind {
+            "lines" => self.tell(host, is_answered(host, configuration, name)?, line),
+            "explained" => self.count_explained(host, configuration, name)?,
+            "frames" => self.count_parts(host, configuration, Hex::Frames, name)?,
+            "sessions" => self.count_parts(host, configuration, Hex::Sessions, name)?,
+            _ => self.count_rows(host, Table::read(kind)?, configuration, name)?,
+        }
+        Some(())
     }
 
     /// Counts a case, and tells one that fell short.
@@ -201,19 +202,21 @@ impl Tally {
         kind: Hex,
         name: &str,
     ) -> Option<()> {
-        let text = read_configuration(host, configuration)?;
-        let (plan, _policy) = read_config(host.alloc(), text.as_str()).ok()?;
-        let folder = kind.folder();
-        let path = format!(in host.alloc(); "{folder}/{name}").ok()?;
-        let table = fs::read_to_string(host, path.as_str()).ok()?;
+        let plan = read_plan(host, configuration)?;
+        let table = read_table(host, kind.folder(), name)?;
         let table = with_copies(host.alloc(), table.as_str())?;
-        for part in table.as_str().split(kind.end()) {
+        self.count_each(host, &plan, kind, table.as_str());
+        Some(())
+    }
+
+    /// Tries each part of a table over a plan.
+    fn count_each(&mut self, host: &HostRuntime, plan: &Plan, kind: Hex, table: &str) {
+        for part in table.split(kind.end()) {
             if !part.is_empty() && !kind.is_comment(part) {
-                let is_well = kind.is_well(host.alloc(), &plan, part);
+                let is_well = kind.is_well(host.alloc(), plan, part);
                 self.tell(host, is_well == Some(true), part);
             }
         }
-        Some(())
     }
 
     /// Tries each verdict of a table over a configuration and its labels, with what explains it.
@@ -225,8 +228,7 @@ impl Tally {
     ) -> Option<()> {
         let text = read_configuration(host, configuration)?;
         let labels = read_labels(host, configuration)?;
-        let path = format!(in host.alloc(); "explained/{name}").ok()?;
-        let table = fs::read_to_string(host, path.as_str()).ok()?;
+        let table = read_table(host, "explained", name)?;
         for case in table.as_str().split("\n\n") {
             if !case.starts_with('#') {
                 let is_well = is_explained(host.alloc(), text.as_str(), labels.as_str(), case);
@@ -238,8 +240,7 @@ impl Tally {
 
     /// Tries each row of a table of texts that are translated.
     fn count_translations(&mut self, host: &HostRuntime, name: &str) -> Option<()> {
-        let path = format!(in host.alloc(); "words/{name}").ok()?;
-        let rows = fs::read_to_string(host, path.as_str()).ok()?;
+        let rows = read_table(host, "words", name)?;
         for row in rows.as_str().split('\n') {
             if !row.is_empty() && !row.starts_with('#') {
                 let is_well = is_translated(host.alloc(), row);
@@ -253,16 +254,13 @@ impl Tally {
     fn count_rows(
         &mut self,
         host: &HostRuntime,
-        table: Option<Table>,
+        table: Table,
         configuration: &str,
         name: &str,
     ) -> Option<()> {
-        let table = table?;
         let text = read_configuration(host, configuration)?;
         let labels = read_labels(host, configuration)?;
-        let folder = table.folder();
-        let path = format!(in host.alloc(); "{folder}/{name}").ok()?;
-        let rows = fs::read_to_string(host, path.as_str()).ok()?;
+        let rows = read_table(host, table.folder(), name)?;
         for row in rows.as_str().split('\n') {
             if !row.is_empty() && !row.starts_with('#') {
                 let is_well = table.is_well(host.alloc(), text.as_str(), labels.as_str(), row);
@@ -276,6 +274,19 @@ impl Tally {
 /// The text of a configuration of the cases.
 fn read_configuration(host: &HostRuntime, name: &str) -> Option<String> {
     let path = format!(in host.alloc(); "{name}.toml").ok()?;
+    fs::read_to_string(host, path.as_str()).ok()
+}
+
+/// The plan of a configuration of the cases.
+fn read_plan(host: &HostRuntime, name: &str) -> Option<Plan> {
+    let text = read_configuration(host, name)?;
+    let (plan, _policy) = read_config(host.alloc(), text.as_str()).ok()?;
+    Some(plan)
+}
+
+/// A table of cases, in the folder of its kind.
+fn read_table(host: &HostRuntime, folder: &str, name: &str) -> Option<String> {
+    let path = format!(in host.alloc(); "{folder}/{name}").ok()?;
     fs::read_to_string(host, path.as_str()).ok()
 }
 

@@ -7,7 +7,7 @@ use std::sync::Wait;
 use std::thread::Threads;
 use std::time::Clock;
 
-/// Whether the command line of the case ends with the status and tells what it must: its words are the lines of
+/// Whether the command line of the case `NAME STATUS` ends with the status and tells what it must: its words are the lines of
 /// `commands/NAME.words`, its input those of `commands/NAME.in`, and `NAME.out` and `NAME.err` have what it must write.
 pub(crate) fn is_done(
     rt: &(impl AllocGlobal
@@ -17,9 +17,9 @@ pub(crate) fn is_done(
         + Wait
         + Sync),
     host: &HostRuntime,
-    name: &str,
-    status: &str,
+    case: &str,
 ) -> Option<bool> {
+    let (name, status) = case.split_once(" ")?;
     let words = words_of(rt.alloc(), read(host, name, "words")?.as_str())?;
     let input = read(host, name, "in")?;
     let mut output = Vec::new(rt.alloc());
@@ -32,11 +32,14 @@ pub(crate) fn is_done(
         &mut output,
         &mut errors,
     );
-    Some(
-        status.parse::<u8>().ok()? == found
-            && output.as_slice() == read(host, name, "out")?.as_bytes()
-            && errors.as_slice() == read(host, name, "err")?.as_bytes(),
-    )
+    let is_told = is_as_read(host, name, "out", &output)?
+        && is_as_read(host, name, "err", &errors)?;
+    Some(is_told && status.parse::<u8>().ok()? == found)
+}
+
+/// Whether one of the files of a case has these bytes.
+fn is_as_read(host: &HostRuntime, name: &str, part: &str, bytes: &[u8]) -> Option<bool> {
+    Some(read(host, name, part)?.as_bytes() == bytes)
 }
 
 /// One of the files of a case; one that isn't there is empty.

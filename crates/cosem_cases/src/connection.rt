@@ -12,21 +12,27 @@ use std::alloc::Global;
 /// Whether the row, `FRAMES => ANSWERS => END`, is as expected: a connection over which these bytes come is answered by these, and
 /// ends so. END is `N frames`, or the fault in words.
 pub(crate) fn is_served(alloc: Global, plan: &Plan, row: &str) -> Option<bool> {
-    let mut parts = row.split(" => ");
-    let frames = bytes_of(alloc, parts.next()?)?;
-    let wanted = bytes_of(alloc, parts.next()?)?;
-    let end = parts.next()?;
-    if parts.next().is_some() {
-        return None;
-    }
+    let (frames, rest) = row.split_once(" => ")?;
+    let (answers, end) = rest.split_once(" => ")?;
+    let frames = bytes_of(alloc, frames)?;
+    let mut found = Vec::new(alloc);
+    let told = served(alloc, plan, &frames, &mut found)?;
+    Some(told.as_str() == end && is_hex_of(alloc, answers, &found)?)
+}
+
+/// How a connection ends over which these bytes come, whose answers go behind these.
+fn served(alloc: Global, plan: &Plan, frames: &[u8], answers: &mut Vec<u8>) -> Option<String> {
     let mut solo = Solo::new(plan, started(alloc, plan)?);
-    let mut answers = Vec::new(alloc);
-    let mut unread = frames.as_slice();
-    let told = match serve(alloc, &mut unread, &mut answers, plan, &mut solo) {
-        Ok(count) => format!(in alloc; "{count} frames").ok()?,
-        Err(fault) => format!(in alloc; "{fault}").ok()?,
-    };
-    Some(answers.as_slice() == wanted.as_slice() && told.as_str() == end)
+    let mut unread = frames;
+    match serve(alloc, &mut unread, answers, plan, &mut solo) {
+        Ok(count) => format!(in alloc; "{count} frames").ok(),
+        Err(fault) => format!(in alloc; "{fault}").ok(),
+    }
+}
+
+/// Whether a hex text is that of these bytes.
+fn is_hex_of(alloc: Global, text: &str, bytes: &[u8]) -> Option<bool> {
+    Some(bytes_of(alloc, text)?.as_slice() == bytes)
 }
 
 /// A meter of the plan at its start, or `None` where memory is refused.
@@ -85,13 +91,12 @@ fn is_line_told<'a>(
     let name = words.next()?;
     let source = words.next()?.parse::<u16>().ok()?;
     let apdu = bytes_of(alloc, words.next()?)?;
-    let wanted = bytes_of(alloc, wanted)?;
     let answer = match name {
         "first" => pair.first.answer(alloc, source, &apdu, solo),
         "second" => pair.second.answer(alloc, source, &apdu, solo),
         _ => return None,
     };
-    Some(answer.ok()?.as_slice() == wanted.as_slice())
+    is_hex_of(alloc, wanted, &answer.ok()?)
 }
 
 /// The bytes of a hex text, in which spaces are passed over.
