@@ -4,9 +4,11 @@
     bench/audit.py
 
 There are 200 configurations of 64 objects, and 25 of 512, made as those of bench/check.py, each with its least labels. One worker,
-four, and four programs at once that each audit every fourth name by one worker take turns; each figure is the least of its runs, and
-behind the ratio of the least stands the median of the ratios turn by turn. The four programs share nothing: they show how many times
-one the machine itself gives then; a virtual machine may give much less than four. Of four workers it is told how long they read the
+four, four programs at once that each audit every fourth name by one worker, and four that each audit all of them take turns; each figure is
+the least of its runs, and behind the ratio of the least stands the median of the ratios turn by turn. The four programs share nothing: those
+of every fourth name show how many times one the machine itself gives then; a virtual machine may give much less than four, since a core may be
+faster while the others rest. Those of all names are one worker beside three others at work, so that their time by that of four workers is what
+four workers gain where a core is as fast in both. Of four workers it is told how long they read the
 files, which is before the first text is judged. What a loop of `check` within one process takes is told as the sum of its times over
 all files, each less the time in which a program begins. The time to read the configurations' text is told as a share of that: it is
 the sum of runs without lines, less the beginning too.
@@ -82,8 +84,8 @@ def seconds_at_once(commands, status):
 
 
 def in_turns(names):
-    """The seconds of each turn of one worker, of several, and of as many programs of one worker each."""
-    one, several, apart = [], [], []
+    """The seconds of each turn of one worker, of several, and of as many programs of one worker each, which share the names or have all."""
+    one, several, apart, beside = [], [], [], []
     for _ in range(TURNS):
         seconds, list_of_one = seconds_at_once([audits(1, names)], 0)
         one.append(seconds)
@@ -93,7 +95,9 @@ def in_turns(names):
             sys.exit("the lists of one worker and of several differ")
         seconds, _ = seconds_at_once([audits(1, names[first::WORKERS]) for first in range(WORKERS)], 0)
         apart.append(seconds)
-    return one, several, apart
+        seconds, _ = seconds_at_once([audits(1, names)] * WORKERS, 0)
+        beside.append(seconds)
+    return one, several, apart, beside
 
 
 def times(one, other):
@@ -172,7 +176,7 @@ def main():
         begun, _ = seconds_of([PROGRAM, "run", written(folder, "bare.toml", config(0))])
         for objects, count in FLEETS:
             names = fleet(folder, objects, count)
-            one, several, apart = in_turns(names)
+            one, several, apart, beside = in_turns(names)
             # Where the last name has no files, all are read and none is judged.
             unread = [*names, os.path.join(folder, "nowhere")]
             files = min(seconds_at_once([audits(WORKERS, unread)], 3)[0] for _ in range(RUNS))
@@ -182,7 +186,8 @@ def main():
             shared = longest_thread(folder, 1, names) / longest_thread(folder, WORKERS, names)
             print(
                 f"{count} configurations of {objects} objects: one worker {min(one):.3f} s, {WORKERS} workers {min(several):.3f} s, "
-                f"{times(one, several)} times faster; {WORKERS} programs at once {min(apart):.3f} s, {times(one, apart)} times; the files are "
+                f"{times(one, several)} times faster; {WORKERS} programs at once {min(apart):.3f} s, {times(one, apart)} times; one worker "
+                f"beside three others {min(beside):.3f} s, and {WORKERS} workers {times(beside, several)} times faster than that; the files are "
                 f"read in {files:.3f} s; `check` of each {checked:.3f} s, so one worker takes {min(one) / checked:.2f} times that; of this the "
                 f"reading of the text is {100 * read / checked:.0f} percent; by processor time on one core the longest of {WORKERS} workers has {equal:.2f} times less to do, by instructions {shared:.2f} times"
             )
