@@ -16,7 +16,7 @@ Two figures repeat from run to run, whatever the machine gives. With all threads
 that of what takes longest of four: the caller, which does a share of its own and all that comes before and behind, or the longest of the
 others at reading and then at judging. That is an estimate of what four equal cores give; it leaves out what threads wait for each other and
 for their start, and what cores that work at once take from each other. And by valgrind, how many times the instructions of the longest thread of four workers go into those of one worker.
-It needs gcc; run `./cosem-flow demo < /dev/null` first, which builds the program.
+Audits run with the tunable that the launcher gives them, which spares threads the locks of their heaps. It needs gcc; run `./cosem-flow demo < /dev/null` first, which builds the program.
 """
 import glob
 import os
@@ -30,6 +30,8 @@ import time
 from check import config, written
 from demo import PROGRAM
 
+# What the launcher sets for an audit.
+LAUNCHED = {**os.environ, "GLIBC_TUNABLES": "glibc.malloc.tcache_count=60000"}
 COUNTED = re.compile(r"^summary: (\d+)", re.MULTILINE)
 FLEETS = ((64, 200), (512, 25))
 WORKERS = 4
@@ -75,7 +77,7 @@ def audits(workers, names):
 def seconds_at_once(commands, status):
     """The seconds until all of these commands, begun at once, have ended with this status, and what the first prints."""
     begin = time.perf_counter()
-    runs = [subprocess.Popen(it, stdin=subprocess.DEVNULL, stdout=subprocess.PIPE, stderr=subprocess.DEVNULL) for it in commands]
+    runs = [subprocess.Popen(it, stdin=subprocess.DEVNULL, stdout=subprocess.PIPE, stderr=subprocess.DEVNULL, env=LAUNCHED) for it in commands]
     texts = [run.communicate()[0] for run in runs]
     seconds = time.perf_counter() - begin
     if any(run.returncode != status for run in runs):
@@ -109,7 +111,7 @@ def longest_thread(folder, workers, names):
     """The instructions of that thread of an audit which executes most."""
     counts = os.path.join(folder, f"counts_{workers}")
     counting = ["valgrind", "--tool=callgrind", "--separate-threads=yes", f"--callgrind-out-file={counts}"]
-    subprocess.run([*counting, *audits(workers, names)], stdin=subprocess.DEVNULL, capture_output=True, check=True)
+    subprocess.run([*counting, *audits(workers, names)], stdin=subprocess.DEVNULL, capture_output=True, check=True, env=LAUNCHED)
     return max(int(COUNTED.search(open(file).read()).group(1)) for file in glob.glob(f"{counts}-*"))
 
 
@@ -126,7 +128,7 @@ def longest_seconds(library, workers, names):
     """The processor time, all threads on one core, of what takes longest of so many workers."""
     run = subprocess.Popen(
         audits(workers, names), stdin=subprocess.DEVNULL, stdout=subprocess.DEVNULL, stderr=subprocess.PIPE, text=True,
-        env={**os.environ, "LD_PRELOAD": library}, preexec_fn=lambda: os.sched_setaffinity(0, {max(os.sched_getaffinity(0))}),
+        env={**LAUNCHED, "LD_PRELOAD": library}, preexec_fn=lambda: os.sched_setaffinity(0, {max(os.sched_getaffinity(0))}),
     )
     threads = [float(spent) for spent in re.findall(r"^thread ([\d.]+)$", run.stderr.read(), re.MULTILINE)]
     _, run.returncode, used = os.wait4(run.pid, 0)
