@@ -31,7 +31,7 @@ from check import config, written
 from demo import PROGRAM
 
 # What the launcher sets for an audit.
-LAUNCHED = {**os.environ, "GLIBC_TUNABLES": "glibc.malloc.tcache_count=60000"}
+LAUNCHED = {**os.environ, "GLIBC_TUNABLES": "glibc.malloc.tcache_count=3000"}
 COUNTED = re.compile(r"^summary: (\d+)", re.MULTILINE)
 FLEETS = ((64, 200), (512, 25))
 WORKERS = 4
