@@ -110,7 +110,7 @@ def times(one, other):
 def longest_thread(folder, workers, names):
     """The instructions of that thread of an audit which executes most."""
     counts = os.path.join(folder, f"counts_{workers}")
-    counting = ["valgrind", "--tool=callgrind", "--separate-threads=yes", f"--callgrind-out-file={counts}"]
+    counting = ["valgrind", "--tool=callgrind", "--separate-threads=yes", "--fair-sched=try", f"--callgrind-out-file={counts}"]
     subprocess.run([*counting, *audits(workers, names)], stdin=subprocess.DEVNULL, capture_output=True, check=True, env=LAUNCHED)
     return max(int(COUNTED.search(open(file).read()).group(1)) for file in glob.glob(f"{counts}-*"))
 
