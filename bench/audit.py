@@ -3,8 +3,8 @@
 
     bench/audit.py
 
-There are 200 configurations of 64 objects, and 25 of 512, made as those of bench/check.py, each with its least labels. One worker,
-four, four programs at once that each audit every fourth name by one worker, and four that each audit all of them take turns; each figure is
+There are 200 configurations of 64 objects, and 25 of 512, made as those of bench/check.py, each with its least labels; each kind is a
+fleet, and both are one behind the other. One worker, four, four programs at once that each audit every fourth name by one worker, and four that each audit all of them take turns; each figure is
 the least of its runs, and behind the ratio of the least stands the median of the ratios turn by turn. The four programs share nothing: those
 of every fourth name show how many times one the machine itself gives then; a virtual machine may give much less than four, since a core may be
 faster while the others rest. Those of all names are one worker beside three others at work, so that their time by that of four workers is what
@@ -176,8 +176,9 @@ def main():
     with tempfile.TemporaryDirectory() as folder:
         library = timed_threads(folder)
         begun, _ = seconds_of([PROGRAM, "run", written(folder, "bare.toml", config(0))])
-        for objects, count in FLEETS:
-            names = fleet(folder, objects, count)
+        fleets = {f"{count} configurations of {objects} objects": fleet(folder, objects, count) for objects, count in FLEETS}
+        fleets["all of these"] = [name for names in fleets.values() for name in names]
+        for said, names in fleets.items():
             one, several, apart, beside = in_turns(names)
             # Where the last name has no files, all are read and none is judged.
             unread = [*names, os.path.join(folder, "nowhere")]
@@ -187,7 +188,7 @@ def main():
             equal = times_on_one_core(library, names)
             shared = longest_thread(folder, 1, names) / longest_thread(folder, WORKERS, names)
             print(
-                f"{count} configurations of {objects} objects: one worker {min(one):.3f} s, {WORKERS} workers {min(several):.3f} s, "
+                f"{said}: one worker {min(one):.3f} s, {WORKERS} workers {min(several):.3f} s, "
                 f"{times(one, several)} times faster; {WORKERS} programs at once {min(apart):.3f} s, {times(one, apart)} times; one worker "
                 f"beside three others {min(beside):.3f} s, and {WORKERS} workers {times(beside, several)} times faster than that; the files are "
                 f"read in {files:.3f} s; `check` of each {checked:.3f} s, so one worker takes {min(one) / checked:.2f} times that; of this the "

@@ -4,6 +4,7 @@ ghost use Rattle.fleet_audit.specs.Audits.{Audits};
 ghost use Rattle.fleet_audit.specs.Giving.{IsFaultAt};
 ghost use Rattle.fleet_audit.specs.Turns.{every};
 
+use crate::threads::in_threads;
 use crate::turns::{all_done, in_turn};
 use crate::verdict::Verdict;
 use crate::watch::{Unwatched, Watch};
@@ -11,9 +12,9 @@ use crate::worker::work;
 use gates::Gate;
 use std::alloc::{AllocError, AllocFailed};
 use std::error::Error;
+use std::fmt;
 use std::num::NonZeroUsize;
 use std::thread::Threads;
-use std::{fmt, thread};
 
 /// A configuration and labels for it, as texts.
 #[derive(Debug, Drop)]
@@ -70,8 +71,8 @@ impl<T: Drop> From<AllocFailed<T>> for AuditFault {
 }
 
 /// The verdicts on texts, in their order, by so many workers (own profile): worker w, counted from 0, judges the texts w,
-/// w + workers and so on, in a thread of its own, or in the caller's where none can be started. The gate is asked before each
-/// text, and told behind it.
+/// w + workers and so on: worker 0, who has as many texts as any other, in the caller's thread, and each other in one of its own, or in
+/// the caller's too where none can be started. The gate is asked before each text, and told behind it.
 ///
 /// # Errors
 /// That memory was refused for a list, or that the gate gave up: the fault of the first worker that has one. The others judge all
@@ -107,7 +108,7 @@ pub fn audit_watched<R: Threads + AllocGlobal + Sync, G: Gate + Sync, W: Watch +
     let alloc = rt.alloc();
     let workers = workers.get().min(texts.len());
     let lent = texts.as_slice();
-    let shares = thread::map_indices(
+    let shares = in_threads(
         rt,
         alloc,
         workers,

@@ -3,12 +3,14 @@
 //! - [`verdict`] says what a verdict is and what is printed of it, and [`judging`] comes to one.
 //! - [`fleet::audit`] comes to the verdicts on many texts, each in the order given, whatever the number of workers;
 //!   [`fleet::audit_watched`] tells a [`watch::Watch`] of each as it comes.
+//! - [`threads::in_threads`] does the same work at many numbers, each in a thread.
 //! - [`laws`] has the law that lists of verdicts may be cut and joined, and that one text has one verdict.
 #![tactic(auto)]
 
 pub mod fleet;
 pub mod judging;
 pub mod laws;
+pub mod threads;
 mod turns;
 pub mod verdict;
 pub mod watch;

@@ -12,7 +12,7 @@ use Rattle.fleet_audit.specs.declared.fleet.Text.{Text}
 use Rattle.fleet_audit.proofs.Joined.{joined}
 use Rattle.meter_server.specs.declared.reading.FleetFault.{FleetFault}
 use Rattle.meter_server.specs.declared.reading.FleetFault.TheVariants.{Unread, Memory}
-use Rattle.meter_server.specs.Reading.{AreTextsOf, MayRead, TellsFirst, TellsName}
+use Rattle.meter_server.specs.Reading.{AreTextsOf, MayRead, TellsFirst, TellsName, part}
 
 -- names that are lent
 abbrev pub Names : Type 0
@@ -80,20 +80,20 @@ module _ (reads : MayRead) where
   -- the parts are those of the names, so many names each
   abbrev pub Deals : ℕ → Names → List Part → Type 0
   Deals size names [] = names ≡ []
-  Deals size names (part ∷ parts) = IsPart (take size names) part × Deals size (drop size names) parts
+  Deals size names (first ∷ parts) = IsPart (take size names) first × Deals size (drop size names) parts
 
   -- parts that begin at the places of their numbers, up to the last name
   pub dealt : (size : ℕ) (names : Names) (n : ℕ) (parts : List Part) → length names ≤ (n + length parts) * size →
-      ((i : ℕ) (d : Part) → i < length parts → IsPart (take size (drop ((n + i) * size) names)) (get_or parts i d)) →
+      ((i : ℕ) (d : Part) → i < length parts → IsPart (part names size (n + i)) (get_or parts i d)) →
       Deals size (drop (n * size) names) parts
   dealt size names n [] short each = drop_all (n * size) names (omega arith)
-  dealt size names n (part ∷ parts) short each =
+  dealt size names n (first ∷ parts) short each =
       let here : n + 0 ≡ n = omega arith in
       let next : drop size (drop (n * size) names) ≡ drop (suc n * size) names = drop-drop size (n * size) names ∙ ap (λ k. drop k names) (sym (suc-mul n size)) in (
-        subst (λ k. IsPart (take size (drop (k * size) names)) part) here (each 0 part (omega arith)),
+        subst (λ k. IsPart (part names size k) first) here (each 0 first (omega arith)),
         subst (λ (l : Names). Deals size l parts) (sym next) (dealt size names (suc n) parts
             (let e : suc n + length parts ≡ n + suc (length parts) = omega arith in subst (λ k. length names ≤ k * size) (sym e) short)
-            (λ i d within. let e : n + suc i ≡ suc n + i = omega arith in subst (λ k. IsPart (take size (drop (k * size) names)) (get_or parts i d)) e (each (suc i) d (omega arith)))),
+            (λ i d within. let e : n + suc i ≡ suc n + i = omega arith in subst (λ k. IsPart (part names size k) (get_or parts i d)) e (each (suc i) d (omega arith)))),
       )
 
   -- the first file that isn't read, among more names

@@ -1,5 +1,5 @@
 -- Files that are read as text, and those of a fleet (own profile throughout).
-use Rattle.std.specs.Prelude.{◌≡◌, ℕ, List, ◌∷◌, ◌++◌, ◌⊎◌, codes, string_bytes, Result, Ok, Err}
+use Rattle.std.specs.Prelude.{◌≡◌, ℕ, ◌*◌, List, ◌∷◌, ◌++◌, ◌⊎◌, take, drop, codes, string_bytes, Result, Ok, Err}
 use Rattle.std.specs.List.{AllZip}
 use Rattle.explanations.specs.declared.file.FileFault.{FileFault}
 use Rattle.fleet_audit.specs.declared.fleet.Text.{Text}
@@ -52,3 +52,7 @@ TellsName reads name Memory = Unit {0}
 abbrev pub TellsFirst : MayRead → List (List ℕ) → FleetFault → Type 0
 TellsFirst reads names (Unread path why) = FailsFirst reads names (string_bytes path) why
 TellsFirst reads names Memory = Unit {0}
+
+-- the names of the part with a number, from 0, where each part has so many
+abbrev pub part : {A : Type 0} → List A → (each number : ℕ) → List A
+part names each number = take each (drop (number * each) names)

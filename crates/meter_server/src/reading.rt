@@ -1,14 +1,14 @@
 //! The files of a fleet, read by many workers.
-ghost use Rattle.std.specs.Prelude.{IfErr, IfOk, MatchResult, Ok, map, string_bytes};
+ghost use Rattle.std.specs.Prelude.{◌≡◌, IfErr, IfOk, MatchResult, Ok, map, string_bytes};
 ghost use Rattle.std.specs.List.{AllZip};
-ghost use Rattle.meter_server.specs.Reading.{AreTextsOf, TellsFile, TellsFirst, TellsName};
+ghost use Rattle.meter_server.specs.Reading.{AreTextsOf, TellsFile, TellsFirst, TellsName, part};
 
 use crate::files::TextFiles;
 use explanations::file::FileFault;
 use fleet_audit::fleet::Text;
+use fleet_audit::threads::in_threads;
 use std::alloc::{AllocError, AllocFailed, Global};
 use std::num::NonZeroUsize;
-use std::thread;
 use std::thread::Threads;
 
 /// Why a fleet isn't read.
@@ -59,22 +59,30 @@ pub fn read_fleet<H: AllocGlobal + Threads + Sync, F: TextFiles + Sync>(
 {
     let alloc = rt.alloc();
     let each = names.len().div_ceil(workers.get()).max(1);
-    let parts = thread::map_chunks(
+    let parts = in_threads(
         rt,
         alloc,
-        names,
-        each,
-        &|_, part| -> Result<Vec<Text>, FleetFault>
+        names.len().div_ceil(each),
+        &|number| -> Result<Vec<Text>, FleetFault>
             ensures { MatchResult result
-                (λ texts. AllZip (AreTextsOf (F.may_read files.entry.now)) (map (λ name. name.now) part.entry.now) texts.items)
-                (TellsFirst (F.may_read files.entry.now) (map (λ name. name.now) part.entry.now)) }
-        { read_part(alloc, files, part) },
+                (λ texts. AllZip (AreTextsOf (F.may_read files.entry.now)) (map (λ name. name.now) (part names.entry.now each number)) texts.items)
+                (TellsFirst (F.may_read files.entry.now) (map (λ name. name.now) (part names.entry.now each number))) }
+        { read_part(alloc, files, part_of(names, each, number)) },
     )?;
     let mut texts = Vec::with_capacity(alloc, names.len())?;
     for part in parts {
         texts.append(&mut part?)?;
     }
     Ok(texts)
+}
+
+/// The names of the part with this number, where each part has so many names; none where there is no such part.
+fn part_of<'a, 'b>(names: &'a [&'b str], each: usize, number: usize) -> &'a [&'b str]
+    ensures { result.now ≡ part names.now each number }
+{
+    let (_, behind) = names.split_at(number.saturating_mul(each).min(names.len()));
+    let (part, _) = behind.split_at(each.min(behind.len()));
+    part
 }
 
 /// The texts of the files that these names stand for, name by name.

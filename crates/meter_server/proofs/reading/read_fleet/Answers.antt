@@ -1,8 +1,9 @@
-use Rattle.std.proofs.Common.{◌≡◌, ℕ, ◌+◌, ◌*◌, ◌<◌, ◌≤◌, [], ◌∷◌, length, take, drop, get_or, ap, subst, ◌∙◌, arith, Ok, Err}
+use Rattle.std.proofs.Common.{◌≡◌, ℕ, ◌+◌, ◌*◌, ◌<◌, ◌≤◌, [], ◌∷◌, length, drop, get_or, ap, subst, ◌∙◌, arith, Ok, Err}
 use native.Mathlib.Nat.{zero-mul}
 use Rattle.std.specs.Vec.Iter.{into_iter_items}
 use Rattle.std.proofs.lemmas.List.{nil_from_length}
 use Rattle.std.proofs.lemmas.Result.{err_from_is_err_and}
+use Rattle.meter_server.specs.Reading.{part}
 use Rattle.meter_server.proofs.Fleets.{Deals, IsPart, IsSoFar, Names, Part, begun, dealt, ended, failed, gone_on, reach}
 use Rattle.meter_server.proofs.reading.read_fleet.Goals as goal
 
@@ -13,11 +14,10 @@ loop-part-init g c =
     let size = c.max-each.result in
     let parts = c.in_ok-parts.parts.items in
     let some : 0 < size = omega (arith, c.max-each.ensures) in
-    let each : (i : ℕ) (d : Part) → i < length parts → IsPart reads (take size (drop ((0 + i) * size) names)) (get_or parts i d) = λ i d within.
+    let each : (i : ℕ) (d : Part) → i < length parts → IsPart reads (part names size (0 + i)) (get_or parts i d) = λ i d within.
     let number : i ≡ 0 + i = omega arith in
-    let given = (c.in_ok-parts.ensures.each i d within).1 in
-    let here : IsPart reads (take size (drop (i * size) names)) (get_or parts i d) = subst (λ (part : Names). IsPart reads part (get_or parts i d)) {y = take size (drop (i * size) names)} given.argument_is.value given.call in
-    subst (λ n. IsPart reads (take size (drop (n * size) names)) (get_or parts i d)) number here in
+    let below : i < c.div_ceil-2.result = omega (arith, c.in_ok-parts.ensures.len, c.in_ok-parts.parts.ok.0) in
+    subst (λ n. IsPart reads (part names size n) (get_or parts i d)) number (c.in_ok-parts.ensures.each i d below).1.met in
     let short : length names ≤ (0 + length parts) * size =
     let all : length parts ≡ 0 + length parts = omega arith in
     subst (λ n. length names ≤ n * size) all (reach (length parts) (length names) size some (omega (arith, c.in_ok-parts.ensures.len, c.in_ok-parts.parts.ok.0))) in
