@@ -16,7 +16,7 @@ Two figures repeat from run to run, whatever the machine gives. With all threads
 that of what takes longest of four: the caller, which does a share of its own and all that comes before and behind, or the longest of the
 others at reading and then at judging. That is an estimate of what four equal cores give; it leaves out what threads wait for each other and
 for their start, and what cores that work at once take from each other. And by valgrind, how many times the instructions of the longest thread of four workers go into those of one worker.
-Audits run with the tunable that the launcher gives them, which spares threads the locks of their heaps. It needs gcc; run `./cosem-flow demo < /dev/null` first, which builds the program.
+Audits run with the tunables that the launcher gives them, which spare threads the locks of their heaps and page faults. It needs gcc; run `./cosem-flow demo < /dev/null` first, which builds the program.
 """
 import glob
 import os
@@ -31,7 +31,11 @@ from check import config, written
 from demo import PROGRAM
 
 # What the launcher sets for an audit.
-LAUNCHED = {**os.environ, "GLIBC_TUNABLES": "glibc.malloc.tcache_count=3000"}
+LAUNCHED = {
+    **os.environ,
+    "GLIBC_TUNABLES": "glibc.malloc.tcache_count=3000:glibc.malloc.hugetlb=1:glibc.malloc.top_pad=33554432"
+    ":glibc.malloc.trim_threshold=1073741824:glibc.malloc.mmap_threshold=33554432",
+}
 COUNTED = re.compile(r"^summary: (\d+)", re.MULTILINE)
 FLEETS = ((64, 200), (512, 25))
 WORKERS = 4
