@@ -1,3 +1,5 @@
+mod accepting;
 mod alone;
 mod boards;
 mod samples;
+mod serving;

@@ -1,7 +1,12 @@
 mod attributes;
 mod callers;
 mod classes;
+mod codes;
 mod copies;
+mod data;
+mod encoding;
+mod frames;
+mod moments;
 mod monitors;
 mod parts;
 mod profiles;

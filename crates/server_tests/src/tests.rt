@@ -1,11 +1,13 @@
 mod callers;
 mod faults;
+mod fleets;
 mod lines;
 mod plans;
 mod progress;
 mod refusals;
 mod runs;
 mod samples;
+mod sessions;
+mod slow;
 mod steps;
-mod verdicts;
 mod views;

@@ -1,8 +1,9 @@
 //! A live meter in one thread.
 ghost use Rattle.std.specs.Prelude.{◌≡◌, IfOk};
 
+use super::accepting::accepted;
 use super::samples::{
-    ALARM_CELL, ENERGY, accepted, energy_is, get_energy, is_quiet, number_in, set_alarm,
+    ALARM_CELL, ENERGY, TEXT, energy_is, get_energy, is_quiet, number_in, set_alarm,
 };
 use meter_core::reply::Reply;
 use meter_core::step::Step;
@@ -16,7 +17,7 @@ use std::test::Fail;
 
 /// A live meter of the accepted plan. Where memory is refused it is made once more of what was given back.
 fn begun<R: Wait>(rt: &R, alloc: Global) -> Result<Live, Fail> {
-    match Live::new(rt, alloc, accepted(alloc)?, 1) {
+    match Live::new(rt, alloc, accepted(alloc, TEXT)?, 1) {
         Ok(live) => Ok(live),
         Err(checked) => Live::new(rt, alloc, checked, 1).map_err(|_| "refused once more".into()),
     }

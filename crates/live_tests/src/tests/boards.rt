@@ -1,8 +1,9 @@
 //! A board in one thread.
 ghost use Rattle.std.specs.Prelude.{◌≡◌};
 
+use super::accepting::accepted;
 use super::samples::{
-    ENERGY, accepted, energy_is, get_energy, is_quiet, is_success, number_in, set_denied,
+    ENERGY, TEXT, energy_is, get_energy, is_quiet, is_success, number_in, set_denied,
 };
 use flow_checker::check::Checked;
 use meter_core::reply::Reply;
@@ -186,7 +187,7 @@ fn try_day<R: Wait + Abort>(rt: &R, alloc: Global, checked: Checked) -> Result<D
 
 #[test]
 fn a_board_is_opened_used_and_closed(rt: HostRuntime) -> Result<(), Fail> {
-    let checked = accepted(rt.alloc())?;
+    let checked = accepted(rt.alloc(), TEXT)?;
     let Day::Refused(checked) = try_day(&rt, rt.alloc(), checked)? else {
         return Ok(());
     };

@@ -2,22 +2,17 @@ ghost use Rattle.std.specs.Prelude.{◌≡◌, true};
 ghost use Rattle.meter_core.specs.StepView.{step_of};
 ghost use Rattle.meter_live.specs.Changes.{is_get};
 
-use config_reader::read_config;
 use cosem_data::cell::CellRef;
 use cosem_data::data::Data;
 use cosem_data::name::LogicalName;
-use flow_checker::check::{Checked, check};
-use label_certificate::least::make_labels;
 use meter_core::reply::Reply;
 use meter_core::step::Step;
 use meter_theory::access::AccessCode;
 use meter_theory::refs::Descriptor;
 use object_model::argument::Argument;
-use std::alloc::Global;
-use std::test::Fail;
 
 /// A register that the reader reads, and an alarm that the manager sets and the reader reads.
-const TEXT: &str = r#"version = 1
+pub(super) const TEXT: &str = r#"version = 1
 client = [
  { name = "public", sap = 16 },
  { name = "reader", sap = 32 },
@@ -41,13 +36,6 @@ const MANAGER: u8 = 2;
 
 /// The value of the register at the start.
 pub(super) const ENERGY: u32 = 123_456;
-
-/// The plan of the text with its policy, accepted with its least labels.
-pub(super) fn accepted(alloc: Global) -> Result<Checked, Fail> {
-    let (plan, policy) = read_config(alloc, TEXT)?;
-    let labels = make_labels(alloc, &plan)?;
-    check(alloc, plan, &policy, &labels).map_err(|_| "the plan is refused".into())
-}
 
 /// The reader reads the value of the register.
 pub(super) fn get_energy() -> Step

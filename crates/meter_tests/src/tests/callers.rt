@@ -1,18 +1,27 @@
 //! Callers that no other crate has. Each rests on a clause that nothing else needs, so that it is proved no more where a contract, and with
 //! it a body, does less.
-ghost use Rattle.std.specs.Prelude.{◌≡◌, ℕ, codes, length, map, string_bytes, true, IfErr, IfOk, IsOk, None, OnOk};
+ghost use Rattle.std.specs.Prelude.{◌≡◌, ℕ, Bool, codes, length, map, string_bytes, true, IfErr, IfOk, IsOk, None, OnOk};
 ghost use Rattle.association_views.specs.AssociationClass.{association_reading, association_refusal};
 ghost use Rattle.civil_moment.specs.Texts.{moment_text};
 ghost use Rattle.class_profile.specs.ProfileClass.{is_buffer};
 ghost use Rattle.cosem_class.specs.CellSets.{has};
 ghost use Rattle.cosem_class.specs.Objects.{AnswersAs, RefusedAs};
+ghost use Rattle.cosem_class.specs.declared.class.Op.{Op};
 ghost use Rattle.cosem_class.specs.declared.class.Op.TheVariants as ops;
+ghost use Rattle.cosem_data.specs.Tree.{Tree};
 ghost use Rattle.cosem_data.specs.View.{tree};
+ghost use Rattle.cosem_data.specs.declared.cell.CellRef.{CellRef as Cell};
 ghost use Rattle.meter_core.specs.StepView.{reply_of, step_of};
 ghost use Rattle.meter_core.specs.Stops.{IsStopped};
+ghost use Rattle.meter_effects.specs.PlanOperations.{IsOperationOf};
+ghost use Rattle.meter_theory.specs.EffectLaws.{KeepsAgreementOn};
+ghost use Rattle.meter_theory.specs.Edges.{IsClosed};
 ghost use Rattle.meter_theory.specs.Fixed as shapes;
 ghost use Rattle.meter_theory.specs.Labels.{label_at, or_else};
+ghost use Rattle.meter_theory.specs.Lists.{IsIn};
+ghost use Rattle.meter_theory.specs.Plan as theory;
 ghost use Rattle.meter_theory.specs.Replies.{replies, run as run_of};
+ghost use Rattle.meter_theory.specs.State.{State};
 ghost use Rattle.meter_theory.specs.States.{IsState};
 ghost use Rattle.meter_theory.specs.Value.{array_of};
 ghost use Rattle.object_model.specs.EffectView.{MayTake};
@@ -30,6 +39,7 @@ use cosem_data::name::LogicalName;
 use meter_core::reply::Reply;
 use meter_core::run::{Stopped, run};
 use meter_core::step::Step;
+use meter_effects::laws::closed_sets_keep_agreement;
 use meter_theory::access::AccessCode;
 use meter_theory::flow::Label;
 use meter_theory::refs::Interface;
@@ -166,4 +176,12 @@ pub(super) fn objects_listed(view: &View<'_>, alloc: Global) -> Result<Data, Mem
     ensures { IfOk result (λ value. tree value ≡ shapes.object_list view.now.plan view.now.client) }
 {
     view.object_list(alloc)
+}
+
+/// An operation of an object of a plan, by the object's class, keeps agreement on each closed set of cells.
+pub(super) fn operations_of_a_plan_keep_agreement()
+    ensures { (P : theory.Plan) (S : Cell → Bool) → IsClosed P S → (o : theory.Object) (op : Op) (argument : Tree) (change : State → State) →
+        IsIn P.objects o → IsOperationOf P o op argument change → KeepsAgreementOn S change }
+{
+    closed_sets_keep_agreement();
 }

@@ -1,77 +1,12 @@
-ghost use Rattle.std.specs.Prelude.{Some};
-
 use super::samples::{TEXT, plan_of};
+use super::slow::{SlowReader, SlowWriter};
 use cosem_data::memory::Memory;
 use line_server::reason::Reason;
 use line_server::running::{LineFault, run_lines};
 use object_model::plan::Plan;
 use std::alloc::Global;
-use std::io;
-use std::io::{ErrorKind, Read, Write};
 use std::process::Abort;
 use std::test::Fail;
-
-/// A reader that moves one byte a call and fails at one call, counted from 1.
-#[derive(Drop)]
-struct SlowReader<'a> {
-    bytes: &'a [u8],
-    calls: u64,
-    fails_at: u64,
-}
-
-impl<'a> Read for SlowReader<'a> {
-    ghost remaining = { λ r. Some r.bytes.now };
-
-    fn read(&mut self, buf: &mut [u8]) -> io::Result<usize> {
-        self.calls = self.calls.saturating_add(1);
-        if self.calls == self.fails_at {
-            return Err(io::Error::from(ErrorKind::Other));
-        }
-        if buf.len() == 0 {
-            return Ok(0);
-        }
-        match self.bytes.split_first() {
-            None => Ok(0),
-            Some((first, rest)) => {
-                buf[0] = *first;
-                self.bytes = rest;
-                Ok(1)
-            }
-        }
-    }
-}
-
-/// A writer that takes one byte a call and fails at one call, counted from 1.
-#[derive(Drop)]
-struct SlowWriter {
-    held: Vec<u8>,
-    calls: u64,
-    fails_at: u64,
-}
-
-impl Write for SlowWriter {
-    ghost contents = { λ w. Some w.held.items };
-
-    fn write(&mut self, buf: &[u8]) -> io::Result<usize> {
-        self.calls = self.calls.saturating_add(1);
-        if self.calls == self.fails_at {
-            return Err(io::Error::from(ErrorKind::Other));
-        }
-        match buf.first() {
-            None => Ok(0),
-            Some(first) => {
-                if self.held.push(*first).is_err() {
-                    return Err(io::Error::from(ErrorKind::OutOfMemory));
-                }
-                Ok(1)
-            }
-        }
-    }
-
-    fn flush(&mut self) -> io::Result<()> {
-        Ok(())
-    }
-}
 
 /// A run over the input, its reader and writer failing at these calls (0 for none), ends so and writes so many bytes: a
 /// beginning of the whole text.
@@ -83,16 +18,8 @@ fn ends(
     (fails_read, fails_write): (u64, u64),
     (want, count): (Result<u64, LineFault>, usize),
 ) -> Result<(), Fail> {
-    let mut reader = SlowReader {
-        bytes: input,
-        calls: 0,
-        fails_at: fails_read,
-    };
-    let mut writer = SlowWriter {
-        held: Vec::with_capacity(alloc, 512)?,
-        calls: 0,
-        fails_at: fails_write,
-    };
+    let mut reader = SlowReader::new(input, fails_read);
+    let mut writer = SlowWriter::new(alloc, fails_write)?;
     let answer = run_lines(alloc, plan, &mut reader, &mut writer);
     if answer == Err(LineFault::Memory) {
         return Err(Memory.into());

@@ -1,5 +1,0 @@
-mod codes;
-mod data;
-mod encoding;
-mod frames;
-mod moments;

@@ -1,6 +1,0 @@
-//! Tests of the server of a live meter over TCP: seats, gates, the driver, clients that close. There is nothing else here, so that no crate
-//! is proved a second time for its tests.
-#![tactic(auto)]
-
-#[cfg(test)]
-mod tests;

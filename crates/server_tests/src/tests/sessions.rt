@@ -1,0 +1,4 @@
+mod blocks;
+mod connections;
+mod refusals;
+mod samples;

@@ -1,0 +1,105 @@
+use super::super::samples::{plan_of, started};
+use super::super::slow::{SlowReader, SlowWriter};
+use super::samples::TEXT;
+use acse_session::solo::Solo;
+use cosem_data::memory::Memory;
+use frame_server::fault::ServeFault;
+use frame_server::serving::serve;
+use object_model::plan::Plan;
+use std::alloc::Global;
+use std::process::Abort;
+use std::test::Fail;
+
+/// The public opens an association, gets the register's name and releases the association: frames of 39, 21 and 13 bytes. Behind them,
+/// the beginning of a fourth.
+static INPUT: [u8; 76] = [
+    0, 1, 0, 0x10, 0, 1, 0, 0x1F, 0x60, 0x1D, 0xA1, 9, 6, 7, 0x60, 0x85, 0x74, 5, 8, 1, 1, 0xBE,
+    0x10, 4, 0x0E, 1, 0, 0, 0, 6, 0x5F, 0x1F, 4, 0, 0, 0x7E, 0x1F, 4, 0xB0, 0, 1, 0, 0x10, 0, 1, 0,
+    0x0D, 0xC0, 1, 0xC1, 0, 3, 1, 0, 1, 8, 0, 0xFF, 1, 0, 0, 1, 0, 0x10, 0, 1, 0, 5, 0x62, 3, 0x80,
+    1, 0, 0, 1, 0,
+];
+
+/// How many bytes the three whole frames have.
+pub(super) const WHOLE: usize = 73;
+
+/// AARE, the name and RLRE: frames of 51, 20 and 13 bytes.
+pub(super) static ANSWERS: [u8; 84] = [
+    0, 1, 0, 1, 0, 0x10, 0, 0x2B, 0x61, 0x29, 0xA1, 9, 6, 7, 0x60, 0x85, 0x74, 5, 8, 1, 1, 0xA2, 3,
+    2, 1, 0, 0xA3, 5, 0xA1, 3, 2, 1, 0, 0xBE, 0x10, 4, 0x0E, 8, 0, 6, 0x5F, 0x1F, 4, 0, 0, 0x10,
+    0x1D, 4, 0, 0, 7, 0, 1, 0, 1, 0, 0x10, 0, 0x0C, 0xC4, 1, 0xC1, 0, 9, 6, 1, 0, 1, 8, 0, 0xFF, 0,
+    1, 0, 1, 0, 0x10, 0, 5, 0x63, 3, 0x80, 1, 0,
+];
+
+/// The three whole frames.
+pub(super) fn frames() -> &'static [u8] {
+    &INPUT[..WHOLE]
+}
+
+/// The frames of the input are answered by a new meter, reader and writer failing at these calls (0 for none). The end is this, and
+/// so many bytes of the answers are written.
+fn ends(
+    rt: &impl Abort,
+    alloc: Global,
+    plan: &Plan,
+    input: &[u8],
+    (fails_read, fails_write): (u64, u64),
+    (want, count): (Result<u64, ServeFault>, usize),
+) -> Result<(), Memory> {
+    let mut asker = Solo::new(plan, started(plan, alloc)?);
+    let mut reader = SlowReader::new(input, fails_read);
+    let mut writer = SlowWriter::new(alloc, fails_write)?;
+    let end = serve(alloc, &mut reader, &mut writer, plan, &mut asker);
+    assert_eq!(rt;
+        end,
+        want,
+        "reading fails at {fails_read}, writing at {fails_write}"
+    );
+    assert!(rt;
+        writer.held.as_slice() == ANSWERS.get(..count).unwrap_or(&[]),
+        "reading fails at {fails_read}, writing at {fails_write}"
+    );
+    Ok(())
+}
+
+/// Where reading fails at any of these calls, so many bytes of the answers are written: those to the whole frames before. The last call
+/// finds the end.
+static READS: [(u64, u64, usize); 4] = [(1, 39, 0), (40, 60, 51), (61, 73, 71), (74, 74, 84)];
+
+fn ends_where_reading_fails(rt: &impl Abort, alloc: Global, plan: &Plan) -> Result<(), Memory> {
+    for (first, last, count) in &READS {
+        let end = (Err(ServeFault::Read), *count);
+        for call in *first..=*last {
+            ends(rt, alloc, plan, frames(), (call, 0), end)?;
+        }
+    }
+    Ok(())
+}
+
+/// Nothing is written behind the call that fails.
+fn ends_where_writing_fails(rt: &impl Abort, alloc: Global, plan: &Plan) -> Result<(), Memory> {
+    for count in 0..84 {
+        let call = count as u64 + 1;
+        let end = (Err(ServeFault::Write), count);
+        ends(rt, alloc, plan, frames(), (0, call), end)?;
+    }
+    Ok(())
+}
+
+/// The input ends behind a frame, or inside one.
+fn ends_with_the_input(rt: &impl Abort, alloc: Global, plan: &Plan) -> Result<(), Memory> {
+    ends(rt, alloc, plan, frames(), (0, 0), (Ok(3), 84))?;
+    ends(rt, alloc, plan, &INPUT, (0, 0), (Err(ServeFault::Cut), 84))
+}
+
+/// A connection ends so.
+fn all_end(rt: &impl Abort, alloc: Global, plan: &Plan) -> Result<(), Memory> {
+    ends_with_the_input(rt, alloc, plan)?;
+    ends_where_reading_fails(rt, alloc, plan)?;
+    ends_where_writing_fails(rt, alloc, plan)
+}
+
+#[test]
+fn a_failing_call_ends_a_connection(rt: HostRuntime) -> Result<(), Fail> {
+    let plan = plan_of(rt.alloc(), TEXT)?;
+    Ok(all_end(&rt, rt.alloc(), &plan)?)
+}

@@ -1,5 +1,0 @@
-mod blocks;
-mod callers;
-mod connections;
-mod refusals;
-mod samples;
