@@ -20,7 +20,7 @@ told as the sum of its times over all files, each less the time in which a progr
 a share of that: it is the sum of runs without lines, less the beginning too. By valgrind it is told how many times the instructions of the
 longest thread of four workers go into those of one worker, which repeats from run to run, whatever the machine gives.
 Audits run with the tunables that the launcher gives them, which spare threads the locks of their heaps and page faults. It needs gcc, valgrind
-and four cores; run `./cosem-flow demo < /dev/null` first, which builds the program.
+and four cores; run `tools/build` first.
 """
 import glob
 import os

@@ -7,7 +7,7 @@ A configuration has 16 clients with rights on every object, profiles and registe
 them all, so that the largest, of 512 objects, has about 250,000 edges. The time to read the text is told apart: it is that of a
 run without lines less that by a configuration without objects, and both are taken away from each command's time. The copy is a
 program of this machine's C compiler that copies the file of edges by writes of 64 KiB, without the time in which a program begins.
-Run `./cosem-flow demo < /dev/null` first, which builds the program.
+Run `tools/build` first.
 """
 import os
 import subprocess

@@ -6,7 +6,7 @@
 A configuration has 16 clients, and 4 rights for each object. Reading is timed as a run without lines less a run by a
 configuration without objects, beside a loop that only copies the same lines, for 128, 256 and 512 objects: the time should
 double with them. Then 200,000 GETs of random clients at random names are answered by the largest, beside a loop that copies
-the same lines. The same seed gives the same texts. Run `./cosem-flow demo < /dev/null` first, which builds the program.
+the same lines. The same seed gives the same texts. Run `tools/build` first.
 """
 import os
 import random

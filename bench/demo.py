@@ -5,7 +5,7 @@
 
 The lines are mixed GET, SET and ACTION requests of the clients of the demo configuration, allowed and refused, and inputs
 and evaluations of the meter, with empty lines and remarks between them. The same seed gives the same lines. A second run over four times the lines shows that memory
-doesn't grow with their number. Run `./cosem-flow demo < /dev/null` first, which builds the program.
+doesn't grow with their number. Run `tools/build` first.
 """
 import os
 import random

@@ -5,8 +5,7 @@
 
 Told are the instructions for a mixed line of the demo, for a GET by a random name over 512 objects and 2,048 rights, for a byte
 of that configuration's text, for a GET of a buffer of 1,000 rows, whole and by 10 rows, and for a capture into full buffers of
-10 and 1,000 rows. Each figure is a run with many lines less one with few. Run `./cosem-flow demo < /dev/null` first, which
-builds the program; another program of the same words can be named, to be counted beside it.
+10 and 1,000 rows. Each figure is a run with many lines less one with few. Run `tools/build` first; another program of the same words can be named, to be counted beside it.
 """
 import os
 import random

@@ -6,8 +6,7 @@
 The buffer of a profile of two columns is filled by captures. Then 2,000 GETs of the whole buffer of 1,000 rows are answered,
 and of its first ten rows, beside a loop that only copies the same replies. And 20,000 captures go into the full buffers of profiles of 10, 100 and
 1,000 entries, beside a loop that only copies the same lines: what a capture takes more where more rows stay is what moving
-them takes. Each figure is a run with those lines less a run that only fills the buffer. Run `./cosem-flow demo < /dev/null`
-first, which builds the program.
+them takes. Each figure is a run with those lines less a run that only fills the buffer. Run `tools/build` first.
 """
 import os
 import subprocess

@@ -10,8 +10,7 @@ each. The answers of `serve` are compared with what they must be, those of the s
 session that reads the register, four of them at once, and four at once whose every tenth request is a SET of the alarm; and one session
 of SETs alone, by the demo and by a configuration with ten profiles of 1,000 entries more, empty and full: what a SET takes mustn't grow
 with buffers that it doesn't touch. Each figure is the best of three runs, each by a server of its own, on at most four cores. Nothing
-is judged but answers and ends; what is wanted stands beside a figure. It needs gcc; run `./cosem-flow demo < /dev/null` first, which
-builds the program.
+is judged but answers and ends; what is wanted stands beside a figure. It needs gcc; run `tools/build` first.
 """
 import os
 import socket

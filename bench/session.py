@@ -7,8 +7,7 @@ same sizes.
 One connection: the reader's AARQ, and then so many GETs of the register's value, each in a frame of 21 bytes, whose answer is one of
 17. Both programs read from a pipe and write to one; the loop reads as much at once as the program, finds each frame by its length,
 and writes a frame of the answer's size for each, by a write of its own, as the program does. A second run over four times the frames
-shows that memory doesn't grow with their number. The answers are compared with what they must be. It needs gcc; run `./cosem-flow
-session crates/cosem_cases/data/demo.toml < /dev/null` first, which builds the program.
+shows that memory doesn't grow with their number. The answers are compared with what they must be. It needs gcc; run `tools/build` first.
 """
 import os
 import subprocess

@@ -6,6 +6,7 @@ use crate::days;
 use std::fmt;
 use std::marker::Model;
 use std::str::FromStr;
+use thiserror::Error;
 
 /// A civil date of the years 2000 to 9999 and a time of day, in whole seconds (own profile).
 #[derive(Clone, Copy, Debug, PartialEq, Eq)]
@@ -38,7 +39,8 @@ impl Model for Moment {
 
 /// A text that is no moment: not of the form YYYY-MM-DDTHH:MM:SS, or no moment of the years 2000 to 9999 that the
 /// calendar has.
-#[derive(Clone, Copy, Debug, PartialEq, Eq)]
+#[derive(Clone, Copy, Debug, PartialEq, Eq, Drop, Error)]
+#[error("{}", self.words())]
 pub struct BadMoment;
 
 /// The six numbers that a text says, whether or not the calendar has them.
@@ -217,12 +219,13 @@ impl fmt::Display for Moment {
     }
 }
 
-impl fmt::Display for BadMoment {
+impl BadMoment {
     ghost use Rattle.std.specs.Prelude.{codes};
 
-    ghost output = { λ _. Some (codes "no moment of the form YYYY-MM-DDTHH:MM:SS") };
-
-    fn fmt<W: fmt::Write>(&self, f: &mut fmt::Formatter<W>) -> fmt::Result {
-        f.write_str("no moment of the form YYYY-MM-DDTHH:MM:SS")
+    /// What is told of such a text.
+    pub fn words(self) -> &'static str
+        ensures { result.now ≡ codes "no moment of the form YYYY-MM-DDTHH:MM:SS" }
+    {
+        "no moment of the form YYYY-MM-DDTHH:MM:SS"
     }
 }

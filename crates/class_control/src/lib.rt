@@ -13,3 +13,5 @@ pub mod script;
 pub mod script_table;
 pub mod shapes;
 pub mod times;
+
+pub use civil_moment::moment::Moment;

@@ -7,6 +7,16 @@ ghost use Rattle.command_words.specs.CommandLine as spec;
 use clap::{Arg, ArgAction, Command, value_parser};
 use std::alloc::{AllocError, Global};
 
+/// What CONFIG is where standard input has the lines or frames to be answered.
+const CONFIG_FILE: &str = "The file of the configuration, in TOML";
+/// What CONFIG is elsewhere.
+const CONFIG_SOURCE: &str = "The file of the configuration, in TOML; - is standard input";
+/// What LABELS is where standard input has the meter's own steps.
+const LABELS_FILE: &str = "The file of the labels, in the form that `label` prints";
+/// What LABELS is elsewhere.
+const LABELS_SOURCE: &str =
+    "The file of the labels, in the form that `label` prints; - is standard input";
+
 /// All commands of the program.
 pub fn all_commands<'a>(alloc: Global) -> Result<Command<'a>, AllocError>
     ensures { IfOk result (λ c. app_of c ≡ spec.app) }
@@ -66,7 +76,7 @@ fn run_command<'a>(alloc: Global) -> Result<Command<'a>, AllocError>
         .about("Answer the step lines of standard input by a configuration")
         .after_help("Example: cosem-flow run mine.toml < steps.txt")
         .arg(verbose(alloc))?
-        .arg(config_file(alloc))
+        .arg(config_file(alloc, CONFIG_FILE))
 }
 
 fn edges_command<'a>(alloc: Global) -> Result<Command<'a>, AllocError>
@@ -76,7 +86,7 @@ fn edges_command<'a>(alloc: Global) -> Result<Command<'a>, AllocError>
     Command::new(alloc, "edges")
         .about("Print from which attribute to which a value may flow")
         .after_help("Example: cosem-flow edges mine.toml")
-        .arg(config_file(alloc))
+        .arg(config_file(alloc, CONFIG_SOURCE))
 }
 
 fn label_command<'a>(alloc: Global) -> Result<Command<'a>, AllocError>
@@ -86,7 +96,7 @@ fn label_command<'a>(alloc: Global) -> Result<Command<'a>, AllocError>
     Command::new(alloc, "label")
         .about("Print the least labels of a configuration")
         .after_help("Example: cosem-flow label mine.toml > mine.labels")
-        .arg(config_file(alloc))
+        .arg(config_file(alloc, CONFIG_SOURCE))
 }
 
 fn check_command<'a>(alloc: Global) -> Result<Command<'a>, AllocError>
@@ -96,8 +106,8 @@ fn check_command<'a>(alloc: Global) -> Result<Command<'a>, AllocError>
     Command::new(alloc, "check")
         .about("Print the verdict on labels for a configuration")
         .after_help("Example: cosem-flow check mine.toml mine.labels")
-        .arg(config_file(alloc))?
-        .arg(labels_file(alloc))
+        .arg(config_file(alloc, CONFIG_SOURCE))?
+        .arg(labels_file(alloc, LABELS_SOURCE))
 }
 
 fn audit_command<'a>(alloc: Global) -> Result<Command<'a>, AllocError>
@@ -119,7 +129,7 @@ fn session_command<'a>(alloc: Global) -> Result<Command<'a>, AllocError>
     Command::new(alloc, "session")
         .about("Answer the frames of one connection on standard input by a configuration")
         .after_help("Example: cosem-flow session mine.toml < frames.bin > answers.bin")
-        .arg(config_file(alloc))
+        .arg(config_file(alloc, CONFIG_FILE))
 }
 
 fn serve_command<'a>(alloc: Global) -> Result<Command<'a>, AllocError>
@@ -129,8 +139,8 @@ fn serve_command<'a>(alloc: Global) -> Result<Command<'a>, AllocError>
     Command::new(alloc, "serve")
         .about("Answer connections over TCP by a configuration whose labels are accepted")
         .after_help("Example: cosem-flow serve mine.toml mine.labels --port 4059 < steps.txt")
-        .arg(config_file(alloc))?
-        .arg(labels_file(alloc))?
+        .arg(config_file(alloc, CONFIG_FILE))?
+        .arg(labels_file(alloc, LABELS_FILE))?
         .arg(bind(alloc))?
         .arg(port(alloc))?
         .arg(sessions(alloc))
@@ -168,7 +178,7 @@ fn verbose<'a>(alloc: Global) -> Arg<'a>
         .help("Tell on standard error what each line asks, what is answered and what changes")
 }
 
-fn config_file<'a>(alloc: Global) -> Arg<'a>
+fn config_file<'a>(alloc: Global, help: &'a str) -> Arg<'a>
     ensures rule { rule_of result ≡ spec.config_file }
     ensures local { result.global ≡ false }
 {
@@ -176,10 +186,10 @@ fn config_file<'a>(alloc: Global) -> Arg<'a>
         .required(true)
         .action(ArgAction::Set)
         .value_name("CONFIG")
-        .help("The file of the configuration, in TOML")
+        .help(help)
 }
 
-fn labels_file<'a>(alloc: Global) -> Arg<'a>
+fn labels_file<'a>(alloc: Global, help: &'a str) -> Arg<'a>
     ensures rule { rule_of result ≡ spec.labels_file }
     ensures local { result.global ≡ false }
 {
@@ -187,7 +197,7 @@ fn labels_file<'a>(alloc: Global) -> Arg<'a>
         .required(true)
         .action(ArgAction::Set)
         .value_name("LABELS")
-        .help("The file of the labels, in the form that `label` prints")
+        .help(help)
 }
 
 /// How many workers share the work.
@@ -204,7 +214,7 @@ fn workers<'a>(alloc: Global) -> Arg<'a>
         .help("How many workers share the configurations, from 1 to 64")
 }
 
-/// Whether it is told how far an audit is. The launcher `cosem-flow` at the repository's top asks for it on a terminal.
+/// Whether it is told how far an audit is. The program asks for it itself where standard error is a terminal.
 fn progress<'a>(alloc: Global) -> Arg<'a>
     ensures rule { rule_of result ≡ spec.progress }
     ensures local { result.global ≡ false }
@@ -212,7 +222,9 @@ fn progress<'a>(alloc: Global) -> Arg<'a>
     Arg::new(alloc, "progress")
         .long("progress")
         .action(ArgAction::Count)
-        .help("Tell on standard error how far the audit is; the launcher adds this on a terminal")
+        .help(
+            "Tell on standard error how far the audit is, as it is told on a terminal without this",
+        )
 }
 
 /// Where connections are taken.

@@ -2,15 +2,14 @@
 ghost use Rattle.std.specs.Prelude.{◌≡◌};
 ghost use Rattle.clap.specs.Words.{kind_of};
 ghost use Rattle.command_words.specs.Faults.{IsToldAs};
-ghost use Rattle.command_words.specs.declared.fault.WordsFault.TheVariants.{Memory};
 
-use clap::Error;
 use clap::error::ErrorKind;
-use std::alloc::{AllocError, AllocFailed, Global};
-use std::{error, fmt};
+use std::alloc::Global;
+use thiserror::Error;
 
 /// Why the words of a command line ask for no command. Each text is one or more whole lines.
-#[derive(Debug, Drop)]
+#[derive(Debug, Drop, Error)]
+#[error("{}", self.text())]
 pub enum WordsFault {
     /// They ask for help, which is this text, for standard output.
     Help(String),
@@ -23,7 +22,7 @@ pub enum WordsFault {
 }
 
 /// The fault that clap's error is: its kind decides, and its own words are the text.
-pub(crate) fn fault_told(alloc: Global, error: &Error) -> WordsFault
+pub(crate) fn fault_told(alloc: Global, error: &clap::Error) -> WordsFault
     ensures { IsToldAs (kind_of error.now) result }
 {
     let kind = error.kind();
@@ -40,36 +39,18 @@ pub(crate) fn fault_told(alloc: Global, error: &Error) -> WordsFault
     }
 }
 
-impl From<AllocError> for WordsFault {
-    ghost from_gives = { λ _ e. e ≡ Memory };
-
-    fn from(_: AllocError) -> Self {
-        WordsFault::Memory
-    }
-}
-
-impl<T: Drop> From<AllocFailed<T>> for WordsFault {
-    ghost from_gives = { λ _ e. e ≡ Memory };
-
-    fn from(_: AllocFailed<T>) -> Self {
-        WordsFault::Memory
-    }
-}
-
-impl fmt::Display for WordsFault {
-    ghost use Rattle.std.specs.Prelude.{Some};
+impl WordsFault {
     ghost use Rattle.command_words.specs.Faults.{fault_text};
 
-    ghost output = { λ fault. Some (fault_text fault) };
-
-    fn fmt<W: fmt::Write>(&self, f: &mut fmt::Formatter<W>) -> fmt::Result {
+    /// The text that is shown.
+    pub fn text(&self) -> &str
+        ensures { result.now ≡ fault_text self.now }
+    {
         match self {
             WordsFault::Help(text) | WordsFault::Version(text) | WordsFault::Usage(text) => {
-                f.write_str(text.as_str())
+                text.as_str()
             }
-            WordsFault::Memory => f.write_str("error: out of memory\n"),
+            WordsFault::Memory => "error: out of memory\n",
         }
     }
 }
-
-impl error::Error for WordsFault {}

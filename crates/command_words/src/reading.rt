@@ -30,10 +30,14 @@ pub fn read_words<'a>(alloc: Global, words: &'a [&'a str]) -> Result<Command<'a>
         ((kinds_of (map (λ word. word.now) words.now) ≡ [])
         ⊎ HasMistake (kinds_of (map (λ word. word.now) words.now)))) }
 {
-    match all_commands(alloc)?.try_get_matches_from(words) {
-        Ok(matches) => match command_in(alloc, &matches)? {
-            Some(command) => Ok(command),
-            None => Err(nothing_named(alloc)),
+    let Ok(commands) = all_commands(alloc) else {
+        return Err(WordsFault::Memory);
+    };
+    match commands.try_get_matches_from(words) {
+        Ok(matches) => match command_in(alloc, &matches) {
+            Ok(Some(command)) => Ok(command),
+            Ok(None) => Err(nothing_named(alloc)),
+            Err(_) => Err(WordsFault::Memory),
         },
         Err(error) => Err(fault_told(alloc, &error)),
     }

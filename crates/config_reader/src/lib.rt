@@ -10,4 +10,5 @@ mod reading;
 mod scripts;
 mod targets;
 
+pub use config_text::fault::ConfigFault;
 pub use reading::read_config;

@@ -1,15 +1,14 @@
-//! The program `cosem-flow`: a meter server over lines of text, and a judge of configurations.
+//! The program `cosem-flow`: a meter server over lines of text, frames and TCP, and a judge of configurations. What each command does says
+//! `meter_server::program::run_program`; `cosem-flow --help` lists them.
 //!
-//! `cosem-flow run CONFIG` answers the step lines of standard input on standard output, by the configuration in the file
-//! CONFIG; `cosem-flow demo` does so by the demo configuration. `edges CONFIG` prints the edges of the
-//! configuration, `label CONFIG` its least labels, and `check CONFIG LABELS` the verdict on the labels in the file LABELS. A
-//! verdict is one line on standard output. Exit status: 0 done or accepted, 1 a configuration or labels refused, 2 the command
-//! line can't be used, 3 any other fault.
+//! Exit status: 0 done or accepted, 1 a configuration or labels refused, 2 the command line can't be used, 3 any other fault, 141 where
+//! whoever read the output has gone.
 #![tactic(auto)]
 
+use meter_server::output::Pipe;
 use meter_server::program::run_program;
-use std::alloc::Global;
-use std::io::ErrorKind;
+use std::alloc::{AllocError, Global};
+use std::io::{ErrorKind, IsTerminal};
 use std::process::ExitCode;
 use std::{env, io};
 
@@ -53,14 +52,24 @@ fn main(rt: HostRuntime) -> ExitCode {
         &rt,
         &words,
         &mut rt.reader(),
-        &mut io::writer(&rt),
+        &mut Pipe::new(io::writer(&rt)),
         &mut rt.stderr(),
     );
     ExitCode::from(status)
 }
 
-/// The words of the command line, the program's name first.
+/// The words of the command line, the program's name first. An audit is asked to tell how far it is where standard error is a terminal.
 fn read_words(rt: &HostRuntime, alloc: Global) -> Result<Vec<String>, NoWords> {
+    let words = given_words(rt, alloc)?;
+    if rt.stderr().is_terminal() {
+        with_progress(alloc, words).map_err(|_| NoWords::Memory)
+    } else {
+        Ok(words)
+    }
+}
+
+/// The words as they were given.
+fn given_words(rt: &HostRuntime, alloc: Global) -> Result<Vec<String>, NoWords> {
     match env::args(rt) {
         Ok(words) => words.collect(alloc).map_err(|_| NoWords::Memory),
         Err(error) => match error.kind() {
@@ -68,4 +77,14 @@ fn read_words(rt: &HostRuntime, alloc: Global) -> Result<Vec<String>, NoWords> {
             _ => Err(NoWords::Memory),
         },
     }
+}
+
+/// The words, with `--progress` behind the command where that is `audit`.
+fn with_progress(alloc: Global, mut words: Vec<String>) -> Result<Vec<String>, AllocError> {
+    if let Some(command) = words.get(1) {
+        if command.as_str() == "audit" {
+            words.insert(2, String::from_str(alloc, "--progress")?)?;
+        }
+    }
+    Ok(words)
 }

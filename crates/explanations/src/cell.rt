@@ -1,9 +1,12 @@
 //! Cells and edges as they are printed (own profile).
-ghost use Rattle.std.specs.Prelude.{◌≡◌};
+ghost use Rattle.std.specs.Prelude.{◌≡◌, IfOk, string_bytes};
+ghost use Rattle.explanations.specs.Cells as spec;
 ghost use Rattle.explanations.specs.Cells.{cause_word};
 
 use cosem_data::cell::CellRef;
+use cosem_data::memory::Memory;
 use meter_theory::flow::{Cause, Edge};
+use std::alloc::Global;
 use std::fmt;
 
 /// A cell as it is printed: `class_id/logical name/attribute`, with `seen` for the inner cell of a register monitor.
@@ -46,6 +49,14 @@ impl fmt::Display for EdgeText {
         let cause = word_of(self.0.cause);
         write!(f, "{source} -> {target} {cause}")
     }
+}
+
+/// The text of an edge (own profile). The error is that memory was refused.
+pub fn edge_text(alloc: Global, edge: &Edge) -> Result<String, Memory>
+    ensures { IfOk result (λ text. string_bytes text ≡ spec.edge_text edge.now) }
+{
+    let edge = EdgeText(*edge);
+    Ok(format!(in alloc; "{edge}")?)
 }
 
 /// The word of a cause (own profile).

@@ -4,47 +4,55 @@ ghost use Rattle.std.specs.Str.Lossy.{utf8_valid_len};
 ghost use Rattle.explanations.specs.Files as spec;
 ghost use Rattle.explanations.specs.declared.file.FileFault.TheVariants.{NotText};
 
-use std::error::Error;
+use cosem_data::memory::Memory;
+use std::alloc::Global;
+use std::fs;
 use std::io::ErrorKind;
 use std::rt::Files;
-use std::{fmt, fs};
+use thiserror::Error;
 
 /// Why a file isn't read as text (own profile).
-#[derive(Clone, Copy, Debug, PartialEq, Eq, Drop)]
+#[derive(Clone, Copy, Debug, PartialEq, Eq, Drop, Error)]
 pub enum FileFault {
     /// No file has this path.
+    #[error("there is no such file")]
     Missing,
     /// The path is that of a folder.
+    #[error("it is a folder")]
     Folder,
     /// The system doesn't let it be read.
+    #[error("it can't be read")]
     Unreadable,
     /// It isn't UTF-8: the bytes before this one are, counted from 0, and those up to it aren't.
+    #[error("it isn't UTF-8: the first byte that is none is byte {byte}, counted from 0")]
     NotText { byte: usize },
     /// Memory was refused.
+    #[error("out of memory")]
     Memory,
 }
 
-impl fmt::Display for FileFault {
-    ghost use Rattle.std.specs.Prelude.{Some};
+impl FileFault {
+    ghost use Rattle.std.specs.Prelude.{IfOk};
     ghost use Rattle.explanations.specs.Files.{fault_words};
 
-    ghost output = { λ fault. Some (fault_words fault) };
-
-    fn fmt<W: fmt::Write>(&self, f: &mut fmt::Formatter<W>) -> fmt::Result {
-        match self {
-            FileFault::Missing => f.write_str("there is no such file"),
-            FileFault::Folder => f.write_str("it is a folder"),
-            FileFault::Unreadable => f.write_str("it can't be read"),
-            FileFault::NotText { byte } => write!(
-                f,
-                "it isn't UTF-8: the first byte that is none is byte {byte}, counted from 0"
-            ),
-            FileFault::Memory => f.write_str("out of memory"),
-        }
+    /// The fault as it is told. The error is that memory was refused.
+    pub fn told(self, alloc: Global) -> Result<String, Memory>
+        ensures { IfOk result (λ text. string_bytes text ≡ fault_words self) }
+    {
+        let words = match self {
+            FileFault::Missing => "there is no such file",
+            FileFault::Folder => "it is a folder",
+            FileFault::Unreadable => "it can't be read",
+            FileFault::NotText { byte } => {
+                return Ok(format!(in alloc;
+                    "it isn't UTF-8: the first byte that is none is byte {byte}, counted from 0"
+                )?);
+            }
+            FileFault::Memory => "out of memory",
+        };
+        Ok(String::from_str(alloc, words)?)
     }
 }
-
-impl Error for FileFault {}
 
 /// What the system's answer means where it doesn't give a file's bytes.
 pub fn fault_of(kind: ErrorKind) -> FileFault

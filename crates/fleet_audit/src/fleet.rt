@@ -10,11 +10,9 @@ use crate::verdict::Verdict;
 use crate::watch::{Unwatched, Watch};
 use crate::worker::work;
 use gates::Gate;
-use std::alloc::{AllocError, AllocFailed};
-use std::error::Error;
-use std::fmt;
 use std::num::NonZeroUsize;
 use std::thread::Threads;
+use thiserror::Error;
 
 /// A configuration and labels for it, as texts.
 #[derive(Debug, Drop)]
@@ -24,7 +22,8 @@ pub struct Text {
 }
 
 /// Why an audit ended early (own profile).
-#[derive(Clone, Copy, Debug, PartialEq, Eq, Drop)]
+#[derive(Clone, Copy, Debug, PartialEq, Eq, Drop, Error)]
+#[error("{}", self.words())]
 pub enum AuditFault {
     /// 1: memory was refused for the list of verdicts. Where it is refused in a judgement, the verdict says so.
     Memory,
@@ -32,41 +31,17 @@ pub enum AuditFault {
     GaveUp,
 }
 
-impl fmt::Display for AuditFault {
-    ghost use Rattle.std.specs.Prelude.{Some};
+impl AuditFault {
     ghost use Rattle.fleet_audit.specs.Faults.{fault_words};
 
-    ghost output = { λ fault. Some (fault_words fault) };
-
-    fn fmt<W: fmt::Write>(&self, f: &mut fmt::Formatter<W>) -> fmt::Result {
+    /// The fault as it is told (own profile).
+    pub fn words(self) -> &'static str
+        ensures { result.now ≡ fault_words self }
+    {
         match self {
-            AuditFault::Memory => f.write_str("out of memory"),
-            AuditFault::GaveUp => f.write_str("the gate gave up"),
+            AuditFault::Memory => "out of memory",
+            AuditFault::GaveUp => "the gate gave up",
         }
-    }
-}
-
-impl Error for AuditFault {}
-
-impl From<AllocError> for AuditFault {
-    ghost use Rattle.std.specs.Prelude.{◌≡◌};
-    ghost use Rattle.fleet_audit.specs.declared.fleet.AuditFault.TheVariants as faults;
-
-    ghost from_gives = { λ _ fault. fault ≡ faults.Memory };
-
-    fn from(_: AllocError) -> Self {
-        AuditFault::Memory
-    }
-}
-
-impl<T: Drop> From<AllocFailed<T>> for AuditFault {
-    ghost use Rattle.std.specs.Prelude.{◌≡◌};
-    ghost use Rattle.fleet_audit.specs.declared.fleet.AuditFault.TheVariants as faults;
-
-    ghost from_gives = { λ _ fault. fault ≡ faults.Memory };
-
-    fn from(_: AllocFailed<T>) -> Self {
-        AuditFault::Memory
     }
 }
 
@@ -108,7 +83,7 @@ pub fn audit_watched<R: Threads + AllocGlobal + Sync, G: Gate + Sync, W: Watch +
     let alloc = rt.alloc();
     let workers = workers.get().min(texts.len());
     let lent = texts.as_slice();
-    let shares = in_threads(
+    let Ok(shares) = in_threads(
         rt,
         alloc,
         workers,
@@ -116,6 +91,8 @@ pub fn audit_watched<R: Threads + AllocGlobal + Sync, G: Gate + Sync, W: Watch +
             requires { (first < workers) × (workers ≤ length lent.now) }
             ensures { MatchResult result (λ verdicts. Audits (every workers first lent.entry.now) verdicts.items) (λ fault. IsFaultAt (G.may_give_up gate.entry.now) (length lent.entry.now) fault) }
         { work(alloc, lent, first, workers, gate, watch) },
-    )?;
+    ) else {
+        return Err(AuditFault::Memory);
+    };
     in_turn(alloc, all_done(alloc, shares)?, texts.len())
 }

@@ -15,3 +15,5 @@ mod turns;
 pub mod verdict;
 pub mod watch;
 mod worker;
+
+pub use gates::{Gate, Go};

@@ -18,9 +18,13 @@ pub(crate) fn all_done(
     ensures lists { IfOk result (λ lists. AllZip (λ share list. IsOkAnd share (λ verdicts. verdicts.items ≡ list.items)) shares.items lists.items) }
     ensures fault { IfErr result (λ fault. IsFaultOf shares.items fault) }
 {
-    let mut lists = VecDeque::with_capacity(alloc, shares.len())?;
+    let Ok(mut lists) = VecDeque::with_capacity(alloc, shares.len()) else {
+        return Err(AuditFault::Memory);
+    };
     for share in shares {
-        lists.push_back(VecDeque::from(share?))?;
+        let Ok(()) = lists.push_back(VecDeque::from(share?)) else {
+            return Err(AuditFault::Memory);
+        };
     }
     Ok(lists)
 }
@@ -34,7 +38,9 @@ pub(crate) fn in_turn(
     ensures verdicts { IfOk result (λ verdicts. verdicts.items ≡ turns count (map (λ list. list.items) lists.items)) }
     ensures fault { IfErr result (λ fault. fault ≡ Memory) }
 {
-    let mut verdicts = Vec::with_capacity(alloc, count)?;
+    let Ok(mut verdicts) = Vec::with_capacity(alloc, count) else {
+        return Err(AuditFault::Memory);
+    };
     for _ in 0..count {
         let Some(mut list) = lists.pop_front() else {
             break;
@@ -42,8 +48,12 @@ pub(crate) fn in_turn(
         let Some(verdict) = list.pop_front() else {
             break;
         };
-        verdicts.push(verdict)?;
-        lists.push_back(list)?;
+        let Ok(()) = verdicts.push(verdict) else {
+            return Err(AuditFault::Memory);
+        };
+        let Ok(()) = lists.push_back(list) else {
+            return Err(AuditFault::Memory);
+        };
     }
     Ok(verdicts)
 }

@@ -25,7 +25,9 @@ pub(crate) fn work<G: Gate, W: Watch>(
     requires few { workers ≤ length texts.now }
     ensures { MatchResult result (λ verdicts. Audits (every workers first texts.now) verdicts.items) (λ fault. IsFaultAt (G.may_give_up gate.now) (length texts.now) fault) }
 {
-    let mut verdicts = Vec::with_capacity(alloc, texts.len() / workers + 1)?;
+    let Ok(mut verdicts) = Vec::with_capacity(alloc, texts.len() / workers + 1) else {
+        return Err(AuditFault::Memory);
+    };
     let mut seat = first;
     while let Some(text) = texts.get(seat) {
         if gate.before(seat) == Go::GaveUp {
@@ -34,7 +36,9 @@ pub(crate) fn work<G: Gate, W: Watch>(
         let verdict = judge(alloc, text);
         gate.after(seat);
         watch.judged(seat, &verdict);
-        verdicts.push(verdict)?;
+        let Ok(()) = verdicts.push(verdict) else {
+            return Err(AuditFault::Memory);
+        };
         seat += workers;
     }
     Ok(verdicts)

@@ -5,3 +5,5 @@ mod causes;
 pub mod changes;
 pub mod edges;
 pub mod table;
+
+pub use meter_theory::flow::Edge;

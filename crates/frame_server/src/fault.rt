@@ -1,14 +1,12 @@
 //! Why a connection ended early.
 ghost use Rattle.std.specs.Prelude.{◌≡◌};
 
-use crate::writing::WriteFailed;
-use cosem_data::memory::Memory;
-use std::error::Error;
-use std::fmt;
 use tcp_wrapper::fault::WrapFault;
+use thiserror::Error;
 
 /// Why a connection ended early (own profile).
-#[derive(Clone, Copy, Debug, PartialEq, Eq, Drop)]
+#[derive(Clone, Copy, Debug, PartialEq, Eq, Drop, Error)]
+#[error("{}", self.words())]
 pub enum ServeFault {
     /// A read failed, or more than 2^64 - 1 bytes were read.
     Read,
@@ -24,44 +22,20 @@ pub enum ServeFault {
     GaveUp,
 }
 
-impl fmt::Display for ServeFault {
-    ghost use Rattle.std.specs.Prelude.{Some};
+impl ServeFault {
     ghost use Rattle.frame_server.specs.Faults.{serve_fault_words};
 
-    ghost output = { λ fault. Some (serve_fault_words fault) };
-
-    fn fmt<W: fmt::Write>(&self, f: &mut fmt::Formatter<W>) -> fmt::Result {
+    /// The fault as it is told (own profile).
+    pub fn words(self) -> &'static str
+        ensures { result.now ≡ serve_fault_words self }
+    {
         match self {
-            ServeFault::Read => f.write_str("the frames can't be read"),
-            ServeFault::Write => f.write_str("the answers can't be written"),
-            ServeFault::Wrap(fault) => write!(f, "{fault}"),
-            ServeFault::Cut => f.write_str("input ended inside a frame"),
-            ServeFault::Memory => f.write_str("out of memory"),
-            ServeFault::GaveUp => f.write_str("the seat gave up"),
+            ServeFault::Read => "the frames can't be read",
+            ServeFault::Write => "the answers can't be written",
+            ServeFault::Wrap(fault) => fault.words(),
+            ServeFault::Cut => "input ended inside a frame",
+            ServeFault::Memory => "out of memory",
+            ServeFault::GaveUp => "the seat gave up",
         }
-    }
-}
-
-impl Error for ServeFault {}
-
-impl From<Memory> for ServeFault {
-    ghost use Rattle.std.specs.Prelude.{◌≡◌};
-    ghost use Rattle.frame_server.specs.declared.fault.ServeFault.TheVariants as faults;
-
-    ghost from_gives = { λ _ fault. fault ≡ faults.Memory };
-
-    fn from(_: Memory) -> Self {
-        ServeFault::Memory
-    }
-}
-
-impl From<WriteFailed> for ServeFault {
-    ghost use Rattle.std.specs.Prelude.{◌≡◌};
-    ghost use Rattle.frame_server.specs.declared.fault.ServeFault.TheVariants as faults;
-
-    ghost from_gives = { λ _ fault. fault ≡ faults.Write };
-
-    fn from(_: WriteFailed) -> Self {
-        ServeFault::Write
     }
 }

@@ -201,9 +201,15 @@ fn answer_one<W: Write, A: Asker, G: Gate>(
     if seat.gate.before(seat.number) == Go::GaveUp {
         return Err(ServeFault::GaveUp);
     }
-    let answer = session.answer(alloc, message.source, message.apdu.as_slice(), asker)?;
-    let bytes = frame(alloc, SERVER_PORT, message.source, &answer)?;
-    write_whole(writer, &bytes)?;
+    let Ok(answer) = session.answer(alloc, message.source, message.apdu.as_slice(), asker) else {
+        return Err(ServeFault::Memory);
+    };
+    let Ok(bytes) = frame(alloc, SERVER_PORT, message.source, &answer) else {
+        return Err(ServeFault::Memory);
+    };
+    let Ok(()) = write_whole(writer, &bytes) else {
+        return Err(ServeFault::Write);
+    };
     seat.gate.after(seat.number);
     Ok(())
 }

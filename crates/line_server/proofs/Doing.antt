@@ -1,8 +1,8 @@
 -- What lines give an asker to do, and what it does to a meter alone.
-use Rattle.std.proofs.Common.{◌≡◌, ℕ, ◌+◌, ◌<◌, List, [], ◌∷◌, ◌++◌, map, take, drop, length, get_or, Option, Some, None, Result, Ok, Err, OnOk, OnErr, inl, refl, sym, ap, subst, ◌∙◌, append-nil, append_assoc}
+use Rattle.std.proofs.Common.{◌≡◌, ℕ, ◌+◌, ◌<◌, List, [], ◌∷◌, ◌++◌, take, drop, length, get_or, Option, Some, None, Result, Ok, Err, OnOk, OnErr, inl, refl, sym, ap, subst, ◌∙◌, append-nil, append_assoc}
 use Rattle.std.specs.Prelude.{option_to_list, option_and_then, IfErr}
 use Rattle.std.specs.List.{flat_map, filter_map}
-use Rattle.std.proofs.lemmas.List.{take_more, take-append-drop, drop_more}
+use Rattle.std.proofs.lemmas.List.{take_more, take-append-drop}
 use Rattle.std.proofs.lemmas.List.Elements.{filter_map-append}
 use Rattle.cosem_data.specs.declared.memory.Memory.{Memory as NoMemory}
 use Rattle.meter_theory.specs.Plan.{Plan, Object}
@@ -17,13 +17,13 @@ use Rattle.acse_session.specs.Solo.{Alone, AnswersAlone}
 use Rattle.line_server.specs.Asking.{Ask}
 use Rattle.line_server.specs.Answering.{Task, Answer, Take, next_by, reply_by, next_of, reply_of_ask}
 use Rattle.line_server.specs.Doing.{DoesAsked, AnswersAsk, MayAsk, FailsAsk, Does, TakesAll, StopsBehind, TakesLine}
-use Rattle.line_server.specs.Driving.{offered, moment_steps}
+use Rattle.line_server.specs.Driving.{offered}
 use Rattle.line_server.specs.Lines.{Puts}
 use Rattle.line_server.specs.Running.{tasks_in}
-use Rattle.line_server.specs.Solo.{meter_after, replies_to, told, AnswersLine, StopsAtLine}
+use Rattle.line_server.specs.Solo.{meter_after, replies_to, AnswersLine, StopsAtLine}
 use Rattle.line_server.specs.Spelling.{line_of, reply_text, unreadable_text}
 use Rattle.line_server.specs.declared.line.Line.{Line as LineValue}
-use Rattle.line_server.specs.declared.line.Line.TheVariants.{Unreadable, At}
+use Rattle.line_server.specs.declared.line.Line.TheVariants.{Unreadable}
 use Rattle.line_server.specs.declared.running.LineFault.{LineFault}
 use Rattle.line_server.specs.declared.running.LineFault.TheVariants.{Read, Write, Line, Memory}
 

@@ -1,6 +1,5 @@
--- What is told of a fault that ends a run of lines (own profile).
-use Rattle.std.specs.Prelude.{ℕ, List, ◌++◌, codes}
-use Rattle.std.specs.Fmt.{decimal}
+-- What is told of a fault that ends a run of lines, of an unreadable line without its number (own profile).
+use Rattle.std.specs.Prelude.{ℕ, List, codes}
 use Rattle.line_server.specs.declared.running.LineFault.{LineFault}
 use Rattle.line_server.specs.declared.running.LineFault.TheVariants.{Read, Write, Line, Memory}
 use Rattle.line_server.specs.declared.reason.Reason.{Reason}
@@ -9,7 +8,7 @@ use Rattle.line_server.specs.declared.reason.Reason.TheVariants as reasons
 abbrev pub fault_words : LineFault → List ℕ
 fault_words Read = codes "the lines can't be read"
 fault_words Write = codes "the replies can't be written"
-fault_words (Line number why) = codes "line " ++ (decimal number ++ codes ": unreadable")
+fault_words (Line number why) = codes "unreadable"
 fault_words Memory = codes "out of memory"
 
 -- why a line is unreadable (own profile)

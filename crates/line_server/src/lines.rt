@@ -1,5 +1,6 @@
 //! Lines that are read, one after another, over whatever answers them.
-ghost use Rattle.std.specs.Prelude.{◌≡◌, ◌+◌, ◌^◌, ◌<◌, [], length};
+ghost use Rattle.std.specs.Prelude.{◌≡◌, ◌+◌, ◌++◌, ◌^◌, ◌<◌, [], IfErr, IfOk, IfSome, length};
+ghost use Rattle.line_server.specs.Feeding.{Feeds};
 ghost use Rattle.line_server.specs.Lines.{AnswersAll, IsLine};
 ghost use Rattle.line_server.specs.Pieces.{Halts, TakesPiece, EndsRun};
 
@@ -66,7 +67,9 @@ pub fn answer_lines<R: Read, W: Write, A: AnswersLines>(
         waiting: Vec::new(alloc),
     };
     let ended = answer_input(alloc, asker, &mut run, reader, writer);
-    write_waiting(&mut run.waiting, writer)?;
+    let Ok(()) = write_waiting(&mut run.waiting, writer) else {
+        return Err(LineFault::Write);
+    };
     ended
 }
 
@@ -88,7 +91,9 @@ fn answer_input<R: Read, W: Write, A: AnswersLines>(
     let mut total = 0u64;
     let mut buffer = [0u8; PIECE];
     for _ in 0..u64::MAX {
-        write_waiting(&mut run.waiting, writer)?;
+        let Ok(()) = write_waiting(&mut run.waiting, writer) else {
+            return Err(LineFault::Write);
+        };
         let Ok(taken) = reader.read(&mut buffer) else {
             return Err(LineFault::Read);
         };
@@ -131,12 +136,26 @@ fn take_piece<W: Write, A: AnswersLines>(
         (record { asker = asker.new; run = run.new; written = W.contents writer.new }) piece.now result }
 {
     let mut rest = piece;
-    while let Some((part, behind)) = run.feeder.next_line(rest)? {
+    while let Some((part, behind)) = next_line(&mut run.feeder, rest)? {
         run.count += 1;
         asker.answer_line(alloc, run.count, run.feeder.line(part), &mut run.waiting)?;
         run.feeder.clear();
         rest = behind;
-        write_full(&mut run.waiting, writer)?;
+        let Ok(()) = write_full(&mut run.waiting, writer) else {
+            return Err(LineFault::Write);
+        };
     }
     Ok(())
+}
+
+/// As `Feeder::next_line`, with the fault of a run of lines.
+fn next_line<'p>(
+    feeder: &mut Feeder,
+    piece: &'p [u8],
+) -> Result<Option<(&'p [u8], &'p [u8])>, LineFault>
+    ensures fed { IfOk result (λ found. Feeds (feeder.old ++ piece.now) feeder.new found) }
+    ensures shorter { IfOk result (λ found. IfSome found (λ x. length x.1.now < length piece.now)) }
+    ensures err { IfErr result (λ fault. fault ≡ LineFault.Memory) }
+{
+    feeder.next_line(piece).map_err(|_| LineFault::Memory)
 }

@@ -17,66 +17,44 @@ use crate::text::{put_reply, put_unreadable};
 use acse_session::asker::Asker;
 use acse_session::solo::Solo as Alone;
 use cosem_data::memory::Memory;
-use frame_server::writing::WriteFailed;
 use meter_core::step::Step;
 use object_model::meter::Meter;
 use object_model::plan::Plan;
 use std::alloc::Global;
-use std::error::Error;
-use std::fmt;
 use std::io::{Read, Write};
 use std::marker::Model;
+use thiserror::Error;
 
 /// Why a run of lines ended early.
-#[derive(Clone, Copy, Debug, PartialEq, Eq, Drop)]
+#[derive(Clone, Copy, Debug, PartialEq, Eq, Drop, Error)]
 pub enum LineFault {
     /// A read failed, or more than 2^64 - 1 bytes were read.
+    #[error("{}", self.words())]
     Read,
     /// A write failed, or took no byte.
+    #[error("{}", self.words())]
     Write,
     /// The line with this number, from 1, is unreadable, and why.
+    #[error("line {0}: {words}", words = self.words())]
     Line(u64, Reason),
     /// Memory was refused.
+    #[error("{}", self.words())]
     Memory,
 }
 
-impl fmt::Display for LineFault {
-    ghost use Rattle.std.specs.Prelude.{Some};
+impl LineFault {
     ghost use Rattle.line_server.specs.Faults.{fault_words};
 
-    ghost output = { λ fault. Some (fault_words fault) };
-
-    fn fmt<W: fmt::Write>(&self, f: &mut fmt::Formatter<W>) -> fmt::Result {
+    /// The fault as it is told, of an unreadable line without its number (own profile).
+    pub fn words(self) -> &'static str
+        ensures { result.now ≡ fault_words self }
+    {
         match self {
-            LineFault::Read => f.write_str("the lines can't be read"),
-            LineFault::Write => f.write_str("the replies can't be written"),
-            LineFault::Line(number, _) => write!(f, "line {number}: unreadable"),
-            LineFault::Memory => f.write_str("out of memory"),
+            LineFault::Read => "the lines can't be read",
+            LineFault::Write => "the replies can't be written",
+            LineFault::Line(_, _) => "unreadable",
+            LineFault::Memory => "out of memory",
         }
-    }
-}
-
-impl Error for LineFault {}
-
-impl From<Memory> for LineFault {
-    ghost use Rattle.std.specs.Prelude.{◌≡◌};
-    ghost use Rattle.line_server.specs.declared.running.LineFault.TheVariants as faults;
-
-    ghost from_gives = { λ _ fault. fault ≡ faults.Memory };
-
-    fn from(_: Memory) -> Self {
-        LineFault::Memory
-    }
-}
-
-impl From<WriteFailed> for LineFault {
-    ghost use Rattle.std.specs.Prelude.{◌≡◌};
-    ghost use Rattle.line_server.specs.declared.running.LineFault.TheVariants as faults;
-
-    ghost from_gives = { λ _ fault. fault ≡ faults.Write };
-
-    fn from(_: WriteFailed) -> Self {
-        LineFault::Write
     }
 }
 
@@ -180,18 +158,35 @@ fn take_line<A: Asker>(
 ) -> Result<(), LineFault>
     ensures { TakesLine A.answers plan.now asker.old asker.new number line.now waiting.old.items waiting.new.items result }
 {
-    match read_line(alloc, plan, line, &mut room.apdu)? {
+    let Ok(line) = read_line(alloc, plan, line, &mut room.apdu) else {
+        return Err(LineFault::Memory);
+    };
+    match line {
         Line::Skipped => {}
-        Line::Ask(ask) => answer_ask(alloc, asker, &ask, &mut room.reply, waiting)?,
+        Line::Ask(ask) => {
+            let Ok(()) = answer_ask(alloc, asker, &ask, &mut room.reply, waiting) else {
+                return Err(LineFault::Memory);
+            };
+        }
         Line::Input { cell, value } => {
-            asker.ask(alloc, Step::Input { cell, value })?;
+            let Ok(_) = asker.ask(alloc, Step::Input { cell, value }) else {
+                return Err(LineFault::Memory);
+            };
         }
         Line::Evaluate(monitor) => {
-            asker.ask(alloc, Step::Evaluate { monitor })?;
+            let Ok(_) = asker.ask(alloc, Step::Evaluate { monitor }) else {
+                return Err(LineFault::Memory);
+            };
         }
-        Line::At(moment) => take_moment(alloc, plan, asker, moment)?,
+        Line::At(moment) => {
+            let Ok(()) = take_moment(alloc, plan, asker, moment) else {
+                return Err(LineFault::Memory);
+            };
+        }
         Line::Unreadable(why) => {
-            put_unreadable(alloc, number, waiting)?;
+            let Ok(()) = put_unreadable(alloc, number, waiting) else {
+                return Err(LineFault::Memory);
+            };
             return Err(LineFault::Line(number, why));
         }
     }
@@ -244,6 +239,8 @@ pub fn run_lines<R: Read, W: Write>(
     ensures unreadable { (input : List ℕ) (lines : List (List ℕ)) (line rest : List ℕ) (why : Why) → R.remaining reader.old ≡ Some input →
         IsFirstBad plan.now input lines line rest why → (result ≡ Err (LineFault.Line (length lines + 1) why)) ⊎ IsOther result }
 {
-    let mut solo = Solo::start(alloc, plan)?;
+    let Ok(mut solo) = Solo::start(alloc, plan) else {
+        return Err(LineFault::Memory);
+    };
     answer_lines(alloc, &mut solo, reader, writer)
 }

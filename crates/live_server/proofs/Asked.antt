@@ -1,5 +1,5 @@
 -- How the calls of a live meter answer what a port is asked.
-use Rattle.std.proofs.Common.{◌≡◌, ◌++◌, Bool, true, false, List, sym, subst, ◌∙◌}
+use Rattle.std.proofs.Common.{◌≡◌, Bool, true, false, List, sym, subst}
 use Rattle.std.specs.Prelude.{MatchBool, Some, Ok}
 use mathlib.Core.List.{IsPrefix}
 use Rattle.meter_theory.specs.Plan.{Plan, start}

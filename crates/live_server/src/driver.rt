@@ -71,7 +71,9 @@ impl<'b, N: Naming, S: Ledger, C: Ledger, W: Wait + Drop, R: Wait> AnswersLines
         waiting: &mut Vec<u8>,
     ) -> Result<(), LineFault> {
         let mut told = Vec::new(alloc);
-        self.take_line(alloc, number, line, &mut told)?;
+        let Ok(()) = self.take_line(alloc, number, line, &mut told) else {
+            return Err(LineFault::Memory);
+        };
         self.seat.tell();
         match waiting.extend_from_slice(&told) {
             Ok(()) => Ok(()),

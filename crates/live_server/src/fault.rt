@@ -1,11 +1,11 @@
 //! Why connections are no longer served.
 ghost use Rattle.std.specs.Prelude.{◌≡◌};
 
-use std::error::Error;
-use std::fmt;
+use thiserror::Error;
 
 /// Why connections are no longer served (own profile).
-#[derive(Clone, Copy, Debug, PartialEq, Eq, Drop)]
+#[derive(Clone, Copy, Debug, PartialEq, Eq, Drop, Error)]
+#[error("{}", self.words())]
 pub enum ServerFault {
     /// No connection can be taken at the address.
     Listen,
@@ -17,20 +17,18 @@ pub enum ServerFault {
     Board,
 }
 
-impl fmt::Display for ServerFault {
-    ghost use Rattle.std.specs.Prelude.{Some};
+impl ServerFault {
     ghost use Rattle.live_server.specs.Faults.{fault_words};
 
-    ghost output = { λ fault. Some (fault_words fault) };
-
-    fn fmt<W: fmt::Write>(&self, f: &mut fmt::Formatter<W>) -> fmt::Result {
+    /// The fault as it is told (own profile).
+    pub fn words(self) -> &'static str
+        ensures { result.now ≡ fault_words self }
+    {
         match self {
-            ServerFault::Listen => f.write_str("connections can't be taken there"),
-            ServerFault::Memory => f.write_str("out of memory"),
-            ServerFault::GaveUp => f.write_str("a seat gave up"),
-            ServerFault::Board => f.write_str("the meter has no port for a seat"),
+            ServerFault::Listen => "connections can't be taken there",
+            ServerFault::Memory => "out of memory",
+            ServerFault::GaveUp => "a seat gave up",
+            ServerFault::Board => "the meter has no port for a seat",
         }
     }
 }
-
-impl Error for ServerFault {}

@@ -1,5 +1,11 @@
 mod accepting;
 mod alone;
 mod boards;
+mod callers;
+mod closing;
+mod faults;
+mod fleets;
+mod progress;
 mod samples;
 mod serving;
+mod surface;

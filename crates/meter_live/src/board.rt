@@ -12,7 +12,7 @@ ghost use Rattle.meter_live.specs.Codes.{step_code};
 ghost use Rattle.meter_live.specs.Tally.{HasSeen, counted, nothing};
 
 use crate::desk::{BoardReader, Desk};
-use crate::fault::{LiveFault, NoReader, PortFault};
+use crate::fault::{LiveFault, PortFault, ReaderFault};
 use crate::history::{Front, History};
 use crate::live::Live;
 use crate::names::Naming;
@@ -210,7 +210,7 @@ impl<'b, N: Naming, S: Ledger, C: Ledger, W: Wait + Drop> Port<'b, N, S, C, W> {
     }
 
     /// The reader of this port, which has seen what is published. A port gives one.
-    pub fn reader<R: Wait>(&self, rt: &R) -> Result<BoardReader<N>, NoReader> {
+    pub fn reader<R: Wait>(&self, rt: &R) -> Result<BoardReader<N>, ReaderFault> {
         self.board.desk.lock(rt).give_reader(self.number)
     }
 

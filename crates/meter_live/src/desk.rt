@@ -13,7 +13,7 @@ ghost use Rattle.meter_live.specs.Tally.{HasSeen, counted, nothing};
 ghost use Rattle.meter_live.specs.Told.{acted, posted};
 
 use crate::change::changes_in;
-use crate::fault::{LiveFault, NoReader, PortFault, ReadRefused};
+use crate::fault::{LiveFault, PortFault, ReadRefused, ReaderFault};
 use crate::live::Live;
 use crate::names::Naming;
 use crate::reader::Reader;
@@ -220,16 +220,16 @@ impl<N: Naming, S: Ledger, C: Ledger, W: Wait + Drop> Desk<N, S, C, W> {
     }
 
     /// The reader of a port that was given none, which has seen what is published.
-    pub(crate) fn give_reader(&mut self, port: u8) -> Result<BoardReader<N>, NoReader>
+    pub(crate) fn give_reader(&mut self, port: u8) -> Result<BoardReader<N>, ReaderFault>
         ensures reader { IfOk result (λ r. r ≡ self.old.live.published) }
         ensures live { self.new.live ≡ self.old.live }
     {
         let port = usize::from(port);
         if port >= self.ports.len() || self.ports[port] {
-            return Err(NoReader);
+            return Err(ReaderFault::NoReader);
         }
         let Some(reader) = self.live.reader() else {
-            return Err(NoReader);
+            return Err(ReaderFault::NoReader);
         };
         self.ports[port] = true;
         Ok(BoardReader {

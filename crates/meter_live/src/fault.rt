@@ -38,9 +38,12 @@ impl From<Memory> for PortFault {
     }
 }
 
-/// A port got no reader: it got one before, or `left_right` gave no reading end.
+/// Why a port gave no reader. Giving one takes no memory.
 #[derive(Clone, Copy, PartialEq, Eq, Debug)]
-pub struct NoReader;
+pub enum ReaderFault {
+    /// It gave one before, or `left_right` gave no reading end.
+    NoReader,
+}
 
 /// Why a reader gave no answer.
 #[derive(Clone, Copy, PartialEq, Eq, Debug)]

@@ -10,7 +10,7 @@ use Rattle.meter_server.specs.Outcomes.{ended}
 use Rattle.meter_server.specs.Program.{IsJudged}
 use Rattle.meter_server.specs.Reading.{MayRead}
 use Rattle.meter_server.specs.declared.outcome.Outcome.{Outcome}
-use Rattle.meter_server.specs.declared.outcome.Outcome.TheVariants.{Done, Judged, Words, Unread, Fault, Broken, Unserved, Audited, Unaudited, Unwritten, Untranslated}
+use Rattle.meter_server.specs.declared.outcome.Outcome.TheVariants.{Done, Judged, Words, Unread, Fault, Broken, Unserved, Audited, Unaudited, Unwritten, Untranslated, Closed}
 use Rattle.meter_server.specs.declared.program.Source.{Source}
 
 -- a file that was read, as a source
@@ -30,6 +30,7 @@ unread-accepts-nothing path why (Audited text accepts) h = tt
 unread-accepts-nothing path why (Unaudited fault) h = tt
 unread-accepts-nothing path why (Unwritten fault) h = tt
 unread-accepts-nothing path why (Untranslated fault) h = tt
+unread-accepts-nothing path why Closed h = tt
 
 -- nor where the verdict doesn't accept
 pub refusal-accepts-nothing : (config labels : Source) (verdict : Verdict) (outcome : Outcome) → verdict ≢ Accepted → IsJudged config labels verdict outcome → IsNoAcceptance outcome
@@ -47,6 +48,7 @@ refusal-accepts-nothing config labels verdict (Audited text accepts) never h = a
 refusal-accepts-nothing config labels verdict (Unaudited fault) never h = absurd h
 refusal-accepts-nothing config labels verdict (Unwritten fault) never h = absurd h
 refusal-accepts-nothing config labels verdict (Untranslated fault) never h = absurd h
+refusal-accepts-nothing config labels verdict Closed never h = absurd h
 
 -- a live meter has ended, or didn't begin
 pub served-so : {A : Type 0} (answer : Result A ServerFault) → IsServed (ended answer)

@@ -1,5 +1,5 @@
 -- What each command does with the files that it names, its input and its output (own profile throughout).
-use Rattle.std.specs.Prelude.{◌≡◌, ◌⊎◌, ◌++◌, ℕ, List, Bool, true, false, not, codes, string_bytes, Option, Some, None, Result, Ok, Err, []}
+use Rattle.std.specs.Prelude.{◌≡◌, ◌⊎◌, ◌++◌, ℕ, List, Bool, true, false, not, ◌||◌, codes, string_bytes, Option, Some, None, Result, Ok, Err, []}
 use Rattle.std.specs.Io.KnownBytes.{Appends}
 use Rattle.std.specs.List.{AllZip}
 use Rattle.command_words.specs.Commands.{Asked, command_of}
@@ -22,9 +22,10 @@ use Rattle.line_server.specs.declared.running.LineFault.TheVariants as lines
 use Rattle.meter_server.specs.Auditing.{AuditsTexts}
 use Rattle.meter_server.specs.Connecting.{AnswersFrames}
 use Rattle.meter_server.specs.Listing.{WritesText}
-use Rattle.meter_server.specs.Outcomes.{error_of, status_of, translated}
+use Rattle.meter_server.specs.Outcomes.{error_of, status_of, translated, unless_closed}
 use Rattle.meter_server.specs.Program.{AnswersText, IsFaulty, IsJudged, IsNoCommand, ListsEdges, ListsLabels, TellsVerdict}
 use Rattle.meter_server.specs.Reading.{AreTextsOf, FailsFirst, MayRead}
+use Rattle.meter_server.specs.Sources.{Given, MayGive, ReadsWhere, is_input}
 use Rattle.meter_server.specs.Translating.{Translates}
 use Rattle.meter_server.specs.declared.demo.TheConstants.{DEMO}
 use Rattle.meter_server.specs.declared.listing.ListFault.{ListFault}
@@ -142,14 +143,17 @@ Lister = Source → Result ConfigText Faulty → (before after : Option (List �
 abbrev pub ListsFile : Lister → MayRead → List ℕ → (before after : Option (List ℕ)) → Outcome → Type 0
 ListsFile Lists reads path before after outcome = ByFile reads path (λ config. Lists config (config_of config.text.now) before after) (after ≡ before) outcome
 
--- what a command does
+-- what a command does; of a file that is named `-` the commands that don't answer lines or frames read the input
 abbrev pub Answers : MayRead → Asked → (before after : Moment) → Outcome → Type 0
 Answers reads (Demo is_verbose) before after outcome =
     (demo : Source) × (demo.file.now ≡ codes "demo.toml") × (demo.text.now ≡ DEMO.now) × AnswersText demo (config_of demo.text.now) before after outcome
 Answers reads (Run path is_verbose) before after outcome = RunsFile reads path before after outcome
-Answers reads (Edges path) before after outcome = (after.unread ≡ before.unread) × ListsFile ListsEdges reads path before.written after.written outcome
-Answers reads (Label path) before after outcome = (after.unread ≡ before.unread) × ListsFile ListsLabels reads path before.written after.written outcome
-Answers reads (Check config labels) before after outcome = (after ≡ before) × JudgesFiles reads config labels outcome
+Answers reads (Edges path) before after outcome =
+    (given : Option Given) × ReadsWhere (is_input path) before.unread after.unread given × ListsFile ListsEdges (MayGive reads given) path before.written after.written outcome
+Answers reads (Label path) before after outcome =
+    (given : Option Given) × ReadsWhere (is_input path) before.unread after.unread given × ListsFile ListsLabels (MayGive reads given) path before.written after.written outcome
+Answers reads (Check config labels) before after outcome =
+    (given : Option Given) × ReadsWhere (is_input config || is_input labels) before.unread after.unread given × (after.written ≡ before.written) × JudgesFiles (MayGive reads given) config labels outcome
 Answers reads (Audit workers names tells_progress) before after outcome = (after ≡ before) × AuditsFiles reads names outcome
 Answers reads (Session path) before after outcome = ConnectsFile reads path before after outcome
 Answers reads (Serve config labels address port sessions) before after outcome =
@@ -194,6 +198,7 @@ pub record Runs (reads : MayRead) (ws : List (List ℕ)) (before after : Moment)
   pub quiet : is_quiet (command_of ws) ≡ true → error_between ≡ error_before
   pub told : Outcome
   pub tells : TellsVerdict outcome between.written after.written told
-  pub explains : TellsError told error_between error_after
+  pub is_closed : Bool
+  pub explains : TellsError (unless_closed told is_closed) error_between error_after
   pub left : after.unread ≡ between.unread
-  pub ends : status ≡ status_of told
+  pub ends : status ≡ status_of (unless_closed told is_closed)

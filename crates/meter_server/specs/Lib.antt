@@ -6,5 +6,6 @@ pub mod Outcomes
 pub mod Program
 pub mod Progress
 pub mod Reading
+pub mod Sources
 pub mod Translating
 pub mod Watching

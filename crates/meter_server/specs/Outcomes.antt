@@ -1,6 +1,6 @@
 -- What the program tells whoever started it of how a command ended (own profile throughout).
 use Rattle.std.specs.Fmt.{decimal}
-use Rattle.std.specs.Prelude.{ℕ, List, [], ◌++◌, if◌then◌else◌, string_bytes, codes, Result, Ok, Err}
+use Rattle.std.specs.Prelude.{ℕ, Bool, true, false, ◌&&◌, List, [], ◌++◌, if◌then◌else◌, string_bytes, codes, Result, Ok, Err}
 use Rattle.command_words.specs.declared.fault.WordsFault.{WordsFault}
 use Rattle.command_words.specs.declared.fault.WordsFault.TheVariants as words
 use Rattle.explanations.specs.Files as files
@@ -17,9 +17,13 @@ use Rattle.meter_server.specs.Translating as translations
 use Rattle.fleet_audit.specs.Verdicts.{verdict_line}
 use Rattle.meter_server.specs.declared.listing.ListFault.{ListFault}
 use Rattle.meter_server.specs.declared.outcome.Outcome.{Outcome}
-use Rattle.meter_server.specs.declared.outcome.Outcome.TheVariants.{Done, Judged, Words, Unread, Fault, Broken, Unserved, Audited, Unaudited, Unwritten, Untranslated}
+use Rattle.meter_server.specs.declared.outcome.Outcome.TheVariants.{Done, Judged, Words, Unread, Fault, Broken, Unserved, Audited, Unaudited, Unwritten, Untranslated, Closed}
 use Rattle.line_server.specs.declared.running.LineFault.{LineFault}
 use Rattle.line_server.specs.declared.running.LineFault.TheVariants.{Line}
+use Rattle.line_server.specs.declared.running.LineFault.TheVariants as lines
+use Rattle.frame_server.specs.declared.fault.ServeFault.TheVariants as frames
+use Rattle.meter_server.specs.declared.listing.ListFault.TheVariants as lists_fault
+use Rattle.meter_server.specs.declared.translating.TranslationFault.TheVariants as texts
 use Rattle.meter_server.specs.declared.translating.TranslationFault.{TranslationFault}
 use Rattle.fleet_audit.specs.declared.verdict.Verdict.{Verdict}
 use Rattle.fleet_audit.specs.declared.verdict.Verdict.TheVariants.{Accepted, Config, Labels, Refused}
@@ -63,7 +67,7 @@ status_of_words (words.Version text) = 0
 status_of_words (words.Usage text) = 2
 status_of_words words.Memory = 3
 
--- the exit status: 0 done or accepted, 1 a verdict that refuses, 2 a command line that can't be used, 3 any other fault
+-- the exit status: 0 done or accepted, 1 a verdict that refuses, 2 a command line that can't be used, 3 any other fault; 141 a closed output
 abbrev pub status_of : Outcome → ℕ
 status_of Done = 0
 status_of (Judged verdict explanation) = status_of_verdict verdict
@@ -76,6 +80,19 @@ status_of (Audited text accepts) = if accepts then 0 else 1
 status_of (Unaudited fault) = 3
 status_of (Unwritten fault) = 3
 status_of (Untranslated fault) = 3
+status_of Closed = 141
+
+-- whether a write on the output failed
+abbrev pub is_unwritten : Outcome → Bool
+is_unwritten (Fault lines.Write) = true
+is_unwritten (Broken frames.Write) = true
+is_unwritten (Unwritten lists_fault.Write) = true
+is_unwritten (Untranslated texts.Write) = true
+is_unwritten _ = false
+
+-- how a command ended whose output is closed or not: by that, where a write failed
+abbrev pub unless_closed : Outcome → (is_closed : Bool) → Outcome
+unless_closed outcome is_closed = if (is_closed && is_unwritten outcome) then Closed else outcome
 
 -- what standard output tells behind what the command wrote: its verdict or verdicts, help or the version
 abbrev pub output_of : Outcome → List ℕ
@@ -85,6 +102,10 @@ output_of (Words (words.Help text)) = string_bytes text
 output_of (Words (words.Version text)) = string_bytes text
 output_of _ = []
 
+-- the line that tells these words
+abbrev pub line : List ℕ → List ℕ
+line words = codes "cosem-flow: " ++ (words ++ codes "\n")
+
 -- a file that isn't read, and why
 abbrev pub unread_line : List ℕ → FileFault → List ℕ
 unread_line file why = codes "cosem-flow: " ++ (printable file ++ (codes ": " ++ (files.fault_words why ++ codes "\n")))
@@ -92,6 +113,7 @@ unread_line file why = codes "cosem-flow: " ++ (printable file ++ (codes ": " ++
 -- what standard error tells: what explains a verdict, all else that went wrong, and why a line is unreadable, which standard output has told of
 abbrev pub error_of : Outcome → List ℕ
 error_of Done = []
+error_of Closed = []
 error_of (Judged verdict explanation) = string_bytes explanation
 error_of (Words (words.Help text)) = []
 error_of (Words (words.Version text)) = []
@@ -99,10 +121,10 @@ error_of (Words (words.Usage text)) = string_bytes text
 error_of (Words words.Memory) = codes "cosem-flow: out of memory\n"
 error_of (Unread file why) = unread_line (string_bytes file) why
 error_of (Fault (Line number why)) = codes "cosem-flow: line " ++ (decimal number ++ (codes ": " ++ (reason_words why ++ codes "\n")))
-error_of (Fault fault) = codes "cosem-flow: " ++ (fault_words fault ++ codes "\n")
+error_of (Fault fault) = line (fault_words fault)
 error_of (Audited text accepts) = []
-error_of (Unaudited fault) = codes "cosem-flow: " ++ (audits.fault_words fault ++ codes "\n")
-error_of (Broken fault) = codes "cosem-flow: " ++ (serve_fault_words fault ++ codes "\n")
-error_of (Unserved fault) = codes "cosem-flow: " ++ (servers.fault_words fault ++ codes "\n")
-error_of (Unwritten fault) = codes "cosem-flow: " ++ (lists.fault_words fault ++ codes "\n")
-error_of (Untranslated fault) = codes "cosem-flow: " ++ (translations.fault_words fault ++ codes "\n")
+error_of (Unaudited fault) = line (audits.fault_words fault)
+error_of (Broken fault) = line (serve_fault_words fault)
+error_of (Unserved fault) = line (servers.fault_words fault)
+error_of (Unwritten fault) = line (lists.fault_words fault)
+error_of (Untranslated fault) = line (translations.fault_words fault)

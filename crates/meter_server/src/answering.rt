@@ -15,6 +15,7 @@ use crate::program::{
 };
 use crate::reading::{FleetFault, read_fleet};
 use crate::serving::{Place, serve_at};
+use crate::sources::{Sources, is_either_input, is_input};
 use crate::translating::{Way, translate};
 use command_words::Command;
 use config_reader::read_config;
@@ -71,9 +72,18 @@ where
         Command::Run { config, is_verbose } => {
             run_file(alloc, files, config, is_verbose, input, output, errors)
         }
-        Command::Edges { config } => list_edges_of_file(alloc, files, config, output),
-        Command::Label { config } => list_labels_of_file(alloc, files, config, output),
-        Command::Check { config, labels } => check_files(alloc, files, config, labels),
+        Command::Edges { config } => {
+            let sources = Sources::new(alloc, files, input, is_input(config));
+            list_edges_of_file(alloc, &sources, config, output)
+        }
+        Command::Label { config } => {
+            let sources = Sources::new(alloc, files, input, is_input(config));
+            list_labels_of_file(alloc, &sources, config, output)
+        }
+        Command::Check { config, labels } => {
+            let sources = Sources::new(alloc, files, input, is_either_input(config, labels));
+            check_files(alloc, &sources, config, labels)
+        }
         Command::Audit {
             workers,
             names,

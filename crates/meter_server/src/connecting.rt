@@ -21,6 +21,9 @@ pub fn serve_alone<R: Read, W: Write>(
         (record { unread = R.remaining reader.new; written = W.contents writer.new }) result }
 {
     plan.known();
-    let mut solo = Solo::new(plan, plan.start(alloc)?);
+    let Ok(meter) = plan.start(alloc) else {
+        return Err(ServeFault::Memory);
+    };
+    let mut solo = Solo::new(plan, meter);
     serve(alloc, reader, writer, plan, &mut solo)
 }

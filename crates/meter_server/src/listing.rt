@@ -10,18 +10,18 @@ use cosem_data::memory::Memory;
 use explanations::cell::word_of;
 use flow_edges::edges::edge_table;
 use flow_edges::table::Link;
-use frame_server::writing::{WriteFailed, write_full, write_waiting, write_whole};
+use frame_server::writing::{write_full, write_waiting, write_whole};
 use label_certificate::least::make_labels;
 use label_certificate::writing::write_labels;
 use object_model::plan::Plan;
 use std::alloc::Global;
-use std::error::Error;
-use std::fmt;
 use std::io::Write;
+use thiserror::Error;
 use value_text::cell::push_cell;
 
 /// Why a text that a program prints, as a list or a verdict, wasn't written whole.
-#[derive(Clone, Copy, Debug, PartialEq, Eq, Drop)]
+#[derive(Clone, Copy, Debug, PartialEq, Eq, Drop, Error)]
+#[error("{}", self.words())]
 pub enum ListFault {
     /// A write failed, or took no byte.
     Write,
@@ -29,41 +29,17 @@ pub enum ListFault {
     Memory,
 }
 
-impl fmt::Display for ListFault {
-    ghost use Rattle.std.specs.Prelude.{Some};
+impl ListFault {
     ghost use Rattle.meter_server.specs.Listing.{fault_words};
 
-    ghost output = { λ fault. Some (fault_words fault) };
-
-    fn fmt<W: fmt::Write>(&self, f: &mut fmt::Formatter<W>) -> fmt::Result {
+    /// The fault as it is told (own profile).
+    pub fn words(self) -> &'static str
+        ensures { result.now ≡ fault_words self }
+    {
         match self {
-            ListFault::Write => f.write_str("the output can't be written"),
-            ListFault::Memory => f.write_str("out of memory"),
+            ListFault::Write => "the output can't be written",
+            ListFault::Memory => "out of memory",
         }
-    }
-}
-
-impl Error for ListFault {}
-
-impl From<Memory> for ListFault {
-    ghost use Rattle.std.specs.Prelude.{◌≡◌};
-    ghost use Rattle.meter_server.specs.declared.listing.ListFault.TheVariants as faults;
-
-    ghost from_gives = { λ _ fault. fault ≡ faults.Memory };
-
-    fn from(_: Memory) -> Self {
-        ListFault::Memory
-    }
-}
-
-impl From<WriteFailed> for ListFault {
-    ghost use Rattle.std.specs.Prelude.{◌≡◌};
-    ghost use Rattle.meter_server.specs.declared.listing.ListFault.TheVariants as faults;
-
-    ghost from_gives = { λ _ fault. fault ≡ faults.Write };
-
-    fn from(_: WriteFailed) -> Self {
-        ListFault::Write
     }
 }
 
@@ -75,8 +51,12 @@ impl From<WriteFailed> for ListFault {
 pub fn write_edges<W: Write>(alloc: Global, plan: &Plan, writer: &mut W) -> Result<(), ListFault>
     ensures { WritesText (edges_text (edges plan.now)) (W.contents writer.old) (W.contents writer.new) result }
 {
-    let table = edge_table(alloc, plan)?;
-    let texts = cell_texts(alloc, table.cells())?;
+    let Ok(table) = edge_table(alloc, plan) else {
+        return Err(ListFault::Memory);
+    };
+    let Ok(texts) = cell_texts(alloc, table.cells()) else {
+        return Err(ListFault::Memory);
+    };
     write_links(alloc, &texts, table.links(), writer)
 }
 
@@ -105,10 +85,16 @@ fn write_links<W: Write>(
 {
     let mut waiting = Vec::new(alloc);
     for link in links {
-        push_link(texts, *link, &mut waiting)?;
-        write_full(&mut waiting, writer)?;
+        let Ok(()) = push_link(texts, *link, &mut waiting) else {
+            return Err(ListFault::Memory);
+        };
+        let Ok(()) = write_full(&mut waiting, writer) else {
+            return Err(ListFault::Write);
+        };
     }
-    write_waiting(&mut waiting, writer)?;
+    let Ok(()) = write_waiting(&mut waiting, writer) else {
+        return Err(ListFault::Write);
+    };
     Ok(())
 }
 
@@ -139,8 +125,11 @@ pub fn write_least_labels<W: Write>(
 ) -> Result<(), ListFault>
     ensures { WritesLeast plan.now (W.contents writer.old) (W.contents writer.new) result }
 {
-    let labels = make_labels(alloc, plan)?;
-    let text = write_labels(alloc, plan, &labels)?;
-    write_whole(writer, &text)?;
-    Ok(())
+    let Ok(labels) = make_labels(alloc, plan) else {
+        return Err(ListFault::Memory);
+    };
+    let Ok(text) = write_labels(alloc, plan, &labels) else {
+        return Err(ListFault::Memory);
+    };
+    write_whole(writer, &text).map_err(|_| ListFault::Write)
 }

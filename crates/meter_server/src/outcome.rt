@@ -1,6 +1,7 @@
 //! How a command ended, and what is told of it (own profile).
 ghost use Rattle.std.specs.Prelude.{◌≡◌, IfOk, string_bytes};
-ghost use Rattle.meter_server.specs.Outcomes.{error_of, output_of, status_of, unread_line};
+ghost use Rattle.meter_server.specs.Outcomes as outcomes;
+ghost use Rattle.meter_server.specs.Outcomes.{error_of, line, output_of, status_of, unread_line};
 
 use crate::listing::ListFault;
 use crate::translating::TranslationFault;
@@ -41,10 +42,13 @@ pub enum Outcome {
     Unwritten(ListFault),
     /// A text wasn't translated, or not written whole.
     Untranslated(TranslationFault),
+    /// A write failed since whoever read the output has gone.
+    Closed,
 }
 
 impl Outcome {
-    /// The exit status: 0 done, accepted or helped, 1 a verdict that refuses, 2 a command line that can't be used, 3 any other fault.
+    /// The exit status: 0 done, accepted or helped, 1 a verdict that refuses, 2 a command line that can't be used, 3 any other fault; 141
+    /// where the output's reader has gone, as a shell tells of a program that the signal PIPE ended.
     pub fn status(&self) -> u8
         ensures { result ≡ status_of self.now }
     {
@@ -62,7 +66,32 @@ impl Outcome {
             | Outcome::Unserved(_)
             | Outcome::Unwritten(_)
             | Outcome::Untranslated(_) => 3,
+            Outcome::Closed => 141,
         }
+    }
+
+    /// Itself; or `Closed` where a write failed and the output is closed.
+    pub fn unless_closed(self, is_closed: bool) -> Outcome
+        ensures { result ≡ outcomes.unless_closed self is_closed }
+    {
+        if is_closed && self.is_unwritten() {
+            Outcome::Closed
+        } else {
+            self
+        }
+    }
+
+    /// Whether a write on the output failed.
+    fn is_unwritten(&self) -> bool
+        ensures { result ≡ outcomes.is_unwritten self.now }
+    {
+        matches!(
+            self,
+            Outcome::Fault(LineFault::Write)
+                | Outcome::Broken(ServeFault::Write)
+                | Outcome::Unwritten(ListFault::Write)
+                | Outcome::Untranslated(TranslationFault::Write)
+        )
     }
 
     /// What is told on standard output behind what the command wrote: its verdict or verdicts, or the help or the version that was asked for.
@@ -85,7 +114,7 @@ impl Outcome {
         ensures { IfOk result (λ text. string_bytes text ≡ error_of self.now) }
     {
         match self {
-            Outcome::Done | Outcome::Audited { .. } => Ok(String::new(alloc)),
+            Outcome::Done | Outcome::Audited { .. } | Outcome::Closed => Ok(String::new(alloc)),
             Outcome::Judged(_, explanation) => Ok(String::from_str(alloc, explanation.as_str())?),
             Outcome::Words(WordsFault::Help(_) | WordsFault::Version(_)) => Ok(String::new(alloc)),
             Outcome::Words(WordsFault::Usage(text)) => Ok(String::from_str(alloc, text.as_str())?),
@@ -96,14 +125,21 @@ impl Outcome {
             Outcome::Fault(LineFault::Line(number, why)) => {
                 Ok(format!(in alloc; "cosem-flow: line {number}: {why}\n")?)
             }
-            Outcome::Fault(fault) => Ok(format!(in alloc; "cosem-flow: {fault}\n")?),
-            Outcome::Unaudited(fault) => Ok(format!(in alloc; "cosem-flow: {fault}\n")?),
-            Outcome::Broken(fault) => Ok(format!(in alloc; "cosem-flow: {fault}\n")?),
-            Outcome::Unserved(fault) => Ok(format!(in alloc; "cosem-flow: {fault}\n")?),
-            Outcome::Unwritten(fault) => Ok(format!(in alloc; "cosem-flow: {fault}\n")?),
-            Outcome::Untranslated(fault) => Ok(format!(in alloc; "cosem-flow: {fault}\n")?),
+            Outcome::Fault(fault) => line_of(alloc, fault.words()),
+            Outcome::Unaudited(fault) => line_of(alloc, fault.words()),
+            Outcome::Broken(fault) => line_of(alloc, fault.words()),
+            Outcome::Unserved(fault) => line_of(alloc, fault.words()),
+            Outcome::Unwritten(fault) => line_of(alloc, fault.words()),
+            Outcome::Untranslated(fault) => line_of(alloc, fault.told(alloc)?.as_str()),
         }
     }
+}
+
+/// The line that tells these words.
+fn line_of(alloc: Global, words: &str) -> Result<String, Memory>
+    ensures { IfOk result (λ text. string_bytes text ≡ line words.now) }
+{
+    Ok(format!(in alloc; "cosem-flow: {words}\n")?)
 }
 
 /// What is told of a file that isn't read.
@@ -111,5 +147,6 @@ fn unread_text(alloc: Global, file: &str, why: FileFault) -> Result<String, Memo
     ensures { IfOk result (λ text. string_bytes text ≡ unread_line file.now why) }
 {
     let file = printable_text(alloc, file)?;
+    let why = why.told(alloc)?;
     Ok(format!(in alloc; "cosem-flow: {file}: {why}\n")?)
 }

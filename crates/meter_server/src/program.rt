@@ -15,6 +15,7 @@ use crate::connecting::serve_alone;
 use crate::files::TextFiles;
 use crate::listing::{ListFault, write_edges, write_least_labels};
 use crate::outcome::Outcome;
+use crate::output::Output;
 use crate::translating::TranslationFault;
 use crate::watching::{Watched, run_watched};
 use command_words::{WordsFault, read_words};
@@ -104,7 +105,7 @@ pub fn listed(answer: Result<(), ListFault>) -> Outcome
 /// meter, where the verdict accepts, and takes the meter's own steps from the lines of the input; `encode` and `decode` translate the input
 /// onto the output.
 /// A verdict stands on the output and what explains it on the error stream; help and the version stand on the output where the words
-/// ask for these; any other fault stands on the error stream.
+/// ask for these; any other fault stands on the error stream. Where the output's reader has gone nothing more is told.
 /// `rt` is the handle that starts threads, waits, opens sockets and tells the time; `files` reads the files that the words name.
 pub fn run_program<H, F, I, O, E>(
     rt: &H,
@@ -123,7 +124,7 @@ where
         + Sync,
     F: TextFiles + Sync,
     I: Read + Send,
-    O: Write,
+    O: Output,
     E: Write + Send,
     // What the words ask for is done, and then told.
     ensures runs { Runs (F.may_read files.now) (map string_bytes words.now)
@@ -133,10 +134,11 @@ where
     // A wrong command line has status 2, unless memory was refused.
     ensures mistaken { AreMistaken (map string_bytes words.now) → (result ≡ 2) ⊎ (result ≡ 3) }
     // Help and the version have status 0, unless memory was refused or they can't be written.
-    ensures helped { AskForHelp (map string_bytes words.now) → (result ≡ 0) ⊎ (result ≡ 3) }
+    ensures helped { AskForHelp (map string_bytes words.now) → (result ≡ 0) ⊎ (result ≡ 3) ⊎ (result ≡ 141) }
 {
     let outcome = asked(rt, files, words, input, output, errors);
     let outcome = with_verdict(rt.alloc(), outcome, output);
+    let outcome = outcome.unless_closed(output.is_closed());
     tell(rt.alloc(), &outcome, errors);
     outcome.status()
 }
@@ -255,7 +257,9 @@ fn run_aloud<I: Read, O: Write, E: Write>(
         (record { unread = I.remaining input.old; written = O.contents output.old })
         (record { unread = I.remaining input.new; written = O.contents output.new }) result }
 {
-    let mut watched = Watched::start(alloc, plan, errors)?;
+    let Ok(mut watched) = Watched::start(alloc, plan, errors) else {
+        return Err(LineFault::Memory);
+    };
     run_watched(alloc, &mut watched, input, output)
 }
 
@@ -342,9 +346,10 @@ fn write_verdict<O: Write>(
 ) -> Result<(), ListFault>
     ensures { WritesText (output_of outcome.now) (O.contents output.old) (O.contents output.new) result }
 {
-    let text = outcome.output(alloc)?;
-    write_whole(output, text.as_bytes())?;
-    Ok(())
+    let Ok(text) = outcome.output(alloc) else {
+        return Err(ListFault::Memory);
+    };
+    write_whole(output, text.as_bytes()).map_err(|_| ListFault::Write)
 }
 
 /// Tells on the error stream how a command ended. A write that fails there ends the telling: no stream is left to tell of it.
@@ -360,7 +365,8 @@ fn tell<E: Write>(alloc: Global, outcome: &Outcome, errors: &mut E)
 fn write_error<E: Write>(alloc: Global, outcome: &Outcome, errors: &mut E) -> Result<(), ListFault>
     ensures { WritesError outcome.now (E.contents errors.old) (E.contents errors.new) result }
 {
-    let text = outcome.error(alloc)?;
-    write_whole(errors, text.as_bytes())?;
-    Ok(())
+    let Ok(text) = outcome.error(alloc) else {
+        return Err(ListFault::Memory);
+    };
+    write_whole(errors, text.as_bytes()).map_err(|_| ListFault::Write)
 }

@@ -7,39 +7,20 @@ use crate::files::TextFiles;
 use explanations::file::FileFault;
 use fleet_audit::fleet::Text;
 use fleet_audit::threads::in_threads;
-use std::alloc::{AllocError, AllocFailed, Global};
+use std::alloc::Global;
 use std::num::NonZeroUsize;
 use std::thread::Threads;
+use thiserror::Error;
 
 /// Why a fleet isn't read.
-#[derive(Debug, Drop)]
+#[derive(Debug, Drop, Error)]
 pub enum FleetFault {
     /// The file with this path isn't read as text, and why.
+    #[error("{0}: {1}")]
     Unread(String, FileFault),
     /// Memory was refused.
+    #[error("out of memory")]
     Memory,
-}
-
-impl From<AllocError> for FleetFault {
-    ghost use Rattle.std.specs.Prelude.{◌≡◌};
-    ghost use Rattle.meter_server.specs.declared.reading.FleetFault.TheVariants as faults;
-
-    ghost from_gives = { λ _ fault. fault ≡ faults.Memory };
-
-    fn from(_: AllocError) -> Self {
-        FleetFault::Memory
-    }
-}
-
-impl<T: Drop> From<AllocFailed<T>> for FleetFault {
-    ghost use Rattle.std.specs.Prelude.{◌≡◌};
-    ghost use Rattle.meter_server.specs.declared.reading.FleetFault.TheVariants as faults;
-
-    ghost from_gives = { λ _ fault. fault ≡ faults.Memory };
-
-    fn from(_: AllocFailed<T>) -> Self {
-        FleetFault::Memory
-    }
 }
 
 /// The texts of the files that these names stand for, name by name. Each worker reads those of as many names as another, which stand
@@ -59,7 +40,7 @@ pub fn read_fleet<H: AllocGlobal + Threads + Sync, F: TextFiles + Sync>(
 {
     let alloc = rt.alloc();
     let each = names.len().div_ceil(workers.get()).max(1);
-    let parts = in_threads(
+    let Ok(parts) = in_threads(
         rt,
         alloc,
         names.len().div_ceil(each),
@@ -68,10 +49,16 @@ pub fn read_fleet<H: AllocGlobal + Threads + Sync, F: TextFiles + Sync>(
                 (λ texts. AllZip (AreTextsOf (F.may_read files.entry.now)) (map (λ name. name.now) (part names.entry.now each number)) texts.items)
                 (TellsFirst (F.may_read files.entry.now) (map (λ name. name.now) (part names.entry.now each number))) }
         { read_part(alloc, files, part_of(names, each, number)) },
-    )?;
-    let mut texts = Vec::with_capacity(alloc, names.len())?;
+    ) else {
+        return Err(FleetFault::Memory);
+    };
+    let Ok(mut texts) = Vec::with_capacity(alloc, names.len()) else {
+        return Err(FleetFault::Memory);
+    };
     for part in parts {
-        texts.append(&mut part?)?;
+        let Ok(()) = texts.append(&mut part?) else {
+            return Err(FleetFault::Memory);
+        };
     }
     Ok(texts)
 }
@@ -95,9 +82,14 @@ fn read_part<F: TextFiles>(
         (λ texts. AllZip (AreTextsOf (F.may_read files.now)) (map (λ name. name.now) names.now) texts.items)
         (TellsFirst (F.may_read files.now) (map (λ name. name.now) names.now)) }
 {
-    let mut texts = Vec::with_capacity(alloc, names.len())?;
+    let Ok(mut texts) = Vec::with_capacity(alloc, names.len()) else {
+        return Err(FleetFault::Memory);
+    };
     for name in names {
-        texts.push(read_named(alloc, files, name)?)?;
+        let text = read_named(alloc, files, name)?;
+        let Ok(()) = texts.push(text) else {
+            return Err(FleetFault::Memory);
+        };
     }
     Ok(texts)
 }
@@ -106,8 +98,14 @@ fn read_part<F: TextFiles>(
 fn read_named<F: TextFiles>(alloc: Global, files: &F, name: &str) -> Result<Text, FleetFault>
     ensures { MatchResult result (AreTextsOf (F.may_read files.now) name.now) (TellsName (F.may_read files.now) name.now) }
 {
-    let config = read_kept(files, format!(in alloc; "{name}.toml")?)?;
-    let labels = read_kept(files, format!(in alloc; "{name}.labels")?)?;
+    let Ok(path) = format!(in alloc; "{name}.toml") else {
+        return Err(FleetFault::Memory);
+    };
+    let config = read_kept(files, path)?;
+    let Ok(path) = format!(in alloc; "{name}.labels") else {
+        return Err(FleetFault::Memory);
+    };
+    let labels = read_kept(files, path)?;
     Ok(Text { config, labels })
 }
 

@@ -5,13 +5,12 @@ ghost use Rattle.meter_server.specs.Translating as spec;
 ghost use Rattle.meter_server.specs.Translating.{ReadsAll, Translates};
 
 use cosem_data::memory::Memory;
-use frame_server::writing::{WriteFailed, write_whole};
+use frame_server::writing::write_whole;
 use std::alloc::Global;
-use std::error::Error;
-use std::fmt;
 use std::io::{ErrorKind, Read, Write};
 use step_words::fault::TextFault;
 use step_words::texts::{decode_text, encode_text};
+use thiserror::Error;
 
 /// Which way a text is translated (own profile).
 #[derive(Clone, Copy, Debug)]
@@ -23,55 +22,37 @@ pub enum Way {
 }
 
 /// Why a text wasn't translated, or not written whole.
-#[derive(Debug, Drop)]
+#[derive(Debug, Drop, Error)]
 pub enum TranslationFault {
     /// A read failed.
+    #[error("the input can't be read")]
     Read,
     /// A write failed, or took no byte.
+    #[error("the output can't be written")]
     Write,
     /// The text has this fault, or memory was refused while it was translated.
+    #[error(transparent)]
     Text(TextFault),
     /// Memory was refused while it was read.
+    #[error("out of memory")]
     Memory,
 }
 
-impl fmt::Display for TranslationFault {
-    ghost use Rattle.std.specs.Prelude.{Some};
+impl TranslationFault {
+    ghost use Rattle.std.specs.Prelude.{IfOk, string_bytes};
     ghost use Rattle.meter_server.specs.Translating.{fault_words};
 
-    ghost output = { λ fault. Some (fault_words fault) };
-
-    fn fmt<W: fmt::Write>(&self, f: &mut fmt::Formatter<W>) -> fmt::Result {
-        match self {
-            TranslationFault::Read => f.write_str("the input can't be read"),
-            TranslationFault::Write => f.write_str("the output can't be written"),
-            TranslationFault::Text(fault) => write!(f, "{fault}"),
-            TranslationFault::Memory => f.write_str("out of memory"),
-        }
-    }
-}
-
-impl Error for TranslationFault {}
-
-impl From<TextFault> for TranslationFault {
-    ghost use Rattle.std.specs.Prelude.{◌≡◌};
-    ghost use Rattle.meter_server.specs.declared.translating.TranslationFault.TheVariants as faults;
-
-    ghost from_gives = { λ text fault. fault ≡ faults.Text text };
-
-    fn from(fault: TextFault) -> Self {
-        TranslationFault::Text(fault)
-    }
-}
-
-impl From<WriteFailed> for TranslationFault {
-    ghost use Rattle.std.specs.Prelude.{◌≡◌};
-    ghost use Rattle.meter_server.specs.declared.translating.TranslationFault.TheVariants as faults;
-
-    ghost from_gives = { λ _ fault. fault ≡ faults.Write };
-
-    fn from(_: WriteFailed) -> Self {
-        TranslationFault::Write
+    /// The fault as it is told (own profile). The error is that memory was refused.
+    pub fn told(&self, alloc: Global) -> Result<String, Memory>
+        ensures { IfOk result (λ text. string_bytes text ≡ fault_words self.now) }
+    {
+        let words = match self {
+            TranslationFault::Read => "the input can't be read",
+            TranslationFault::Write => "the output can't be written",
+            TranslationFault::Text(fault) => return fault.told(alloc),
+            TranslationFault::Memory => "out of memory",
+        };
+        Ok(String::from_str(alloc, words)?)
     }
 }
 
@@ -92,9 +73,8 @@ pub fn translate<R: Read, W: Write>(
         (record { unread = R.remaining reader.new; written = W.contents writer.new }) result }
 {
     let text = read_all(alloc, reader)?;
-    let made = translated(alloc, way, &text)?;
-    write_whole(writer, &made)?;
-    Ok(())
+    let made = translated(alloc, way, &text).map_err(TranslationFault::Text)?;
+    write_whole(writer, &made).map_err(|_| TranslationFault::Write)
 }
 
 /// All that the reader gives.

@@ -21,3 +21,5 @@ pub mod right;
 mod stored;
 pub mod undo;
 mod writes;
+
+pub use meter_theory::access::AccessCode;

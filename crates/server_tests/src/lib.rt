@@ -1,4 +1,4 @@
-//! Tests of sessions and connections, of audits, of plans that are read, of readers and writers that fail and of refused growths over whole
+//! Tests of sessions and connections, of plans that are read, of readers and writers that fail and of refused growths over whole
 //! steps, over the crates that have them. There is nothing else here, so that no crate is proved a second time for its tests.
 #![tactic(auto)]
 

@@ -1,9 +1,6 @@
 mod callers;
-mod faults;
-mod fleets;
 mod lines;
 mod plans;
-mod progress;
 mod refusals;
 mod runs;
 mod samples;

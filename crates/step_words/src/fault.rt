@@ -3,7 +3,9 @@
 ghost use Rattle.std.specs.Prelude.{◌≡◌};
 ghost use Rattle.step_words.specs.Faults.{asked_words, value_asked_words};
 
-use std::fmt;
+use cosem_data::memory::Memory;
+use std::alloc::Global;
+use thiserror::Error;
 use value_words::fault::Asked as ValueAsked;
 
 /// What was asked at a place of a line (own profile).
@@ -107,11 +109,13 @@ fn value_asked(asked: ValueAsked) -> &'static str
 }
 
 /// Why nothing is made of a text (own profile).
-#[derive(Clone, Copy, Debug, PartialEq, Eq)]
+#[derive(Clone, Copy, Debug, PartialEq, Eq, Drop, Error)]
 pub enum TextFault {
     /// Memory was refused.
+    #[error("out of memory")]
     Memory,
     /// Something else stands at a place of a line than what is asked; all before it is right.
+    #[error("line {line}, column {column}: asked is {asked}", asked = .asked.as_str())]
     At {
         /// The number of the line, from 1.
         line: u64,
@@ -122,31 +126,24 @@ pub enum TextFault {
     },
 }
 
-impl fmt::Display for Asked {
-    ghost use Rattle.std.specs.Prelude.{Some};
-    ghost use Rattle.step_words.specs.Faults.{asked_words};
-
-    ghost output = { λ asked. Some (asked_words asked) };
-
-    fn fmt<W: fmt::Write>(&self, f: &mut fmt::Formatter<W>) -> fmt::Result {
-        f.write_str(self.as_str())
-    }
-}
-
-impl fmt::Display for TextFault {
-    ghost use Rattle.std.specs.Prelude.{Some};
+impl TextFault {
+    ghost use Rattle.std.specs.Prelude.{IfOk, string_bytes};
     ghost use Rattle.step_words.specs.Faults.{fault_words};
 
-    ghost output = { λ fault. Some (fault_words fault) };
-
-    fn fmt<W: fmt::Write>(&self, f: &mut fmt::Formatter<W>) -> fmt::Result {
+    /// The fault as it is told. The error is that memory was refused.
+    pub fn told(self, alloc: Global) -> Result<String, Memory>
+        ensures { IfOk result (λ text. string_bytes text ≡ fault_words self) }
+    {
         match self {
-            TextFault::Memory => f.write_str("out of memory"),
+            TextFault::Memory => Ok(String::from_str(alloc, "out of memory")?),
             TextFault::At {
                 line,
                 column,
                 asked,
-            } => write!(f, "line {line}, column {column}: asked is {asked}"),
+            } => {
+                let asked = asked.as_str();
+                Ok(format!(in alloc; "line {line}, column {column}: asked is {asked}")?)
+            }
         }
     }
 }

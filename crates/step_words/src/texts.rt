@@ -13,7 +13,7 @@ use crate::runs::{Run, run_of};
 use crate::steps::{decoded_step, encoded_step};
 use crate::stop::Stop;
 use cosem_data::memory::Memory;
-use std::alloc::{AllocError, AllocFailed, Global};
+use std::alloc::Global;
 
 /// Which way a text is translated.
 #[derive(Clone, Copy, Debug)]
@@ -119,28 +119,6 @@ fn line_of(alloc: Global, way: Way, text: &[u8]) -> Result<Vec<u8>, Stop>
     }
 }
 
-impl From<AllocError> for TextFault {
-    ghost use Rattle.std.specs.Prelude.{◌≡◌};
-    ghost use Rattle.step_words.specs.declared.fault.TextFault.TheVariants as faults;
-
-    ghost from_gives = { λ _ fault. fault ≡ faults.Memory };
-
-    fn from(_: AllocError) -> Self {
-        TextFault::Memory
-    }
-}
-
-impl<T: Drop> From<AllocFailed<T>> for TextFault {
-    ghost use Rattle.std.specs.Prelude.{◌≡◌};
-    ghost use Rattle.step_words.specs.declared.fault.TextFault.TheVariants as faults;
-
-    ghost from_gives = { λ _ fault. fault ≡ faults.Memory };
-
-    fn from(_: AllocFailed<T>) -> Self {
-        TextFault::Memory
-    }
-}
-
 /// What is made of the line with this number.
 fn numbered(alloc: Global, way: Way, number: u64, line: &[u8]) -> Result<Vec<u8>, TextFault>
     ensures { Gives (λ x. x.items) result (spec.placed number (length line.now) (spec.line_at way line.now)) }
@@ -184,12 +162,20 @@ fn translated(alloc: Global, way: Way, text: &[u8]) -> Result<Vec<u8>, TextFault
     let mut rest = text;
     let mut number = 1u64;
     while let Some((line, behind)) = first_line(rest) {
-        made.extend_from_slice(&numbered(alloc, way, number, line)?)?;
-        made.push(NEWLINE)?;
+        let line = numbered(alloc, way, number, line)?;
+        let Ok(()) = made.extend_from_slice(&line) else {
+            return Err(TextFault::Memory);
+        };
+        let Ok(()) = made.push(NEWLINE) else {
+            return Err(TextFault::Memory);
+        };
         rest = behind;
         number += 1;
     }
-    made.extend_from_slice(&numbered(alloc, way, number, rest)?)?;
+    let last = numbered(alloc, way, number, rest)?;
+    let Ok(()) = made.extend_from_slice(&last) else {
+        return Err(TextFault::Memory);
+    };
     Ok(made)
 }
 

@@ -1,6 +1,5 @@
 -- What is told of a fault.
-use Rattle.std.specs.Prelude.{ℕ, List, ◌++◌, codes}
-use Rattle.std.specs.Fmt.{decimal}
+use Rattle.std.specs.Prelude.{ℕ, List, codes}
 use Rattle.tcp_wrapper.specs.declared.fault.WrapFault.{WrapFault}
 use Rattle.tcp_wrapper.specs.declared.fault.WrapFault.TheVariants.{Version, Destination, Length, Memory, Failed}
 
@@ -14,4 +13,8 @@ number_of Failed = 5
 
 -- a fault as it is printed (own profile)
 abbrev pub fault_words : WrapFault → List ℕ
-fault_words fault = codes "frame fault " ++ decimal (number_of fault)
+fault_words Version = codes "frame fault 1"
+fault_words Destination = codes "frame fault 2"
+fault_words Length = codes "frame fault 3"
+fault_words Memory = codes "frame fault 4"
+fault_words Failed = codes "frame fault 5"

@@ -1,16 +1,13 @@
 //! Why a stream is read no further.
 ghost use Rattle.std.specs.Prelude.{◌≡◌};
-ghost use Rattle.tcp_wrapper.specs.Faults.{number_of};
-ghost use Rattle.tcp_wrapper.specs.declared.fault.WrapFault.TheVariants as faults;
+ghost use Rattle.tcp_wrapper.specs.Faults.{fault_words, number_of};
 
-use cosem_data::memory::Memory;
-use std::alloc::{AllocError, AllocFailed};
-use std::error::Error;
-use std::fmt;
+use thiserror::Error;
 
 /// Why a stream is read no further. A header is judged once its eight bytes are there, and of the first three the first that
 /// is met is told (own profile).
-#[derive(Clone, Copy, Debug, PartialEq, Eq, Drop)]
+#[derive(Clone, Copy, Debug, PartialEq, Eq, Drop, Error)]
+#[error("{}", self.words())]
 pub enum WrapFault {
     /// The version isn't 0001 (IEC 62056-4-7, the wrapper header).
     Version,
@@ -37,42 +34,17 @@ impl WrapFault {
             WrapFault::Failed => 5,
         }
     }
-}
 
-impl fmt::Display for WrapFault {
-    ghost use Rattle.std.specs.Prelude.{Some};
-    ghost use Rattle.tcp_wrapper.specs.Faults.{fault_words};
-
-    ghost output = { λ fault. Some (fault_words fault) };
-
-    fn fmt<W: fmt::Write>(&self, f: &mut fmt::Formatter<W>) -> fmt::Result {
-        let number = self.number();
-        write!(f, "frame fault {number}")
-    }
-}
-
-impl Error for WrapFault {}
-
-impl From<AllocError> for WrapFault {
-    ghost from_gives = { λ _ fault. fault ≡ faults.Memory };
-
-    fn from(_: AllocError) -> Self {
-        WrapFault::Memory
-    }
-}
-
-impl<T: Drop> From<AllocFailed<T>> for WrapFault {
-    ghost from_gives = { λ _ fault. fault ≡ faults.Memory };
-
-    fn from(_: AllocFailed<T>) -> Self {
-        WrapFault::Memory
-    }
-}
-
-impl From<Memory> for WrapFault {
-    ghost from_gives = { λ _ fault. fault ≡ faults.Memory };
-
-    fn from(_: Memory) -> Self {
-        WrapFault::Memory
+    /// The fault as it is told (own profile).
+    pub fn words(self) -> &'static str
+        ensures { result.now ≡ fault_words self }
+    {
+        match self {
+            WrapFault::Version => "frame fault 1",
+            WrapFault::Destination => "frame fault 2",
+            WrapFault::Length => "frame fault 3",
+            WrapFault::Memory => "frame fault 4",
+            WrapFault::Failed => "frame fault 5",
+        }
     }
 }

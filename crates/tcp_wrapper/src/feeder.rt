@@ -134,7 +134,9 @@ fn take_all(
     while !rest.is_empty() {
         let (message, behind) = take(alloc, held, rest)?;
         if let Some(message) = message {
-            messages.push(message)?;
+            let Ok(()) = messages.push(message) else {
+                return Err(WrapFault::Memory);
+            };
         }
         rest = behind;
     }
@@ -172,12 +174,17 @@ fn take_first<'p>(
 {
     match judge(piece) {
         Judgement::Partial => {
-            held.extend_from_slice(piece)?;
+            let Ok(()) = held.extend_from_slice(piece) else {
+                return Err(WrapFault::Memory);
+            };
             Ok((None, &[]))
         }
         Judgement::Whole(size) => {
             let (frame, rest) = piece.split_at(size);
-            Ok((Some(message_of(alloc, frame)?), rest))
+            let Ok(message) = message_of(alloc, frame) else {
+                return Err(WrapFault::Memory);
+            };
+            Ok((Some(message), rest))
         }
         Judgement::Refused(fault) => Err(fault),
     }
@@ -195,11 +202,15 @@ fn take_more<'p>(
     ensures shorter { IfOk result (λ taken. length taken.1.now < length piece.now) }
 {
     let (part, rest) = piece.split_at(lacking(held).min(piece.len()));
-    held.extend_from_slice(part)?;
+    let Ok(()) = held.extend_from_slice(part) else {
+        return Err(WrapFault::Memory);
+    };
     match judge(held) {
         Judgement::Partial => Ok((None, rest)),
         Judgement::Whole(_) => {
-            let message = message_of(alloc, held)?;
+            let Ok(message) = message_of(alloc, held) else {
+                return Err(WrapFault::Memory);
+            };
             held.clear();
             Ok((Some(message), rest))
         }

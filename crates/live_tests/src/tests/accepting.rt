@@ -9,5 +9,8 @@ use std::test::Fail;
 pub(super) fn accepted(alloc: Global, text: &str) -> Result<Checked, Fail> {
     let (plan, policy) = read_config(alloc, text)?;
     let labels = make_labels(alloc, &plan)?;
-    check(alloc, plan, &policy, &labels).map_err(|_| "the plan is refused".into())
+    let Ok(checked) = check(alloc, plan, &policy, &labels) else {
+        return Err("the plan is refused".into());
+    };
+    Ok(checked)
 }

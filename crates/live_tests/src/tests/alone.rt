@@ -17,9 +17,13 @@ use std::test::Fail;
 
 /// A live meter of the accepted plan. Where memory is refused it is made once more of what was given back.
 fn begun<R: Wait>(rt: &R, alloc: Global) -> Result<Live, Fail> {
-    match Live::new(rt, alloc, accepted(alloc, TEXT)?, 1) {
+    let checked = match Live::new(rt, alloc, accepted(alloc, TEXT)?, 1) {
+        Ok(live) => return Ok(live),
+        Err(checked) => checked,
+    };
+    match Live::new(rt, alloc, checked, 1) {
         Ok(live) => Ok(live),
-        Err(checked) => Live::new(rt, alloc, checked, 1).map_err(|_| "refused once more".into()),
+        Err(_) => Err("refused once more".into()),
     }
 }
 
@@ -30,21 +34,18 @@ fn taken(rt: &impl Abort, alloc: Global, live: &mut Live, step: &Step) -> Result
     let count = live.meter().count();
     let entries = live.meter().trail().len();
     match live.act(alloc, 7, step) {
-        Ok(reply) => Ok(reply),
-        Err(LiveFault::Full) => Err("full".into()),
         Err(LiveFault::Memory) => {
-            assert_eq!(rt; live.meter().count(), count);
-            assert_eq!(rt; live.meter().trail().len(), entries);
-            live.act(alloc, 7, step)
-                .map_err(|_| "refused once more".into())
+            has_taken(rt, live, count, entries);
+            Ok(live.act(alloc, 7, step)?)
         }
+        taken => Ok(taken?),
     }
 }
 
 /// A GET of the register is answered by its value at the start.
 fn takes_get(rt: &impl Abort, alloc: Global, live: &mut Live) -> Result<(), Fail> {
-    let reply = taken(rt, alloc, live, &get_energy())?;
-    assert_eq!(rt; number_in(&reply), Some(u64::from(ENERGY)));
+    let number = number_in(&taken(rt, alloc, live, &get_energy())?);
+    assert!(rt; number == Some(u64::from(ENERGY)));
     Ok(())
 }
 
@@ -52,15 +53,15 @@ fn takes_get(rt: &impl Abort, alloc: Global, live: &mut Live) -> Result<(), Fail
 fn takes_input(rt: &impl Abort, alloc: Global, live: &mut Live) -> Result<(), Fail>
     ensures { live.new.book ≡ live.old.book }
 {
-    let reply = taken(rt, alloc, live, &energy_is(5))?;
-    assert!(rt; is_quiet(&reply));
+    let is_quiet = is_quiet(&taken(rt, alloc, live, &energy_is(5))?);
+    assert!(rt; is_quiet);
     Ok(())
 }
 
 /// So many steps were taken, and the trail has so many entries.
 fn has_taken(rt: &impl Abort, live: &Live, count: u64, entries: usize) {
-    assert_eq!(rt; live.meter().count(), count);
-    assert_eq!(rt; live.meter().trail().len(), entries);
+    assert!(rt; live.meter().count() == count);
+    assert!(rt; live.meter().trail().len() == entries);
 }
 
 /// Takes a first step and then GETs of the register, until the trail is closed.
@@ -97,8 +98,7 @@ fn is_closed(
     alarm: u64,
 ) -> Result<(), Fail> {
     take_past_the_trail(rt, alloc, live, first)?;
-    let begins = alarm_where_it_begins(alloc, live)?;
-    assert_eq!(rt; begins, Some(alarm));
+    assert!(rt; alarm_where_it_begins(alloc, live)? == Some(alarm));
     Ok(())
 }
 
@@ -125,22 +125,23 @@ fn a_full_trail_is_closed_in_the_state_then(rt: HostRuntime) -> Result<(), Fail>
     trail_is_closed(&rt, rt.alloc(), &set_alarm(1), 1)
 }
 
-/// The answer to a GET of the register.
-fn read(alloc: Global, reader: &mut Reader) -> Result<Reply, ReadRefused>
+/// The register as the reader sees it.
+fn read(alloc: Global, reader: &mut Reader) -> Result<Option<u64>, ReadRefused>
     ensures { reader.new.book ≡ reader.old.book }
 {
-    reader.get(alloc, &get_energy())
+    let reply = reader.get(alloc, &get_energy())?;
+    Ok(number_in(&reply))
 }
 
-/// The register as the reader sees it, where memory is refused at most once.
-fn seen(alloc: Global, reader: &mut Reader) -> Option<u64>
+/// The reader sees this number in the register, where memory is refused at most once.
+fn sees(rt: &impl Abort, alloc: Global, reader: &mut Reader, number: u64)
     ensures { reader.new.book ≡ reader.old.book }
 {
-    let reply = match read(alloc, reader) {
-        Ok(reply) => Ok(reply),
-        Err(_) => read(alloc, reader),
-    };
-    number_in(&reply.ok()?)
+    let mut seen = read(alloc, reader);
+    if seen.is_err() {
+        seen = read(alloc, reader);
+    }
+    assert!(rt; seen == Ok(Some(number)));
 }
 
 /// A value that came in is seen once the reader is told. Where the telling is refused for memory, the reader sees what it saw, and is
@@ -154,12 +155,12 @@ fn is_told<R: Wait + Abort>(
     requires { reader.old.book ≡ live.old.book }
 {
     takes_input(rt, alloc, live)?;
-    assert_eq!(rt; seen(alloc, reader), Some(u64::from(ENERGY)));
+    sees(rt, alloc, reader, u64::from(ENERGY));
     if live.tell(rt, reader).is_err() {
-        assert_eq!(rt; seen(alloc, reader), Some(u64::from(ENERGY)));
+        sees(rt, alloc, reader, u64::from(ENERGY));
         live.tell(rt, reader)?;
     }
-    assert_eq!(rt; seen(alloc, reader), Some(5));
+    sees(rt, alloc, reader, 5);
     Ok(())
 }
 

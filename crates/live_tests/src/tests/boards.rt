@@ -6,7 +6,6 @@ use super::samples::{
     ENERGY, TEXT, energy_is, get_energy, is_quiet, is_success, number_in, set_denied,
 };
 use flow_checker::check::Checked;
-use meter_core::reply::Reply;
 use meter_live::board::{Blanks, Board, NotAll, Port};
 use meter_live::desk::BoardReader;
 use meter_live::fault::{LiveFault, PortFault, ReadRefused};
@@ -19,36 +18,19 @@ use std::sync::Wait;
 use std::sync::ledger::Ledger;
 use std::test::Fail;
 
-/// How a day on a board ended: it was held, or the board wasn't opened for want of memory.
-#[derive(Drop)]
-enum Day {
-    Held,
-    Refused(Checked),
+/// The register as the reader sees it.
+fn read<N: Naming>(alloc: Global, reader: &mut BoardReader<N>) -> Result<Option<u64>, ReadRefused> {
+    let reply = reader.get(alloc, &get_energy())?;
+    Ok(number_in(&reply))
 }
 
-/// The answer to a GET of the register.
-fn read<N: Naming>(alloc: Global, reader: &mut BoardReader<N>) -> Result<Reply, ReadRefused> {
-    reader.get(alloc, &get_energy())
-}
-
-/// The register as the reader sees it, where memory is refused at most once.
-fn seen<N: Naming>(alloc: Global, reader: &mut BoardReader<N>) -> Option<u64> {
-    let reply = match read(alloc, reader) {
-        Ok(reply) => Ok(reply),
-        Err(_) => read(alloc, reader),
-    };
-    number_in(&reply.ok()?)
-}
-
-/// The register as the reader sees it while the lock is held: a reader that took it would wait for ever.
-fn seen_under_lock<N: Naming, S: Ledger, C: Ledger, W: Wait + Drop, R: Wait>(
-    rt: &R,
-    alloc: Global,
-    board: &Board<N, S, C, W>,
-    reader: &mut BoardReader<N>,
-) -> Option<u64> {
-    let _guard = board.lock(rt);
-    seen(alloc, reader)
+/// The reader sees this number in the register, where memory is refused at most once.
+fn sees<N: Naming>(rt: &impl Abort, alloc: Global, reader: &mut BoardReader<N>, number: u32) {
+    let mut seen = read(alloc, reader);
+    if seen.is_err() {
+        seen = read(alloc, reader);
+    }
+    assert!(rt; seen == Ok(Some(u64::from(number))));
 }
 
 /// A value comes into the register, and has no answer. Where the step is refused for memory, it is taken once more. Whether the
@@ -65,9 +47,7 @@ fn put<N: Naming, S: Ledger, C: Ledger, W: Wait + Drop, R: Wait + Abort>(
         Err(LiveFault::Memory) => port.put(rt, alloc, share, reader, energy_is(value)),
         put => put,
     };
-    let Ok((reply, told)) = put else {
-        return Err("refused once more".into());
-    };
+    let (reply, told) = put?;
     assert!(rt; is_quiet(&reply));
     Ok(told)
 }
@@ -84,10 +64,10 @@ fn put_and_read<N: Naming, S: Ledger, C: Ledger, W: Wait + Drop, R: Wait + Abort
     new: u32,
 ) -> Result<(), Fail> {
     if !put(rt, alloc, port, share, reader, new)? {
-        assert_eq!(rt; seen(alloc, reader), Some(u64::from(old)));
+        sees(rt, alloc, reader, old);
         port.tell(rt, share, reader)?;
     }
-    assert_eq!(rt; seen(alloc, reader), Some(u64::from(new)));
+    sees(rt, alloc, reader, new);
     Ok(())
 }
 
@@ -102,10 +82,14 @@ fn is_denied<N: Naming, S: Ledger, C: Ledger, W: Wait + Drop, R: Wait + Abort>(
         Err(LiveFault::Memory) => port.act(rt, alloc, share, set_denied()),
         denied => denied,
     };
-    assert!(rt; denied.is_ok_and(|reply| !is_success(&reply)));
+    let is_denied = match denied {
+        Ok(reply) => !is_success(&reply),
+        Err(_) => false,
+    };
+    assert!(rt; is_denied);
 }
 
-/// Takes three values in, reads while the lock is held, and is denied once.
+/// Takes three values in, reads while the lock is held (a reader that took it would wait for ever), and is denied once.
 fn use_reader<N: Naming, S: Ledger, C: Ledger, W: Wait + Drop, R: Wait + Abort>(
     rt: &R,
     alloc: Global,
@@ -117,7 +101,10 @@ fn use_reader<N: Naming, S: Ledger, C: Ledger, W: Wait + Drop, R: Wait + Abort>(
     put_and_read(rt, alloc, port, share, reader, ENERGY, 5)?;
     put_and_read(rt, alloc, port, share, reader, 5, 7)?;
     put_and_read(rt, alloc, port, share, reader, 7, 0)?;
-    assert_eq!(rt; seen_under_lock(rt, alloc, board, reader), Some(0));
+    {
+        let _guard = board.lock(rt);
+        sees(rt, alloc, reader, 0);
+    }
     is_denied(rt, alloc, port, share);
     Ok(())
 }
@@ -132,25 +119,22 @@ fn use_port<N: Naming, S: Ledger, C: Ledger, W: Wait + Drop, R: Wait + Abort>(
         Err(PortFault::Memory) => board.port(rt),
         opened => opened,
     };
-    let Ok((port, mut share)) = opened else {
-        return Err("no port".into());
-    };
-    let Ok(mut reader) = port.reader(rt) else {
-        return Err("no reader".into());
-    };
+    let (port, mut share) = opened?;
+    let mut reader = port.reader(rt)?;
     assert!(rt; port.reader(rt).is_err());
     use_reader(rt, alloc, board, &port, &mut share, &mut reader)?;
     Ok(share)
 }
 
-/// A board isn't closed without the share of its port, and with it counts four steps and three changes.
+/// A board isn't closed without the share of its port, and with it counts four steps and three changes. Where the board isn't opened
+/// for want of memory, what was accepted is given back.
 fn hold_day<N: Naming, S: Ledger, C: Ledger, W: Wait + Drop, R: Wait + Abort>(
     rt: &R,
     keep: W,
     alloc: Global,
     checked: Checked,
     blanks: Blanks,
-) -> Result<Day, Fail>
+) -> Result<Option<Checked>, Fail>
     requires plan { checked ≡ N.accepted }
     requires book { blanks.history ≡ N.book }
     requires steps { (blanks.steps.name ≡ S.name) × (S.parts ≡ 256) }
@@ -158,41 +142,45 @@ fn hold_day<N: Naming, S: Ledger, C: Ledger, W: Wait + Drop, R: Wait + Abort>(
 {
     let board = match Board::<N, S, C, W>::open(keep, alloc, checked, blanks) {
         Ok(board) => board,
-        Err(checked) => return Ok(Day::Refused(checked)),
+        Err(checked) => return Ok(Some(checked)),
     };
     let share = use_port(rt, alloc, &board)?;
     let shares = Vec::with_capacity(alloc, 1)?;
     let Err(not_all) = board.close(rt, shares) else {
         return Err("closed without a share".into());
     };
-    assert_eq!(rt; not_all.opened, 1);
     let NotAll {
         board,
         mut shares,
-        opened: _,
+        opened,
     } = not_all;
-    shares.push(share).map_err(|_| "no room")?;
+    assert!(rt; opened == 1);
+    let Ok(()) = shares.push(share) else {
+        return Err("no room".into());
+    };
     let Ok(closed) = board.close(rt, shares) else {
         return Err("not closed".into());
     };
-    assert_eq!(rt; closed.count, 4);
-    assert_eq!(rt; closed.changes, 3);
-    Ok(Day::Held)
+    assert!(rt; closed.count == 4 && closed.changes == 3);
+    Ok(None)
 }
 
-fn try_day<R: Wait + Abort>(rt: &R, alloc: Global, checked: Checked) -> Result<Day, Fail> {
+fn try_day<R: Wait + Abort>(
+    rt: &R,
+    alloc: Global,
+    checked: Checked,
+) -> Result<Option<Checked>, Fail> {
     let blanks = Blanks::new();
     hold_day::<Brand, Brand, Brand, &R, R>(rt, rt, alloc, checked, blanks)
 }
 
 #[test]
 fn a_board_is_opened_used_and_closed(rt: HostRuntime) -> Result<(), Fail> {
-    let checked = accepted(rt.alloc(), TEXT)?;
-    let Day::Refused(checked) = try_day(&rt, rt.alloc(), checked)? else {
+    let Some(checked) = try_day(&rt, rt.alloc(), accepted(rt.alloc(), TEXT)?)? else {
         return Ok(());
     };
     match try_day(&rt, rt.alloc(), checked)? {
-        Day::Held => Ok(()),
-        Day::Refused(_) => Err("refused once more".into()),
+        None => Ok(()),
+        Some(_) => Err("refused once more".into()),
     }
 }

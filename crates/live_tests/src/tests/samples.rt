@@ -65,17 +65,6 @@ pub(super) const ALARM_CELL: CellRef = CellRef {
     index: 2,
 };
 
-/// The reader reads the alarm.
-pub(super) fn get_alarm() -> Step
-    ensures { is_get (step_of result) ≡ true }
-{
-    Step::Get {
-        client: READER,
-        attribute: ALARM,
-        selection: None,
-    }
-}
-
 /// The manager sets the alarm.
 pub(super) fn set_alarm(value: u8) -> Step {
     Step::Set {

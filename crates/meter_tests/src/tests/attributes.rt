@@ -10,7 +10,7 @@ use std::test::Fail;
 /// The value that these bytes encode, to their end.
 pub(crate) fn value_of(rt: &impl Abort, alloc: Global, bytes: &[u8]) -> Result<Data, Fail> {
     let (value, used) = read_data(alloc, bytes)?;
-    assert!(rt; used == bytes.len(), "{used} of {bytes:?}");
+    assert!(rt; used == bytes.len(), "{bytes:?}");
     Ok(value)
 }
 
@@ -22,7 +22,7 @@ pub(crate) fn is_encoded(
     bytes: &[u8],
 ) -> Result<(), Fail> {
     let want = value_of(rt, alloc, bytes)?;
-    assert!(rt; *value == want, "{value:?} for {bytes:?}");
+    assert!(rt; *value == want, "{value:?}");
     Ok(())
 }
 
@@ -48,7 +48,6 @@ impl<'a> Lend for Watch<'a> {
 }
 
 /// What is done to an attribute, or seen of it.
-#[derive(Clone, Copy)]
 pub(crate) enum Step<'a> {
     /// A write of the value that these bytes encode has this result.
     Writes(u8, &'a [u8], Result<(), ClassFault>),
@@ -59,27 +58,30 @@ pub(crate) enum Step<'a> {
 }
 
 /// Takes these steps, for which the plan lends this.
-pub(crate) fn take<L: Lend + Drop, C: InterfaceClass<L>>(
+pub(crate) fn take<L: Lend, C: InterfaceClass<L>>(
     rt: &impl Abort,
     a: Global,
-    lent: L,
+    lent: &L,
     object: &mut C,
     steps: &[Step],
 ) -> Result<(), Fail> {
     for step in steps {
-        match *step {
+        let (index, fault, want) = match step {
             Step::Writes(index, bytes, want) => {
-                let done = object
-                    .write(lent.again(), index, value_of(rt, a, bytes)?)
-                    .err();
-                assert!(rt; done == want.err(), "{done:?} at {index}");
+                let value = value_of(rt, a, bytes)?;
+                let done = object.write(lent.again(), *index, value);
+                (*index, done.err(), want.err())
             }
-            Step::Shows(index, bytes) => shows(rt, a, lent.again(), object, index, bytes)?,
+            Step::Shows(index, bytes) => {
+                shows(rt, a, lent.again(), object, *index, bytes)?;
+                (*index, None, None)
+            }
             Step::Hides(index) => {
-                let fault = object.read(a, lent.again(), index).err();
-                assert!(rt; fault == Some(ClassFault::NoIndex), "{fault:?} at {index}");
+                let read = object.read(a, lent.again(), *index);
+                (*index, read.err(), Some(ClassFault::NoIndex))
             }
-        }
+        };
+        assert!(rt; fault == want, "{fault:?} at {index}");
     }
     Ok(())
 }

@@ -65,10 +65,10 @@ pub(super) fn moment_as_text(alloc: Global, moment: Moment) -> Result<String, Al
 }
 
 /// What is told of a text that is no moment.
-pub(super) fn bad_moment_as_text(alloc: Global, bad: BadMoment) -> Result<String, AllocError>
-    ensures { IfOk result (λ text. string_bytes text ≡ codes "no moment of the form YYYY-MM-DDTHH:MM:SS") }
+pub(super) fn words_of_bad_moment(bad: BadMoment) -> &'static str
+    ensures { result.now ≡ codes "no moment of the form YYYY-MM-DDTHH:MM:SS" }
 {
-    format!(in alloc; "{bad}")
+    bad.words()
 }
 
 /// A capture into a full buffer asks for no memory.

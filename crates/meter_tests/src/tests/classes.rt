@@ -9,7 +9,6 @@ use cosem_data::bytes::Bytes;
 use cosem_data::data::{Data, Items};
 use cosem_data::kind::Kind;
 use cosem_data::name::LogicalName;
-use meter_theory::access::AccessCode;
 use meter_theory::refs::ScalerUnit;
 use std::alloc::Global;
 use std::process::Abort;
@@ -22,12 +21,12 @@ const DEVICE: LogicalName = LogicalName([0, 0, 96, 1, 0, 255]);
 const ENERGY: LogicalName = LogicalName([1, 0, 1, 8, 0, 255]);
 
 /// An octet-string of so many zeros.
-fn zeros(alloc: Global, count: usize) -> Result<Data, Fail> {
+pub(super) fn zeros(alloc: Global, count: usize) -> Result<Data, Fail> {
     Ok(Data::OctetString(Bytes::new(vec![in alloc; 0; count]?)))
 }
 
 /// So many arrays in one another, with null-data inside.
-fn nested(alloc: Global, depth: u8) -> Result<Data, Fail> {
+fn nested(alloc: Global, depth: u16) -> Result<Data, Fail> {
     let mut value = Data::NullData;
     for _ in 0..depth {
         value = Data::Array(Items::new(vec![in alloc; value]?));
@@ -35,27 +34,32 @@ fn nested(alloc: Global, depth: u8) -> Result<Data, Fail> {
     Ok(value)
 }
 
-/// This is judged of a value by the kind of its cell.
-fn judges(rt: &impl Abort, kind: Kind, value: &Data, want: Result<(), ClassFault>) {
-    assert_eq!(rt; judge_kind(kind, value), want, "as {kind:?}");
+/// So many arrays in one another for the kind array, and else an octet-string of so many zeros.
+fn sized(alloc: Global, kind: Kind, size: u16) -> Result<Data, Fail> {
+    match kind {
+        Kind::Array => nested(alloc, size),
+        _ => zeros(alloc, usize::from(size)),
+    }
 }
 
+/// Kinds of cells, sizes, and what is judged of a value of this size.
+static LIMITS: [(Kind, u16, Result<(), ClassFault>); 5] = [
+    // One byte of tag and three of length, 82 03 FC.
+    (Kind::OctetString, 1020, Ok(())),
+    (Kind::OctetString, 1021, Err(ClassFault::Rule)),
+    (Kind::Array, 14, Ok(())),
+    (Kind::Array, 15, Err(ClassFault::Rule)),
+    // The tag is judged first.
+    (Kind::VisibleString, 1021, Err(ClassFault::Kind)),
+];
+
+/// Values just within the limits may stand in a cell, and those just beyond may not.
 #[test]
 fn limits_are_met_exactly(rt: HostRuntime) -> Result<(), Fail> {
-    let a = rt.alloc();
-    let rule = Err(ClassFault::Rule);
-    // One byte of tag and three of length, 82 03 FC.
-    judges(&rt, Kind::OctetString, &zeros(a, 1020)?, Ok(()));
-    judges(&rt, Kind::OctetString, &zeros(a, 1021)?, rule);
-    judges(&rt, Kind::Array, &nested(a, 14)?, Ok(()));
-    judges(&rt, Kind::Array, &nested(a, 15)?, rule);
-    // The tag is judged first.
-    judges(
-        &rt,
-        Kind::VisibleString,
-        &zeros(a, 1021)?,
-        Err(ClassFault::Kind),
-    );
+    for (kind, size, want) in &LIMITS {
+        let judged = judge_kind(*kind, &sized(rt.alloc(), *kind, *size)?);
+        assert!(rt; judged == *want, "{size}");
+    }
     Ok(())
 }
 
@@ -83,7 +87,7 @@ fn data_is_read_and_written(rt: HostRuntime) -> Result<(), Fail> {
     let mut object = Data1 {
         value: Data::LongUnsigned(1),
     };
-    take(&rt, rt.alloc(), lent, &mut object, &STEPS_OF_DATA)
+    take(&rt, rt.alloc(), &lent, &mut object, &STEPS_OF_DATA)
 }
 
 /// What a plan lends of a register with this part.
@@ -131,9 +135,8 @@ fn writes_and_resets(
     part: &RegisterPart,
     object: &mut Register,
 ) -> Result<(), Fail> {
-    take(rt, a, lent(part), object, &STEPS_OF_A_REGISTER)?;
-    let other = call(a, part, object, 2).err();
-    assert!(rt; other == Some(ClassFault::NoIndex), "{other:?}");
+    take(rt, a, &lent(part), object, &STEPS_OF_A_REGISTER)?;
+    assert!(rt; call(a, part, object, 2) == Err(ClassFault::NoIndex));
     shows(rt, a, lent(part), object, 2, &[0x06, 0, 0, 0, 8])?;
     call(a, part, object, 1)?;
     shows(rt, a, lent(part), object, 2, &[0x06, 0, 0, 0, 7])
@@ -153,17 +156,4 @@ fn register_is_read_written_and_reset(rt: HostRuntime) -> Result<(), Fail> {
         value: Data::DoubleLongUnsigned(123_457),
     };
     writes_and_resets(&rt, rt.alloc(), &part, &mut object)
-}
-
-#[test]
-fn faults_have_their_codes(rt: HostRuntime) {
-    let codes = [
-        (ClassFault::Kind, 12),
-        (ClassFault::Rule, 250),
-        (ClassFault::UnknownScript, 250),
-        (ClassFault::Memory, 2),
-    ];
-    for (fault, code) in codes {
-        assert_eq!(rt; AccessCode::from(fault).code(), code);
-    }
 }

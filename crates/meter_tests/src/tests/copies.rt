@@ -7,6 +7,7 @@ use meter_core::step::Step;
 use meter_theory::refs::Descriptor;
 use object_model::argument::Argument;
 use std::alloc::Global;
+use std::process::Abort;
 use std::test::Fail;
 
 /// The value of Device ID 1, as the OBIS table of IEC 62056-6-1 has it.
@@ -35,67 +36,69 @@ fn is_text(value: &Data) -> bool {
     }
 }
 
-fn copied_set(alloc: Global) -> Result<Step, Memory> {
-    let step = Step::Set {
+/// A SET of the value.
+fn set(value: Data) -> Step {
+    Step::Set {
         client: 3,
         attribute: VALUE,
         selected: false,
-        value: Argument::Value(text(alloc)?),
-    };
-    step.try_clone(alloc)
+        value: Argument::Value(value),
+    }
 }
 
-fn is_the_set(step: &Step) -> bool {
+/// A GET of a buffer by selector 2 and this parameter.
+fn get(parameter: Data) -> Step {
+    Step::Get {
+        client: 1,
+        attribute: BUFFER,
+        selection: Some((2, Argument::Value(parameter))),
+    }
+}
+
+/// Tells the SET of the text and the GET by the text from each other and from all other steps.
+fn told(step: &Step) -> &'static str {
     match step {
         Step::Set {
             client: 3,
             attribute,
             selected: false,
             value: Argument::Value(value),
-        } => *attribute == VALUE && is_text(value),
-        _ => false,
-    }
-}
-
-fn copied_get(alloc: Global) -> Result<Step, Memory> {
-    let step = Step::Get {
-        client: 1,
-        attribute: BUFFER,
-        selection: Some((2, Argument::Value(text(alloc)?))),
-    };
-    step.try_clone(alloc)
-}
-
-/// A GET of a buffer by selector 2 and the text.
-fn is_the_get(step: &Step) -> bool {
-    match step {
+        } if *attribute == VALUE && is_text(value) => "the SET of the text",
         Step::Get {
             client: 1,
             attribute,
             selection: Some((2, Argument::Value(parameter))),
-        } => *attribute == BUFFER && is_text(parameter),
-        _ => false,
+        } if *attribute == BUFFER && is_text(parameter) => "the GET by the text",
+        _ => "another step",
     }
 }
 
-/// A copy of a SET, of a GET and of a reply equals what it was made of.
-fn sets_are_copied(alloc: Global) -> Result<bool, Memory> {
-    Ok(is_the_set(&copied_set(alloc)?))
+/// The copy of the step is this one.
+fn is_copied_as(rt: &impl Abort, alloc: Global, step: &Step, want: &str) -> Result<(), Memory> {
+    let found = told(&step.try_clone(alloc)?);
+    assert!(rt; found == want);
+    Ok(())
 }
 
-fn gets_are_copied(alloc: Global) -> Result<bool, Memory> {
-    Ok(is_the_get(&copied_get(alloc)?))
+/// The same of a step that it takes, so that the test owns none.
+fn is_copied(rt: &impl Abort, alloc: Global, step: Step, want: &str) -> Result<(), Memory> {
+    is_copied_as(rt, alloc, &step, want)
 }
 
-fn replies_are_copied(alloc: Global) -> Result<bool, Memory> {
+/// The copy of the reply with the text is a reply with the text.
+fn replies_are_copied(rt: &impl Abort, alloc: Global) -> Result<(), Memory> {
     let reply = Reply::Value(text(alloc)?).try_clone(alloc)?;
-    Ok(matches!(&reply, Reply::Value(value) if is_text(value)))
+    let is_right = matches!(&reply, Reply::Value(value) if is_text(value));
+    assert!(rt; is_right);
+    Ok(())
 }
 
+/// Copies of a SET, of a GET and of a reply equal what they were made of.
 #[test]
 fn copies_equal_their_originals(rt: HostRuntime) -> Result<(), Fail> {
-    assert!(rt; sets_are_copied(rt.alloc())?);
-    assert!(rt; gets_are_copied(rt.alloc())?);
-    assert!(rt; replies_are_copied(rt.alloc())?);
+    let a = rt.alloc();
+    is_copied(&rt, a, set(text(a)?), "the SET of the text")?;
+    is_copied(&rt, a, get(text(a)?), "the GET by the text")?;
+    replies_are_copied(&rt, a)?;
     Ok(())
 }

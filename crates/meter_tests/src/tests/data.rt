@@ -1,64 +1,69 @@
-use cosem_data::bytes::Bytes;
+use super::attributes::{is_encoded, value_of};
 use cosem_data::data::{Data, Items};
 use cosem_data::name::{BadName, LogicalName};
-use std::alloc::Global;
+use std::process::Abort;
 use std::test::Fail;
 
 /// Total active energy import, as the OBIS table of IEC 62056-6-1 has it.
 const ENERGY: LogicalName = LogicalName([1, 0, 1, 8, 0, 255]);
 
-fn octets(alloc: Global, bytes: &[u8]) -> Result<Bytes, Fail> {
-    Ok(Bytes::new(Vec::from_slice(alloc, bytes)?))
-}
-
 /// A structure with a value of each kind, and an array in an array.
-fn of_all_kinds(alloc: Global) -> Result<Data, Fail> {
-    let inner = vec![in alloc; Data::Unsigned(7), Data::Enumerated(7)]?;
-    let array = vec![in alloc;
-        Data::Array(Items::new(inner)),
-        Data::Array(Items::new(Vec::new(alloc))),
-    ]?;
-    let mut parts = Vec::new(alloc);
-    parts.push(Data::NullData)?;
-    parts.push(Data::Array(Items::new(array)))?;
-    parts.push(Data::Boolean(true))?;
-    parts.push(Data::DoubleLong(-1))?;
-    parts.push(Data::DoubleLongUnsigned(u32::MAX))?;
-    parts.push(Data::OctetString(octets(alloc, b"\x00\xff")?))?;
-    parts.push(Data::VisibleString(octets(alloc, b"kWh")?))?;
-    parts.push(Data::Integer(-128))?;
-    parts.push(Data::Long(-32768))?;
-    parts.push(Data::LongUnsigned(65535))?;
-    parts.push(Data::Long64(i64::MIN))?;
-    parts.push(Data::Long64Unsigned(u64::MAX))?;
-    Ok(Data::Structure(Items::new(parts)))
-}
+static OF_ALL_KINDS: [u8; 60] = [
+    0x02, 12, 0x00, // a structure of twelve parts, the first null-data
+    0x01, 2, 0x01, 2, 0x11, 7, 0x16, 7, 0x01, 0, // an array of one of unsigned 7 and enum 7, and of an empty one
+    0x03, 1, // true
+    0x05, 0xFF, 0xFF, 0xFF, 0xFF, // double-long -1
+    0x06, 0xFF, 0xFF, 0xFF, 0xFF, // the greatest double-long-unsigned
+    0x09, 2, 0x00, 0xFF, // two octets
+    0x0A, 3, 0x6B, 0x57, 0x68, // kWh
+    0x0F, 0x80, 0x10, 0x80, 0x00, // integer -128, long -32768
+    0x12, 0xFF, 0xFF, // long-unsigned 65535
+    0x14, 0x80, 0, 0, 0, 0, 0, 0, 0, // the least long64
+    0x15, 0xFF, 0xFF, 0xFF, 0xFF, 0xFF, 0xFF, 0xFF, 0xFF, // the greatest long64-unsigned
+];
 
 #[test]
 fn a_copy_equals_its_original(rt: HostRuntime) -> Result<(), Fail> {
-    let value = of_all_kinds(rt.alloc())?;
-    assert_eq!(rt; value.try_clone(rt.alloc())?, value);
+    let value = value_of(&rt, rt.alloc(), &OF_ALL_KINDS)?;
+    let is_same = value.try_clone(rt.alloc())? == value;
+    assert!(rt; is_same);
     Ok(())
 }
 
+/// The bytes that encode values, and the values' numbers where they are numbers.
+static NUMBERS: [(&[u8], Option<i128>); 11] = [
+    (&[5, 0x80, 0, 0, 0], Some(-2147483648)),
+    (&[6, 0xFF, 0xFF, 0xFF, 0xFF], Some(4294967295)),
+    (&[0x0F, 0x80], Some(-128)),
+    (&[0x10, 0x80, 0], Some(-32768)),
+    (&[0x11, 0xFF], Some(255)),
+    (&[0x12, 0xFF, 0xFF], Some(65535)),
+    (
+        &[0x14, 0x80, 0, 0, 0, 0, 0, 0, 0],
+        Some(-9223372036854775808),
+    ),
+    (
+        &[0x15, 0xFF, 0xFF, 0xFF, 0xFF, 0xFF, 0xFF, 0xFF, 0xFF],
+        Some(18446744073709551615),
+    ),
+    // An enum, a boolean and null-data.
+    (&[0x16, 1], None),
+    (&[3, 1], None),
+    (&[0], None),
+];
+
+/// The value's number is this one.
+fn has_number(rt: &impl Abort, value: &Data, number: Option<i128>) {
+    assert!(rt; value.number() == number, "not {number:?}");
+    assert!(rt; value.kind().is_number() == number.is_some());
+}
+
 #[test]
-fn numbers_are_read_in_full(rt: HostRuntime) {
-    for (value, number) in [
-        (Data::DoubleLong(i32::MIN), Some(-2147483648)),
-        (Data::DoubleLongUnsigned(u32::MAX), Some(4294967295)),
-        (Data::Integer(-128), Some(-128)),
-        (Data::Long(-32768), Some(-32768)),
-        (Data::Unsigned(255), Some(255)),
-        (Data::LongUnsigned(65535), Some(65535)),
-        (Data::Long64(i64::MIN), Some(-9223372036854775808)),
-        (Data::Long64Unsigned(u64::MAX), Some(18446744073709551615)),
-        (Data::Enumerated(1), None),
-        (Data::Boolean(true), None),
-        (Data::NullData, None),
-    ] {
-        assert_eq!(rt; value.number(), number);
-        assert_eq!(rt; value.kind().is_number(), number.is_some(), "{number:?}");
+fn numbers_are_read_in_full(rt: HostRuntime) -> Result<(), Fail> {
+    for (bytes, number) in &NUMBERS {
+        has_number(&rt, &value_of(&rt, rt.alloc(), bytes)?, *number);
     }
+    Ok(())
 }
 
 #[test]
@@ -70,25 +75,26 @@ fn an_empty_array_has_depth_one(rt: HostRuntime) {
 
 #[test]
 fn names_are_read_and_printed(rt: HostRuntime) -> Result<(), Fail> {
-    assert_eq!(rt; "1.0.1.8.0.255".parse::<LogicalName>(), Ok(ENERGY));
-    assert_eq!(rt; ENERGY.to_string(rt.alloc())?.as_str(), "1.0.1.8.0.255");
-    let value = Data::OctetString(octets(rt.alloc(), b"\x01\x00\x01\x08\x00\xff")?);
-    assert_eq!(rt; ENERGY.as_octets(rt.alloc())?, value);
-    Ok(())
+    let a = rt.alloc();
+    assert!(rt; "1.0.1.8.0.255".parse::<LogicalName>() == Ok(ENERGY));
+    assert!(rt; ENERGY.to_string(a)?.as_str() == "1.0.1.8.0.255");
+    is_encoded(&rt, a, &ENERGY.as_octets(a)?, &[9, 6, 1, 0, 1, 8, 0, 255])
 }
+
+static NO_NAMES: [&str; 8] = [
+    "",
+    "01.0.1.8.0.255",
+    "1.0.1.8.0.256",
+    "1.0.1.8.0",
+    "1.0.1.8..255",
+    "1.0.1.8.0.255 ",
+    "1.0.1.8.0.255.1",
+    "1-0:1.8.0*255",
+];
 
 #[test]
 fn other_texts_are_no_names(rt: HostRuntime) {
-    for text in [
-        "",
-        "01.0.1.8.0.255",
-        "1.0.1.8.0.256",
-        "1.0.1.8.0",
-        "1.0.1.8..255",
-        "1.0.1.8.0.255 ",
-        "1.0.1.8.0.255.1",
-        "1-0:1.8.0*255",
-    ] {
-        assert_eq!(rt; LogicalName::read(text), Err(BadName), "{text:?}");
+    for text in &NO_NAMES {
+        assert!(rt; LogicalName::read(text) == Err(BadName), "{text}");
     }
 }

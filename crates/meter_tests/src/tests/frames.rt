@@ -10,6 +10,9 @@ use tcp_wrapper::message::Message;
 /// What a frame brings: the wPort that it comes from, and the APDU.
 type Brought = (u16, &'static [u8]);
 
+/// A piece, the frames that it gives, and its fault.
+type Piece<'a> = (&'a [u8], &'a [Brought], Option<WrapFault>);
+
 /// Three frames, one behind the other.
 static STREAM: [u8; 73] = [
     0, 1, 0, 0x10, 0, 1, 0, 0x1F, 0x60, 0x1D, 0xA1, 9, 6, 7, 0x60, 0x85, 0x74, 5, 8, 1, 1, 0xBE,
@@ -17,6 +20,9 @@ static STREAM: [u8; 73] = [
     0x0D, 0xC0, 1, 0xC1, 0, 3, 1, 0, 1, 8, 0, 0xFF, 1, 0, 0, 1, 0, 0x10, 0, 1, 0, 5, 0x62, 3, 0x80,
     1, 0,
 ];
+
+/// The last of them brings a RLRQ.
+const LAST: Brought = (0x10, &[0x62, 3, 0x80, 1, 0]);
 
 /// They bring AARQ, GET-request and RLRQ of the client at wPort 0x10.
 static FRAMES: [Brought; 3] = [
@@ -28,7 +34,7 @@ static FRAMES: [Brought; 3] = [
         ],
     ),
     (0x10, &[0xC0, 1, 0xC1, 0, 3, 1, 0, 1, 8, 0, 0xFF, 1, 0]),
-    (0x10, &[0x62, 3, 0x80, 1, 0]),
+    LAST,
 ];
 
 /// Headers, and the first that is wrong with them; the last announces as much as a frame may have.
@@ -41,45 +47,70 @@ static HEADERS: [([u8; 8], Option<WrapFault>); 6] = [
     ([0, 1, 0, 0x10, 0, 1, 4, 0], None),
 ];
 
-static ZEROS: [u8; 1024] = [0; 1024];
+const ZEROS: [u8; 1024] = [0; 1024];
 
 /// The header of the longest frame, a piece of its own.
-static LONGEST: [u8; 8] = [0, 1, 0, 0x10, 0, 1, 4, 0];
+const LONGEST: [u8; 8] = [0, 1, 0, 0x10, 0, 1, 4, 0];
 
 /// A frame without an APDU.
-static EMPTY: [u8; 8] = [0, 1, 0, 0x20, 0, 1, 0, 0];
+const EMPTY: [u8; 8] = [0, 1, 0, 0x20, 0, 1, 0, 0];
 
 /// The last of the three frames.
-static GOOD: [u8; 13] = [0, 1, 0, 0x10, 0, 1, 0, 5, 0x62, 3, 0x80, 1, 0];
+const GOOD: [u8; 13] = [0, 1, 0, 0x10, 0, 1, 0, 5, 0x62, 3, 0x80, 1, 0];
 
 /// The same, and then a header of another version.
-static GOOD_AND_WRONG: [u8; 21] = [
+const GOOD_AND_WRONG: [u8; 21] = [
     0, 1, 0, 0x10, 0, 1, 0, 5, 0x62, 3, 0x80, 1, 0, 0, 2, 0, 0x10, 0, 1, 0, 0,
 ];
 
 /// A GET-response, and the frame that brings it to the client.
-static ANSWER: [u8; 12] = [0xC4, 1, 0xC1, 0, 9, 6, 1, 0, 1, 8, 0, 0xFF];
+const ANSWER: [u8; 12] = [0xC4, 1, 0xC1, 0, 9, 6, 1, 0, 1, 8, 0, 0xFF];
 
-static ANSWER_FRAME: [u8; 20] = [
+const ANSWER_FRAME: [u8; 20] = [
     0, 1, 0, 1, 0, 0x10, 0, 0x0C, 0xC4, 1, 0xC1, 0, 9, 6, 1, 0, 1, 8, 0, 0xFF,
+];
+
+/// A feeder that failed gives nothing of a good frame.
+const STAYS_FAILED: Piece<'static> = (&GOOD, &[], Some(WrapFault::Failed));
+
+/// The longest APDU and none.
+static OF_ALL_LENGTHS: [Piece<'static>; 3] = [
+    (&LONGEST, &[], None),
+    (&ZEROS, &[(0x10, &ZEROS)], None),
+    (&EMPTY, &[(0x20, &[])], None),
+];
+
+/// A fault behind a frame.
+static FAULTY: [Piece<'static>; 3] = [
+    (&GOOD_AND_WRONG, &[LAST], Some(WrapFault::Version)),
+    STAYS_FAILED,
+    STAYS_FAILED,
 ];
 
 /// The messages are the first of these.
 fn are_first(rt: &impl Abort, messages: &[Message], wanted: &[Brought]) {
-    for (message, (source, apdu)) in messages.iter().zip(wanted) {
-        assert_eq!(rt; message.source, *source);
-        assert_eq!(rt; message.apdu.as_slice(), *apdu);
+    for i in 0..messages.len() {
+        assert!(rt; i < wanted.len());
+        let (source, apdu) = &wanted[i];
+        assert!(rt; messages[i].source == *source && messages[i].apdu.as_slice() == *apdu);
     }
 }
 
-/// A feeder that failed gives nothing of a good frame.
-fn stays_failed(rt: &impl Abort, alloc: Global, feeder: &mut Feeder) {
-    let fed = feeder.feed(alloc, &GOOD);
-    assert!(rt; fed.frames.is_empty() && fed.fault == Some(WrapFault::Failed));
+/// Feeds a piece, and tells how many frames it gives, which are the first of these, and its fault.
+fn feed(
+    rt: &impl Abort,
+    alloc: Global,
+    feeder: &mut Feeder,
+    piece: &[u8],
+    wanted: &[Brought],
+) -> (usize, Option<WrapFault>) {
+    let fed = feeder.feed(alloc, piece);
+    are_first(rt, &fed.frames, wanted);
+    (fed.frames.len(), fed.fault)
 }
 
 /// Feeds a piece, and tells which frames are wanted behind it: it gives the first of them, and this fault. Where memory is
-/// refused, it gives that fault and frames as far as it came.
+/// refused, it gives that fault and frames as far as it came, and a feeder that failed gives nothing of a good frame.
 fn left_behind<'w>(
     rt: &impl Abort,
     alloc: Global,
@@ -88,15 +119,13 @@ fn left_behind<'w>(
     wanted: &'w [Brought],
     fault: Option<WrapFault>,
 ) -> Result<&'w [Brought], Memory> {
-    let fed = feeder.feed(alloc, piece);
-    let count = fed.frames.len();
-    assert!(rt; count <= wanted.len());
-    are_first(rt, &fed.frames, wanted);
-    if fed.fault == Some(WrapFault::Memory) {
-        stays_failed(rt, alloc, feeder);
+    let (count, found) = feed(rt, alloc, feeder, piece, wanted);
+    if found == Some(WrapFault::Memory) {
+        let failed = feed(rt, alloc, feeder, &GOOD, &[]);
+        assert!(rt; failed.1 == Some(WrapFault::Failed));
         return Err(Memory);
     }
-    assert_eq!(rt; fed.fault, fault);
+    assert!(rt; found == fault && count <= wanted.len());
     Ok(&wanted[count..])
 }
 
@@ -114,15 +143,38 @@ fn gives(
     Ok(())
 }
 
+/// Each piece gives its frames and its fault.
+fn give_each(
+    rt: &impl Abort,
+    alloc: Global,
+    feeder: &mut Feeder,
+    pieces: &[Piece],
+) -> Result<(), Memory> {
+    for (piece, wanted, fault) in pieces {
+        gives(rt, alloc, feeder, piece, wanted, *fault)?;
+    }
+    Ok(())
+}
+
+/// The two pieces give the three frames, and end between two.
+fn give_all(
+    rt: &impl Abort,
+    alloc: Global,
+    feeder: &mut Feeder,
+    first: &[u8],
+    second: &[u8],
+) -> Result<(), Memory> {
+    let left = left_behind(rt, alloc, feeder, first, &FRAMES, None)?;
+    gives(rt, alloc, feeder, second, left, None)?;
+    assert!(rt; feeder.is_idle());
+    Ok(())
+}
+
 /// The stream in pieces, so many bytes and then what is left, gives the three frames and ends between two.
 fn is_read_in_two(rt: &impl Abort, alloc: Global, cut: usize) -> Result<(), Memory> {
     assert!(rt; cut <= STREAM.len());
     let (first, second) = STREAM.split_at(cut);
-    let mut feeder = Feeder::new(alloc);
-    let left = left_behind(rt, alloc, &mut feeder, first, &FRAMES, None)?;
-    gives(rt, alloc, &mut feeder, second, left, None)?;
-    assert!(rt; feeder.is_idle());
-    Ok(())
+    give_all(rt, alloc, &mut Feeder::new(alloc), first, second)
 }
 
 #[test]
@@ -146,14 +198,19 @@ fn given_after(
     Ok(FRAMES.len().saturating_sub(left.len()))
 }
 
-#[test]
-fn frames_stand_in_single_bytes(rt: HostRuntime) -> Result<(), Fail> {
-    let mut feeder = Feeder::new(rt.alloc());
+/// The stream in single bytes gives the three frames and ends between two.
+fn give_in_bytes(rt: &impl Abort, alloc: Global, feeder: &mut Feeder) -> Result<(), Memory> {
     let mut given = 0;
     for piece in STREAM.chunks(1) {
-        given = given_after(&rt, rt.alloc(), &mut feeder, piece, given)?;
+        given = given_after(rt, alloc, feeder, piece, given)?;
     }
     assert!(rt; given == FRAMES.len() && feeder.is_idle());
+    Ok(())
+}
+
+#[test]
+fn frames_stand_in_single_bytes(rt: HostRuntime) -> Result<(), Fail> {
+    give_in_bytes(&rt, rt.alloc(), &mut Feeder::new(rt.alloc()))?;
     Ok(())
 }
 
@@ -167,7 +224,21 @@ fn a_refused_growth_loses_no_frame(rt: HostRuntime) -> Result<(), Fail> {
     Ok(())
 }
 
-/// The header in two pieces has this fault, and a frame has begun where it has none.
+/// The two pieces of a header have this fault behind them, and a frame has begun where it has none.
+fn judge(
+    rt: &impl Abort,
+    alloc: Global,
+    feeder: &mut Feeder,
+    (first, second): (&[u8], &[u8]),
+    fault: Option<WrapFault>,
+) -> Result<(), Memory> {
+    gives(rt, alloc, feeder, first, &[], None)?;
+    gives(rt, alloc, feeder, second, &[], fault)?;
+    assert!(rt; !feeder.is_idle());
+    Ok(())
+}
+
+/// The header is judged in two pieces, of which the first has so many bytes.
 fn is_judged(
     rt: &impl Abort,
     alloc: Global,
@@ -176,12 +247,13 @@ fn is_judged(
     fault: Option<WrapFault>,
 ) -> Result<(), Memory> {
     assert!(rt; cut < header.len());
-    let (first, second) = header.split_at(cut);
-    let mut feeder = Feeder::new(alloc);
-    gives(rt, alloc, &mut feeder, first, &[], None)?;
-    gives(rt, alloc, &mut feeder, second, &[], fault)?;
-    assert!(rt; !feeder.is_idle());
-    Ok(())
+    judge(
+        rt,
+        alloc,
+        &mut Feeder::new(alloc),
+        header.split_at(cut),
+        fault,
+    )
 }
 
 /// Its first bytes have no fault, up to the seventh.
@@ -195,86 +267,50 @@ fn headers_are_judged_when_whole(rt: HostRuntime) -> Result<(), Fail> {
     Ok(())
 }
 
-#[test]
-fn faults_have_their_numbers(rt: HostRuntime) {
-    for (fault, number) in [
-        (WrapFault::Version, 1),
-        (WrapFault::Destination, 2),
-        (WrapFault::Length, 3),
-        (WrapFault::Memory, 4),
-        (WrapFault::Failed, 5),
-    ] {
-        assert_eq!(rt; fault.number(), number, "{fault:?}");
-    }
-}
-
-/// The longest APDU and none.
-#[test]
-fn frames_of_all_lengths_are_given(rt: HostRuntime) -> Result<(), Fail> {
-    let mut feeder = Feeder::new(rt.alloc());
-    gives(&rt, rt.alloc(), &mut feeder, &LONGEST, &[], None)?;
-    gives(
-        &rt,
-        rt.alloc(),
-        &mut feeder,
-        &ZEROS,
-        &[(0x10, &ZEROS)],
-        None,
-    )?;
-    gives(&rt, rt.alloc(), &mut feeder, &EMPTY, &[(0x20, &[])], None)?;
-    assert!(rt; feeder.is_idle());
-    Ok(())
-}
-
-#[test]
-fn a_fault_is_told_behind_the_frames(rt: HostRuntime) -> Result<(), Fail> {
-    let mut feeder = Feeder::new(rt.alloc());
-    let fault = Some(WrapFault::Version);
-    gives(
-        &rt,
-        rt.alloc(),
-        &mut feeder,
-        &GOOD_AND_WRONG,
-        &FRAMES[2..],
-        fault,
-    )?;
-    stays_failed(&rt, rt.alloc(), &mut feeder);
-    stays_failed(&rt, rt.alloc(), &mut feeder);
-    Ok(())
-}
-
-/// The frame of an answer has so many bytes, and begins so.
-fn is_framed(
+/// Frames of all lengths are given, and end between two. Behind a fault nothing more is given.
+fn give_lengths_and_faults(
     rt: &impl Abort,
     alloc: Global,
-    apdu: &[u8],
-    count: usize,
-    front: &[u8],
+    feeder: &mut Feeder,
 ) -> Result<(), Memory> {
+    give_each(rt, alloc, feeder, &OF_ALL_LENGTHS)?;
+    assert!(rt; feeder.is_idle());
+    give_each(rt, alloc, feeder, &FAULTY)
+}
+
+/// The longest APDU and none are given, and a fault is told behind the frames, after which the feeder stays failed.
+#[test]
+fn frames_of_all_lengths_are_given_and_then_faults(rt: HostRuntime) -> Result<(), Fail> {
+    give_lengths_and_faults(&rt, rt.alloc(), &mut Feeder::new(rt.alloc()))?;
+    Ok(())
+}
+
+/// An APDU, how many bytes its frame has, and how that begins.
+type Framed = (&'static [u8], usize, &'static [u8]);
+
+/// The frames of answers to the client at wPort 0x10.
+static FRAMED: [Framed; 3] = [
+    (&ANSWER, 20, &ANSWER_FRAME),
+    (&ZEROS, 1032, &[0, 1, 0, 1, 0, 0x10, 4, 0, 0]),
+    (&[], 8, &[0, 1, 0, 1, 0, 0x10, 0, 0]),
+];
+
+/// The frame of an answer has so many bytes, and begins so.
+fn is_framed(rt: &impl Abort, alloc: Global, framed: &Framed) -> Result<(), Memory> {
+    let (apdu, count, front) = *framed;
     assert!(rt; apdu.len() <= 1024);
     let bytes = frame(alloc, 1, 0x10, apdu)?;
     assert!(rt; bytes.len() == count && bytes.starts_with(front));
     Ok(())
 }
 
+/// Where memory is refused for a frame, the answer is there to be framed once more.
 #[test]
 fn answers_are_framed(rt: HostRuntime) -> Result<(), Fail> {
-    is_framed(
-        &rt,
-        rt.alloc(),
-        &ZEROS,
-        1032,
-        &[0, 1, 0, 1, 0, 0x10, 4, 0, 0],
-    )?;
-    is_framed(&rt, rt.alloc(), &[], 8, &[0, 1, 0, 1, 0, 0x10, 0, 0])?;
-    Ok(())
-}
-
-/// Where memory is refused, it can be framed once more.
-#[test]
-fn a_refused_growth_leaves_the_answer(rt: HostRuntime) -> Result<(), Fail> {
-    if is_framed(&rt, rt.alloc(), &ANSWER, 20, &ANSWER_FRAME).is_err() {
-        is_framed(&rt, rt.alloc(), &ANSWER, 20, &ANSWER_FRAME)?;
+    for framed in &FRAMED {
+        if is_framed(&rt, rt.alloc(), framed).is_err() {
+            is_framed(&rt, rt.alloc(), framed)?;
+        }
     }
     Ok(())
 }

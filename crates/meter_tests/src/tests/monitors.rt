@@ -23,19 +23,23 @@ const ENERGY: CellRef = CellRef {
     index: 2,
 };
 
-/// A script of the table.
-pub(crate) fn script(script: u16) -> ScriptRef {
-    ScriptRef {
-        table: SCRIPTS,
-        script,
-    }
-}
+/// The script of the table that is run at the threshold and above.
+const ABOVE: ScriptRef = ScriptRef {
+    table: SCRIPTS,
+    script: 1,
+};
+
+/// The script of the table that is run below.
+const BELOW: ScriptRef = ScriptRef {
+    table: SCRIPTS,
+    script: 2,
+};
 
 /// Script 1 is run at 100 Wh and above, and script 2 below.
 pub(crate) fn monitor_part(alloc: Global) -> Result<MonitorPart, Fail> {
     let action = UpDown {
-        up: script(1),
-        down: script(2),
+        up: ABOVE,
+        down: BELOW,
     };
     Ok(MonitorPart {
         monitored_value: ENERGY,
@@ -98,57 +102,49 @@ static STEPS: [Step<'static>; 15] = [
     Step::Shows(2, &[0x01, 0x01, 0x06, 0, 0, 0, 7]),
 ];
 
-#[test]
-fn a_monitor_is_read_and_its_thresholds_written(rt: HostRuntime) -> Result<(), Fail> {
-    let a = rt.alloc();
-    let part = monitor_part(a)?;
-    take(&rt, a, watch(&part), &mut monitor(a, &part)?, &STEPS)
-}
+/// What the value of energy comes to, one after the other, and what is due then: nothing was seen before the first, 100 lies on the
+/// side above, and each is remembered.
+static CROSSINGS: [(u32, &[ScriptRef]); 8] = [
+    (99, &[]),
+    (99, &[]),
+    (100, &[ABOVE]),
+    (101, &[]),
+    (100, &[]),
+    (99, &[BELOW]),
+    (4_000_000_000, &[ABOVE]),
+    (0, &[BELOW]),
+];
 
-/// This script alone is due at this value, or none, and the value is remembered.
-fn crosses(
-    rt: &impl Abort,
-    a: Global,
-    part: &MonitorPart,
-    object: &mut Monitor,
-    number: u32,
-    want: Option<ScriptRef>,
-) -> Result<(), Fail> {
-    let due = object.due(a, part, &Data::DoubleLongUnsigned(number))?;
-    assert!(rt;
-        due.len() <= 1 && due.first().copied() == want,
-        "{due:?} at {number}"
-    );
-    let _before = object.remember(Data::DoubleLongUnsigned(number));
-    Ok(())
-}
-
-/// Scripts are due as the value crosses the threshold.
+/// Scripts are due as the value crosses the threshold, and each value is remembered.
 fn crosses_the_threshold(
     rt: &impl Abort,
     a: Global,
     part: &MonitorPart,
     object: &mut Monitor,
 ) -> Result<(), Fail> {
-    // Nothing was seen before the first, 100 lies on the side above, and each is remembered.
-    for (number, want) in [
-        (99, None),
-        (99, None),
-        (100, Some(script(1))),
-        (101, None),
-        (100, None),
-        (99, Some(script(2))),
-        (4_000_000_000, Some(script(1))),
-        (0, Some(script(2))),
-    ] {
-        crosses(rt, a, part, object, number, want)?;
+    for (number, want) in &CROSSINGS {
+        let due = object.due(a, part, &Data::DoubleLongUnsigned(*number))?;
+        assert!(rt; due.as_slice() == *want, "at {number}");
+        let _before = object.remember(Data::DoubleLongUnsigned(*number));
     }
-    shows(rt, a, watch(part), object, 2, &ONE_THRESHOLD)
+    Ok(())
+}
+
+/// Crosses the threshold, which that leaves, and then reads the monitor and writes its thresholds.
+fn crosses_and_is_written(
+    rt: &impl Abort,
+    a: Global,
+    part: &MonitorPart,
+    object: &mut Monitor,
+) -> Result<(), Fail> {
+    crosses_the_threshold(rt, a, part, object)?;
+    shows(rt, a, watch(part), object, 2, &ONE_THRESHOLD)?;
+    take(rt, a, &watch(part), object, &STEPS)
 }
 
 #[test]
-fn crossed_thresholds_are_due(rt: HostRuntime) -> Result<(), Fail> {
+fn a_monitor_is_crossed_read_and_written(rt: HostRuntime) -> Result<(), Fail> {
     let a = rt.alloc();
     let part = monitor_part(a)?;
-    crosses_the_threshold(&rt, a, &part, &mut monitor(a, &part)?)
+    crosses_and_is_written(&rt, a, &part, &mut monitor(a, &part)?)
 }

@@ -28,125 +28,122 @@ fn part_of(alloc: Global, class_id: u16) -> Result<Part, Fail> {
     })
 }
 
-/// The start value at this index, if these are the cells.
-fn start_at<'a>(cells: &[(u8, &'a [u8])], index: u8) -> Option<&'a [u8]> {
-    for (cell, bytes) in cells {
+/// A fixed attribute, and the bytes that encode its value.
+type Fixed = (u8, &'static [u8]);
+
+/// An attribute, and what is judged of the value that these bytes encode, where a register monitor watches a double-long-unsigned.
+type Judged = (u8, &'static [u8], Result<(), AccessCode>);
+
+/// What is told of a part of an object of this class.
+struct Told {
+    class_id: u16,
+    /// Its cells, and of what kind the values are that they start with.
+    cells: &'static [(u8, Kind)],
+    /// What it fixes. A cell isn't fixed.
+    fixed: &'static [Fixed],
+    judged: &'static [Judged],
+}
+
+const UNMATCHED: Result<(), AccessCode> = Err(AccessCode::TypeUnmatched);
+
+const OTHER: Result<(), AccessCode> = Err(AccessCode::OtherReason);
+
+static TOLD: [Told; 4] = [
+    Told {
+        class_id: 7,
+        // A profile at the start has an empty buffer, 900 seconds, and no entry in use.
+        cells: &[
+            (2, Kind::Array),
+            (4, Kind::DoubleLongUnsigned),
+            (7, Kind::DoubleLongUnsigned),
+        ],
+        fixed: &[(8, &[0x06, 0, 0, 0, 2])],
+        judged: &[
+            (4, &[0x06, 0, 0, 0, 60], Ok(())),
+            (4, &[0x12, 0, 60], UNMATCHED),
+            (7, &[0x06, 0, 0, 0, 60], UNMATCHED),
+        ],
+    },
+    Told {
+        class_id: 9,
+        cells: &[],
+        fixed: &[(2, &TWO_SCRIPTS)],
+        judged: &[(2, &[0x06, 0, 0, 0, 60], UNMATCHED)],
+    },
+    Told {
+        class_id: 21,
+        cells: &[(2, Kind::Array), (Monitor::SEEN, Kind::NullData)],
+        fixed: &[(3, &MONITORED_VALUE), (4, &ONE_PAIR), (2, &[0x00])],
+        judged: &[(2, &ONE_THRESHOLD, Ok(())), (2, &TWO_THRESHOLDS, OTHER)],
+    },
+    Told {
+        class_id: 22,
+        cells: &[(4, Kind::Array)],
+        fixed: &[(2, &SCRIPT_OF_TABLE), (3, &[0x16, 0x01])],
+        judged: &[(4, &EACH_MONTH_END, Ok(())), (4, &TWO_NOONS, OTHER)],
+    },
+];
+
+/// The kind at this index, if these are the cells.
+fn kind_at(cells: &[(u8, Kind)], index: u8) -> Option<Kind> {
+    for (cell, kind) in cells {
         if *cell == index {
-            return Some(*bytes);
+            return Some(*kind);
         }
     }
     None
 }
 
-/// A class, and the cells of its part, each with the bytes that encode a value of its kind.
-type Start = (u16, &'static [(u8, &'static [u8])]);
-
-/// The cells of a profile at the start are an empty buffer, 900 seconds, and no entry in use.
-static STARTS: [Start; 4] = [
-    (
-        7,
-        &[
-            (2, &[0x01, 0x00]),
-            (4, &[0x06, 0, 0, 0x03, 0x84]),
-            (7, &[0x06, 0, 0, 0, 0]),
-        ],
-    ),
-    (9, &[]),
-    (21, &[(2, &ONE_THRESHOLD), (Monitor::SEEN, &[0x00])]),
-    (22, &[(4, &EACH_MONTH_END)]),
-];
-
-/// An object with this part has these cells of the class and no other, and each starts with a value of this kind.
-fn starts(rt: &impl Abort, a: Global, part: &Part, start: &Start) -> Result<(), Fail> {
-    let (class_id, cells) = *start;
+/// An object with this part has these cells of the class and no other, and each starts with a value of its kind.
+fn starts(rt: &impl Abort, part: &Part, class_id: u16, cells: &[(u8, Kind)]) {
     for index in 0..=16 {
         let cell = CellRef {
             class_id,
             name: NAME,
             index,
         };
-        let start = start_at(cells, index);
-        assert!(rt; part.has_cell(NAME, &cell) == start.is_some(), "{cell:?}");
-        let kind = match start {
-            Some(bytes) => value_of(rt, a, bytes)?.kind(),
-            None => Kind::NullData,
-        };
-        assert_eq!(rt; part.start_kind(NAME, &cell), kind, "of {cell:?}");
+        let kind = kind_at(cells, index);
+        assert!(rt; part.has_cell(NAME, &cell) == kind.is_some(), "{index}");
+        let start = part.start_kind(NAME, &cell);
+        assert!(rt; start == kind.unwrap_or(Kind::NullData), "{index}");
     }
-    Ok(())
 }
-
-/// A class, a fixed attribute of its part, and the bytes that encode its value.
-type Fixed = (u16, u8, &'static [u8]);
-
-/// A cell isn't fixed.
-static FIXED: [Fixed; 7] = [
-    (7, 8, &[0x06, 0, 0, 0, 2]),
-    (9, 2, &TWO_SCRIPTS),
-    (21, 3, &MONITORED_VALUE),
-    (21, 4, &ONE_PAIR),
-    (22, 2, &SCRIPT_OF_TABLE),
-    (22, 3, &[0x16, 0x01]),
-    (21, 2, &[0x00]),
-];
 
 /// The part fixes attributes so.
-fn fixes(rt: &impl Abort, a: Global, part: &Part, of_class: u16) -> Result<(), Fail> {
-    for (class_id, index, bytes) in &FIXED {
-        if *class_id == of_class {
-            is_encoded(rt, a, &part.fixed(a, *index)?, bytes)?;
-        }
+fn fixes(rt: &impl Abort, a: Global, part: &Part, fixed: &[Fixed]) -> Result<(), Fail> {
+    for (index, bytes) in fixed {
+        is_encoded(rt, a, &part.fixed(a, *index)?, bytes)?;
     }
     Ok(())
 }
-
-/// A class, an attribute of its part, and what is judged of the value that these bytes encode, where a register monitor watches a
-/// double-long-unsigned.
-type Judged = (u16, u8, &'static [u8], Result<(), AccessCode>);
-
-const UNMATCHED: Result<(), AccessCode> = Err(AccessCode::TypeUnmatched);
-
-const OTHER: Result<(), AccessCode> = Err(AccessCode::OtherReason);
-
-static JUDGED: [Judged; 8] = [
-    (7, 4, &[0x06, 0, 0, 0, 60], Ok(())),
-    (7, 4, &[0x12, 0, 60], UNMATCHED),
-    (7, 7, &[0x06, 0, 0, 0, 60], UNMATCHED),
-    (9, 2, &[0x06, 0, 0, 0, 60], UNMATCHED),
-    (21, 2, &ONE_THRESHOLD, Ok(())),
-    (21, 2, &TWO_THRESHOLDS, OTHER),
-    (22, 4, &EACH_MONTH_END, Ok(())),
-    (22, 4, &TWO_NOONS, OTHER),
-];
 
 /// The part judges values so.
-fn judges(rt: &impl Abort, a: Global, part: &Part, of_class: u16) -> Result<(), Fail> {
-    for (class_id, index, bytes, want) in &JUDGED {
-        if *class_id == of_class {
-            let judged = part.judge(Kind::DoubleLongUnsigned, *index, &value_of(rt, a, bytes)?);
-            assert!(rt; judged == *want, "{judged:?} at {index}");
-        }
+fn judges(rt: &impl Abort, a: Global, part: &Part, judged: &[Judged]) -> Result<(), Fail> {
+    for (index, bytes, want) in judged {
+        let judged = part.judge(Kind::DoubleLongUnsigned, *index, &value_of(rt, a, bytes)?);
+        assert!(rt; judged == *want, "{bytes:?}");
     }
     Ok(())
 }
 
-/// A part is as all three tables have it. It is lent to what tries it, since an owner has to drop it at each of its ends, which is
-/// long to prove.
-fn is_told(rt: &impl Abort, a: Global, start: &Start) -> Result<(), Fail> {
-    let part = part_of(a, start.0)?;
-    is_all(rt, a, &part, start)
+/// A part is as it is told.
+fn is_told(rt: &impl Abort, a: Global, part: &Part, told: &Told) -> Result<(), Fail> {
+    starts(rt, part, told.class_id, told.cells);
+    fixes(rt, a, part, told.fixed)?;
+    judges(rt, a, part, told.judged)
 }
 
-fn is_all(rt: &impl Abort, a: Global, part: &Part, start: &Start) -> Result<(), Fail> {
-    starts(rt, a, part, start)?;
-    fixes(rt, a, part, start.0)?;
-    judges(rt, a, part, start.0)
+/// A part of the class is as it is told. It is lent to what tries it, since an owner has to drop it at each of its ends, which is long
+/// to prove.
+fn has_part(rt: &impl Abort, a: Global, told: &Told) -> Result<(), Fail> {
+    let part = part_of(a, told.class_id)?;
+    is_told(rt, a, &part, told)
 }
 
 #[test]
 fn parts_are_as_their_classes_have_them(rt: HostRuntime) -> Result<(), Fail> {
-    for start in &STARTS {
-        is_told(&rt, rt.alloc(), start)?;
+    for told in &TOLD {
+        has_part(&rt, rt.alloc(), told)?;
     }
     Ok(())
 }

@@ -123,7 +123,7 @@ fn calls(
 {
     assert!(rt; method != 2);
     let done = call(a, part, object, method, Items::new(Vec::new(a)));
-    assert!(rt; done == want, "{done:?} by {method}");
+    assert!(rt; done == want, "{method}");
 }
 
 /// A reset empties the buffer, and one that is taken back leaves it and its entries in use, which these bytes encode.
@@ -166,7 +166,7 @@ const LAST_ENTRIES: [u8; 20] = [
     0x02, 0x02, 0x06, 0, 0, 0, 3, 0x11, 3, // energy and device
 ];
 
-/// The last two of three entries are kept, and a reset empties the buffer.
+/// The last two of three entries are kept, and a reset empties the buffer. Then the profile is read and its period set.
 fn keeps_the_last(
     rt: &impl Abort,
     a: Global,
@@ -182,34 +182,30 @@ fn keeps_the_last(
     calls(rt, a, part, object, 0, Err(ClassFault::NoIndex));
     calls(rt, a, part, object, 3, Err(ClassFault::NoIndex));
     resets(rt, a, part, object, &LAST_ENTRIES, &[0x06, 0, 0, 0, 2])?;
-    let empty = [
-        Step::Shows(2, &[0x01, 0x00]),
-        Step::Shows(7, &[0x06, 0, 0, 0, 0]),
-        // 900 seconds.
-        Step::Shows(4, &[0x06, 0, 0, 0x03, 0x84]),
-    ];
-    take(rt, a, lent(part), object, &empty)
+    take(rt, a, &lent(part), object, &STEPS)
 }
 
 #[test]
-fn the_last_entries_are_kept(rt: HostRuntime) -> Result<(), Fail> {
+fn the_last_entries_are_kept_and_the_period_is_set(rt: HostRuntime) -> Result<(), Fail> {
     let a = rt.alloc();
     let part = two_entries(a)?;
     keeps_the_last(&rt, a, &part, &mut at_start(a, &part)?)
 }
 
+/// Capture periods, moments, and whether a capture is due then.
+static DUE: [(u32, &str, bool); 6] = [
+    (900, "2000-01-01T00:00:00", true),
+    (900, "2000-01-01T00:15:00", true),
+    (900, "2000-01-01T00:15:01", false),
+    (900, "2024-02-28T00:00:01", false),
+    (900, "2024-02-29T00:00:00", true),
+    (0, "2000-01-01T00:00:00", false),
+];
+
 #[test]
 fn captures_are_due_each_quarter_of_an_hour(rt: HostRuntime) -> Result<(), Fail> {
-    for (period, text, want) in [
-        (900, "2000-01-01T00:00:00", true),
-        (900, "2000-01-01T00:15:00", true),
-        (900, "2000-01-01T00:15:01", false),
-        (900, "2024-02-28T00:00:01", false),
-        (900, "2024-02-29T00:00:00", true),
-        (0, "2000-01-01T00:00:00", false),
-    ] {
-        let is_due = is_due(period, Moment::read(text)?);
-        assert!(rt; is_due == want, "{period} at {text}");
+    for (period, text, want) in &DUE {
+        assert!(rt; is_due(*period, Moment::read(text)?) == *want, "{text}");
     }
     Ok(())
 }
@@ -235,27 +231,26 @@ const NO_OBJECT: [u8; 18] = [
 /// A double-long-unsigned 1.
 const ONE: [u8; 5] = [0x06, 0, 0, 0, 1];
 
-#[test]
-fn a_profile_is_read_and_its_period_set(rt: HostRuntime) -> Result<(), Fail> {
-    let steps = [
-        Step::Shows(1, &[0x09, 0x06, 1, 0, 99, 1, 0, 255]),
-        Step::Shows(3, &CAPTURE_OBJECTS),
-        Step::Shows(5, &[0x16, 1]),
-        Step::Shows(6, &NO_OBJECT),
-        Step::Shows(8, &[0x06, 0, 0, 0, 2]),
-        Step::Hides(0),
-        Step::Hides(9),
-        Step::Writes(1, &ONE, Err(ClassFault::NotSettable)),
-        Step::Writes(2, &ONE, Err(ClassFault::NotSettable)),
-        Step::Writes(7, &ONE, Err(ClassFault::NotSettable)),
-        Step::Writes(8, &ONE, Err(ClassFault::NotSettable)),
-        Step::Writes(0, &ONE, Err(ClassFault::NoIndex)),
-        Step::Writes(9, &ONE, Err(ClassFault::NoIndex)),
-        Step::Writes(4, &[0x12, 0, 60], Err(ClassFault::Kind)),
-        Step::Writes(4, &[0x06, 0, 0, 0, 60], Ok(())),
-        Step::Shows(4, &[0x06, 0, 0, 0, 60]),
-    ];
-    let a = rt.alloc();
-    let part = two_entries(a)?;
-    take(&rt, a, lent(&part), &mut at_start(a, &part)?, &steps)
-}
+/// A profile after its reset, its attributes, and writes of them.
+static STEPS: [Step<'static>; 19] = [
+    Step::Shows(2, &[0x01, 0x00]),
+    Step::Shows(7, &[0x06, 0, 0, 0, 0]),
+    // 900 seconds.
+    Step::Shows(4, &[0x06, 0, 0, 0x03, 0x84]),
+    Step::Shows(1, &[0x09, 0x06, 1, 0, 99, 1, 0, 255]),
+    Step::Shows(3, &CAPTURE_OBJECTS),
+    Step::Shows(5, &[0x16, 1]),
+    Step::Shows(6, &NO_OBJECT),
+    Step::Shows(8, &[0x06, 0, 0, 0, 2]),
+    Step::Hides(0),
+    Step::Hides(9),
+    Step::Writes(1, &ONE, Err(ClassFault::NotSettable)),
+    Step::Writes(2, &ONE, Err(ClassFault::NotSettable)),
+    Step::Writes(7, &ONE, Err(ClassFault::NotSettable)),
+    Step::Writes(8, &ONE, Err(ClassFault::NotSettable)),
+    Step::Writes(0, &ONE, Err(ClassFault::NoIndex)),
+    Step::Writes(9, &ONE, Err(ClassFault::NoIndex)),
+    Step::Writes(4, &[0x12, 0, 60], Err(ClassFault::Kind)),
+    Step::Writes(4, &[0x06, 0, 0, 0, 60], Ok(())),
+    Step::Shows(4, &[0x06, 0, 0, 0, 60]),
+];

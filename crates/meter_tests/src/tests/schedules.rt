@@ -1,11 +1,12 @@
 use super::attributes::{Step, take};
-use super::monitors::script;
+use super::scripts::SCRIPTS;
 use super::times::{MIDNIGHT, MONTH_END, element};
 use class_control::parts::SchedulePart;
 use class_control::schedule::Schedule;
 use cosem_class::class::{ClassFault, Lent};
 use cosem_class::shapes::array;
 use cosem_data::name::LogicalName;
+use meter_theory::refs::ScriptRef;
 use std::alloc::Global;
 use std::test::Fail;
 
@@ -15,7 +16,10 @@ const SCHEDULE: LogicalName = LogicalName([0, 0, 15, 0, 0, 255]);
 /// Script 3 is run at the end of each month: of type 1, one time, with wildcards.
 pub(crate) fn schedule_part(alloc: Global) -> Result<SchedulePart, Fail> {
     Ok(SchedulePart {
-        executed_script: script(3),
+        executed_script: ScriptRef {
+            table: SCRIPTS,
+            script: 3,
+        },
         execution_type: 1,
         start: array(alloc, [element(alloc, &MIDNIGHT, &MONTH_END)?])?,
     })
@@ -79,5 +83,5 @@ fn a_schedule_is_read_and_its_times_written(rt: HostRuntime) -> Result<(), Fail>
         name: SCHEDULE,
         part: &part,
     };
-    take(&rt, a, lent, &mut schedule(a, &part)?, &STEPS)
+    take(&rt, a, &lent, &mut schedule(a, &part)?, &STEPS)
 }

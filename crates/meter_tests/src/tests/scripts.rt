@@ -83,17 +83,25 @@ fn lent(part: &ScriptTablePart) -> Lent<'_, ScriptTablePart> {
     }
 }
 
-/// A call with the argument that these bytes encode has this result.
-fn calls(
-    rt: &impl Abort,
-    a: Global,
-    part: &ScriptTablePart,
-    (method, bytes): (u8, &[u8]),
-    want: Result<(), ClassFault>,
-) -> Result<(), Fail> {
+/// A method, and the result of its call with the argument that these bytes encode.
+type Call = (u8, &'static [u8], Result<(), ClassFault>);
+
+/// Script 0 is the null script.
+static CALLS: [Call; 6] = [
+    (1, &[0x12, 0, 0], Ok(())),
+    (1, &[0x12, 0, 1], Ok(())),
+    (1, &[0x12, 0, 3], Ok(())),
+    (1, &[0x12, 0, 4], Err(ClassFault::UnknownScript)),
+    (1, &[0x11, 1], Err(ClassFault::Kind)),
+    (2, &[0x12, 0, 1], Err(ClassFault::NoIndex)),
+];
+
+/// A call has its result.
+fn is_called(rt: &impl Abort, a: Global, part: &ScriptTablePart, call: &Call) -> Result<(), Fail> {
+    let (method, bytes, want) = *call;
     let argument = value_of(rt, a, bytes)?;
     let done = ScriptTable.invoke(a, lent(part), method, &argument, Items::new(Vec::new(a)));
-    assert!(rt; done == want, "{done:?} of {bytes:?}");
+    assert!(rt; done == want, "{bytes:?}");
     Ok(())
 }
 
@@ -107,16 +115,13 @@ static STEPS: [Step<'static>; 7] = [
     Step::Writes(3, &[0x00], Err(ClassFault::NoIndex)),
 ];
 
-/// Shows its scripts, which a long-unsigned calls. Script 0 is the null script.
+/// Shows its scripts, which a long-unsigned calls.
 fn is_read_and_called(rt: &impl Abort, a: Global, part: &ScriptTablePart) -> Result<(), Fail> {
-    take(rt, a, lent(part), &mut ScriptTable, &STEPS)?;
-    let unknown = Err(ClassFault::UnknownScript);
-    calls(rt, a, part, (1, &[0x12, 0, 0]), Ok(()))?;
-    calls(rt, a, part, (1, &[0x12, 0, 1]), Ok(()))?;
-    calls(rt, a, part, (1, &[0x12, 0, 3]), Ok(()))?;
-    calls(rt, a, part, (1, &[0x12, 0, 4]), unknown)?;
-    calls(rt, a, part, (1, &[0x11, 1]), Err(ClassFault::Kind))?;
-    calls(rt, a, part, (2, &[0x12, 0, 1]), Err(ClassFault::NoIndex))
+    take(rt, a, &lent(part), &mut ScriptTable, &STEPS)?;
+    for call in &CALLS {
+        is_called(rt, a, part, call)?;
+    }
+    Ok(())
 }
 
 #[test]

@@ -55,7 +55,7 @@ static ELEMENTS: [([u8; 4], [u8; 5], bool); 19] = [
 fn fields_keep_to_their_ranges(rt: HostRuntime) -> Result<(), Fail> {
     for (time, date, want) in &ELEMENTS {
         let is_element = is_execution_time(&element(rt.alloc(), time, date)?);
-        assert!(rt; is_element == *want, "{time:?} of {date:?}");
+        assert!(rt; is_element == *want, "{date:?}");
     }
     Ok(())
 }
@@ -83,44 +83,63 @@ fn elements_have_a_time_and_a_date(rt: HostRuntime) -> Result<(), Fail> {
     Ok(())
 }
 
-/// So many elements of noon of one day.
-fn noons(alloc: Global, count: u8) -> Result<Vec<Data>, Memory> {
+/// A time of day and a date.
+type Time = ([u8; 4], [u8; 5]);
+
+/// So many elements of noon of one day, and the others.
+fn noons_and(alloc: Global, count: u8, others: &[Time]) -> Result<Vec<Data>, Memory> {
     let mut values = Vec::new(alloc);
     for _ in 0..count {
         values.push(element(alloc, &NOON, &ONE_DAY)?)?;
     }
+    for (time, date) in others {
+        values.push(element(alloc, time, date)?)?;
+    }
     Ok(values)
 }
 
-#[test]
-fn types_allow_their_numbers(rt: HostRuntime) -> Result<(), Fail> {
-    for kind in 1..=5 {
-        for (count, want) in [(0, kind != 1), (1, true), (16, kind != 1), (17, false)] {
-            let fit = are_execution_times(kind, &noons(rt.alloc(), count)?);
-            assert!(rt; fit == want, "{count} of type {kind}");
-        }
+/// So many elements of noon of one day, others, and whether types 1 to 5 allow them: types 4 and 5 have times, types 3 and 5
+/// wildcards.
+type Allowed = (u8, &'static [Time], [bool; 5]);
+
+static ALLOWED: [Allowed; 8] = [
+    (0, &[], [false, true, true, true, true]),
+    (1, &[], [true; 5]),
+    (16, &[], [false, true, true, true, true]),
+    (17, &[], [false; 5]),
+    (1, &[(MIDNIGHT, ONE_DAY)], [false, false, false, true, true]),
+    // 24 December, each year, each month or each day.
+    (
+        1,
+        &[(NOON, [0xFF, 0xFF, 12, 24, 4])],
+        [false, false, true, false, true],
+    ),
+    (
+        1,
+        &[(NOON, [0x07, 0xEA, 0xFF, 24, 4])],
+        [false, false, true, false, true],
+    ),
+    (
+        1,
+        &[(NOON, [0x07, 0xEA, 12, 0xFF, 4])],
+        [false, false, true, false, true],
+    ),
+];
+
+/// Types 1 to 5 allow these values so.
+fn are_allowed(rt: &impl Abort, values: &[Data], want: &[bool; 5]) {
+    let mut kind = 1;
+    for is_allowed in want {
+        let fit = are_execution_times(kind, values);
+        assert!(rt; fit == *is_allowed, "{kind} of {want:?}");
+        kind = kind.saturating_add(1);
     }
-    Ok(())
 }
 
 #[test]
-fn types_allow_their_times_and_dates(rt: HostRuntime) -> Result<(), Fail> {
-    for kind in 2..=5 {
-        let has_times = kind == 4 || kind == 5;
-        let has_wildcards = kind == 3 || kind == 5;
-        let others = [
-            (MIDNIGHT, ONE_DAY, has_times),
-            // 24 December, each year, each month or each day.
-            (NOON, [0xFF, 0xFF, 12, 24, 4], has_wildcards),
-            (NOON, [0x07, 0xEA, 0xFF, 24, 4], has_wildcards),
-            (NOON, [0x07, 0xEA, 12, 0xFF, 4], has_wildcards),
-        ];
-        for (time, date, want) in &others {
-            let mut values = noons(rt.alloc(), 1)?;
-            values.push(element(rt.alloc(), time, date)?)?;
-            let fit = are_execution_times(kind, &values);
-            assert!(rt; fit == *want, "{time:?} of {date:?}, type {kind}");
-        }
+fn types_allow_their_numbers_times_and_dates(rt: HostRuntime) -> Result<(), Fail> {
+    for (count, others, want) in &ALLOWED {
+        are_allowed(&rt, &noons_and(rt.alloc(), *count, others)?, want);
     }
     Ok(())
 }

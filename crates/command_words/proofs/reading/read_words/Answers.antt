@@ -7,45 +7,45 @@ use Rattle.command_words.proofs.WordsLemmas.{command_of-taken, told-help, told-n
 use Rattle.command_words.proofs.WordsLemmas.{unnamed-help, unnamed-no_command, unnamed-usage, unnamed-version}
 use Rattle.command_words.proofs.reading.read_words.Goals as goal
 
-pub returns-in-Some-clause-command : goal.returns-in-Some-clause-command
-returns-in-Some-clause-command c =
+pub returns-in-Ok-Some-clause-command : goal.returns-in-Ok-Some-clause-command
+returns-in-Ok-Some-clause-command c =
     let words : List Text = map (λ w. w.now) c.args.words.now in
-    let app_is : app_of c.in_ok-all_commands.field-0 ≡ app = c.in_ok-all_commands.ensures in
-    let m = c.in-Ok in
+    let app_is : app_of c.in-Ok.commands ≡ app = c.in-Ok.ensures in
+    let m = c.in-Ok-try_get_matches_from in
     let none = ap (λ (a : App). fault_of a words) (sym app_is) ∙ m.ensures.kinds (ap is_simple_and_free app_is) in
     let rows = (m.ensures.matches (ap is_simple app_is)).1 ∙ ap (λ (a : App). subcommand_of a words) app_is in
-    let is : Some c.in-Some.command ≡ c.in_ok-command-in-Ok.field-0 = search rules in
-    command_of-taken words (subcommand_rows_of m.matches) (Some (asked_by c.in-Some.command)) none rows
-    (ap (option_map asked_by) is ∙ c.in_ok-command-in-Ok.ensures)
+    let is : Some c.in-Ok-Some.command ≡ c.in-Ok-Some.field-0 = search rules in
+    command_of-taken words (subcommand_rows_of m.matches) (Some (asked_by c.in-Ok-Some.command)) none rows
+    (ap (option_map asked_by) is ∙ c.in-Ok-Some.ensures)
 
-pub returns-in-Ok-clause-no_command : goal.returns-in-Ok-clause-no_command
-returns-in-Ok-clause-no_command c =
+pub returns-in-Ok-None-clause-no_command : goal.returns-in-Ok-None-clause-no_command
+returns-in-Ok-None-clause-no_command c =
     let words : List Text = map (λ w. w.now) c.args.words.now in
-    let app_is : app_of c.in_ok-all_commands.field-0 ≡ app = c.in_ok-all_commands.ensures in
-    let m = c.in-Ok in
+    let app_is : app_of c.in-Ok.commands ≡ app = c.in-Ok.ensures in
+    let m = c.in-Ok-try_get_matches_from in
     let none = ap (λ (a : App). fault_of a words) (sym app_is) ∙ m.ensures.kinds (ap is_simple_and_free app_is) in
     let rows = (m.ensures.matches (ap is_simple app_is)).1 ∙ ap (λ (a : App). subcommand_of a words) app_is in
-    let is : None ≡ c.in_ok-command-in-Ok.field-0 = search rules in
+    let is : None ≡ c.in-Ok-None.field-0 = search rules in
     unnamed-no_command words c.nothing_named.result
-    (command_of-taken words (subcommand_rows_of m.matches) None none rows (ap (option_map asked_by) is ∙ c.in_ok-command-in-Ok.ensures))
+    (command_of-taken words (subcommand_rows_of m.matches) None none rows (ap (option_map asked_by) is ∙ c.in-Ok-None.ensures))
 
-pub returns-in-Ok-clause-help : goal.returns-in-Ok-clause-help
-returns-in-Ok-clause-help c = unnamed-help _ c.nothing_named.result c.nothing_named.ensures
+pub returns-in-Ok-None-clause-help : goal.returns-in-Ok-None-clause-help
+returns-in-Ok-None-clause-help c = unnamed-help _ c.nothing_named.result c.nothing_named.ensures
 
-pub returns-in-Ok-clause-version : goal.returns-in-Ok-clause-version
-returns-in-Ok-clause-version c = unnamed-version _ c.nothing_named.result c.nothing_named.ensures
+pub returns-in-Ok-None-clause-version : goal.returns-in-Ok-None-clause-version
+returns-in-Ok-None-clause-version c = unnamed-version _ c.nothing_named.result c.nothing_named.ensures
 
-pub returns-in-Ok-clause-usage : goal.returns-in-Ok-clause-usage
-returns-in-Ok-clause-usage c =
+pub returns-in-Ok-None-clause-usage : goal.returns-in-Ok-None-clause-usage
+returns-in-Ok-None-clause-usage c =
     let words : List Text = map (λ w. w.now) c.args.words.now in
-    let app_is : app_of c.in_ok-all_commands.field-0 ≡ app = c.in_ok-all_commands.ensures in
-    let none = ap (λ (a : App). fault_of a words) (sym app_is) ∙ c.in-Ok.ensures.kinds (ap is_simple_and_free app_is) in
+    let app_is : app_of c.in-Ok.commands ≡ app = c.in-Ok.ensures in
+    let none = ap (λ (a : App). fault_of a words) (sym app_is) ∙ c.in-Ok-try_get_matches_from.ensures.kinds (ap is_simple_and_free app_is) in
     unnamed-usage (kinds_of words) c.nothing_named.result none
 
 pub returns-clause-no_command : goal.returns-clause-no_command
 returns-clause-no_command c =
     let words : List Text = map (λ w. w.now) c.args.words.now in
-    let app_is : app_of c.in_ok-all_commands.field-0 ≡ app = c.in_ok-all_commands.ensures in
+    let app_is : app_of c.in-Ok.commands ≡ app = c.in-Ok.ensures in
     let e = c.in-Err in
     let kinds = subst (λ (a : App). (kind_of e.error ≡ OutOfMemory) ⊎ IsAmong (kind_of e.error) (fault_of a words)) app_is (e.ensures.kinds (ap is_simple_and_free app_is)) in
     told-no_command words (kind_of e.error) c.fault_told.result c.fault_told.ensures kinds
@@ -53,7 +53,7 @@ returns-clause-no_command c =
 pub returns-clause-help : goal.returns-clause-help
 returns-clause-help c =
     let words : List Text = map (λ w. w.now) c.args.words.now in
-    let app_is : app_of c.in_ok-all_commands.field-0 ≡ app = c.in_ok-all_commands.ensures in
+    let app_is : app_of c.in-Ok.commands ≡ app = c.in-Ok.ensures in
     let e = c.in-Err in
     let kinds = subst (λ (a : App). (kind_of e.error ≡ OutOfMemory) ⊎ IsAmong (kind_of e.error) (fault_of a words)) app_is (e.ensures.kinds (ap is_simple_and_free app_is)) in
     told-help (kinds_of words) (kind_of e.error) c.fault_told.result c.fault_told.ensures kinds
@@ -61,7 +61,7 @@ returns-clause-help c =
 pub returns-clause-version : goal.returns-clause-version
 returns-clause-version c =
     let words : List Text = map (λ w. w.now) c.args.words.now in
-    let app_is : app_of c.in_ok-all_commands.field-0 ≡ app = c.in_ok-all_commands.ensures in
+    let app_is : app_of c.in-Ok.commands ≡ app = c.in-Ok.ensures in
     let e = c.in-Err in
     let kinds = subst (λ (a : App). (kind_of e.error ≡ OutOfMemory) ⊎ IsAmong (kind_of e.error) (fault_of a words)) app_is (e.ensures.kinds (ap is_simple_and_free app_is)) in
     told-version (kinds_of words) (kind_of e.error) c.fault_told.result c.fault_told.ensures kinds
@@ -69,7 +69,7 @@ returns-clause-version c =
 pub returns-clause-usage : goal.returns-clause-usage
 returns-clause-usage c =
     let words : List Text = map (λ w. w.now) c.args.words.now in
-    let app_is : app_of c.in_ok-all_commands.field-0 ≡ app = c.in_ok-all_commands.ensures in
+    let app_is : app_of c.in-Ok.commands ≡ app = c.in-Ok.ensures in
     let e = c.in-Err in
     let kinds = subst (λ (a : App). (kind_of e.error ≡ OutOfMemory) ⊎ IsAmong (kind_of e.error) (fault_of a words)) app_is (e.ensures.kinds (ap is_simple_and_free app_is)) in
     told-usage (kinds_of words) (kind_of e.error) c.fault_told.result c.fault_told.ensures kinds

@@ -32,11 +32,11 @@ returns-clause-verdicts g c =
     let texts = c.args.texts.items in
     let step = c.min-workers.result in
     let lists = c.in_ok-all_done.field-0.items in
-    let count : length c.in_ok-shares.shares.items ≡ step = omega (arith, c.in_ok-shares.ensures.len, c.in_ok-shares.shares.ok.0) in
-    let each : (i : ℕ) (d : Result (Vec Verdict Global) AuditFault) → i < length c.in_ok-shares.shares.items → IfOk (get_or c.in_ok-shares.shares.items i d) (λ v. Audits (every step (0 + i) texts) v.items) = λ i d within.
-    lent_share step i c.as_slice-lent.result.now texts (IsFaultAt (g.G.Gate.may_give_up c.args.gate.now) (length c.as_slice-lent.result.now)) (get_or c.in_ok-shares.shares.items i d) c.as_slice-lent.ensures.value (c.in_ok-shares.ensures.each i d (omega arith)).1.met in
+    let count : length c.in-Ok.shares.items ≡ step = omega (arith, c.in-Ok.ensures.len, c.in-Ok.shares.ok.0) in
+    let each : (i : ℕ) (d : Result (Vec Verdict Global) AuditFault) → i < length c.in-Ok.shares.items → IfOk (get_or c.in-Ok.shares.items i d) (λ v. Audits (every step (0 + i) texts) v.items) = λ i d within.
+    lent_share step i c.as_slice-lent.result.now texts (IsFaultAt (g.G.Gate.may_give_up c.args.gate.now) (length c.as_slice-lent.result.now)) (get_or c.in-Ok.shares.items i d) c.as_slice-lent.ensures.value (c.in-Ok.ensures.each i d (omega arith)).1.met in
     let all : Shared IsVerdictOf step 0 texts (map (λ list. list.items) lists) =
-    shared IsVerdictOf (λ verdicts. verdicts.items) (λ list. list.items) step 0 texts c.in_ok-shares.shares.items lists (omega arith) each c.in_ok-all_done.ensures.lists in
+    shared IsVerdictOf (λ verdicts. verdicts.items) (λ list. list.items) step 0 texts c.in-Ok.shares.items lists (omega arith) each c.in_ok-all_done.ensures.lists in
     let some : 0 < length texts → 0 < step = omega (arith, c.min-workers.ensures, c.get.ensures.value, c.args.workers.ok, c.len.ensures, c.args.texts.ok.0) in
     let long : c.len-2.result ≡ length texts = omega (arith, c.len-2.ensures, c.args.texts.ok.0) in
     ok-then (λ verdicts. verdicts.items ≡ turns c.len-2.result (map (λ list. list.items) lists)) (λ verdicts. Audits texts verdicts.items) c.in_turn.result c.in_turn.ensures.verdicts

@@ -4,9 +4,9 @@ use Rattle.line_server.specs.declared.line.Line.TheVariants.{Ask}
 use Rattle.line_server.proofs.Doing.{line-done}
 use Rattle.line_server.proofs.running.take_line.Goals as goal
 
-pub returns-in_ok-answer_ask-in-Ask : goal.returns-in_ok-answer_ask-in-Ask
-returns-in_ok-answer_ask-in-Ask g c =
-    let told = c.in_ok-answer_ask-in-Ask.ensures.told in
+pub returns-in-Ok-answer_ask : goal.returns-in-Ok-answer_ask
+returns-in-Ok-answer_ask g c =
+    let told = c.in-Ok-answer_ask.ensures.told in
     let new = c.answer_ask.new.asker in
     line-done g.A.Asker.answers c.args.plan.now c.args.asker.now new c.args.number c.args.line.now c.args.waiting.now.items c.answer_ask.new.waiting.items (Ask c.in-Ask.ask) (told.0 ∷ []) tt
-    (sym c.in-Ask.is ∙ c.in_ok-read_line.ensures) (λ why bad. cc) (new, told.0, [], told.1, (refl, refl), refl) (told.2 ∙ ap (λ (text : List ℕ). c.args.waiting.now.items ++ text) (sym (append-nil (reply_text told.0))))
+    (sym c.in-Ask.is ∙ c.in-Ok.ensures) (λ why bad. cc) (new, told.0, [], told.1, (refl, refl), refl) (told.2 ∙ ap (λ (text : List ℕ). c.args.waiting.now.items ++ text) (sym (append-nil (reply_text told.0))))

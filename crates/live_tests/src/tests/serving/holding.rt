@@ -1,19 +1,10 @@
 //! Gates that hold a seat.
 
-use super::super::accepting::accepted;
-use super::samples::{Client, GET_REGISTER, READER, REGISTER, TEXT};
+use super::sessions::{Clients, serves};
 use gates::{Gate, Go};
-use live_server::fault::ServerFault;
-use live_server::sessions::{Driven, Service, serve_accepted};
-use meter_live::board::Closed;
-use std::alloc::Global;
-use std::net::{Net, SocketAddr, TcpListener, TcpStream};
-use std::process::Abort;
-use std::sync::Wait;
 use std::sync::atomic::{AtomicU64, Ordering};
 use std::test::Fail;
 use std::thread;
-use std::thread::Threads;
 
 /// How often a gate looks whether a seat may go on, before the seat gives up.
 const TURNS: u32 = 1_000_000;
@@ -51,15 +42,6 @@ impl Gate for HoldsFirst {
     }
 }
 
-/// Two clients ask, and the answers are read, the second one's first.
-fn ask_two<R: Net<Stream = TcpStream>>(rt: &R, alloc: Global, address: SocketAddr) -> Option<()> {
-    let mut first = Client::associated(rt, alloc, address, READER)?;
-    let mut second = Client::associated(rt, alloc, address, READER)?;
-    first.send(GET_REGISTER)?;
-    second.is_answered(GET_REGISTER, REGISTER)?;
-    first.is_sent(REGISTER)
-}
-
 /// Holds the second frames of seats 0 and 1 until both have come.
 #[derive(Drop)]
 struct Crosses {
@@ -83,45 +65,6 @@ impl Gate for Crosses {
     fn after(&self, _seat: usize) {}
 }
 
-/// Two sessions on one meter are answered at this gate, and nothing that they ask counts.
-fn both_are_answered<R, G>(rt: &R, gate: &G) -> Result<(), Fail>
-where
-    R: Abort
-        + AllocGlobal
-        + Net<Stream = TcpStream, Listener = TcpListener>
-        + Threads
-        + Wait
-        + Sync,
-    G: Gate + Sync,
-{
-    let alloc = rt.alloc();
-    let checked = accepted(alloc, TEXT)?;
-    let listener = TcpListener::bind(rt, "127.0.0.1:0")?;
-    let address = listener.local_addr()?;
-    let (answered, served) = thread::join(
-        rt,
-        || ask_two(rt, alloc, address),
-        || -> Result<Closed, ServerFault> {
-            let service = Service {
-                listener: &listener,
-                sessions: 2,
-                gate,
-            };
-            let driven = Driven {
-                steps: &b""[..],
-                faults: Vec::new(alloc),
-            };
-            serve_accepted(rt, alloc, checked, service, driven)
-        },
-    );
-    assert_eq!(rt; answered, Some(()));
-    let Ok(closed) = served else {
-        return Err("not served".into());
-    };
-    assert_eq!(rt; closed.count, 0);
-    Ok(())
-}
-
 /// Both sessions are answered, though the first waits for the second.
 #[test]
 fn a_held_session_holds_no_other(rt: HostRuntime) -> Result<(), Fail> {
@@ -129,7 +72,7 @@ fn a_held_session_holds_no_other(rt: HostRuntime) -> Result<(), Fail> {
         begun: AtomicU64::new(0),
         answered: AtomicU64::new(0),
     };
-    both_are_answered(&rt, &gate)
+    serves(&rt, Clients::Two, 2, &gate, (0, 0))
 }
 
 /// Both sessions are answered, though each waits for the other: neither would be if one thread did all work.
@@ -139,5 +82,5 @@ fn two_sessions_cross(rt: HostRuntime) -> Result<(), Fail> {
         first: AtomicU64::new(0),
         second: AtomicU64::new(0),
     };
-    both_are_answered(&rt, &gate)
+    serves(&rt, Clients::Two, 2, &gate, (0, 0))
 }

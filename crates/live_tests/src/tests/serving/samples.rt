@@ -86,19 +86,27 @@ impl Client {
     /// Sends an APDU, in hex.
     pub(super) fn send(&mut self, apdu: &str) -> Option<()> {
         let apdu = hex::decode(self.alloc, apdu).ok()?;
+        self.writes(&apdu)
+    }
+
+    /// Sends the frame of an APDU, in one piece.
+    fn writes(&mut self, apdu: &[u8]) -> Option<()> {
         let [high, low] = self.source.to_be_bytes();
         let [many, few] = u16::try_from(apdu.len()).ok()?.to_be_bytes();
-        let mut frame = Vec::new(self.alloc);
-        frame
-            .extend_from_slice(&[0, 1, high, low, 0, 1, many, few])
-            .ok()?;
-        frame.extend_from_slice(&apdu).ok()?;
+        let header = [0, 1, high, low, 0, 1, many, few];
+        let mut frame = Vec::from_slice(self.alloc, &header).ok()?;
+        frame.extend_from_slice(apdu).ok()?;
         self.stream.write_all(&frame).ok()
     }
 
     /// The next frame that comes is of this APDU, in hex, from the server to this client.
     pub(super) fn is_sent(&mut self, want: &str) -> Option<()> {
         let want = hex::decode(self.alloc, want).ok()?;
+        self.reads(&want)
+    }
+
+    /// The next frame that comes is of this APDU.
+    fn reads(&mut self, want: &[u8]) -> Option<()> {
         let mut header = [0u8; 8];
         self.stream.read_exact(&mut header).ok()?;
         let [high, low] = self.source.to_be_bytes();
@@ -106,10 +114,9 @@ impl Client {
         if header != [0, 1, 0, 1, high, low, many, few] {
             return None;
         }
-        let mut apdu = Vec::new(self.alloc);
-        apdu.resize(want.len(), 0).ok()?;
+        let mut apdu = vec![in self.alloc; 0; want.len()].ok()?;
         self.stream.read_exact(apdu.as_mut_slice()).ok()?;
-        (apdu.as_slice() == want.as_slice()).then_some(())
+        (apdu.as_slice() == want).then_some(())
     }
 
     /// An APDU is answered by this one.

@@ -1,19 +1,13 @@
 //! A board whose lock one thread holds while another reads.
-ghost use Rattle.std.specs.Prelude.{◌≡◌, true};
-ghost use Rattle.meter_core.specs.StepView.{step_of};
-ghost use Rattle.meter_live.specs.Changes.{is_get};
+ghost use Rattle.std.specs.Prelude.{◌≡◌};
 
 use super::super::accepting::accepted;
-use super::samples::TEXT;
-use cosem_data::data::Data;
-use cosem_data::name::LogicalName;
+use super::super::samples::{TEXT, get_energy, number_in};
 use flow_checker::check::Checked;
-use meter_core::reply::Reply;
-use meter_core::step::Step;
 use meter_live::board::{Blanks, Board};
 use meter_live::desk::BoardReader;
 use meter_live::names::Naming;
-use meter_theory::refs::Descriptor;
+use meter_live::share::Share;
 use std::alloc::Global;
 use std::marker::Brand;
 use std::process::Abort;
@@ -45,29 +39,17 @@ struct Steps {
     is_read: AtomicBool,
 }
 
-/// The reader's client, the first of the plan, reads the register.
-fn get_register() -> Step
-    ensures { is_get (step_of result) ≡ true }
-{
-    Step::Get {
-        client: 0,
-        attribute: Descriptor {
-            class_id: 3,
-            name: LogicalName([1, 0, 1, 8, 0, 255]),
-            index: 2,
-        },
-        selection: None,
-    }
-}
-
 /// Once the lock is held, whether the reader answers the register's value from the start, 123456.
 fn reads<N: Naming>(alloc: Global, mut reader: BoardReader<N>, steps: &Steps) -> bool {
     if !is_set(&steps.is_locked) {
         return false;
     }
-    let reply = reader.get(alloc, &get_register());
+    let seen = match reader.get(alloc, &get_energy()) {
+        Ok(reply) => number_in(&reply),
+        Err(_) => None,
+    };
     steps.is_read.store(true, Ordering::SeqCst);
-    matches!(reply, Ok(Reply::Value(Data::DoubleLongUnsigned(123_456))))
+    seen == Some(123_456)
 }
 
 /// Holds the lock until the other thread has read, and says whether it has.
@@ -108,6 +90,25 @@ where
     is_right && was_held
 }
 
+/// Opens a port, whose reader reads while the lock is held.
+fn use_port<N, S, C, W, R>(
+    rt: &R,
+    alloc: Global,
+    board: &Board<N, S, C, W>,
+) -> Result<Share<S, C>, Fail>
+where
+    N: Naming + Send,
+    S: Ledger,
+    C: Ledger,
+    W: Wait + Drop,
+    R: Threads + Wait + Abort + Sync,
+{
+    let (port, share) = board.port(rt)?;
+    let reader = port.reader(rt)?;
+    assert!(rt; is_read_while_held(rt, alloc, board, reader));
+    Ok(share)
+}
+
 /// A board whose port's reader reads while the lock is held, which is no step.
 fn hold_board<N, S, C, W, R>(
     rt: &R,
@@ -130,19 +131,12 @@ where
     let Ok(board) = Board::<N, S, C, W>::open(keep, alloc, checked, blanks) else {
         return Err("not opened".into());
     };
-    let Ok((port, share)) = board.port(rt) else {
-        return Err("no port".into());
-    };
-    let Ok(reader) = port.reader(rt) else {
-        return Err("no reader".into());
-    };
-    assert!(rt; is_read_while_held(rt, alloc, &board, reader));
-    let mut shares = Vec::with_capacity(alloc, 1)?;
-    shares.push(share).map_err(|_| "no room")?;
+    let share = use_port(rt, alloc, &board)?;
+    let shares = vec![in alloc; share]?;
     let Ok(closed) = board.close(rt, shares) else {
         return Err("not closed".into());
     };
-    assert_eq!(rt; closed.count, 0);
+    assert!(rt; closed.count == 0);
     Ok(())
 }
 

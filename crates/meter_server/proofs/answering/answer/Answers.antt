@@ -1,4 +1,6 @@
-use Rattle.std.proofs.Common.{codes, refl}
+use Rattle.std.proofs.Common.{codes, refl, subst, option_map, string_bytes}
+use Rattle.meter_server.specs.Answering.{JudgesFiles}
+use Rattle.meter_server.specs.Sources.{MayGive, ReadsWhere, given_of}
 use Rattle.meter_server.specs.declared.demo.TheConstants.{DEMO}
 use Rattle.meter_server.specs.declared.program.Source.{Source}
 use Rattle.meter_server.proofs.answering.answer.Goals as goal
@@ -9,3 +11,14 @@ demo = record { file = record { ref_ptr = (0, 0); now = codes "demo.toml" }; tex
 
 pub returns-in-Demo-clause-answers : goal.returns-in-Demo-clause-answers
 returns-in-Demo-clause-answers g c = rw c.in-Demo.is (demo, refl, refl, c.answer_lines_of.ensures.answers)
+
+pub returns-in-Check-clause-answers : goal.returns-in-Check-clause-answers
+returns-in-Check-clause-answers g c =
+    let reads = g.F.TextFiles.may_read in
+    let sources = c.new-sources-in-Check in
+    let given = option_map (given_of string_bytes) sources.result.given in
+    let config = c.in-Check.config.now in
+    let labels = c.in-Check.labels.now in
+    let read = subst (λ is_named. ReadsWhere is_named (g.I.Read.remaining c.args.input.now) (g.I.Read.remaining sources.new.input) given) c.is_either_input.ensures sources.ensures.given in
+    let judged = subst (λ files. JudgesFiles (MayGive (reads files) given) config labels c.check_files.result) sources.ensures.files c.check_files.ensures in
+    rw c.in-Check.is (given, read, refl, judged)

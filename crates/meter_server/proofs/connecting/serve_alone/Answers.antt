@@ -1,6 +1,5 @@
 use Rattle.std.proofs.Common.{◌≡◌, ◌∙◌, [], None, Err, refl, sym, ap, subst}
 use Rattle.std.proofs.lemmas.List.Elements.{All-nil}
-use Rattle.std.proofs.lemmas.Result.{err_from_is_err_and}
 use Rattle.std.proofs.KnownBytes.{Appends-nil, Consumes-nil}
 use Rattle.tcp_wrapper.specs.Stream.{IsFrame}
 use Rattle.meter_theory.specs.Plan.{Plan, start}
@@ -33,12 +32,11 @@ nothing-served plan m = (
   ),
 )
 
-pub returns-in_err-start : goal.returns-in_err-start
-returns-in_err-start g c =
-    let p = err_from_is_err_and c.from_residual.result c.from_residual.ensures.1 in rw (p.1, p.2) (nothing-served c.args.plan.now _)
+pub returns-in_default : goal.returns-in_default
+returns-in_default g c = nothing-served c.args.plan.now _
 
 pub new-solo-requires : goal.new-solo-requires
-new-solo-requires g c = subst (IsState c.args.plan.now) (sym c.in_ok-start.ensures) (start-is-state c.args.plan.now c.known.ensures.sound)
+new-solo-requires g c = subst (IsState c.args.plan.now) (sym c.in-Ok.ensures) (start-is-state c.args.plan.now c.known.ensures.sound)
 
 abbrev alone : Plan → State → Alone
 alone plan meter = record { plan = plan; meter = meter }
@@ -47,7 +45,7 @@ pub returns : goal.returns
 returns g c =
     let plan = c.args.plan.now in
     let solo = c.new-solo.result in
-    let is : solo ≡ alone plan (start plan) = ap (λ (P : Plan). alone P solo.meter) c.new-solo.ensures.plan ∙ ap (alone plan) (c.new-solo.ensures.meter ∙ c.in_ok-start.ensures) in (
+    let is : solo ≡ alone plan (start plan) = ap (λ (P : Plan). alone P solo.meter) c.new-solo.ensures.plan ∙ ap (alone plan) (c.new-solo.ensures.meter ∙ c.in-Ok.ensures) in (
       c.serve.new.asker,
       subst (λ (a : Alone). Serves AnswersAlone plan (connected a (record { unread = g.R.Read.remaining c.args.reader.now; written = g.W.Write.contents c.args.writer.now }))
           (connected c.serve.new.asker (record { unread = g.R.Read.remaining c.serve.new.reader; written = g.W.Write.contents c.serve.new.writer })) c.serve.result) is c.serve.ensures.serves,

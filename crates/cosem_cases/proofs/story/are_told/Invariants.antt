@@ -1,5 +1,5 @@
 use Rattle.std.proofs.Common.{◌≡◌}
-use Rattle.cosem_cases.proofs.connection.is_told.Given as goal
+use Rattle.cosem_cases.proofs.story.are_told.Given as goal
 
 abbrev pub invariant-loop-line : goal.invariant-loop-line
 invariant-loop-line l = record {

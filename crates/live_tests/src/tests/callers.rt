@@ -1,0 +1,71 @@
+//! Callers that no other crate has. Each rests on a clause that nothing else needs, so that it is proved no more where a contract, and with
+//! it a body, does less.
+ghost use Rattle.std.specs.Prelude.{◌≡◌, ◌⊎◌, IfOk, map, string_bytes};
+ghost use Rattle.meter_server.specs.Answering.{Runs};
+ghost use Rattle.meter_server.specs.Outcomes as outcomes;
+ghost use Rattle.meter_server.specs.Outcomes.{output_of, status_of};
+ghost use Rattle.meter_server.specs.Program.{AreMistaken};
+
+use cosem_data::memory::Memory;
+use line_server::running::LineFault;
+use meter_server::files::TextFiles;
+use meter_server::outcome::Outcome;
+use meter_server::output::Output;
+use meter_server::program::{outcome_of, run_program};
+use std::alloc::Global;
+use std::io::{Read, Write};
+use std::net::{Net, TcpListener, TcpStream};
+use std::sync::Wait;
+use std::thread::Threads;
+use std::time::Clock;
+
+/// The exit status is the definition's.
+pub(super) fn status_behind(outcome: &Outcome) -> u8
+    ensures { result ≡ status_of outcome.now }
+{
+    outcome.status()
+}
+
+/// So is what standard output tells, where memory isn't refused.
+pub(super) fn told_behind(alloc: Global, outcome: &Outcome) -> Result<String, Memory>
+    ensures { IfOk result (λ text. string_bytes text ≡ output_of outcome.now) }
+{
+    outcome.output(alloc)
+}
+
+/// A fault of the lines is how the command ended.
+pub(super) fn ended_so(answer: Result<u64, LineFault>) -> Outcome
+    ensures { result ≡ outcomes.outcome_of answer }
+{
+    outcome_of(answer)
+}
+
+/// What words ask for is done, and then told, whatever reads the files. Words that are no command are told, with the status of a wrong
+/// command line or of refused memory.
+pub(super) fn run_asked<H, F, I, O, E>(
+    rt: &H,
+    files: &F,
+    words: &[String],
+    input: &mut I,
+    output: &mut O,
+    errors: &mut E,
+) -> u8
+where
+    H: AllocGlobal
+        + Clock
+        + Net<Stream = TcpStream, Listener = TcpListener>
+        + Threads
+        + Wait
+        + Sync,
+    F: TextFiles + Sync,
+    I: Read + Send,
+    O: Output,
+    E: Write + Send,
+    ensures runs { Runs (F.may_read files.now) (map string_bytes words.now)
+        (record { unread = I.remaining input.old; written = O.contents output.old })
+        (record { unread = I.remaining input.new; written = O.contents output.new })
+        (E.contents errors.old) (E.contents errors.new) result }
+    ensures mistaken { AreMistaken (map string_bytes words.now) → (result ≡ 2) ⊎ (result ≡ 3) }
+{
+    run_program(rt, files, words, input, output, errors)
+}

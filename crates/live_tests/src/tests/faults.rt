@@ -1,0 +1,90 @@
+//! Faults as they are printed: what their messages are no contract tells.
+use command_words::WordsFault;
+use explanations::file::FileFault;
+use fleet_audit::fleet::AuditFault;
+use frame_server::fault::ServeFault;
+use line_server::reason::Reason;
+use line_server::running::LineFault;
+use live_server::fault::ServerFault;
+use meter_server::listing::ListFault;
+use meter_server::reading::FleetFault;
+use meter_server::translating::TranslationFault;
+use std::alloc::Global;
+use std::fmt::Display;
+use std::process::Abort;
+use std::test::Fail;
+use step_words::fault::{Asked, TextFault};
+use tcp_wrapper::fault::WrapFault;
+
+/// The fault is printed so.
+fn is_told(rt: &impl Abort, alloc: Global, fault: &impl Display, want: &str) -> Result<(), Fail> {
+    let text = format!(in alloc; "{fault}")?;
+    assert_eq!(rt; text.as_str(), want);
+    Ok(())
+}
+
+/// An unreadable line has its number, and a frame fault its own.
+#[test]
+fn faults_of_inputs_are_told(rt: HostRuntime) -> Result<(), Fail> {
+    let alloc = rt.alloc();
+    is_told(&rt, alloc, &LineFault::Read, "the lines can't be read")?;
+    is_told(
+        &rt,
+        alloc,
+        &LineFault::Line(12, Reason::Moment),
+        "line 12: unreadable",
+    )?;
+    is_told(&rt, alloc, &ServeFault::Cut, "input ended inside a frame")?;
+    is_told(
+        &rt,
+        alloc,
+        &ServeFault::Wrap(WrapFault::Length),
+        "frame fault 3",
+    )?;
+    is_told(
+        &rt,
+        alloc,
+        &ServerFault::Listen,
+        "connections can't be taken there",
+    )?;
+    is_told(&rt, alloc, &ListFault::Write, "the output can't be written")?;
+    is_told(&rt, alloc, &AuditFault::GaveUp, "the gate gave up")
+}
+
+/// A text's fault has its place.
+#[test]
+fn faults_of_texts_are_told(rt: HostRuntime) -> Result<(), Fail> {
+    let at = TextFault::At {
+        line: 2,
+        column: 7,
+        asked: Asked::Slash,
+    };
+    is_told(
+        &rt,
+        rt.alloc(),
+        &TranslationFault::Text(at),
+        "line 2, column 7: asked is a slash",
+    )?;
+    let byte = FileFault::NotText { byte: 3 };
+    is_told(
+        &rt,
+        rt.alloc(),
+        &byte,
+        "it isn't UTF-8: the first byte that is none is byte 3, counted from 0",
+    )
+}
+
+/// An unread file has its path.
+#[test]
+fn faults_of_fleets_are_told(rt: HostRuntime) -> Result<(), Fail> {
+    let path = String::from_str(rt.alloc(), "north.toml")?;
+    let fault = FleetFault::Unread(path, FileFault::Missing);
+    is_told(&rt, rt.alloc(), &fault, "north.toml: there is no such file")
+}
+
+/// The words of a wrong command line are clap's.
+#[test]
+fn faults_of_words_are_told(rt: HostRuntime) -> Result<(), Fail> {
+    let fault = WordsFault::Usage(String::from_str(rt.alloc(), "error: no\n")?);
+    is_told(&rt, rt.alloc(), &fault, "error: no\n")
+}
