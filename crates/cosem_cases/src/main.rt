@@ -5,29 +5,37 @@
 //!
 //! - `demo CONFIGURATION`: the text of `CONFIGURATION.toml` is that of the demo, by which the command `demo` answers.
 //! - `lines CONFIGURATION NAME`: the lines of `lines/NAME.in` over the configuration `CONFIGURATION.toml`
-//!   give what `lines/NAME.out` has: what `run` writes, and then how it ended, `done` or the line that can't be read, as it is told;
+//!   give what `lines/NAME.out` has: what `run` writes, and then how it ended, `done` or the line that can't be read, as it
+//!   is told;
 //!   or the configuration's verdict.
-//! - `edits CONFIGURATION NAME`: each row `OLD => NEW => .. => VERDICT` of `edits/NAME` is a case. With each NEW in place of its OLD,
+//! - `edits CONFIGURATION NAME`: each row `OLD => NEW => .. => VERDICT` of `edits/NAME` is a case. With each NEW in place
+//!   of its OLD,
 //!   which it has once, `run` with no line comes to this verdict on the configuration, or `no fault`.
 //! - `labels CONFIGURATION NAME`: each row `EDIT => NEW => .. => VERDICT` of `labels/NAME` is a case, where EDIT is `config OLD` or
-//!   `labels OLD`. With each NEW in place of its OLD, which stands there once, `check` comes to this verdict on the configuration and
+//!   `labels OLD`. With each NEW in place of its OLD, which stands there once, `check` comes to this verdict on the
+//!   configuration and
 //!   the labels `CONFIGURATION.labels`.
-//! - `explained CONFIGURATION NAME`: each case of `explained/NAME`, which empty lines part, is a row as those of `labels`, and behind
+//! - `explained CONFIGURATION NAME`: each case of `explained/NAME`, which empty lines part, is a row as those of `labels`,
+//!   and behind
 //!   it the lines that explain the verdict on standard error, each behind `| `.
 //! - `unreadable CONFIGURATION NAME`: each row of `unreadable/NAME` is a case: `run` tells the line, alone, by
 //!   `line 1: unreadable`, and ends.
 //! - `words NAME`: each row `encode TEXT => MADE` or `decode TEXT => MADE` of `words/NAME` is a case: this is made of the text, or
 //!   nothing, and MADE is `fault` and what is told of it.
-//! - `frames CONFIGURATION NAME`: each row `FRAMES => ANSWERS => END` of `frames/NAME` is a case: `session` answers a connection over
-//!   which these bytes come, in hex, by these, and it ends so; END is `N frames`, as many as the answers are, or the fault in words.
-//! - `sessions CONFIGURATION NAME`: each story of `sessions/NAME`, which empty lines part, is a case: its lines `SESSION WPORT APDU =>
+//! - `frames CONFIGURATION NAME`: each row `FRAMES => ANSWERS => END` of `frames/NAME` is a case: `session` answers a
+//!   connection over
+//!   which these bytes come, in hex, by these, and it ends so; END is `N frames`, as many as the answers are, or the fault
+//!   in words.
+//! - `sessions CONFIGURATION NAME`: each story of `sessions/NAME`, which empty lines part, is a case: its lines `SESSION
+//!   WPORT APDU =>
 //!   ANSWER` are answered so, in their order, by the sessions `first` and `second` on one meter. In both tables spaces may stand
 //!   between hex digits.
 //! - `command NAME STATUS`: the program with the words of `commands/NAME.words`, one a line, and the input `NAME.in` ends
 //!   with this status and writes `NAME.out` on standard output and `NAME.err` on standard error; a file that isn't there is
 //!   empty.
 //!
-//! Each case but those of `demo` and `sessions` is a run of the program `cosem-flow` with the words of a command: its exit status is
+//! Each case but those of `demo` and `sessions` is a run of the program `cosem-flow` with the words of a command: its exit
+//! status is
 //! compared, what it writes on standard output, and what it tells on standard error. Why a line can't be read is compared in
 //! `command` alone, what explains a verdict in `explained` and `command`. Everywhere but in `command` the program reads the
 //! configuration as the file `demo.toml` and the labels as `demo.labels`; they are the demo's where a table names none.

@@ -60,7 +60,8 @@ struct Pair<'a> {
     second: Session<'a>,
 }
 
-/// Whether each line of the story, `SESSION WPORT APDU => ANSWER`, is as expected, where SESSION is `first` or `second`, both on one
+/// Whether each line of the story, `SESSION WPORT APDU => ANSWER`, is as expected, where SESSION is `first` or `second`,
+/// both on one
 /// meter of the configuration that begins at its start. A line that begins with `#` is passed over; a story has one that doesn't.
 pub(crate) fn is_told(alloc: Global, config: &str, story: &str) -> Option<bool> {
     let (plan, _policy) = read_config(alloc, config).ok()?;

@@ -107,7 +107,8 @@ impl<'a> Wanted<'a> {
         }
     }
 
-    /// What a run of lines must tell that gives this text: what it writes, and then how it ends, `done` or the line that can't be read;
+    /// What a run of lines must tell that gives this text: what it writes, and then how it ends, `done` or the line that
+    /// can't be read;
     /// or the verdict alone.
     pub(crate) fn of_lines(text: &'a str) -> Option<Self> {
         match text.strip_suffix("done\n") {

@@ -1,7 +1,9 @@
-//! The program `cosem-flow`: a meter server over lines of text, frames and TCP, and a judge of configurations. What each command does says
+//! The program `cosem-flow`: a meter server over lines of text, frames and TCP, and a judge of configurations. What each
+//! command does says
 //! `meter_server::program::run_program`; `cosem-flow --help` lists them.
 //!
-//! Exit status: 0 done or accepted, 1 a configuration or labels refused, 2 the command line can't be used, 3 any other fault, 141 where
+//! Exit status: 0 done or accepted, 1 a configuration or labels refused, 2 the command line can't be used, 3 any other
+//! fault, 141 where
 //! whoever read the output has gone.
 #![tactic(auto)]
 
@@ -58,7 +60,8 @@ fn main(rt: HostRuntime) -> ExitCode {
     ExitCode::from(status)
 }
 
-/// The words of the command line, the program's name first. An audit is asked to tell how far it is where standard error is a terminal.
+/// The words of the command line, the program's name first. An audit is asked to tell how far it is where standard error is
+/// a terminal.
 fn read_words(rt: &HostRuntime, alloc: Global) -> Result<Vec<String>, NoWords> {
     let words = given_words(rt, alloc)?;
     if rt.stderr().is_terminal() {

@@ -144,7 +144,8 @@ fn sees(rt: &impl Abort, alloc: Global, reader: &mut Reader, number: u64)
     assert!(rt; seen == Ok(Some(number)));
 }
 
-/// A value that came in is seen once the reader is told. Where the telling is refused for memory, the reader sees what it saw, and is
+/// A value that came in is seen once the reader is told. Where the telling is refused for memory, the reader sees what it
+/// saw, and is
 /// told once more.
 fn is_told<R: Wait + Abort>(
     rt: &R,

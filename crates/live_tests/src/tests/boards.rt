@@ -126,7 +126,8 @@ fn use_port<N: Naming, S: Ledger, C: Ledger, W: Wait + Drop, R: Wait + Abort>(
     Ok(share)
 }
 
-/// A board isn't closed without the share of its port, and with it counts four steps and three changes. Where the board isn't opened
+/// A board isn't closed without the share of its port, and with it counts four steps and three changes. Where the board
+/// isn't opened
 /// for want of memory, what was accepted is given back.
 fn hold_day<N: Naming, S: Ledger, C: Ledger, W: Wait + Drop, R: Wait + Abort>(
     rt: &R,

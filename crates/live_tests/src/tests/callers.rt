@@ -1,4 +1,5 @@
-//! Callers that no other crate has. Each rests on a clause that nothing else needs, so that it is proved no more where a contract, and with
+//! Callers that no other crate has. Each rests on a clause that nothing else needs, so that it is proved no more where a
+//! contract, and with
 //! it a body, does less.
 ghost use Rattle.std.specs.Prelude.{◌≡◌, ◌⊎◌, IfOk, map, string_bytes};
 ghost use Rattle.meter_server.specs.Answering.{Runs};
@@ -40,7 +41,8 @@ pub(super) fn ended_so(answer: Result<u64, LineFault>) -> Outcome
     outcome_of(answer)
 }
 
-/// What words ask for is done, and then told, whatever reads the files. Words that are no command are told, with the status of a wrong
+/// What words ask for is done, and then told, whatever reads the files. Words that are no command are told, with the status
+/// of a wrong
 /// command line or of refused memory.
 pub(super) fn run_asked<H, F, I, O, E>(
     rt: &H,

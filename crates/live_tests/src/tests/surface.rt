@@ -1,4 +1,5 @@
-//! The public calls and types, each in the crate and under the name by which it is known there. Where one is lost this doesn't compile.
+//! The public calls and types, each in the crate and under the name by which it is known there. Where one is lost this
+//! doesn't compile.
 use acse_session::asker::Asker;
 use acse_session::session::Session;
 use association_views::permits::{permit_action, permit_get, permit_set};

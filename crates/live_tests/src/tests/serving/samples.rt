@@ -4,7 +4,8 @@ use std::alloc::Global;
 use std::io::{Read, Write};
 use std::net::{Net, SocketAddr, TcpStream};
 
-/// A register that comes from outside, an alarm that the manager sets, a long identifier and a profile whose period the installer sets.
+/// A register that comes from outside, an alarm that the manager sets, a long identifier and a profile whose period the
+/// installer sets.
 pub(super) const TEXT: &str = r#"version = 1
 client = [
  { name = "reader", sap = 32 },

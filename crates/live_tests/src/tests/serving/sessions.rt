@@ -1,4 +1,5 @@
-//! Sessions that write, close in the midst of a value, find no seat, and see what the driver brings. Each owner of a client lends it to
+//! Sessions that write, close in the midst of a value, find no seat, and see what the driver brings. Each owner of a client
+//! lends it to
 //! what asks by it, since it has to drop it at each of its ends.
 
 use super::super::accepting::accepted;
@@ -41,7 +42,8 @@ fn ask<R: Net<Stream = TcpStream>>(
     }
 }
 
-/// The clients are answered in so many sessions at this gate, while the driver brings these lines, and then so many steps and changes
+/// The clients are answered in so many sessions at this gate, while the driver brings these lines, and then so many steps
+/// and changes
 /// are counted. What the driver is told comes behind the faults.
 fn serves_driven<R, G>(
     rt: &R,
