@@ -9,6 +9,7 @@ use Rattle.acse_association.specs.Answers.{aare_bytes}
 -- a client without a password, and one with 12345678
 two_clients : Plan
 two_clients = record {
+  version = 1;
   clients = record { name = []; sap = 0x10; password = None } ∷ record { name = []; sap = 0x20; password = Some (0x31 ∷ 0x32 ∷ 0x33 ∷ 0x34 ∷ 0x35 ∷ 0x36 ∷ 0x37 ∷ 0x38 ∷ []) } ∷ [];
   objects = [];
   rights = [];

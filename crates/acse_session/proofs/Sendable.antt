@@ -9,7 +9,7 @@ use Rattle.meter_theory.specs.Replies.{Reply, Value, Code, Quiet, reply_to}
 use Rattle.meter_theory.specs.Sound.{IsSound}
 use Rattle.meter_theory.specs.State.{State}
 use Rattle.meter_theory.specs.States.{IsState}
-use Rattle.meter_theory.specs.Steps.{Step, Get, Set, Act, Input, CaptureAt, Evaluate, ScheduleAt}
+use Rattle.meter_theory.specs.Steps.{Step, Get, Set, Act, Input, CaptureAt, Evaluate, ScheduleAt, Tick, ClockAt}
 use Rattle.meter_theory.proofs.Lengths.{reply-writable}
 use Rattle.reply_sizes.proofs.Replies.{reply-length}
 use Rattle.meter_core.specs.StepView.{reply_of}
@@ -35,9 +35,11 @@ reply-sendable P sound s k (Get c d selection) service e =
 reply-sendable P sound s k (Set c d selected v) service e = subst (λ (x : Service). CanSend x (reply_to P s (Set c d selected v))) (sym e) tt
 reply-sendable P sound s k (Act c d argument) service e = subst (λ (x : Service). CanSend x (reply_to P s (Act c d argument))) (sym e) tt
 reply-sendable P sound s k (Input x v) service e = absurd e
-reply-sendable P sound s k (CaptureAt n t) service e = absurd e
+reply-sendable P sound s k (CaptureAt n) service e = absurd e
 reply-sendable P sound s k (Evaluate n) service e = absurd e
-reply-sendable P sound s k (ScheduleAt n t) service e = absurd e
+reply-sendable P sound s k (ScheduleAt n) service e = absurd e
+reply-sendable P sound s k Tick service e = absurd e
+reply-sendable P sound s k (ClockAt m) service e = absurd e
 
 -- the same of what the code replied
 pub replied-sendable : (step : Step) (r : Result CodeReply Memory) (reply : Reply) → IfOk r (λ x. reply_of x ≡ reply) → IsSendable step reply → IfOk r (λ x. IsSendable step (reply_of x))

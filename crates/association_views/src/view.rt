@@ -80,6 +80,8 @@ impl<'a> InterfaceClass<()> for View<'a> {
 
     ghost new_value = { association_new_value };
 
+    ghost kept = { λ value. value };
+
     ghost MeetsRule = { AssociationMeetsRule };
 
     ghost IsRow = { λ _ _ _. ⊤ };

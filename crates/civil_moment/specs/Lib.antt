@@ -1,3 +1,4 @@
 pub mod Days
-pub mod Texts
+pub mod MomentText
 pub mod Reading
+pub mod Texts

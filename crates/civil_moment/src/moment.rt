@@ -133,6 +133,13 @@ impl Numbers {
 }
 
 impl Moment {
+    /// The first moment, 2000-01-01T00:00:00 (own profile).
+    pub fn first() -> Moment
+        ensures { result ≡ times.first_moment }
+    {
+        midnight(2000, 1, 1)
+    }
+
     /// The moment that a text is: YYYY-MM-DDTHH:MM:SS, a day of the years 2000 to 9999 that the calendar has, an hour
     /// below 24, a minute and a second below 60 (own profile). Any other text is a `BadMoment`.
     pub fn read(text: &str) -> Result<Moment, BadMoment>
@@ -158,6 +165,80 @@ impl Moment {
         }
     }
 
+    /// What the type keeps, for callers: it is a moment that the calendar has.
+    pub fn known(self)
+        ensures { times.IsMoment self }
+    {
+        let _year = self.year;
+    }
+
+    /// The moment of these numbers, if there is one: a day of the years 2000 to 9999 that the calendar has, an hour below 24, a
+    /// minute and a second below 60 (own profile).
+    pub fn of(year: u16, month: u8, day: u8, hour: u8, minute: u8, second: u8) -> Option<Moment>
+        ensures found { IfSome result (λ m. times.IsMoment m × (m ≡ record { year = year; month = month; day = day; hour = hour; minute = minute; second = second })) }
+        ensures exact { times.IsMoment (record { year = year; month = month; day = day; hour = hour; minute = minute; second = second }) → result ≡ Some (record { year = year; month = month; day = day; hour = hour; minute = minute; second = second }) }
+    {
+        let numbers = Numbers {
+            year,
+            month,
+            day,
+            hour,
+            minute,
+            second,
+        };
+        numbers.moment()
+    }
+
+    /// The moment one second later; the last, 9999-12-31T23:59:59, stays (own profile).
+    pub fn next_second(self) -> Moment
+        ensures { result ≡ times.next_second self }
+    {
+        if self.second < 59 {
+            return Moment {
+                second: self.second + 1,
+                ..self
+            };
+        }
+        if self.minute < 59 {
+            return Moment {
+                minute: self.minute + 1,
+                second: 0,
+                ..self
+            };
+        }
+        if self.hour < 23 {
+            return Moment {
+                hour: self.hour + 1,
+                minute: 0,
+                second: 0,
+                ..self
+            };
+        }
+        self.next_day()
+    }
+
+    /// The start of the day behind that of the moment. The last day is followed by none, and then the moment stays.
+    fn next_day(self) -> Moment
+        ensures { result ≡ times.next_day self }
+    {
+        let Moment {
+            year,
+            month,
+            day,
+            ..
+        } = self;
+        if day < self.last_day() {
+            return midnight(year, month, day + 1);
+        }
+        if month < 12 {
+            return midnight(year, month + 1, 1);
+        }
+        if year < 9999 {
+            return midnight(year + 1, 1, 1);
+        }
+        self
+    }
+
     /// The seconds since 2000-01-01T00:00:00 (the epoch is own profile).
     pub fn seconds(self) -> u64
         ensures { result ≡ times.seconds_since_2000 self }
@@ -181,6 +262,21 @@ impl Moment {
         ensures { result ≡ times.last_day self }
     {
         days::days_of_month(self.year, self.month)
+    }
+}
+
+/// The start of a day.
+fn midnight(year: u16, month: u8, day: u8) -> Moment
+    requires { times.IsMoment (record { year = year; month = month; day = day; hour = 0; minute = 0; second = 0 }) }
+    ensures { result ≡ record { year = year; month = month; day = day; hour = 0; minute = 0; second = 0 } }
+{
+    Moment {
+        year,
+        month,
+        day,
+        hour: 0,
+        minute: 0,
+        second: 0,
     }
 }
 

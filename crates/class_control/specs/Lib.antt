@@ -1,6 +1,8 @@
 pub mod ActionView
 pub mod ScriptView
 pub mod PartView
+pub mod ClockClass
+pub mod ClockLaws
 pub mod ScriptTableClass
 pub mod ScriptTableLaws
 pub mod MonitorClass

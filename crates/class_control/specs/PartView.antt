@@ -3,9 +3,14 @@ use Rattle.std.specs.Prelude.{map}
 use Rattle.cosem_data.specs.View.{tree}
 use Rattle.meter_theory.specs.Plan as theory
 use Rattle.class_control.specs.ScriptView.{script_of}
+use Rattle.class_control.specs.declared.parts.ClockPart.{ClockPart}
 use Rattle.class_control.specs.declared.parts.ScriptTablePart.{ScriptTablePart}
 use Rattle.class_control.specs.declared.parts.MonitorPart.{MonitorPart}
 use Rattle.class_control.specs.declared.parts.SchedulePart.{SchedulePart}
+
+-- the moment at which a clock starts: IEC 62056-6-2, Clock
+abbrev pub clock_part_of : ClockPart → theory.Part
+clock_part_of part = theory.Clock part.start
 
 -- the scripts of a table: IEC 62056-6-2, Script table
 abbrev pub script_table_part_of : ScriptTablePart → theory.Part

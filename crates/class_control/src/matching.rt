@@ -13,7 +13,7 @@ use civil_moment::moment::Moment;
 use cosem_data::data::Data;
 
 /// The byte at this place, 0 where there is none.
-fn byte_at(bytes: &[u8], place: usize) -> u8
+pub(crate) fn byte_at(bytes: &[u8], place: usize) -> u8
     ensures { result ≡ get_or bytes.now place 0 }
 {
     match bytes.get(place) {

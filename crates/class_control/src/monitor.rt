@@ -121,6 +121,8 @@ impl<'a> InterfaceClass<Watch<'a>> for Monitor {
 
     ghost new_value = { monitor_new_value };
 
+    ghost kept = { λ value. value };
+
     ghost MeetsRule = { MonitorMeetsRule };
 
     ghost IsRow = { λ _ _ _. ⊤ };

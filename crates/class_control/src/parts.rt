@@ -2,12 +2,20 @@
 ghost use Rattle.std.specs.Prelude.{◌<◌};
 
 use crate::script::Script;
-use crate::shapes::{actions_data, monitored_data, script_ref_data, scripts_data};
+use crate::shapes::{actions_data, monitored_data, no_date_time, script_ref_data, scripts_data};
+use civil_moment::moment::Moment;
 use cosem_data::cell::CellRef;
 use cosem_data::data::Data;
 use cosem_data::memory::Memory;
 use meter_theory::refs::{ScriptRef, UpDown};
 use std::alloc::Global;
+
+/// The start of the time of a clock, of which a plan fixes nothing else (IEC 62056-6-2, Clock; own profile).
+#[derive(Clone, Copy, Drop)]
+pub struct ClockPart {
+    /// The moment at which the clock starts.
+    pub start: Moment,
+}
 
 /// What a plan fixes of a script table: all of it (IEC 62056-6-2, Script table).
 #[derive(Drop)]
@@ -38,6 +46,30 @@ pub struct SchedulePart {
     pub execution_type: u8,
     /// The start of attribute 4, execution_time.
     pub start: Data,
+}
+
+impl ClockPart {
+    ghost use Rattle.std.specs.Prelude.{◌≡◌, IfOk};
+    ghost use Rattle.cosem_data.specs.View.{tree};
+    ghost use Rattle.meter_theory.specs.Fixed.{fixed_in};
+    ghost use Rattle.class_control.specs.PartView.{clock_part_of};
+
+    /// A copy of a fixed attribute other than the logical name: 3 to 9, of a clock whose time zone says nothing and that knows no
+    /// daylight saving; null-data at any other index (IEC 62056-6-2, Clock; own profile).
+    #[tactic(auto, unfolding(meter_theory::specs::Fixed::fixed_in))]
+    pub fn fixed(&self, alloc: Global, index: u8) -> Result<Data, Memory>
+        ensures { IfOk result (λ value. tree value ≡ fixed_in (clock_part_of self.now) index) }
+    {
+        match index {
+            3 => Ok(Data::Long(0)),
+            4 => Ok(Data::Unsigned(0)),
+            5 | 6 => no_date_time(alloc),
+            7 => Ok(Data::Integer(0)),
+            8 => Ok(Data::Boolean(false)),
+            9 => Ok(Data::Enumerated(0)),
+            _ => Ok(Data::NullData),
+        }
+    }
 }
 
 impl ScriptTablePart {

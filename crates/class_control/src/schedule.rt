@@ -74,6 +74,8 @@ impl<'a> InterfaceClass<Lent<'a, SchedulePart>> for Schedule {
 
     ghost new_value = { schedule_new_value };
 
+    ghost kept = { λ value. value };
+
     ghost MeetsRule = { ScheduleMeetsRule };
 
     ghost IsRow = { λ _ _ _. ⊤ };

@@ -72,6 +72,8 @@ impl<'a> InterfaceClass<Lent<'a, ScriptTablePart>> for ScriptTable {
 
     ghost new_value = { script_table_new_value };
 
+    ghost kept = { λ value. value };
+
     ghost MeetsRule = { ScriptTableMeetsRule };
 
     ghost IsRow = { λ _ _ _. ⊤ };

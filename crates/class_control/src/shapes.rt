@@ -2,6 +2,7 @@
 ghost use Rattle.std.specs.Prelude.{◌≡◌, ◌<◌, map, IfOk, true};
 ghost use Rattle.cosem_data.specs.View.{tree};
 ghost use Rattle.meter_theory.specs.Value.{array_of};
+ghost use Rattle.meter_theory.specs.Fixed as fixed;
 ghost use Rattle.meter_theory.specs.Fixed.{action_value, index_value, monitored_value, script_ref_value, script_value, up_down_value};
 ghost use Rattle.class_control.specs.ActionView.{action_of, has_index};
 ghost use Rattle.class_control.specs.ScriptView.{script_of};
@@ -10,10 +11,18 @@ use crate::action::Action;
 use crate::parts::MonitorPart;
 use crate::script::Script;
 use cosem_class::shapes::structure;
+use cosem_data::bytes::Bytes;
 use cosem_data::data::{Data, Items};
 use cosem_data::memory::Memory;
 use meter_theory::refs::{ScriptRef, UpDown};
 use std::alloc::Global;
+
+/// A date and time of which nothing is specified (IEC 62056-6-2, date and time formats).
+pub fn no_date_time(alloc: Global) -> Result<Data, Memory>
+    ensures { IfOk result (λ value. tree value ≡ fixed.no_date_time) }
+{
+    Ok(Data::OctetString(Bytes::new(Vec::from_slice(alloc, &[0xFF; 12])?)))
+}
 
 /// The index of an attribute or a method, an integer.
 fn index_data(index: u8) -> Data

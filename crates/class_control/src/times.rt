@@ -32,7 +32,7 @@ fn parts_of(value: &Data) -> &[Data]
 }
 
 /// The bytes of an octet-string, none of any other value.
-fn octets_of(value: &Data) -> &[u8]
+pub(crate) fn octets_of(value: &Data) -> &[u8]
     ensures { result.now ≡ theory.octets_of (tree value.now) }
 {
     match value {
@@ -63,7 +63,7 @@ pub(crate) fn date_bytes(value: &Data) -> &[u8]
 }
 
 /// Whether a field is at most this, or not specified.
-fn is_at_most(limit: u8, field: u8) -> bool
+pub(crate) fn is_at_most(limit: u8, field: u8) -> bool
     ensures { result ≡ theory.is_at_most limit field }
 {
     field <= limit || field == ANY

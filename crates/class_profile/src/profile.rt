@@ -216,6 +216,8 @@ impl<'a> InterfaceClass<Lent<'a, ProfilePart>> for Profile {
 
     ghost new_value = { profile_new_value };
 
+    ghost kept = { λ value. value };
+
     ghost MeetsRule = { ProfileMeetsRule };
 
     ghost IsRow = { IsProfileRow };

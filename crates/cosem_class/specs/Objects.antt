@@ -64,11 +64,15 @@ DependsOnlyOnSources {Fixed} touched own_sources row_cells new_value =
     (row_cells op index ≡ true → row ≡ other_row) →
     new_value fixed op argument row cells index ≡ new_value fixed op argument other_row others index
 
+-- A write that is not refused puts at its index what the class keeps of its value.
+abbrev pub WritesWhatIsKept : {Fixed : Type 0} → (Fixed → Op → Tree → Option ClassFault) → (Op → ℕ → Bool) → NewValue Fixed → (Tree → Tree) → Type 0
+WritesWhatIsKept {Fixed} refusal touched new_value kept =
+    (fixed : Fixed) (index : ℕ) (value : Tree) (cells : Cells) → refusal fixed (Write index) value ≡ None →
+    cells_after (touched (Write index)) (new_value fixed (Write index) value []) cells index ≡ Some (kept value)
+
 -- A write that is not refused puts its value at its index.
 abbrev pub WritesItsValue : {Fixed : Type 0} → (Fixed → Op → Tree → Option ClassFault) → (Op → ℕ → Bool) → NewValue Fixed → Type 0
-WritesItsValue {Fixed} refusal touched new_value =
-    (fixed : Fixed) (index : ℕ) (value : Tree) (cells : Cells) → refusal fixed (Write index) value ≡ None →
-    cells_after (touched (Write index)) (new_value fixed (Write index) value []) cells index ≡ Some value
+WritesItsValue {Fixed} refusal touched new_value = WritesWhatIsKept refusal touched new_value (λ value. value)
 
 -- Cells that meet their rules meet them after an operation that is not refused.
 abbrev pub KeepsRules : {Fixed : Type 0} → (Fixed → Op → Tree → Option ClassFault) → (Fixed → Op → List Tree → Type 0) → (Fixed → ℕ → Option Tree → Type 0) → (Op → ℕ → Bool) → NewValue Fixed → Type 0

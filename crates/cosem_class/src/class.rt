@@ -3,7 +3,7 @@ ghost use Rattle.std.specs.Prelude.{◌≡◌, ℕ, Bool, List, Option, Some, Re
 ghost use Rattle.cosem_data.specs.Tree.{Tree};
 ghost use Rattle.cosem_data.specs.View.{tree};
 ghost use Rattle.cosem_class.specs.CellSets.{has};
-ghost use Rattle.cosem_class.specs.Objects.{Cells, AnswersAs, RefusedAs, cells_after, DependsOnlyOnSources, WritesItsValue, KeepsRules};
+ghost use Rattle.cosem_class.specs.Objects.{Cells, AnswersAs, RefusedAs, cells_after, DependsOnlyOnSources, WritesWhatIsKept, KeepsRules};
 ghost use Rattle.cosem_class.specs.declared.class.Op.{Op};
 ghost use Rattle.cosem_class.specs.declared.class.Op.TheVariants as ops;
 ghost use Rattle.cosem_class.specs.declared.class.ClassFault.{ClassFault};
@@ -93,7 +93,7 @@ pub struct Lent<'a, Part> {
 /// - a refusal other than for memory depends on the fixed part and the argument, never on a cell (the type of `refusal`);
 /// - cells that meet their rules meet them afterwards.
 ///
-/// And a write that is not refused puts its value at its index.
+/// And a write that is not refused puts its value at its index, or what the class keeps of it: a clock keeps the moment alone.
 pub trait InterfaceClass<Lent> {
     /// class_id of IEC 62056-6-2.
     const CLASS_ID: u16;
@@ -123,6 +123,9 @@ pub trait InterfaceClass<Lent> {
 
     // The new value of a touched cell, if the operation is not refused. Each other cell stays.
     ghost new_value: { Fixed → Op → Tree → List Tree → Cells → ℕ → Option Tree };
+
+    // What a cell keeps of a value that is written: the value, but in a clock.
+    ghost kept: { Tree → Tree };
 
     // The rule that a cell's value meets: kind and limits.
     ghost MeetsRule: { Fixed → ℕ → Option Tree → Type 0 };
@@ -183,8 +186,8 @@ pub trait InterfaceClass<Lent> {
     // A touched cell's new value depends on nothing but the fixed part, the argument, its sources and perhaps the row.
     ghost depends_only_on_sources: { DependsOnlyOnSources touched own_sources row_cells new_value };
 
-    // A write that is not refused puts its value at its index.
-    ghost writes_its_value: { WritesItsValue refusal touched new_value };
+    // A write that is not refused puts at its index what is kept of its value.
+    ghost writes_its_value: { WritesWhatIsKept refusal touched new_value kept };
 
     // What met its rule meets it afterwards.
     ghost keeps_rules: { KeepsRules refusal IsRow MeetsRule touched new_value };

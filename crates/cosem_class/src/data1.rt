@@ -61,6 +61,8 @@ impl<'a> InterfaceClass<Lent<'a, DataPart>> for Data1 {
 
     ghost new_value = { data_new_value };
 
+    ghost kept = { λ value. value };
+
     ghost MeetsRule = { DataMeetsRule };
 
     ghost IsRow = { λ _ _ _. ⊤ };

@@ -7,7 +7,7 @@ ghost use Rattle.cosem_class.specs.declared.class.Op.TheVariants as ops;
 use crate::class::InterfaceClass;
 use cosem_data::data::Data;
 
-/// Puts a value that the class does not refuse into an attribute, and returns the previous value. A cell that the write
+/// Puts what the class keeps of a value that it does not refuse into an attribute, and returns the previous value. A cell that the write
 /// does not touch stays.
 pub fn put_into<Lent, C: InterfaceClass<Lent>>(
     object: &mut C,
@@ -18,7 +18,7 @@ pub fn put_into<Lent, C: InterfaceClass<Lent>>(
     requires { C.refusal (C.fixed object.old lent) (ops.Write index) (tree value) ≡ None }
     ensures previous { C.cells object.old index ≡ Some (tree result) }
     ensures fixed { C.fixed object.new lent ≡ C.fixed object.old lent }
-    ensures value { C.cells object.new index ≡ Some (tree value) }
+    ensures value { C.cells object.new index ≡ Some (C.kept (tree value)) }
     ensures others { (i : ℕ) → C.touched (ops.Write index) i ≡ false → C.cells object.new i ≡ C.cells object.old i }
 {
     object.write(lent, index, value).unwrap()

@@ -72,6 +72,8 @@ impl<'a> InterfaceClass<Lent<'a, RegisterPart>> for Register {
 
     ghost new_value = { register_new_value };
 
+    ghost kept = { λ value. value };
+
     ghost MeetsRule = { RegisterMeetsRule };
 
     ghost IsRow = { λ _ _ _. ⊤ };

@@ -9,7 +9,7 @@ use Rattle.cosem_data.specs.declared.cell.CellRef.{CellRef}
 use Rattle.cosem_data.proofs.Same.{same_cell-true, same_cell-refl}
 use Rattle.cosem_data.specs.declared.clients.ClientSet.{ClientSet}
 use Rattle.meter_theory.specs.Labels.{Labels, label_at, labelling_of_policy, monitored_of, monitored_or, or_else, policy_source}
-use Rattle.meter_theory.specs.Plan.{Plan, Object, Part, Data1, Register, ProfileGeneric, ScriptTable, RegisterMonitor, SingleActionSchedule, cells, object_at}
+use Rattle.meter_theory.specs.Plan.{Plan, Object, Part, Data1, Register, ProfileGeneric, Clock, ScriptTable, RegisterMonitor, SingleActionSchedule, cells, object_at}
 use Rattle.meter_theory.specs.Sound.{IsSound, IsSoundPart}
 use Rattle.meter_theory.proofs.Agreement.{object-found}
 use Rattle.meter_theory.specs.Lists.{IsIn}
@@ -143,6 +143,7 @@ source-cell P sound x there = at (x.index == 0) (object_at P x.name) refl
     in-part o i (Data1 value) e = there
     in-part o i (Register first default scaler_unit) e = there
     in-part o i (ProfileGeneric captured period entries) e = there
+    in-part o i (Clock first) e = there
     in-part o i (ScriptTable scripts) e = there
     in-part o i (RegisterMonitor monitored th actions) e = (subst (IsSoundPart P) e (sound.parts o i)).0
     in-part o i (SingleActionSchedule script type times) e = there

@@ -82,7 +82,8 @@ impl Checked {
         ensures secrecy { Secrecy self.now.plan (labelling_of_policy self.now.plan self.now.policy) }
         ensures unequal { UnequalSecrecy self.now.plan (labelling_of_policy self.now.plan self.now.policy) }
     {
-        let _admitted = &self.admitted;
+        let admitted = &self.admitted;
+        admitted.plan.known();
         admitted_is_influence_safe();
         admitted_is_secret();
         admitted_is_secret_but_for_quiet_steps();
@@ -130,6 +131,7 @@ pub fn check(
     ensures secrecy { OnOk result (Secrecy plan (labelling_of_policy plan policy.now) × Secrecy plan (labelling_of labels.now)) }
     ensures unequal { OnOk result (UnequalSecrecy plan (labelling_of_policy plan policy.now) × UnequalSecrecy plan (labelling_of labels.now)) }
 {
+    plan.known();
     admitted_is_influence_safe();
     admitted_is_secret();
     admitted_is_secret_but_for_quiet_steps();

@@ -15,6 +15,7 @@ same_number-same causes.Monitor causes.Monitor e = refl
 same_number-same causes.Captured causes.Captured e = refl
 same_number-same causes.Period causes.Period e = refl
 same_number-same causes.Schedule causes.Schedule e = refl
+same_number-same causes.Clock causes.Clock e = refl
 same_number-same _ _ e = absurd (omega (arith, e))
 
 same-same_number : (a b : Cause) → same_cause a b ≡ true → cause_number a ≡ cause_number b
@@ -23,6 +24,7 @@ same-same_number causes.Monitor causes.Monitor e = refl
 same-same_number causes.Captured causes.Captured e = refl
 same-same_number causes.Period causes.Period e = refl
 same-same_number causes.Schedule causes.Schedule e = refl
+same-same_number causes.Clock causes.Clock e = refl
 same-same_number _ _ e = cc
 
 cause_below : (c : Cause) → cause_number c < 8
@@ -31,6 +33,7 @@ cause_below causes.Monitor = omega arith
 cause_below causes.Captured = omega arith
 cause_below causes.Period = omega arith
 cause_below causes.Schedule = omega arith
+cause_below causes.Clock = omega arith
 
 -- the bit of one more cause
 pub set_cause : (mask : ℕ) (a c : Cause) → eqb (bit_at (bit_or mask (1 * 2 ^ cause_number a % 256)) (cause_number c)) 1 ≡ (same_cause c a || eqb (bit_at mask (cause_number c)) 1)

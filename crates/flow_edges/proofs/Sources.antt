@@ -1,5 +1,5 @@
 -- The numbers of a plan's cells, and the cells of the objects that make edges.
-use Rattle.std.proofs.Common.{◌≡◌, ◌<◌, ℕ, List, length, Some, None, sym, ap, subst}
+use Rattle.std.proofs.Common.{◌≡◌, ◌<◌, ℕ, List, length, Some, None, option_map, sym, ap, subst, refl, inl}
 use Rattle.std.specs.List.{position_from}
 use Rattle.std.proofs.lemmas.Option.{slice_get-get_or}
 use Rattle.cosem_data.specs.Cells.{same_cell}
@@ -9,11 +9,13 @@ use Rattle.cosem_data.specs.declared.cell.CellRef.{CellRef}
 use Rattle.cosem_data.proofs.Same.{same_cell-true, same_cell-refl}
 use Rattle.meter_theory.specs.declared.refs.UpDown.{UpDown}
 use Rattle.meter_theory.specs.Lists.{IsIn}
-use Rattle.meter_theory.specs.Plan.{Plan, Part, ProfileGeneric, RegisterMonitor, cells, start, start_of}
+use Rattle.meter_theory.specs.Plan.{Plan, Part, Clock, ProfileGeneric, RegisterMonitor, cells, clock_object, clock_time, start_of, start_values}
 use Rattle.meter_theory.specs.Sound.{IsSound, IsSoundPart}
 use Rattle.meter_theory.specs.State.{keys}
 use Rattle.meter_theory.specs.Steps.{captures_in}
 use Rattle.meter_theory.proofs.Lists.{from_map, in_map, in_flat_map, none_found}
+use Rattle.meter_theory.proofs.Held.{clock_found}
+use Rattle.object_model.proofs.Inner.{clock-named}
 use Rattle.object_model.proofs.Numbers.{cells-apart, cells-few}
 use Rattle.object_model.proofs.Positions.{first, first-none}
 use Rattle.flow_edges.specs.Sources.{HasPart}
@@ -39,12 +41,19 @@ pub own-cell : (P : Plan) (n : LogicalName) (part : Part) (x : CellRef) → HasP
 own-cell P n part x h i =
     let e = from_map (λ e. e.0) (start_of n part) x i in
     let there : IsIn (start_of h.0.name h.0.part) e.0 = subst (λ m. IsIn (start_of m h.0.part) e.0) (sym h.2) (subst (λ p. IsIn (start_of n p) e.0) (sym h.3) e.1) in
-    subst (IsIn (cells P)) (sym e.2) (in_map (λ e. e.0) (start P) e.0 (in_flat_map (λ o. start_of o.name o.part) P.objects h.0 e.0 h.1 there))
+    subst (IsIn (cells P)) (sym e.2) (in_map (λ e. e.0) (start_values P) e.0 (in_flat_map (λ o. start_of o.name o.part) P.objects h.0 e.0 h.1 there))
 
 -- so are those that a profile captures
 pub captured-cell : (P : Plan) (n : LogicalName) (captured : List CellRef) (period entries : ℕ) → IsSound P → HasPart P n (ProfileGeneric captured period entries) →
     (x : CellRef) → IsIn captured x → IsIn (cells P) x
 captured-cell P n captured period entries sound h x i = (sound.captures h.0 h.1 (record { captured = captured; entries = entries }) (ap captures_in h.3) x i).0
+
+-- and the clock
+pub clock-cell : (P : Plan) (n : LogicalName) → Some n ≡ option_map (λ o. o.name) (clock_object P) → IsIn (cells P) (clock_time n)
+clock-cell P n named =
+    let o = clock-named P n named in
+    let f = clock_found P o.0 o.1 in
+    own-cell P n (Clock f.1.0) (clock_time n) (o.0, f.0, sym o.2, f.1.1) (inl refl)
 
 -- and what a register monitor watches
 pub monitored-cell : (P : Plan) (n : LogicalName) (monitored : CellRef) (th : Tree) (actions : List UpDown) → IsSound P → HasPart P n (RegisterMonitor monitored th actions) → IsIn (cells P) monitored

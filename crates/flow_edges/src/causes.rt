@@ -47,5 +47,6 @@ fn number_of(cause: Cause) -> u8
         Cause::Captured => 2,
         Cause::Period => 3,
         Cause::Schedule => 4,
+        Cause::Clock => 5,
     }
 }

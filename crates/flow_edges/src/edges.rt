@@ -19,7 +19,7 @@ use cosem_data::memory::Memory;
 use cosem_data::name::LogicalName;
 use meter_theory::flow::{Cause, Edge};
 use object_model::cells::{
-    buffer, capture_period, entries_in_use, execution_time, seen, thresholds,
+    buffer, capture_period, clock_time, entries_in_use, execution_time, seen, thresholds,
 };
 use object_model::object::Object;
 use object_model::part::Part;
@@ -65,7 +65,7 @@ fn add_object(
     }
 }
 
-/// Adds the edges that a profile makes: from what it captures to its buffer, and from its capture period.
+/// Adds the edges that a profile makes: from what it captures to its buffer, from its capture period, and from the clock.
 fn add_profile(
     plan: &Plan,
     name: LogicalName,
@@ -82,7 +82,42 @@ fn add_profile(
     let in_use = number_of(plan, &entries_in_use(name));
     add_captured(plan, &part.captured, rows, table)?;
     table.add(Cause::Period, period, rows)?;
-    table.add(Cause::Period, period, in_use)
+    table.add(Cause::Period, period, in_use)?;
+    add_clock_to_both(plan, rows, in_use, table)
+}
+
+/// Adds the edges from the clock of the plan to two cells. Without a clock there are none.
+fn add_clock_to_both(
+    plan: &Plan,
+    first: usize,
+    second: usize,
+    table: &mut EdgeTable,
+) -> Result<(), Memory>
+    requires cells { table.old.cells ≡ plans.cells plan.now }
+    requires first { first < length table.old.cells }
+    requires second { second < length table.old.cells }
+    ensures { OnOk result (IsGathered table.old table.new (theory.edges_from_clock plan.now (cell_at table.old.cells first ∷ cell_at table.old.cells second ∷ []))) }
+{
+    let Some(name) = plan.clock() else {
+        return Ok(());
+    };
+    let clock = number_of(plan, &clock_time(name));
+    table.add(Cause::Clock, clock, first)?;
+    table.add(Cause::Clock, clock, second)
+}
+
+/// Adds the edges from the clock of the plan to each target. Without a clock there are none.
+fn add_clock_to_each(plan: &Plan, targets: &[bool], table: &mut EdgeTable) -> Result<(), Memory>
+    requires cells { table.old.cells ≡ plans.cells plan.now }
+    requires targets { length targets.now ≡ length table.old.cells }
+    ensures { (p : CellValue → Bool) → targets.now ≡ map p table.old.cells →
+        OnOk result (IsGathered table.old table.new (theory.edges_from_clock plan.now (filter p table.old.cells))) }
+{
+    let Some(name) = plan.clock() else {
+        return Ok(());
+    };
+    let clock = number_of(plan, &clock_time(name));
+    add_all(Cause::Clock, &[clock], targets, table)
 }
 
 /// Adds an edge from each captured cell to the buffer with this number.
@@ -104,7 +139,7 @@ fn add_captured(
     Ok(())
 }
 
-/// Adds the edges that a schedule makes: from its execution time to each cell that its script changes.
+/// Adds the edges that a schedule makes: from its execution time and from the clock to each cell that its script changes.
 fn add_schedule(
     alloc: Global,
     plan: &Plan,
@@ -121,7 +156,8 @@ fn add_schedule(
     let mut changed = Vec::new(alloc);
     push_script_changes(plan, part.executed_script, &mut changed)?;
     let targets = marks_of(alloc, plan, table.cells().len(), &changed)?;
-    add_all(Cause::Schedule, &[times], &targets, table)
+    add_all(Cause::Schedule, &[times], &targets, table)?;
+    add_clock_to_each(plan, &targets, table)
 }
 
 /// Adds the edges that a register monitor makes: to what it has seen, and from what decides which of its scripts run to each

@@ -7,7 +7,7 @@ use Rattle.cosem_data.specs.declared.cell.CellRef.{CellRef}
 use Rattle.cosem_data.specs.declared.name.LogicalName.{LogicalName}
 use Rattle.cosem_data.proofs.Same.{same_cell-true}
 use Rattle.meter_theory.specs.Lists.{IsIn}
-use Rattle.meter_theory.specs.Plan.{Plan, Part, Data1, Register, ProfileGeneric, ScriptTable, RegisterMonitor, SingleActionSchedule, start, start_of, cells}
+use Rattle.meter_theory.specs.Plan.{Plan, Part, Data1, Register, ProfileGeneric, Clock, ScriptTable, RegisterMonitor, SingleActionSchedule, start_values, start_of, cells}
 use Rattle.meter_theory.specs.Sound.{IsSound, is_name, has_part_sizes}
 use Rattle.meter_theory.proofs.Lists.{from_map, from_flat_map}
 use Rattle.object_model.proofs.Positions.{first, in-at}
@@ -31,6 +31,8 @@ start_cell n (ProfileGeneric captured period entries) x v (inl e) = started n x 
 start_cell n (ProfileGeneric captured period entries) x v (inr (inl e)) = started n x v _ 7 4 (omega arith) (omega arith) e
 start_cell n (ProfileGeneric captured period entries) x v (inr (inr (inl e))) = started n x v _ 7 7 (omega arith) (omega arith) e
 start_cell n (ProfileGeneric captured period entries) x v (inr (inr (inr none))) = absurd none
+start_cell n (Clock first) x v (inl e) = started n x v _ 8 2 (omega arith) (omega arith) e
+start_cell n (Clock first) x v (inr none) = absurd none
 start_cell n (ScriptTable scripts) x v none = absurd none
 start_cell n (RegisterMonitor monitored th actions) x v (inl e) = started n x v _ 21 2 (omega arith) (omega arith) e
 start_cell n (RegisterMonitor monitored th actions) x v (inr (inl e)) = started n x v _ 21 0 (omega arith) (omega arith) e
@@ -46,7 +48,7 @@ pub record IsPlanCell (x : CellRef) : Type 0 where
 
 cell_form : (P : Plan) → IsSound P → (x : CellRef) → IsIn (cells P) x → IsPlanCell x
 cell_form P sound x i =
-    let pair = from_map (λ p. p.0) (start P) x i in
+    let pair = from_map (λ p. p.0) (start_values P) x i in
     let object = from_flat_map (λ o. start_of o.name o.part) P.objects pair.0 pair.1 in
     let of = start_cell object.0.name object.0.part pair.0.0 pair.0.1 object.2 in
     let sizes = and_parts (is_name object.0.name) (has_part_sizes object.0.part) (sound.sizes object.0 object.1) in

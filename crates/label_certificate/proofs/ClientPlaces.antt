@@ -3,7 +3,7 @@ use Rattle.std.proofs.Common.{◌≡◌, ◌≢◌, suc, ℕ, ◌+◌, ◌<◌, 
 use Rattle.std.specs.Prelude.{nat_le, ◌&&◌}
 use Rattle.std.specs.List.{list_any, position_from}
 use Rattle.std.specs.Str.{bytes_eq}
-use Rattle.std.proofs.lemmas.Bool.{cases_eq, cases_lt, eq-eqb, ne_eqb}
+use Rattle.std.proofs.lemmas.Bool.{and_parts, cases_eq, cases_lt, eq-eqb, ne_eqb}
 use Rattle.std.proofs.lemmas.Bool.Decides.{nat_tests}
 use Rattle.std.proofs.lemmas.List.{length_push}
 use Rattle.std.proofs.lemmas.Slice.Eq.{bytes_eq-Decides}
@@ -91,7 +91,7 @@ names_named set place (x ∷ clients) h = at (has_client set place) (names_named
     at false rest = rest
 
 pub names_given : (P : Plan) → IsSound P → (set : ClientSet) → are_client_names (names_in_set P set) ≡ true
-names_given P sound set = names_named set 0 P.clients sound.client_names
+names_given P sound set = names_named set 0 P.clients (λ client i. (and_parts (is_client_name client.name) _ (sound.client_names client i)).0)
 
 -- the places rise
 pub members_rise : (set : ClientSet) (clients : List Client) (least place : ℕ) → least ≤ place → rise_from least (members_from set place clients) ≡ true

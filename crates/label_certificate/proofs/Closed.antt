@@ -16,8 +16,7 @@ use Rattle.meter_theory.specs.Rights.{may_get}
 use Rattle.meter_theory.specs.Sound.{IsSound}
 use Rattle.meter_theory.specs.declared.flow.Edge.{Edge}
 use Rattle.meter_theory.specs.declared.flow.Label.{Label}
-use Rattle.meter_theory.proofs.Admission.{method_cells}
-use Rattle.meter_theory.proofs.Check.{edge-listed, listed-edge}
+use Rattle.meter_theory.proofs.Check.{edge-listed, listed-edge, method_cells}
 use Rattle.meter_theory.proofs.Lists.{from_map, in_map}
 use Rattle.meter_theory.proofs.Theorem.{within_from, within_has}
 use Rattle.flow_edges.specs.declared.table.Link.{Link}

@@ -15,9 +15,9 @@ use Rattle.cosem_data.proofs.Same.{same_cell-true, same_cell-refl, same_name-tru
 use Rattle.meter_theory.specs.Lists.{IsIn, some_passes}
 use Rattle.meter_theory.specs.Edges.{among}
 use Rattle.meter_theory.specs.Labels.{MayChange, has, method_changes_of}
-use Rattle.meter_theory.specs.Plan.{Plan, Object, Right, cells, interface_of, object_at}
+use Rattle.meter_theory.specs.Plan.{Plan, Object, Part, Data1, Right, cells, interface_of, object_at}
 use Rattle.meter_theory.specs.Rights.{has_right, lists, may_act, may_get, may_set}
-use Rattle.meter_theory.specs.Sound.{IsSound, are_indexes}
+use Rattle.meter_theory.specs.Sound.{IsSound, are_indexes, highest_method}
 use Rattle.meter_theory.specs.declared.flow.Label.{Label}
 use Rattle.meter_theory.specs.declared.limits.TheConstants.{CLIENTS}
 use Rattle.cosem_data.specs.declared.name.LogicalName.{LogicalName}
@@ -165,6 +165,11 @@ joined-more P clients before y old now new first next =
 
 -- Whose rights they are
 
+-- a method that may be granted is one of its class
+highest-method : (part : Part) → highest_method part ≤ (interface_of part).methods
+highest-method (Data1 first) = omega arith
+highest-method _ = omega arith
+
 -- a right to a method is a right to one of an object of the plan
 right-method : (P : Plan) → IsSound P → (c : ℕ) (m : MethodRef) → may_act P c m ≡ true →
     (o : Object) × IsIn P.objects o × (o.name ≡ m.name) × (1 ≤ m.index) × (m.index ≤ (interface_of o.part).methods)
@@ -175,17 +180,19 @@ right-method P sound c m h =
     at r.0 name a.1 (object_at P r.0.object) refl (and_parts (nat_lt r.0.client (length P.clients)) _ (sound.rights r.0 r.1)).1
   where
     at : (r : Right) → r.object ≡ m.name → lists r.acts m.index ≡ true → (o : Option Object) → object_at P r.object ≡ o →
-        some_passes (λ o. are_indexes (interface_of o.part).attributes r.gets && (are_indexes (interface_of o.part).attributes r.sets && are_indexes (interface_of o.part).methods r.acts)) o ≡ true →
+        some_passes (λ o. are_indexes (interface_of o.part).attributes r.gets && (are_indexes (interface_of o.part).attributes r.sets && are_indexes (highest_method o.part) r.acts)) o ≡ true →
         (o : Object) × IsIn P.objects o × (o.name ≡ m.name) × (1 ≤ m.index) × (m.index ≤ (interface_of o.part).methods)
     at r name listed None is e = cc
     at r name listed (Some o) is e =
-        let acts = (and_parts (are_indexes (interface_of o.part).attributes r.sets) (are_indexes (interface_of o.part).methods r.acts)
+        let acts = (and_parts (are_indexes (interface_of o.part).attributes r.sets) (are_indexes (highest_method o.part) r.acts)
         (and_parts (are_indexes (interface_of o.part).attributes r.gets) _ e).1).1 in
         let i = any_in (λ z. z == m.index) r.acts listed in
-        let one = and_parts (nat_le 1 i.0) (nat_le i.0 (interface_of o.part).methods) (all_at (λ z. nat_le 1 z && nat_le z (interface_of o.part).methods) r.acts i.0 acts i.1) in
+        let one = and_parts (nat_le 1 i.0) (nat_le i.0 (highest_method o.part)) (all_at (λ z. nat_le 1 z && nat_le z (highest_method o.part)) r.acts i.0 acts i.1) in
         let index : i.0 ≡ m.index = eqb-true i.0 m.index i.2 in
         let found = object-found P r.object o is in
-        (o, found.0, found.1 ∙ name, subst (λ z. 1 ≤ z) index (leb-true 1 i.0 one.0), subst (λ z. z ≤ (interface_of o.part).methods) index (leb-true i.0 (interface_of o.part).methods one.1))
+        let low = leb-true i.0 (highest_method o.part) one.1 in
+        let least = highest-method o.part in
+        (o, found.0, found.1 ∙ name, subst (λ z. 1 ≤ z) index (leb-true 1 i.0 one.0), subst (λ z. z ≤ (interface_of o.part).methods) index (omega (arith, low, least)))
 
 -- the methods of all objects are all that rights are of
 pub calls-found : (P : Plan) → IsSound P → (c : ℕ) (x : CellRef) (m : MethodRef) → may_act P c m ≡ true → IsIn (method_changes_of P m) x →

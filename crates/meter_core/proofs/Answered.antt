@@ -21,7 +21,7 @@ use Rattle.meter_theory.specs.Lists.{IsIn}
 use Rattle.meter_theory.specs.Plan.{Plan, Object, Part, ProfileGeneric, association, association_name, buffer, cells, interface_at, interface_of, is_cell, object_at, rule_of, start_of}
 use Rattle.meter_theory.specs.Value.{Rule}
 use Rattle.meter_theory.specs.Rights.{Argument, Given, Selection, cell_of, class_is, method_of, get_answer, get_places, set_answer, act_answer, set_places, meets_rule, takes_selection}
-use Rattle.meter_theory.specs.Steps.{Step, Get, Set, Act, Input, CaptureAt, Evaluate, ScheduleAt, client_of, effects, effects_of, given_value, method_effects, next}
+use Rattle.meter_theory.specs.Steps.{Step, Get, Set, Act, Input, CaptureAt, Evaluate, ScheduleAt, Tick, ClockAt, client_of, effects, effects_of, given_value, method_effects, next}
 use Rattle.meter_theory.specs.Replies.{Value, Code, Quiet, attribute, selected, reply_to}
 use Rattle.meter_theory.specs.States.{MayStand}
 use Rattle.meter_theory.proofs.Lists.{none_in}
@@ -195,9 +195,11 @@ own_reply P s _ own = refl
 
 pub own_memory : (P : Plan) (s : State) (step : Step) → client_of step ≡ None → needs_no_memory P s step ≡ true → effects_of P s step ≡ []
 own_memory P s (Input x v) own n = no_effects (effects_of P s (Input x v)) n
-own_memory P s (CaptureAt m t) own n = no_effects (effects_of P s (CaptureAt m t)) n
+own_memory P s (CaptureAt m) own n = no_effects (effects_of P s (CaptureAt m)) n
 own_memory P s (Evaluate m) own n = no_effects (effects_of P s (Evaluate m)) n
-own_memory P s (ScheduleAt m t) own n = no_effects (effects_of P s (ScheduleAt m t)) n
+own_memory P s (ScheduleAt m) own n = no_effects (effects_of P s (ScheduleAt m)) n
+own_memory P s Tick own n = no_effects (effects_of P s Tick) n
+own_memory P s (ClockAt t) own n = no_effects (effects_of P s (ClockAt t)) n
 own_memory P s _ own n = cc
 
 stands : (P : Plan) (x : CellRef) (v : Tree) (r : Option Rule) → rule_of P x ≡ r → meets_rule r (Given v) ≡ true → MayStand P x v

@@ -18,9 +18,11 @@ brings_value (steps.Get client attribute selection) = is_some selection
 brings_value (steps.Set client attribute selected value) = true
 brings_value (steps.Act client method argument) = true
 brings_value (steps.Input cell value) = true
-brings_value (steps.CaptureAt profile moment) = false
+brings_value (steps.CaptureAt profile) = false
 brings_value (steps.Evaluate monitor) = false
-brings_value (steps.ScheduleAt schedule moment) = false
+brings_value (steps.ScheduleAt schedule) = false
+brings_value steps.Tick = false
+brings_value (steps.ClockAt moment) = false
 
 -- an answer that is shown: any but a result
 abbrev pub shows_value : Shown → Bool

@@ -1,4 +1,5 @@
 -- What a step and a reply of the code stand for.
+use Rattle.std.specs.Prelude.{Bool, true, false}
 use Rattle.cosem_data.specs.View.{tree}
 use Rattle.meter_theory.specs.Steps as steps
 use Rattle.meter_theory.specs.Replies as answers
@@ -16,9 +17,17 @@ step_of (kinds.Get client attribute selection) = steps.Get client attribute (sel
 step_of (kinds.Set client attribute selected value) = steps.Set client attribute selected (argument_of value)
 step_of (kinds.Act client method argument) = steps.Act client method (argument_of argument)
 step_of (kinds.Input cell value) = steps.Input cell (tree value)
-step_of (kinds.CaptureAt profile moment) = steps.CaptureAt profile moment
+step_of (kinds.CaptureAt profile) = steps.CaptureAt profile
 step_of (kinds.Evaluate monitor) = steps.Evaluate monitor
-step_of (kinds.ScheduleAt schedule moment) = steps.ScheduleAt schedule moment
+step_of (kinds.ScheduleAt schedule) = steps.ScheduleAt schedule
+step_of kinds.Tick = steps.Tick
+step_of (kinds.ClockAt moment) = steps.ClockAt moment
+
+-- whether the step is of the clock alone, which takes no memory
+abbrev pub sets_clock : Step → Bool
+sets_clock kinds.Tick = true
+sets_clock (kinds.ClockAt moment) = true
+sets_clock _ = false
 
 -- the reply of the theory that a reply is: own profile
 abbrev pub reply_of : Reply → answers.Reply

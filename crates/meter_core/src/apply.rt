@@ -1,20 +1,21 @@
 //! One step of a meter.
-ghost use Rattle.std.specs.Prelude.{◌≡◌, true, [], None, OnOk, OnErr, IfOk, IsOk};
+ghost use Rattle.std.specs.Prelude.{◌≡◌, true, false, [], None, OnOk, OnErr, IfOk, IsOk};
 ghost use Rattle.cosem_data.specs.View.{tree};
 ghost use Rattle.cosem_data.specs.declared.cell.CellRef.{CellRef};
 ghost use Rattle.meter_theory.specs.Steps as steps;
-ghost use Rattle.meter_theory.specs.Steps.{client_of, next};
+ghost use Rattle.meter_theory.specs.Steps.{client_of, kept, next};
 ghost use Rattle.meter_theory.specs.Replies.{reply_to};
 ghost use Rattle.meter_theory.specs.State as state;
 ghost use Rattle.meter_theory.specs.States.{IsState, MayStand};
 ghost use Rattle.meter_effects.specs.Adds.{StandsFor};
 ghost use Rattle.meter_core.specs.Memory.{needs_no_memory};
-ghost use Rattle.meter_core.specs.StepView.{argument_of, reply_of, step_of};
+ghost use Rattle.meter_core.specs.StepView.{argument_of, reply_of, sets_clock, step_of};
 
 use crate::reply::Reply;
 use crate::shown::show;
 use crate::step::Step;
 use association_views::permits::{permit_action, permit_set};
+use civil_moment::moment::Moment;
 use cosem_data::cell::CellRef;
 use cosem_data::data::Data;
 use cosem_data::memory::Memory;
@@ -58,8 +59,34 @@ pub fn apply(alloc: Global, plan: &Plan, meter: &mut Meter, step: &Step) -> Resu
             method,
             argument,
         } => act(alloc, plan, meter, *client, method, argument),
+        Step::Tick => Ok(tick(plan, meter)),
+        Step::ClockAt { moment } => Ok(clock_at(plan, meter, *moment)),
         _ => own(alloc, plan, meter, step),
     }
+}
+
+/// A second goes by.
+fn tick(plan: &Plan, meter: &mut Meter) -> Reply
+    requires { IsState plan.now meter.old }
+    ensures state { IsState plan.now meter.new }
+    ensures ok { meter.new ≡ next plan.now meter.old steps.Tick }
+    ensures reply { reply_of result ≡ reply_to plan.now meter.old steps.Tick }
+{
+    plan.known();
+    meter.tick(plan);
+    Reply::Quiet
+}
+
+/// A moment is told to the meter.
+fn clock_at(plan: &Plan, meter: &mut Meter, moment: Moment) -> Reply
+    requires { IsState plan.now meter.old }
+    ensures state { IsState plan.now meter.new }
+    ensures ok { meter.new ≡ next plan.now meter.old (steps.ClockAt moment) }
+    ensures reply { reply_of result ≡ reply_to plan.now meter.old (steps.ClockAt moment) }
+{
+    plan.known();
+    meter.set_clock(plan, moment);
+    Reply::Quiet
 }
 
 /// The answer to a SET (IEC 62056-5-3), and the value in its cell where the answer is success.
@@ -94,7 +121,7 @@ fn set(
 fn put(alloc: Global, plan: &Plan, meter: &mut Meter, cell: CellRef, given: Data)
     requires of_plan { IsState plan.now meter.old }
     requires fits { MayStand plan.now cell (tree given) }
-    ensures { meter.new ≡ state.put meter.old cell (tree given) }
+    ensures { meter.new ≡ state.put meter.old cell (kept cell (tree given)) }
 {
     let _undo = meter.take(alloc, plan, Effect::Put(cell, given)).unwrap();
 }
@@ -129,6 +156,7 @@ fn act(
 fn own(alloc: Global, plan: &Plan, meter: &mut Meter, step: &Step) -> Result<Reply, Memory>
     requires of_plan { IsState plan.now meter.old }
     requires own { client_of (step_of step.now) ≡ None }
+    requires clock { sets_clock step.now ≡ false }
     ensures state { IsState plan.now meter.new }
     ensures ok { OnOk result (meter.new ≡ next plan.now meter.old (step_of step.now)) }
     ensures reply { IfOk result (λ reply. reply_of reply ≡ reply_to plan.now meter.old (step_of step.now)) }
@@ -151,17 +179,20 @@ fn own_effects(
 ) -> Result<Vec<Effect>, Memory>
     requires of_plan { IsState plan.now meter.now }
     requires own { client_of (step_of step.now) ≡ None }
+    requires clock { sets_clock step.now ≡ false }
     ensures ok { IfOk result (λ list. StandsFor plan.now (steps.effects_of plan.now meter.now (step_of step.now)) list.items) }
     ensures none { steps.effects_of plan.now meter.now (step_of step.now) ≡ [] → IsOk result }
 {
     match step {
         Step::Input { cell, value } => input_effects(alloc, plan, cell, value),
-        Step::CaptureAt { profile, moment } => {
-            capture_effects(alloc, plan, meter, *profile, *moment)
+        Step::CaptureAt { profile } => {
+            let moment = meter.present(plan);
+            capture_effects(alloc, plan, meter, *profile, moment)
         }
         Step::Evaluate { monitor } => evaluation_effects(alloc, plan, meter, *monitor),
-        Step::ScheduleAt { schedule, moment } => {
-            schedule_effects(alloc, plan, meter, *schedule, *moment)
+        Step::ScheduleAt { schedule } => {
+            let moment = meter.present(plan);
+            schedule_effects(alloc, plan, meter, *schedule, moment)
         }
         _ => Ok(Vec::new(alloc)),
     }

@@ -13,6 +13,7 @@ use crate::reply::Reply;
 use association_views::association::fixed_attribute_at;
 use association_views::permits::permit_get_at;
 use association_views::selection::descriptor_in;
+use class_control::clock::time_data;
 use class_profile::entries::Entries;
 use class_profile::rows::Rows;
 use cosem_data::data::Data;
@@ -58,8 +59,8 @@ impl<'a> Shown<'a> {
 }
 
 /// The answer to a GET of the client at this place (IEC 62056-5-3): the value that the selection leaves, or why there is
-/// none. Nothing that stands in the meter is copied. The only error is that memory was refused, for a fixed attribute; a
-/// request that the plan denies takes none.
+/// none. Nothing that stands in the meter is copied. The only error is that memory was refused, for a fixed attribute or the
+/// time of a clock; a request that the plan denies takes none.
 pub fn show<'a>(
     alloc: Global,
     plan: &'a Plan,
@@ -78,21 +79,27 @@ pub fn show<'a>(
     }
     let cell = attribute.attribute();
     match meter.held(&instance, &cell) {
-        Some(held) => Ok(show_held(held, selection)),
+        Some(held) => show_held(alloc, held, selection),
         None => Ok(Shown::Made(fixed_attribute_at(alloc, &instance, client, cell.index)?)),
     }
 }
 
-/// What a selection leaves of the value of a cell. Only a buffer takes one.
-fn show_held<'a>(held: Held<'a>, selection: &Option<(u8, Argument)>) -> Shown<'a>
+/// What a selection leaves of the value of a cell. Only a buffer takes one. The only error is that memory was refused, for the
+/// time of a clock.
+fn show_held<'a>(
+    alloc: Global,
+    held: Held<'a>,
+    selection: &Option<(u8, Argument)>,
+) -> Result<Shown<'a>, Memory>
     requires { is_some selection.now ≡ true → is_rows held ≡ true }
-    ensures { shown_of result ≡ answers.Value (selected (selection_of selection.now) (held_tree held.entry)) }
+    ensures { IfOk result (λ shown. shown_of shown ≡ answers.Value (selected (selection_of selection.now) (held_tree held.entry))) }
 {
-    match held {
+    Ok(match held {
         Held::Value(value) => Shown::Value(value),
         Held::Number(number) => Shown::Made(Data::DoubleLongUnsigned(number)),
+        Held::Time(moment) => Shown::Made(time_data(alloc, moment)?),
         Held::Rows(rows) => Shown::Entries(entries_of(rows, selection)),
-    }
+    })
 }
 
 /// What a selection leaves of the entries of a profile.

@@ -38,20 +38,24 @@ pub enum Step {
         cell: CellRef,
         value: Data,
     },
-    /// A moment is offered to the profile with this name, which captures if its period is over (own profile).
+    /// The profile with this name looks at the clock, and captures if its period is over (own profile).
     CaptureAt {
         profile: LogicalName,
-        moment: Moment,
     },
     /// The register monitor with this name is evaluated: the scripts that are due run, and it remembers the value that it
     /// watches (IEC 62056-6-2, Register monitor).
     Evaluate {
         monitor: LogicalName,
     },
-    /// A moment is offered to the single action schedule with this name, which runs its script if the moment is one of
-    /// its times (IEC 62056-6-2, Single action schedule).
+    /// The single action schedule with this name looks at the clock, and runs its script if the moment is one of its times
+    /// (IEC 62056-6-2, Single action schedule).
     ScheduleAt {
         schedule: LogicalName,
+    },
+    /// A second goes by, and the clock with it (own profile).
+    Tick,
+    /// A moment is told to a meter without a clock, which goes by it from now on (own profile). A clock of the plan is left.
+    ClockAt {
         moment: Moment,
     },
 }
@@ -99,15 +103,13 @@ impl Step {
                 cell: *cell,
                 value: value.try_clone(alloc)?,
             },
-            Step::CaptureAt { profile, moment } => Step::CaptureAt {
-                profile: *profile,
-                moment: *moment,
-            },
+            Step::CaptureAt { profile } => Step::CaptureAt { profile: *profile },
             Step::Evaluate { monitor } => Step::Evaluate { monitor: *monitor },
-            Step::ScheduleAt { schedule, moment } => Step::ScheduleAt {
+            Step::ScheduleAt { schedule } => Step::ScheduleAt {
                 schedule: *schedule,
-                moment: *moment,
             },
+            Step::Tick => Step::Tick,
+            Step::ClockAt { moment } => Step::ClockAt { moment: *moment },
         })
     }
 }

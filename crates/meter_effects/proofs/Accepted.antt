@@ -6,11 +6,12 @@ use Rattle.cosem_data.specs.Kinds.{kind_of}
 use Rattle.cosem_data.specs.Cells.{cell}
 use Rattle.cosem_data.specs.declared.cell.CellRef.{CellRef}
 use Rattle.cosem_data.specs.declared.name.LogicalName.{LogicalName}
-use Rattle.meter_theory.specs.Value.{Rule, OfKind, ExecutionTimes, meets}
+use Rattle.meter_theory.specs.Value.{Rule, OfKind, ExecutionTimes, ClockTime, meets}
 use Rattle.meter_theory.specs.State.{State, value, put}
 use Rattle.meter_theory.specs.States.{MayStand, IsRemembered}
-use Rattle.meter_theory.specs.Plan.{Plan, Object, Part, Data1, Register, ProfileGeneric, ScriptTable, RegisterMonitor, SingleActionSchedule, class_of, start, object_at, rule_in, register_value}
-use Rattle.meter_theory.specs.Steps.{Captures, captures_in, captures_of, capture, clear, effect, Put, Capture, Clear}
+use Rattle.meter_theory.specs.Plan.{Plan, Object, Part, Data1, Register, ProfileGeneric, Clock, ScriptTable, RegisterMonitor, SingleActionSchedule, class_of, start_values, object_at, rule_in, register_value}
+use Rattle.meter_theory.specs.Times.{clock_moment, clock_value}
+use Rattle.meter_theory.specs.Steps.{kept, Captures, captures_in, captures_of, capture, clear, effect, Put, Capture, Clear}
 use Rattle.meter_theory.specs.declared.refs.ScalerUnit.{ScalerUnit}
 use Rattle.meter_theory.proofs.Agreement.{object-found}
 use Rattle.cosem_class.specs.declared.class.Op.{Op}
@@ -20,6 +21,7 @@ use Rattle.cosem_class.specs.DataClass.{DataFixed, data_refusal, data_touched, d
 use Rattle.cosem_class.specs.RegisterClass.{RegisterFixed, register_refusal, register_touched, register_new_value}
 use Rattle.class_profile.specs.ProfileClass.{ProfileFixed, period_rule, is_attribute, profile_refusal, profile_touched, profile_new_value}
 use Rattle.class_control.specs.MonitorClass.{MonitorFixed, monitor_refusal, monitor_touched, monitor_new_value}
+use Rattle.class_control.specs.ClockClass.{ClockFixed, is_fixed, clock_refusal, clock_touched, clock_new_value}
 use Rattle.class_control.specs.ScheduleClass.{ScheduleFixed, schedule_refusal, schedule_touched, schedule_new_value}
 use Rattle.object_model.specs.EffectView.{IsProfile}
 use Rattle.meter_effects.specs.Operations.{IsOperation, PutsAreWrites}
@@ -43,11 +45,12 @@ IsAccepted P name part op argument change =
     ((operations_in P name part).refusal op argument ≡ None)
     × IsOperation (class_of part) name ((operations_in P name part).touched op) ((operations_in P name part).new_value op argument) (captured_in part) change
 
-module _ (P : Plan) (data_puts : PutsAreWrites data_refusal data_touched data_new_value) (register_puts : PutsAreWrites register_refusal register_touched register_new_value)
-    (profile_puts : PutsAreWrites profile_refusal profile_touched profile_new_value) (monitor_puts : PutsAreWrites monitor_refusal monitor_touched monitor_new_value)
-    (schedule_puts : PutsAreWrites schedule_refusal schedule_touched schedule_new_value) where
+module _ (P : Plan) (data_puts : PutsAreWrites data_refusal data_touched data_new_value (λ v. v)) (register_puts : PutsAreWrites register_refusal register_touched register_new_value (λ v. v))
+    (profile_puts : PutsAreWrites profile_refusal profile_touched profile_new_value (λ v. v)) (monitor_puts : PutsAreWrites monitor_refusal monitor_touched monitor_new_value (λ v. v))
+    (schedule_puts : PutsAreWrites schedule_refusal schedule_touched schedule_new_value (λ v. v))
+    (clock_puts : PutsAreWrites clock_refusal clock_touched clock_new_value (λ v. clock_value (clock_moment v))) where
   put_in : (name : LogicalName) (part : Part) (index : ℕ) (v : Tree) (rule : Rule) → rule_in P part index ≡ Some rule → meets rule v ≡ true →
-      IsAccepted P name part (Write index) v (λ s. put s (cell (class_of part) name index) v)
+      IsAccepted P name part (Write index) v (λ s. put s (cell (class_of part) name index) (kept (cell (class_of part) name index) v))
   put_in name (Data1 first) index v rule is fits =
       let fixed : DataFixed = record { name = name; kind = kind_of first } in
       let accepted = accepted_by (index == 2) (index == 1) (OfKind (kind_of first)) rule v is fits in
@@ -61,9 +64,13 @@ module _ (P : Plan) (data_puts : PutsAreWrites data_refusal data_touched data_ne
       let accepted = accepted_by (index == 4) (is_attribute index) period_rule rule v is fits in
       let write = profile_puts 7 name fixed index v accepted (λ i. one-touched index 4 i) in
       (accepted, record { same_cells = write.same_cells; own_cells = write.own_cells; other_cells = write.other_cells })
+  put_in name (Clock first) index v rule is fits =
+      let fixed : ClockFixed = record { name = name } in
+      let accepted = accepted_by (index == 2) (is_fixed index) ClockTime rule v is fits in
+      (accepted, clock_puts 8 name fixed index v accepted (λ i. one-touched index 2 i))
   put_in name (ScriptTable scripts) index v rule is fits = cc
   put_in name (RegisterMonitor monitored thresholds actions) index v rule is fits =
-      let fixed : MonitorFixed = record { name = name; monitored = monitored; kind = kind_of (value (start P) monitored); actions = actions } in
+      let fixed : MonitorFixed = record { name = name; monitored = monitored; kind = kind_of (value (start_values P) monitored); actions = actions } in
       let accepted = accepted_by (index == 2) ((index == 1) || ((index == 3) || (index == 4))) _ rule v is fits in
       (accepted, monitor_puts 21 name fixed index v accepted (λ i. one-touched index 2 i))
   put_in name (SingleActionSchedule script type times) index v rule is fits =
@@ -86,7 +93,7 @@ module _ (P : Plan) (data_puts : PutsAreWrites data_refusal data_touched data_ne
             object = o;
             of_plan = found.0;
             accepted = write.0;
-            operation = subst (λ z. IsOperationOf P o (Write x.index) v (λ s. put s z v)) itself write.1;
+            operation = subst (λ z. IsOperationOf P o (Write x.index) v (λ s. put s z (kept z v))) itself write.1;
           }
       in_class o there false other is = cc
 
@@ -100,8 +107,8 @@ module _ (P : Plan) where
   pub remember-operation : (name : LogicalName) (part : Part) (x : CellRef) (v : Tree) → IsRemembered P name part x v →
       IsOperation (class_of part) name ((operations_in P name part).touched Remember) ((operations_in P name part).new_value Remember v) (captured_in part) (λ s. effect P s (Put x v))
   remember-operation name (RegisterMonitor monitored thresholds actions) x v is =
-      let fixed : MonitorFixed = record { name = name; monitored = monitored; kind = kind_of (value (start P) monitored); actions = actions } in
-      subst (λ z. IsOperation 21 name (monitor_touched Remember) (monitor_new_value fixed Remember v) [] (λ s. put s z v)) (sym is.0)
+      let fixed : MonitorFixed = record { name = name; monitored = monitored; kind = kind_of (value (start_values P) monitored); actions = actions } in
+      subst (λ z. IsOperation 21 name (monitor_touched Remember) (monitor_new_value fixed Remember v) [] (λ s. put s z (kept z v))) (sym is.0)
       (put-is_operation 21 name 0 v (monitor_touched Remember) (monitor_new_value fixed Remember v) [] (λ s cells i. refl))
   remember-operation name (Data1 first) x v is = absurd is
   remember-operation name _ x v is = absurd is

@@ -17,16 +17,17 @@ use Rattle.meter_theory.specs.declared.refs.ScriptRef.{ScriptRef}
 use Rattle.meter_theory.specs.declared.refs.ScalerUnit.{ScalerUnit}
 use Rattle.meter_theory.specs.declared.refs.UpDown.{UpDown}
 use Rattle.meter_theory.specs.Rights.{Argument, Given, has_valid_tag, script_number}
+use Rattle.meter_theory.proofs.Held.{cell_held}
 use Rattle.meter_theory.proofs.Rights.{ruled-cell}
 use Rattle.class_control.specs.MonitorClass.{may_be_seen}
 use Rattle.meter_theory.specs.declared.access.AccessCode.{AccessCode}
 use Rattle.meter_theory.specs.declared.access.AccessCode.TheVariants as codes
-use Rattle.meter_theory.specs.Plan.{Plan, Object, Script, Part, Data1, Register, ProfileGeneric, ScriptTable, RegisterMonitor, SingleActionSchedule, class_of, object_at, rule_in, rule_of, register_value, capture_period, start, thresholds, seen}
+use Rattle.meter_theory.specs.Plan.{Plan, Object, Script, Part, Data1, Register, ProfileGeneric, Clock, ScriptTable, RegisterMonitor, SingleActionSchedule, class_of, object_at, rule_in, rule_of, register_value, capture_period, start_values, thresholds, seen}
 use Rattle.meter_theory.specs.Sound.{IsSound, IsSoundPart}
 use Rattle.meter_theory.specs.State.{State, keys, value}
 use Rattle.meter_theory.specs.States.{IsState, IsSeen, IsRemembered, Holds, Fits, MayStand}
 use Rattle.meter_theory.specs.Times.{Moment, is_capture_due}
-use Rattle.meter_theory.specs.Value.{Rule, OfKind, Thresholds, meets, valid_tag, valid_elements, is_within_limits, elements, count_of}
+use Rattle.meter_theory.specs.Value.{Rule, OfKind, Thresholds, meets, valid_tag, valid_parts, is_within_limits, elements, count_of}
 use Rattle.meter_theory.specs.Steps as theory
 use Rattle.meter_theory.specs.Steps.{Captures, captures_in, captures_of, meets_some}
 use Rattle.meter_theory.proofs.Agreement.{object-found}
@@ -181,14 +182,15 @@ script_writes P r s sound is = at (object_at P r.table) refl is
 -- Own steps
 
 -- a capture that is due
-pub capture_meant : (P : Plan) (s : State) (n : LogicalName) (t : Moment) (c : Captures) → Some c ≡ captures_of (object_at P n) → is_capture_due (count_of (value s (capture_period n))) t ≡ true →
-    theory.Capture n ∷ [] ≡ theory.effects_of P s (theory.CaptureAt n t)
-capture_meant P s n t c is due = at (object_at P n) is
+pub capture_meant : (P : Plan) (s : State) (n : LogicalName) (t : Moment) (c : Captures) → t ≡ theory.present P s → Some c ≡ captures_of (object_at P n) → is_capture_due (count_of (value s (capture_period n))) t ≡ true →
+    theory.Capture n ∷ [] ≡ theory.effects_of P s (theory.CaptureAt n)
+capture_meant P s n t c present is due = at (object_at P n) is ∙ ap (λ u. for_some (object_at P n) (λ z. theory.captured_at s n u z.part)) present
   where
     in_part : (part : Part) → Some c ≡ captures_in part → theory.Capture n ∷ [] ≡ theory.captured_at s n t part
     in_part (ProfileGeneric captured period entries) e = sym (cond-true (is_capture_due (count_of (value s (capture_period n))) t) (theory.Capture n ∷ []) [] due)
     in_part (Data1 first) e = cc
     in_part (Register first default scaler_unit) e = cc
+    in_part (Clock first) e = cc
     in_part (ScriptTable scripts) e = cc
     in_part (RegisterMonitor monitored th actions) e = cc
     in_part (SingleActionSchedule script type times) e = cc
@@ -206,37 +208,37 @@ evaluation_meant P s n o monitored th actions is part =
 
 -- the thresholds of a monitor are those of its actions
 pub thresholds_fit : (P : Plan) (s : State) (n : LogicalName) (o : Object) (monitored : CellRef) (th : Tree) (actions : List UpDown) → IsState P s → Some o ≡ object_at P n →
-    o.part ≡ RegisterMonitor monitored th actions → meets (Thresholds (length actions) (kind_of (value (start P) monitored))) (value s (thresholds n)) ≡ true
-thresholds_fit P s n o monitored th actions k is part = k.settable (thresholds n) there (Thresholds (length actions) (kind_of (value (start P) monitored))) rule
+    o.part ≡ RegisterMonitor monitored th actions → meets (Thresholds (length actions) (kind_of (value (start_values P) monitored))) (value s (thresholds n)) ≡ true
+thresholds_fit P s n o monitored th actions k is part = k.settable (thresholds n) there (Thresholds (length actions) (kind_of (value (start_values P) monitored))) rule
   where
-    rule : rule_of P (thresholds n) ≡ Some (Thresholds (length actions) (kind_of (value (start P) monitored)))
+    rule : rule_of P (thresholds n) ≡ Some (Thresholds (length actions) (kind_of (value (start_values P) monitored)))
     rule =
         ap (option_and_then (λ z. cond (class_of z.part == 21) (rule_in P z.part 2) None)) (sym is)
         ∙ ap (λ p. cond (class_of p == 21) (rule_in P p 2) None) part
 
     there : IsIn (keys s) (thresholds n)
     there = subst (λ ks. IsIn ks (thresholds n)) (sym k.cells)
-        (ruled-cell P (thresholds n) (Given (array no_trees)) (subst (λ r. has_valid_tag r (Given (array no_trees)) ≡ true) (sym rule) refl))
+        (cell_held P (thresholds n) (ruled-cell P (thresholds n) (Given (array no_trees)) (subst (λ r. has_valid_tag r (Given (array no_trees)) ≡ true) (sym rule) refl)))
 
 -- the monitored value keeps its kind
 pub monitored_fits : (P : Plan) (s : State) (n : LogicalName) (o : Object) (monitored : CellRef) (th : Tree) (actions : List UpDown) → IsSound P → IsState P s → Some o ≡ object_at P n →
-    o.part ≡ RegisterMonitor monitored th actions → meets (OfKind (kind_of (value (start P) monitored))) (value s monitored) ≡ true
+    o.part ≡ RegisterMonitor monitored th actions → meets (OfKind (kind_of (value (start_values P) monitored))) (value s monitored) ≡ true
 monitored_fits P s n o monitored th actions sound k is part =
     let there = object-found P n o (sym is) in
     let fine : IsSoundPart P (RegisterMonitor monitored th actions) = subst (IsSoundPart P) part (sound.parts o there.0) in
-    k.settable monitored (subst (λ ks. IsIn ks monitored) (sym k.cells) fine.0) (OfKind (kind_of (value (start P) monitored))) fine.1
+    k.settable monitored (subst (λ ks. IsIn ks monitored) (sym k.cells) (cell_held P monitored fine.0)) (OfKind (kind_of (value (start_values P) monitored))) fine.1
 
 -- and may be remembered
 pub remember_may : (P : Plan) (n : LogicalName) (o : Object) (monitored : CellRef) (th : Tree) (actions : List UpDown) (v : Tree) → Some o ≡ object_at P n → o.part ≡ RegisterMonitor monitored th actions →
-    meets (OfKind (kind_of (value (start P) monitored))) v ≡ true → Fits P (theory.Put (seen n) v)
+    meets (OfKind (kind_of (value (start_values P) monitored))) v ≡ true → Fits P (theory.Put (seen n) v)
 remember_may P n o monitored th actions v is part fits =
     let there = object-found P n o (sym is) in
-    inr (o, there.0, subst (λ p. IsRemembered P o.name p (seen n) v) (sym part) (ap seen (sym there.1), inr fits))
+    inr (inl (o, there.0, subst (λ p. IsRemembered P o.name p (seen n) v) (sym part) (ap seen (sym there.1), inr fits)))
 
 -- a rule that a value passes
 pub passes-meets : (r : Option Rule) (v : Tree) → is_ok (rule_answer r v) ≡ meets_some r v
 passes-meets None v = refl
-passes-meets (Some rule) v = at (valid_tag rule v) (is_within_limits v && valid_elements rule (elements v))
+passes-meets (Some rule) v = at (valid_tag rule v) (is_within_limits v && valid_parts rule v)
   where
     at : (tag rest : Bool) → is_ok {T = Unit {0}} {E = AccessCode} (if tag then (if (tag && rest) then Ok tt else Err codes.OtherReason) else Err codes.TypeUnmatched) ≡ (tag && rest)
     at true true = refl
@@ -277,6 +279,7 @@ no_table q apart o same scripts is = at q apart (same ∙ is)
     at (parts.Data first) h e = cc
     at (parts.Register p) h e = cc
     at (parts.ProfileGeneric p) h e = cc
+    at (parts.Clock p) h e = cc
     at (parts.ScriptTable p) h e = h p refl
     at (parts.RegisterMonitor p) h e = cc
     at (parts.SingleActionSchedule p) h e = cc

@@ -11,8 +11,8 @@ use Rattle.meter_theory.specs.Lists.{IsIn}
 use Rattle.meter_theory.specs.State.{State, value}
 use Rattle.meter_theory.proofs.State.{value-put_other, value-put}
 use Rattle.meter_theory.specs.EffectLaws.{KeepsAgreementOn}
-use Rattle.meter_theory.specs.Plan.{Plan, Object, Part, Data1, Register, ProfileGeneric, ScriptTable, RegisterMonitor, SingleActionSchedule, class_of, start, object_at, buffer, entries_in_use}
-use Rattle.meter_theory.specs.Steps.{Captures, captures_of, capture, clear, effect, changed_by, Effect, Put, Capture, Clear}
+use Rattle.meter_theory.specs.Plan.{Plan, Object, Part, Data1, Register, ProfileGeneric, Clock, ScriptTable, RegisterMonitor, SingleActionSchedule, class_of, start_values, object_at, buffer, entries_in_use}
+use Rattle.meter_theory.specs.Steps.{Captures, captures_of, capture, clear, kept, effect, changed_by, Effect, Put, Capture, Clear}
 use Rattle.meter_theory.specs.declared.flow.Cause.TheVariants.{Captured}
 use Rattle.meter_theory.specs.Edges.{IsClosed, EdgeIn, edge}
 use Rattle.cosem_class.specs.declared.class.Op.{Op}
@@ -20,6 +20,7 @@ use Rattle.cosem_class.specs.declared.class.Op.TheVariants.{Write, Invoke, Remem
 use Rattle.cosem_class.specs.DataClass.{DataFixed, data_touched, data_new_value}
 use Rattle.cosem_class.specs.RegisterClass.{RegisterFixed, register_touched, register_new_value}
 use Rattle.class_profile.specs.ProfileClass.{ProfileFixed, profile_touched, profile_own_sources, profile_row_cells, profile_new_value}
+use Rattle.class_control.specs.ClockClass.{ClockFixed, clock_touched, clock_new_value}
 use Rattle.class_control.specs.ScriptTableClass.{ScriptTableFixed, script_table_touched, script_table_new_value}
 use Rattle.class_control.specs.MonitorClass.{MonitorFixed, monitor_touched, monitor_new_value}
 use Rattle.class_control.specs.ScheduleClass.{ScheduleFixed, schedule_touched, schedule_new_value}
@@ -75,7 +76,7 @@ untouched method name x none is =
 
 -- An effect leaves each cell that it does not say.
 pub effect-leaves : (P : Plan) (e : Effect) (s : State) (x : CellRef) → (IsIn (changed_by e) x → ⊥) → value (effect P s e) x ≡ value s x
-effect-leaves P (Put y v) s x none = value-put_other s y x v (false_from_ne_true (same_cell y x) (λ same. none (inl (sym (same_cell-true y x same)))))
+effect-leaves P (Put y v) s x none = value-put_other s y x (kept y v) (false_from_ne_true (same_cell y x) (λ same. none (inl (sym (same_cell-true y x same)))))
 effect-leaves P (Clear n) s x none =
     let fixed : ProfileFixed = record { name = n; captured = []; period = 0; entries = 0 } in
     operation-leaves 7 n (profile_touched (Invoke 1)) (profile_new_value fixed (Invoke 1) null_data) [] (λ z. clear z n) (clear-is_operation fixed n null_data) s x (untouched 1 n x none)
@@ -93,6 +94,7 @@ module _ (data_keeps : OperationsKeepAgreement data_touched (λ _ _ _. false) (�
     (script_table_keeps : OperationsKeepAgreement script_table_touched (λ _ _ _. false) (λ _ _. false) script_table_new_value)
     (monitor_keeps : OperationsKeepAgreement monitor_touched (λ _ _ _. false) (λ _ _. false) monitor_new_value)
     (schedule_keeps : OperationsKeepAgreement schedule_touched (λ _ _ _. false) (λ _ _. false) schedule_new_value)
+    (clock_keeps : OperationsKeepAgreement clock_touched (λ _ _ _. false) (λ _ _. false) clock_new_value)
     (P : Plan) (S : CellRef → Bool) where
   operation_in-keeps : (name : LogicalName) (part : Part) (op : Op) (argument : Tree) (change : State → State) →
       (S (buffer name) ≡ true → (x : CellRef) → IsIn (captured_in part) x → S x ≡ true) →
@@ -107,11 +109,14 @@ module _ (data_keeps : OperationsKeepAgreement data_touched (λ _ _ _. false) (�
   operation_in-keeps name (ProfileGeneric captured period entries) op argument change closed is =
       let fixed : ProfileFixed = record { name = name; captured = captured; period = period; entries = entries } in
       profile_keeps 7 name fixed op argument captured change S is (profile_sources op name captured S closed)
+  operation_in-keeps name (Clock first) op argument change closed is =
+      let fixed : ClockFixed = record { name = name } in
+      clock_keeps 8 name fixed op argument [] change S is (without_sources (clock_touched op) 8 name [] S)
   operation_in-keeps name (ScriptTable scripts) op argument change closed is =
       let fixed : ScriptTableFixed = record { name = name; scripts = scripts } in
       script_table_keeps 9 name fixed op argument [] change S is (without_sources (script_table_touched op) 9 name [] S)
   operation_in-keeps name (RegisterMonitor monitored thresholds actions) op argument change closed is =
-      let fixed : MonitorFixed = record { name = name; monitored = monitored; kind = kind_of (value (start P) monitored); actions = actions } in
+      let fixed : MonitorFixed = record { name = name; monitored = monitored; kind = kind_of (value (start_values P) monitored); actions = actions } in
       monitor_keeps 21 name fixed op argument [] change S is (without_sources (monitor_touched op) 21 name [] S)
   operation_in-keeps name (SingleActionSchedule script type times) op argument change closed is =
       let fixed : ScheduleFixed = record { name = name; script = script; type = type } in
@@ -122,7 +127,7 @@ module _ (data_keeps : OperationsKeepAgreement data_touched (λ _ _ _. false) (�
       IsOperationOf P o op argument change → KeepsAgreementOn S change
   operation-keeps closed o op argument change of_plan is =
       operation_in-keeps o.name o.part op argument change
-      (λ inside x m. closed (edge Captured x (buffer o.name)) (o, of_plan, captured_edge P o.name o.part x m) inside) is
+      (λ inside x m. closed.edges (edge Captured x (buffer o.name)) (o, of_plan, captured_edge P o.name o.part x m) inside) is
 
   accepted-keeps : IsClosed P S → (op : Op) (argument : Tree) (change : State → State) → IsAcceptedOperation P op argument change → KeepsAgreementOn S change
   accepted-keeps closed op argument change accepted =
@@ -138,7 +143,7 @@ module _ (data_keeps : OperationsKeepAgreement data_touched (λ _ _ _. false) (�
   -- An effect over a closed set: what a put writes depends on nothing, and a capture and a clear are methods of a profile.
   pub effect-keeps : IsClosed P S → ((n : LogicalName) (argument : Tree) → IsProfile P n → IsAcceptedOperation P (Invoke 2) argument (λ s. effect P s (Capture n))) →
       (e : Effect) → KeepsAgreementOn S (λ s. effect P s e)
-  effect-keeps closed captures (Put x v) = λ s t same agree y inside. value-put s t x y v same (agree y inside)
+  effect-keeps closed captures (Put x v) = λ s t same agree y inside. value-put s t x y (kept x v) same (agree y inside)
   effect-keeps closed captures (Capture n) = at (captures_of (object_at P n)) refl
     where
       at : (c : Option Captures) → captures_of (object_at P n) ≡ c → KeepsAgreementOn S (λ s. effect P s (Capture n))

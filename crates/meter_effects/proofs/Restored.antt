@@ -29,6 +29,7 @@ keys-undone undo s = at undo.change
     at (changes.Data held) = keys-put s _ _
     at (changes.Register held) = keys-put s _ _
     at (changes.Period held) = keys-put s _ _
+    at (changes.Clock held) = keys-put s _ _
     at (changes.Captured c) = keys-put (put s (buffer undo.name) _) (entries_in_use undo.name) _ ∙ keys-put s _ _
     at (changes.Cleared c) = keys-put (put s (buffer undo.name) _) (entries_in_use undo.name) _ ∙ keys-put s _ _
     at (changes.Thresholds held) = keys-put s _ _

@@ -40,10 +40,10 @@ OperationsKeepAgreement {Fixed} touched own_sources row_cells new_value =
     IsOperation class_id name (touched op) (new_value fixed op argument) captured change →
     HasAllSources class_id name (touched op) (own_sources op) (row_cells op) captured set → KeepsAgreementOn set change
 
--- To put a value that the class does not refuse into a cell of an object is its write, where the write touches that cell
--- alone.
-abbrev pub PutsAreWrites : {Fixed : Type 0} → (Fixed → Op → Tree → Option ClassFault) → (Op → ℕ → Bool) → NewValue Fixed → Type 0
-PutsAreWrites {Fixed} refusal touched new_value =
+-- To put what a class keeps of a value that it does not refuse into a cell of an object is its write, where the write touches
+-- that cell alone.
+abbrev pub PutsAreWrites : {Fixed : Type 0} → (Fixed → Op → Tree → Option ClassFault) → (Op → ℕ → Bool) → NewValue Fixed → (Tree → Tree) → Type 0
+PutsAreWrites {Fixed} refusal touched new_value kept =
     (class_id : ℕ) (name : LogicalName) (fixed : Fixed) (index : ℕ) (v : Tree) → refusal fixed (Write index) v ≡ None →
     ((i : ℕ) → touched (Write index) i ≡ true → i ≡ index) →
-    IsOperation class_id name (touched (Write index)) (new_value fixed (Write index) v) [] (λ s. put s (cell class_id name index) v)
+    IsOperation class_id name (touched (Write index)) (new_value fixed (Write index) v) [] (λ s. put s (cell class_id name index) (kept v))

@@ -6,13 +6,14 @@ use Rattle.cosem_data.specs.declared.cell.CellRef.{CellRef}
 use Rattle.cosem_data.specs.declared.name.LogicalName.{LogicalName}
 use Rattle.meter_theory.specs.Lists.{IsIn}
 use Rattle.meter_theory.specs.State.{State, value}
-use Rattle.meter_theory.specs.Plan.{Plan, Object, Part, Data1, Register, ProfileGeneric, ScriptTable, RegisterMonitor, SingleActionSchedule, class_of, start}
+use Rattle.meter_theory.specs.Plan.{Plan, Object, Part, Data1, Register, ProfileGeneric, Clock, ScriptTable, RegisterMonitor, SingleActionSchedule, class_of, start_values}
 use Rattle.cosem_class.specs.declared.class.Op.{Op}
 use Rattle.cosem_class.specs.declared.class.ClassFault.{ClassFault}
 use Rattle.cosem_class.specs.Objects.{Cells}
 use Rattle.cosem_class.specs.DataClass.{DataFixed, data_refusal, data_touched, data_new_value}
 use Rattle.cosem_class.specs.RegisterClass.{RegisterFixed, register_refusal, register_touched, register_new_value}
 use Rattle.class_profile.specs.ProfileClass.{ProfileFixed, profile_refusal, profile_touched, profile_new_value}
+use Rattle.class_control.specs.ClockClass.{ClockFixed, clock_refusal, clock_touched, clock_new_value}
 use Rattle.class_control.specs.ScriptTableClass.{ScriptTableFixed, script_table_refusal, script_table_touched, script_table_new_value}
 use Rattle.class_control.specs.MonitorClass.{MonitorFixed, monitor_refusal, monitor_touched, monitor_new_value}
 use Rattle.class_control.specs.ScheduleClass.{ScheduleFixed, schedule_refusal, schedule_touched, schedule_new_value}
@@ -36,11 +37,14 @@ operations_in P name (Register first default scaler_unit) =
 operations_in P name (ProfileGeneric captured period entries) =
     let fixed : ProfileFixed = record { name = name; captured = captured; period = period; entries = entries } in
     record { refusal = profile_refusal fixed; touched = profile_touched; new_value = profile_new_value fixed }
+operations_in P name (Clock first) =
+    let fixed : ClockFixed = record { name = name } in
+    record { refusal = clock_refusal fixed; touched = clock_touched; new_value = clock_new_value fixed }
 operations_in P name (ScriptTable scripts) =
     let fixed : ScriptTableFixed = record { name = name; scripts = scripts } in
     record { refusal = script_table_refusal fixed; touched = script_table_touched; new_value = script_table_new_value fixed }
 operations_in P name (RegisterMonitor monitored thresholds actions) =
-    let fixed : MonitorFixed = record { name = name; monitored = monitored; kind = kind_of (value (start P) monitored); actions = actions } in
+    let fixed : MonitorFixed = record { name = name; monitored = monitored; kind = kind_of (value (start_values P) monitored); actions = actions } in
     record { refusal = monitor_refusal fixed; touched = monitor_touched; new_value = monitor_new_value fixed }
 operations_in P name (SingleActionSchedule script type times) =
     let fixed : ScheduleFixed = record { name = name; script = script; type = type } in

@@ -1,6 +1,6 @@
 //! The effects of a step, one after another, wholly or not at all.
 ghost use Rattle.std.specs.Prelude.{◌≡◌, [], map, OnOk, OnErr, IsOk};
-ghost use Rattle.meter_theory.specs.Plan.{cells};
+ghost use Rattle.meter_theory.specs.Plan.{held};
 ghost use Rattle.meter_theory.specs.State.{keys};
 ghost use Rattle.meter_theory.specs.States.{IsState};
 ghost use Rattle.meter_theory.specs.Steps as theory;
@@ -48,7 +48,7 @@ pub fn apply_all(
 
 /// Takes effects back, given in their order, the last one first.
 pub fn undo_all(plan: &Plan, meter: &mut Meter, undos: Vec<Undo>)
-    requires { keys meter.old ≡ cells plan.now }
+    requires { keys meter.old ≡ held plan.now }
     ensures { meter.new ≡ all_undone undos.items meter.old }
 {
     let mut undos = undos;

@@ -20,8 +20,9 @@ ghost use Rattle.object_model.specs.EffectView.{IsProfile};
 ghost use Rattle.meter_effects.specs.Operations.{OperationsKeepAgreement, PutsAreWrites};
 ghost use Rattle.meter_effects.specs.PlanOperations.{IsOperationOf, IsAcceptedOperation};
 
+use class_control::clock::Clock;
 use class_control::monitor::{Monitor, Watch};
-use class_control::parts::{SchedulePart, ScriptTablePart};
+use class_control::parts::{ClockPart, SchedulePart, ScriptTablePart};
 use class_control::schedule::Schedule;
 use class_control::script_table::ScriptTable;
 use class_profile::profile::{Profile, ProfilePart};
@@ -38,10 +39,10 @@ pub fn operations_keep_agreement<Lent, C: InterfaceClass<Lent>>()
     laws_of_a_class::<Lent, C>();
 }
 
-/// Of every class: to put a value that the class does not refuse into a cell of the meter is a write of it, where the write
+/// Of every class: to put what the class keeps of a value that it does not refuse into a cell of the meter is a write of it, where the write
 /// touches that cell alone.
 pub fn puts_are_writes<Lent, C: InterfaceClass<Lent>>()
-    ensures { PutsAreWrites C.refusal C.touched C.new_value }
+    ensures { PutsAreWrites C.refusal C.touched C.new_value C.kept }
 {}
 
 /// The effects of a plan's meter are operations of its objects, by their classes: a put is a write that is not refused, what
@@ -60,6 +61,7 @@ pub fn effects_are_operations()
     puts_are_writes::<Lent<'static, ProfilePart>, Profile>();
     puts_are_writes::<Watch<'static>, Monitor>();
     puts_are_writes::<Lent<'static, SchedulePart>, Schedule>();
+    puts_are_writes::<Lent<'static, ClockPart>, Clock>();
 }
 
 /// States that agree on a closed set of cells agree on it after each operation of an object of the plan, by the object's
@@ -75,5 +77,6 @@ pub fn closed_sets_keep_agreement()
     operations_keep_agreement::<Lent<'static, ScriptTablePart>, ScriptTable>();
     operations_keep_agreement::<Watch<'static>, Monitor>();
     operations_keep_agreement::<Lent<'static, SchedulePart>, Schedule>();
+    operations_keep_agreement::<Lent<'static, ClockPart>, Clock>();
     effects_are_operations();
 }

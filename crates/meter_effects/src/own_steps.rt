@@ -70,7 +70,7 @@ fn is_fed(instance: &Instance<'_>, cell: &CellRef) -> bool
     }
 }
 
-/// The capture of the profile with this name, if it is due at the moment. The only error is that memory was refused,
+/// The capture of the profile with this name, if it is due at the moment at which the clock stands. The only error is that memory was refused,
 /// which without effects it isn't.
 pub fn capture_effects(
     alloc: Global,
@@ -79,9 +79,10 @@ pub fn capture_effects(
     profile: LogicalName,
     moment: Moment,
 ) -> Result<Vec<Effect>, Memory>
-    requires { IsState plan.now meter.now }
-    ensures ok { IfOk result (λ list. StandsFor plan.now (theory.effects_of plan.now meter.now (theory.CaptureAt profile moment)) list.items) }
-    ensures none { theory.effects_of plan.now meter.now (theory.CaptureAt profile moment) ≡ [] → IsOk result }
+    requires of_plan { IsState plan.now meter.now }
+    requires present { moment ≡ theory.present plan.now meter.now }
+    ensures ok { IfOk result (λ list. StandsFor plan.now (theory.effects_of plan.now meter.now (theory.CaptureAt profile)) list.items) }
+    ensures none { theory.effects_of plan.now meter.now (theory.CaptureAt profile) ≡ [] → IsOk result }
 {
     let mut effects = Vec::new(alloc);
     let instance = plan.instance(&profile);
@@ -106,7 +107,7 @@ fn is_period_over(meter: &Meter, instance: &Instance<'_>, moment: Moment) -> boo
     }
 }
 
-/// The effects of the script of the schedule with this name, if the moment is one of its times. The only error is that memory was
+/// The effects of the script of the schedule with this name, if the moment at which the clock stands is one of its times. The only error is that memory was
 /// refused, which without effects it isn't.
 pub fn schedule_effects(
     alloc: Global,
@@ -115,9 +116,10 @@ pub fn schedule_effects(
     schedule: LogicalName,
     moment: Moment,
 ) -> Result<Vec<Effect>, Memory>
-    requires { IsState plan.now meter.now }
-    ensures ok { IfOk result (λ list. StandsFor plan.now (theory.effects_of plan.now meter.now (theory.ScheduleAt schedule moment)) list.items) }
-    ensures none { theory.effects_of plan.now meter.now (theory.ScheduleAt schedule moment) ≡ [] → IsOk result }
+    requires of_plan { IsState plan.now meter.now }
+    requires present { moment ≡ theory.present plan.now meter.now }
+    ensures ok { IfOk result (λ list. StandsFor plan.now (theory.effects_of plan.now meter.now (theory.ScheduleAt schedule)) list.items) }
+    ensures none { theory.effects_of plan.now meter.now (theory.ScheduleAt schedule) ≡ [] → IsOk result }
 {
     let mut effects = Vec::new(alloc);
     let instance = plan.instance(&schedule);

@@ -9,6 +9,7 @@ ghost use Rattle.meter_theory.specs.Edges.{IsClosed};
 ghost use Rattle.meter_theory.specs.EffectLaws.{KeepsAgreementOn, EffectLaws};
 ghost use Rattle.meter_theory.specs.Labels.{Labels, Labelling, labelling_of, Admits};
 ghost use Rattle.meter_theory.specs.Safety.{Influence, Secrecy};
+ghost use Rattle.meter_theory.specs.Sound.{IsSound};
 ghost use Rattle.meter_theory.specs.Unequal.{UnequalSecrecy};
 
 use crate::laws::closed_sets_keep_agreement;
@@ -29,19 +30,19 @@ pub fn steps_keep_agreement()
     lawful_effects_keep_agreement();
 }
 
-/// An admitted plan keeps what its policy promises about who influences a cell, and what its labels promise.
+/// A sound plan that is admitted keeps what its policy promises about who influences a cell, and what its labels promise.
 pub fn admitted_is_influence_safe()
-    ensures policy { (P : Plan) (policy : Labelling) (labels : Labels) → Admits P policy labels → Influence P policy }
-    ensures labels { (P : Plan) (policy : Labelling) (labels : Labels) → Admits P policy labels → Influence P (labelling_of labels) }
+    ensures policy { (P : Plan) (policy : Labelling) (labels : Labels) → IsSound P → Admits P policy labels → Influence P policy }
+    ensures labels { (P : Plan) (policy : Labelling) (labels : Labels) → IsSound P → Admits P policy labels → Influence P (labelling_of labels) }
 {
     effects_are_lawful();
     lawful_effects_keep_promises();
 }
 
-/// An admitted plan keeps from each client what its policy, and what its labels, hide from it.
+/// A sound plan that is admitted keeps from each client what its policy, and what its labels, hide from it.
 pub fn admitted_is_secret()
-    ensures policy { (P : Plan) (policy : Labelling) (labels : Labels) → Admits P policy labels → Secrecy P policy }
-    ensures labels { (P : Plan) (policy : Labelling) (labels : Labels) → Admits P policy labels → Secrecy P (labelling_of labels) }
+    ensures policy { (P : Plan) (policy : Labelling) (labels : Labels) → IsSound P → Admits P policy labels → Secrecy P policy }
+    ensures labels { (P : Plan) (policy : Labelling) (labels : Labels) → IsSound P → Admits P policy labels → Secrecy P (labelling_of labels) }
 {
     effects_are_lawful();
     lawful_effects_keep_promises();
@@ -49,8 +50,8 @@ pub fn admitted_is_secret()
 
 /// The same over schedules that differ by steps which the client can't notice.
 pub fn admitted_is_secret_but_for_quiet_steps()
-    ensures policy { (P : Plan) (policy : Labelling) (labels : Labels) → Admits P policy labels → UnequalSecrecy P policy }
-    ensures labels { (P : Plan) (policy : Labelling) (labels : Labels) → Admits P policy labels → UnequalSecrecy P (labelling_of labels) }
+    ensures policy { (P : Plan) (policy : Labelling) (labels : Labels) → IsSound P → Admits P policy labels → UnequalSecrecy P policy }
+    ensures labels { (P : Plan) (policy : Labelling) (labels : Labels) → IsSound P → Admits P policy labels → UnequalSecrecy P (labelling_of labels) }
 {
     effects_are_lawful();
     lawful_effects_keep_promises();

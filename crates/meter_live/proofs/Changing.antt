@@ -16,7 +16,7 @@ use Rattle.meter_theory.specs.Replies.{Reply, Value, reply_to}
 use Rattle.meter_theory.specs.Rights.{set_answer, act_answer, method_of, cell_of}
 use Rattle.meter_theory.specs.State.{State}
 use Rattle.meter_theory.specs.States.{IsState}
-use Rattle.meter_theory.specs.Steps.{Effect, Step, Get, Set, Act, Input, CaptureAt, Evaluate, ScheduleAt, next, effects, given_value, method_effects}
+use Rattle.meter_theory.specs.Steps.{Effect, Step, Get, Set, Act, Input, CaptureAt, Evaluate, ScheduleAt, Tick, ClockAt, next, effects, given_value, method_effects}
 use Rattle.meter_live.specs.Changes.{is_changing, changes_of, Answers}
 
 -- a request is permitted where its code is success
@@ -41,9 +41,11 @@ unchanged P s (Get c d selection) is = refl
 unchanged P s (Set c d selected v) is = not_taken P s (is_success (set_answer P c d selected v)) (given_value (cell_of d) v) is
 unchanged P s (Act c d argument) is = not_taken P s (is_success (act_answer P c d argument)) (method_effects P (method_of d) argument) is
 unchanged P s (Input x v) is = absurd (cc is)
-unchanged P s (CaptureAt n t) is = absurd (cc is)
+unchanged P s (CaptureAt n) is = absurd (cc is)
 unchanged P s (Evaluate n) is = absurd (cc is)
-unchanged P s (ScheduleAt n t) is = absurd (cc is)
+unchanged P s (ScheduleAt n) is = absurd (cc is)
+unchanged P s Tick is = absurd (cc is)
+unchanged P s (ClockAt m) is = absurd (cc is)
 
 -- what is answered with a value changes nothing
 pub valued : (P : Plan) (s : State) (step : Step) (v : Tree) → reply_to P s step ≡ Value v → next P s step ≡ s
@@ -51,9 +53,11 @@ valued P s (Get c d selection) v is = refl
 valued P s (Set c d selected w) v is = absurd (cc is)
 valued P s (Act c d argument) v is = absurd (cc is)
 valued P s (Input x w) v is = absurd (cc is)
-valued P s (CaptureAt n t) v is = absurd (cc is)
+valued P s (CaptureAt n) v is = absurd (cc is)
 valued P s (Evaluate n) v is = absurd (cc is)
-valued P s (ScheduleAt n t) v is = absurd (cc is)
+valued P s (ScheduleAt n) v is = absurd (cc is)
+valued P s Tick v is = absurd (cc is)
+valued P s (ClockAt m) v is = absurd (cc is)
 
 -- what is answered with a reply whose copy takes memory changes nothing
 pub copied : (P : Plan) (s : State) (step : Step) (reply : CodeReply) → reply_of reply ≡ reply_to P s step → ¬ (has_value reply ≡ false) → next P s step ≡ s
@@ -67,9 +71,11 @@ answers P s (Get c d selection) reply fits is = (s, fits, is)
 answers P s (Set c d selected v) reply fits is = is
 answers P s (Act c d argument) reply fits is = is
 answers P s (Input x v) reply fits is = (s, fits, is)
-answers P s (CaptureAt n t) reply fits is = (s, fits, is)
+answers P s (CaptureAt n) reply fits is = (s, fits, is)
 answers P s (Evaluate n) reply fits is = (s, fits, is)
-answers P s (ScheduleAt n t) reply fits is = (s, fits, is)
+answers P s (ScheduleAt n) reply fits is = (s, fits, is)
+answers P s Tick reply fits is = (s, fits, is)
+answers P s (ClockAt m) reply fits is = (s, fits, is)
 
 one_at_most : (b : Bool) → cond b 1 0 ≤ 1
 one_at_most true = omega arith

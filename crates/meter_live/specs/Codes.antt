@@ -9,11 +9,11 @@ use Rattle.cosem_data.specs.declared.name.LogicalName.{LogicalName}
 use Rattle.logbook.specs.Pages.{Book, book_coded}
 use Rattle.meter_theory.specs.declared.access.AccessCode.{AccessCode}
 use Rattle.meter_theory.specs.declared.access.AccessCode.TheVariants as codes
-use Rattle.meter_theory.specs.PlanCode.{name_code, cell_code}
+use Rattle.meter_theory.specs.PlanCode.{name_code, cell_code, moment_code}
 use Rattle.meter_theory.specs.Replies.{Reply, Value, Code, Quiet}
 use Rattle.meter_theory.specs.Rights.{Argument, Absent, Given, Unreadable}
 use Rattle.meter_theory.specs.declared.refs.Descriptor.{Descriptor}
-use Rattle.meter_theory.specs.Steps.{Step, Get, Set, Act, Input, CaptureAt, Evaluate, ScheduleAt}
+use Rattle.meter_theory.specs.Steps.{Step, Get, Set, Act, Input, CaptureAt, Evaluate, ScheduleAt, Tick, ClockAt}
 use Rattle.meter_theory.specs.Times.{Moment}
 use Rattle.meter_live.specs.Marks.{Mark}
 use Rattle.meter_live.specs.Trail.{Taken}
@@ -41,49 +41,49 @@ to_argument-from Unreadable = refl
 abbrev pub argument_code : Coded Argument
 argument_code = code_by (Option Tree ⊎ Bool) (coded⊎ (coded_option tree_code) coded_bool) from_argument to_argument to_argument-from
 
-abbrev pub moment_code : Coded Moment
-moment_code =
-    code_by (ℕ × (ℕ × (ℕ × (ℕ × (ℕ × ℕ))))) (coded× coded_ℕ (coded× coded_ℕ (coded× coded_ℕ (coded× coded_ℕ (coded× coded_ℕ coded_ℕ)))))
-    (λ t. (t.year, (t.month, (t.day, (t.hour, (t.minute, t.second))))))
-    (λ p. record { year = p.0; month = p.1.0; day = p.1.1.0; hour = p.1.1.1.0; minute = p.1.1.1.1.0; second = p.1.1.1.1.1 }) (λ _. refl)
-
 abbrev pub StepParts : Type 0
 StepParts =
     (ℕ × (Descriptor × Option (ℕ × Argument))) ⊎ ((ℕ × (Descriptor × (Bool × Argument))) ⊎ ((ℕ × (Descriptor × Argument))
-    ⊎ ((CellRef × Tree) ⊎ ((LogicalName × Moment) ⊎ (LogicalName ⊎ (LogicalName × Moment))))))
+    ⊎ ((CellRef × Tree) ⊎ (LogicalName ⊎ (LogicalName ⊎ (LogicalName ⊎ (Bool ⊎ Moment)))))))
 
 abbrev pub from_step : Step → StepParts
 from_step (Get c d selection) = inl (c, (d, selection))
 from_step (Set c d selected v) = inr (inl (c, (d, (selected, v))))
 from_step (Act c d argument) = inr (inr (inl (c, (d, argument))))
 from_step (Input x v) = inr (inr (inr (inl (x, v))))
-from_step (CaptureAt n t) = inr (inr (inr (inr (inl (n, t)))))
+from_step (CaptureAt n) = inr (inr (inr (inr (inl n))))
 from_step (Evaluate n) = inr (inr (inr (inr (inr (inl n)))))
-from_step (ScheduleAt n t) = inr (inr (inr (inr (inr (inr (n, t))))))
+from_step (ScheduleAt n) = inr (inr (inr (inr (inr (inr (inl n))))))
+from_step Tick = inr (inr (inr (inr (inr (inr (inr (inl true)))))))
+from_step (ClockAt t) = inr (inr (inr (inr (inr (inr (inr (inr t)))))))
 
 abbrev pub to_step : StepParts → Step
 to_step (inl p) = Get p.0 p.1.0 p.1.1
 to_step (inr (inl p)) = Set p.0 p.1.0 p.1.1.0 p.1.1.1
 to_step (inr (inr (inl p))) = Act p.0 p.1.0 p.1.1
 to_step (inr (inr (inr (inl p)))) = Input p.0 p.1
-to_step (inr (inr (inr (inr (inl p))))) = CaptureAt p.0 p.1
+to_step (inr (inr (inr (inr (inl n))))) = CaptureAt n
 to_step (inr (inr (inr (inr (inr (inl n)))))) = Evaluate n
-to_step (inr (inr (inr (inr (inr (inr p)))))) = ScheduleAt p.0 p.1
+to_step (inr (inr (inr (inr (inr (inr (inl n))))))) = ScheduleAt n
+to_step (inr (inr (inr (inr (inr (inr (inr (inl _)))))))) = Tick
+to_step (inr (inr (inr (inr (inr (inr (inr (inr t)))))))) = ClockAt t
 
 pub to_step-from : (step : Step) → to_step (from_step step) ≡ step
 to_step-from (Get c d selection) = refl
 to_step-from (Set c d selected v) = refl
 to_step-from (Act c d argument) = refl
 to_step-from (Input x v) = refl
-to_step-from (CaptureAt n t) = refl
+to_step-from (CaptureAt n) = refl
 to_step-from (Evaluate n) = refl
-to_step-from (ScheduleAt n t) = refl
+to_step-from (ScheduleAt n) = refl
+to_step-from Tick = refl
+to_step-from (ClockAt t) = refl
 
 abbrev pub step_code : Coded Step
 step_code =
     code_by StepParts (coded⊎ (coded× coded_ℕ (coded× descriptor_code (coded_option (coded× coded_ℕ argument_code))))
     (coded⊎ (coded× coded_ℕ (coded× descriptor_code (coded× coded_bool argument_code))) (coded⊎ (coded× coded_ℕ (coded× descriptor_code argument_code))
-    (coded⊎ (coded× cell_code tree_code) (coded⊎ (coded× name_code moment_code) (coded⊎ name_code (coded× name_code moment_code))))))) from_step to_step to_step-from
+    (coded⊎ (coded× cell_code tree_code) (coded⊎ name_code (coded⊎ name_code (coded⊎ name_code (coded⊎ coded_bool moment_code)))))))) from_step to_step to_step-from
 
 -- results are numbered by their places
 abbrev pub from_access : AccessCode → ℕ

@@ -18,7 +18,7 @@ named P front = record { known = true; plan = P; front = front }
 
 -- it knows nothing
 abbrev pub unknown : Names
-unknown = record { known = false; plan = record { clients = []; objects = []; rights = [] }; front = record { book = record { number = 0; log_name = 0; cells_name = 0 }; steps = [] } }
+unknown = record { known = false; plan = record { version = 1; clients = []; objects = []; rights = [] }; front = record { book = record { number = 0; log_name = 0; cells_name = 0 }; steps = [] } }
 
 -- who knows a plan and a mark knows the copy's plan, and a mark in its history that the copy's begins with
 abbrev pub Agrees : Plan → Mark → Names → Type 0

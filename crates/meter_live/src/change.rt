@@ -67,7 +67,9 @@ pub fn is_change(plan: &Plan, step: &Step) -> bool
         Step::Input { .. }
         | Step::CaptureAt { .. }
         | Step::Evaluate { .. }
-        | Step::ScheduleAt { .. } => true,
+        | Step::ScheduleAt { .. }
+        | Step::Tick
+        | Step::ClockAt { .. } => true,
     }
 }
 

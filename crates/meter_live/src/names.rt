@@ -24,7 +24,7 @@ pub trait Naming {
 }
 
 impl Naming for Brand {
-    ghost accepted = { record { plan = record { clients = []; objects = []; rights = [] }; policy = record { table = []; default = record { influence = nobody; learn = nobody } } } };
+    ghost accepted = { record { plan = record { version = 1; clients = []; objects = []; rights = [] }; policy = record { table = []; default = record { influence = nobody; learn = nobody } } } };
 
     ghost book = { record { number = 0; log_name = 0; cells_name = 0 } };
 }

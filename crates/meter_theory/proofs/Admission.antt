@@ -21,7 +21,7 @@ use Rattle.meter_theory.specs.declared.flow.Refusal.TheVariants.{NotLabelled, Pa
 use Rattle.meter_theory.proofs.Lists.{any_in, in_any, in_append_right, in_flat_map, from_flat_map, in_map, from_map, in_range}
 use Rattle.meter_theory.proofs.Agreement.{object-found, not_both}
 use Rattle.meter_theory.proofs.Theorem.{within_trans}
-use Rattle.meter_theory.proofs.Check.{among_in, in_among, plain_cells, actions_cells, edge-listed, listed-edge}
+use Rattle.meter_theory.proofs.Check.{among_in, in_among, method_cells, edge-listed, listed-edge}
 
 -- not a, or b
 implies-true : (a b : Bool) → (not a || b) ≡ true → a ≡ true → b ≡ true
@@ -86,25 +86,6 @@ changer_found P c x (inr h) =
     (and_from (r.0.client == c) (list_any (λ k. among (method_changes_of P (record { class_id = 0; name = r.0.object; index = k })) x) r.0.acts) b.0
     (in_any (λ k. among (method_changes_of P (record { class_id = 0; name = r.0.object; index = k })) x) r.0.acts i.0 i.1
     (in_among (method_changes_of P (record { class_id = 0; name = r.0.object; index = i.0 })) x there))))
-
--- what a method changes is cells of the plan
-pub method_cells : (P : Plan) → IsSound P → (m : MethodRef) (x : CellRef) → IsIn (method_changes_of P m) x → IsIn (cells P) x
-method_cells P sound m x i =
-    elim (object_at P m.name) as (λ o. object_at P m.name ≡ o → IsIn (for_some o (λ z. method_changes P m z.part)) x → IsIn (cells P) x) [
-      | None ↦ λ is j. absurd j
-      | Some o ↦ λ is j. at o is o.part refl j
-    ] refl i
-  where
-    at : (o : Object) → object_at P m.name ≡ Some o → (part : Part) → o.part ≡ part → IsIn (method_changes P m part) x → IsIn (cells P) x
-    at o is (ScriptTable scripts) h j =
-        let e = from_flat_map changed_by (all_scripts P scripts) x j in
-        let s = from_flat_map (λ z. actions_effects P z.actions) scripts e.0 e.1 in
-        actions_cells P sound o (object-found P m.name o is).0 s.0 (subst (λ p. IsIn (scripts_of p) s.0) (sym h) s.1) x (in_flat_map changed_by (actions_effects P s.0.actions) e.0 x s.2 e.2)
-    at o is (Data1 start) h j = plain_cells P sound m.name o is (Data1 start) h m.index x j
-    at o is (Register start default scaler_unit) h j = plain_cells P sound m.name o is (Register start default scaler_unit) h m.index x j
-    at o is (ProfileGeneric captured period entries) h j = plain_cells P sound m.name o is (ProfileGeneric captured period entries) h m.index x j
-    at o is (RegisterMonitor monitored th actions) h j = plain_cells P sound m.name o is (RegisterMonitor monitored th actions) h m.index x j
-    at o is (SingleActionSchedule script type times) h j = plain_cells P sound m.name o is (SingleActionSchedule script type times) h m.index x j
 
 some_label : (o : Option Label) → is_some o ≡ true → (l : Label) × (o ≡ Some l)
 some_label None h = cc

@@ -10,7 +10,7 @@ use Rattle.cosem_data.specs.declared.cell.CellRef.{CellRef}
 use Rattle.cosem_data.specs.Cells.{same_name}
 use Rattle.meter_theory.specs.State.{State, keys, value, put}
 use Rattle.meter_theory.specs.Plan.{Plan, Object, buffer, entries_in_use, object_at}
-use Rattle.meter_theory.specs.Steps.{Effect, Put, Capture, Clear, Captures, captures_of, row_of, buffer_after, in_use_after, capture, effect, effects, changed_by, changed, Step, effects_of, next}
+use Rattle.meter_theory.specs.Steps.{Effect, Put, Capture, Clear, Captures, captures_of, row_of, buffer_after, in_use_after, capture, kept, effect, effects, changed_by, changed, Step, effects_of, next}
 use Rattle.meter_theory.specs.Sound.{IsSound}
 use Rattle.meter_theory.specs.Edges.{Agree, IsClosed}
 use Rattle.meter_theory.specs.EffectLaws.{KeepsAgreementOn, EffectLaws}
@@ -29,7 +29,7 @@ one_named P sound = one_of_key (λ o. o.name) P.objects sound.names
 
 -- An effect leaves the cells of a state.
 pub effect-keys : (P : Plan) (s : State) (e : Effect) → keys (effect P s e) ≡ keys s
-effect-keys P s (Put x v) = keys-put s x v
+effect-keys P s (Put x v) = keys-put s x (kept x v)
 effect-keys P s (Clear n) = keys-put (put s (buffer n) (array no_trees)) (entries_in_use n) (counter 0) ∙ keys-put s (buffer n) (array no_trees)
 effect-keys P s (Capture n) = at (captures_of (object_at P n))
   where

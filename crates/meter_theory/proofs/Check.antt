@@ -5,23 +5,25 @@ use Rattle.std.specs.List.{list_any}
 use Rattle.std.proofs.lemmas.Bool.{and_parts}
 use Rattle.meter_theory.specs.Lists.{IsIn, for_some}
 use Rattle.meter_theory.specs.Value.{counter}
-use Rattle.cosem_data.specs.Tree.{array, no_trees}
+use Rattle.cosem_data.specs.Tree.{Tree, null_data, array, no_trees}
 use Rattle.cosem_data.specs.declared.name.LogicalName.{LogicalName}
 use Rattle.cosem_data.specs.declared.cell.CellRef.{CellRef}
 use Rattle.cosem_data.specs.Cells.{same_cell}
 use Rattle.meter_theory.specs.declared.refs.ScriptRef.{ScriptRef}
 use Rattle.meter_theory.specs.declared.refs.UpDown.{UpDown}
-use Rattle.meter_theory.specs.Plan.{Plan, Object, Script, Action, Write, Invoke, Part, Data1, Register, ProfileGeneric, ScriptTable, RegisterMonitor, SingleActionSchedule, cells, start, start_of, buffer, capture_period, entries_in_use, thresholds, seen, execution_time, object_at}
+use Rattle.meter_theory.specs.Plan.{Plan, Object, Script, Action, Write, Invoke, Part, Data1, Register, ProfileGeneric, Clock, ScriptTable, RegisterMonitor, SingleActionSchedule, cells, start, start_of, buffer, capture_period, entries_in_use, thresholds, seen, execution_time, object_at, told_clock}
 use Rattle.cosem_data.specs.declared.cell.MethodRef.{MethodRef}
 use Rattle.meter_theory.specs.Steps.{Effect, Put, Capture, Clear, changed_by, changed, plain_method, plain_method_of, action_effects, actions_effects, script_in, scripts_of}
 use Rattle.meter_theory.specs.declared.flow.Cause.{Cause}
 use Rattle.meter_theory.specs.declared.flow.Edge.{Edge}
+use Rattle.meter_theory.specs.declared.flow.Cause.TheVariants as causes
 use Rattle.meter_theory.specs.declared.flow.Cause.TheVariants.{Monitored, Monitor, Captured, Period, Schedule}
-use Rattle.meter_theory.specs.Edges.{edge, EdgeIn, IsEdge, script_changes, scripts_named, monitor_changes, among, in_plan_order, edges_in, same_cause, same_edge, first_of_each, edges}
+use Rattle.meter_theory.specs.Edges.{edge, EdgeIn, IsEdge, script_changes, scripts_named, monitor_changes, among, in_plan_order, edges_from_clock, edges_in, same_cause, same_edge, first_of_each, edges}
+use Rattle.meter_theory.specs.Labels.{method_changes, method_changes_of, all_scripts}
 use Rattle.meter_theory.specs.Sound.{IsSound}
 use Rattle.meter_theory.proofs.Lists.{any_in, in_any, found, in_append_left, in_append_right, in_append_cases, in_flat_map, from_flat_map, in_map, from_map, in_filter, from_filter}
 use Rattle.meter_theory.proofs.Agreement.{object-found}
-use Rattle.meter_theory.proofs.Rights.{cell_of_found}
+use Rattle.meter_theory.proofs.Rights.{cell_of_object, cell_of_found}
 
 -- Membership as a test
 
@@ -39,6 +41,7 @@ same_cause-true Monitor Monitor h = refl
 same_cause-true Captured Captured h = refl
 same_cause-true Period Period h = refl
 same_cause-true Schedule Schedule h = refl
+same_cause-true causes.Clock causes.Clock h = refl
 same_cause-true _ _ h = cc
 
 same_edge-true : (e f : Edge) → same_edge e f ≡ true → e ≡ f
@@ -84,6 +87,7 @@ from_first earlier (f ∷ es) e i =
 module _ (P : Plan) (sound : IsSound P) where
   pub plain_cells : (n : LogicalName) (o : Object) → object_at P n ≡ Some o → (part : Part) → o.part ≡ part → (index : ℕ) (x : CellRef) → IsIn (changed (plain_method n part index)) x → IsIn (cells P) x
   plain_cells n o is (Data1 start) h index x i = absurd i
+  plain_cells n o is (Clock start) h index x i = absurd i
   plain_cells n o is (ScriptTable scripts) h index x i = absurd i
   plain_cells n o is (RegisterMonitor monitored th actions) h index x i = absurd i
   plain_cells n o is (SingleActionSchedule script type times) h index x i = absurd i
@@ -146,6 +150,21 @@ module _ (P : Plan) (sound : IsSound P) where
   from_ordered : (xs : List CellRef) (x : CellRef) → IsIn (in_plan_order P xs) x → IsIn xs x
   from_ordered xs x i = among_in xs x (from_filter (among xs) (cells P) x i).1
 
+  -- an edge from the clock is one to each of the targets
+  from_clock : (targets : List CellRef) (x y : CellRef) → IsIn (told_clock P) x → IsIn targets y → IsIn (edges_from_clock P targets) (edge causes.Clock x y)
+  from_clock targets x y told i =
+      in_flat_map (λ z. map (λ w. edge causes.Clock z w) targets) (told_clock P) x (edge causes.Clock x y) told (in_map (λ w. edge causes.Clock x w) targets y i)
+
+  of_clock : (targets : List CellRef) (e : Edge) → IsIn (edges_from_clock P targets) e → (x y : CellRef) × IsIn (told_clock P) x × IsIn targets y × (e ≡ edge causes.Clock x y)
+  of_clock targets e i =
+      let x = from_flat_map (λ z. map (λ w. edge causes.Clock z w) targets) (told_clock P) e i in
+      let y = from_map (λ w. edge causes.Clock x.0 w) targets e x.2 in
+      (x.0, y.0, x.1, y.1, y.2)
+
+  abbrev after_captured : LogicalName → List Edge
+  after_captured n =
+      edge Period (capture_period n) (buffer n) ∷ edge Period (capture_period n) (entries_in_use n) ∷ edges_from_clock P (buffer n ∷ entries_in_use n ∷ [])
+
   -- Each edge that an object makes is listed, and no other.
   edge_listed : (n : LogicalName) (part : Part) (cause : Cause) (x y : CellRef) → EdgeIn P n part cause x y → IsIn (edges_in P n part) (edge cause x y)
   edge_listed n (RegisterMonitor monitored th actions) Monitored x y e = inl (ap₂ (edge Monitored) e.0 e.1)
@@ -159,19 +178,25 @@ module _ (P : Plan) (sound : IsSound P) where
       of_three (inr (inr (inl p))) = inr (inr (inl (ap (λ z. edge Monitor z y) p)))
       of_three (inr (inr (inr none))) = absurd none
   edge_listed n (ProfileGeneric captured period entries) Captured x y e =
-      in_append_left (map (λ z. edge Captured z (buffer n)) captured) (edge Period (capture_period n) (buffer n) ∷ edge Period (capture_period n) (entries_in_use n) ∷ []) (edge Captured x y)
+      in_append_left (map (λ z. edge Captured z (buffer n)) captured) (after_captured n) (edge Captured x y)
       (subst (λ z. IsIn (map (λ w. edge Captured w (buffer n)) captured) (edge Captured x z)) (sym e.1) (in_map (λ z. edge Captured z (buffer n)) captured x e.0))
   edge_listed n (ProfileGeneric captured period entries) Period x y e =
-      in_append_right (map (λ z. edge Captured z (buffer n)) captured) (edge Period (capture_period n) (buffer n) ∷ edge Period (capture_period n) (entries_in_use n) ∷ []) (edge Period x y)
-      (of_two e.1)
+      in_append_right (map (λ z. edge Captured z (buffer n)) captured) (after_captured n) (edge Period x y) (of_two e.1)
     where
-      of_two : IsIn (buffer n ∷ entries_in_use n ∷ []) y → IsIn (edge Period (capture_period n) (buffer n) ∷ edge Period (capture_period n) (entries_in_use n) ∷ []) (edge Period x y)
+      of_two : IsIn (buffer n ∷ entries_in_use n ∷ []) y → IsIn (after_captured n) (edge Period x y)
       of_two (inl p) = inl (ap₂ (edge Period) e.0 p)
       of_two (inr (inl p)) = inr (inl (ap₂ (edge Period) e.0 p))
       of_two (inr (inr none)) = absurd none
+  edge_listed n (ProfileGeneric captured period entries) causes.Clock x y e =
+      in_append_right (map (λ z. edge Captured z (buffer n)) captured) (after_captured n) (edge causes.Clock x y)
+      (inr (inr (from_clock (buffer n ∷ entries_in_use n ∷ []) x y e.0 e.1)))
   edge_listed n (SingleActionSchedule script type times) Schedule x y e =
       subst (λ z. IsIn (edges_in P n (SingleActionSchedule script type times)) (edge Schedule z y)) (sym e.0)
-      (in_map (λ z. edge Schedule (execution_time n) z) (in_plan_order P (script_changes P script)) y (ordered (script_changes P script) y e.1 (script_cells script y e.1)))
+      (in_append_left (map (λ z. edge Schedule (execution_time n) z) (in_plan_order P (script_changes P script))) (edges_from_clock P (in_plan_order P (script_changes P script))) (edge Schedule (execution_time n) y)
+      (in_map (λ z. edge Schedule (execution_time n) z) (in_plan_order P (script_changes P script)) y (ordered (script_changes P script) y e.1 (script_cells script y e.1))))
+  edge_listed n (SingleActionSchedule script type times) causes.Clock x y e =
+      in_append_right (map (λ z. edge Schedule (execution_time n) z) (in_plan_order P (script_changes P script))) (edges_from_clock P (in_plan_order P (script_changes P script))) (edge causes.Clock x y)
+      (from_clock (in_plan_order P (script_changes P script)) x y e.0 (ordered (script_changes P script) y e.1 (script_cells script y e.1)))
   edge_listed n _ _ x y e = absurd e
 
   pub edge-listed : (e : Edge) → IsEdge P e → IsIn (edges P) e
@@ -185,6 +210,7 @@ module _ (P : Plan) (sound : IsSound P) where
   listed_in : (n : LogicalName) (part : Part) (e : Edge) → IsIn (edges_in P n part) e → EdgeIn P n part e.cause e.source e.target
   listed_in n (Data1 start) e i = absurd i
   listed_in n (Register start default scaler_unit) e i = absurd i
+  listed_in n (Clock start) e i = absurd i
   listed_in n (ScriptTable scripts) e i = absurd i
   listed_in n (RegisterMonitor monitored th actions) e (inl p) =
       subst (λ z. EdgeIn P n (RegisterMonitor monitored th actions) z.cause z.source z.target) (sym p) (refl, refl)
@@ -202,7 +228,7 @@ module _ (P : Plan) (sound : IsSound P) where
         ]
       ]
   listed_in n (ProfileGeneric captured period entries) e i =
-      elim (in_append_cases (map (λ z. edge Captured z (buffer n)) captured) (edge Period (capture_period n) (buffer n) ∷ edge Period (capture_period n) (entries_in_use n) ∷ []) e i) [
+      elim (in_append_cases (map (λ z. edge Captured z (buffer n)) captured) (after_captured n) e i) [
         | inl j ↦
             let x = from_map (λ z. edge Captured z (buffer n)) captured e j in
             subst (λ z. EdgeIn P n (ProfileGeneric captured period entries) z.cause z.source z.target) (sym x.2) (x.1, refl)
@@ -210,15 +236,68 @@ module _ (P : Plan) (sound : IsSound P) where
           | inl p ↦ subst (λ z. EdgeIn P n (ProfileGeneric captured period entries) z.cause z.source z.target) (sym p) (refl, inl refl)
           | inr k ↦ elim k [
             | inl p ↦ subst (λ z. EdgeIn P n (ProfileGeneric captured period entries) z.cause z.source z.target) (sym p) (refl, inr (inl refl))
-            | inr none ↦ absurd none
+            | inr m ↦
+                let c = of_clock (buffer n ∷ entries_in_use n ∷ []) e m in
+                subst (λ z. EdgeIn P n (ProfileGeneric captured period entries) z.cause z.source z.target) (sym c.4) (c.2, c.3)
           ]
         ]
       ]
   listed_in n (SingleActionSchedule script type times) e i =
-      let y = from_map (λ z. edge Schedule (execution_time n) z) (in_plan_order P (script_changes P script)) e i in
-      subst (λ z. EdgeIn P n (SingleActionSchedule script type times) z.cause z.source z.target) (sym y.2) (refl, from_ordered (script_changes P script) y.0 y.1)
+      elim (in_append_cases (map (λ z. edge Schedule (execution_time n) z) (in_plan_order P (script_changes P script))) (edges_from_clock P (in_plan_order P (script_changes P script))) e i) [
+        | inl j ↦
+            let y = from_map (λ z. edge Schedule (execution_time n) z) (in_plan_order P (script_changes P script)) e j in
+            subst (λ z. EdgeIn P n (SingleActionSchedule script type times) z.cause z.source z.target) (sym y.2) (refl, from_ordered (script_changes P script) y.0 y.1)
+        | inr j ↦
+            let c = of_clock (in_plan_order P (script_changes P script)) e j in
+            subst (λ z. EdgeIn P n (SingleActionSchedule script type times) z.cause z.source z.target) (sym c.4) (c.2, from_ordered (script_changes P script) c.1 c.3)
+      ]
 
   pub listed-edge : (e : Edge) → IsIn (edges P) e → IsEdge P e
   listed-edge e i =
       let o = from_flat_map (λ o. edges_in P o.name o.part) P.objects e (from_first [] (flat_map (λ o. edges_in P o.name o.part) P.objects) e i) in
       (o.0, o.1, listed_in o.0.name o.0.part e o.2)
+
+-- an edge leads to a cell of the plan
+pub edge_target : (P : Plan) → IsSound P → (e : Edge) → IsEdge P e → IsIn (cells P) e.target
+edge_target P sound e h = at h.0.part refl e.cause e.source e.target h.2
+  where
+    o : Object
+    o = h.0
+
+    entry : (part : Part) → o.part ≡ part → (x : CellRef) (v : Tree) → IsIn (start_of o.name part) (x, v) → IsIn (cells P) x
+    entry part is x v i = cell_of_object P o x v h.1 (subst (λ q. IsIn (start_of o.name q) (x, v)) (sym is) i)
+
+    two : (captured : List CellRef) (period entries : ℕ) → o.part ≡ ProfileGeneric captured period entries → (y : CellRef) → IsIn (buffer o.name ∷ entries_in_use o.name ∷ []) y → IsIn (cells P) y
+    two captured period entries is y (inl p) = entry (ProfileGeneric captured period entries) is y (array no_trees) (inl (ap (λ z. (z, array no_trees)) p))
+    two captured period entries is y (inr (inl p)) = entry (ProfileGeneric captured period entries) is y (counter 0) (inr (inr (inl (ap (λ z. (z, counter 0)) p))))
+    two captured period entries is y (inr (inr none)) = absurd none
+
+    at : (part : Part) → o.part ≡ part → (cause : Cause) (x y : CellRef) → EdgeIn P o.name part cause x y → IsIn (cells P) y
+    at (RegisterMonitor monitored th actions) is Monitored x y i = entry (RegisterMonitor monitored th actions) is y null_data (inr (inl (ap (λ z. (z, null_data)) i.1)))
+    at (RegisterMonitor monitored th actions) is Monitor x y i = monitor_cells P sound actions y i.1
+    at (ProfileGeneric captured period entries) is Captured x y i = two captured period entries is y (inl i.1)
+    at (ProfileGeneric captured period entries) is Period x y i = two captured period entries is y i.1
+    at (ProfileGeneric captured period entries) is causes.Clock x y i = two captured period entries is y i.1
+    at (SingleActionSchedule script type times) is Schedule x y i = script_cells P sound script y i.1
+    at (SingleActionSchedule script type times) is causes.Clock x y i = script_cells P sound script y i.1
+    at _ is _ x y i = absurd i
+
+-- what a method changes is cells of the plan
+pub method_cells : (P : Plan) → IsSound P → (m : MethodRef) (x : CellRef) → IsIn (method_changes_of P m) x → IsIn (cells P) x
+method_cells P sound m x i =
+    elim (object_at P m.name) as (λ o. object_at P m.name ≡ o → IsIn (for_some o (λ z. method_changes P m z.part)) x → IsIn (cells P) x) [
+      | None ↦ λ is j. absurd j
+      | Some o ↦ λ is j. at o is o.part refl j
+    ] refl i
+  where
+    at : (o : Object) → object_at P m.name ≡ Some o → (part : Part) → o.part ≡ part → IsIn (method_changes P m part) x → IsIn (cells P) x
+    at o is (ScriptTable scripts) h j =
+        let e = from_flat_map changed_by (all_scripts P scripts) x j in
+        let s = from_flat_map (λ z. actions_effects P z.actions) scripts e.0 e.1 in
+        actions_cells P sound o (object-found P m.name o is).0 s.0 (subst (λ p. IsIn (scripts_of p) s.0) (sym h) s.1) x (in_flat_map changed_by (actions_effects P s.0.actions) e.0 x s.2 e.2)
+    at o is (Data1 start) h j = plain_cells P sound m.name o is (Data1 start) h m.index x j
+    at o is (Register start default scaler_unit) h j = plain_cells P sound m.name o is (Register start default scaler_unit) h m.index x j
+    at o is (Clock first) h j = plain_cells P sound m.name o is (Clock first) h m.index x j
+    at o is (ProfileGeneric captured period entries) h j = plain_cells P sound m.name o is (ProfileGeneric captured period entries) h m.index x j
+    at o is (RegisterMonitor monitored th actions) h j = plain_cells P sound m.name o is (RegisterMonitor monitored th actions) h m.index x j
+    at o is (SingleActionSchedule script type times) h j = plain_cells P sound m.name o is (SingleActionSchedule script type times) h m.index x j

@@ -1,21 +1,24 @@
 -- Each effect that fits keeps the kinds.
 use Rattle.cosem_data.proofs.Same.{same_cell-true, same_name-true, same_name-from}
-use Rattle.std.proofs.Common.{◌≡◌, ◌==◌, ◌+◌, ◌-◌, min, ℕ, zero, suc, Bool, true, false, cond, List, [], ◌∷◌, ◌++◌, map, length, drop, refl, sym, ap, subst, ◌∙◌, inl, inr, Option, Some, None, option_and_then, arith, length-drop}
-use Rattle.std.proofs.lemmas.Bool.{and_right, false_from_ne_true}
+use Rattle.std.proofs.Common.{◌≡◌, ◌==◌, ◌+◌, ◌-◌, min, ℕ, zero, suc, Bool, true, false, cond, List, [], ◌∷◌, ◌++◌, map, length, drop, refl, sym, ap, subst, ◌∙◌, inl, inr, Option, Some, None, option_and_then, arith, length-drop, eqb-true, eq-eqb}
+use Rattle.std.proofs.lemmas.Bool.{and_right, cond-true, false_from_ne_true}
 use Rattle.meter_theory.specs.Lists.{IsIn, keep_last}
 use Rattle.cosem_data.specs.Tree.{Tree, null_data, array, no_trees, parts, trees}
-use Rattle.meter_theory.specs.Value.{Rule, meets, array_of, structure_of, elements, counter}
+use Rattle.meter_theory.specs.Times.{clock_moment, clock_value, ShowsMoment}
+use Rattle.meter_theory.specs.Value.{Rule, ClockTime, meets, array_of, structure_of, elements, counter}
 use Rattle.cosem_data.specs.declared.cell.CellRef.{CellRef}
 use Rattle.cosem_data.specs.Cells.{same_name, cell, same_cell}
 use Rattle.meter_theory.specs.State.{State, keys, value, put}
 use Rattle.cosem_data.specs.declared.name.LogicalName.{LogicalName}
-use Rattle.meter_theory.specs.Plan.{Plan, Object, Part, Data1, Register, ProfileGeneric, ScriptTable, RegisterMonitor, SingleActionSchedule, cells, start, start_of, rule_in, rule_of, class_of, object_at, buffer, entries_in_use, seen}
-use Rattle.meter_theory.specs.Steps.{Effect, Put, Capture, Clear, Captures, captures_in, captures_of, capture, clear, effect, row_of, buffer_after, in_use_after}
+use Rattle.meter_theory.specs.Plan.{Plan, Object, Part, Data1, Register, ProfileGeneric, Clock, ScriptTable, RegisterMonitor, SingleActionSchedule, cells, start, start_of, held, inner_clock, clock_object, clock_cell, clock, rule_in, rule_of, class_of, object_at, buffer, entries_in_use, seen}
+use Rattle.meter_theory.specs.Steps.{Effect, Put, Capture, Clear, Captures, captures_in, captures_of, capture, clear, kept, effect, row_of, buffer_after, in_use_after}
 use Rattle.meter_theory.specs.Sound.{IsSound, IsCapturable}
 use Rattle.meter_theory.specs.States.{IsCaptured, AreCaptured, AreRows, IsBuffer, IsCount, IsSeen, Holds, IsState, IsRemembered, Fits}
 use Rattle.meter_theory.proofs.State.{keys-put, value-put_other, value-put_there}
 use Rattle.meter_theory.proofs.Agreement.{object-found, one_named, not_both}
 use Rattle.meter_theory.proofs.Rights.{cell_of_object}
+use Rattle.meter_theory.proofs.Held.{cell_held, clock_held}
+use Rattle.meter_theory.proofs.Clock.{kept-value, clock_time-moment, value-clock_time}
 
 -- No rule speaks of a buffer, of entries in use and of an inner cell.
 no_rule : (P : Plan) (x : CellRef) → ((part : Part) → cond (class_of part == x.class_id) (rule_in P part x.index) None ≡ None) → rule_of P x ≡ None
@@ -28,6 +31,7 @@ buffer_unruled P n = no_rule P (buffer n) each
     each (Data1 start) = refl
     each (Register start default scaler_unit) = refl
     each (ProfileGeneric captured period entries) = refl
+    each (Clock first) = refl
     each (ScriptTable scripts) = refl
     each (RegisterMonitor monitored th actions) = refl
     each (SingleActionSchedule script type times) = refl
@@ -39,6 +43,7 @@ in_use_unruled P n = no_rule P (entries_in_use n) each
     each (Data1 start) = refl
     each (Register start default scaler_unit) = refl
     each (ProfileGeneric captured period entries) = refl
+    each (Clock first) = refl
     each (ScriptTable scripts) = refl
     each (RegisterMonitor monitored th actions) = refl
     each (SingleActionSchedule script type times) = refl
@@ -50,9 +55,72 @@ seen_unruled P n = no_rule P (seen n) each
     each (Data1 start) = refl
     each (Register start default scaler_unit) = refl
     each (ProfileGeneric captured period entries) = refl
+    each (Clock first) = refl
     each (ScriptTable scripts) = refl
     each (RegisterMonitor monitored th actions) = refl
     each (SingleActionSchedule script type times) = refl
+
+pub inner_clock_unruled : (P : Plan) → rule_of P inner_clock ≡ None
+inner_clock_unruled P = no_rule P inner_clock each
+  where
+    each : (part : Part) → cond (class_of part == 8) (rule_in P part 0) None ≡ None
+    each (Data1 start) = refl
+    each (Register start default scaler_unit) = refl
+    each (ProfileGeneric captured period entries) = refl
+    each (Clock first) = refl
+    each (ScriptTable scripts) = refl
+    each (RegisterMonitor monitored th actions) = refl
+    each (SingleActionSchedule script type times) = refl
+
+-- The rule of a cell of class 8 is that of the time of a clock.
+clock_ruled : (P : Plan) (x : CellRef) (rule : Rule) → x.class_id ≡ 8 → rule_of P x ≡ Some rule → rule ≡ ClockTime
+clock_ruled P x rule class is = at (object_at P x.name) (subst (λ k. option_and_then (λ z. cond (class_of z.part == k) (rule_in P z.part x.index) None) (object_at P x.name) ≡ Some rule) class is)
+  where
+    of_index : (b : Bool) → cond b (Some ClockTime) None ≡ Some rule → rule ≡ ClockTime
+    of_index true e = cc
+    of_index false e = cc
+
+    of_part : (part : Part) → cond (class_of part == 8) (rule_in P part x.index) None ≡ Some rule → rule ≡ ClockTime
+    of_part (Clock first) e = of_index (x.index == 2) e
+    of_part (Data1 start) e = cc
+    of_part (Register start default scaler_unit) e = cc
+    of_part (ProfileGeneric captured period entries) e = cc
+    of_part (ScriptTable scripts) e = cc
+    of_part (RegisterMonitor monitored th actions) e = cc
+    of_part (SingleActionSchedule script type times) e = cc
+
+    at : (o : Option Object) → option_and_then (λ z. cond (class_of z.part == 8) (rule_in P z.part x.index) None) o ≡ Some rule → rule ≡ ClockTime
+    at None e = cc
+    at (Some o) e = of_part o.part e
+
+-- what is kept of a value that meets a rule meets it
+kept_meets : (P : Plan) (x : CellRef) (v : Tree) (rule : Rule) → rule_of P x ≡ Some rule → meets rule v ≡ true → meets rule (kept x v) ≡ true
+kept_meets P x v rule is h = at (x.class_id == 8) refl
+  where
+    at : (b : Bool) → (x.class_id == 8) ≡ b → meets rule (cond b (clock_value (clock_moment v)) v) ≡ true
+    at false e = h
+    at true e =
+        let same : rule ≡ ClockTime = clock_ruled P x rule (eqb-true x.class_id 8 e) is in
+        subst (λ r. meets r (clock_value (clock_moment v)) ≡ true) (sym same)
+        (value-clock_time (clock_moment v) (clock_time-moment v (subst (λ r. meets r v ≡ true) same h)))
+
+-- The clock is a cell of class 8, and so none of another class.
+
+clock_class : (o : Option Object) → (clock_cell o).class_id ≡ 8
+clock_class None = refl
+clock_class (Some o) = refl
+
+buffer_off_clock : (o : Option Object) (n : LogicalName) → (same_cell (clock_cell o) (buffer n) ≡ false) × (same_cell (buffer n) (clock_cell o) ≡ false)
+buffer_off_clock None n = (refl, refl)
+buffer_off_clock (Some o) n = (refl, refl)
+
+in_use_off_clock : (o : Option Object) (n : LogicalName) → (same_cell (clock_cell o) (entries_in_use n) ≡ false) × (same_cell (entries_in_use n) (clock_cell o) ≡ false)
+in_use_off_clock None n = (refl, refl)
+in_use_off_clock (Some o) n = (refl, refl)
+
+seen_off_clock : (o : Option Object) (n : LogicalName) → (same_cell (clock_cell o) (seen n) ≡ false) × (same_cell (seen n) (clock_cell o) ≡ false)
+seen_off_clock None n = (refl, refl)
+seen_off_clock (Some o) n = (refl, refl)
 
 -- a cell with a rule is none without
 ruled_apart : (P : Plan) (x y : CellRef) (rule : Rule) → rule_of P x ≡ Some rule → rule_of P y ≡ None → same_cell x y ≡ false
@@ -72,8 +140,8 @@ holds_same P s t n (RegisterMonitor monitored th actions) b u e h = subst (IsSee
 holds_same P s t n _ b u e h = tt
 
 -- a value that meets its rule
-pub put-keeps : (P : Plan) (s : State) (x : CellRef) (v : Tree) (rule : Rule) → rule_of P x ≡ Some rule → meets rule v ≡ true → IsState P s → IsState P (put s x v)
-put-keeps P s x v rule h fits k = record {
+pub put-keeps : (P : Plan) (s : State) (x : CellRef) (v : Tree) (rule : Rule) → rule_of P x ≡ Some rule → meets rule v ≡ true → (x ≡ clock P → ShowsMoment v) → IsState P s → IsState P (put s x v)
+put-keeps P s x v rule h fits shows k = record {
   cells = keys-put s x v ∙ k.cells;
   settable = λ y i other is. at y (subst (λ ks. IsIn ks y) (keys-put s x v) i) other is (same_cell x y) refl;
   inner = λ o there. holds_same P s (put s x v) o.name o.part
@@ -81,8 +149,16 @@ put-keeps P s x v rule h fits k = record {
       (value-put_other s x (entries_in_use o.name) v (ruled_apart P x (entries_in_use o.name) rule h (in_use_unruled P o.name)))
       (value-put_other s x (seen o.name) v (ruled_apart P x (seen o.name) rule h (seen_unruled P o.name)))
       (k.inner o there);
+  clock = of_clock (same_cell x (clock P)) refl;
 }
   where
+    of_clock : (b : Bool) → same_cell x (clock P) ≡ b → ShowsMoment (value (put s x v) (clock P))
+    of_clock false p = subst ShowsMoment (sym (value-put_other s x (clock P) v p)) k.clock
+    of_clock true p =
+        let same : x ≡ clock P = same_cell-true x (clock P) p in
+        subst (λ z. ShowsMoment (value (put s x v) z)) same
+        (subst ShowsMoment (sym (value-put_there s x v (subst (IsIn (keys s)) (sym same) (subst (λ ks. IsIn ks (clock P)) (sym k.cells) (clock_held P))))) (shows same))
+
     at : (y : CellRef) → IsIn (keys s) y → (other : Rule) → rule_of P y ≡ Some other → (b : Bool) → same_cell x y ≡ b → meets other (value (put s x v) y) ≡ true
     at y i other is false p = subst (λ w. meets other w ≡ true) (sym (value-put_other s x y v p)) (k.settable y i other is)
     at y i other is true p =
@@ -100,6 +176,7 @@ remember-keeps P sound s n v own k = record {
       (sym (value-put_other s (seen n) y v (apart_from_ruled P (seen n) y other is (seen_unruled P n))))
       (k.settable y (subst (λ ks. IsIn ks y) (keys-put s (seen n) v) i) other is);
   inner = λ o there. at o there (same_name o.name n) refl;
+  clock = subst ShowsMoment (sym (value-put_other s (seen n) (clock P) v (seen_off_clock (clock_object P) n).1)) k.clock;
 }
   where
     at : (o : Object) → IsIn P.objects o → (b : Bool) → (same_name o.name n) ≡ b → Holds P (put s (seen n) v) o.name o.part
@@ -111,6 +188,30 @@ remember-keeps P sound s n v own k = record {
         let same : (same_name o.name n) ≡ true = same_name-from o.name n (sym (ap (λ z. z.name) (same_cell-true (seen n) (seen o.name) e))) in
         not_both (same_name o.name n) same p)))
         (k.inner o there)
+
+-- the clock is put to a moment
+clock-keeps : (P : Plan) (s : State) (v : Tree) → ShowsMoment v → IsState P s → IsState P (put s (clock P) v)
+clock-keeps P s v shows k = record {
+  cells = keys-put s (clock P) v ∙ k.cells;
+  settable = λ y i other is. at y (subst (λ ks. IsIn ks y) (keys-put s (clock P) v) i) other is (same_cell (clock P) y) refl;
+  inner = λ o there. holds_same P s (put s (clock P) v) o.name o.part
+      (value-put_other s (clock P) (buffer o.name) v (buffer_off_clock (clock_object P) o.name).0)
+      (value-put_other s (clock P) (entries_in_use o.name) v (in_use_off_clock (clock_object P) o.name).0)
+      (value-put_other s (clock P) (seen o.name) v (seen_off_clock (clock_object P) o.name).0)
+      (k.inner o there);
+  clock = subst ShowsMoment (sym (value-put_there s (clock P) v key)) shows;
+}
+  where
+    key : IsIn (keys s) (clock P)
+    key = subst (λ ks. IsIn ks (clock P)) (sym k.cells) (clock_held P)
+
+    at : (y : CellRef) → IsIn (keys s) y → (other : Rule) → rule_of P y ≡ Some other → (b : Bool) → same_cell (clock P) y ≡ b → meets other (value (put s (clock P) v) y) ≡ true
+    at y i other is false p = subst (λ w. meets other w ≡ true) (sym (value-put_other s (clock P) y v p)) (k.settable y i other is)
+    at y i other is true p =
+        let same : clock P ≡ y = same_cell-true (clock P) y p in
+        let rule : other ≡ ClockTime = clock_ruled P y other (ap (λ z. z.class_id) (sym same) ∙ clock_class (clock_object P)) is in
+        subst (λ w. meets other w ≡ true) (sym (subst (λ z. value (put s (clock P) v) z ≡ v) same (value-put_there s (clock P) v key)))
+        (subst (λ r. meets r v ≡ true) (sym rule) (subst (λ w. meets ClockTime w ≡ true) (sym shows.2) (value-clock_time shows.0 shows.1)))
 
 -- A profile's two cells
 
@@ -127,6 +228,10 @@ both-keep P s n b u own k = record {
       ∙ value-put_other s (buffer n) y b (apart_from_ruled P (buffer n) y other is (buffer_unruled P n))))
       (k.settable y (subst (λ ks. IsIn ks y) keys_after i) other is);
   inner = λ o there. at o there o.part refl;
+  clock = subst ShowsMoment
+      (sym (value-put_other (put s (buffer n) b) (entries_in_use n) (clock P) u (in_use_off_clock (clock_object P) n).1
+      ∙ value-put_other s (buffer n) (clock P) b (buffer_off_clock (clock_object P) n).1))
+      k.clock;
 }
   where
     keys_after : keys (put (put s (buffer n) b) (entries_in_use n) u) ≡ keys s
@@ -167,7 +272,7 @@ both-keep P s n b u own k = record {
         let named : o.name ≡ n = same_name-true o.name n p in
         let fits : IsBuffer P captured entries b × IsCount entries u = subst (λ q. OwnFits P q b u) h (own o there named) in
         let in_start : (x : CellRef) (v : Tree) → IsIn (start_of o.name (ProfileGeneric captured period entries)) (x, v) → IsIn (keys s) x =
-        λ x v i. subst (λ ks. IsIn ks x) (sym k.cells) (cell_of_object P o x v there (subst (λ q. IsIn (start_of o.name q) (x, v)) (sym h) i)) in
+        λ x v i. subst (λ ks. IsIn ks x) (sym k.cells) (cell_held P x (cell_of_object P o x v there (subst (λ q. IsIn (start_of o.name q) (x, v)) (sym h) i))) in
         let first : IsIn (keys s) (buffer n) = subst (λ m. IsIn (keys s) (buffer m)) named (in_start (buffer o.name) (array no_trees) (inl refl)) in
         let second : IsIn (keys s) (entries_in_use n) = subst (λ m. IsIn (keys s) (entries_in_use m)) named (in_start (entries_in_use o.name) (counter 0) (inr (inr (inl refl)))) in
         subst (λ m. IsBuffer P captured entries (value new (buffer m)) × IsCount entries (value new (entries_in_use m))) (sym named)
@@ -187,6 +292,7 @@ clear-keeps P s n k = both-keep P s n (array no_trees) (counter 0) (λ o there n
     own (Data1 start) = tt
     own (Register start default scaler_unit) = tt
     own (ProfileGeneric captured period entries) = (([], refl, omega arith, tt), (0, refl, omega arith))
+    own (Clock first) = tt
     own (ScriptTable scripts) = tt
     own (RegisterMonitor monitored th actions) = tt
     own (SingleActionSchedule script type times) = tt
@@ -211,7 +317,7 @@ captured_now P s [] h = tt
 captured_now P s (x ∷ xs) h = (h x (inl refl), captured_now P s xs (λ y i. h y (inr i)))
 
 capturable_now : (P : Plan) (s : State) → IsState P s → (x : CellRef) → IsIn (cells P) x → IsCapturable P x → IsCaptured P x (value s x)
-capturable_now P s k x i (inl h) = inl (h.0, h.1, k.settable x (subst (λ ks. IsIn ks x) (sym k.cells) i) h.0 h.1)
+capturable_now P s k x i (inl h) = inl (h.0, h.1, k.settable x (subst (λ ks. IsIn ks x) (sym k.cells) (cell_held P x i)) h.0 h.1)
 capturable_now P s k x i (inr h) = inr (at h.0.part refl (k.inner h.0 h.1))
   where
     at : (part : Part) → h.0.part ≡ part → Holds P s h.0.name h.0.part → (n : LogicalName) × (count : ℕ) × (x ≡ entries_in_use n) × (value s x ≡ counter count)
@@ -220,6 +326,7 @@ capturable_now P s k x i (inr h) = inr (at h.0.part refl (k.inner h.0 h.1))
         (h.0.name, count.0, h.4, subst (λ z. value s z ≡ counter count.0) (sym h.4) count.1)
     at (Data1 start) is held = let no : captures_in (Data1 start) ≡ Some h.2 = subst (λ p. captures_in p ≡ Some h.2) is h.3 in cc
     at (Register start default scaler_unit) is held = let no : captures_in (Register start default scaler_unit) ≡ Some h.2 = subst (λ p. captures_in p ≡ Some h.2) is h.3 in cc
+    at (Clock first) is held = let no : captures_in (Clock first) ≡ Some h.2 = subst (λ p. captures_in p ≡ Some h.2) is h.3 in cc
     at (ScriptTable scripts) is held = let no : captures_in (ScriptTable scripts) ≡ Some h.2 = subst (λ p. captures_in p ≡ Some h.2) is h.3 in cc
     at (RegisterMonitor monitored th actions) is held = let no : captures_in (RegisterMonitor monitored th actions) ≡ Some h.2 = subst (λ p. captures_in p ≡ Some h.2) is h.3 in cc
     at (SingleActionSchedule script type times) is held = let no : captures_in (SingleActionSchedule script type times) ≡ Some h.2 = subst (λ p. captures_in p ≡ Some h.2) is h.3 in cc
@@ -262,6 +369,7 @@ capture-keeps P sound s n k = at (object_at P n) refl
             (buffer_keeps P captured entries (value s (buffer n)) (map (value s) captured) held.0 (row_fits p in_plan d is_d), count_keeps entries (value s (entries_in_use n)) held.1)
         own p in_plan named same (Data1 first) q = tt
         own p in_plan named same (Register first default scaler_unit) q = tt
+        own p in_plan named same (Clock first) q = tt
         own p in_plan named same (ScriptTable scripts) q = tt
         own p in_plan named same (RegisterMonitor monitored th actions) q = tt
         own p in_plan named same (SingleActionSchedule script type times) q = tt
@@ -271,19 +379,20 @@ capture-keeps P sound s n k = at (object_at P n) refl
     at (Some o) is = with_captures o is (captures_in o.part) refl
 
 -- a remembered value fits its monitor
-remembered : (P : Plan) (s : State) (n : LogicalName) (v : Tree) → keys s ≡ cells P → (o : Object) → IsIn P.objects o → o.name ≡ n → IsRemembered P o.name o.part (seen n) v → (p : Object) → o ≡ p → Holds P (put s (seen n) v) p.name p.part
+remembered : (P : Plan) (s : State) (n : LogicalName) (v : Tree) → keys s ≡ held P → (o : Object) → IsIn P.objects o → o.name ≡ n → IsRemembered P o.name o.part (seen n) v → (p : Object) → o ≡ p → Holds P (put s (seen n) v) p.name p.part
 remembered P s n v cells_are o there named fits p same = subst (λ z. Holds P (put s (seen n) v) z.name z.part) same (at o.part refl fits)
   where
     at : (part : Part) → o.part ≡ part → IsRemembered P o.name o.part (seen n) v → Holds P (put s (seen n) v) o.name o.part
     at (RegisterMonitor monitored th actions) h r =
         let of : IsRemembered P o.name (RegisterMonitor monitored th actions) (seen n) v = subst (λ q. IsRemembered P o.name q (seen n) v) h r in
         let key : IsIn (keys s) (seen n) = subst (λ m. IsIn (keys s) (seen m)) named
-        (subst (λ ks. IsIn ks (seen o.name)) (sym cells_are) (cell_of_object P o (seen o.name) null_data there (subst (λ q. IsIn (start_of o.name q) (seen o.name, null_data)) (sym h) (inr (inl refl))))) in
+        (subst (λ ks. IsIn ks (seen o.name)) (sym cells_are) (cell_held P (seen o.name) (cell_of_object P o (seen o.name) null_data there (subst (λ q. IsIn (start_of o.name q) (seen o.name, null_data)) (sym h) (inr (inl refl)))))) in
         subst (Holds P (put s (seen n) v) o.name) (sym h)
         (subst (λ m. IsSeen P monitored (value (put s (seen n) v) (seen m))) (sym named) (subst (IsSeen P monitored) (sym (value-put_there s (seen n) v key)) of.1))
     at (Data1 first) h r = absurd (subst (λ q. IsRemembered P o.name q (seen n) v) h r)
     at (Register first default scaler_unit) h r = absurd (subst (λ q. IsRemembered P o.name q (seen n) v) h r)
     at (ProfileGeneric captured period entries) h r = absurd (subst (λ q. IsRemembered P o.name q (seen n) v) h r)
+    at (Clock first) h r = absurd (subst (λ q. IsRemembered P o.name q (seen n) v) h r)
     at (ScriptTable scripts) h r = absurd (subst (λ q. IsRemembered P o.name q (seen n) v) h r)
     at (SingleActionSchedule script type times) h r = absurd (subst (λ q. IsRemembered P o.name q (seen n) v) h r)
 
@@ -293,12 +402,24 @@ is_seen_of P n _ x v r = absurd r
 
 -- An effect that fits keeps the kinds.
 pub effect-keeps : (P : Plan) → IsSound P → (s : State) (e : Effect) → Fits P e → IsState P s → IsState P (effect P s e)
-effect-keeps P sound s (Put x v) (inl f) k = put-keeps P s x v f.0 f.1 f.2 k
-effect-keeps P sound s (Put x v) (inr f) k =
+effect-keeps P sound s (Put x v) (inl f) k = put-keeps P s x (kept x v) f.0 f.1 (kept_meets P x v f.0 f.1 f.2) shows k
+  where
+    shows : x ≡ clock P → ShowsMoment (kept x v)
+    shows same =
+        let class : x.class_id ≡ 8 = ap (λ z. z.class_id) same ∙ clock_class (clock_object P) in
+        let rule : f.0 ≡ ClockTime = clock_ruled P x f.0 class f.1 in (
+          clock_moment v,
+          clock_time-moment v (subst (λ r. meets r v ≡ true) rule f.2),
+          cond-true (x.class_id == 8) (clock_value (clock_moment v)) v (eq-eqb x.class_id 8 class),
+        )
+effect-keeps P sound s (Put x v) (inr (inl f)) k =
     let o : Object = f.0 in
     let same : x ≡ seen o.name = is_seen_of P o.name o.part x v f.2 in
-    subst (λ z. IsState P (put s z v)) (sym same)
+    subst (λ z. IsState P (put s z (kept z v))) (sym same)
     (remember-keeps P sound s o.name v
     (λ p there named. remembered P s o.name v k.cells o f.1 refl (subst (λ z. IsRemembered P o.name o.part z v) same f.2) p (one_named P sound o p f.1 there (sym named))) k)
+effect-keeps P sound s (Put x v) (inr (inr f)) k =
+    subst (λ z. IsState P (put s z (kept z v))) (sym f.0)
+    (subst (λ w. IsState P (put s (clock P) w)) (sym (ap (kept (clock P)) f.1.2 ∙ kept-value (clock P) f.1.0)) (clock-keeps P s (clock_value f.1.0) (f.1.0, f.1.1, refl) k))
 effect-keeps P sound s (Capture n) f k = capture-keeps P sound s n k
 effect-keeps P sound s (Clear n) f k = clear-keeps P s n k

@@ -9,19 +9,21 @@ use Rattle.cosem_data.specs.declared.cell.CellRef.{CellRef}
 use Rattle.meter_theory.specs.State.{State, value}
 use Rattle.cosem_data.specs.declared.name.LogicalName.{LogicalName}
 use Rattle.meter_theory.specs.declared.refs.ScriptRef.{ScriptRef}
-use Rattle.meter_theory.specs.Plan.{Plan, Object, Script, Action, Write, Invoke, Part, Data1, Register, ProfileGeneric, ScriptTable, RegisterMonitor, SingleActionSchedule, start, class_of, rule_in, rule_of, object_at, register_value, capture_period, thresholds, seen, execution_time}
+use Rattle.meter_theory.specs.Plan.{Plan, Object, Script, Action, Write, Invoke, Part, Data1, Register, ProfileGeneric, Clock, ScriptTable, RegisterMonitor, SingleActionSchedule, start_values, class_of, rule_in, rule_of, object_at, register_value, capture_period, thresholds, seen, execution_time, inner_clock, clock_object, clock_cell, clock}
 use Rattle.cosem_data.specs.declared.cell.MethodRef.{MethodRef}
 use Rattle.meter_theory.specs.Access.{is_success}
-use Rattle.meter_theory.specs.Times.{Moment, is_capture_due, is_schedule_due}
+use Rattle.meter_theory.specs.Times.{Moment, IsMoment, is_moment, next_second, clock_moment, clock_value, is_capture_due, is_schedule_due}
 use Rattle.meter_theory.specs.Rights.{Argument, Absent, Given, Unreadable, cell_of, method_of, set_answer, act_answer, set_places, meets_rule, script_number}
 use Rattle.meter_theory.specs.declared.access.AccessCode.TheVariants.{OtherReason}
-use Rattle.meter_theory.specs.Steps.{Effect, Put, Capture, Clear, effects, plain_method, plain_method_of, action_effects, actions_effects, script_in, scripts_of, effects_of_script, method_in, method_effects, due_scripts, Step, Get, Set, Act, Input, CaptureAt, Evaluate, ScheduleAt, given_value, is_fed, meets_some, captured_at, evaluated, scheduled_at, effects_of, next}
+use Rattle.meter_theory.specs.Steps.{Effect, Put, Capture, Clear, effects, plain_method, plain_method_of, action_effects, actions_effects, script_in, scripts_of, effects_of_script, method_in, method_effects, due_scripts, Step, Get, Set, Act, Input, CaptureAt, Evaluate, ScheduleAt, Tick, ClockAt, present, clock_set, given_value, is_fed, meets_some, captured_at, evaluated, scheduled_at, effects_of, next}
 use Rattle.meter_theory.specs.Replies.{run}
 use Rattle.meter_theory.specs.Sound.{IsSound, IsSoundPart}
 use Rattle.meter_theory.specs.States.{IsState, IsSeen, IsRemembered, Fits}
 use Rattle.meter_theory.proofs.Lists.{found, in_append_cases, from_flat_map}
 use Rattle.meter_theory.proofs.Agreement.{object-found}
 use Rattle.meter_theory.proofs.Rights.{place_passed}
+use Rattle.meter_theory.proofs.Held.{cell_held}
+use Rattle.meter_theory.proofs.Clock.{clock_moment-value, moment-true, next_second-is_moment}
 use Rattle.meter_theory.proofs.KeepKinds.{effect-keeps}
 
 abbrev AllFit : Plan → List Effect → Type 0
@@ -92,6 +94,7 @@ module _ (P : Plan) (sound : IsSound P) where
   method_fit m o is (Data1 first) h id = plain_fit m.name o is (Data1 first) h m.index
   method_fit m o is (Register first default scaler_unit) h id = plain_fit m.name o is (Register first default scaler_unit) h m.index
   method_fit m o is (ProfileGeneric captured period entries) h id = plain_fit m.name o is (ProfileGeneric captured period entries) h m.index
+  method_fit m o is (Clock first) h id = plain_fit m.name o is (Clock first) h m.index
   method_fit m o is (RegisterMonitor monitored th actions) h id = plain_fit m.name o is (RegisterMonitor monitored th actions) h m.index
   method_fit m o is (SingleActionSchedule script type times) h id = plain_fit m.name o is (SingleActionSchedule script type times) h m.index
 
@@ -125,7 +128,7 @@ module _ (P : Plan) (sound : IsSound P) where
       let rs = due_scripts actions (elements (value s (thresholds n))) (value s (seen n)) (value s monitored) in
       elim (in_append_cases (flat_map (effects_of_script P) rs) (Put (seen n) (value s monitored) ∷ []) e i) [
         | inl j ↦ scripts_fit rs e j
-        | inr j ↦ one_fit (Put (seen n) (value s monitored)) (inr (o, there.0, remembers)) e j
+        | inr j ↦ one_fit (Put (seen n) (value s monitored)) (inr (inl (o, there.0, remembers))) e j
       ]
     where
       there : IsIn P.objects o × (o.name ≡ n)
@@ -135,7 +138,7 @@ module _ (P : Plan) (sound : IsSound P) where
       part_sound = subst (IsSoundPart P) h (sound.parts o there.0)
 
       of_kind : IsSeen P monitored (value s monitored)
-      of_kind = inr (k.settable monitored (subst (λ ks. IsIn ks monitored) (sym k.cells) part_sound.0) (OfKind (kind_of (value (start P) monitored))) part_sound.1)
+      of_kind = inr (k.settable monitored (subst (λ ks. IsIn ks monitored) (sym k.cells) (cell_held P monitored part_sound.0)) (OfKind (kind_of (value (start_values P) monitored))) part_sound.1)
 
       remembers : IsRemembered P o.name o.part (seen n) (value s monitored)
       remembers = subst (λ p. IsRemembered P o.name p (seen n) (value s monitored)) (sym h) (ap seen (sym there.1), of_kind)
@@ -148,12 +151,21 @@ module _ (P : Plan) (sound : IsSound P) where
       (place_passed (set_places P c d selected v) (not (meets_rule (rule_of P (cell_of d)) v), OtherReason) (inr (inr (inr (inr (inr (inr (inl refl))))))) refl ok)))
   effects_fit s k (Act c d argument) = fit_if (is_success (act_answer P c d argument)) (method_effects P (method_of d) argument) (λ ok. methods_fit (method_of d) argument)
   effects_fit s k (Input x v) = fit_if (is_fed P x && meets_some (rule_of P x) v) (Put x v ∷ []) (λ h. input_fit x v (rule_of P x) refl (and_parts (is_fed P x) (meets_some (rule_of P x) v) h).1)
-  effects_fit s k (CaptureAt n t) = elim (object_at P n) as (λ o. AllFit P (for_some o (λ z. captured_at s n t z.part))) [ None ↦ λ e i. absurd i | Some o ↦ captured_fit s n t o.part ]
+  effects_fit s k (CaptureAt n) = elim (object_at P n) as (λ o. AllFit P (for_some o (λ z. captured_at s n (present P s) z.part))) [ None ↦ λ e i. absurd i | Some o ↦ captured_fit s n (present P s) o.part ]
   effects_fit s k (Evaluate n) = elim (object_at P n) as (λ o. object_at P n ≡ o → AllFit P (for_some o (λ z. evaluated P s n z.part))) [
     | None ↦ λ is e i. absurd i
     | Some o ↦ λ is. evaluated_fit s k n o is o.part refl
   ] refl
-  effects_fit s k (ScheduleAt n t) = elim (object_at P n) as (λ o. AllFit P (for_some o (λ z. scheduled_at P s n t z.part))) [ None ↦ λ e i. absurd i | Some o ↦ scheduled_fit s n t o.part ]
+  effects_fit s k (ScheduleAt n) = elim (object_at P n) as (λ o. AllFit P (for_some o (λ z. scheduled_at P s n (present P s) z.part))) [ None ↦ λ e i. absurd i | Some o ↦ scheduled_fit s n (present P s) o.part ]
+  effects_fit s k Tick = one_fit (Put (clock P) (clock_value (next_second (present P s)))) (inr (inr (refl, (next_second (present P s), next_second-is_moment (present P s) stands, refl))))
+    where
+      -- the clock of a state stands at a moment
+      stands : IsMoment (present P s)
+      stands = subst IsMoment (sym (ap clock_moment k.clock.2 ∙ clock_moment-value k.clock.0)) k.clock.1
+  effects_fit s k (ClockAt t) = elim (clock_object P) as (λ o. clock_object P ≡ o → AllFit P (clock_set o t)) [
+    | None ↦ λ is. fit_if (is_moment t) (Put inner_clock (clock_value t) ∷ []) (λ h. one_fit (Put inner_clock (clock_value t)) (inr (inr (ap clock_cell (sym is), (t, moment-true t h, refl)))))
+    | Some o ↦ λ is e i. absurd i
+  ] refl
 
   -- Each step keeps the kinds, and so does each run.
   pub step-keeps : (s : State) (step : Step) → IsState P s → IsState P (next P s step)

@@ -17,15 +17,15 @@ use Rattle.cosem_data.specs.declared.cell.CellRef.{CellRef}
 use Rattle.cosem_data.specs.declared.kind.Kind.TheVariants.{DoubleLongUnsigned}
 use Rattle.meter_theory.specs.Lists.{IsIn}
 use Rattle.meter_theory.specs.declared.limits.TheConstants as limits
-use Rattle.meter_theory.specs.Value.{Rule, OfKind, Thresholds, ExecutionTimes, array_of, structure_of, elements, counter, valid_tag, valid_elements, is_within_limits, meets}
+use Rattle.meter_theory.specs.Value.{Rule, OfKind, Thresholds, ExecutionTimes, ClockTime, array_of, structure_of, elements, counter, valid_tag, valid_parts, is_within_limits, meets}
 use Rattle.meter_theory.specs.Times.{parts_of}
 use Rattle.meter_theory.specs.Selection.{EntryDescriptor, places_between, columns_of, entries_of}
 use Rattle.meter_theory.specs.State.{State, value}
 use Rattle.meter_theory.specs.declared.refs.UpDown.{UpDown}
 use Rattle.meter_theory.specs.declared.refs.Interface.{Interface}
-use Rattle.meter_theory.specs.Plan.{Plan, Client, Object, Part, Data1, Register, ProfileGeneric, ScriptTable, RegisterMonitor, SingleActionSchedule, Script, Action, Write, Invoke, association, association_name, interface_of, interface_at, object_at, class_of, cells, start, start_of, is_cell, rule_in, rule_of, data_value, register_value, buffer, capture_period, thresholds, seen, execution_time}
+use Rattle.meter_theory.specs.Plan.{Plan, Client, Object, Part, Data1, Register, ProfileGeneric, Clock, ScriptTable, RegisterMonitor, SingleActionSchedule, Script, Action, Write, Invoke, association, association_name, interface_of, interface_at, object_at, class_of, cells, start, start_values, start_of, is_cell, rule_in, rule_of, clock_time, data_value, register_value, buffer, capture_period, thresholds, seen, execution_time}
 use Rattle.meter_theory.specs.Rights.{cell_of, Selection, class_is, descriptor_in, get_answer, has_right, may_read}
-use Rattle.meter_theory.specs.Fixed.{name_value, capture_object, action_value, script_value, up_down_value, fixed_in, fixed_of, attribute_access, method_access, access_selectors, access_rights, listed_object, objects_of, object_list, partners, mechanism_of, of_client, association_attribute, fixed}
+use Rattle.meter_theory.specs.Fixed.{name_value, capture_object, action_value, script_value, up_down_value, no_date_time, fixed_in, fixed_of, attribute_access, method_access, access_selectors, access_rights, listed_object, objects_of, object_list, partners, mechanism_of, of_client, association_attribute, fixed}
 use Rattle.meter_theory.specs.Access.{is_success}
 use Rattle.meter_theory.specs.Replies.{Value, Code, attribute, selected_by, selected, reply_to}
 use Rattle.meter_theory.specs.Steps.{Step, Get}
@@ -34,6 +34,7 @@ use Rattle.meter_theory.specs.States.{IsCaptured, AreCaptured, AreRows, IsBuffer
 use Rattle.meter_theory.proofs.Lists.{from_map, from_filter, from_flat_map, none_found}
 use Rattle.meter_theory.proofs.Agreement.{object-found, one_named}
 use Rattle.meter_theory.proofs.Rights.{get_class}
+use Rattle.meter_theory.proofs.Held.{cell_held}
 use Rattle.meter_theory.proofs.Theorem.{all_at, is_cell_in}
 
 -- each of these can be written
@@ -70,7 +71,7 @@ small_writable v h =
 
 meeting_writable : (rule : Rule) (v : Tree) → meets rule v ≡ true → HasLengths v
 meeting_writable rule v h =
-    small_writable v (and_parts (is_within_limits v) (valid_elements rule (elements v)) (and_parts (valid_tag rule v) (is_within_limits v && valid_elements rule (elements v)) h).1).0
+    small_writable v (and_parts (is_within_limits v) (valid_parts rule v) (and_parts (valid_tag rule v) (is_within_limits v && valid_parts rule v) h).1).0
 
 -- Fixed attributes
 
@@ -116,6 +117,14 @@ part_writable (ProfileGeneric captured period entries) h index =
     (either_writable (index == 5) (enumerated 1) _ (λ e. tt)
     (either_writable (index == 6) _ _ (λ e. (lit< tt, (tt, (lit< tt, (tt, (tt, tt))))))
     (either_writable (index == 8) (counter entries) null_data (λ e. tt) tt)))
+part_writable (Clock first) h index =
+    either_writable (index == 3) _ _ (λ e. tt)
+    (either_writable (index == 4) _ _ (λ e. tt)
+    (either_writable (index == 5) no_date_time _ (λ e. lit< tt)
+    (either_writable (index == 6) no_date_time _ (λ e. lit< tt)
+    (either_writable (index == 7) _ _ (λ e. tt)
+    (either_writable (index == 8) _ _ (λ e. tt)
+    (either_writable (index == 9) _ null_data (λ e. tt) tt))))))
 part_writable (ScriptTable scripts) h index =
     let a = and_parts (nat_le (length scripts) limits.SCRIPTS) (list_all has_script_sizes scripts) h in
     either_writable (index == 2) (array_of (map script_value scripts)) null_data
@@ -136,25 +145,25 @@ selectors_writable : (P : Plan) (c : ℕ) (x : CellRef) → HasLengths (access_s
 selectors_writable P c x =
     either_writable ((x.class_id == 7) && ((x.index == 2) && may_read P c x)) (array_of (integer (pos 2) ∷ [])) null_data (λ e. (lit< tt, (tt, tt))) tt
 
-rights_writable : (P : Plan) (c : ℕ) (n : LogicalName) (i : Interface) → i.attributes ≤ 8 → i.methods ≤ 8 → HasLengths (access_rights P c n i)
+rights_writable : (P : Plan) (c : ℕ) (n : LogicalName) (i : Interface) → i.attributes ≤ 9 → i.methods ≤ 9 → HasLengths (access_rights P c n i)
 unfolding access_rights
 rights_writable P c n i few fewer = (
   lit< tt,
   (
-    map_writable (λ k. attribute_access P c (cell i.class_id n k)) (range_with_len 1 i.attributes) 8 (let e = length-range_with_len 1 i.attributes in omega (arith, e)) (lit< tt)
+    map_writable (λ k. attribute_access P c (cell i.class_id n k)) (range_with_len 1 i.attributes) 9 (let e = length-range_with_len 1 i.attributes in omega (arith, e)) (lit< tt)
         (λ k m. (lit< tt, (tt, (tt, (selectors_writable P c (cell i.class_id n k), tt))))),
     (
-      map_writable (λ k. method_access P c (cell i.class_id n k)) (range_with_len 1 i.methods) 8 (let e = length-range_with_len 1 i.methods in omega (arith, e)) (lit< tt)
+      map_writable (λ k. method_access P c (cell i.class_id n k)) (range_with_len 1 i.methods) 9 (let e = length-range_with_len 1 i.methods in omega (arith, e)) (lit< tt)
           (λ k m. (lit< tt, (tt, (tt, tt)))),
       tt,
     ),
   ),
 )
 
-listed_writable : (P : Plan) (c : ℕ) (n : LogicalName) (i : Interface) → is_name n ≡ true → i.attributes ≤ 8 → i.methods ≤ 8 → HasLengths (listed_object P c n i)
+listed_writable : (P : Plan) (c : ℕ) (n : LogicalName) (i : Interface) → is_name n ≡ true → i.attributes ≤ 9 → i.methods ≤ 9 → HasLengths (listed_object P c n i)
 listed_writable P c n i h few fewer = (lit< tt, (tt, (tt, (name_writable n h, (rights_writable P c n i few fewer, tt)))))
 
-interface_few : (part : Part) → ((interface_of part).attributes ≤ 8) × ((interface_of part).methods ≤ 8)
+interface_few : (part : Part) → ((interface_of part).attributes ≤ 9) × ((interface_of part).methods ≤ 9)
 interface_few (Data1 start) = (omega arith, omega arith)
 interface_few _ = (omega arith, omega arith)
 
@@ -248,7 +257,7 @@ found_by_name P sound o there = at (object_at P o.name) refl
 
 cell_writable : (P : Plan) → IsSound P → (s : State) → IsState P s → (x : CellRef) → IsIn (cells P) x → HasLengths (value s x)
 cell_writable P sound s k x i =
-    let entry = from_map (λ z. z.0) (start P) x i in
+    let entry = from_map (λ z. z.0) (start_values P) x i in
     let o = from_flat_map (λ z. start_of z.name z.part) P.objects entry.0 entry.1 in
     at o.0 o.1 o.0.part refl (found_by_name P sound o.0 o.1) entry.0.1
     (subst (λ z. IsIn (start_of o.0.name o.0.part) (z, entry.0.1)) (sym entry.2) o.2)
@@ -256,7 +265,7 @@ cell_writable P sound s k x i =
     -- a cell with a rule
     ruled : (y : CellRef) (rule : Rule) → x ≡ y → rule_of P y ≡ Some rule → HasLengths (value s x)
     ruled y rule e is =
-        meeting_writable rule (value s x) (k.settable x (subst (λ ks. IsIn ks x) (sym k.cells) i) rule (subst (λ z. rule_of P z ≡ Some rule) (sym e) is))
+        meeting_writable rule (value s x) (k.settable x (subst (λ ks. IsIn ks x) (sym k.cells) (cell_held P x i)) rule (subst (λ z. rule_of P z ≡ Some rule) (sym e) is))
 
     rule_at : (o : Object) (part : Part) → o.part ≡ part → object_at P o.name ≡ Some o → (index : ℕ) → rule_of P (cell (class_of part) o.name index) ≡ rule_in P part index
     rule_at o part h is index =
@@ -291,14 +300,16 @@ cell_writable P sound s k x i =
             let held : Holds P s o.name (ProfileGeneric captured period entries) = subst (Holds P s o.name) h (k.inner o there) in
             subst (λ z. HasLengths (value s z)) (sym (ap (λ z. z.0) e)) (subst HasLengths (sym held.1.1) tt)
         of_part (ProfileGeneric captured period entries) h (inr (inr (inr none))) = absurd none
+        of_part (Clock first) h (inl e) = ruled (clock_time o.name) ClockTime (ap (λ z. z.0) e) (rule_at o (Clock first) h is 2)
+        of_part (Clock first) h (inr none) = absurd none
         of_part (ScriptTable scripts) h none = absurd none
         of_part (RegisterMonitor monitored th actions) h (inl e) =
-            ruled (thresholds o.name) (Thresholds (length actions) (kind_of (value (start P) monitored))) (ap (λ z. z.0) e) (rule_at o (RegisterMonitor monitored th actions) h is 2)
+            ruled (thresholds o.name) (Thresholds (length actions) (kind_of (value (start_values P) monitored))) (ap (λ z. z.0) e) (rule_at o (RegisterMonitor monitored th actions) h is 2)
         of_part (RegisterMonitor monitored th actions) h (inr (inl e)) =
             let held : IsSeen P monitored (value s (seen o.name)) = subst (Holds P s o.name) h (k.inner o there) in
             subst (λ z. HasLengths (value s z)) (sym (ap (λ z. z.0) e)) (elim held [
               | inl null ↦ subst HasLengths (sym null) tt
-              | inr fits ↦ meeting_writable (OfKind (kind_of (value (start P) monitored))) (value s (seen o.name)) fits
+              | inr fits ↦ meeting_writable (OfKind (kind_of (value (start_values P) monitored))) (value s (seen o.name)) fits
             ])
         of_part (RegisterMonitor monitored th actions) h (inr (inr none)) = absurd none
         of_part (SingleActionSchedule script type times) h (inl e) = ruled (execution_time o.name) (ExecutionTimes type) (ap (λ z. z.0) e) (rule_at o (SingleActionSchedule script type times) h is 4)

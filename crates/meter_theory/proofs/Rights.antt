@@ -5,13 +5,14 @@ use Rattle.std.specs.List.{list_all}
 use Rattle.std.proofs.lemmas.Bool.{not-false, not-true, and_parts}
 use Rattle.meter_theory.specs.Lists.{IsIn, for_some}
 use Rattle.cosem_data.specs.Tree.{Tree}
-use Rattle.meter_theory.specs.Value.{counter, OfKind, Thresholds, ExecutionTimes}
+use Rattle.meter_theory.specs.Value.{counter, OfKind, Thresholds, ExecutionTimes, ClockTime}
 use Rattle.cosem_data.specs.Kinds.{kind_of}
 use Rattle.cosem_data.specs.declared.name.LogicalName.{LogicalName}
 use Rattle.cosem_data.specs.declared.cell.CellRef.{CellRef}
 use Rattle.meter_theory.specs.State.{State, value}
 use Rattle.cosem_data.specs.Cells.{cell}
-use Rattle.meter_theory.specs.Plan.{cells, start, start_of, class_of, rule_in, Plan, Object, Script, Part, Data1, Register, ProfileGeneric, ScriptTable, RegisterMonitor, SingleActionSchedule, object_at, interface_at, rule_of}
+use Rattle.meter_theory.specs.Times.{clock_value}
+use Rattle.meter_theory.specs.Plan.{cells, start, start_values, start_of, class_of, rule_in, Plan, Object, Script, Part, Data1, Register, ProfileGeneric, Clock, ScriptTable, RegisterMonitor, SingleActionSchedule, object_at, interface_at, rule_of}
 use Rattle.cosem_data.specs.declared.cell.MethodRef.{MethodRef}
 use Rattle.meter_theory.specs.declared.access.AccessCode.{AccessCode}
 use Rattle.meter_theory.specs.declared.access.AccessCode.TheVariants.{ReadWriteDenied, ObjectClassInconsistent, TypeUnmatched}
@@ -54,7 +55,7 @@ get_class P c d selection h =
 -- an entry of an object's start is one of the plan's
 pub cell_of_object : (P : Plan) (o : Object) (x : CellRef) (v : Tree) → IsIn P.objects o → IsIn (start_of o.name o.part) (x, v) → IsIn (cells P) x
 cell_of_object P o x v there i =
-    in_map (λ z. z.0) (start P) (x, v) (in_flat_map (λ z. start_of z.name z.part) P.objects o (x, v) there i)
+    in_map (λ z. z.0) (start_values P) (x, v) (in_flat_map (λ z. start_of z.name z.part) P.objects o (x, v) there i)
 
 pub cell_of_found : (P : Plan) (n : LogicalName) (o : Object) → object_at P n ≡ Some o → (x : CellRef) (v : Tree) → IsIn (start_of n o.part) (x, v) → IsIn (cells P) x
 cell_of_found P n o is x v i =
@@ -85,10 +86,15 @@ rule_entry P n (ProfileGeneric captured period entries) x v a b h = at (x.index 
     at : (t : Bool) → (x.index == 4) ≡ t → has_valid_tag (cond t (Some (OfKind DoubleLongUnsigned)) None) v ≡ true → (w : Tree) × IsIn (start_of n (ProfileGeneric captured period entries)) (x, w)
     at true p g = (counter period, inr (inl (ap (λ z. (z, counter period)) (cell_is 7 x n 4 a b p))))
     at false p g = cc
+rule_entry P n (Clock first) x v a b h = at (x.index == 2) refl h
+  where
+    at : (t : Bool) → (x.index == 2) ≡ t → has_valid_tag (cond t (Some ClockTime) None) v ≡ true → (w : Tree) × IsIn (start_of n (Clock first)) (x, w)
+    at true p g = (clock_value first, inl (ap (λ z. (z, clock_value first)) (cell_is 8 x n 2 a b p)))
+    at false p g = cc
 rule_entry P n (ScriptTable scripts) x v a b h = cc
 rule_entry P n (RegisterMonitor monitored th actions) x v a b h = at (x.index == 2) refl h
   where
-    at : (t : Bool) → (x.index == 2) ≡ t → has_valid_tag (cond t (Some (Thresholds (length actions) (kind_of (value (start P) monitored)))) None) v ≡ true → (w : Tree) × IsIn (start_of n (RegisterMonitor monitored th actions)) (x, w)
+    at : (t : Bool) → (x.index == 2) ≡ t → has_valid_tag (cond t (Some (Thresholds (length actions) (kind_of (value (start_values P) monitored)))) None) v ≡ true → (w : Tree) × IsIn (start_of n (RegisterMonitor monitored th actions)) (x, w)
     at true p g = (th, inl (ap (λ z. (z, th)) (cell_is 21 x n 2 a b p)))
     at false p g = cc
 rule_entry P n (SingleActionSchedule script type times) x v a b h = at (x.index == 4) refl h
@@ -134,6 +140,7 @@ method_among P m (ScriptTable scripts) None x i = absurd i
 method_among P m (Data1 start) id x i = i
 method_among P m (Register start default scaler_unit) id x i = i
 method_among P m (ProfileGeneric captured period entries) id x i = i
+method_among P m (Clock first) id x i = i
 method_among P m (RegisterMonitor monitored th actions) id x i = i
 method_among P m (SingleActionSchedule script type times) id x i = i
 

@@ -1,19 +1,24 @@
 -- The start values are a state of the declared kinds.
 use Rattle.cosem_data.proofs.Same.{same_cell-true, same_cell-refl}
-use Rattle.std.proofs.Common.{◌≡◌, ◌==◌, Bool, true, false, [], ◌∷◌, refl, sym, ap, subst, ◌∙◌, inl, inr, eq-eqb, arith}
+use Rattle.std.proofs.Common.{◌≡◌, ◌==◌, ◌⊎◌, Bool, true, false, [], ◌∷◌, refl, sym, ap, subst, ◌∙◌, inl, inr, Option, Some, None, eq-eqb, arith}
 use Rattle.std.proofs.lemmas.Bool.{cond-true, cond-false}
 use Rattle.meter_theory.specs.Lists.{IsIn}
 use Rattle.cosem_data.specs.Tree.{Tree, null_data, array, no_trees}
 use Rattle.cosem_data.specs.Cells.{same_cell}
 use Rattle.cosem_data.specs.declared.name.LogicalName.{LogicalName}
 use Rattle.cosem_data.specs.declared.cell.CellRef.{CellRef}
-use Rattle.meter_theory.specs.Value.{array_of, counter}
+use Rattle.meter_theory.specs.Times.{Moment, first_moment, clock_value, ShowsMoment}
+use Rattle.meter_theory.specs.Value.{Rule, meets, array_of, counter}
 use Rattle.meter_theory.specs.State.{State, value}
-use Rattle.meter_theory.specs.Plan.{Plan, Object, Part, Data1, Register, ProfileGeneric, ScriptTable, RegisterMonitor, SingleActionSchedule, start, start_of, buffer, entries_in_use, seen}
-use Rattle.meter_theory.specs.Sound.{IsSound, fits_some}
+use Rattle.meter_theory.specs.Plan.{Plan, Object, Part, Data1, Register, ProfileGeneric, Clock, ScriptTable, RegisterMonitor, SingleActionSchedule, start, start_values, start_of, cells, inner_start, inner_clock, clock_object, clock_time, clock_cell, rule_of, buffer, entries_in_use, seen}
+use Rattle.meter_theory.specs.Sound.{IsSound, IsSoundPart, fits_some}
 use Rattle.meter_theory.specs.States.{Holds, IsState}
 use Rattle.meter_theory.proofs.Lists.{in_flat_map, from_flat_map}
 use Rattle.meter_theory.proofs.Agreement.{not_both, one_named}
+use Rattle.meter_theory.proofs.Rights.{cell_of_object}
+use Rattle.meter_theory.proofs.Held.{held_cases, clock_found, value-first, inner_started}
+use Rattle.meter_theory.proofs.Clock.{first-is_moment}
+use Rattle.meter_theory.proofs.KeepKinds.{inner_clock_unruled}
 
 -- no two objects of the plan have one name
 abbrev pub AreNamed : Plan → Type 0
@@ -46,6 +51,8 @@ start_name n (ProfileGeneric captured period entries) x v (inl e) = ap (λ z. z.
 start_name n (ProfileGeneric captured period entries) x v (inr (inl e)) = ap (λ z. z.0.name) e
 start_name n (ProfileGeneric captured period entries) x v (inr (inr (inl e))) = ap (λ z. z.0.name) e
 start_name n (ProfileGeneric captured period entries) x v (inr (inr (inr none))) = absurd none
+start_name n (Clock start) x v (inl e) = ap (λ z. z.0.name) e
+start_name n (Clock start) x v (inr none) = absurd none
 start_name n (ScriptTable scripts) x v none = absurd none
 start_name n (RegisterMonitor monitored th actions) x v (inl e) = ap (λ z. z.0.name) e
 start_name n (RegisterMonitor monitored th actions) x v (inr (inl e)) = ap (λ z. z.0.name) e
@@ -57,7 +64,8 @@ start_name n (SingleActionSchedule script type times) x v (inr none) = absurd no
 pub started : (P : Plan) → AreNamed P → (o : Object) → IsIn P.objects o → (x : CellRef) (v : Tree) → IsIn (start_of o.name o.part) (x, v) →
     ((w : Tree) → IsIn (start_of o.name o.part) (x, w) → w ≡ v) → value (start P) x ≡ v
 started P names o there x v i alone =
-    value_alone (start P) x v (in_flat_map (λ z. start_of z.name z.part) P.objects o (x, v) there i) (λ w j.
+    value-first (start_values P) (inner_start (clock_object P)) x (cell_of_object P o x v there i)
+    ∙ value_alone (start_values P) x v (in_flat_map (λ z. start_of z.name z.part) P.objects o (x, v) there i) (λ w j.
     let p = from_flat_map (λ z. start_of z.name z.part) P.objects (x, w) j in
     let named : o.name ≡ p.0.name = sym (start_name o.name o.part x v i) ∙ start_name p.0.name p.0.part x w p.2 in
     let same : p.0 ≡ o = sym (names o p.0 there p.1 named) in
@@ -108,6 +116,29 @@ holds_start P sound o there _ h = tt
 pub start-is-state : (P : Plan) → IsSound P → IsState P (start P)
 start-is-state P sound = record {
   cells = refl;
-  settable = λ x i rule is. subst (λ r. fits_some r (value (start P) x) ≡ true) is (sound.starts x i);
+  settable = λ x i rule is. at x rule is (held_cases P x i);
   inner = λ o there. holds_start P sound o there o.part refl;
+  clock = of_clock (clock_object P) refl;
 }
+  where
+    at : (x : CellRef) (rule : Rule) → rule_of P x ≡ Some rule → IsIn (cells P) x ⊎ ((x ≡ inner_clock) × (clock_object P ≡ None)) → meets rule (value (start P) x) ≡ true
+    at x rule is (inl i) =
+        subst (λ v. meets rule v ≡ true) (sym (value-first (start_values P) (inner_start (clock_object P)) x i)) (subst (λ r. fits_some r (value (start_values P) x) ≡ true) is (sound.starts x i))
+    at x rule is (inr h) = let none : rule_of P x ≡ None = ap (rule_of P) h.0 ∙ inner_clock_unruled P in cc
+
+    of_clock : (o : Option Object) → clock_object P ≡ o → ShowsMoment (value (start P) (clock_cell o))
+    of_clock None is = (first_moment, first-is_moment, inner_started P is)
+    of_clock (Some o) is =
+        let f = clock_found P o is in
+        let t : Moment = f.1.0 in
+        let part : o.part ≡ Clock t = f.1.1 in (
+          t,
+          subst (IsSoundPart P) part (sound.parts o f.0),
+          started P (one_named P sound) o f.0 (clock_time o.name) (clock_value t)
+              (subst (λ q. IsIn (start_of o.name q) (clock_time o.name, clock_value t)) (sym part) (inl refl))
+              (λ w j. one o.name t w (subst (λ q. IsIn (start_of o.name q) (clock_time o.name, w)) part j)),
+        )
+      where
+        one : (n : LogicalName) (t : Moment) (w : Tree) → IsIn (start_of n (Clock t)) (clock_time n, w) → w ≡ clock_value t
+        one n t w (inl e) = ap (λ z. z.1) e
+        one n t w (inr none) = absurd none

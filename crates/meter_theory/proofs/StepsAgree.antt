@@ -1,19 +1,19 @@
 -- States that agree on a closed set of cells agree on it after each step, by the laws of the effects.
-use Rattle.std.proofs.Common.{◌≡◌, ◌⊎◌, Bool, true, false, cond, ◌&&◌, List, [], ◌∷◌, flat_map, refl, sym, ap, subst, ◌∙◌, inl, inr, Option, Some, None, subst₂, ℤ, int_lt, int_le}
+use Rattle.std.proofs.Common.{◌≡◌, ◌⊎◌, Bool, true, false, cond, ◌&&◌, List, [], ◌∷◌, flat_map, refl, sym, ap, ap₂, subst, ◌∙◌, inl, inr, Option, Some, None, subst₂, ℤ, int_lt, int_le}
 use Rattle.meter_theory.specs.Lists.{IsIn, for_some}
 use Rattle.cosem_data.specs.Tree.{Tree}
 use Rattle.meter_theory.specs.Value.{elements, count_of}
-use Rattle.meter_theory.specs.Times.{Moment, is_capture_due, is_schedule_due}
+use Rattle.meter_theory.specs.Times.{next_second, clock_moment, clock_value, is_capture_due, is_schedule_due}
 use Rattle.cosem_data.specs.Kinds.{number_of}
 use Rattle.cosem_data.specs.declared.name.LogicalName.{LogicalName}
 use Rattle.cosem_data.specs.declared.cell.CellRef.{CellRef}
 use Rattle.meter_theory.specs.State.{State, keys, value, put}
 use Rattle.meter_theory.specs.declared.refs.ScriptRef.{ScriptRef}
 use Rattle.meter_theory.specs.declared.refs.UpDown.{UpDown}
-use Rattle.meter_theory.specs.Plan.{Plan, Object, Part, ProfileGeneric, RegisterMonitor, SingleActionSchedule, buffer, capture_period, entries_in_use, thresholds, seen, execution_time, object_at}
-use Rattle.meter_theory.specs.Steps.{Effect, Put, Capture, effects, changed_by, changed, effects_of_script, due_scripts, due_at, Step, Get, Set, Act, Input, CaptureAt, Evaluate, ScheduleAt, captured_at, evaluated, scheduled_at, effects_of, next}
+use Rattle.meter_theory.specs.Plan.{Plan, Object, Part, ProfileGeneric, RegisterMonitor, SingleActionSchedule, buffer, capture_period, entries_in_use, thresholds, seen, execution_time, object_at, clock_object, clock_time, told_clock, clock_cell, clock}
+use Rattle.meter_theory.specs.Steps.{Effect, Put, Capture, effects, changed_by, changed, effects_of_script, due_scripts, due_at, Step, Get, Set, Act, Input, CaptureAt, Evaluate, ScheduleAt, Tick, ClockAt, present, captured_at, evaluated, scheduled_at, effects_of, next}
 use Rattle.meter_theory.specs.declared.flow.Cause.{Cause}
-use Rattle.meter_theory.specs.declared.flow.Cause.TheVariants.{Monitored, Monitor, Period, Schedule}
+use Rattle.meter_theory.specs.declared.flow.Cause.TheVariants.{Monitored, Monitor, Period, Schedule, Clock}
 use Rattle.meter_theory.specs.Edges.{Agree, IsClosed, edge, IsEdge, EdgeIn, script_changes, scripts_named, monitor_changes}
 use Rattle.meter_theory.specs.EffectLaws.{KeepsAgreementOn, EffectLaws}
 use Rattle.meter_theory.proofs.Lists.{in_append_left, in_append_right, in_append_cases, in_flat_map, from_flat_map}
@@ -63,14 +63,29 @@ due_quiet P S actions quiet ths before now x i =
     quiet x (in_flat_map (script_changes P) (scripts_named actions) r.0 x (due_in actions ths before now r.0 r.1) r.2)
 
 module _ (P : Plan) (laws : EffectLaws P) (S : CellRef → Bool) (closed : IsClosed P S) (s t : State) (k : keys s ≡ keys t) (agree : Agree S s t) where
-  captured-agree : (n : LogicalName) (moment : Moment) (o : Object) → object_at P n ≡ Some o → (part : Part) → o.part ≡ part →
-      Agree S (effects P s (captured_at s n moment part)) (effects P t (captured_at t n moment part))
-  captured-agree n moment o is (ProfileGeneric captured period entries) h =
+  -- S holds the clock, where it holds a cell to which an object's edges from the clock lead
+  clock_inside : (n : LogicalName) (o : Object) → object_at P n ≡ Some o → (y : CellRef) → ((x : CellRef) → IsIn (told_clock P) x → EdgeIn P n o.part Clock x y) →
+      S y ≡ true → S (clock P) ≡ true
+  clock_inside n o is y leads h = at (clock_object P) refl
+    where
+      at : (c : Option Object) → clock_object P ≡ c → S (clock_cell c) ≡ true
+      at None e = closed.holds_clock e
+      at (Some k) e =
+          let told : IsIn (told_clock P) (clock_time k.name) = subst (λ z. IsIn (for_some z (λ q. clock_time q.name ∷ [])) (clock_time k.name)) (sym e) (inl refl) in
+          closed.edges (edge Clock (clock_time k.name) y) (edge_at P n o is Clock (clock_time k.name) y (leads (clock_time k.name) told)) h
+
+  same_present : S (clock P) ≡ true → present P s ≡ present P t
+  same_present h = ap clock_moment (agree (clock P) h)
+
+  captured-agree : (n : LogicalName) (o : Object) → object_at P n ≡ Some o → (part : Part) → o.part ≡ part →
+      Agree S (effects P s (captured_at s n (present P s) part)) (effects P t (captured_at t n (present P t) part))
+  captured-agree n o is (ProfileGeneric captured period entries) h =
       agree_or_quiet P laws S closed _ _ s t k agree (
       elim (meets_or_not S (buffer n ∷ entries_in_use n ∷ [])) [
-        | inl m ↦ inl (ap (λ v. cond (is_capture_due (count_of v) moment) (Capture n ∷ []) [])
-            (agree (capture_period n) (closed (edge Period (capture_period n) m.0)
-            (edge_at P n o is Period (capture_period n) m.0 (subst (λ p. EdgeIn P n p Period (capture_period n) m.0) (sym h) (refl, m.1))) m.2)))
+        | inl m ↦ inl (ap₂ (λ v moment. cond (is_capture_due (count_of v) moment) (Capture n ∷ []) [])
+            (agree (capture_period n) (closed.edges (edge Period (capture_period n) m.0)
+            (edge_at P n o is Period (capture_period n) m.0 (subst (λ p. EdgeIn P n p Period (capture_period n) m.0) (sym h) (refl, m.1))) m.2))
+            (same_present (clock_inside n o is m.0 (λ x told. subst (λ p. EdgeIn P n p Clock x m.0) (sym h) (told, m.1)) m.2)))
         | inr quiet ↦ inr (quiet_branch S _ (Capture n ∷ []) (λ x i. quiet x (one_effect x i)), quiet_branch S _ (Capture n ∷ []) (λ x i. quiet x (one_effect x i)))
       ])
     where
@@ -78,19 +93,20 @@ module _ (P : Plan) (laws : EffectLaws P) (S : CellRef → Bool) (closed : IsClo
       one_effect x (inl e) = inl e
       one_effect x (inr (inl e)) = inr (inl e)
       one_effect x (inr (inr e)) = absurd e
-  captured-agree n moment o is _ h = agree
+  captured-agree n o is _ h = agree
 
-  scheduled-agree : (n : LogicalName) (moment : Moment) (o : Object) → object_at P n ≡ Some o → (part : Part) → o.part ≡ part →
-      Agree S (effects P s (scheduled_at P s n moment part)) (effects P t (scheduled_at P t n moment part))
-  scheduled-agree n moment o is (SingleActionSchedule script type times) h =
+  scheduled-agree : (n : LogicalName) (o : Object) → object_at P n ≡ Some o → (part : Part) → o.part ≡ part →
+      Agree S (effects P s (scheduled_at P s n (present P s) part)) (effects P t (scheduled_at P t n (present P t) part))
+  scheduled-agree n o is (SingleActionSchedule script type times) h =
       agree_or_quiet P laws S closed _ _ s t k agree (
       elim (meets_or_not S (script_changes P script)) [
-        | inl m ↦ inl (ap (λ v. cond (is_schedule_due (elements v) moment) (effects_of_script P script) [])
-            (agree (execution_time n) (closed (edge Schedule (execution_time n) m.0)
-            (edge_at P n o is Schedule (execution_time n) m.0 (subst (λ p. EdgeIn P n p Schedule (execution_time n) m.0) (sym h) (refl, m.1))) m.2)))
+        | inl m ↦ inl (ap₂ (λ v moment. cond (is_schedule_due (elements v) moment) (effects_of_script P script) [])
+            (agree (execution_time n) (closed.edges (edge Schedule (execution_time n) m.0)
+            (edge_at P n o is Schedule (execution_time n) m.0 (subst (λ p. EdgeIn P n p Schedule (execution_time n) m.0) (sym h) (refl, m.1))) m.2))
+            (same_present (clock_inside n o is m.0 (λ x told. subst (λ p. EdgeIn P n p Clock x m.0) (sym h) (told, m.1)) m.2)))
         | inr quiet ↦ inr (quiet_branch S _ (effects_of_script P script) quiet, quiet_branch S _ (effects_of_script P script) quiet)
       ])
-  scheduled-agree n moment o is _ h = agree
+  scheduled-agree n o is _ h = agree
 
   evaluated-agree : (n : LogicalName) (o : Object) → object_at P n ≡ Some o → (part : Part) → o.part ≡ part →
       Agree S (effects P s (evaluated P s n part)) (effects P t (evaluated P t n part))
@@ -113,7 +129,7 @@ module _ (P : Plan) (laws : EffectLaws P) (S : CellRef → Bool) (closed : IsClo
       then = value t monitored
 
       guard : (y : CellRef) → IsIn (monitored ∷ thresholds n ∷ seen n ∷ []) y → (x : CellRef) → IsIn (monitor_changes P actions) x → S x ≡ true → value s y ≡ value t y
-      guard y i x j e = agree y (closed (edge Monitor y x) (edge_at P n o is Monitor y x (subst (λ p. EdgeIn P n p Monitor y x) (sym h) (i, j))) e)
+      guard y i x j e = agree y (closed.edges (edge Monitor y x) (edge_at P n o is Monitor y x (subst (λ p. EdgeIn P n p Monitor y x) (sym h) (i, j))) e)
 
       of_guards : Tree → Tree → Tree → List Effect
       of_guards a b c = flat_map (effects_of_script P) (due_scripts actions (elements a) b c)
@@ -136,7 +152,7 @@ module _ (P : Plan) (laws : EffectLaws P) (S : CellRef → Bool) (closed : IsClo
           agree_or_quiet P laws S closed (Put (seen n) now ∷ []) (Put (seen n) then ∷ [])
           (effects P s es) (effects P t fs) (effects-keys P s es ∙ (k ∙ sym (effects-keys P t fs))) after_scripts
           (elim (S (seen n)) as (λ b. S (seen n) ≡ b → ((Put (seen n) now ∷ []) ≡ (Put (seen n) then ∷ [])) ⊎ (AreQuiet S (Put (seen n) now ∷ []) × AreQuiet S (Put (seen n) then ∷ []))) [
-            | true ↦ λ p. inl (ap (λ v. Put (seen n) v ∷ []) (agree monitored (closed (edge Monitored monitored (seen n)) (edge_at P n o is Monitored monitored (seen n) (subst (λ q. EdgeIn P n q Monitored monitored (seen n)) (sym h) (refl, refl))) p)))
+            | true ↦ λ p. inl (ap (λ v. Put (seen n) v ∷ []) (agree monitored (closed.edges (edge Monitored monitored (seen n)) (edge_at P n o is Monitored monitored (seen n) (subst (λ q. EdgeIn P n q Monitored monitored (seen n)) (sym h) (refl, refl))) p)))
             | false ↦ λ p. inr (one_quiet p now, one_quiet p then)
           ] refl)
         where
@@ -151,16 +167,27 @@ module _ (P : Plan) (laws : EffectLaws P) (S : CellRef → Bool) (closed : IsClo
   step-agrees (Set c d selected v) = effects-agree P laws S closed (effects_of P s (Set c d selected v)) s t k agree
   step-agrees (Act c d argument) = effects-agree P laws S closed (effects_of P s (Act c d argument)) s t k agree
   step-agrees (Input x v) = effects-agree P laws S closed (effects_of P s (Input x v)) s t k agree
-  step-agrees (CaptureAt n moment) =
-      elim (object_at P n) as (λ o. object_at P n ≡ o → Agree S (effects P s (for_some o (λ z. captured_at s n moment z.part))) (effects P t (for_some o (λ z. captured_at t n moment z.part)))) [
+  step-agrees (CaptureAt n) =
+      elim (object_at P n) as (λ o. object_at P n ≡ o → Agree S (effects P s (for_some o (λ z. captured_at s n (present P s) z.part))) (effects P t (for_some o (λ z. captured_at t n (present P t) z.part)))) [
         | None ↦ λ is. agree
-        | Some o ↦ λ is. captured-agree n moment o is o.part refl
+        | Some o ↦ λ is. captured-agree n o is o.part refl
       ] refl
-  step-agrees (ScheduleAt n moment) =
-      elim (object_at P n) as (λ o. object_at P n ≡ o → Agree S (effects P s (for_some o (λ z. scheduled_at P s n moment z.part))) (effects P t (for_some o (λ z. scheduled_at P t n moment z.part)))) [
+  step-agrees (ScheduleAt n) =
+      elim (object_at P n) as (λ o. object_at P n ≡ o → Agree S (effects P s (for_some o (λ z. scheduled_at P s n (present P s) z.part))) (effects P t (for_some o (λ z. scheduled_at P t n (present P t) z.part)))) [
         | None ↦ λ is. agree
-        | Some o ↦ λ is. scheduled-agree n moment o is o.part refl
+        | Some o ↦ λ is. scheduled-agree n o is o.part refl
       ] refl
+  step-agrees Tick =
+      agree_or_quiet P laws S closed (effects_of P s Tick) (effects_of P t Tick) s t k agree
+      (elim (S (clock P)) as (λ b. S (clock P) ≡ b → (effects_of P s Tick ≡ effects_of P t Tick) ⊎ (AreQuiet S (effects_of P s Tick) × AreQuiet S (effects_of P t Tick))) [
+        | true ↦ λ h. inl (ap (λ m. Put (clock P) (clock_value (next_second m)) ∷ []) (same_present h))
+        | false ↦ λ h. inr (one_quiet h (clock_value (next_second (present P s))), one_quiet h (clock_value (next_second (present P t))))
+      ] refl)
+    where
+      one_quiet : S (clock P) ≡ false → (v : Tree) → AreQuiet S (Put (clock P) v ∷ [])
+      one_quiet h v x (inl e) = subst (λ z. S z ≡ false) (sym e) h
+      one_quiet h v x (inr none) = absurd none
+  step-agrees (ClockAt moment) = effects-agree P laws S closed (effects_of P s (ClockAt moment)) s t k agree
   step-agrees (Evaluate n) =
       elim (object_at P n) as (λ o. object_at P n ≡ o → Agree S (effects P s (for_some o (λ z. evaluated P s n z.part))) (effects P t (for_some o (λ z. evaluated P t n z.part)))) [
         | None ↦ λ is. agree

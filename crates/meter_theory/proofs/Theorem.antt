@@ -1,30 +1,33 @@
 -- An admitted plan keeps influence and secrecy.
-use Rattle.cosem_data.proofs.Same.{same_cell-true}
+use Rattle.cosem_data.proofs.Same.{same_cell-true, same_cell-refl}
 use Rattle.cosem_data.proofs.Bits.{none_above}
 use Rattle.cosem_data.specs.declared.clients.ClientSet.{ClientSet}
 use Rattle.std.proofs.Common.{◌≡◌, ◌==◌, ◌≤◌, ℕ, Bool, true, false, not, cond, ◌&&◌, ◌||◌, List, [], ◌∷◌, refl, sym, ap, ap₂, subst, ◌∙◌, inl, inr, Option, Some, None, option_map, eqb-true, ne_eqb, nat_lt, ltb-true, arith}
 use Rattle.std.specs.List.{list_all, range_with_len}
-use Rattle.std.proofs.lemmas.Bool.{cond-false, not-true, and_parts, and_from, or_cases, false_from_ne_true, ltb-false}
+use Rattle.std.proofs.lemmas.Bool.{cond-false, not-true, and_parts, and_from, or_cases, or_left, or_right, false_from_ne_true, ltb-false}
 use Rattle.meter_theory.specs.Lists.{IsIn}
 use Rattle.cosem_data.specs.Tree.{Tree}
 use Rattle.cosem_data.specs.declared.name.LogicalName.{LogicalName}
 use Rattle.cosem_data.specs.declared.cell.CellRef.{CellRef}
 use Rattle.meter_theory.specs.State.{State, keys, value}
 use Rattle.cosem_data.specs.Cells.{same_name, same_cell}
-use Rattle.meter_theory.specs.Plan.{Plan, Part, Data1, Register, ProfileGeneric, ScriptTable, RegisterMonitor, SingleActionSchedule, start, start_of, association_name, association, interface_of, interface_at, cells, is_cell, object_at, rule_of}
+use Rattle.meter_theory.specs.Plan.{Plan, Part, Data1, Register, ProfileGeneric, Clock, ScriptTable, RegisterMonitor, SingleActionSchedule, start, start_of, association_name, association, interface_of, interface_at, cells, held, inner_clock, is_cell, object_at, rule_of}
 use Rattle.meter_theory.specs.Access.{is_success}
 use Rattle.meter_theory.specs.Rights.{cell_of, class_is, get_answer, set_answer, may_read, may_get, lists, readable_of_association}
 use Rattle.meter_theory.specs.Fixed.{fixed}
 use Rattle.meter_theory.specs.Replies.{Value, Code, is_step_of_client, attribute, selected, reply_to, run, replies, replies_of}
 use Rattle.meter_theory.specs.Steps.{Put, Step, Get, Set, Input, client_of, given_value, effects_of, next, is_fed, meets_some}
 use Rattle.meter_theory.specs.Edges.{Agree, IsClosed}
-use Rattle.meter_theory.specs.Labels.{has, within, Labels, Labelling, labelling_of, Admits}
+use Rattle.meter_theory.specs.Labels.{has, within, Labels, Labelling, labelling_of, may_influence, may_learn, MayChange, Admits}
 use Rattle.meter_theory.specs.Safety.{HasCells, is_step_of, Thinned, DifferHidden, Alike, outside, LookAlike, Influence, Secrecy}
-use Rattle.meter_theory.proofs.Lists.{any_in, from_flat_map, from_map, in_range}
+use Rattle.meter_theory.specs.Sound.{IsSound}
+use Rattle.meter_theory.proofs.Lists.{any_in, in_range}
 use Rattle.meter_theory.proofs.State.{value_missing, is_touched}
 use Rattle.meter_theory.proofs.Agreement.{AreQuiet, next-keys, not_both}
 use Rattle.meter_theory.proofs.StepsAgree.{StepLaws}
 use Rattle.meter_theory.proofs.Rights.{client-changes, get_allowed, get_class, when, in_given}
+use Rattle.meter_theory.proofs.Held.{of_each_cell, cell_held, cell_apart, held_apart}
+use Rattle.meter_theory.proofs.Check.{edge_target, method_cells}
 use Rattle.meter_theory.specs.declared.limits.TheConstants as limits
 
 -- Sets of clients
@@ -122,6 +125,8 @@ start_index n (ProfileGeneric captured period entries) x v (inl e) = ap (λ z. z
 start_index n (ProfileGeneric captured period entries) x v (inr (inl e)) = ap (λ z. z.0.index == 1) e
 start_index n (ProfileGeneric captured period entries) x v (inr (inr (inl e))) = ap (λ z. z.0.index == 1) e
 start_index n (ProfileGeneric captured period entries) x v (inr (inr (inr none))) = absurd none
+start_index n (Clock start) x v (inl e) = ap (λ z. z.0.index == 1) e
+start_index n (Clock start) x v (inr none) = absurd none
 start_index n (ScriptTable scripts) x v none = absurd none
 start_index n (RegisterMonitor monitored th actions) x v (inl e) = ap (λ z. z.0.index == 1) e
 start_index n (RegisterMonitor monitored th actions) x v (inr (inl e)) = ap (λ z. z.0.index == 1) e
@@ -138,20 +143,14 @@ start_class n (ProfileGeneric captured period entries) x v (inl e) = ap (λ z. 1
 start_class n (ProfileGeneric captured period entries) x v (inr (inl e)) = ap (λ z. 15 == z.0.class_id) e
 start_class n (ProfileGeneric captured period entries) x v (inr (inr (inl e))) = ap (λ z. 15 == z.0.class_id) e
 start_class n (ProfileGeneric captured period entries) x v (inr (inr (inr none))) = absurd none
+start_class n (Clock start) x v (inl e) = ap (λ z. 15 == z.0.class_id) e
+start_class n (Clock start) x v (inr none) = absurd none
 start_class n (ScriptTable scripts) x v none = absurd none
 start_class n (RegisterMonitor monitored th actions) x v (inl e) = ap (λ z. 15 == z.0.class_id) e
 start_class n (RegisterMonitor monitored th actions) x v (inr (inl e)) = ap (λ z. 15 == z.0.class_id) e
 start_class n (RegisterMonitor monitored th actions) x v (inr (inr none)) = absurd none
 start_class n (SingleActionSchedule script type times) x v (inl e) = ap (λ z. 15 == z.0.class_id) e
 start_class n (SingleActionSchedule script type times) x v (inr none) = absurd none
-
--- what is asked of an entry of an object's start holds of each cell
-of_each_cell : (P : Plan) (test : CellRef → Bool) → ((n : LogicalName) (part : Part) (x : CellRef) (v : Tree) → IsIn (start_of n part) (x, v) → test x ≡ false) →
-    (x : CellRef) → IsIn (cells P) x → test x ≡ false
-of_each_cell P test each x i =
-    let entry = from_map (λ z. z.0) (start P) x i in
-    let at = from_flat_map (λ o. start_of o.name o.part) P.objects entry.0 entry.1 in
-    each at.0.name at.0.part x entry.0.1 (subst (λ z. IsIn (start_of at.0.name at.0.part) (z, entry.0.1)) (sym entry.2) at.2)
 
 cell_read : (P : Plan) (c : ℕ) (x : CellRef) → IsIn (cells P) x → class_is x.class_id (interface_at P x.name) ≡ true → may_read P c x ≡ true → may_get P c x ≡ true
 cell_read P c x i class may = at (same_name x.name association_name) class may
@@ -228,45 +227,75 @@ hidden-replies P steps Q S c closed reads hidden (step ∷ l) (step' ∷ l') s t
     equal_heads false p rest = rest
 
 -- hidden steps touch nothing that c may learn
-pub are_hidden : (P : Plan) (Q : Labelling) (c : ℕ) (step step' : Step) → DifferHidden P Q c step step' → AreHidden P (λ x. has (Q x).learn c) c step step'
+pub are_hidden : (P : Plan) (Q : Labelling) (c : ℕ) (step step' : Step) → DifferHidden P Q c step step' → AreHidden P (may_learn Q c) c step step'
 are_hidden P Q c (Set d x selector v) (Set e y chosen w) h = record {
   other = ne_eqb c d (λ q. h.1 (sym q));
   other' = ne_eqb c e (λ q. h.1 (h.0 ∙ sym q));
-  quiet = λ s z i. when (is_success (set_answer P d x selector v)) (given_value (cell_of x) v) z (λ ok j. subst (λ u. has (Q u).learn c ≡ false) (sym (in_given (cell_of x) v z j)) h.5) i;
-  quiet' = λ s z i. when (is_success (set_answer P e y chosen w)) (given_value (cell_of y) w) z (λ ok j. subst (λ u. has (Q u).learn c ≡ false) (ap cell_of h.2 ∙ sym (in_given (cell_of y) w z j)) h.5) i;
+  quiet = λ s z i. when (is_success (set_answer P d x selector v)) (given_value (cell_of x) v) z (λ ok j. subst (λ u. may_learn Q c u ≡ false) (sym (in_given (cell_of x) v z j)) h.5) i;
+  quiet' = λ s z i. when (is_success (set_answer P e y chosen w)) (given_value (cell_of y) w) z (λ ok j. subst (λ u. may_learn Q c u ≡ false) (ap cell_of h.2 ∙ sym (in_given (cell_of y) w z j)) h.5) i;
 }
 are_hidden P Q c (Input x v) (Input y w) h = record {
   other = refl;
   other' = refl;
   quiet = λ s. input_quiet x v h.2;
-  quiet' = λ s. input_quiet y w (subst (λ u. has (Q u).learn c ≡ false) h.0 h.2);
+  quiet' = λ s. input_quiet y w (subst (λ u. may_learn Q c u ≡ false) h.0 h.2);
 }
   where
-    input_quiet : (u : CellRef) (value : Tree) → has (Q u).learn c ≡ false → AreQuiet (λ z. has (Q z).learn c) (cond (is_fed P u && meets_some (rule_of P u) value) (Put u value ∷ []) [])
-    input_quiet u value hidden z i = when (is_fed P u && meets_some (rule_of P u) value) (Put u value ∷ []) z (λ ok j. elim j [ inl e ↦ subst (λ q. has (Q q).learn c ≡ false) (sym e) hidden | inr none ↦ absurd none ]) i
+    input_quiet : (u : CellRef) (value : Tree) → may_learn Q c u ≡ false → AreQuiet (may_learn Q c) (cond (is_fed P u && meets_some (rule_of P u) value) (Put u value ∷ []) [])
+    input_quiet u value hidden z i = when (is_fed P u && meets_some (rule_of P u) value) (Put u value ∷ []) z (λ ok j. elim j [ inl e ↦ subst (λ q. may_learn Q c q ≡ false) (sym e) hidden | inr none ↦ absurd none ]) i
 are_hidden P Q c _ _ h = absurd h
 
-module _ (P : Plan) (policy : Labelling) (labels : Labels) (a : Admits P policy labels) where
+-- what a client's right changes is cells of a sound plan
+changed_cell : (P : Plan) → IsSound P → (c : ℕ) (x : CellRef) → MayChange P c x → IsIn (cells P) x
+changed_cell P sound c x (inl h) = h.0
+changed_cell P sound c x (inr h) = method_cells P sound h.0 x h.2
+
+module _ (P : Plan) (policy : Labelling) (labels : Labels) (sound : IsSound P) (a : Admits P policy labels) where
   abbrev Q : Labelling
   Q = labelling_of labels
 
-  -- the cells whose influence set lies within that of x
+  abbrev inner : CellRef → Bool
+  inner = same_cell inner_clock
+
+  -- the cells whose influence set lies within that of x, and the inner clock, which nobody influences
   abbrev below : CellRef → CellRef → Bool
-  below x y = within (Q y).influence (Q x).influence
+  below x y = inner y || (not (inner x) && within (Q y).influence (Q x).influence)
+
+  -- of a cell of the plan the labels say it
+  below_cell : (x y : CellRef) → IsIn (cells P) y → below x y ≡ true → (inner x ≡ false) × (within (Q y).influence (Q x).influence ≡ true)
+  below_cell x y i h =
+      elim (or_cases (inner y) (not (inner x) && within (Q y).influence (Q x).influence) h) [
+        | inl e ↦ not_both (inner y) e (cell_apart P y i)
+        | inr e ↦ let p = and_parts (not (inner x)) (within (Q y).influence (Q x).influence) e in (not-true (inner x) p.0, p.1)
+      ]
+
+  below_from : (x y : CellRef) → inner x ≡ false → within (Q y).influence (Q x).influence ≡ true → below x y ≡ true
+  below_from x y apart h = or_right (inner y) (not (inner x) && within (Q y).influence (Q x).influence) (and_from (not (inner x)) (within (Q y).influence (Q x).influence) (ap not apart) h)
 
   below_closed : (x : CellRef) → IsClosed P (below x)
-  below_closed x e is h = within_trans (Q e.source).influence (Q e.target).influence (Q x).influence (a.covers.influence_flows e is) h
+  below_closed x = record {
+    edges = λ e is h.
+        let p = below_cell x e.target (edge_target P sound e is) h in
+        below_from x e.source p.0 (within_trans (Q e.source).influence (Q e.target).influence (Q x).influence (a.covers.influence_flows e is) p.1);
+    holds_clock = λ _. or_left (inner inner_clock) (not (inner x) && within (Q inner_clock).influence (Q x).influence) (same_cell-refl inner_clock);
+  }
 
   outside_quiet : (x : CellRef) (s : State) (step : Step) → is_step_of (outside Q x) (client_of step) ≡ true → AreQuiet (below x) (effects_of P s step)
   outside_quiet x s step out y i =
       let who = client_there (outside Q x) (client_of step) out in
+      let changes = client-changes P s step who.0 who.1 y i in
       false_from_ne_true (below x y) (λ h.
-      let may : has (Q y).influence who.0 ≡ true = a.covers.changers who.0 y (client-changes P s step who.0 who.1 y i) in
-      let inside : has (Q x).influence who.0 ≡ true = within_has (Q y).influence (Q x).influence h who.0 may in
-      not_both (has (Q x).influence who.0) inside (not-true (has (Q x).influence who.0) who.2))
+      let p = below_cell x y (changed_cell P sound who.0 y changes) h in
+      let may : has (Q y).influence who.0 ≡ true = a.covers.changers who.0 y changes in
+      let inside : has (Q x).influence who.0 ≡ true = within_has (Q y).influence (Q x).influence p.1 who.0 may in
+      not_both (may_influence Q who.0 x) (and_from (not (inner x)) (has (Q x).influence who.0) (ap not p.0) inside) (not-true (may_influence Q who.0 x) who.2))
 
   below_itself : (x : CellRef) → below x x ≡ true
-  below_itself x = within_from (Q x).influence (Q x).influence (λ c i. i)
+  below_itself x = at (inner x) refl
+    where
+      at : (b : Bool) → inner x ≡ b → below x x ≡ true
+      at true h = or_left (inner x) (not (inner x) && within (Q x).influence (Q x).influence) h
+      at false h = below_from x x h (within_from (Q x).influence (Q x).influence (λ c i. i))
 
   pub influence-labels : StepLaws P → Influence P Q
   influence-labels steps = record {
@@ -276,10 +305,13 @@ module _ (P : Plan) (policy : Labelling) (labels : Labels) (a : Admits P policy 
   }
 
   -- a client outside the policy's set is outside the labels' set
-  outside_both : (x : CellRef) → IsIn (cells P) x → (c : ℕ) → outside policy x c ≡ true → outside Q x c ≡ true
+  outside_both : (x : CellRef) → IsIn (held P) x → (c : ℕ) → outside policy x c ≡ true → outside Q x c ≡ true
   outside_both x i c h =
-      ap not (false_from_ne_true (has (Q x).influence c) (λ k.
-      not_both (has (policy x).influence c) (within_has (Q x).influence (policy x).influence (a.influence_within x i) c k) (not-true (has (policy x).influence c) h)))
+      ap not (false_from_ne_true (may_influence Q c x) (λ k.
+      let p = and_parts (not (inner x)) (has (Q x).influence c) k in
+      let in_plan = held_apart P x i (not-true (inner x) p.0) in
+      let more = within_has (Q x).influence (policy x).influence (a.influence_within x in_plan) c p.1 in
+      not_both (may_influence policy c x) (and_from (not (inner x)) (has (policy x).influence c) p.0 more) (not-true (may_influence policy c x) h)))
 
   pub influence-policy : StepLaws P → Influence P policy
   influence-policy steps = record {
@@ -289,28 +321,46 @@ module _ (P : Plan) (policy : Labelling) (labels : Labels) (a : Admits P policy 
   }
 
   -- the cells that c may learn
-  pub learnable_closed : (c : ℕ) → IsClosed P (λ x. has (Q x).learn c)
-  learnable_closed c e is h = within_has (Q e.target).learn (Q e.source).learn (a.covers.learn_flows e is) c h
+  pub learnable_closed : (c : ℕ) → IsClosed P (may_learn Q c)
+  learnable_closed c = record {
+    edges = λ e is h.
+        elim (or_cases (inner e.target) (has (Q e.target).learn c) h) [
+          | inl k ↦ not_both (inner e.target) k (cell_apart P e.target (edge_target P sound e is))
+          | inr k ↦ or_right (inner e.source) (has (Q e.source).learn c) (within_has (Q e.target).learn (Q e.source).learn (a.covers.learn_flows e is) c k)
+        ];
+    holds_clock = λ _. or_left (inner inner_clock) (has (Q inner_clock).learn c) (same_cell-refl inner_clock);
+  }
+
+  pub reads_learnable : (c : ℕ) (x : CellRef) → IsIn (cells P) x → may_get P c x ≡ true → may_learn Q c x ≡ true
+  reads_learnable c x i may = or_right (inner x) (has (Q x).learn c) (a.covers.readers c x i may)
 
   pub secrecy-labels : StepLaws P → Secrecy P Q
   secrecy-labels steps = record {
     same_replies = λ c s s' l l' is is' look alike.
-        hidden-replies P steps Q (λ x. has (Q x).learn c) c (learnable_closed c) (λ x i may. a.covers.readers c x i may) (are_hidden P Q c) l l' s s' (is ∙ sym is') look alike;
+        hidden-replies P steps Q (may_learn Q c) c (learnable_closed c) (reads_learnable c) (are_hidden P Q c) l l' s s' (is ∙ sym is') look alike;
   }
 
-  pub learn_more : (c : ℕ) (x : CellRef) → IsIn (cells P) x → has (Q x).learn c ≡ true → has (policy x).learn c ≡ true
-  learn_more c x i h = within_has (Q x).learn (policy x).learn (a.learn_within x i) c h
+  pub learn_more : (c : ℕ) (x : CellRef) → IsIn (held P) x → may_learn Q c x ≡ true → may_learn policy c x ≡ true
+  learn_more c x i h = at (inner x) refl
+    where
+      at : (b : Bool) → inner x ≡ b → may_learn policy c x ≡ true
+      at true e = or_left (inner x) (has (policy x).learn c) e
+      at false e =
+          elim (or_cases (inner x) (has (Q x).learn c) h) [
+            | inl k ↦ not_both (inner x) k e
+            | inr k ↦ or_right (inner x) (has (policy x).learn c) (within_has (Q x).learn (policy x).learn (a.learn_within x (held_apart P x i e)) c k)
+          ]
 
   -- states that look alike by the policy look alike by the labels
   pub look_there : (c : ℕ) (s s' : State) → HasCells P s → HasCells P s' → LookAlike policy c s s' → LookAlike Q c s s'
   look_there c s s' is is' look x h =
-      elim (is_touched (cells P) x) [
+      elim (is_touched (held P) x) [
         | inl i ↦ look x (learn_more c x i h)
         | inr none ↦ value_missing s x (λ i. none (subst (λ ks. IsIn ks x) is i)) ∙ sym (value_missing s' x (λ i. none (subst (λ ks. IsIn ks x) is' i)))
       ]
 
-  less : (c : ℕ) (x : CellRef) → IsIn (cells P) x → has (policy x).learn c ≡ false → has (Q x).learn c ≡ false
-  less c x i h = false_from_ne_true (has (Q x).learn c) (λ k. not_both (has (policy x).learn c) (learn_more c x i k) h)
+  less : (c : ℕ) (x : CellRef) → IsIn (cells P) x → may_learn policy c x ≡ false → may_learn Q c x ≡ false
+  less c x i h = false_from_ne_true (may_learn Q c x) (λ k. not_both (may_learn policy c x) (learn_more c x (cell_held P x i) k) h)
 
   -- what the policy hides the labels hide
   pub hidden_there : (c : ℕ) (step step' : Step) → DifferHidden P policy c step step' → DifferHidden P Q c step step'

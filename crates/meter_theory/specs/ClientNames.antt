@@ -15,3 +15,7 @@ is_step_word text = bytes_eq text (codes "in") || (bytes_eq text (codes "at") ||
 -- a client's name: few characters, and at least one (own profile)
 abbrev pub is_client_name : List ℕ → Bool
 is_client_name text = nat_le 1 (length text) && (nat_le (length text) limits.NAME_CHARACTERS && (list_all is_name_byte text && not (is_step_word text)))
+
+-- a client may have the name in a plan of this version: since version 2 a line that begins with `tick` is no client's (own profile)
+abbrev pub may_be_named : ℕ → List ℕ → Bool
+may_be_named version text = is_client_name text && not ((version == 2) && bytes_eq text (codes "tick"))

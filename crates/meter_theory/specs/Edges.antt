@@ -1,5 +1,5 @@
 -- From which cell to which a value may flow: the edges of a plan.
-use Rattle.std.specs.Prelude.{◌≡◌, Bool, true, false, ◌&&◌, cond, filter, List, [], ◌∷◌, ◌++◌, map, flat_map}
+use Rattle.std.specs.Prelude.{◌≡◌, Bool, true, false, ◌&&◌, cond, filter, List, [], ◌∷◌, ◌++◌, map, flat_map, None}
 use Rattle.std.specs.List.{list_any}
 use Rattle.meter_theory.specs.Lists.{IsIn}
 use Rattle.cosem_data.specs.declared.name.LogicalName.{LogicalName}
@@ -9,9 +9,9 @@ use Rattle.meter_theory.specs.State.{State, value}
 use Rattle.meter_theory.specs.declared.refs.ScriptRef.{ScriptRef}
 use Rattle.meter_theory.specs.declared.refs.UpDown.{UpDown}
 use Rattle.meter_theory.specs.declared.flow.Cause.{Cause}
-use Rattle.meter_theory.specs.declared.flow.Cause.TheVariants.{Monitored, Monitor, Captured, Period, Schedule}
+use Rattle.meter_theory.specs.declared.flow.Cause.TheVariants.{Monitored, Monitor, Captured, Period, Schedule, Clock}
 use Rattle.meter_theory.specs.declared.flow.Edge.{Edge}
-use Rattle.meter_theory.specs.Plan.{Plan, Object, Part, ProfileGeneric, RegisterMonitor, SingleActionSchedule, buffer, capture_period, entries_in_use, thresholds, seen, execution_time, cells}
+use Rattle.meter_theory.specs.Plan.{Plan, Object, Part, ProfileGeneric, RegisterMonitor, SingleActionSchedule, buffer, capture_period, entries_in_use, thresholds, seen, execution_time, cells, clock_object, inner_clock, told_clock}
 use Rattle.meter_theory.specs.Steps.{changed, effects_of_script}
 
 -- the cells that a script changes
@@ -34,17 +34,22 @@ EdgeIn P n (RegisterMonitor monitored th actions) Monitor x y =
 EdgeIn P n (ProfileGeneric captured period entries) Captured x y = IsIn captured x × (y ≡ buffer n)
 EdgeIn P n (ProfileGeneric captured period entries) Period x y =
     (x ≡ capture_period n) × IsIn (buffer n ∷ entries_in_use n ∷ []) y
+EdgeIn P n (ProfileGeneric captured period entries) Clock x y =
+    IsIn (told_clock P) x × IsIn (buffer n ∷ entries_in_use n ∷ []) y
 EdgeIn P n (SingleActionSchedule script type times) Schedule x y =
     (x ≡ execution_time n) × IsIn (script_changes P script) y
+EdgeIn P n (SingleActionSchedule script type times) Clock x y =
+    IsIn (told_clock P) x × IsIn (script_changes P script) y
 EdgeIn P n _ _ x y = ⊥
 
 -- An edge of the plan.
 abbrev pub IsEdge : Plan → Edge → Type 0
 IsEdge P e = (o : Object) × IsIn P.objects o × EdgeIn P o.name o.part e.cause e.source e.target
 
--- A set of cells is closed: an edge into it comes from it.
-abbrev pub IsClosed : Plan → (CellRef → Bool) → Type 0
-IsClosed P S = (e : Edge) → IsEdge P e → S e.target ≡ true → S e.source ≡ true
+-- A set of cells is closed: an edge into it comes from it, and it holds the inner clock, from which no edge is told.
+pub record IsClosed (P : Plan) (S : CellRef → Bool) : Type 0 where
+  pub edges : (e : Edge) → IsEdge P e → S e.target ≡ true → S e.source ≡ true
+  pub holds_clock : clock_object P ≡ None → S inner_clock ≡ true
 
 -- The states agree on S.
 abbrev pub Agree : (CellRef → Bool) → State → State → Type 0
@@ -64,6 +69,10 @@ among xs x = list_any (same_cell x) xs
 abbrev pub in_plan_order : Plan → List CellRef → List CellRef
 in_plan_order P xs = filter (among xs) (cells P)
 
+-- the edges from the clock of the plan to each of these, in order; none where there is no clock
+abbrev pub edges_from_clock : Plan → List CellRef → List Edge
+edges_from_clock P targets = flat_map (λ x. map (λ y. edge Clock x y) targets) (told_clock P)
+
 -- the edges that an object of this name makes, in order
 abbrev pub edges_in : Plan → LogicalName → Part → List Edge
 edges_in P n (RegisterMonitor monitored th actions) =
@@ -72,9 +81,11 @@ edges_in P n (RegisterMonitor monitored th actions) =
     (in_plan_order P (monitor_changes P actions))
 edges_in P n (ProfileGeneric captured period entries) =
     map (λ x. edge Captured x (buffer n)) captured
-    ++ edge Period (capture_period n) (buffer n) ∷ edge Period (capture_period n) (entries_in_use n) ∷ []
+    ++ edge Period (capture_period n) (buffer n) ∷ edge Period (capture_period n) (entries_in_use n)
+    ∷ edges_from_clock P (buffer n ∷ entries_in_use n ∷ [])
 edges_in P n (SingleActionSchedule script type times) =
     map (λ y. edge Schedule (execution_time n) y) (in_plan_order P (script_changes P script))
+    ++ edges_from_clock P (in_plan_order P (script_changes P script))
 edges_in P n _ = []
 
 abbrev pub same_cause : Cause → Cause → Bool
@@ -83,6 +94,7 @@ same_cause Monitor Monitor = true
 same_cause Captured Captured = true
 same_cause Period Period = true
 same_cause Schedule Schedule = true
+same_cause Clock Clock = true
 same_cause _ _ = false
 
 abbrev pub same_edge : Edge → Edge → Bool

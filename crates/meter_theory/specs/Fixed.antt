@@ -1,7 +1,7 @@
 -- The attributes that no step changes: shapes by IEC 62056-6-2, choices of this project marked own profile.
-use Rattle.std.specs.Prelude.{ℕ, pos, ◌==◌, Bool, true, cond, ◌&&◌, List, [], ◌∷◌, filter, map, Option, Some, None, slice_get}
+use Rattle.std.specs.Prelude.{ℕ, pos, ◌==◌, Bool, true, false, cond, ◌&&◌, List, [], ◌∷◌, filter, map, Option, Some, None, slice_get}
 use Rattle.std.specs.List.{range_with_len}
-use Rattle.cosem_data.specs.Tree.{Tree, null_data, boolean, octet_string, integer, unsigned, long_unsigned, enumerated}
+use Rattle.cosem_data.specs.Tree.{Tree, null_data, boolean, octet_string, integer, long, unsigned, long_unsigned, enumerated}
 use Rattle.cosem_data.specs.Cells.{same_name, cell}
 use Rattle.cosem_data.specs.declared.name.LogicalName.{LogicalName}
 use Rattle.cosem_data.specs.declared.cell.CellRef.{CellRef}
@@ -10,7 +10,7 @@ use Rattle.meter_theory.specs.declared.refs.ScriptRef.{ScriptRef}
 use Rattle.meter_theory.specs.declared.refs.UpDown.{UpDown}
 use Rattle.meter_theory.specs.declared.refs.ScalerUnit.{ScalerUnit}
 use Rattle.meter_theory.specs.declared.refs.Interface.{Interface}
-use Rattle.meter_theory.specs.Plan.{Plan, Client, Action, Write, Invoke, Script, Part, Data1, Register, ProfileGeneric, ScriptTable, RegisterMonitor, SingleActionSchedule, Object, interface_of, association, association_name, object_at}
+use Rattle.meter_theory.specs.Plan.{Plan, Client, Action, Write, Invoke, Script, Part, Data1, Register, ProfileGeneric, Clock, ScriptTable, RegisterMonitor, SingleActionSchedule, Object, interface_of, association, association_name, object_at}
 use Rattle.meter_theory.specs.Rights.{may_set, may_act, may_read, has_right}
 
 abbrev pub name_value : LogicalName → Tree
@@ -57,6 +57,10 @@ script_ref_value r = structure_of (name_value r.table ∷ long_unsigned r.script
 abbrev pub up_down_value : UpDown → Tree
 up_down_value a = structure_of (script_ref_value a.up ∷ script_ref_value a.down ∷ [])
 
+-- a date and time of which nothing is specified
+abbrev pub no_date_time : Tree
+no_date_time = octet_string (255 ∷ 255 ∷ 255 ∷ 255 ∷ 255 ∷ 255 ∷ 255 ∷ 255 ∷ 255 ∷ 255 ∷ 255 ∷ 255 ∷ [])
+
 -- the fixed attributes of an object, by index; null-data at any other index
 unfoldable pub fixed_in : Part → ℕ → Tree
 fixed_in (Data1 start) index = null_data
@@ -66,6 +70,16 @@ fixed_in (ProfileGeneric captured period entries) index =
     (cond (index == 5) fifo
     (cond (index == 6) no_sort_object
     (cond (index == 8) (counter entries) null_data)))
+-- time_zone, status, daylight_savings_begin, _end, _deviation and _enabled, and clock_base: a clock without daylight saving whose
+-- time zone and base say nothing (own profile)
+fixed_in (Clock start) index =
+    cond (index == 3) (long (pos 0))
+    (cond (index == 4) (unsigned 0)
+    (cond (index == 5) no_date_time
+    (cond (index == 6) no_date_time
+    (cond (index == 7) (integer (pos 0))
+    (cond (index == 8) (boolean false)
+    (cond (index == 9) (enumerated 0) null_data))))))
 fixed_in (ScriptTable scripts) index = cond (index == 2) (array_of (map script_value scripts)) null_data
 fixed_in (RegisterMonitor monitored thresholds actions) index =
     cond (index == 3) (monitored_value monitored) (cond (index == 4) (array_of (map up_down_value actions)) null_data)

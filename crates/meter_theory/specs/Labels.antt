@@ -1,5 +1,5 @@
 -- Labels of cells, and what makes a plan and its labels admissible.
-use Rattle.std.specs.Prelude.{◌≡◌, ◌⊎◌, ℕ, ◌==◌, Bool, true, not, ◌||◌, cond, List, [], ◌∷◌, Option, Some, None, flat_map}
+use Rattle.std.specs.Prelude.{◌≡◌, ◌⊎◌, ℕ, ◌==◌, Bool, true, not, ◌&&◌, ◌||◌, cond, List, [], ◌∷◌, Option, Some, None, flat_map}
 use Rattle.std.specs.List.{list_all, range_with_len}
 use Rattle.std.proofs.Common.{lit<}
 use Rattle.cosem_data.specs.declared.clients.ClientSet.{ClientSet}
@@ -8,7 +8,7 @@ use Rattle.meter_theory.specs.Lists.{IsIn, for_some}
 use Rattle.meter_theory.specs.declared.limits.TheConstants as limits
 use Rattle.cosem_data.specs.declared.cell.CellRef.{CellRef}
 use Rattle.cosem_data.specs.Cells.{same_cell}
-use Rattle.meter_theory.specs.Plan.{Plan, Object, Script, Part, ScriptTable, RegisterMonitor, object_at, cells}
+use Rattle.meter_theory.specs.Plan.{Plan, Object, Script, Part, ScriptTable, RegisterMonitor, object_at, cells, inner_clock}
 use Rattle.cosem_data.specs.declared.cell.MethodRef.{MethodRef}
 use Rattle.meter_theory.specs.Rights.{may_get, may_set, may_act}
 use Rattle.meter_theory.specs.Steps.{changed, actions_effects, plain_method, Effect}
@@ -66,6 +66,14 @@ labelling_of_policy P policy x = or_else policy.default (label_at policy.table (
 -- a cell that the labels lack is influenced and learned by nobody
 abbrev pub labelling_of : Labels → Labelling
 labelling_of labels x = or_else (record { influence = nobody; learn = nobody }) (label_at labels x)
+
+-- Who may influence and who may learn a cell, by a labelling. Of the inner clock no labelling says it: nobody may influence
+-- it, and everybody may learn it (own profile).
+abbrev pub may_influence : Labelling → ℕ → CellRef → Bool
+may_influence Q c x = not (same_cell inner_clock x) && has (Q x).influence c
+
+abbrev pub may_learn : Labelling → ℕ → CellRef → Bool
+may_learn Q c x = same_cell inner_clock x || has (Q x).learn c
 
 -- the effects of each script of a table
 abbrev pub all_scripts : Plan → List Script → List Effect

@@ -19,3 +19,4 @@ pub mod Unequal
 pub mod EffectLaws
 pub mod States
 pub mod Sound
+pub mod Classes

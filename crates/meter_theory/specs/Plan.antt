@@ -1,5 +1,5 @@
 -- A plan: the clients, the objects with what is fixed of each, and the rights of the clients.
-use Rattle.std.specs.Prelude.{ℕ, ◌==◌, Bool, cond, List, [], ◌∷◌, Option, Some, None, find, flat_map, length, option_map, option_and_then}
+use Rattle.std.specs.Prelude.{ℕ, ◌==◌, Bool, cond, List, [], ◌∷◌, ◌++◌, Option, Some, None, find, flat_map, length, option_map, option_and_then}
 use Rattle.std.specs.List.{list_any, position_from}
 use Rattle.std.specs.Str.{bytes_eq}
 use Rattle.cosem_data.specs.Tree.{Tree, null_data, array, no_trees}
@@ -13,7 +13,9 @@ use Rattle.meter_theory.specs.declared.refs.Interface.{Interface}
 use Rattle.meter_theory.specs.declared.refs.ScalerUnit.{ScalerUnit}
 use Rattle.meter_theory.specs.declared.refs.ScriptRef.{ScriptRef}
 use Rattle.meter_theory.specs.declared.refs.UpDown.{UpDown}
-use Rattle.meter_theory.specs.Value.{counter, Rule, OfKind, Thresholds, ExecutionTimes}
+use Rattle.meter_theory.specs.Lists.{for_some}
+use Rattle.meter_theory.specs.Times.{Moment, first_moment, clock_value}
+use Rattle.meter_theory.specs.Value.{counter, Rule, OfKind, Thresholds, ExecutionTimes, ClockTime}
 use Rattle.meter_theory.specs.State.{State, value, keys}
 
 -- a client: its name, its service access point and its password
@@ -36,6 +38,7 @@ pub data Part : Type 0 where
   Data1 : (start : Tree) → Part
   Register : (start default : Tree) → ScalerUnit → Part
   ProfileGeneric : (captured : List CellRef) → (period entries : ℕ) → Part
+  Clock : (start : Moment) → Part
   ScriptTable : List Script → Part
   RegisterMonitor : (monitored : CellRef) → (thresholds : Tree) → List UpDown → Part
   SingleActionSchedule : ScriptRef → (type : ℕ) → (times : Tree) → Part
@@ -55,6 +58,8 @@ pub record Right : Type 0 where
   pub acts : List ℕ
 
 pub record Plan : Type 0 where
+  -- 1 or 2: that of the configuration, since which a line may be a tick of the clock (own profile)
+  pub version : ℕ
   -- clients are named by their places, from 0
   pub clients : List Client
   pub objects : List Object
@@ -70,6 +75,7 @@ abbrev pub class_of : Part → ℕ
 class_of (Data1 start) = 1
 class_of (Register start default scaler_unit) = 3
 class_of (ProfileGeneric captured period entries) = 7
+class_of (Clock start) = 8
 class_of (ScriptTable scripts) = 9
 class_of (RegisterMonitor monitored thresholds actions) = 21
 class_of (SingleActionSchedule script type times) = 22
@@ -78,6 +84,7 @@ abbrev pub interface_of : Part → Interface
 interface_of (Data1 start) = record { class_id = 1; version = 0; attributes = 2; methods = 0 }
 interface_of (Register start default scaler_unit) = record { class_id = 3; version = 0; attributes = 3; methods = 1 }
 interface_of (ProfileGeneric captured period entries) = record { class_id = 7; version = 1; attributes = 8; methods = 2 }
+interface_of (Clock start) = record { class_id = 8; version = 0; attributes = 9; methods = 6 }
 interface_of (ScriptTable scripts) = record { class_id = 9; version = 0; attributes = 2; methods = 1 }
 interface_of (RegisterMonitor monitored thresholds actions) = record { class_id = 21; version = 0; attributes = 4; methods = 0 }
 interface_of (SingleActionSchedule script type times) = record { class_id = 22; version = 0; attributes = 4; methods = 0 }
@@ -115,6 +122,9 @@ capture_period n = cell 7 n 4
 abbrev pub entries_in_use : LogicalName → CellRef
 entries_in_use n = cell 7 n 7
 
+abbrev pub clock_time : LogicalName → CellRef
+clock_time n = cell 8 n 2
+
 abbrev pub thresholds : LogicalName → CellRef
 thresholds n = cell 21 n 2
 
@@ -131,17 +141,53 @@ start_of n (Data1 start) = (data_value n, start) ∷ []
 start_of n (Register start default scaler_unit) = (register_value n, start) ∷ []
 start_of n (ProfileGeneric captured period entries) =
     (buffer n, array no_trees) ∷ (capture_period n, counter period) ∷ (entries_in_use n, counter 0) ∷ []
+start_of n (Clock first) = (clock_time n, clock_value first) ∷ []
 start_of n (ScriptTable scripts) = []
 start_of n (RegisterMonitor monitored th actions) = (thresholds n, th) ∷ (seen n, null_data) ∷ []
 start_of n (SingleActionSchedule script type times) = (execution_time n, times) ∷ []
 
--- The configured values, seen null-data, the buffers empty.
-abbrev pub start : Plan → State
-start P = flat_map (λ o. start_of o.name o.part) P.objects
+-- the configured values, seen null-data, the buffers empty
+abbrev pub start_values : Plan → State
+start_values P = flat_map (λ o. start_of o.name o.part) P.objects
 
 -- the cells of the plan, in plan order
 abbrev pub cells : Plan → List CellRef
-cells P = keys (start P)
+cells P = keys (start_values P)
+
+-- The clock
+
+-- the clock of the plan, which has one at most
+abbrev pub clock_object : Plan → Option Object
+clock_object P = find (λ o. class_of o.part == 8) P.objects
+
+-- The inner clock of a meter whose plan has none: a cell that no service, label or text names, since its name has no bytes
+-- (own profile).
+abbrev pub inner_clock : CellRef
+inner_clock = cell 8 (record { 0 = [] }) 0
+
+-- the time of the clock, if the plan has one
+abbrev pub told_clock : Plan → List CellRef
+told_clock P = for_some (clock_object P) (λ o. clock_time o.name ∷ [])
+
+abbrev pub clock_cell : Option Object → CellRef
+clock_cell None = inner_clock
+clock_cell (Some o) = clock_time o.name
+
+-- the cell that says at which moment the meter's clock stands
+abbrev pub clock : Plan → CellRef
+clock P = clock_cell (clock_object P)
+
+abbrev pub inner_start : Option Object → State
+inner_start None = (inner_clock, clock_value first_moment) ∷ []
+inner_start (Some o) = []
+
+-- The start values, and behind them the inner clock where the plan has no clock.
+abbrev pub start : Plan → State
+start P = start_values P ++ inner_start (clock_object P)
+
+-- the cells of a meter's state: those of the plan, and the inner clock where the plan has no clock
+abbrev pub held : Plan → List CellRef
+held P = keys (start P)
 
 abbrev pub is_cell : Plan → CellRef → Bool
 is_cell P x = list_any (same_cell x) (cells P)
@@ -151,9 +197,10 @@ abbrev pub rule_in : Plan → Part → ℕ → Option Rule
 rule_in P (Data1 start) index = cond (index == 2) (Some (OfKind (kind_of start))) None
 rule_in P (Register start default scaler_unit) index = cond (index == 2) (Some (OfKind (kind_of start))) None
 rule_in P (ProfileGeneric captured period entries) index = cond (index == 4) (Some (OfKind DoubleLongUnsigned)) None
+rule_in P (Clock first) index = cond (index == 2) (Some ClockTime) None
 rule_in P (ScriptTable scripts) index = None
 rule_in P (RegisterMonitor monitored th actions) index =
-    cond (index == 2) (Some (Thresholds (length actions) (kind_of (value (start P) monitored)))) None
+    cond (index == 2) (Some (Thresholds (length actions) (kind_of (value (start_values P) monitored)))) None
 rule_in P (SingleActionSchedule script type times) index = cond (index == 4) (Some (ExecutionTimes type)) None
 
 abbrev pub rule_of : Plan → CellRef → Option Rule

@@ -7,11 +7,12 @@ use Rattle.cosem_data.specs.TreeCode.{tree_code}
 use Rattle.cosem_data.specs.declared.name.LogicalName.{LogicalName}
 use Rattle.cosem_data.specs.declared.cell.CellRef.{CellRef}
 use Rattle.cosem_data.specs.declared.cell.MethodRef.{MethodRef}
+use Rattle.meter_theory.specs.Times.{Moment}
 use Rattle.meter_theory.specs.State.{State}
 use Rattle.meter_theory.specs.declared.refs.ScriptRef.{ScriptRef}
 use Rattle.meter_theory.specs.declared.refs.ScalerUnit.{ScalerUnit}
 use Rattle.meter_theory.specs.declared.refs.UpDown.{UpDown}
-use Rattle.meter_theory.specs.Plan.{Client, Action, Write, Invoke, Script, Part, Data1, Register, ProfileGeneric, ScriptTable, RegisterMonitor, SingleActionSchedule, Object, Right, Plan}
+use Rattle.meter_theory.specs.Plan.{Client, Action, Write, Invoke, Script, Part, Data1, Register, ProfileGeneric, Clock, ScriptTable, RegisterMonitor, SingleActionSchedule, Object, Right, Plan}
 
 abbrev pub name_code : Coded LogicalName
 name_code = code_by (List ℕ) (coded_list coded_ℕ) (λ n. n.0) (λ bytes. record { 0 = bytes }) (λ _. refl)
@@ -69,30 +70,39 @@ script_code = code_by (ℕ × List Action) (coded× coded_ℕ (coded_list action
 abbrev pub up_down_code : Coded UpDown
 up_down_code = code_by (ScriptRef × ScriptRef) (coded× script_ref_code script_ref_code) (λ a. (a.up, a.down)) (λ p. record { up = p.0; down = p.1 }) (λ _. refl)
 
+abbrev pub moment_code : Coded Moment
+moment_code =
+    code_by (ℕ × (ℕ × (ℕ × (ℕ × (ℕ × ℕ))))) (coded× coded_ℕ (coded× coded_ℕ (coded× coded_ℕ (coded× coded_ℕ (coded× coded_ℕ coded_ℕ)))))
+    (λ t. (t.year, (t.month, (t.day, (t.hour, (t.minute, t.second))))))
+    (λ p. record { year = p.0; month = p.1.0; day = p.1.1.0; hour = p.1.1.1.0; minute = p.1.1.1.1.0; second = p.1.1.1.1.1 }) (λ _. refl)
+
 abbrev pub PartParts : Type 0
 PartParts =
-    Tree ⊎ ((Tree × (Tree × ScalerUnit)) ⊎ ((List CellRef × (ℕ × ℕ)) ⊎ (List Script ⊎ ((CellRef × (Tree × List UpDown)) ⊎ (ScriptRef × (ℕ × Tree))))))
+    Tree ⊎ ((Tree × (Tree × ScalerUnit)) ⊎ ((List CellRef × (ℕ × ℕ)) ⊎ (Moment ⊎ (List Script ⊎ ((CellRef × (Tree × List UpDown)) ⊎ (ScriptRef × (ℕ × Tree)))))))
 
 abbrev pub from_part : Part → PartParts
 from_part (Data1 start) = inl start
 from_part (Register start default scaler_unit) = inr (inl (start, (default, scaler_unit)))
 from_part (ProfileGeneric captured period entries) = inr (inr (inl (captured, (period, entries))))
-from_part (ScriptTable scripts) = inr (inr (inr (inl scripts)))
-from_part (RegisterMonitor monitored thresholds actions) = inr (inr (inr (inr (inl (monitored, (thresholds, actions))))))
-from_part (SingleActionSchedule script type times) = inr (inr (inr (inr (inr (script, (type, times))))))
+from_part (Clock start) = inr (inr (inr (inl start)))
+from_part (ScriptTable scripts) = inr (inr (inr (inr (inl scripts))))
+from_part (RegisterMonitor monitored thresholds actions) = inr (inr (inr (inr (inr (inl (monitored, (thresholds, actions)))))))
+from_part (SingleActionSchedule script type times) = inr (inr (inr (inr (inr (inr (script, (type, times)))))))
 
 abbrev pub to_part : PartParts → Part
 to_part (inl start) = Data1 start
 to_part (inr (inl p)) = Register p.0 p.1.0 p.1.1
 to_part (inr (inr (inl p))) = ProfileGeneric p.0 p.1.0 p.1.1
-to_part (inr (inr (inr (inl scripts)))) = ScriptTable scripts
-to_part (inr (inr (inr (inr (inl p))))) = RegisterMonitor p.0 p.1.0 p.1.1
-to_part (inr (inr (inr (inr (inr p))))) = SingleActionSchedule p.0 p.1.0 p.1.1
+to_part (inr (inr (inr (inl start)))) = Clock start
+to_part (inr (inr (inr (inr (inl scripts))))) = ScriptTable scripts
+to_part (inr (inr (inr (inr (inr (inl p)))))) = RegisterMonitor p.0 p.1.0 p.1.1
+to_part (inr (inr (inr (inr (inr (inr p)))))) = SingleActionSchedule p.0 p.1.0 p.1.1
 
 pub to_part-from : (part : Part) → to_part (from_part part) ≡ part
 to_part-from (Data1 start) = refl
 to_part-from (Register start default scaler_unit) = refl
 to_part-from (ProfileGeneric captured period entries) = refl
+to_part-from (Clock start) = refl
 to_part-from (ScriptTable scripts) = refl
 to_part-from (RegisterMonitor monitored thresholds actions) = refl
 to_part-from (SingleActionSchedule script type times) = refl
@@ -100,8 +110,8 @@ to_part-from (SingleActionSchedule script type times) = refl
 abbrev pub part_code : Coded Part
 part_code =
     code_by PartParts (coded⊎ tree_code (coded⊎ (coded× tree_code (coded× tree_code scaler_unit_code))
-    (coded⊎ (coded× (coded_list cell_code) (coded× coded_ℕ coded_ℕ)) (coded⊎ (coded_list script_code)
-    (coded⊎ (coded× cell_code (coded× tree_code (coded_list up_down_code))) (coded× script_ref_code (coded× coded_ℕ tree_code))))))) from_part to_part to_part-from
+    (coded⊎ (coded× (coded_list cell_code) (coded× coded_ℕ coded_ℕ)) (coded⊎ moment_code (coded⊎ (coded_list script_code)
+    (coded⊎ (coded× cell_code (coded× tree_code (coded_list up_down_code))) (coded× script_ref_code (coded× coded_ℕ tree_code)))))))) from_part to_part to_part-from
 
 abbrev pub object_code : Coded Object
 object_code =
@@ -114,5 +124,5 @@ right_code =
 
 abbrev pub plan_code : Coded Plan
 plan_code =
-    code_by (List Client × (List Object × List Right)) (coded× (coded_list client_code) (coded× (coded_list object_code) (coded_list right_code)))
-    (λ p. (p.clients, (p.objects, p.rights))) (λ p. record { clients = p.0; objects = p.1.0; rights = p.1.1 }) (λ _. refl)
+    code_by (ℕ × (List Client × (List Object × List Right))) (coded× coded_ℕ (coded× (coded_list client_code) (coded× (coded_list object_code) (coded_list right_code))))
+    (λ p. (p.version, (p.clients, (p.objects, p.rights)))) (λ p. record { version = p.0; clients = p.1.0; objects = p.1.1.0; rights = p.1.1.1 }) (λ _. refl)

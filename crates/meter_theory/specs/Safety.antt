@@ -3,15 +3,15 @@ use Rattle.std.specs.Prelude.{◌≡◌, ◌≢◌, ◌⊎◌, ℕ, Bool, true, 
 use Rattle.meter_theory.specs.Lists.{IsIn}
 use Rattle.cosem_data.specs.declared.cell.CellRef.{CellRef}
 use Rattle.meter_theory.specs.State.{State, keys, value}
-use Rattle.meter_theory.specs.Plan.{Plan, cells}
+use Rattle.meter_theory.specs.Plan.{Plan, cells, held}
 use Rattle.meter_theory.specs.Rights.{cell_of}
 use Rattle.meter_theory.specs.Steps.{Step, Set, Input, client_of, next}
 use Rattle.meter_theory.specs.Replies.{run, replies, replies_of}
-use Rattle.meter_theory.specs.Labels.{Labelling, has}
+use Rattle.meter_theory.specs.Labels.{Labelling, may_influence, may_learn}
 
--- The state has the plan's cells. What the values are isn't asked: the promises hold from any values.
+-- The state has the cells of a state of the plan. What the values are isn't asked: the promises hold from any values.
 abbrev pub HasCells : Plan → State → Type 0
-HasCells P s = keys s ≡ cells P
+HasCells P s = keys s ≡ held P
 
 -- the step is a client's that passes the test
 abbrev pub is_step_of : (ℕ → Bool) → Option ℕ → Bool
@@ -29,8 +29,8 @@ Thinned K (step ∷ l) l' =
 -- Only their values differ.
 abbrev pub DifferHidden : Plan → Labelling → ℕ → Step → Step → Type 0
 DifferHidden P Q c (Set d x selected v) (Set e y chosen w) =
-    (d ≡ e) × (d ≢ c) × (x ≡ y) × (selected ≡ chosen) × IsIn (cells P) (cell_of x) × (has (Q (cell_of x)).learn c ≡ false)
-DifferHidden P Q c (Input x v) (Input y w) = (x ≡ y) × IsIn (cells P) x × (has (Q x).learn c ≡ false)
+    (d ≡ e) × (d ≢ c) × (x ≡ y) × (selected ≡ chosen) × IsIn (cells P) (cell_of x) × (may_learn Q c (cell_of x) ≡ false)
+DifferHidden P Q c (Input x v) (Input y w) = (x ≡ y) × IsIn (cells P) x × (may_learn Q c x ≡ false)
 DifferHidden P Q c _ _ = ⊥
 
 -- The lists are alike to c: place by place the steps are equal, or differ only in what is hidden from c.
@@ -42,18 +42,18 @@ Alike P Q c (step ∷ l) (step' ∷ l') = ((step ≡ step') ⊎ DifferHidden P Q
 
 -- the clients that may not influence x
 abbrev pub outside : Labelling → CellRef → ℕ → Bool
-outside Q x c = not (has (Q x).influence c)
+outside Q x c = not (may_influence Q c x)
 
 -- The states agree on all that c may learn.
 abbrev pub LookAlike : Labelling → ℕ → State → State → Type 0
-LookAlike Q c s s' = (x : CellRef) → has (Q x).learn c ≡ true → value s x ≡ value s' x
+LookAlike Q c s s' = (x : CellRef) → may_learn Q c x ≡ true → value s x ≡ value s' x
 
 -- Taking out steps of clients that may not influence a cell leaves its value, and only the meter and the
 -- clients that may influence it change it.
 pub record Influence (P : Plan) (Q : Labelling) : Type 0 where
-  pub thinned : (s : State) (x : CellRef) (l l' : List Step) → HasCells P s → IsIn (cells P) x →
+  pub thinned : (s : State) (x : CellRef) (l l' : List Step) → HasCells P s → IsIn (held P) x →
       Thinned (outside Q x) l l' → value (run P s l) x ≡ value (run P s l') x
-  pub changed : (s : State) (x : CellRef) (step : Step) → HasCells P s → IsIn (cells P) x →
+  pub changed : (s : State) (x : CellRef) (step : Step) → HasCells P s → IsIn (held P) x →
       value (next P s step) x ≢ value s x → is_step_of (outside Q x) (client_of step) ≡ false
 
 -- What a client may not learn has no influence on its replies.

@@ -10,10 +10,11 @@ use Rattle.cosem_data.specs.declared.cell.MethodRef.{MethodRef}
 use Rattle.meter_theory.specs.declared.limits.TheConstants as limits
 use Rattle.meter_theory.specs.declared.refs.ScriptRef.{ScriptRef}
 use Rattle.meter_theory.specs.Lists.{IsIn, AreDistinct, some_passes}
-use Rattle.meter_theory.specs.ClientNames.{is_client_name}
+use Rattle.meter_theory.specs.ClientNames.{may_be_named}
+use Rattle.meter_theory.specs.Times.{IsMoment}
 use Rattle.meter_theory.specs.Value.{Rule, OfKind, meets, is_within_limits}
 use Rattle.meter_theory.specs.State.{value}
-use Rattle.meter_theory.specs.Plan.{Plan, Client, Object, Right, Script, Action, Write, Invoke, Part, Register, ProfileGeneric, ScriptTable, RegisterMonitor, SingleActionSchedule, association_name, class_of, interface_of, object_at, cells, start, rule_of, entries_in_use}
+use Rattle.meter_theory.specs.Plan.{Plan, Client, Object, Right, Script, Action, Write, Invoke, Part, Register, ProfileGeneric, Clock, ScriptTable, RegisterMonitor, SingleActionSchedule, association_name, class_of, interface_of, object_at, cells, start, start_values, rule_of, entries_in_use}
 use Rattle.meter_theory.specs.Rights.{knows_script}
 use Rattle.meter_theory.specs.Edges.{scripts_named}
 use Rattle.meter_theory.specs.Steps.{scripts_of, Captures, captures_in}
@@ -31,11 +32,13 @@ IsCapturable P x =
     ((rule : Rule) × (rule_of P x ≡ Some rule))
     ⊎ ((o : Object) × IsIn P.objects o × (c : Captures) × (captures_in o.part ≡ Some c) × (x ≡ entries_in_use o.name))
 
--- what is asked of one object: a register's default may stand in its value, and a monitored value keeps its kind
+-- what is asked of one object: a register's default may stand in its value, a clock starts at a moment, and a monitored value keeps
+-- its kind
 abbrev pub IsSoundPart : Plan → Part → Type 0
 IsSoundPart P (Register first default scaler_unit) = meets (OfKind (kind_of first)) default ≡ true
+IsSoundPart P (Clock first) = IsMoment first
 IsSoundPart P (RegisterMonitor monitored th actions) =
-    IsIn (cells P) monitored × (rule_of P monitored ≡ Some (OfKind (kind_of (value (start P) monitored))))
+    IsIn (cells P) monitored × (rule_of P monitored ≡ Some (OfKind (kind_of (value (start_values P) monitored))))
 IsSoundPart P _ = Unit {0}
 
 -- a logical name has six bytes
@@ -77,16 +80,21 @@ has_script P r = some_passes (λ o. (class_of o.part == 9) && knows_script (scri
 abbrev pub are_indexes : ℕ → List ℕ → Bool
 are_indexes highest indexes = list_all (λ index. nat_le 1 index && nat_le index highest) indexes
 
+-- the highest method that may be granted and that a script may call: those of a clock never are (own profile)
+abbrev pub highest_method : Part → ℕ
+highest_method (Clock start) = 0
+highest_method part = (interface_of part).methods
+
 -- an object of the plan has this method, and it doesn't execute scripts
 abbrev pub has_plain_method : Plan → MethodRef → Bool
 has_plain_method P m =
-    some_passes (λ o. (class_of o.part == m.class_id) && (not (m.class_id == 9) && are_indexes (interface_of o.part).methods (m.index ∷ []))) (object_at P m.name)
+    some_passes (λ o. (class_of o.part == m.class_id) && (not (m.class_id == 9) && are_indexes (highest_method o.part) (m.index ∷ []))) (object_at P m.name)
 
 -- a right is a client's of the plan, on an object of it, and of attributes and methods that this has
 abbrev pub is_right : Plan → Right → Bool
 is_right P r =
     nat_lt r.client (length P.clients)
-    && some_passes (λ o. are_indexes (interface_of o.part).attributes r.gets && (are_indexes (interface_of o.part).attributes r.sets && are_indexes (interface_of o.part).methods r.acts)) (object_at P r.object)
+    && some_passes (λ o. are_indexes (interface_of o.part).attributes r.gets && (are_indexes (interface_of o.part).attributes r.sets && are_indexes (highest_method o.part) r.acts)) (object_at P r.object)
 
 -- a service access point is 1 to 127 (client_SAP, an integer)
 abbrev pub has_sap : Client → Bool
@@ -108,12 +116,12 @@ pub record IsSound (P : Plan) : Type 0 where
   pub sizes : (o : Object) → IsIn P.objects o → has_sizes o ≡ true
   pub saps : (client : Client) → IsIn P.clients client → has_sap client ≡ true
   -- each client has a name of its own, which a client may have
-  pub client_names : (client : Client) → IsIn P.clients client → is_client_name client.name ≡ true
+  pub client_names : (client : Client) → IsIn P.clients client → may_be_named P.version client.name ≡ true
   pub clients_apart : AreDistinct (map (λ client. client.name) P.clients)
   -- each right is a client's of the plan, on what an object of it has
   pub rights : (r : Right) → IsIn P.rights r → is_right P r ≡ true
   -- each settable cell starts with a value that meets its rule
-  pub starts : (x : CellRef) → IsIn (cells P) x → fits_some (rule_of P x) (value (start P) x) ≡ true
+  pub starts : (x : CellRef) → IsIn (cells P) x → fits_some (rule_of P x) (value (start_values P) x) ≡ true
   -- scripts write settable cells, with values that meet their rules
   pub writes : (o : Object) → IsIn P.objects o → (script : Script) → IsIn (scripts_of o.part) script →
       (x : CellRef) (v : Tree) → IsIn script.actions (Write x v) → IsWrite P x v

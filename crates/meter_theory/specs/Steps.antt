@@ -7,11 +7,11 @@ use Rattle.cosem_data.specs.declared.cell.CellRef.{CellRef}
 use Rattle.cosem_data.specs.declared.cell.MethodRef.{MethodRef}
 use Rattle.meter_theory.specs.Lists.{keep_last, for_some}
 use Rattle.meter_theory.specs.Value.{array_of, structure_of, elements, counter, count_of, Rule, meets}
-use Rattle.meter_theory.specs.Times.{Moment, is_capture_due, is_schedule_due}
+use Rattle.meter_theory.specs.Times.{Moment, is_moment, next_second, clock_moment, clock_value, is_capture_due, is_schedule_due}
 use Rattle.meter_theory.specs.State.{State, value, put}
 use Rattle.meter_theory.specs.declared.refs.ScriptRef.{ScriptRef}
 use Rattle.meter_theory.specs.declared.refs.UpDown.{UpDown}
-use Rattle.meter_theory.specs.Plan.{Plan, Object, Part, Register, ProfileGeneric, ScriptTable, RegisterMonitor, SingleActionSchedule, Script, Action, Write, Invoke, class_of, object_at, rule_of, register_value, buffer, capture_period, entries_in_use, thresholds, seen, execution_time}
+use Rattle.meter_theory.specs.Plan.{Plan, Object, Part, Register, ProfileGeneric, ScriptTable, RegisterMonitor, SingleActionSchedule, Script, Action, Write, Invoke, class_of, object_at, rule_of, register_value, buffer, capture_period, entries_in_use, thresholds, seen, execution_time, clock_object, inner_clock, clock}
 use Rattle.meter_theory.specs.Access.{is_success}
 use Rattle.meter_theory.specs.Rights.{Argument, Given, Descriptor, cell_of, method_of, Selection, set_answer, act_answer, script_number}
 
@@ -61,9 +61,13 @@ capture s n (Some c) =
 abbrev pub clear : State → LogicalName → State
 clear s n = put (put s (buffer n) (array no_trees)) (entries_in_use n) (counter 0)
 
+-- what a cell keeps of a value that is put into it: a clock the moment, in its form, and any other cell the value
+abbrev pub kept : CellRef → Tree → Tree
+kept x v = cond (x.class_id == 8) (clock_value (clock_moment v)) v
+
 -- the state after one effect
 abbrev pub effect : Plan → State → Effect → State
-effect P s (Put x v) = put s x v
+effect P s (Put x v) = put s x (kept x v)
 effect P s (Capture n) = capture s n (captures_of (object_at P n))
 effect P s (Clear n) = clear s n
 
@@ -144,9 +148,11 @@ pub data Step : Type 0 where
   Set : (client : ℕ) → Descriptor → (selected : Bool) → Argument → Step
   Act : (client : ℕ) → Descriptor → Argument → Step
   Input : CellRef → Tree → Step
-  CaptureAt : (profile : LogicalName) → Moment → Step
+  CaptureAt : (profile : LogicalName) → Step
   Evaluate : (monitor : LogicalName) → Step
-  ScheduleAt : (schedule : LogicalName) → Moment → Step
+  ScheduleAt : (schedule : LogicalName) → Step
+  Tick : Step
+  ClockAt : Moment → Step
 
 -- whose step it is; the meter's own have no client
 abbrev pub client_of : Step → Option ℕ
@@ -154,9 +160,11 @@ client_of (Get c d selection) = Some c
 client_of (Set c d selected v) = Some c
 client_of (Act c d argument) = Some c
 client_of (Input x v) = None
-client_of (CaptureAt n t) = None
+client_of (CaptureAt n) = None
 client_of (Evaluate n) = None
-client_of (ScheduleAt n t) = None
+client_of (ScheduleAt n) = None
+client_of Tick = None
+client_of (ClockAt t) = None
 
 abbrev pub given_value : CellRef → Argument → List Effect
 given_value x (Given v) = Put x v ∷ []
@@ -173,6 +181,10 @@ is_fed P x = is_fed_in x (object_at P x.name)
 abbrev pub meets_some : Option Rule → Tree → Bool
 meets_some None v = false
 meets_some (Some rule) v = meets rule v
+
+-- the moment at which the meter's clock stands
+abbrev pub present : Plan → State → Moment
+present P s = clock_moment (value s (clock P))
 
 -- A profile at a moment, a monitor, a schedule at a moment. n is the object's name, and s the state before.
 abbrev pub captured_at : State → LogicalName → Moment → Part → List Effect
@@ -191,6 +203,15 @@ scheduled_at P s n t (SingleActionSchedule script type times) =
     cond (is_schedule_due (elements (value s (execution_time n))) t) (effects_of_script P script) []
 scheduled_at P s n t _ = []
 
+-- the clock goes on by a second
+abbrev pub ticked : Plan → State → List Effect
+ticked P s = Put (clock P) (clock_value (next_second (present P s))) ∷ []
+
+-- the inner clock is set to a moment that the calendar has; a plan's clock is set by nobody but those who may write it
+abbrev pub clock_set : Option Object → Moment → List Effect
+clock_set None t = cond (is_moment t) (Put inner_clock (clock_value t) ∷ []) []
+clock_set (Some o) t = []
+
 -- The effects of a step, in order. All guards are judged in the state before the step; a step that names no object of
 -- its kind has none.
 abbrev pub effects_of : Plan → State → Step → List Effect
@@ -198,9 +219,11 @@ effects_of P s (Get c d selection) = []
 effects_of P s (Set c d selected v) = cond (is_success (set_answer P c d selected v)) (given_value (cell_of d) v) []
 effects_of P s (Act c d argument) = cond (is_success (act_answer P c d argument)) (method_effects P (method_of d) argument) []
 effects_of P s (Input x v) = cond (is_fed P x && meets_some (rule_of P x) v) (Put x v ∷ []) []
-effects_of P s (CaptureAt n t) = for_some (object_at P n) (λ o. captured_at s n t o.part)
+effects_of P s (CaptureAt n) = for_some (object_at P n) (λ o. captured_at s n (present P s) o.part)
 effects_of P s (Evaluate n) = for_some (object_at P n) (λ o. evaluated P s n o.part)
-effects_of P s (ScheduleAt n t) = for_some (object_at P n) (λ o. scheduled_at P s n t o.part)
+effects_of P s (ScheduleAt n) = for_some (object_at P n) (λ o. scheduled_at P s n (present P s) o.part)
+effects_of P s Tick = ticked P s
+effects_of P s (ClockAt t) = clock_set (clock_object P) t
 
 -- The state after a step.
 abbrev pub next : Plan → State → Step → State

@@ -1,6 +1,6 @@
--- Moments of the civil calendar, and the times at which a single action schedule and a profile are due
--- (IEC 62056-6-2, date and time formats, Single action schedule, Profile generic).
-use Rattle.std.specs.Prelude.{◌≤◌, ◌<◌, ℕ, ◌+◌, ◌*◌, ◌%◌, ◌==◌, nat_le, Bool, true, not, ◌&&◌, ◌||◌, cond, List, [], ◌∷◌, length, get_or, pos, ◌-ℤ◌, unsigned_abs}
+-- Moments of the civil calendar, the time of a clock, and the times at which a single action schedule and a profile are due
+-- (IEC 62056-6-2, date and time formats, Clock, Single action schedule, Profile generic).
+use Rattle.std.specs.Prelude.{◌≡◌, ◌≤◌, ◌<◌, ℕ, ◌+◌, ◌*◌, ◌/◌, ◌%◌, ◌==◌, nat_le, nat_lt, Bool, true, not, ◌&&◌, ◌||◌, cond, List, [], ◌∷◌, length, get_or, pos, ◌-ℤ◌, unsigned_abs}
 use Rattle.std.specs.List.{list_all, list_any}
 use Rattle.std.specs.Str.{bytes_eq}
 use Rattle.jiff_core.specs.Calendar.{days_from_civil, days_in_month, weekday_number, IsCivilDate}
@@ -25,6 +25,14 @@ pub record IsMoment (t : Moment) : Type 0 where
   pub minute : t.minute < 60
   pub second : t.second < 60
 
+-- the first moment, 2000-01-01T00:00:00
+abbrev pub first_moment : Moment
+first_moment = record { year = 2000; month = 1; day = 1; hour = 0; minute = 0; second = 0 }
+
+-- the last moment, 9999-12-31T23:59:59
+abbrev pub last_moment : Moment
+last_moment = record { year = 9999; month = 12; day = 31; hour = 23; minute = 59; second = 59 }
+
 -- the days from 2000-01-01 to the moment's day
 abbrev pub days_since_2000 : Moment → ℕ
 days_since_2000 t = unsigned_abs (days_from_civil (pos t.year) t.month t.day -ℤ days_from_civil (pos 2000) 1 1)
@@ -39,6 +47,34 @@ weekday t = weekday_number (days_from_civil (pos t.year) t.month t.day) + 1
 
 abbrev pub last_day : Moment → ℕ
 last_day t = days_in_month (pos t.year) t.month
+
+-- the test of such a moment
+abbrev pub is_moment : Moment → Bool
+is_moment t =
+    nat_le 2000 t.year
+    && (nat_le t.year 9999
+    && (nat_le 1 t.month
+    && (nat_le t.month 12
+    && (nat_le 1 t.day
+    && (nat_le t.day (last_day t)
+    && (nat_lt t.hour 24
+    && (nat_lt t.minute 60
+    && nat_lt t.second 60)))))))
+
+-- the start of the day behind that of the moment; the last day is followed by none, and then the moment stays
+abbrev pub next_day : Moment → Moment
+next_day t =
+    cond (nat_lt t.day (last_day t)) (record { year = t.year; month = t.month; day = t.day + 1; hour = 0; minute = 0; second = 0 })
+    (cond (nat_lt t.month 12) (record { year = t.year; month = t.month + 1; day = 1; hour = 0; minute = 0; second = 0 })
+    (cond (nat_lt t.year 9999) (record { year = t.year + 1; month = 1; day = 1; hour = 0; minute = 0; second = 0 }) t))
+
+-- the moment one second later; 9999-12-31T23:59:59 stays (own profile)
+abbrev pub next_second : Moment → Moment
+next_second t =
+    cond (nat_lt t.second 59) (record { year = t.year; month = t.month; day = t.day; hour = t.hour; minute = t.minute; second = t.second + 1 })
+    (cond (nat_lt t.minute 59) (record { year = t.year; month = t.month; day = t.day; hour = t.hour; minute = t.minute + 1; second = 0 })
+    (cond (nat_lt t.hour 23) (record { year = t.year; month = t.month; day = t.day; hour = t.hour + 1; minute = 0; second = 0 })
+    (next_day t)))
 
 -- The parts of one element of execution_time: a structure of time (hour, minute, second, hundredths)
 -- and date (two bytes of the year, month, day, weekday). FF, and FFFF for the year, is not specified.
@@ -129,6 +165,43 @@ is_date_for type vs = cond ((type == 2) || (type == 4)) (list_all (λ v. not (is
 abbrev pub are_execution_times : ℕ → List Tree → Bool
 are_execution_times type vs =
     list_all is_execution_time vs && (is_number_for type (length vs) && (is_time_for type vs && is_date_for type vs))
+
+-- The time of a clock: an octet-string of date (five bytes), time (four), deviation (two) and clock_status (IEC 62056-6-2,
+-- Clock, time).
+
+-- the moment that the bytes of a date and a time say
+abbrev pub moment_of_bytes : List ℕ → Moment
+moment_of_bytes bytes = record {
+  year = year_of bytes;
+  month = month_of bytes;
+  day = day_of bytes;
+  hour = get_or bytes 5 0;
+  minute = get_or bytes 6 0;
+  second = get_or bytes 7 0;
+}
+
+abbrev pub clock_moment : Tree → Moment
+clock_moment v = moment_of_bytes (octets_of v)
+
+-- The bytes of a clock that stands at the moment, in the form in which they are kept: the true weekday, hundredths 0, a
+-- deviation that isn't specified (8000), and status 0 (own profile).
+abbrev pub clock_bytes : Moment → List ℕ
+clock_bytes t =
+    t.year / 256 ∷ t.year % 256 ∷ t.month ∷ t.day ∷ weekday t
+    ∷ t.hour ∷ t.minute ∷ t.second ∷ 0
+    ∷ 128 ∷ 0 ∷ 0 ∷ []
+
+abbrev pub clock_value : Moment → Tree
+clock_value t = octet_string (clock_bytes t)
+
+-- What a clock may be set to: twelve bytes that say a moment, and hundredths up to 99 or not specified. The weekday, the
+-- deviation and the status may be anything (own profile).
+abbrev pub is_clock_time : Tree → Bool
+is_clock_time v = (length (octets_of v) == 12) && (is_moment (clock_moment v) && is_at_most 99 (get_or (octets_of v) 8 0))
+
+-- the value is the time of a clock that stands at a moment, in the form in which it is kept
+abbrev pub ShowsMoment : Tree → Type 0
+ShowsMoment v = (t : Moment) × IsMoment t × (v ≡ clock_value t)
 
 -- Due times
 

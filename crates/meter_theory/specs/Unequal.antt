@@ -3,16 +3,16 @@ use Rattle.std.specs.Prelude.{◌≡◌, ℕ, true, false, List, [], ◌∷◌}
 use Rattle.meter_theory.specs.Lists.{IsIn}
 use Rattle.cosem_data.specs.declared.cell.CellRef.{CellRef}
 use Rattle.meter_theory.specs.State.{State, value}
-use Rattle.meter_theory.specs.Plan.{Plan, cells}
+use Rattle.meter_theory.specs.Plan.{Plan, held}
 use Rattle.meter_theory.specs.Steps.{Step, client_of, next}
 use Rattle.meter_theory.specs.Replies.{is_step_of_client, replies, replies_of}
-use Rattle.meter_theory.specs.Labels.{Labelling, has}
+use Rattle.meter_theory.specs.Labels.{Labelling, may_learn}
 use Rattle.meter_theory.specs.Safety.{HasCells, LookAlike, DifferHidden}
 
 -- The step isn't c's, and in no state changes a cell that c may learn.
 pub record IsQuiet (P : Plan) (Q : Labelling) (c : ℕ) (step : Step) : Type 0 where
   pub other : is_step_of_client c (client_of step) ≡ false
-  pub changes_nothing : (s : State) → HasCells P s → (x : CellRef) → IsIn (cells P) x → has (Q x).learn c ≡ true → value (next P s step) x ≡ value s x
+  pub changes_nothing : (s : State) → HasCells P s → (x : CellRef) → IsIn (held P) x → may_learn Q c x ≡ true → value (next P s step) x ≡ value s x
 
 -- The lists are alike to c but for quiet steps.
 pub data AlikeButQuiet (P : Plan) (Q : Labelling) (c : ℕ) : List Step → List Step → Type 0 where

@@ -4,10 +4,10 @@ use Rattle.std.specs.List.{list_all}
 use Rattle.cosem_data.specs.Tree.{Tree, array, structure, double_long_unsigned, trees, parts, depth}
 use Rattle.cosem_data.specs.Kinds.{kind_of, same_kind}
 use Rattle.cosem_data.specs.declared.kind.Kind.{Kind}
-use Rattle.cosem_data.specs.declared.kind.Kind.TheVariants.{Array}
+use Rattle.cosem_data.specs.declared.kind.Kind.TheVariants.{Array, OctetString}
 use Rattle.cosem_axdr.specs.Canonical.{canonical}
 use Rattle.meter_theory.specs.declared.limits.TheConstants as limits
-use Rattle.meter_theory.specs.Times.{are_execution_times}
+use Rattle.meter_theory.specs.Times.{are_execution_times, is_clock_time}
 
 abbrev pub array_of : List Tree → Tree
 array_of vs = array (trees vs)
@@ -40,19 +40,23 @@ pub data Rule : Type 0 where
   Thresholds : (number : ℕ) → Kind → Rule
   -- an array of times and dates that fits this type (execution_time of a single action schedule)
   ExecutionTimes : (type : ℕ) → Rule
+  -- what a clock may be set to (time of a clock)
+  ClockTime : Rule
 
 -- the value has the tag that the rule asks for
 abbrev pub valid_tag : Rule → Tree → Bool
 valid_tag (OfKind kind) v = same_kind (kind_of v) kind
 valid_tag (Thresholds number kind) v = same_kind (kind_of v) Array
 valid_tag (ExecutionTimes type) v = same_kind (kind_of v) Array
+valid_tag ClockTime v = same_kind (kind_of v) OctetString
 
--- the elements are what the rule asks for
-abbrev pub valid_elements : Rule → List Tree → Bool
-valid_elements (OfKind kind) vs = true
-valid_elements (Thresholds number kind) vs = (length vs == number) && list_all (λ v. same_kind (kind_of v) kind) vs
-valid_elements (ExecutionTimes type) vs = are_execution_times type vs
+-- the parts are what the rule asks for
+abbrev pub valid_parts : Rule → Tree → Bool
+valid_parts (OfKind kind) v = true
+valid_parts (Thresholds number kind) v = (length (elements v) == number) && list_all (λ e. same_kind (kind_of e) kind) (elements v)
+valid_parts (ExecutionTimes type) v = are_execution_times type (elements v)
+valid_parts ClockTime v = is_clock_time v
 
--- The value may stand in a cell with this rule.
+-- The value may be put into a cell with this rule.
 abbrev pub meets : Rule → Tree → Bool
-meets rule v = valid_tag rule v && (is_within_limits v && valid_elements rule (elements v))
+meets rule v = valid_tag rule v && (is_within_limits v && valid_parts rule v)

@@ -16,6 +16,8 @@ pub enum Cause {
     Period,
     /// A schedule's execution time decides when the script runs that changes the target.
     Schedule,
+    /// The clock decides when a profile captures, or a schedule's script runs, which changes the target.
+    Clock,
 }
 
 /// From a cell to one that its value may reach or decide (own profile).

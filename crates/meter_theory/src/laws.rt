@@ -1,14 +1,16 @@
 //! Theorems about meters and plans: each function's clauses are its statement, and its body is empty.
-ghost use Rattle.std.specs.Prelude.{◌≡◌, ◌↔◌, ℕ, Bool, List, true, false};
+ghost use Rattle.std.specs.Prelude.{◌≡◌, ◌≢◌, ◌↔◌, ◌+◌, ℕ, Bool, List, true, false, None, Some};
 ghost use Rattle.cosem_data.specs.Cells.{same_cell};
 ghost use Rattle.cosem_data.specs.Tree.{Tree};
 ghost use Rattle.cosem_data.specs.declared.cell.CellRef.{CellRef};
+ghost use Rattle.cosem_data.specs.declared.name.LogicalName.{LogicalName};
 ghost use Rattle.cosem_data.specs.declared.cell.MethodRef.{MethodRef};
 ghost use Rattle.cosem_axdr.specs.Canonical.{HasLengths};
-ghost use Rattle.meter_theory.specs.Lists.{IsIn};
+ghost use Rattle.meter_theory.specs.Lists.{IsIn, for_some};
 ghost use Rattle.meter_theory.specs.State.{State, keys, value, put};
-ghost use Rattle.meter_theory.specs.Plan.{Plan, cells, start};
-ghost use Rattle.meter_theory.specs.Steps.{Step, next};
+ghost use Rattle.meter_theory.specs.Times.{Moment, IsMoment, last_moment, next_second, seconds_since_2000, clock_moment, clock_value};
+ghost use Rattle.meter_theory.specs.Plan.{Plan, Object, cells, start, object_at, clock_object};
+ghost use Rattle.meter_theory.specs.Steps.{Step, CaptureAt, ScheduleAt, ClockAt, captured_at, scheduled_at, effects_of, kept, next};
 ghost use Rattle.meter_theory.specs.Replies.{Value, reply_to, run};
 ghost use Rattle.meter_theory.specs.declared.flow.Edge.{Edge};
 ghost use Rattle.meter_theory.specs.declared.flow.Refusal.{Refusal};
@@ -18,16 +20,16 @@ ghost use Rattle.meter_theory.specs.Labels.{Labels, Labelling, labelling_of, Adm
 ghost use Rattle.meter_theory.specs.Sound.{IsSound};
 ghost use Rattle.meter_theory.specs.States.{IsState};
 ghost use Rattle.meter_theory.specs.Check.{AllPass, Refuses, may_change};
-ghost use Rattle.meter_theory.specs.Safety.{Influence, Secrecy};
+ghost use Rattle.meter_theory.specs.Safety.{HasCells, Influence, Secrecy};
 ghost use Rattle.meter_theory.specs.Unequal.{UnequalSecrecy};
 
-/// Where the effects of a plan keep their laws, an admitted plan keeps what its policy, and what its labels, promise
+/// Where the effects of a sound plan keep their laws, and it is admitted, it keeps what its policy, and what its labels, promise
 /// about who influences a cell, and keeps from each client what they hide from it, also over schedules that differ by steps
 /// which the client can't notice.
 pub fn lawful_effects_keep_promises()
-    ensures influence { (P : Plan) (policy : Labelling) (labels : Labels) → EffectLaws P → Admits P policy labels → Influence P policy × Influence P (labelling_of labels) }
-    ensures secrecy { (P : Plan) (policy : Labelling) (labels : Labels) → EffectLaws P → Admits P policy labels → Secrecy P policy × Secrecy P (labelling_of labels) }
-    ensures unequal { (P : Plan) (policy : Labelling) (labels : Labels) → EffectLaws P → Admits P policy labels → UnequalSecrecy P policy × UnequalSecrecy P (labelling_of labels) }
+    ensures influence { (P : Plan) (policy : Labelling) (labels : Labels) → IsSound P → EffectLaws P → Admits P policy labels → Influence P policy × Influence P (labelling_of labels) }
+    ensures secrecy { (P : Plan) (policy : Labelling) (labels : Labels) → IsSound P → EffectLaws P → Admits P policy labels → Secrecy P policy × Secrecy P (labelling_of labels) }
+    ensures unequal { (P : Plan) (policy : Labelling) (labels : Labels) → IsSound P → EffectLaws P → Admits P policy labels → UnequalSecrecy P policy × UnequalSecrecy P (labelling_of labels) }
 {}
 
 /// Where the effects of a plan keep their laws, states that agree on a closed set of cells agree on it after each step.
@@ -78,4 +80,26 @@ pub fn states_are_kept()
 /// Every value that a sound plan's meter answers can be written: its lengths and counts fit four bytes.
 pub fn replies_can_be_written()
     ensures { (P : Plan) (s : State) (step : Step) (v : Tree) → IsSound P → IsState P s → reply_to P s step ≡ Value v → HasLengths v }
+{}
+
+/// The inner clock is looked at: behind a moment that it is set to, a profile captures and a schedule runs its script exactly where
+/// the one is due at that moment, and no cell of the plan has changed. Where a plan has a clock, nothing sets an inner one.
+pub fn moments_are_looked_at()
+    ensures capture { (P : Plan) (s : State) (t : Moment) (n : LogicalName) → clock_object P ≡ None → HasCells P s → IsMoment t → effects_of P (next P s (ClockAt t)) (CaptureAt n) ≡ for_some (object_at P n) (λ o. captured_at s n t o.part) }
+    ensures schedule { (P : Plan) (s : State) (t : Moment) (n : LogicalName) → clock_object P ≡ None → HasCells P s → IsMoment t → effects_of P (next P s (ClockAt t)) (ScheduleAt n) ≡ for_some (object_at P n) (λ o. scheduled_at P s n t o.part) }
+    ensures cells { (P : Plan) (s : State) (t : Moment) (x : CellRef) → IsIn (cells P) x → value (next P s (ClockAt t)) x ≡ value s x }
+    ensures clock { (P : Plan) (s : State) (t : Moment) (o : Object) → clock_object P ≡ Some o → next P s (ClockAt t) ≡ s }
+{}
+
+/// The time of a clock says its moment, and what is kept is kept as it is.
+pub fn clocks_keep_moments()
+    ensures moment { (t : Moment) → clock_moment (clock_value t) ≡ t }
+    ensures kept { (x : CellRef) (v : Tree) → kept x (kept x v) ≡ kept x v }
+{}
+
+/// A tick leads from a moment to the one a second later, and leaves the last.
+pub fn ticks_add_a_second()
+    ensures moment { (t : Moment) → IsMoment t → IsMoment (next_second t) }
+    ensures second { (t : Moment) → IsMoment t → t ≢ last_moment → seconds_since_2000 (next_second t) ≡ seconds_since_2000 t + 1 }
+    ensures last { next_second last_moment ≡ last_moment }
 {}

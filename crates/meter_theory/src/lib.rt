@@ -8,6 +8,7 @@
 #![tactic(auto)]
 
 pub mod access;
+pub mod classes;
 pub mod flow;
 pub mod laws;
 pub mod limits;

@@ -32,3 +32,6 @@ pub const THRESHOLDS: usize = 16;
 
 /// The most elements of an execution time, of a type other than 1 (Single action schedule, execution_time).
 pub const EXECUTION_TIMES: usize = 16;
+
+/// The most seconds that one line lets pass.
+pub const TICK_SECONDS: u16 = 3600;

@@ -9,7 +9,7 @@ use Rattle.cosem_data.specs.Tree.{null_data}
 use Rattle.cosem_data.proofs.Same.{same_cell-true, same_cell-refl, same_name-from}
 use Rattle.cosem_data.specs.declared.cell.CellRef.{CellRef}
 use Rattle.meter_theory.specs.State.{State, keys, value}
-use Rattle.meter_theory.specs.Plan.{Plan, Object, Part, Data1, Register, ProfileGeneric, ScriptTable, RegisterMonitor, SingleActionSchedule, start, start_of, is_cell, object_at, buffer, capture_period, entries_in_use, thresholds, seen}
+use Rattle.meter_theory.specs.Plan.{Plan, Object, Part, Data1, Register, ProfileGeneric, Clock, ScriptTable, RegisterMonitor, SingleActionSchedule, start_values, start_of, is_cell, object_at, buffer, capture_period, entries_in_use, thresholds, seen}
 use Rattle.meter_theory.specs.Lists.{IsIn}
 use Rattle.meter_theory.specs.Sound.{IsSound}
 use Rattle.meter_theory.specs.declared.limits.TheConstants.{OBJECTS}
@@ -118,6 +118,7 @@ keys-named x n (ProfileGeneric captured period entries) h = three (same_cell x (
     three true e b f g = ap (λ y. y.name) (same_cell-true x (buffer n) e)
     three false e true f g = ap (λ y. y.name) (same_cell-true x (capture_period n) f)
     three false e false f g = one x 7 n 7 g
+keys-named x n (Clock first) h = one x 8 n 2 h
 keys-named x n (ScriptTable scripts) h = cc
 keys-named x n (RegisterMonitor monitored th actions) h = two (same_cell x (thresholds n)) refl h
   where
@@ -181,14 +182,14 @@ cell-found P x o sound is = sym (cells-by-object x P.objects) ∙ has-found (has
 pub cell-none : (P : Plan) (x : CellRef) → object_at P x.name ≡ None → is_cell P x ≡ false
 cell-none P x is = sym (cells-by-object x P.objects) ∙ has-found (has_it x) P.objects ∙ ap is_some (find-has-none P x is)
 
-pub start-found : (P : Plan) (x : CellRef) (o : Object) → IsSound P → object_at P x.name ≡ Some o → value (start P) x ≡ value (start_of o.name o.part) x
+pub start-found : (P : Plan) (x : CellRef) (o : Object) → IsSound P → object_at P x.name ≡ Some o → value (start_values P) x ≡ value (start_of o.name o.part) x
 start-found P x o sound is = at (has_it x o) refl
   where
-    at : (b : Bool) → has_it x o ≡ b → value (start P) x ≡ value (start_of o.name o.part) x
+    at : (b : Bool) → has_it x o ≡ b → value (start_values P) x ≡ value (start_of o.name o.part) x
     at true h = value-of_object x P.objects o (find-has P x o sound is ∙ ap (λ b. cond b (Some o) None) h)
     at false h = value-of_none x P.objects (find-has P x o sound is ∙ ap (λ b. cond b (Some o) None) h) ∙ sym (value-absent x (start_of o.name o.part) h)
 
-pub start-none : (P : Plan) (x : CellRef) → object_at P x.name ≡ None → value (start P) x ≡ null_data
+pub start-none : (P : Plan) (x : CellRef) → object_at P x.name ≡ None → value (start_values P) x ≡ null_data
 start-none P x is = value-of_none x P.objects (find-has-none P x is)
 
 -- the number of a name, and the object

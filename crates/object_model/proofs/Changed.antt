@@ -8,6 +8,7 @@ use Rattle.cosem_data.specs.View.{tree}
 use Rattle.cosem_data.specs.Cells.{same_cell, same_name}
 use Rattle.cosem_data.specs.declared.name.LogicalName.{LogicalName}
 use Rattle.cosem_data.specs.declared.cell.CellRef.{CellRef}
+use Rattle.meter_theory.specs.Times.{clock_value}
 use Rattle.meter_theory.specs.State.{State, keys, value, put}
 use Rattle.meter_theory.specs.Plan.{buffer, entries_in_use}
 use Rattle.meter_theory.specs.Steps.{clear}
@@ -134,6 +135,7 @@ undone-between : (n : LogicalName) (change : Change) (a t b : State) → has (ce
 undone-between n (changes.Data held) a t b lacks there count = put-between a t b _ (tree held) lacks there
 undone-between n (changes.Register held) a t b lacks there count = put-between a t b _ (tree held) lacks there
 undone-between n (changes.Period held) a t b lacks there count = put-between a t b _ (counter held) lacks there
+undone-between n (changes.Clock held) a t b lacks there count = put-between a t b _ (clock_value held) lacks there
 undone-between n (changes.Captured c) a t b lacks there count =
     both-between a t b n (λ v. array_of (rows_before (option_map tree c.dropped) (elements v))) (λ w. counter c.entries_in_use) lacks (count refl).0 there (count refl).1
 undone-between n (changes.Cleared c) a t b lacks there count =
@@ -207,6 +209,7 @@ pub undone-nowhere : (ms : List Stored) (n : LogicalName) (change : Change) → 
 undone-nowhere ms n (changes.Data held) e = absent ms _ (tree held) e
 undone-nowhere ms n (changes.Register held) e = absent ms _ (tree held) e
 undone-nowhere ms n (changes.Period held) e = absent ms _ (counter held) e
+undone-nowhere ms n (changes.Clock held) e = absent ms _ (clock_value held) e
 undone-nowhere ms n (changes.Captured c) e =
     ap (λ s. put s (entries_in_use n) (counter c.entries_in_use)) (absent ms (buffer n) _ e) ∙ absent ms (entries_in_use n) (counter c.entries_in_use) (count-nowhere ms n 0 e)
 undone-nowhere ms n (changes.Cleared c) e =

@@ -1,5 +1,5 @@
 -- What a register monitor remembers has its cell.
-use Rattle.std.proofs.Common.{◌≡◌, sym, subst, ◌∙◌, refl, inl, inr, List, Option, Some, None, flat_map}
+use Rattle.std.proofs.Common.{◌≡◌, ℕ, sym, ap, subst, ◌∙◌, refl, inl, inr, arith, List, Option, Some, None, flat_map}
 use Rattle.std.specs.List.{position_from}
 use Rattle.std.proofs.lemmas.Bool.{false≢true}
 use Rattle.cosem_data.specs.Tree.{Tree, null_data, array, no_trees}
@@ -11,7 +11,7 @@ use Rattle.meter_theory.specs.Lists.{IsIn}
 use Rattle.meter_theory.specs.State.{State, keys, value}
 use Rattle.meter_theory.specs.States.{IsState, IsBuffer, IsCount, Holds, IsRemembered, Fits}
 use Rattle.meter_theory.specs.Steps.{Put, Captures, captures_in, captures_of}
-use Rattle.meter_theory.specs.Plan.{Plan, Object, Part, ProfileGeneric, RegisterMonitor, object_at, start_of, buffer, entries_in_use, seen}
+use Rattle.meter_theory.specs.Plan.{Plan, Object, Part, ProfileGeneric, RegisterMonitor, object_at, cells, clock_object, clock_cell, start_of, buffer, entries_in_use, seen}
 use Rattle.meter_theory.proofs.Lists.{in_any}
 use Rattle.meter_theory.proofs.Agreement.{object-found}
 use Rattle.meter_theory.proofs.Rights.{cell_of_object}
@@ -21,17 +21,21 @@ use Rattle.object_model.specs.Stored.{stored_pairs, stores}
 use Rattle.object_model.proofs.Puts.{put-is-there}
 use Rattle.object_model.proofs.Stores.{nowhere}
 
-pub remembered-there : (P : Plan) (s : State) (n : LogicalName) (v : Tree) → IsState P s → Fits P (Put (seen n) v) → IsIn (keys s) (seen n)
+pub remembered-there : (P : Plan) (s : State) (n : LogicalName) (v : Tree) → IsState P s → Fits P (Put (seen n) v) → IsIn (cells P) (seen n)
 remembered-there P s n v k (inl may) = put-is-there P s (seen n) v k may
-remembered-there P s n v k (inr fits) = at fits.0.part refl fits.2
+remembered-there P s n v k (inr (inl fits)) = at fits.0.part refl fits.2
   where
-    at : (p : Part) → fits.0.part ≡ p → IsRemembered P fits.0.name fits.0.part (seen n) v → IsIn (keys s) (seen n)
+    at : (p : Part) → fits.0.part ≡ p → IsRemembered P fits.0.name fits.0.part (seen n) v → IsIn (cells P) (seen n)
     at (RegisterMonitor monitored th actions) is r =
         let here : seen n ≡ seen fits.0.name = (subst (λ q. IsRemembered P fits.0.name q (seen n) v) is r).0 in
-        subst (IsIn (keys s)) (sym here)
-        (subst (λ ks. IsIn ks (seen fits.0.name)) (sym k.cells)
-        (cell_of_object P fits.0 (seen fits.0.name) null_data fits.1 (subst (λ q. IsIn (start_of fits.0.name q) (seen fits.0.name, null_data)) (sym is) (inr (inl refl)))))
+        subst (IsIn (cells P)) (sym here)
+        (cell_of_object P fits.0 (seen fits.0.name) null_data fits.1 (subst (λ q. IsIn (start_of fits.0.name q) (seen fits.0.name, null_data)) (sym is) (inr (inl refl))))
     at p is r = absurd (subst (λ q. IsRemembered P fits.0.name q (seen n) v) is r)
+remembered-there P s n v k (inr (inr put)) = absurd (no_clock (clock_object P) (ap (λ x. x.class_id) put.0))
+  where
+    no_clock : (o : Option Object) → ◌≡◌ {A = ℕ} 21 (clock_cell o).class_id → ⊥
+    no_clock None e = omega (arith, e)
+    no_clock (Some o) e = omega (arith, e)
 
 -- a cell of the state is stored somewhere
 pub stored-somewhere : (ms : List Stored) (x : CellRef) → IsIn (keys (flat_map stored_pairs ms)) x → position_from (stores x) 0 ms ≡ None → ⊥
@@ -56,16 +60,15 @@ profile_holds P s n c k is = at (object_at P n) refl is
         in_part o.part e (subst (λ m. Holds P s m o.part) there.1 (k.inner o there.0))
 
 -- a profile of the plan has its cells
-pub profile-there : (P : Plan) (s : State) (n : LogicalName) → IsState P s → IsProfile P n → IsIn (keys s) (buffer n)
+pub profile-there : (P : Plan) (s : State) (n : LogicalName) → IsState P s → IsProfile P n → IsIn (cells P) (buffer n)
 profile-there P s n k is = at (object_at P n) refl is.1
   where
-    in_part : (o : Object) → IsIn P.objects o → o.name ≡ n → (p : Part) → o.part ≡ p → captures_in p ≡ Some is.0 → IsIn (keys s) (buffer n)
+    in_part : (o : Object) → IsIn P.objects o → o.name ≡ n → (p : Part) → o.part ≡ p → captures_in p ≡ Some is.0 → IsIn (cells P) (buffer n)
     in_part o i named (ProfileGeneric captured period entries) here e =
-        subst (λ m. IsIn (keys s) (buffer m)) named
-        (subst (λ ks. IsIn ks (buffer o.name)) (sym k.cells)
-        (cell_of_object P o (buffer o.name) (array no_trees) i (subst (λ q. IsIn (start_of o.name q) (buffer o.name, array no_trees)) (sym here) (inl refl))))
+        subst (λ m. IsIn (cells P) (buffer m)) named
+        (cell_of_object P o (buffer o.name) (array no_trees) i (subst (λ q. IsIn (start_of o.name q) (buffer o.name, array no_trees)) (sym here) (inl refl)))
     in_part o i named p here e = cc
 
-    at : (o : Option Object) → object_at P n ≡ o → captures_of o ≡ Some is.0 → IsIn (keys s) (buffer n)
+    at : (o : Option Object) → object_at P n ≡ o → captures_of o ≡ Some is.0 → IsIn (cells P) (buffer n)
     at None found e = cc
     at (Some o) found e = let there = object-found P n o found in in_part o there.0 there.1 o.part refl e

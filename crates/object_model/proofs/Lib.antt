@@ -12,3 +12,4 @@ mod Stores
 mod Aligned
 mod Changed
 mod Kept
+pub mod Inner

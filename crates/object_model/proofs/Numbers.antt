@@ -11,7 +11,7 @@ use Rattle.cosem_data.specs.declared.name.LogicalName.{LogicalName}
 use Rattle.cosem_data.specs.declared.cell.CellRef.{CellRef}
 use Rattle.cosem_data.proofs.Same.{same_cell-true, same_cell-refl, same_name-true}
 use Rattle.meter_theory.specs.Lists.{IsIn, AreDistinct}
-use Rattle.meter_theory.specs.Plan.{Plan, Object, Part, Data1, Register, ProfileGeneric, ScriptTable, RegisterMonitor, SingleActionSchedule, start_of, cells, object_at}
+use Rattle.meter_theory.specs.Plan.{Plan, Object, Part, Data1, Register, ProfileGeneric, Clock, ScriptTable, RegisterMonitor, SingleActionSchedule, start_of, cells, object_at}
 use Rattle.meter_theory.specs.Sound.{IsSound}
 use Rattle.meter_theory.specs.State.{State, keys}
 use Rattle.meter_theory.specs.declared.limits.TheConstants.{OBJECTS}
@@ -122,6 +122,7 @@ few-own : (n : LogicalName) (p : Part) → length (start_of n p) ≤ 3
 few-own n (Data1 start) = omega arith
 few-own n (Register start default scaler_unit) = omega arith
 few-own n (ProfileGeneric captured period entries) = omega arith
+few-own n (Clock first) = omega arith
 few-own n (ScriptTable scripts) = omega arith
 few-own n (RegisterMonitor monitored th actions) = omega arith
 few-own n (SingleActionSchedule script type times) = omega arith
@@ -185,6 +186,7 @@ other_index x y ne e = ne (ap (λ z. z.index) e)
 own-distinct : (n : LogicalName) (p : Part) → AreDistinct (keys (start_of n p))
 own-distinct n (Data1 start) = ((λ i. i), tt)
 own-distinct n (Register start default scaler_unit) = ((λ i. i), tt)
+own-distinct n (Clock first) = ((λ i. i), tt)
 own-distinct n (ProfileGeneric captured period entries) = (
   (λ i. elim i [ inl e ↦ index (ap (λ z. z.index) e) | inr j ↦ elim j [ inl e ↦ index-2 (ap (λ z. z.index) e) | inr m ↦ m ] ]),
   ((λ i. elim i [ inl e ↦ index-3 (ap (λ z. z.index) e) | inr j ↦ j ]), ((λ i. i), tt)),

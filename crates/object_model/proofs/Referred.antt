@@ -11,7 +11,7 @@ use Rattle.cosem_data.specs.declared.cell.CellRef.{CellRef}
 use Rattle.cosem_data.specs.declared.name.LogicalName.{LogicalName}
 use Rattle.meter_theory.specs.Edges.{scripts_named}
 use Rattle.meter_theory.specs.Lists.{IsIn, for_some, some_passes}
-use Rattle.meter_theory.specs.Plan.{Plan, Object, Action, Script, Write, Invoke, Part, Data1, Register, ProfileGeneric, ScriptTable, RegisterMonitor, SingleActionSchedule, cells, object_at, start}
+use Rattle.meter_theory.specs.Plan.{Plan, Object, Action, Script, Write, Invoke, Part, Data1, Register, ProfileGeneric, Clock, ScriptTable, RegisterMonitor, SingleActionSchedule, cells, object_at, start_values}
 use Rattle.meter_theory.specs.State.{value}
 use Rattle.meter_theory.specs.Sound.{IsSound, IsSoundPart, scripts_run_by}
 use Rattle.meter_theory.specs.Steps.{scripts_of, captures_in}
@@ -46,6 +46,7 @@ reference-held P sound o there n (Register start default scaler_unit) is i = abs
 reference-held P sound o there n (ProfileGeneric captured period entries) is i =
     let x = from_map (λ x. x.name) captured n i in
     subst (IsHeld P) (sym x.2) (cell-held P x.0 (sound.captures o there _ (ap captures_in is) x.0 x.1).0)
+reference-held P sound o there n (Clock first) is i = absurd i
 reference-held P sound o there n (ScriptTable scripts) is i =
     let s = from_flat_map (λ s. map target s.actions) scripts n i in
     let a = from_map target s.0.actions n s.2 in
@@ -138,19 +139,19 @@ is_reference P n number place k from h = at (option_and_then (λ o. slice_get (r
 
 -- what a register monitor refers to first is what it watches
 pub watched : (P : Plan) (n : LogicalName) (part : Part) (m : CellRef) (source : AtName) → option_map (λ o. o.part) (object_at P n) ≡ Some part → Some m ≡ monitored_in part →
-    Some source ≡ option_map (λ name. record { plan = P; name = name }) (slice_get (references_at P n) 0) → kind_of (value (start source.plan) (cell m.class_id source.name m.index)) ≡ monitored_kind P part
+    Some source ≡ option_map (λ name. record { plan = P; name = name }) (slice_get (references_at P n) 0) → kind_of (value (start_values source.plan) (cell m.class_id source.name m.index)) ≡ monitored_kind P part
 watched P n part m source is watches there = at (object_at P n) is there
   where
     of : (p : Part) → Some m ≡ monitored_in p → Some source ≡ option_map (λ name. record { plan = P; name = name }) (slice_get (references p) 0) →
-        kind_of (value (start source.plan) (cell m.class_id source.name m.index)) ≡ monitored_kind P p
+        kind_of (value (start_values source.plan) (cell m.class_id source.name m.index)) ≡ monitored_kind P p
     of (RegisterMonitor monitored thresholds actions) e h =
         let same : m ≡ monitored = cc in
         let here : source ≡ record { plan = P; name = monitored.name } = cc in
-        ap₂ (λ (x : CellRef) (i : AtName). kind_of (value (start i.plan) (cell x.class_id i.name x.index))) same here
+        ap₂ (λ (x : CellRef) (i : AtName). kind_of (value (start_values i.plan) (cell x.class_id i.name x.index))) same here
     of p e h = cc
 
     at : (f : Option Object) → option_map (λ o. o.part) f ≡ Some part → Some source ≡ option_map (λ name. record { plan = P; name = name }) (slice_get (for_some f (λ o. references o.part)) 0) →
-        kind_of (value (start source.plan) (cell m.class_id source.name m.index)) ≡ monitored_kind P part
+        kind_of (value (start_values source.plan) (cell m.class_id source.name m.index)) ≡ monitored_kind P part
     at None e h = cc
     at (Some o) e h =
         let same : o.part ≡ part = cc in

@@ -6,14 +6,14 @@ use Rattle.std.proofs.lemmas.List.Elements.{All-nil, All-cons}
 use Rattle.cosem_data.specs.Cells.{same_name}
 use Rattle.meter_theory.specs.Lists.{IsIn, some_passes}
 use Rattle.meter_theory.specs.Plan.{Plan, Object, Right, Part, Data1, interface_of, object_at}
-use Rattle.meter_theory.specs.Sound.{IsSound, are_indexes}
+use Rattle.meter_theory.specs.Sound.{IsSound, are_indexes, highest_method}
 use Rattle.object_model.specs.declared.right.Access.{Access}
 use Rattle.object_model.specs.declared.right.Access.TheVariants.{View, Get, Set, Act}
 use Rattle.object_model.specs.Grants.{listed, HasRoom}
 use Rattle.object_model.proofs.ByObject.{position-map}
 use Rattle.object_model.proofs.Positions.{placed}
 
-small : (highest : ℕ) (indexes : List ℕ) → highest ≤ 8 → are_indexes highest indexes ≡ true → All (λ i. i < 16) indexes
+small : (highest : ℕ) (indexes : List ℕ) → highest ≤ 9 → are_indexes highest indexes ≡ true → All (λ i. i < 16) indexes
 small highest [] few h = All-nil (λ i. i < 16)
 small highest (i ∷ is) few h =
     let parts = and_parts (nat_le 1 i && nat_le i highest) (are_indexes highest is) h in
@@ -21,7 +21,7 @@ small highest (i ∷ is) few h =
     let low = leb-true i highest index.1 in
     All-cons (λ i. i < 16) i is (omega (arith, low, few)) (small highest is few parts.1)
 
-few_indexes : (p : Part) → ((interface_of p).attributes ≤ 8) × ((interface_of p).methods ≤ 8)
+few_indexes : (p : Part) → ((interface_of p).attributes ≤ 9) × (highest_method p ≤ 9)
 few_indexes (Data1 start) = (omega arith, omega arith)
 few_indexes p = (omega arith, omega arith)
 
@@ -29,7 +29,7 @@ pub has-room : (P : Plan) → IsSound P → (r : Right) → IsIn P.rights r → 
 has-room P sound r i = at (object_at P r.object) refl granted.1
   where
     test : Object → Bool
-    test o = are_indexes (interface_of o.part).attributes r.gets && (are_indexes (interface_of o.part).attributes r.sets && are_indexes (interface_of o.part).methods r.acts)
+    test o = are_indexes (interface_of o.part).attributes r.gets && (are_indexes (interface_of o.part).attributes r.sets && are_indexes (highest_method o.part) r.acts)
 
     granted : (nat_lt r.client (length P.clients) ≡ true) × (some_passes test (object_at P r.object) ≡ true)
     granted = and_parts (nat_lt r.client (length P.clients)) (some_passes test (object_at P r.object)) (sound.rights r i)
@@ -51,5 +51,5 @@ has-room P sound r i = at (object_at P r.object) refl granted.1
         each Get = small (interface_of o.part).attributes r.gets (few_indexes o.part).0 (and_parts (are_indexes (interface_of o.part).attributes r.gets) _ h).0
         each Set = small (interface_of o.part).attributes r.sets (few_indexes o.part).0
             (and_parts (are_indexes (interface_of o.part).attributes r.sets) _ (and_parts (are_indexes (interface_of o.part).attributes r.gets) _ h).1).0
-        each Act = small (interface_of o.part).methods r.acts (few_indexes o.part).1
+        each Act = small (highest_method o.part) r.acts (few_indexes o.part).1
             (and_parts (are_indexes (interface_of o.part).attributes r.sets) _ (and_parts (are_indexes (interface_of o.part).attributes r.gets) _ h).1).1

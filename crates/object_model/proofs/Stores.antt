@@ -81,6 +81,7 @@ stores-named x n (cells.ProfileGeneric object) h = three (same_cell x (buffer n)
     three true e b f g = ap (λ y. y.name) (same_cell-true x (buffer n) e)
     three false e true f g = ap (λ y. y.name) (same_cell-true x (capture_period n) f)
     three false e false f g = one x 7 n 7 g
+stores-named x n (cells.Clock object) h = one x 8 n 2 h
 stores-named x n (cells.RegisterMonitor object) h = two (same_cell x (thresholds n)) refl h
   where
     two : (a : Bool) → same_cell x (thresholds n) ≡ a → (a || (same_cell x (seen n) || false)) ≡ true → x.name ≡ n

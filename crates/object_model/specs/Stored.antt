@@ -7,9 +7,10 @@ use Rattle.cosem_data.specs.Cells.{same_cell}
 use Rattle.cosem_data.specs.declared.name.LogicalName.{LogicalName}
 use Rattle.cosem_data.specs.declared.cell.CellRef.{CellRef}
 use Rattle.meter_theory.specs.State.{State, keys, value, put}
+use Rattle.meter_theory.specs.Times.{Moment, clock_value}
 use Rattle.meter_theory.specs.Value.{array_of, counter, structure_of}
 use Rattle.meter_theory.specs.Steps.{buffer_after, in_use_after}
-use Rattle.meter_theory.specs.Plan.{data_value, register_value, buffer, capture_period, entries_in_use, thresholds, seen, execution_time}
+use Rattle.meter_theory.specs.Plan.{data_value, register_value, buffer, capture_period, entries_in_use, clock_time, thresholds, seen, execution_time, inner_clock}
 use Rattle.object_model.specs.declared.held.Held.{Held}
 use Rattle.object_model.specs.declared.held.Held.TheVariants as held
 use Rattle.object_model.specs.declared.stored.Cells.{Cells}
@@ -22,6 +23,7 @@ pairs_of n (cells.Data object) = (data_value n, tree object.value) ∷ []
 pairs_of n (cells.Register object) = (register_value n, tree object.value) ∷ []
 pairs_of n (cells.ProfileGeneric object) =
     (buffer n, array_of object.buffer) ∷ (capture_period n, counter object.capture_period) ∷ (entries_in_use n, counter object.entries_in_use) ∷ []
+pairs_of n (cells.Clock object) = (clock_time n, clock_value object.time) ∷ []
 pairs_of n (cells.RegisterMonitor object) = (thresholds n, tree object.thresholds) ∷ (seen n, tree object.seen) ∷ []
 pairs_of n (cells.SingleActionSchedule object) = (execution_time n, tree object.times) ∷ []
 
@@ -38,11 +40,17 @@ pairs_if (Some o) = stored_pairs o
 abbrev pub stores : CellRef → Stored → Bool
 stores x o = list_any (same_cell x) (keys (stored_pairs o))
 
+-- the inner clock of a meter, if it has one: own profile
+abbrev pub inner_pairs : Option Moment → State
+inner_pairs None = []
+inner_pairs (Some t) = (inner_clock, clock_value t) ∷ []
+
 -- the value that is lent: own profile
 abbrev pub held_tree : Held → Tree
 held_tree (held.Value value) = tree value.now
 held_tree (held.Number number) = counter number
 held_tree (held.Rows rows) = array_of rows.now
+held_tree (held.Time moment) = clock_value moment
 
 -- the cells of a profile after a capture of this row: IEC 62056-6-2, Profile generic, capture
 abbrev pub captured : LogicalName → ℕ → List Tree → State → State

@@ -1,10 +1,10 @@
 -- What a plan keeps beside its parts, so that nothing is looked for twice.
-use Rattle.std.specs.Prelude.{◌≡◌, ◌==◌, ◌<◌, ℕ, Bool, not, List, [], ◌∷◌, length, map, filter, take, flat_map, Some}
+use Rattle.std.specs.Prelude.{◌≡◌, ◌==◌, ◌<◌, ℕ, Bool, not, List, [], ◌∷◌, length, map, filter, take, flat_map, Option, Some, option_map}
 use Rattle.std.specs.List.{slice_index_or}
 use Rattle.cosem_data.specs.declared.name.LogicalName.{LogicalName}
 use Rattle.meter_theory.specs.Edges.{scripts_named}
 use Rattle.meter_theory.specs.Lists.{for_some}
-use Rattle.meter_theory.specs.Plan.{Plan, Object, Action, Write, Invoke, Part, ProfileGeneric, ScriptTable, RegisterMonitor, SingleActionSchedule, class_of, object_at, start_of}
+use Rattle.meter_theory.specs.Plan.{Plan, Object, Action, Write, Invoke, Part, ProfileGeneric, ScriptTable, RegisterMonitor, SingleActionSchedule, class_of, clock_object, object_at, start_of}
 use Rattle.meter_theory.specs.Sound.{IsSound}
 use Rattle.meter_theory.specs.State.{keys}
 use Rattle.object_model.specs.Grants.{AreGrants, place_in}
@@ -53,10 +53,12 @@ references_at P n = for_some (object_at P n) (λ o. references o.part)
 abbrev pub AreReferences : List LogicalName → List Object → List (List ℕ) → Type 0
 AreReferences names objects numbers = map (map Some) numbers ≡ map (λ o. map (place_in names) (references o.part)) objects
 
--- a sound plan, the names of its objects, what its rights grant, the places of its cells, and what its objects refer to: own profile
-pub record AreTables (P : Plan) (names : List LogicalName) (grants : Grants) (places : List Place) (numbers : List (List ℕ)) : Type 0 where
+-- a sound plan, the names of its objects, what its rights grant, the places of its cells, what its objects refer to, and the name of its
+-- clock: own profile
+pub record AreTables (P : Plan) (names : List LogicalName) (grants : Grants) (places : List Place) (numbers : List (List ℕ)) (clock : Option LogicalName) : Type 0 where
   pub sound : IsSound P
   pub named : names ≡ map (λ o. o.name) P.objects
   pub granted : AreGrants names P.rights grants
   pub placed : ArePlaces P.objects places
   pub referred : AreReferences names P.objects numbers
+  pub clocked : clock ≡ option_map (λ o. o.name) (clock_object P)

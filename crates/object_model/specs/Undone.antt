@@ -3,8 +3,9 @@ use Rattle.std.specs.Prelude.{List, [], ◌∷◌, option_map}
 use Rattle.cosem_data.specs.View.{tree}
 use Rattle.cosem_data.specs.declared.cell.CellRef.{CellRef}
 use Rattle.cosem_data.specs.declared.name.LogicalName.{LogicalName}
-use Rattle.meter_theory.specs.Plan.{data_value, register_value, buffer, capture_period, entries_in_use, thresholds, seen, execution_time}
+use Rattle.meter_theory.specs.Plan.{data_value, register_value, buffer, capture_period, entries_in_use, clock_time, thresholds, seen, execution_time}
 use Rattle.meter_theory.specs.State.{State, value, put}
+use Rattle.meter_theory.specs.Times.{clock_value}
 use Rattle.meter_theory.specs.Value.{array_of, counter, elements}
 use Rattle.class_profile.specs.Reversal.{rows_before}
 use Rattle.object_model.specs.declared.undo.Change.{Change}
@@ -16,6 +17,7 @@ abbrev pub change_undone : LogicalName → Change → State → State
 change_undone n (changes.Data held) s = put s (data_value n) (tree held)
 change_undone n (changes.Register held) s = put s (register_value n) (tree held)
 change_undone n (changes.Period held) s = put s (capture_period n) (counter held)
+change_undone n (changes.Clock held) s = put s (clock_time n) (clock_value held)
 change_undone n (changes.Captured captured) s =
     put (put s (buffer n) (array_of (rows_before (option_map tree captured.dropped) (elements (value s (buffer n)))))) (entries_in_use n) (counter captured.entries_in_use)
 change_undone n (changes.Cleared cleared) s = put (put s (buffer n) (array_of cleared.buffer)) (entries_in_use n) (counter cleared.entries_in_use)
@@ -28,6 +30,7 @@ abbrev pub cell_changed : LogicalName → Change → CellRef
 cell_changed n (changes.Data held) = data_value n
 cell_changed n (changes.Register held) = register_value n
 cell_changed n (changes.Period held) = capture_period n
+cell_changed n (changes.Clock held) = clock_time n
 cell_changed n (changes.Captured captured) = buffer n
 cell_changed n (changes.Cleared cleared) = buffer n
 cell_changed n (changes.Thresholds held) = thresholds n

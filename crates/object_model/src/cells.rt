@@ -1,7 +1,8 @@
 //! The cells of objects by their names: the attributes that can change (IEC 62056-6-2, interface classes).
-ghost use Rattle.std.specs.Prelude.{◌≡◌};
+ghost use Rattle.std.specs.Prelude.{◌≡◌, length};
 ghost use Rattle.meter_theory.specs.Plan as theory;
 
+use class_control::clock::Clock;
 use class_control::monitor::Monitor;
 use class_control::schedule::Schedule;
 use class_profile::profile::Profile;
@@ -53,6 +54,13 @@ pub fn entries_in_use(profile: LogicalName) -> CellRef
     )
 }
 
+/// Attribute 2 of a clock, time.
+pub fn clock_time(clock: LogicalName) -> CellRef
+    ensures { result ≡ theory.clock_time clock }
+{
+    cell(Clock::INTERFACE.class_id, clock, Clock::TIME)
+}
+
 /// Attribute 2 of a register monitor, thresholds.
 pub fn thresholds(monitor: LogicalName) -> CellRef
     ensures { result ≡ theory.thresholds monitor }
@@ -76,6 +84,14 @@ pub fn execution_time(schedule: LogicalName) -> CellRef
         schedule,
         Schedule::EXECUTION_TIME,
     )
+}
+
+/// What the type keeps, for callers: the name of a cell has six bytes, so that it isn't the inner clock.
+pub(crate) fn is_named(cell: &CellRef)
+    ensures { length cell.now.name.0 ≡ 6 }
+{
+    let name: &[u8] = &cell.name.0;
+    prove!(name.len() == 6);
 }
 
 fn cell(class_id: u16, name: LogicalName, index: u8) -> CellRef

@@ -1,3 +1,5 @@
+use civil_moment::moment::Moment;
+use class_control::clock::time_data;
 use class_profile::rows::Rows;
 use cosem_data::data::Data;
 use cosem_data::memory::Memory;
@@ -12,6 +14,8 @@ pub enum Held<'a> {
     Number(u32),
     /// The entries of a profile, an array.
     Rows(&'a Rows),
+    /// The time of a clock.
+    Time(Moment),
 }
 
 impl<'a> Held<'a> {
@@ -38,6 +42,7 @@ impl<'a> Held<'a> {
             Held::Value(value) => value.try_clone(alloc),
             Held::Number(number) => Ok(Data::DoubleLongUnsigned(*number)),
             Held::Rows(rows) => rows.to_data(alloc),
+            Held::Time(moment) => time_data(alloc, *moment),
         }
     }
 }

@@ -6,7 +6,7 @@ ghost use Rattle.cosem_data.specs.Cells.{cell, same_cell, same_name};
 ghost use Rattle.cosem_data.specs.Kinds.{kind_of};
 ghost use Rattle.cosem_class.specs.Judged.{rule_answer};
 ghost use Rattle.meter_theory.specs.Fixed.{fixed_of};
-ghost use Rattle.meter_theory.specs.Plan.{cells, interface_at, is_cell, object_at, rule_of, start};
+ghost use Rattle.meter_theory.specs.Plan.{cells, interface_at, is_cell, object_at, rule_of, start_values};
 ghost use Rattle.meter_theory.specs.Rights.{has_right, in_view, lists, may_read};
 ghost use Rattle.meter_theory.specs.State.{value};
 ghost use Rattle.meter_theory.specs.Steps.{captures_of};
@@ -233,7 +233,7 @@ impl<'a> Instance<'a> {
 
     /// The kind of the value with which a cell starts; that of null-data for what is no cell.
     pub fn start_kind(&self, class_id: u16, index: u8) -> Kind
-        ensures { result ≡ kind_of (value (start self.now.plan) (cell class_id self.now.name index)) }
+        ensures { result ≡ kind_of (value (start_values self.now.plan) (cell class_id self.now.name index)) }
     {
         self.plan.known();
         match self.object() {

@@ -1,26 +1,27 @@
 //! A meter: a value for each cell of its plan.
-ghost use Rattle.std.specs.Prelude.{◌≡◌, cond, flat_map, is_some, length, map, slice_get, true, false, None, Some, IfOk, IfSome, IfNone, IsOk, OnOk, OnErr};
+ghost use Rattle.std.specs.Prelude.{◌≡◌, ◌++◌, cond, flat_map, is_some, length, map, slice_get, true, false, None, Some, IfOk, IfSome, IfNone, IsOk, OnOk, OnErr};
 ghost use Rattle.std.specs.List.{position_from};
 ghost use Rattle.cosem_data.specs.View.{tree};
 ghost use Rattle.cosem_data.specs.Tree.{null_data};
 ghost use Rattle.cosem_data.specs.declared.name.LogicalName.{LogicalName as NameValue};
 ghost use Rattle.meter_theory.specs.Lists.{some_passes};
 ghost use Rattle.meter_theory.specs.Plan as plans;
-ghost use Rattle.meter_theory.specs.Plan.{cells, class_of, is_cell, object_at};
+ghost use Rattle.meter_theory.specs.Plan.{cells, class_of, clock_object, held, is_cell, object_at};
 ghost use Rattle.meter_theory.specs.State as state;
 ghost use Rattle.meter_theory.specs.State.{keys, value};
 ghost use Rattle.meter_theory.specs.States.{IsState, MayStand, Fits};
 ghost use Rattle.meter_theory.specs.Steps as theory;
-ghost use Rattle.meter_theory.specs.Steps.{captures_of};
+ghost use Rattle.meter_theory.specs.Steps.{captures_of, clock_set, effects, kept, present, ticked};
+ghost use Rattle.meter_theory.specs.Times.{clock_moment, clock_value, next_second};
 ghost use Rattle.meter_theory.specs.Value.{Rule, meets};
 ghost use Rattle.class_profile.specs.ProfileClass.{is_buffer};
 ghost use Rattle.object_model.specs.EffectView.{effect_of, IsProfile, MayTake};
 ghost use Rattle.object_model.specs.PartView.{part_of, rule_watching};
-ghost use Rattle.object_model.specs.Stored.{captured, held_tree, is_rows, stored_pairs, stores};
+ghost use Rattle.object_model.specs.Stored.{captured, held_tree, inner_pairs, is_rows, stored_pairs, stores};
 ghost use Rattle.object_model.specs.Tables.{references_at};
 ghost use Rattle.object_model.specs.Undone.{changed_cell, undone};
 
-use crate::cells::{buffer, seen};
+use crate::cells::{buffer, clock_time, is_named, seen};
 use crate::effect::Effect;
 use crate::held::Held;
 use crate::instance::Instance;
@@ -28,6 +29,7 @@ use crate::part::Part;
 use crate::plan::Plan;
 use crate::stored::Stored;
 use crate::undo::{Change, Undo};
+use civil_moment::moment::Moment;
 use class_profile::profile::{Cleared, ProfilePart};
 use class_profile::rows::Rows;
 use cosem_class::class::Row;
@@ -40,32 +42,37 @@ use std::alloc::Global;
 use std::marker::Model;
 
 /// A value for each cell of a plan: for each attribute that can change. Contracts see a finite map, in plan order; in memory
-/// it is a list of the objects that have cells, each with those of its class.
+/// it is a list of the objects that have cells, each with those of its class, and the inner clock where the plan has no clock.
 #[derive(Drop)]
 pub struct Meter {
     objects: Vec<Stored>,
+    // Where the plan has no clock.
+    inner_clock: Option<Moment>,
 }
 
 impl Model for Meter {
-    ghost use Rattle.std.specs.Prelude.{flat_map};
+    ghost use Rattle.std.specs.Prelude.{flat_map, ◌++◌};
     ghost use Rattle.meter_theory.specs.State.{State};
     ghost use Rattle.meter_theory.specs.PlanCode.{state_code};
     ghost use Rattle.object_model.specs.PartView.{part_of, rule_watching};
-    ghost use Rattle.object_model.specs.Stored.{stored_pairs};
+    ghost use Rattle.object_model.specs.Stored.{inner_pairs, stored_pairs};
 
     ghost Value = { State };
 
     ghost coded = { state_code };
 
-    ghost view = { λ m. flat_map stored_pairs m.objects.items };
+    ghost view = { λ m. flat_map stored_pairs m.objects.items ++ inner_pairs m.inner_clock };
 }
 
 impl Meter {
-    /// A meter of these objects.
-    pub(crate) fn new(objects: Vec<Stored>) -> Self
-        ensures { result ≡ flat_map stored_pairs objects.items }
+    /// A meter of these objects, with an inner clock or without.
+    pub(crate) fn new(objects: Vec<Stored>, inner_clock: Option<Moment>) -> Self
+        ensures { result ≡ flat_map stored_pairs objects.items ++ inner_pairs inner_clock }
     {
-        Meter { objects }
+        Meter {
+            objects,
+            inner_clock,
+        }
     }
 
     /// A copy of the value in a cell of its plan; null-data where the plan has no such cell.
@@ -103,6 +110,7 @@ impl Meter {
         ensures buffer { IfSome result (λ held. cell.now.class_id ≡ 7 → cell.now.index ≡ 2 → is_rows held ≡ true) }
         ensures none { IfNone result (value self.now cell.now ≡ null_data) }
     {
+        is_named(cell);
         match place_of(instance, &self.objects, cell) {
             Some(place) => Some(self.objects[place].held(cell)),
             None => None,
@@ -130,7 +138,7 @@ impl Meter {
 
     /// Takes an effect on a meter of the plan back.
     pub fn undo(&mut self, plan: &Plan, undo: Undo)
-        requires { keys self.old ≡ cells plan.now }
+        requires { keys self.old ≡ held plan.now }
         ensures { self.new ≡ undone undo self.old }
     {
         let cell = undo.cell();
@@ -143,7 +151,7 @@ impl Meter {
     fn put(&mut self, plan: &Plan, cell: &CellRef, given: Data) -> Undo
         requires of_plan { IsState plan.now self.old }
         requires fits { MayStand plan.now cell.now (tree given) }
-        ensures put { self.new ≡ state.put self.old cell.now (tree given) }
+        ensures put { self.new ≡ state.put self.old cell.now (kept cell.now (tree given)) }
         ensures before { undone result self.new ≡ self.old }
     {
         plan.known();
@@ -231,12 +239,81 @@ impl Meter {
         }
     }
 
+    /// The moment at which the clock stands: that of the plan, or the inner one.
+    pub fn present(&self, plan: &Plan) -> Moment
+        requires { IsState plan.now self.now }
+        ensures { result ≡ present plan.now self.now }
+    {
+        match self.inner_clock {
+            Some(moment) => moment,
+            None => self.told(plan),
+        }
+    }
+
+    /// The moment at which the plan's clock stands.
+    fn told(&self, plan: &Plan) -> Moment
+        requires of_plan { IsState plan.now self.now }
+        requires clock { clock_object plan.now ≡ None → ⊥ }
+        ensures { result ≡ present plan.now self.now }
+    {
+        plan.known();
+        let Some(clock) = plan.clock() else {
+            unreachable!();
+        };
+        let cell = clock_time(clock);
+        let Some(place) = place_of(&plan.instance(&clock), &self.objects, &cell) else {
+            unreachable!();
+        };
+        self.objects[place].moment()
+    }
+
+    /// The clock goes on by a second, that of the plan or the inner one. At the last moment it stays.
+    pub fn tick(&mut self, plan: &Plan)
+        requires { IsState plan.now self.old }
+        ensures { self.new ≡ effects plan.now self.old (ticked plan.now self.old) }
+    {
+        match self.inner_clock {
+            Some(moment) => self.inner_clock = Some(moment.next_second()),
+            None => self.tick_told(plan),
+        }
+    }
+
+    /// The plan's clock goes on by a second.
+    fn tick_told(&mut self, plan: &Plan)
+        requires of_plan { IsState plan.now self.old }
+        requires clock { clock_object plan.now ≡ None → ⊥ }
+        ensures { self.new ≡ effects plan.now self.old (ticked plan.now self.old) }
+    {
+        plan.known();
+        let Some(clock) = plan.clock() else {
+            unreachable!();
+        };
+        let cell = clock_time(clock);
+        let Some(place) = place_of(&plan.instance(&clock), &self.objects, &cell) else {
+            unreachable!();
+        };
+        tick_in(&mut self.objects, place, clock);
+    }
+
+    /// Sets the inner clock; a clock of the plan is left.
+    pub fn set_clock(&mut self, plan: &Plan, moment: Moment)
+        requires { IsState plan.now self.old }
+        ensures { self.new ≡ effects plan.now self.old (clock_set (clock_object plan.now) moment) }
+    {
+        moment.known();
+        match self.inner_clock {
+            Some(_) => self.inner_clock = Some(moment),
+            None => {}
+        }
+    }
+
     /// A copy, which equals the original.
     pub fn try_clone(&self, alloc: Global) -> Result<Meter, Memory>
         ensures { IfOk result (λ copy. copy ≡ self.now) }
     {
         Ok(Meter {
             objects: copy_of(alloc, &self.objects)?,
+            inner_clock: self.inner_clock,
         })
     }
 }
@@ -275,7 +352,7 @@ fn write_in(
     requires place { position_from (stores cell.now) 0 objects.old.items ≡ Some place }
     requires class { class_of (part_of part.now) ≡ cell.now.class_id }
     requires fits { (rule : Rule) × (rule_watching monitored (part_of part.now) cell.now.index ≡ Some rule) × (meets rule (tree given) ≡ true) }
-    ensures put { flat_map stored_pairs objects.new.items ≡ state.put (flat_map stored_pairs objects.old.items) cell.now (tree given) }
+    ensures put { flat_map stored_pairs objects.new.items ≡ state.put (flat_map stored_pairs objects.old.items) cell.now (kept cell.now (tree given)) }
     ensures before { undone result (flat_map stored_pairs objects.new.items) ≡ flat_map stored_pairs objects.old.items }
 {
     let change = objects[place].write(part, monitored, cell.index, given);
@@ -322,6 +399,14 @@ fn clear_in(objects: &mut Vec<Stored>, place: usize, name: LogicalName) -> Undo
 {
     let change = objects[place].clear();
     Undo { name, change }
+}
+
+/// The clock at this place goes on by a second.
+fn tick_in(objects: &mut Vec<Stored>, place: usize, name: LogicalName)
+    requires place { position_from (stores (plans.clock_time name)) 0 objects.old.items ≡ Some place }
+    ensures { flat_map stored_pairs objects.new.items ≡ state.put (flat_map stored_pairs objects.old.items) (plans.clock_time name) (clock_value (next_second (clock_moment (value (flat_map stored_pairs objects.old.items) (plans.clock_time name))))) }
+{
+    objects[place].tick();
 }
 
 /// Takes a change of the object at this place back.

@@ -9,16 +9,17 @@ ghost use Rattle.cosem_class.specs.Judged.{coded_answer, rule_answer};
 ghost use Rattle.meter_theory.specs.Plan.{class_of, interface_of, start_of};
 ghost use Rattle.meter_theory.specs.State.{keys, value};
 ghost use Rattle.meter_theory.specs.Fixed.{fixed_in};
-ghost use Rattle.meter_theory.specs.Value.{OfKind, Thresholds, ExecutionTimes};
+ghost use Rattle.meter_theory.specs.Value.{OfKind, Thresholds, ExecutionTimes, ClockTime};
 ghost use Rattle.object_model.specs.PartView.{part_of, monitored_in, rule_watching};
 
 use crate::cells::{
-    buffer, capture_period, data_value, entries_in_use, execution_time, register_value, seen,
-    thresholds,
+    buffer, capture_period, clock_time, data_value, entries_in_use, execution_time, register_value,
+    seen, thresholds,
 };
+use class_control::clock::{Clock, judge_time};
 use class_control::judge::{judge_thresholds, judge_times};
 use class_control::monitor::Monitor;
-use class_control::parts::{MonitorPart, SchedulePart, ScriptTablePart};
+use class_control::parts::{ClockPart, MonitorPart, SchedulePart, ScriptTablePart};
 use class_control::schedule::Schedule;
 use class_control::script_table::ScriptTable;
 use class_profile::profile::{Profile, ProfilePart};
@@ -46,6 +47,8 @@ pub enum Part {
     Register(RegisterPart),
     /// Class 7, Profile generic: what it captures, how often and how much of it is kept.
     ProfileGeneric(ProfilePart),
+    /// Class 8, Clock: the moment at which it starts.
+    Clock(ClockPart),
     /// Class 9, Script table: its scripts.
     ScriptTable(ScriptTablePart),
     /// Class 21, Register monitor: what it watches, its thresholds and what is run at each.
@@ -63,6 +66,7 @@ impl Part {
             Part::Data(_) => Data1::INTERFACE,
             Part::Register(_) => Register::INTERFACE,
             Part::ProfileGeneric(_) => Profile::INTERFACE,
+            Part::Clock(_) => Clock::INTERFACE,
             Part::ScriptTable(_) => ScriptTable::INTERFACE,
             Part::RegisterMonitor(_) => Monitor::INTERFACE,
             Part::SingleActionSchedule(_) => Schedule::INTERFACE,
@@ -77,7 +81,7 @@ impl Part {
     }
 
     /// A copy of a fixed attribute other than the logical name, null-data at any other index: of a register attribute 3, of
-    /// a profile 3, 5, 6 and 8, of a script table 2, of a register monitor 3 and 4, of a schedule 2 and 3 (IEC 62056-6-2).
+    /// a profile 3, 5, 6 and 8, of a clock 3 to 9, of a script table 2, of a register monitor 3 and 4, of a schedule 2 and 3 (IEC 62056-6-2).
     #[tactic(auto, unfolding(meter_theory::specs::Fixed::fixed_in))]
     pub fn fixed(&self, alloc: Global, index: u8) -> Result<Data, Memory>
         ensures { IfOk result (λ value. tree value ≡ fixed_in (part_of self.now) index) }
@@ -90,6 +94,7 @@ impl Part {
             ),
             Part::Register(_) => Ok(Data::NullData),
             Part::ProfileGeneric(part) => part.fixed(alloc, index),
+            Part::Clock(part) => part.fixed(alloc, index),
             Part::ScriptTable(part) => part.fixed(alloc, index),
             Part::RegisterMonitor(part) => part.fixed(alloc, index),
             Part::SingleActionSchedule(part) => part.fixed(alloc, index),
@@ -112,7 +117,7 @@ impl Part {
         ensures few { result ≤ 3 }
     {
         match self {
-            Part::Data(_) | Part::Register(_) | Part::SingleActionSchedule(_) => 1,
+            Part::Data(_) | Part::Register(_) | Part::Clock(_) | Part::SingleActionSchedule(_) => 1,
             Part::ProfileGeneric(_) => 3,
             Part::ScriptTable(_) => 0,
             Part::RegisterMonitor(_) => 2,
@@ -135,6 +140,7 @@ impl Part {
                 cells.push(capture_period(name))?;
                 cells.push(entries_in_use(name))?;
             }
+            Part::Clock(_) => cells.push(clock_time(name))?,
             Part::ScriptTable(_) => {}
             Part::RegisterMonitor(_) => {
                 cells.push(thresholds(name))?;
@@ -165,6 +171,7 @@ impl Part {
                 &[buffer(name), capture_period(name), entries_in_use(name)],
                 cell,
             ),
+            Part::Clock(_) => place_among(&[clock_time(name)], cell),
             Part::ScriptTable(_) => None,
             Part::RegisterMonitor(_) => place_among(&[thresholds(name), seen(name)], cell),
             Part::SingleActionSchedule(_) => place_among(&[execution_time(name)], cell),
@@ -183,6 +190,7 @@ impl Part {
             (Part::Register(part), _) => part.start.kind(),
             (Part::ProfileGeneric(_), 2) => Kind::Array,
             (Part::ProfileGeneric(_), _) => Kind::DoubleLongUnsigned,
+            (Part::Clock(_), _) => Kind::OctetString,
             (Part::RegisterMonitor(part), 2) => part.start.kind(),
             (Part::SingleActionSchedule(part), _) => part.start.kind(),
             _ => Kind::NullData,
@@ -200,6 +208,7 @@ impl Part {
                 kind_answer(start.kind(), value)
             }
             (Part::ProfileGeneric(_), 4) => kind_answer(Kind::DoubleLongUnsigned, value),
+            (Part::Clock(_), 2) => clock_answer(value),
             (Part::RegisterMonitor(part), 2) => {
                 thresholds_answer(part.actions.len(), monitored, value)
             }
@@ -242,6 +251,15 @@ fn thresholds_answer(number: usize, kind: Kind, value: &Data) -> Result<(), Acce
     ensures { result ≡ rule_answer (Some (Thresholds number kind)) (tree value.now) }
 {
     coded(judge_thresholds(number, kind, value))
+}
+
+fn clock_answer(value: &Data) -> Result<(), AccessCode>
+    ensures { result ≡ rule_answer (Some ClockTime) (tree value.now) }
+{
+    match judge_time(value) {
+        Ok(_) => Ok(()),
+        Err(fault) => Err(AccessCode::from(fault)),
+    }
 }
 
 fn times_answer(execution_type: u8, value: &Data) -> Result<(), AccessCode>

@@ -1,9 +1,9 @@
-ghost use Rattle.std.specs.Prelude.{◌≡◌, ◌<◌, ◌≤◌, ◌+◌, ◌^◌, ℕ, length, option_map, option_and_then, map, flat_map, IfOk, Some, slice_get};
+ghost use Rattle.std.specs.Prelude.{◌≡◌, ◌==◌, ◌<◌, ◌≤◌, ◌+◌, ◌^◌, ℕ, find, length, option_map, option_and_then, map, flat_map, IfOk, Some, slice_get};
 ghost use Rattle.std.specs.List.{position_from};
 ghost use Rattle.std.specs.Str.{bytes_eq};
 ghost use Rattle.cosem_data.specs.Cells.{same_cell, same_name};
 ghost use Rattle.cosem_data.specs.Kinds.{kind_of};
-ghost use Rattle.meter_theory.specs.Plan.{cells, client_named, is_cell, object_at, start, start_of};
+ghost use Rattle.meter_theory.specs.Plan.{cells, class_of, client_named, clock_object, is_cell, object_at, start, start_of, start_values};
 ghost use Rattle.meter_theory.specs.Rights.{is_client};
 ghost use Rattle.meter_theory.specs.State.{value};
 ghost use Rattle.meter_theory.specs.Sound.{IsSound};
@@ -22,6 +22,8 @@ use crate::place::{Place, places_of};
 use crate::references::References;
 use crate::right::{Access, Right};
 use crate::stored::Stored;
+use civil_moment::moment::Moment;
+use class_control::clock::Clock;
 use cosem_data::cell::CellRef;
 use cosem_data::data::Data;
 use cosem_data::kind::Kind;
@@ -45,6 +47,8 @@ pub const ASSOCIATION_LN: Interface = Interface {
 /// The lists that make a plan.
 #[derive(Drop)]
 pub struct PlanParts {
+    /// 1 or 2: the version of the configuration (own profile).
+    pub version: u8,
     /// The clients: a client is named by its place here, from 0.
     pub clients: Vec<Client>,
     /// The objects, in plan order.
@@ -58,6 +62,7 @@ pub struct PlanParts {
 /// the places of the cells, and what the objects refer to.
 #[derive(Drop)]
 pub struct Plan {
+    version: u8,
     clients: Vec<Client>,
     objects: Vec<Object>,
     rights: Vec<Right>,
@@ -65,6 +70,7 @@ pub struct Plan {
     grants: Grants,
     places: Vec<Place>,
     references: References,
+    clock: Option<LogicalName>,
 }
 
 impl Model for Plan {
@@ -76,9 +82,9 @@ impl Model for Plan {
 
     ghost coded = { plan_code };
 
-    ghost view = { λ p. record { clients = p.clients.items; objects = p.objects.items; rights = p.rights.items } };
+    ghost view = { λ p. record { version = p.version; clients = p.clients.items; objects = p.objects.items; rights = p.rights.items } };
 
-    ghost invariant = { λ p. AreTables (record { clients = p.clients.items; objects = p.objects.items; rights = p.rights.items }) p.index p.grants p.places.items p.references };
+    ghost invariant = { λ p. AreTables (record { version = p.version; clients = p.clients.items; objects = p.objects.items; rights = p.rights.items }) p.index p.grants p.places.items p.references p.clock };
 }
 
 impl Plan {
@@ -88,6 +94,7 @@ impl Plan {
         ensures { IfOk result (λ plan. plan ≡ plan_of parts) }
     {
         let PlanParts {
+            version,
             clients,
             objects,
             rights,
@@ -96,7 +103,9 @@ impl Plan {
         let grants = Grants::new(alloc, &index, &rights)?;
         let places = places_of(alloc, &objects)?;
         let references = References::new(alloc, &index, &objects)?;
+        let clock = clock_of(&objects);
         Ok(Plan {
+            version,
             clients,
             objects,
             rights,
@@ -104,6 +113,7 @@ impl Plan {
             grants,
             places,
             references,
+            clock,
         })
     }
 
@@ -227,7 +237,7 @@ impl Plan {
 
     /// The kind of the value with which a cell starts; that of null-data for what is no cell.
     pub fn start_kind(&self, cell: &CellRef) -> Kind
-        ensures { result ≡ kind_of (value (start self.now) cell.now) }
+        ensures { result ≡ kind_of (value (start_values self.now) cell.now) }
     {
         self.instance(&cell.name)
             .start_kind(cell.class_id, cell.index)
@@ -237,7 +247,25 @@ impl Plan {
     pub fn start(&self, alloc: Global) -> Result<Meter, Memory>
         ensures { IfOk result (λ meter. meter ≡ start self.now) }
     {
-        Ok(Meter::new(start_objects(alloc, &self.objects)?))
+        let inner_clock = match self.clock() {
+            Some(_) => None,
+            None => Some(Moment::first()),
+        };
+        Ok(Meter::new(start_objects(alloc, &self.objects)?, inner_clock))
+    }
+
+    /// The version of the configuration, 1 or 2 (own profile).
+    pub fn version(&self) -> u8
+        ensures { result ≡ self.now.version }
+    {
+        self.version
+    }
+
+    /// The name of the clock, if the plan has one.
+    pub fn clock(&self) -> Option<LogicalName>
+        ensures { result ≡ option_map (λ o. o.name) (clock_object self.now) }
+    {
+        self.clock
     }
 
     /// The cells, the attributes that can change, in plan order.
@@ -265,6 +293,15 @@ impl Plan {
     {
         self.instance(&cell.name).is_cell(cell.class_id, cell.index)
     }
+}
+
+/// The name of the first clock among the objects.
+fn clock_of(objects: &[Object]) -> Option<LogicalName>
+    ensures { result ≡ option_map (λ o. o.name) (find (λ o. class_of o.part == 8) objects.now) }
+{
+    let clock = objects.iter().find(|object| object.part().class_id()
+        == Clock::INTERFACE.class_id)?;
+    Some(clock.name())
 }
 
 /// Where the first client with this name stands.

@@ -84,7 +84,7 @@ fn names_in(alloc: Global, part: &Part) -> Result<Vec<LogicalName>, Memory>
 {
     let mut names = Vec::new(alloc);
     match part {
-        Part::Data(_) | Part::Register(_) => {}
+        Part::Data(_) | Part::Register(_) | Part::Clock(_) => {}
         Part::ProfileGeneric(part) => push_captured(&part.captured, &mut names)?,
         Part::ScriptTable(part) => push_scripts(&part.scripts, &mut names)?,
         Part::RegisterMonitor(part) => {

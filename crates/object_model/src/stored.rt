@@ -5,7 +5,8 @@ ghost use Rattle.cosem_data.specs.Cells.{cell};
 ghost use Rattle.meter_theory.specs.Plan as theory;
 ghost use Rattle.meter_theory.specs.Plan.{class_of, start_of};
 ghost use Rattle.meter_theory.specs.State.{keys, put, value};
-ghost use Rattle.meter_theory.specs.Steps.{clear};
+ghost use Rattle.meter_theory.specs.Steps.{clear, kept};
+ghost use Rattle.meter_theory.specs.Times.{clock_moment, clock_value, next_second};
 ghost use Rattle.meter_theory.specs.Value.{Rule, elements, meets};
 ghost use Rattle.class_profile.specs.ProfileClass.{is_buffer};
 ghost use Rattle.object_model.specs.PartView.{part_of, rule_watching};
@@ -13,14 +14,18 @@ ghost use Rattle.object_model.specs.Stored.{captured, held_tree, is_rows, pairs_
 ghost use Rattle.object_model.specs.Undone.{cell_changed, change_undone};
 
 use crate::cells::{
-    buffer, capture_period, data_value, entries_in_use, execution_time, register_value, seen,
-    thresholds,
+    buffer, capture_period, clock_time, data_value, entries_in_use, execution_time, register_value,
+    seen, thresholds,
 };
 use crate::held::Held;
 use crate::object::Object;
 use crate::part::Part;
 use crate::undo::Change;
-use crate::writes::{write_data, write_monitor, write_profile, write_register, write_schedule};
+use crate::writes::{
+    write_clock, write_data, write_monitor, write_profile, write_register, write_schedule,
+};
+use civil_moment::moment::Moment;
+use class_control::clock::Clock;
 use class_control::monitor::{Monitor, Watch};
 use class_control::schedule::Schedule;
 use class_profile::profile::{Profile, ProfilePart};
@@ -41,6 +46,7 @@ pub(crate) enum Cells {
     Data(Data1),
     Register(Register),
     ProfileGeneric(Profile),
+    Clock(Clock),
     RegisterMonitor(Monitor),
     SingleActionSchedule(Schedule),
 }
@@ -69,6 +75,7 @@ impl Stored {
                 capture_period: part.capture_period,
                 entries_in_use: 0,
             }),
+            Part::Clock(part) => Cells::Clock(Clock { time: part.start }),
             Part::ScriptTable(_) => return Ok(None),
             Part::RegisterMonitor(part) => Cells::RegisterMonitor(Monitor {
                 thresholds: part.start.try_clone(alloc)?,
@@ -100,6 +107,7 @@ impl Stored {
                 capture_period: object.capture_period,
                 entries_in_use: object.entries_in_use,
             }),
+            Cells::Clock(object) => Cells::Clock(Clock { time: object.time }),
             Cells::RegisterMonitor(object) => Cells::RegisterMonitor(Monitor {
                 thresholds: object.thresholds.try_clone(alloc)?,
                 seen: object.seen.try_clone(alloc)?,
@@ -127,6 +135,7 @@ impl Stored {
                     || *cell == capture_period(name)
                     || *cell == entries_in_use(name)
             }
+            Cells::Clock(_) => *cell == clock_time(name),
             Cells::RegisterMonitor(_) => { *cell == thresholds(name) || *cell == seen(name) }
             Cells::SingleActionSchedule(_) => *cell == execution_time(name),
         }
@@ -147,6 +156,7 @@ impl Stored {
                 Profile::CAPTURE_PERIOD => Held::Number(object.capture_period),
                 _ => Held::Number(object.entries_in_use),
             },
+            Cells::Clock(object) => Held::Time(object.time),
             Cells::RegisterMonitor(object) => match cell.index {
                 Monitor::THRESHOLDS => Held::Value(&object.thresholds),
                 _ => Held::Value(&object.seen),
@@ -161,7 +171,7 @@ impl Stored {
         requires fits { (rule : Rule) × (rule_watching monitored (part_of part.now) index ≡ Some rule) × (meets rule (tree given) ≡ true) }
         requires stored { stores (cell (class_of (part_of part.now)) self.old.name index) self.old ≡ true }
         ensures name { self.new.name ≡ self.old.name }
-        ensures put { stored_pairs self.new ≡ put (stored_pairs self.old) (cell (class_of (part_of part.now)) self.old.name index) (tree given) }
+        ensures put { stored_pairs self.new ≡ put (stored_pairs self.old) (cell (class_of (part_of part.now)) self.old.name index) (kept (cell (class_of (part_of part.now)) self.old.name index) (tree given)) }
         ensures cell { cell_changed self.old.name result ≡ cell (class_of (part_of part.now)) self.old.name index }
         ensures before { change_undone self.old.name result (stored_pairs self.new) ≡ stored_pairs self.old }
     {
@@ -176,6 +186,9 @@ impl Stored {
             (Cells::ProfileGeneric(object), Part::ProfileGeneric(part)) => {
                 Change::Period(write_profile(object, Lent { name, part }, index, given))
             }
+            (Cells::Clock(object), Part::Clock(part)) => {
+                Change::Clock(write_clock(object, Lent { name, part }, index, given))
+            }
             (Cells::RegisterMonitor(object), Part::RegisterMonitor(part)) => {
                 let kind = monitored;
                 Change::Thresholds(write_monitor(object, Watch { name, part, kind }, index, given))
@@ -183,6 +196,29 @@ impl Stored {
             (Cells::SingleActionSchedule(object), Part::SingleActionSchedule(part)) => {
                 Change::Times(write_schedule(object, Lent { name, part }, index, given))
             }
+            _ => unreachable!(),
+        }
+    }
+
+    /// The moment at which a clock stands.
+    pub(crate) fn moment(&self) -> Moment
+        requires { stores (theory.clock_time self.now.name) self.now ≡ true }
+        ensures { result ≡ clock_moment (value (stored_pairs self.now) (theory.clock_time self.now.name)) }
+    {
+        match &self.cells {
+            Cells::Clock(object) => object.time,
+            _ => unreachable!(),
+        }
+    }
+
+    /// A clock goes on by a second.
+    pub(crate) fn tick(&mut self)
+        requires { stores (theory.clock_time self.old.name) self.old ≡ true }
+        ensures name { self.new.name ≡ self.old.name }
+        ensures put { stored_pairs self.new ≡ put (stored_pairs self.old) (theory.clock_time self.old.name) (clock_value (next_second (clock_moment (value (stored_pairs self.old) (theory.clock_time self.old.name))))) }
+    {
+        match &mut self.cells {
+            Cells::Clock(object) => object.tick(),
             _ => unreachable!(),
         }
     }
@@ -254,6 +290,7 @@ impl Stored {
                 object.take_back(captured)
             }
             (Cells::ProfileGeneric(object), Change::Cleared(cleared)) => object.restore(cleared),
+            (Cells::Clock(object), Change::Clock(held)) => object.time = held,
             (Cells::RegisterMonitor(object), Change::Thresholds(held)) => object.thresholds = held,
             (Cells::RegisterMonitor(object), Change::Seen(held)) => object.seen = held,
             (Cells::SingleActionSchedule(object), Change::Times(held)) => object.times = held,

@@ -3,8 +3,10 @@ ghost use Rattle.std.specs.Prelude.{◌≡◌};
 ghost use Rattle.object_model.specs.Undone.{changed_cell};
 
 use crate::cells::{
-    buffer, capture_period, data_value, execution_time, register_value, seen, thresholds,
+    buffer, capture_period, clock_time, data_value, execution_time, register_value, seen,
+    thresholds,
 };
+use civil_moment::moment::Moment;
 use class_profile::profile::{Captured, Cleared};
 use cosem_data::cell::CellRef;
 use cosem_data::data::Data;
@@ -19,6 +21,8 @@ pub enum Change {
     Register(Data),
     /// The capture_period of a profile.
     Period(u32),
+    /// The time of a clock.
+    Clock(Moment),
     /// A capture.
     Captured(Captured),
     /// A reset of a profile.
@@ -48,6 +52,7 @@ impl Undo {
             Change::Data(_) => data_value(name),
             Change::Register(_) => register_value(name),
             Change::Period(_) => capture_period(name),
+            Change::Clock(_) => clock_time(name),
             Change::Captured(_) | Change::Cleared(_) => buffer(name),
             Change::Thresholds(_) => thresholds(name),
             Change::Seen(_) => seen(name),

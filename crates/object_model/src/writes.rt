@@ -2,11 +2,14 @@
 ghost use Rattle.std.specs.Prelude.{◌≡◌, length, true};
 ghost use Rattle.cosem_data.specs.View.{tree};
 ghost use Rattle.cosem_data.specs.Kinds.{kind_of};
-ghost use Rattle.meter_theory.specs.Value.{OfKind, Thresholds, ExecutionTimes, array_of, counter, meets};
+ghost use Rattle.meter_theory.specs.Times.{clock_moment};
+ghost use Rattle.meter_theory.specs.Value.{OfKind, Thresholds, ExecutionTimes, ClockTime, array_of, counter, meets};
 ghost use Rattle.class_profile.specs.ProfileClass.{period_rule};
 
+use civil_moment::moment::Moment;
+use class_control::clock::Clock;
 use class_control::monitor::{Monitor, Watch};
-use class_control::parts::SchedulePart;
+use class_control::parts::{ClockPart, SchedulePart};
 use class_control::schedule::Schedule;
 use class_profile::profile::{Profile, ProfilePart};
 use cosem_class::class::Lent;
@@ -68,6 +71,23 @@ pub(crate) fn write_monitor(object: &mut Monitor, watch: Watch, index: u8, given
     ensures previous { tree result ≡ tree object.old.thresholds }
 {
     put_into(object, watch, index, given)
+}
+
+/// The time of a clock. The previous moment is returned.
+pub(crate) fn write_clock(
+    object: &mut Clock,
+    lent: Lent<ClockPart>,
+    index: u8,
+    given: Data,
+) -> Moment
+    requires index { index ≡ 2 }
+    requires fits { meets ClockTime (tree given) ≡ true }
+    ensures time { object.new.time ≡ clock_moment (tree given) }
+    ensures previous { result ≡ object.old.time }
+{
+    let previous = object.time;
+    let _same = put_into(object, lent, index, given);
+    previous
 }
 
 /// The execution_time of a single action schedule. The previous one is returned.

@@ -6,7 +6,7 @@ use Rattle.std.specs.Prelude.{slice_get}
 use Rattle.std.proofs.lemmas.Bool.{and_parts, leb-true, cond-true}
 use Rattle.std.proofs.lemmas.List.{length-append, length-map}
 use Rattle.std.proofs.lemmas.List.FromFn.{length-range_with_len}
-use Rattle.cosem_data.specs.Tree.{Tree, null_data, boolean, octet_string, integer, unsigned, long_unsigned, enumerated, depth}
+use Rattle.cosem_data.specs.Tree.{Tree, null_data, boolean, octet_string, integer, long, unsigned, long_unsigned, enumerated, depth}
 use Rattle.cosem_data.specs.Kinds.{kind_of}
 use Rattle.cosem_data.specs.Cells.{same_name, cell}
 use Rattle.cosem_data.specs.declared.name.LogicalName.{LogicalName}
@@ -15,16 +15,16 @@ use Rattle.cosem_data.specs.declared.kind.Kind.TheVariants.{DoubleLongUnsigned}
 use Rattle.cosem_axdr.specs.Canonical.{canonical, shortest}
 use Rattle.meter_theory.specs.Lists.{IsIn}
 use Rattle.meter_theory.specs.declared.limits.TheConstants as limits
-use Rattle.meter_theory.specs.Value.{Rule, OfKind, Thresholds, ExecutionTimes, array_of, structure_of, elements, counter, valid_tag, valid_elements, is_within_limits, meets}
+use Rattle.meter_theory.specs.Value.{Rule, OfKind, Thresholds, ExecutionTimes, ClockTime, array_of, structure_of, elements, counter, valid_tag, valid_parts, is_within_limits, meets}
 use Rattle.meter_theory.specs.Selection.{EntryDescriptor}
 use Rattle.meter_theory.specs.State.{State, value}
 use Rattle.meter_theory.specs.declared.refs.ScalerUnit.{ScalerUnit}
 use Rattle.meter_theory.specs.declared.refs.ScriptRef.{ScriptRef}
 use Rattle.meter_theory.specs.declared.refs.UpDown.{UpDown}
 use Rattle.meter_theory.specs.declared.refs.Interface.{Interface}
-use Rattle.meter_theory.specs.Plan.{Plan, Client, Object, Part, Data1, Register, ProfileGeneric, ScriptTable, RegisterMonitor, SingleActionSchedule, Script, Action, Write, Invoke, association, association_name, interface_of, interface_at, object_at, class_of, cells, start, start_of, is_cell, rule_in, rule_of, data_value, register_value, buffer, capture_period, thresholds, seen, execution_time}
+use Rattle.meter_theory.specs.Plan.{Plan, Client, Object, Part, Data1, Register, ProfileGeneric, Clock, ScriptTable, RegisterMonitor, SingleActionSchedule, Script, Action, Write, Invoke, association, association_name, interface_of, interface_at, object_at, class_of, cells, start_values, start_of, is_cell, rule_in, rule_of, clock_time, data_value, register_value, buffer, capture_period, thresholds, seen, execution_time}
 use Rattle.meter_theory.specs.Rights.{cell_of, Selection, class_is, descriptor_in, get_answer, has_right, may_read, may_act}
-use Rattle.meter_theory.specs.Fixed.{name_value, index_value, scaler_unit_value, capture_object, fifo, no_sort_object, action_value, script_value, monitored_value, script_ref_value, up_down_value, fixed_in, fixed_of, attribute_access, access_mode, method_access, access_selectors, access_rights, listed_object, objects_of, object_list, partners, application_context, mechanism_of, of_client, association_attribute, fixed}
+use Rattle.meter_theory.specs.Fixed.{name_value, index_value, scaler_unit_value, capture_object, fifo, no_sort_object, action_value, script_value, monitored_value, script_ref_value, up_down_value, no_date_time, fixed_in, fixed_of, attribute_access, access_mode, method_access, access_selectors, access_rights, listed_object, objects_of, object_list, partners, application_context, mechanism_of, of_client, association_attribute, fixed}
 use Rattle.meter_theory.specs.Access.{is_success}
 use Rattle.meter_theory.specs.Replies.{Value, Code, attribute, selected_by, selected, reply_to}
 use Rattle.meter_theory.specs.Steps.{Step, Get}
@@ -33,6 +33,7 @@ use Rattle.meter_theory.specs.States.{IsCaptured, AreCaptured, AreRows, IsBuffer
 use Rattle.meter_theory.proofs.Lists.{from_map, from_filter, from_flat_map, none_found}
 use Rattle.meter_theory.proofs.Agreement.{object-found, one_named}
 use Rattle.meter_theory.proofs.Rights.{get_class}
+use Rattle.meter_theory.proofs.Held.{cell_held}
 use Rattle.meter_theory.proofs.Theorem.{all_at, is_cell_in}
 use Rattle.reply_sizes.proofs.Sums.{IsWithin, AreWithin, length-shortest, are_within, wider, either, array_within, structure_within, map_within, entries_within}
 
@@ -71,6 +72,9 @@ boolean_small b = record { bytes = omega arith }
 integer_small : (z : ℤ) → IsSmall (integer z)
 integer_small z = record { bytes = omega arith }
 
+long_small : (z : ℤ) → IsSmall (long z)
+long_small z = record { bytes = omega arith }
+
 unsigned_small : (n : ℕ) → IsSmall (unsigned n)
 unsigned_small n = record { bytes = omega arith }
 
@@ -89,6 +93,9 @@ short_string_small bytes few =
     let f = length-shortest (length bytes) in
     record { bytes = omega (arith, e, f, few) }
 
+undated_small : IsSmall no_date_time
+undated_small = short_string_small (255 ∷ 255 ∷ 255 ∷ 255 ∷ 255 ∷ 255 ∷ 255 ∷ 255 ∷ 255 ∷ 255 ∷ 255 ∷ 255 ∷ []) (omega arith)
+
 name_small : (n : LogicalName) → is_name n ≡ true → IsSmall (name_value n)
 name_small n h =
     let six : length n.0 ≡ 6 = eqb-true (length n.0) 6 h in
@@ -101,7 +108,7 @@ limited_small v h =
 
 meeting_small : (rule : Rule) (v : Tree) → meets rule v ≡ true → IsSmall v
 meeting_small rule v h =
-    limited_small v (and_parts (is_within_limits v) (valid_elements rule (elements v)) (and_parts (valid_tag rule v) (is_within_limits v && valid_elements rule (elements v)) h).1).0
+    limited_small v (and_parts (is_within_limits v) (valid_parts rule v) (and_parts (valid_tag rule v) (is_within_limits v && valid_parts rule v) h).1).0
 
 -- at most five small values
 brief : (ts : List Tree) → length ts ≤ 5 → AreWithin 1024 ts → IsBrief (structure_of ts)
@@ -179,6 +186,14 @@ part_reply (ProfileGeneric captured period entries) h index =
     (either longest (index == 5) fifo _ (small_reply fifo (enumerated_small 1))
     (either longest (index == 6) no_sort_object _ (brief_reply no_sort_object unsorted_brief)
     (either longest (index == 8) (counter entries) null_data (small_reply (counter entries) (counter_small entries)) (small_reply null_data null_small))))
+part_reply (Clock first) h index =
+    either longest (index == 3) (long (pos 0)) _ (small_reply (long (pos 0)) (long_small (pos 0)))
+    (either longest (index == 4) (unsigned 0) _ (small_reply (unsigned 0) (unsigned_small 0))
+    (either longest (index == 5) no_date_time _ (small_reply no_date_time undated_small)
+    (either longest (index == 6) no_date_time _ (small_reply no_date_time undated_small)
+    (either longest (index == 7) (integer (pos 0)) _ (small_reply (integer (pos 0)) (integer_small (pos 0)))
+    (either longest (index == 8) (boolean false) _ (small_reply (boolean false) (boolean_small false))
+    (either longest (index == 9) (enumerated 0) null_data (small_reply (enumerated 0) (enumerated_small 0)) (small_reply null_data null_small)))))))
 part_reply (ScriptTable scripts) h index =
     let a = and_parts (nat_le (length scripts) limits.SCRIPTS) (list_all has_script_sizes scripts) h in
     either longest (index == 2) (array_of (map script_value scripts)) null_data
@@ -214,23 +229,23 @@ method_brief P c x =
     brief (index_value x.index ∷ boolean allowed ∷ []) (omega arith)
     (integer_small (pos x.index), (boolean_small allowed, tt))
 
--- at most eight attributes and eight methods
-rights_within : (P : Plan) (c : ℕ) (n : LogicalName) (i : Interface) → i.attributes ≤ 8 → i.methods ≤ 8 → IsWithin 82034 (access_rights P c n i)
+-- at most nine attributes and nine methods
+rights_within : (P : Plan) (c : ℕ) (n : LogicalName) (i : Interface) → i.attributes ≤ 9 → i.methods ≤ 9 → IsWithin 92286 (access_rights P c n i)
 unfolding access_rights
 rights_within P c n i few fewer =
-    structure_within 2 41014
+    structure_within 2 46140
     (array_of (map (λ k. attribute_access P c (cell i.class_id n k)) (range_with_len 1 i.attributes))
     ∷ array_of (map (λ k. method_access P c (cell i.class_id n k)) (range_with_len 1 i.methods))
     ∷ [])
     (omega arith)
-    (map_within 8 5126 (λ k. attribute_access P c (cell i.class_id n k)) (range_with_len 1 i.attributes) (let e = length-range_with_len 1 i.attributes in omega (arith, e)) (λ k m. attribute_brief P c (cell i.class_id n k)), (map_within 8 5126 (λ k. method_access P c (cell i.class_id n k)) (range_with_len 1 i.methods) (let e = length-range_with_len 1 i.methods in omega (arith, e)) (λ k m. method_brief P c (cell i.class_id n k)), tt))
+    (map_within 9 5126 (λ k. attribute_access P c (cell i.class_id n k)) (range_with_len 1 i.attributes) (let e = length-range_with_len 1 i.attributes in omega (arith, e)) (λ k m. attribute_brief P c (cell i.class_id n k)), (map_within 9 5126 (λ k. method_access P c (cell i.class_id n k)) (range_with_len 1 i.methods) (let e = length-range_with_len 1 i.methods in omega (arith, e)) (λ k m. method_brief P c (cell i.class_id n k)), tt))
 
-listed_within : (P : Plan) (c : ℕ) (n : LogicalName) (i : Interface) → is_name n ≡ true → i.attributes ≤ 8 → i.methods ≤ 8 → IsWithin 328142 (listed_object P c n i)
+listed_within : (P : Plan) (c : ℕ) (n : LogicalName) (i : Interface) → is_name n ≡ true → i.attributes ≤ 9 → i.methods ≤ 9 → IsWithin 369150 (listed_object P c n i)
 listed_within P c n i h few fewer =
-    structure_within 4 82034 (long_unsigned i.class_id ∷ unsigned i.version ∷ name_value n ∷ access_rights P c n i ∷ []) (omega arith)
-    (wider 1024 82034 (long_unsigned i.class_id) (omega arith) (long_unsigned_small i.class_id), (wider 1024 82034 (unsigned i.version) (omega arith) (unsigned_small i.version), (wider 1024 82034 (name_value n) (omega arith) (name_small n h), (rights_within P c n i few fewer, tt))))
+    structure_within 4 92286 (long_unsigned i.class_id ∷ unsigned i.version ∷ name_value n ∷ access_rights P c n i ∷ []) (omega arith)
+    (wider 1024 92286 (long_unsigned i.class_id) (omega arith) (long_unsigned_small i.class_id), (wider 1024 92286 (unsigned i.version) (omega arith) (unsigned_small i.version), (wider 1024 92286 (name_value n) (omega arith) (name_small n h), (rights_within P c n i few fewer, tt))))
 
-interface_few : (part : Part) → ((interface_of part).attributes ≤ 8) × ((interface_of part).methods ≤ 8)
+interface_few : (part : Part) → ((interface_of part).attributes ≤ 9) × ((interface_of part).methods ≤ 9)
 interface_few (Data1 start) = (omega arith, omega arith)
 interface_few _ = (omega arith, omega arith)
 
@@ -246,20 +261,20 @@ list_reply : (P : Plan) → IsSound P → (c : ℕ) → IsReply (object_list P c
 unfolding object_list
 list_reply P sound c =
     let listed : List Tree = listed_object P c association_name association ∷ map (λ o. listed_object P c o.name (interface_of o.part)) (objects_of P c) in
-    wider 168336852 longest (array_of listed) (omega arith)
-    (array_within 513 328142 listed
+    wider 189373956 longest (array_of listed) (omega arith)
+    (array_within 513 369150 listed
     (let e = length-map (objects_of P c) (λ o. listed_object P c o.name (interface_of o.part)) in
     let f = length-filter (λ o. has_right P c o.name (λ r. true)) P.objects in
     omega (arith, e, f, sound.few_objects))
-    (are_within 328142 listed (λ t i. at t i)))
+    (are_within 369150 listed (λ t i. at t i)))
   where
-    at : (t : Tree) → IsIn (listed_object P c association_name association ∷ map (λ o. listed_object P c o.name (interface_of o.part)) (objects_of P c)) t → IsWithin 328142 t
-    at t (inl e) = subst (IsWithin 328142) (sym e) (listed_within P c association_name association refl (omega arith) (omega arith))
+    at : (t : Tree) → IsIn (listed_object P c association_name association ∷ map (λ o. listed_object P c o.name (interface_of o.part)) (objects_of P c)) t → IsWithin 369150 t
+    at t (inl e) = subst (IsWithin 369150) (sym e) (listed_within P c association_name association refl (omega arith) (omega arith))
     at t (inr i) =
         let o = from_map (λ z. listed_object P c z.name (interface_of z.part)) (objects_of P c) t i in
         let there = (from_filter (λ z. has_right P c z.name (λ r. true)) P.objects o.0 o.1).0 in
         let few = interface_few o.0.part in
-        subst (IsWithin 328142) (sym o.2) (listed_within P c o.0.name (interface_of o.0.part) (part_of_sizes P sound o.0 there).0 few.0 few.1)
+        subst (IsWithin 369150) (sym o.2) (listed_within P c o.0.name (interface_of o.0.part) (part_of_sizes P sound o.0 there).0 few.0 few.1)
 
 partners_reply : (z : Client) → IsReply (partners z)
 partners_reply z =
@@ -336,7 +351,7 @@ found_by_name P sound o there = at (object_at P o.name) refl
 
 cell_reply : (P : Plan) → IsSound P → (s : State) → IsState P s → (x : CellRef) → IsIn (cells P) x → IsReply (value s x)
 cell_reply P sound s k x i =
-    let entry = from_map (λ z. z.0) (start P) x i in
+    let entry = from_map (λ z. z.0) (start_values P) x i in
     let o = from_flat_map (λ z. start_of z.name z.part) P.objects entry.0 entry.1 in
     at o.0 o.1 o.0.part refl (found_by_name P sound o.0 o.1) entry.0.1
     (subst (λ z. IsIn (start_of o.0.name o.0.part) (z, entry.0.1)) (sym entry.2) o.2)
@@ -344,7 +359,7 @@ cell_reply P sound s k x i =
     -- a cell with a rule
     ruled : (y : CellRef) (rule : Rule) → x ≡ y → rule_of P y ≡ Some rule → IsReply (value s x)
     ruled y rule e is =
-        small_reply (value s x) (meeting_small rule (value s x) (k.settable x (subst (λ ks. IsIn ks x) (sym k.cells) i) rule (subst (λ z. rule_of P z ≡ Some rule) (sym e) is)))
+        small_reply (value s x) (meeting_small rule (value s x) (k.settable x (subst (λ ks. IsIn ks x) (sym k.cells) (cell_held P x i)) rule (subst (λ z. rule_of P z ≡ Some rule) (sym e) is)))
 
     rule_at : (o : Object) (part : Part) → o.part ≡ part → object_at P o.name ≡ Some o → (index : ℕ) → rule_of P (cell (class_of part) o.name index) ≡ rule_in P part index
     rule_at o part h is index =
@@ -379,14 +394,16 @@ cell_reply P sound s k x i =
             let held : Holds P s o.name (ProfileGeneric captured period entries) = subst (Holds P s o.name) h (k.inner o there) in
             subst (λ z. IsReply (value s z)) (sym (ap (λ z. z.0) e)) (subst IsReply (sym held.1.1) (small_reply (counter held.1.0) (counter_small held.1.0)))
         of_part (ProfileGeneric captured period entries) h (inr (inr (inr none))) = absurd none
+        of_part (Clock first) h (inl e) = ruled (clock_time o.name) ClockTime (ap (λ z. z.0) e) (rule_at o (Clock first) h is 2)
+        of_part (Clock first) h (inr none) = absurd none
         of_part (ScriptTable scripts) h none = absurd none
         of_part (RegisterMonitor monitored th actions) h (inl e) =
-            ruled (thresholds o.name) (Thresholds (length actions) (kind_of (value (start P) monitored))) (ap (λ z. z.0) e) (rule_at o (RegisterMonitor monitored th actions) h is 2)
+            ruled (thresholds o.name) (Thresholds (length actions) (kind_of (value (start_values P) monitored))) (ap (λ z. z.0) e) (rule_at o (RegisterMonitor monitored th actions) h is 2)
         of_part (RegisterMonitor monitored th actions) h (inr (inl e)) =
             let held : IsSeen P monitored (value s (seen o.name)) = subst (Holds P s o.name) h (k.inner o there) in
             subst (λ z. IsReply (value s z)) (sym (ap (λ z. z.0) e)) (elim held [
               | inl null ↦ subst IsReply (sym null) (small_reply null_data null_small)
-              | inr fits ↦ small_reply (value s (seen o.name)) (meeting_small (OfKind (kind_of (value (start P) monitored))) (value s (seen o.name)) fits)
+              | inr fits ↦ small_reply (value s (seen o.name)) (meeting_small (OfKind (kind_of (value (start_values P) monitored))) (value s (seen o.name)) fits)
             ])
         of_part (RegisterMonitor monitored th actions) h (inr (inr none)) = absurd none
         of_part (SingleActionSchedule script type times) h (inl e) = ruled (execution_time o.name) (ExecutionTimes type) (ap (λ z. z.0) e) (rule_at o (SingleActionSchedule script type times) h is 4)

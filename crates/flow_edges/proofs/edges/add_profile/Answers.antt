@@ -31,12 +31,12 @@ pub returns : goal.returns
 returns c =
     let part = c.args.part.now in
     let a = c.args.table.now in
-    on_ok_weaker c.add-2.result
-    (λ last. profile-added c.args.plan.now c.args.name part.captured.items part.capture_period part.profile_entries a c.add_captured.new.table c.add.new.self c.add-2.new.self
+    on_ok_weaker c.add_clock_to_both.result
+    (λ last. profile-added c.args.plan.now c.args.name part.captured.items part.capture_period part.profile_entries a c.add_captured.new.table c.add.new.self c.add-2.new.self c.add_clock_to_both.new.table
     c.number_of-rows.result c.number_of-period.result c.number_of-in_use.result
     (ap (λ cs. cell_at cs c.number_of-rows.result) c.requires.cells ∙ c.number_of-rows.ensures.there ∙ c.buffer.ensures)
     (ap (λ cs. cell_at cs c.number_of-period.result) c.requires.cells ∙ c.number_of-period.ensures.there ∙ c.capture_period.ensures)
     (ap (λ cs. cell_at cs c.number_of-in_use.result) c.requires.cells ∙ c.number_of-in_use.ensures.there ∙ c.entries_in_use.ensures)
     (gathered-is a c.add_captured.new.table _ _ (ap (map (λ x. edge Captured x (cell_at a.cells c.number_of-rows.result))) c.deref.ensures.value) c.in_ok-add_captured.ensures)
-    c.in_ok-add.ensures.ok last)
-    c.add-2.ensures.ok
+    c.in_ok-add.ensures.ok c.in_ok-add-2.ensures.ok last)
+    c.add_clock_to_both.ensures

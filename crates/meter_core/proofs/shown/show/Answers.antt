@@ -1,6 +1,7 @@
 use Rattle.std.specs.Prelude.{◌≡◌, Bool, true, cond, is_some, Ok, Err}
 use Rattle.std.proofs.Common.{sym, ap, ◌∙◌}
 use Rattle.std.proofs.lemmas.Bool.{false≢true}
+use Rattle.std.proofs.lemmas.Result.{IfOk-weaker}
 use Rattle.cosem_data.specs.Cells.{cell}
 use Rattle.meter_theory.specs.Fixed.{fixed}
 use Rattle.meter_theory.specs.Plan.{Plan, is_cell}
@@ -37,7 +38,15 @@ returns-in-Some-clause-reply c =
     let there : true ≡ is_cell P (cell_of d) =
     c.in-Some.ensures.cell ∙ (ap (λ (i : _). is_cell i.plan c.attribute-cell.result) c.instance-instance.ensures ∙ ap (is_cell P) c.attribute-cell.ensures) in
     let read = c.in-Some.ensures.found ∙ (ap (value s) c.attribute-cell.ensures ∙ ap (λ b. cond b (value s (cell_of d)) (fixed P c.args.client (cell_of d))) there) in
-    c.show_held.ensures ∙ granted_get P s c.args.client d sel (selected sel (held_tree c.in-Some.held)) c.in_default.field-0 granted (ap (selected sel) read)
+    IfOk-weaker c.show_held.result _ _
+    (λ shown is. is ∙ granted_get P s c.args.client d sel (selected sel (held_tree c.in-Some.held)) c.in_default.field-0 granted (ap (selected sel) read))
+    c.show_held.ensures
+
+pub returns-in-Some-clause-denied : goal.returns-in-Some-clause-denied
+returns-in-Some-clause-denied c =
+    let sel = selection_of c.args.selection.now in
+    granted_get_takes_memory c.args.plan.now c.args.meter.now c.args.client c.args.attribute.now sel c.in_default.field-0
+    (c.in_default.ensures ∙ ap (λ (i : _). permitted (get_answer i.plan c.args.client c.args.attribute.now sel)) c.instance-instance.ensures)
 
 pub returns-in_ok-fixed_attribute_at-in-None-clause-reply : goal.returns-in_ok-fixed_attribute_at-in-None-clause-reply
 returns-in_ok-fixed_attribute_at-in-None-clause-reply c =

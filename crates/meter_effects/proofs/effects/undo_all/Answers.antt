@@ -11,5 +11,5 @@ loop-undo-preserved c = record {
       ∙ (sym (all_undone-push c.pop.new.self.items c.in-Some.undo c.loop-undo.meter)
       ∙ (ap (λ undos. all_undone undos c.loop-undo.meter) (sym c.in-Some.ensures.items)
       ∙ c.loop-undo.invariant.undone));
-  cells = ap keys c.undo.ensures ∙ keys-undone c.in-Some.undo c.loop-undo.meter ∙ c.loop-undo.invariant.cells;
+  held = ap keys c.undo.ensures ∙ keys-undone c.in-Some.undo c.loop-undo.meter ∙ c.loop-undo.invariant.held;
 }

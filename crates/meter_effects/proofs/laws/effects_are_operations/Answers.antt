@@ -3,7 +3,7 @@ use Rattle.meter_effects.proofs.laws.effects_are_operations.Goals as goal
 
 pub returns-clause-put : goal.returns-clause-put
 returns-clause-put c = λ P.
-    put-accepted P c.puts_are_writes.ensures c.puts_are_writes-2.ensures c.puts_are_writes-3.ensures c.puts_are_writes-4.ensures c.puts_are_writes-5.ensures
+    put-accepted P c.puts_are_writes.ensures c.puts_are_writes-2.ensures c.puts_are_writes-3.ensures c.puts_are_writes-4.ensures c.puts_are_writes-5.ensures c.puts_are_writes-6.ensures
 
 pub returns-clause-remember : goal.returns-clause-remember
 returns-clause-remember c = λ P o x v is. remember-operation P o.name o.part x v is

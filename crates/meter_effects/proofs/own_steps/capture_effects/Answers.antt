@@ -14,5 +14,5 @@ returns-clause-ok c =
     let due = sym (c.is_period_over.ensures ∙ ap (λ i. is_capture_due (count_of (value c.args.meter.now (capture_period i.name))) c.args.moment) c.instance-instance.ensures) in
     let captures : Captures = record { captured = part.captured.items; entries = part.profile_entries } in
     stands_for c.args.plan.now _ _ c.new-effects.result.items c.push_effect.new.effects.items c.new-effects.ensures.items
-    (capture_meant c.args.plan.now c.args.meter.now c.args.profile c.args.moment captures is (due ∙ search))
+    (capture_meant c.args.plan.now c.args.meter.now c.args.profile c.args.moment captures c.requires.present is (due ∙ search))
     (c.in_ok-push_effect.ensures c.args.plan.now (captures, sym is))

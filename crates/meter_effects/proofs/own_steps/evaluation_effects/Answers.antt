@@ -1,7 +1,7 @@
 use Rattle.std.proofs.Common.{◌≡◌, ap, ap₂, sym, ◌∙◌, ◌∷◌, [], ◌++◌, flat_map}
 use Rattle.cosem_data.specs.View.{tree}
 use Rattle.cosem_data.specs.Kinds.{kind_of}
-use Rattle.meter_theory.specs.Plan.{RegisterMonitor, start, seen, thresholds}
+use Rattle.meter_theory.specs.Plan.{RegisterMonitor, start_values, seen, thresholds}
 use Rattle.meter_theory.specs.State.{value}
 use Rattle.meter_theory.specs.States.{Fits}
 use Rattle.meter_theory.specs.Steps.{Put, due_scripts, effects_of_script}
@@ -29,7 +29,7 @@ returns-clause-ok c =
     let fits = monitored_fits P s n c.in-Some.object.now m.monitored_value (tree m.start) actions c.known.ensures.sound c.requires found part in
     let may : Fits P (Put (seen n) (tree c.in_ok-now.now))
     = remember_may P n c.in-Some.object.now m.monitored_value (tree m.start) actions (tree c.in_ok-now.now) found part
-    (ap (meets (OfKind (kind_of (value (start P) m.monitored_value)))) now ∙ fits) in
+    (ap (meets (OfKind (kind_of (value (start_values P) m.monitored_value)))) now ∙ fits) in
     stands_for P _ _ c.new-effects.result.items c.push_effect.new.effects.items c.new-effects.ensures.items
     (ap₂ (λ rs v. flat_map (effects_of_script P) rs ++ Put (seen n) v ∷ []) scripts now
     ∙ evaluation_meant P s n c.in-Some.object.now m.monitored_value (tree m.start) actions found part)

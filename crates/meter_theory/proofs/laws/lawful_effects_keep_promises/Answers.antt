@@ -4,16 +4,16 @@ use Rattle.meter_theory.proofs.Unequal.{unequal-policy, unequal-labels}
 use Rattle.meter_theory.proofs.laws.lawful_effects_keep_promises.Goals as goal
 
 pub returns-clause-influence : goal.returns-clause-influence
-returns-clause-influence c = λ P policy labels laws a.
+returns-clause-influence c = λ P policy labels sound laws a.
     let steps = steps-lawful P laws in
-    (influence-policy P policy labels a steps, influence-labels P policy labels a steps)
+    (influence-policy P policy labels sound a steps, influence-labels P policy labels sound a steps)
 
 pub returns-clause-secrecy : goal.returns-clause-secrecy
-returns-clause-secrecy c = λ P policy labels laws a.
+returns-clause-secrecy c = λ P policy labels sound laws a.
     let steps = steps-lawful P laws in
-    (secrecy-policy P policy labels a steps, secrecy-labels P policy labels a steps)
+    (secrecy-policy P policy labels sound a steps, secrecy-labels P policy labels sound a steps)
 
 pub returns-clause-unequal : goal.returns-clause-unequal
-returns-clause-unequal c = λ P policy labels laws a.
+returns-clause-unequal c = λ P policy labels sound laws a.
     let steps = steps-lawful P laws in
-    (unequal-policy P policy labels a steps, unequal-labels P policy labels a steps)
+    (unequal-policy P policy labels sound a steps, unequal-labels P policy labels sound a steps)

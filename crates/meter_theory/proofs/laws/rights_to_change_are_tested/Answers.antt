@@ -1,4 +1,5 @@
-use Rattle.meter_theory.proofs.Admission.{changer_from, changer_found, method_cells}
+use Rattle.meter_theory.proofs.Check.{method_cells}
+use Rattle.meter_theory.proofs.Admission.{changer_from, changer_found}
 use Rattle.meter_theory.proofs.laws.rights_to_change_are_tested.Goals as goal
 
 pub returns-clause-tested : goal.returns-clause-tested

@@ -2,7 +2,7 @@ use Rattle.std.proofs.Common.{◌∙◌, ap, sym, Some, ◌≡◌}
 use Rattle.cosem_data.specs.Cells.{cell}
 use Rattle.cosem_data.specs.Kinds.{kind_of}
 use Rattle.meter_theory.specs.State.{value}
-use Rattle.meter_theory.specs.Plan.{start, start_of, object_at}
+use Rattle.meter_theory.specs.Plan.{start_values, start_of, object_at}
 use Rattle.object_model.specs.PartView.{part_of}
 use Rattle.object_model.proofs.ByObject.{start-found, start-none}
 use Rattle.object_model.proofs.instance.Instance.start_kind.Goals as goal
@@ -16,9 +16,9 @@ returns-in-Some c =
     ∙ ap (λ n. kind_of (value (start_of n (part_of c.part.result.now)) at)) c.name.ensures
     ∙ ap (λ p. kind_of (value (start_of c.in-Some.object.now.name p) at)) c.part.ensures
     ∙ ap kind_of (sym (start-found c.self.inside.plan.now at c.in-Some.object.now c.known.ensures.sound found))
-    ∙ ap (λ v. kind_of (value (start v.plan) (cell c.args.class_id v.name c.args.index))) c.self.view_is
+    ∙ ap (λ v. kind_of (value (start_values v.plan) (cell c.args.class_id v.name c.args.index))) c.self.view_is
 
 pub returns-in-None : goal.returns-in-None
 returns-in-None c =
     ap kind_of (sym (start-none c.self.inside.plan.now (cell c.args.class_id c.self.inside.name c.args.index) (sym (c.in-None.ensures ∙ ap (λ v. object_at v.plan v.name) (sym c.self.view_is)))))
-    ∙ ap (λ v. kind_of (value (start v.plan) (cell c.args.class_id v.name c.args.index))) c.self.view_is
+    ∙ ap (λ v. kind_of (value (start_values v.plan) (cell c.args.class_id v.name c.args.index))) c.self.view_is

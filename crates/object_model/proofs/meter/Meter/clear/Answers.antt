@@ -1,20 +1,41 @@
-use Rattle.std.proofs.Common.{◌≡◌, ◌∙◌, ap, ap₂, sym, None}
+use Rattle.std.proofs.Common.{◌≡◌, ◌∙◌, ◌++◌, ap, ap₂, sym, None, flat_map}
 use Rattle.std.specs.List.{position_from}
 use Rattle.meter_theory.specs.Plan.{buffer, entries_in_use}
 use Rattle.meter_theory.specs.State.{put}
 use Rattle.meter_theory.specs.Steps as theory
 use Rattle.meter_theory.specs.Value.{array_of, counter}
-use Rattle.object_model.specs.Stored.{stores}
+use Rattle.object_model.specs.Stored.{inner_pairs, stored_pairs, stores}
 use Rattle.object_model.proofs.Changed.{clear-nowhere}
+use Rattle.object_model.proofs.Inner.{inner_clear, objects-of, around, back-around}
 use Rattle.object_model.proofs.meter.Meter.clear.Goals as goal
 
 pub returns-in-None-clause-cleared : goal.returns-in-None-clause-cleared
 returns-in-None-clause-cleared c =
     let none : position_from (stores (buffer c.args.profile)) 0 c.self.inside.objects.items ≡ None =
     ap₂ (λ x ms. position_from (stores x) 0 ms) (sym c.buffer.ensures) (sym c.deref.ensures.value) ∙ sym c.place_of.ensures ∙ c.in-None.is in
-    sym (ap (λ s. theory.clear s c.args.profile) (sym c.self.view_is) ∙ clear-nowhere c.self.inside.objects.items c.args.profile none ∙ c.self.view_is)
+    sym (ap (λ s. theory.clear s c.args.profile) (sym c.self.view_is)
+    ∙ inner_clear (flat_map stored_pairs c.self.inside.objects.items) c.self.inside.inner_clock c.args.profile
+    ∙ ap (λ s. s ++ inner_pairs c.self.inside.inner_clock) (clear-nowhere c.self.inside.objects.items c.args.profile none)
+    ∙ c.self.view_is)
 
 pub returns-in-None-clause-before : goal.returns-in-None-clause-before
 returns-in-None-clause-before c =
     ap (λ rows. put (put c.args.self.now (buffer c.args.profile) (array_of rows)) (entries_in_use c.args.profile) (counter 0)) c.none.ensures
     ∙ sym (returns-in-None-clause-cleared c)
+
+pub place_of-requires-clause-of_plan : goal.place_of-requires-clause-of_plan
+place_of-requires-clause-of_plan c =
+    objects-of c.args.plan.now c.args.self.now c.self.inside.objects.items c.self.inside.inner_clock c.deref.result.now c.instance.result.plan c.self.view_is c.requires.cells
+    c.deref.ensures.value (ap (λ i. i.plan) c.instance.ensures)
+
+pub returns-in-Some-clause-cleared : goal.returns-in-Some-clause-cleared
+returns-in-Some-clause-cleared c =
+    around c.args.self.now (flat_map stored_pairs c.self.inside.objects.items) (flat_map stored_pairs c.clear_in.new.objects.items) c.self.inside.inner_clock
+    (λ t. theory.clear t c.args.profile)
+    (inner_clear (flat_map stored_pairs c.self.inside.objects.items) c.self.inside.inner_clock c.args.profile)
+    c.self.view_is c.clear_in.ensures.cleared
+
+pub returns-in-Some-clause-before : goal.returns-in-Some-clause-before
+returns-in-Some-clause-before c =
+    back-around c.args.self.now (flat_map stored_pairs c.self.inside.objects.items) (flat_map stored_pairs c.clear_in.new.objects.items) c.self.inside.inner_clock
+    c.clear_in.result.name c.clear_in.result.change c.self.view_is c.clear_in.ensures.before

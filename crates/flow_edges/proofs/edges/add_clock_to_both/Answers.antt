@@ -1,0 +1,23 @@
+use Rattle.std.proofs.Common.{◌≡◌, ◌∙◌, [], ◌∷◌, ap, sym, subst, Some}
+use Rattle.std.specs.Prelude.{option_map, filter}
+use Rattle.std.proofs.lemmas.Result.{on_ok_weaker}
+use Rattle.meter_theory.specs.Lists.{IsIn}
+use Rattle.meter_theory.specs.Plan.{cells, clock_object}
+use Rattle.flow_edges.specs.Table.{cell_at}
+use Rattle.flow_edges.proofs.Objects.{both-added, gathered-none, no-clock-edges}
+use Rattle.flow_edges.proofs.Sources.{clock-cell}
+use Rattle.flow_edges.proofs.edges.add_clock_to_both.Goals as goal
+
+pub number_of-clock-requires : goal.number_of-clock-requires
+number_of-clock-requires c =
+    subst (IsIn (cells c.args.plan.now)) (sym c.clock_time.ensures)
+    (clock-cell c.args.plan.now c.in-Some.name (sym c.in-Some.is ∙ c.clock.ensures))
+
+pub returns : goal.returns
+returns c =
+    let a = c.args.table.now in
+    on_ok_weaker c.add-2.result
+    (both-added c.args.plan.now c.in-Some.name a c.add.new.self c.add-2.new.self c.number_of-clock.result c.args.first c.args.second (sym c.in-Some.is ∙ c.clock.ensures)
+    (ap (λ cs. cell_at cs c.number_of-clock.result) c.requires.cells ∙ c.number_of-clock.ensures.there ∙ c.clock_time.ensures)
+    c.in_ok-add.ensures.ok)
+    c.add-2.ensures.ok
