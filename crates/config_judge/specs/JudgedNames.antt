@@ -2,7 +2,7 @@
 use Rattle.std.specs.Prelude.{Result, ⊤}
 use Rattle.config_text.specs.Fault.{Fault, ◌>>=◌}
 use Rattle.config_text.specs.Parts.{ConfigText}
-use Rattle.config_rules.specs.Passes.{forms, new_objects, known_classes, known_clients, new_clients, known_references, known_indexes, valid_values, settable_rights, equal_counts, new_scripts, no_executes, within_limits, new_labels, fed_values, valid_times, valid_sorting}
+use Rattle.config_rules.specs.Passes.{forms, new_objects, known_classes, known_clients, new_clients, known_references, known_indexes, valid_values, settable_rights, equal_counts, new_scripts, no_executes, within_limits, new_labels, fed_values, valid_times, valid_sorting, new_clocks}
 
 -- the passes over names and indexes, one code after another (own profile)
 unfoldable pub judged_names : ConfigText → Result ⊤ Fault
@@ -27,7 +27,8 @@ judged_rest c = do
   labels ← new_labels c  -- C17
   inputs ← fed_values c  -- C18
   times ← valid_times c  -- C19
-  valid_sorting c  -- C20
+  sorting ← valid_sorting c  -- C20
+  new_clocks c  -- C21
 
 -- one half, and then the other
 abbrev pub both_halves : ConfigText → Result ⊤ Fault

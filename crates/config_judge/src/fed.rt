@@ -7,6 +7,7 @@ use crate::walk::{Judge, each};
 use config_text::fault::{Code, ConfigFault};
 use config_text::parts::{ConfigParts, ObjectParts};
 use config_text::place::Place;
+use meter_theory::classes::may_be_fed;
 use std::alloc::Global;
 
 /// Whether an object may be fed.
@@ -14,16 +15,17 @@ use std::alloc::Global;
 struct Fed;
 
 impl Judge for Fed {
-    ghost use Rattle.std.specs.Prelude.{◌==◌, ◌&&◌, ◌||◌, ◌++◌, codes, not};
+    ghost use Rattle.std.specs.Prelude.{◌&&◌, ◌++◌, codes, not};
+    ghost use Rattle.meter_theory.specs.Classes.{may_be_fed};
     ghost use Rattle.config_text.specs.Fault.{fault_if};
     ghost use Rattle.config_text.specs.declared.fault.Code.TheVariants.{Fed};
 
     type Part = ObjectParts;
 
-    ghost judges = { λ _ at o. fault_if Fed (at ++ codes ".fed") (o.fed && not ((o.class == 1) || (o.class == 3))) };
+    ghost judges = { λ _ at o. fault_if Fed (at ++ codes ".fed") (o.fed && not (may_be_fed o.class)) };
 
     fn judge(&self, at: &Place<'_>, object: &ObjectParts) -> Result<(), ConfigFault> {
-        let has_input = object.class_id == 1 || object.class_id == 3;
+        let has_input = may_be_fed(object.class_id);
         fault_if(Code::Fed, at, ".fed", object.fed && !has_input)
     }
 }
@@ -31,7 +33,7 @@ impl Judge for Fed {
 /// Judges which objects are fed.
 ///
 /// # Errors
-/// C18 at the first object that is fed and neither of class 1 nor of class 3.
+/// C18 at the first object that is fed and of a class to which inputs from outside don't go.
 #[tactic(auto, unfolding(config_rules::specs::Passes::fed_values))]
 pub(crate) fn fed_values(alloc: Global, config: &ConfigParts) -> Result<(), ConfigFault>
     ensures { Gives (λ u. u) result (passes.fed_values config.now) }

@@ -34,8 +34,16 @@ fn is_step_word(text: &str) -> bool
 
 /// Whether a text is a client's name: 1 to `NAME_CHARACTERS` of a to z, 0 to 9 and _, and no word that begins a step of the
 /// meter itself, which are `in`, `at` and `eval` (own profile).
-pub(crate) fn is_client_name(text: &str) -> bool
+fn is_client_name(text: &str) -> bool
     ensures { result ≡ spec.is_client_name text.now }
 {
     1 <= text.len() && text.len() <= NAME_CHARACTERS && has_name_bytes(text) && !is_step_word(text)
+}
+
+/// Whether a client may have the name in a configuration of this version: since version 2 a line that begins with `tick` is no
+/// client's (own profile).
+pub(crate) fn may_be_named(version: u8, text: &str) -> bool
+    ensures { result ≡ spec.may_be_named version text.now }
+{
+    is_client_name(text) && !(version == 2 && text == "tick")
 }

@@ -4,7 +4,7 @@ ghost use Rattle.std.specs.Prelude.{◌++◌};
 ghost use Rattle.config_text.specs.Fault.{Gives};
 ghost use Rattle.config_rules.specs.Passes as spec;
 
-use crate::form::{is_client_name, is_logical_name};
+use crate::form::{is_logical_name, may_be_named};
 use crate::judged::fault_if;
 use crate::reference_walk::{JudgeReferences, references};
 use crate::walk::{Judge, JudgeText, both_sets, each};
@@ -22,30 +22,34 @@ fn logical_form(at: &Place<'_>, key: &str, name: &str) -> Result<(), ConfigFault
     fault_if(Code::Form, at, key, !is_logical_name(name))
 }
 
-/// Judges the form of a client's name at a key below a place.
-fn client_form(at: &Place<'_>, key: &str, name: &str) -> Result<(), ConfigFault>
-    ensures { Gives (λ u. u) result (spec.client_form (at.now ++ key.now) name.now) }
+/// Judges the form of a client's name at a key below a place, in a configuration of this version.
+fn client_form(version: u8, at: &Place<'_>, key: &str, name: &str) -> Result<(), ConfigFault>
+    ensures { Gives (λ u. u) result (spec.client_form version (at.now ++ key.now) name.now) }
 {
-    fault_if(Code::Form, at, key, !is_client_name(name))
+    fault_if(Code::Form, at, key, !may_be_named(version, name))
 }
 
 /// Names of clients in a set.
 #[derive(Drop)]
-struct ClientForm;
+struct ClientForm {
+    version: u8,
+}
 
 impl JudgeText for ClientForm {
     ghost use Rattle.config_rules.specs.Passes.{client_form};
 
-    ghost judges = { λ _. client_form };
+    ghost judges = { λ all. client_form all.version };
 
     fn judge(&self, at: &Place<'_>, text: &str) -> Result<(), ConfigFault> {
-        client_form(at, "", text)
+        client_form(self.version, at, "", text)
     }
 }
 
 /// Names of the clients themselves.
 #[derive(Drop)]
-struct ClientForms;
+struct ClientForms {
+    version: u8,
+}
 
 impl Judge for ClientForms {
     ghost use Rattle.std.specs.Prelude.{◌++◌, codes};
@@ -53,10 +57,10 @@ impl Judge for ClientForms {
 
     type Part = ClientParts;
 
-    ghost judges = { λ _ at client. client_form (at ++ codes ".name") client.name };
+    ghost judges = { λ all at client. client_form all.version (at ++ codes ".name") client.name };
 
     fn judge(&self, at: &Place<'_>, client: &ClientParts) -> Result<(), ConfigFault> {
-        client_form(at, ".name", client.name.as_str())
+        client_form(self.version, at, ".name", client.name.as_str())
     }
 }
 
@@ -101,37 +105,42 @@ impl Judge for ObjectForms {
 
 /// The names of a right.
 #[derive(Drop)]
-struct RightForms;
+struct RightForms {
+    version: u8,
+}
 
 impl Judge for RightForms {
     ghost use Rattle.config_rules.specs.Passes.{right_forms};
 
     type Part = RightParts;
 
-    ghost judges = { λ _. right_forms };
+    ghost judges = { λ all. right_forms all.version };
 
     #[tactic(auto, unfolding(config_rules::specs::Passes::right_forms))]
     fn judge(&self, at: &Place<'_>, right: &RightParts) -> Result<(), ConfigFault> {
-        client_form(at, ".client", right.client.as_str())?;
+        client_form(self.version, at, ".client", right.client.as_str())?;
         logical_form(at, ".object", right.object.as_str())
     }
 }
 
 /// The names of a label.
 #[derive(Drop)]
-struct LabelForms;
+struct LabelForms {
+    version: u8,
+}
 
 impl Judge for LabelForms {
     ghost use Rattle.config_rules.specs.Passes.{label_forms};
 
     type Part = LabelParts;
 
-    ghost judges = { λ _. label_forms };
+    ghost judges = { λ all. label_forms all.version };
 
     #[tactic(auto, unfolding(config_rules::specs::Passes::label_forms))]
     fn judge(&self, at: &Place<'_>, label: &LabelParts) -> Result<(), ConfigFault> {
         logical_form(at, ".object", label.target.object.as_str())?;
-        both_sets(&ClientForm, at, &label.sets)
+        let version = self.version;
+        both_sets(&ClientForm { version }, at, &label.sets)
     }
 }
 
@@ -143,13 +152,27 @@ impl Judge for LabelForms {
 pub(crate) fn forms(alloc: Global, config: &ConfigParts) -> Result<(), ConfigFault>
     ensures { Gives (λ u. u) result (spec.forms config.now) }
 {
+    let version = config.version;
     let client_place = Place::top(alloc, "client");
-    each(&ClientForms, &client_place, config.clients.as_slice())?;
+    each(
+        &ClientForms { version },
+        &client_place,
+        config.clients.as_slice(),
+    )?;
     let object_place = Place::top(alloc, "object");
     each(&ObjectForms, &object_place, config.objects.as_slice())?;
     let right_place = Place::top(alloc, "right");
-    each(&RightForms, &right_place, config.rights.as_slice())?;
-    both_sets(&ClientForm, &Place::top(alloc, "policy"), &config.policy)?;
+    each(
+        &RightForms { version },
+        &right_place,
+        config.rights.as_slice(),
+    )?;
+    let policy_place = Place::top(alloc, "policy");
+    both_sets(&ClientForm { version }, &policy_place, &config.policy)?;
     let label_place = Place::top(alloc, "label");
-    each(&LabelForms, &label_place, config.labels.as_slice())
+    each(
+        &LabelForms { version },
+        &label_place,
+        config.labels.as_slice(),
+    )
 }

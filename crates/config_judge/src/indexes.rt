@@ -4,11 +4,10 @@ ghost use Rattle.std.specs.Prelude.{◌≡◌, ◌++◌, codes};
 ghost use Rattle.config_text.specs.BodyView.{body_text};
 ghost use Rattle.config_text.specs.Fault.{Gives};
 ghost use Rattle.config_judge.specs.Indexes.{is_usable};
-ghost use Rattle.config_rules.specs.Names.{attributes, capturable, methods, monitorable};
+ghost use Rattle.meter_theory.specs.Classes as classes;
 ghost use Rattle.config_rules.specs.Passes as spec;
 ghost use Rattle.config_rules.specs.Walks as walks;
 
-use crate::classes::{has_attribute, has_method, is_capturable, is_monitorable, is_settable};
 use crate::directory::Directory;
 use crate::judged::fault_if;
 use crate::reference_walk::each_action;
@@ -19,6 +18,9 @@ use config_text::parts::{
 };
 use config_text::place::Place;
 use config_text::service::Service;
+use meter_theory::classes::{
+    has_attribute, has_method, is_capturable, is_monitorable, is_settable,
+};
 use std::alloc::Global;
 
 /// Judges the index of an attribute that is captured.
@@ -27,7 +29,7 @@ fn captured(
     at: &Place<'_>,
     target: &TargetParts,
 ) -> Result<(), ConfigFault>
-    ensures { Gives (λ u. u) result (spec.usable directory.now.config.now capturable at.now target.now) }
+    ensures { Gives (λ u. u) result (spec.usable directory.now.config.now classes.is_capturable at.now target.now) }
 {
     let class = directory.class(target.object.as_str());
     let usable = is_capturable(class, target.index);
@@ -40,7 +42,7 @@ fn monitored(
     at: &Place<'_>,
     target: &TargetParts,
 ) -> Result<(), ConfigFault>
-    ensures { Gives (λ u. u) result (spec.usable directory.now.config.now monitorable (at.now ++ codes ".monitored") target.now) }
+    ensures { Gives (λ u. u) result (spec.usable directory.now.config.now classes.is_monitorable (at.now ++ codes ".monitored") target.now) }
 {
     let class = directory.class(target.object.as_str());
     let usable = is_monitorable(class, target.index);
@@ -65,12 +67,12 @@ struct UsableCapture<'d, 'c> {
 }
 
 impl<'d, 'c> Judge for UsableCapture<'d, 'c> {
-    ghost use Rattle.config_rules.specs.Names.{capturable};
+    ghost use Rattle.meter_theory.specs.Classes.{is_capturable};
     ghost use Rattle.config_rules.specs.Passes.{usable};
 
     type Part = CaptureParts;
 
-    ghost judges = { λ all at x. usable all.directory.now.config.now capturable at x.target };
+    ghost judges = { λ all at x. usable all.directory.now.config.now is_capturable at x.target };
 
     fn judge(&self, at: &Place<'_>, capture: &CaptureParts) -> Result<(), ConfigFault> {
         captured(self.directory, at, &capture.target)
@@ -150,12 +152,12 @@ struct AttributeOf {
 }
 
 impl Judge for AttributeOf {
-    ghost use Rattle.config_rules.specs.Names.{attributes};
+    ghost use Rattle.meter_theory.specs.Classes.{has_attribute};
     ghost use Rattle.config_rules.specs.Passes.{right_index};
 
     type Part = u8;
 
-    ghost judges = { λ all. right_index attributes all.class };
+    ghost judges = { λ all. right_index has_attribute all.class };
 
     fn judge(&self, at: &Place<'_>, index: &u8) -> Result<(), ConfigFault> {
         let known = has_attribute(self.class, *index);
@@ -163,19 +165,19 @@ impl Judge for AttributeOf {
     }
 }
 
-/// Methods of a class.
+/// Methods of a class that may be granted.
 #[derive(Drop)]
 struct MethodOf {
     class: u16,
 }
 
 impl Judge for MethodOf {
-    ghost use Rattle.config_rules.specs.Names.{methods};
+    ghost use Rattle.meter_theory.specs.Classes.{has_method};
     ghost use Rattle.config_rules.specs.Passes.{right_index};
 
     type Part = u8;
 
-    ghost judges = { λ all. right_index methods all.class };
+    ghost judges = { λ all. right_index has_method all.class };
 
     fn judge(&self, at: &Place<'_>, index: &u8) -> Result<(), ConfigFault> {
         let known = has_method(self.class, *index);

@@ -2,16 +2,17 @@
 ghost use Rattle.std.specs.Prelude.{◌≡◌, ◌||◌, not};
 ghost use Rattle.std.specs.List.{list_any};
 ghost use Rattle.config_text.specs.Fault.{Gives};
+ghost use Rattle.meter_theory.specs.Classes as classes;
 ghost use Rattle.config_rules.specs.Names as names;
 ghost use Rattle.config_rules.specs.Passes as passes;
 
-use crate::classes::is_cell;
 use crate::directory::Directory;
 use crate::judged::fault_if;
 use crate::walk::{JudgeNew, each_new};
 use config_text::fault::{Code, ConfigFault};
 use config_text::parts::{LabelParts, TargetParts};
 use config_text::place::Place;
+use meter_theory::classes::is_cell;
 use std::alloc::Global;
 
 fn same_target(one: &TargetParts, other: &TargetParts) -> bool
@@ -31,7 +32,7 @@ fn has_label(labels: &[LabelParts], target: &TargetParts) -> bool
 
 /// Whether a target is no cell, or one of the labels is of it.
 fn is_wrong(directory: &Directory<'_>, earlier: &[LabelParts], target: &TargetParts) -> bool
-    ensures { result ≡ (not (names.target_is directory.now.config.now names.cells target.now) || list_any (λ e. passes.same_target e.target target.now) earlier.now) }
+    ensures { result ≡ (not (names.target_is directory.now.config.now classes.is_cell target.now) || list_any (λ e. passes.same_target e.target target.now) earlier.now) }
 {
     let class = directory.class(target.object.as_str());
     !is_cell(class, target.index) || has_label(earlier, target)

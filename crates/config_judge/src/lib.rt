@@ -1,10 +1,10 @@
 //! Whether what the tables of a configuration say is right (own profile): names and indexes, values, rights, labels and sizes,
-//! the codes C4 to C20, each looked for in the whole configuration before the next; and what its names lead to.
+//! the codes C4 to C21, each looked for in the whole configuration before the next; and what its names lead to.
 #![tactic(auto)]
 
 pub mod arrays;
-mod classes;
 mod clients;
+mod clocks;
 mod counts;
 pub mod directory;
 mod fed;

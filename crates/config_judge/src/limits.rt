@@ -202,7 +202,7 @@ fn limits_in(at: &Place<'_>, body: &BodyParts) -> Result<(), ConfigFault>
             ..
         } => monitor_limits(at, thresholds.as_slice(), actions.as_slice()),
         BodyParts::SingleActionSchedule { times, .. } => time_limits(at, times.as_slice()),
-        BodyParts::Unknown => Ok(()),
+        BodyParts::Clock { .. } | BodyParts::Unknown => Ok(()),
     }
 }
 

@@ -7,13 +7,13 @@ ghost use Rattle.config_text.specs.Fault.{Gives};
 ghost use Rattle.config_rules.specs.Passes as spec;
 ghost use Rattle.config_rules.specs.Walks.{element_place};
 
-use crate::classes::is_known_class;
 use crate::directory::Directory;
 use crate::judged::fault_if;
 use crate::walk::{Judge, each};
 use config_text::fault::{Code, ConfigFault};
 use config_text::parts::{ConfigParts, ObjectParts};
 use config_text::place::Place;
+use meter_theory::classes::is_known;
 use std::alloc::Global;
 
 /// The logical name of the current association (IEC 62056-6-2, Association LN).
@@ -60,34 +60,41 @@ pub(crate) fn new_objects(alloc: Global, directory: &Directory<'_>) -> Result<()
     Ok(())
 }
 
-/// The class of an object.
+/// The class of an object of a configuration of this version.
 #[derive(Drop)]
-struct KnownClass;
+struct KnownClass {
+    version: u8,
+}
 
 impl Judge for KnownClass {
     ghost use Rattle.std.specs.Prelude.{◌++◌, codes, not};
     ghost use Rattle.config_text.specs.Fault.{fault_if};
     ghost use Rattle.config_text.specs.declared.fault.Code.TheVariants.{ClassUnknown};
-    ghost use Rattle.config_rules.specs.Names.{is_known_class};
+    ghost use Rattle.meter_theory.specs.Classes.{is_known};
 
     type Part = ObjectParts;
 
-    ghost judges = { λ _ at o. fault_if ClassUnknown (at ++ codes ".class") (not (is_known_class o.class)) };
+    ghost judges = { λ all at o. fault_if ClassUnknown (at ++ codes ".class") (not (is_known all.version o.class)) };
 
     fn judge(&self, at: &Place<'_>, object: &ObjectParts) -> Result<(), ConfigFault> {
-        let known = is_known_class(object.class_id);
+        let known = is_known(self.version, object.class_id);
         fault_if(Code::ClassUnknown, at, ".class", !known)
     }
 }
 
-/// Judges whether each object's class is known.
+/// Judges whether each object's class is known in the configuration's version.
 ///
 /// # Errors
-/// C6 at the first interface class other than 1, 3, 7, 9, 21 and 22.
+/// C6 at the first interface class that isn't.
 #[tactic(auto, unfolding(config_rules::specs::Passes::known_classes))]
 pub(crate) fn known_classes(alloc: Global, config: &ConfigParts) -> Result<(), ConfigFault>
     ensures { Gives (λ u. u) result (spec.known_classes config.now) }
 {
     let object_place = Place::top(alloc, "object");
-    each(&KnownClass, &object_place, config.objects.as_slice())
+    let version = config.version;
+    each(
+        &KnownClass { version },
+        &object_place,
+        config.objects.as_slice(),
+    )
 }

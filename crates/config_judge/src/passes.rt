@@ -5,6 +5,7 @@ ghost use Rattle.config_rules.specs.Passes.{judged};
 ghost use Rattle.config_judge.specs.JudgedNames.{judged_names, judged_rest};
 
 use crate::clients::{known_clients, new_clients};
+use crate::clocks::new_clocks;
 use crate::counts::equal_counts;
 use crate::directory::Directory;
 use crate::fed::fed_values;
@@ -29,7 +30,7 @@ use std::alloc::Global;
 /// The first fault of the least code that is met, at its place:
 /// - C4 at the first logical name or client's name of bad form;
 /// - C5 at the first name that an earlier object or the current association has;
-/// - C6 at the first interface class that isn't known;
+/// - C6 at the first interface class that isn't known in the configuration's version;
 /// - C7 at the first name that no client has;
 /// - C8 at the first name or service access point that an earlier client has;
 /// - C9 at the first reference to no object, to a table that is no script table, or to a script that isn't there;
@@ -49,7 +50,7 @@ fn judge_names(alloc: Global, directory: &Directory<'_>) -> Result<(), ConfigFau
     known_indexes(alloc, directory)
 }
 
-/// Judges values, rights, labels and sizes: the codes C11 to C20, one after another.
+/// Judges values, rights, labels and sizes: the codes C11 to C21, one after another.
 ///
 /// # Errors
 /// The least of the codes that is met, at the first place where it is.
@@ -67,13 +68,14 @@ fn judge_values(alloc: Global, directory: &Directory<'_>) -> Result<(), ConfigFa
     new_labels(alloc, directory)?;
     fed_values(alloc, config)?;
     valid_times(alloc, config)?;
-    valid_sorting(alloc, config)
+    valid_sorting(alloc, config)?;
+    new_clocks(alloc, config)
 }
 
 /// Judges what the tables of a configuration say.
 ///
 /// # Errors
-/// The least of the codes C4 to C20 that is met, at the first place where it is; C0 where memory was refused, at any time.
+/// The least of the codes C4 to C21 that is met, at the first place where it is; C0 where memory was refused, at any time.
 pub fn judge(alloc: Global, directory: &Directory<'_>) -> Result<(), ConfigFault>
     ensures { Gives (λ u. u) result (judged directory.now.config.now) }
 {

@@ -157,6 +157,9 @@ pub(crate) fn references<J: JudgeReferences>(
         BodyParts::SingleActionSchedule { script, .. } => {
             judge.judge_script(&at.below(".script"), script)
         }
-        BodyParts::Data { .. } | BodyParts::Register { .. } | BodyParts::Unknown => Ok(()),
+        BodyParts::Data { .. }
+        | BodyParts::Register { .. }
+        | BodyParts::Clock { .. }
+        | BodyParts::Unknown => Ok(()),
     }
 }

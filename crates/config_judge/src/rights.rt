@@ -2,13 +2,13 @@
 ghost use Rattle.config_text.specs.Fault.{Gives};
 ghost use Rattle.config_rules.specs.Passes as passes;
 
-use crate::classes::is_settable;
 use crate::directory::Directory;
 use crate::judged::fault_if;
 use crate::walk::{Judge, each, each_below};
 use config_text::fault::{Code, ConfigFault};
 use config_text::parts::RightParts;
 use config_text::place::Place;
+use meter_theory::classes::is_settable;
 use std::alloc::Global;
 
 /// Attributes of a class that can be set.
@@ -21,11 +21,11 @@ impl Judge for SettableOf {
     ghost use Rattle.std.specs.Prelude.{not};
     ghost use Rattle.config_text.specs.Fault.{fault_if};
     ghost use Rattle.config_text.specs.declared.fault.Code.TheVariants.{NotSettable};
-    ghost use Rattle.config_rules.specs.Names.{is_among, settable};
+    ghost use Rattle.meter_theory.specs.Classes.{is_settable};
 
     type Part = u8;
 
-    ghost judges = { λ all at index. fault_if NotSettable at (not (is_among settable all.class index)) };
+    ghost judges = { λ all at index. fault_if NotSettable at (not (is_settable all.class index)) };
 
     fn judge(&self, at: &Place<'_>, index: &u8) -> Result<(), ConfigFault> {
         let settable = is_settable(self.class, *index);
@@ -43,12 +43,13 @@ impl<'d, 'c> Judge for SettableRights<'d, 'c> {
     ghost use Rattle.std.specs.Prelude.{◌++◌, codes, not};
     ghost use Rattle.config_text.specs.Fault.{fault_if};
     ghost use Rattle.config_text.specs.declared.fault.Code.TheVariants.{NotSettable};
-    ghost use Rattle.config_rules.specs.Names.{class_named, is_among, settable};
+    ghost use Rattle.meter_theory.specs.Classes.{is_settable};
+    ghost use Rattle.config_rules.specs.Names.{class_named};
     ghost use Rattle.config_rules.specs.Walks as walks;
 
     type Part = RightParts;
 
-    ghost judges = { λ all at r. walks.each (λ at index. fault_if NotSettable at (not (is_among settable (class_named all.directory.now.config.now r.object) index))) (at ++ codes ".set") r.sets };
+    ghost judges = { λ all at r. walks.each (λ at index. fault_if NotSettable at (not (is_settable (class_named all.directory.now.config.now r.object) index))) (at ++ codes ".set") r.sets };
 
     fn judge(&self, at: &Place<'_>, right: &RightParts) -> Result<(), ConfigFault> {
         let class = self.directory.class(right.object.as_str());

@@ -2,9 +2,11 @@
 ghost use Rattle.std.specs.Prelude.{◌≡◌, IfOk, Some, is_some};
 ghost use Rattle.cosem_data.specs.View.{tree};
 ghost use Rattle.cosem_data.specs.Tree.{octet_string};
+ghost use Rattle.civil_moment.specs.MomentText.{moment_in};
 ghost use Rattle.value_text.specs.Texts.{value_in};
 ghost use Rattle.config_rules.specs.Values as spec;
 
+use civil_moment::moment::Moment;
 use class_control::times::is_execution_time;
 use cosem_class::shapes::structure;
 use cosem_data::bytes::Bytes;
@@ -65,4 +67,11 @@ pub(crate) fn is_value(alloc: Global, text: &str) -> Result<bool, Memory>
         Some(_) => Ok(true),
         None => Ok(false),
     }
+}
+
+/// Whether a text is a moment: YYYY-MM-DDTHH:MM:SS, of the years 2000 to 9999, which the calendar has (own profile).
+pub(crate) fn is_moment_text(text: &str) -> bool
+    ensures { result ≡ is_some (moment_in text.now) }
+{
+    Moment::read(text).is_ok()
 }

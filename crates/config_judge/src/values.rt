@@ -1,11 +1,12 @@
-//! C11: values that aren't hex, aren't one Data, or aren't of their kind.
+//! C11: values that aren't hex, aren't one Data, or aren't of their kind, and times of clocks that are no moments.
 ghost use Rattle.std.specs.Prelude.{◌≡◌, ◌==◌, ◌&&◌, ◌++◌, IfOk, codes, length, map, not, is_some, string_bytes};
 ghost use Rattle.std.specs.List.{list_all};
 ghost use Rattle.cosem_data.specs.View.{tree};
 ghost use Rattle.cosem_data.specs.Kinds.{kind_of, same_kind};
 ghost use Rattle.cosem_data.specs.declared.kind.Kind.TheVariants.{Array};
-ghost use Rattle.meter_theory.specs.Value.{elements};
+ghost use Rattle.meter_theory.specs.Value.{ClockTime, elements, meets};
 ghost use Rattle.meter_theory.specs.Times.{are_execution_times};
+ghost use Rattle.civil_moment.specs.MomentText.{moment_in};
 ghost use Rattle.value_text.specs.Texts.{value_in};
 ghost use Rattle.config_text.specs.BodyView.{body_text};
 ghost use Rattle.config_text.specs.Fault.{Gives};
@@ -21,8 +22,9 @@ use crate::directory::Directory;
 use crate::judged::fault_if;
 use crate::kinds::{Kinds, has_kind, is_number, is_of_kind, may_be_number};
 use crate::reference_walk::each_action;
-use crate::value::{is_time_text, is_value, kind_in};
+use crate::value::{is_moment_text, is_time_text, is_value, kind_in};
 use crate::walk::{Judge, JudgeText, each, each_text_below};
+use class_control::clock::judge_time;
 use class_control::judge::elements_of;
 use class_control::times::are_execution_times;
 use config_text::fault::{Code, ConfigFault};
@@ -79,6 +81,13 @@ fn may_be_times(execution_type: u8, value: &Data) -> bool
     value.kind() == Kind::Array && are_execution_times(execution_type, elements_of(value))
 }
 
+/// Whether a clock may be set to a value.
+fn may_be_clock_time(value: &Data) -> bool
+    ensures { result ≡ meets ClockTime (tree value.now) }
+{
+    judge_time(value).is_ok()
+}
+
 /// Whether a value may stand in the settable cell of an object with this body, which starts with a value of its own of this
 /// kind, the limits left aside.
 fn may_stand(kinds: &Kinds<'_, '_>, own: Option<Kind>, body: &BodyParts, value: &Data) -> bool
@@ -88,6 +97,7 @@ fn may_stand(kinds: &Kinds<'_, '_>, own: Option<Kind>, body: &BodyParts, value: 
     match body {
         BodyParts::Data { .. } | BodyParts::Register { .. } => has_kind(own, value),
         BodyParts::ProfileGeneric { .. } => value.kind() == Kind::DoubleLongUnsigned,
+        BodyParts::Clock { .. } => may_be_clock_time(value),
         BodyParts::RegisterMonitor {
             monitored,
             actions,
@@ -214,6 +224,13 @@ fn register_values(at: &Place<'_>, value: &str, default: &str) -> Result<(), Con
     fault_if(Code::Value, at, ".default", !is_of_kind(kind, &default))
 }
 
+/// The time of a clock.
+fn clock_time(at: &Place<'_>, time: &str) -> Result<(), ConfigFault>
+    ensures { Gives (λ u. u) result (faults.fault_if Value (at.now ++ codes ".time") (not (is_some (moment_in time.now)))) }
+{
+    fault_if(Code::Value, at, ".time", !is_moment_text(time))
+}
+
 /// Judges the thresholds of a monitor of a value of this kind.
 fn thresholds(at: &Place<'_>, kind: Option<Kind>, texts: &[String]) -> Result<(), ConfigFault>
     ensures { Gives (λ u. u) result (walks.each (λ at text. faults.fault_if Value at (not (spec.is_of_kind kind (value_in text))))
@@ -253,6 +270,7 @@ fn valid_values_in(
         BodyParts::Register { value, default, .. } => {
             register_values(at, value.as_str(), default.as_str())
         }
+        BodyParts::Clock { time } => clock_time(at, time.as_str()),
         BodyParts::ScriptTable { scripts } => {
             each_action(&ActionValue { kinds }, at, scripts.as_slice())
         }
@@ -289,7 +307,8 @@ impl<'k, 'd, 'c> Judge for ObjectValues<'k, 'd, 'c> {
 /// Judges the values of each object.
 ///
 /// # Errors
-/// C11 at the first text that isn't hex, isn't one Data, or isn't of the kind that is asked for there.
+/// C11 at the first text that isn't hex, isn't one Data, or isn't of the kind that is asked for there, and at a clock's time that
+/// is no moment.
 #[tactic(auto, unfolding(config_rules::specs::Passes::valid_values))]
 pub(crate) fn valid_values(alloc: Global, directory: &Directory<'_>) -> Result<(), ConfigFault>
     ensures { Gives (λ u. u) result (passes.valid_values directory.now.config.now) }

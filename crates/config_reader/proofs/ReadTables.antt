@@ -1,24 +1,24 @@
 -- What the tables of a text say was judged as it was read.
-use Rattle.std.proofs.Common.{◌≡◌, ℕ, ◌+◌, ◌==◌, Bool, true, false, not, List, [], ◌∷◌, ◌++◌, refl, sym, ap, subst, ◌∙◌, inl, inr, Option, Some, None, Result, Ok, nat_le, eqb-true, eq-eqb, ℤ, pos, negsuc}
-use Rattle.std.proofs.lemmas.Bool.{and_parts, and_from, false≢true}
+use Rattle.std.proofs.Common.{◌≡◌, ℕ, ◌+◌, ◌==◌, Bool, true, false, not, List, [], ◌∷◌, ◌++◌, refl, sym, ap, subst, ◌∙◌, inl, inr, Option, Some, None, Result, Ok, nat_le, ℤ, pos, negsuc}
+use Rattle.std.proofs.lemmas.Bool.{and_parts, and_from}
 use Rattle.std.specs.Prelude.{codes, option_and_then, ◌&&◌, if◌then◌else◌, ◌^◌, ◌-◌}
 use Rattle.toml.specs.Data.{Data, Items, Members, no_items, item, get_member, as_integer, as_table}
+use Rattle.meter_theory.specs.Classes.{is_known}
 use Rattle.meter_theory.specs.Lists.{IsIn}
 use Rattle.config_text.specs.Fault.{Fault, found_or, ◌>>=◌}
-use Rattle.config_text.specs.Parts.{Text, ClientText, ObjectText, ConfigText, BodyText, DataText, RegisterText, ProfileText, ScriptTableText, MonitorText, ScheduleText, UnknownText}
+use Rattle.config_text.specs.Parts.{Text, ClientText, ObjectText, ConfigText, BodyText, DataText, RegisterText, ProfileText, ClockText, ScriptTableText, MonitorText, ScheduleText, UnknownText}
 use Rattle.config_text.specs.declared.fault.Code.{Code}
 use Rattle.config_text.specs.declared.fault.Code.TheVariants.{Kind}
 use Rattle.config_rules.proofs.Passed.{then_ok}
-use Rattle.config_rules.specs.Names.{is_known_class}
 use Rattle.config_rules.specs.Read.{IsRead, has_sap, is_body_of}
 use Rattle.config_text.specs.Lists.{each, array_at, element_place, texts_at}
 use Rattle.config_text.specs.Tables.{list_at, optional_list_at, table_at, table_of}
 use Rattle.config_text.specs.Values.{natural_at, natural_in, text_at, signed_at, optional_ascii_at, optional_integer_at}
-use Rattle.config_text.specs.Classes.{data_of, register_of, capture_of, profile_of, script_of, script_table_of, up_down_of, monitor_of, schedule_of}
+use Rattle.config_text.specs.Classes.{data_of, register_of, capture_of, profile_of, clock_of, script_of, script_table_of, up_down_of, monitor_of, schedule_of}
 use Rattle.config_text.specs.Targets.{target_of, script_ref_of}
 use Rattle.config_text.specs.Rights.{right_of, sets_of, label_of}
 use Rattle.config_text.specs.Clients.{client_of}
-use Rattle.config_text.specs.Objects.{object_of, body_of, fed_of}
+use Rattle.config_text.specs.Objects.{object_of, body_of, fed_of, is_clock}
 use Rattle.config_text.specs.Document.{tables_of, parts_of, config_keys, document_of}
 
 -- what was said last
@@ -95,15 +95,15 @@ list_said says at key t xs h x there =
     table_said says one.0 one.1 x one.2
 
 -- what a table says is the body of its class
-data_body : (class : ℕ) (at : Text) (t : Members) (body : BodyText) → data_of at t ≡ Ok body → (class == 1) ≡ true → is_body_of class body ≡ true
+data_body : (version class : ℕ) (at : Text) (t : Members) (body : BodyText) → data_of at t ≡ Ok body → (class == 1) ≡ true → is_body_of version class body ≡ true
 unfolding data_of
-data_body class at t body h is =
+data_body version class at t body h is =
     let value = then_ok (text_at at (codes "value") t) (λ value. Ok (DataText value)) body h in
-    subst (λ b. is_body_of class b ≡ true) (said (DataText value.0) body value.2) is
+    subst (λ b. is_body_of version class b ≡ true) (said (DataText value.0) body value.2) is
 
-register_body : (class : ℕ) (at : Text) (t : Members) (body : BodyText) → register_of at t ≡ Ok body → (class == 3) ≡ true → is_body_of class body ≡ true
+register_body : (version class : ℕ) (at : Text) (t : Members) (body : BodyText) → register_of at t ≡ Ok body → (class == 3) ≡ true → is_body_of version class body ≡ true
 unfolding register_of
-register_body class at t body h is =
+register_body version class at t body h is =
     let value = then_ok (text_at at (codes "value") t) (λ value. text_at at (codes "default") t >>= λ default.
     signed_at (negsuc 127) (pos 127) at (codes "scaler") t >>= λ scaler. natural_at 0 255 at (codes "unit") t >>= λ unit.
     Ok (RegisterText value default scaler unit)) body h in
@@ -113,11 +113,11 @@ register_body class at t body h is =
     let scaler = then_ok (signed_at (negsuc 127) (pos 127) at (codes "scaler") t) (λ scaler. natural_at 0 255 at (codes "unit") t >>= λ unit.
     Ok (RegisterText value.0 default.0 scaler unit)) body default.2 in
     let unit = then_ok (natural_at 0 255 at (codes "unit") t) (λ unit. Ok (RegisterText value.0 default.0 scaler.0 unit)) body scaler.2 in
-    subst (λ b. is_body_of class b ≡ true) (said (RegisterText value.0 default.0 scaler.0 unit.0) body unit.2) is
+    subst (λ b. is_body_of version class b ≡ true) (said (RegisterText value.0 default.0 scaler.0 unit.0) body unit.2) is
 
-profile_body : (class : ℕ) (at : Text) (t : Members) (body : BodyText) → profile_of at t ≡ Ok body → (class == 7) ≡ true → is_body_of class body ≡ true
+profile_body : (version class : ℕ) (at : Text) (t : Members) (body : BodyText) → profile_of at t ≡ Ok body → (class == 7) ≡ true → is_body_of version class body ≡ true
 unfolding profile_of
-profile_body class at t body h is =
+profile_body version class at t body h is =
     let captures = then_ok (list_at capture_of at (codes "capture") t) (λ captures. natural_at 0 4294967295 at (codes "period") t >>= λ period.
     natural_at 1 (2 ^ 63 - 1) at (codes "entries") t >>= λ entries. optional_integer_at at (codes "sort_method") t >>= λ sort_method.
     Ok (ProfileText captures period entries sort_method)) body h in
@@ -128,61 +128,60 @@ profile_body class at t body h is =
     Ok (ProfileText captures.0 period.0 entries sort_method)) body period.2 in
     let sort_method = then_ok (optional_integer_at at (codes "sort_method") t) (λ sort_method.
     Ok (ProfileText captures.0 period.0 entries.0 sort_method)) body entries.2 in
-    subst (λ b. is_body_of class b ≡ true) (said (ProfileText captures.0 period.0 entries.0 sort_method.0) body sort_method.2)
+    subst (λ b. is_body_of version class b ≡ true) (said (ProfileText captures.0 period.0 entries.0 sort_method.0) body sort_method.2)
     (and_from (class == 7) (nat_le 1 entries.0) is
     (and_parts (nat_le 1 entries.0) (nat_le entries.0 (2 ^ 63 - 1)) (natural_in_range 1 (2 ^ 63 - 1) at (codes "entries") t entries.0 entries.1)).0)
 
-script_table_body : (class : ℕ) (at : Text) (t : Members) (body : BodyText) → script_table_of at t ≡ Ok body → (class == 9) ≡ true → is_body_of class body ≡ true
-unfolding script_table_of
-script_table_body class at t body h is =
-    let scripts = then_ok (list_at script_of at (codes "script") t) (λ scripts. Ok (ScriptTableText scripts)) body h in
-    subst (λ b. is_body_of class b ≡ true) (said (ScriptTableText scripts.0) body scripts.2) is
+clock_body : (version class : ℕ) (at : Text) (t : Members) (body : BodyText) → clock_of at t ≡ Ok body → (class == 8) ≡ true → is_body_of version class body ≡ true
+unfolding clock_of
+clock_body version class at t body h is =
+    let time = then_ok (text_at at (codes "time") t) (λ time. Ok (ClockText time)) body h in
+    subst (λ b. is_body_of version class b ≡ true) (said (ClockText time.0) body time.2) is
 
-monitor_body : (class : ℕ) (at : Text) (t : Members) (body : BodyText) → monitor_of at t ≡ Ok body → (class == 21) ≡ true → is_body_of class body ≡ true
+script_table_body : (version class : ℕ) (at : Text) (t : Members) (body : BodyText) → script_table_of at t ≡ Ok body → (class == 9) ≡ true → is_body_of version class body ≡ true
+unfolding script_table_of
+script_table_body version class at t body h is =
+    let scripts = then_ok (list_at script_of at (codes "script") t) (λ scripts. Ok (ScriptTableText scripts)) body h in
+    subst (λ b. is_body_of version class b ≡ true) (said (ScriptTableText scripts.0) body scripts.2) is
+
+monitor_body : (version class : ℕ) (at : Text) (t : Members) (body : BodyText) → monitor_of at t ≡ Ok body → (class == 21) ≡ true → is_body_of version class body ≡ true
 unfolding monitor_of
-monitor_body class at t body h is =
+monitor_body version class at t body h is =
     let monitored = then_ok (table_at target_of at (codes "monitored") t) (λ monitored. texts_at at (codes "thresholds") t >>= λ thresholds.
     list_at up_down_of at (codes "action") t >>= λ actions. Ok (MonitorText monitored thresholds actions)) body h in
     let thresholds = then_ok (texts_at at (codes "thresholds") t) (λ thresholds.
     list_at up_down_of at (codes "action") t >>= λ actions. Ok (MonitorText monitored.0 thresholds actions)) body monitored.2 in
     let actions = then_ok (list_at up_down_of at (codes "action") t) (λ actions. Ok (MonitorText monitored.0 thresholds.0 actions)) body thresholds.2 in
-    subst (λ b. is_body_of class b ≡ true) (said (MonitorText monitored.0 thresholds.0 actions.0) body actions.2) is
+    subst (λ b. is_body_of version class b ≡ true) (said (MonitorText monitored.0 thresholds.0 actions.0) body actions.2) is
 
-schedule_body : (class : ℕ) (at : Text) (t : Members) (body : BodyText) → schedule_of at t ≡ Ok body → (class == 22) ≡ true → is_body_of class body ≡ true
+schedule_body : (version class : ℕ) (at : Text) (t : Members) (body : BodyText) → schedule_of at t ≡ Ok body → (class == 22) ≡ true → is_body_of version class body ≡ true
 unfolding schedule_of
-schedule_body class at t body h is =
+schedule_body version class at t body h is =
     let script = then_ok (table_at script_ref_of at (codes "script") t) (λ script. natural_at 1 5 at (codes "type") t >>= λ type.
     texts_at at (codes "times") t >>= λ times. Ok (ScheduleText script type times)) body h in
     let type = then_ok (natural_at 1 5 at (codes "type") t) (λ type.
     texts_at at (codes "times") t >>= λ times. Ok (ScheduleText script.0 type times)) body script.2 in
     let times = then_ok (texts_at at (codes "times") t) (λ times. Ok (ScheduleText script.0 type.0 times)) body type.2 in
-    subst (λ b. is_body_of class b ≡ true) (said (ScheduleText script.0 type.0 times.0) body times.2) is
+    subst (λ b. is_body_of version class b ≡ true) (said (ScheduleText script.0 type.0 times.0) body times.2) is
 
 -- a choice by a test, whose answer is kept
 by_test : {A : Type 0} (b : Bool) (x y : A) (G : A → Type 0) → (b ≡ true → G x) → (b ≡ false → G y) → G (if b then x else y)
 by_test true x y G this other = this refl
 by_test false x y G this other = other refl
 
--- the sides of a test that fails may be exchanged
-differs : (a b : ℕ) → (a == b) ≡ false → (b == a) ≡ false
-differs a b isnt = at (b == a) refl
-  where
-    at : (t : Bool) → (b == a) ≡ t → (b == a) ≡ false
-    at true is = absurd (false≢true (sym isnt ∙ eq-eqb a b (sym (eqb-true b a is))))
-    at false is = is
-
-is_body : (class : ℕ) (at : Text) (t : Members) (body : BodyText) → body_of class at t ≡ Ok body → is_body_of class body ≡ true
-is_body class at t body =
-    by_test (class == 1) (data_of at t) (other3) (G) (λ is h. data_body class at t body h is) λ not1.
-    by_test (class == 3) (register_of at t) (other7) (G) (λ is h. register_body class at t body h is) λ not3.
-    by_test (class == 7) (profile_of at t) (other9) (G) (λ is h. profile_body class at t body h is) λ not7.
-    by_test (class == 9) (script_table_of at t) (other21) (G) (λ is h. script_table_body class at t body h is) λ not9.
-    by_test (class == 21) (monitor_of at t) (other22) (G) (λ is h. monitor_body class at t body h is) λ not21.
-    by_test (class == 22) (schedule_of at t) (Ok UnknownText) (G) (λ is h. schedule_body class at t body h is) λ not22 h.
-    subst (λ b. is_body_of class b ≡ true) (said UnknownText body h) (unknown not1 not3 not7 not9 not21 not22)
+is_body : (version class : ℕ) (at : Text) (t : Members) (body : BodyText) → body_of version class at t ≡ Ok body → is_body_of version class body ≡ true
+is_body version class at t body =
+    by_test (class == 1) (data_of at t) (other3) (G) (λ is h. data_body version class at t body h is) λ not1.
+    by_test (class == 3) (register_of at t) (other7) (G) (λ is h. register_body version class at t body h is) λ not3.
+    by_test (class == 7) (profile_of at t) (other8) (G) (λ is h. profile_body version class at t body h is) λ not7.
+    by_test (is_clock version class) (clock_of at t) (other9) (G) (λ is h. clock_body version class at t body h (and_parts (class == 8) (nat_le 2 version) is).0) λ not8.
+    by_test (class == 9) (script_table_of at t) (other21) (G) (λ is h. script_table_body version class at t body h is) λ not9.
+    by_test (class == 21) (monitor_of at t) (other22) (G) (λ is h. monitor_body version class at t body h is) λ not21.
+    by_test (class == 22) (schedule_of at t) (Ok UnknownText) (G) (λ is h. schedule_body version class at t body h is) λ not22 h.
+    subst (λ b. is_body_of version class b ≡ true) (said UnknownText body h) (unknown not1 not3 not7 not8 not9 not21 not22)
   where
     G : Result BodyText Fault → Type 0
-    G r = r ≡ Ok body → is_body_of class body ≡ true
+    G r = r ≡ Ok body → is_body_of version class body ≡ true
 
     other22 : Result BodyText Fault
     other22 = if class == 22 then schedule_of at t else Ok UnknownText
@@ -193,58 +192,61 @@ is_body class at t body =
     other9 : Result BodyText Fault
     other9 = if class == 9 then script_table_of at t else other21
 
+    other8 : Result BodyText Fault
+    other8 = if is_clock version class then clock_of at t else other9
+
     other7 : Result BodyText Fault
-    other7 = if class == 7 then profile_of at t else other9
+    other7 = if class == 7 then profile_of at t else other8
 
     other3 : Result BodyText Fault
     other3 = if class == 3 then register_of at t else other7
 
-    unknown : (class == 1) ≡ false → (class == 3) ≡ false → (class == 7) ≡ false → (class == 9) ≡ false → (class == 21) ≡ false → (class == 22) ≡ false →
-        not (is_known_class class) ≡ true
-    unknown a b c d e f = cc (differs class 1 a, differs class 3 b, differs class 7 c, differs class 9 d, differs class 21 e, differs class 22 f)
+    unknown : (class == 1) ≡ false → (class == 3) ≡ false → (class == 7) ≡ false → is_clock version class ≡ false → (class == 9) ≡ false →
+        (class == 21) ≡ false → (class == 22) ≡ false → not (is_known version class) ≡ true
+    unknown a b c d e f g = rw (a, b, c, d, e, f, g) refl
 
-object_has_body : (at : Text) (t : Members) (o : ObjectText) → object_of at t ≡ Ok o → is_body_of o.class o.body ≡ true
+object_has_body : (version : ℕ) (at : Text) (t : Members) (o : ObjectText) → object_of version at t ≡ Ok o → is_body_of version o.class o.body ≡ true
 unfolding object_of
-object_has_body at t o h =
-    let class = then_ok (natural_at 0 65535 at (codes "class") t) (λ class. text_at at (codes "name") t >>= λ name. fed_of class at t >>= λ fed.
-    body_of class at t >>= λ body. Ok (record { class = class; name = name; fed = fed; body = body })) o h in
-    let name = then_ok (text_at at (codes "name") t) (λ name. fed_of class.0 at t >>= λ fed.
-    body_of class.0 at t >>= λ body. Ok (record { class = class.0; name = name; fed = fed; body = body })) o class.2 in
-    let fed = then_ok (fed_of class.0 at t) (λ fed.
-    body_of class.0 at t >>= λ body. Ok (record { class = class.0; name = name.0; fed = fed; body = body })) o name.2 in
-    let body = then_ok (body_of class.0 at t) (λ body. Ok (record { class = class.0; name = name.0; fed = fed.0; body = body })) o fed.2 in
-    subst (λ p. is_body_of p.class p.body ≡ true) (said (record { class = class.0; name = name.0; fed = fed.0; body = body.0 }) o body.2)
-    (is_body class.0 at t body.0 body.1)
+object_has_body version at t o h =
+    let class = then_ok (natural_at 0 65535 at (codes "class") t) (λ class. text_at at (codes "name") t >>= λ name. fed_of version class at t >>= λ fed.
+    body_of version class at t >>= λ body. Ok (record { class = class; name = name; fed = fed; body = body })) o h in
+    let name = then_ok (text_at at (codes "name") t) (λ name. fed_of version class.0 at t >>= λ fed.
+    body_of version class.0 at t >>= λ body. Ok (record { class = class.0; name = name; fed = fed; body = body })) o class.2 in
+    let fed = then_ok (fed_of version class.0 at t) (λ fed.
+    body_of version class.0 at t >>= λ body. Ok (record { class = class.0; name = name.0; fed = fed; body = body })) o name.2 in
+    let body = then_ok (body_of version class.0 at t) (λ body. Ok (record { class = class.0; name = name.0; fed = fed.0; body = body })) o fed.2 in
+    subst (λ p. is_body_of version p.class p.body ≡ true) (said (record { class = class.0; name = name.0; fed = fed.0; body = body.0 }) o body.2)
+    (is_body version class.0 at t body.0 body.1)
 
 -- the clients and the objects of a configuration are those of its tables
 config_is_read : (t : Members) (c : ConfigText) → parts_of t ≡ Ok c → IsRead c
 unfolding parts_of
 config_is_read t c h =
-    let version = then_ok (natural_at 1 1 [] (codes "version") t) (λ version. list_at client_of [] (codes "client") t >>= λ clients.
-    list_at object_of [] (codes "object") t >>= λ objects. optional_list_at right_of [] (codes "right") t >>= λ rights.
+    let version = then_ok (natural_at 1 2 [] (codes "version") t) (λ version. list_at client_of [] (codes "client") t >>= λ clients.
+    list_at (object_of version) [] (codes "object") t >>= λ objects. optional_list_at right_of [] (codes "right") t >>= λ rights.
     table_at sets_of [] (codes "policy") t >>= λ policy. optional_list_at label_of [] (codes "label") t >>= λ labels.
-    Ok (record { clients = clients; objects = objects; rights = rights; policy = policy; labels = labels })) c h in
+    Ok (record { version = version; clients = clients; objects = objects; rights = rights; policy = policy; labels = labels })) c h in
     let clients = then_ok (list_at client_of [] (codes "client") t) (λ clients.
-    list_at object_of [] (codes "object") t >>= λ objects. optional_list_at right_of [] (codes "right") t >>= λ rights.
+    list_at (object_of version.0) [] (codes "object") t >>= λ objects. optional_list_at right_of [] (codes "right") t >>= λ rights.
     table_at sets_of [] (codes "policy") t >>= λ policy. optional_list_at label_of [] (codes "label") t >>= λ labels.
-    Ok (record { clients = clients; objects = objects; rights = rights; policy = policy; labels = labels })) c version.2 in
-    let objects = then_ok (list_at object_of [] (codes "object") t) (λ objects. optional_list_at right_of [] (codes "right") t >>= λ rights.
+    Ok (record { version = version.0; clients = clients; objects = objects; rights = rights; policy = policy; labels = labels })) c version.2 in
+    let objects = then_ok (list_at (object_of version.0) [] (codes "object") t) (λ objects. optional_list_at right_of [] (codes "right") t >>= λ rights.
     table_at sets_of [] (codes "policy") t >>= λ policy. optional_list_at label_of [] (codes "label") t >>= λ labels.
-    Ok (record { clients = clients.0; objects = objects; rights = rights; policy = policy; labels = labels })) c clients.2 in
+    Ok (record { version = version.0; clients = clients.0; objects = objects; rights = rights; policy = policy; labels = labels })) c clients.2 in
     let rights = then_ok (optional_list_at right_of [] (codes "right") t) (λ rights.
     table_at sets_of [] (codes "policy") t >>= λ policy. optional_list_at label_of [] (codes "label") t >>= λ labels.
-    Ok (record { clients = clients.0; objects = objects.0; rights = rights; policy = policy; labels = labels })) c objects.2 in
+    Ok (record { version = version.0; clients = clients.0; objects = objects.0; rights = rights; policy = policy; labels = labels })) c objects.2 in
     let policy = then_ok (table_at sets_of [] (codes "policy") t) (λ policy. optional_list_at label_of [] (codes "label") t >>= λ labels.
-    Ok (record { clients = clients.0; objects = objects.0; rights = rights.0; policy = policy; labels = labels })) c rights.2 in
+    Ok (record { version = version.0; clients = clients.0; objects = objects.0; rights = rights.0; policy = policy; labels = labels })) c rights.2 in
     let labels = then_ok (optional_list_at label_of [] (codes "label") t) (λ labels.
-    Ok (record { clients = clients.0; objects = objects.0; rights = rights.0; policy = policy.0; labels = labels })) c policy.2 in
-    subst IsRead (said (record { clients = clients.0; objects = objects.0; rights = rights.0; policy = policy.0; labels = labels.0 }) c labels.2) (record {
+    Ok (record { version = version.0; clients = clients.0; objects = objects.0; rights = rights.0; policy = policy.0; labels = labels })) c policy.2 in
+    subst IsRead (said (record { version = version.0; clients = clients.0; objects = objects.0; rights = rights.0; policy = policy.0; labels = labels.0 }) c labels.2) (record {
       saps = λ client there.
           let one = list_said client_of [] (codes "client") t clients.0 clients.1 client there in
           client_has_sap one.0 one.1 client one.2;
       bodies = λ o there.
-          let one = list_said object_of [] (codes "object") t objects.0 objects.1 o there in
-          object_has_body one.0 one.1 o one.2;
+          let one = list_said (object_of version.0) [] (codes "object") t objects.0 objects.1 o there in
+          object_has_body version.0 one.0 one.1 o one.2;
     })
 
 -- What the tables of a text say was judged as it was read.

@@ -8,7 +8,7 @@ use Rattle.meter_theory.specs.Lists.{IsIn}
 use Rattle.meter_theory.proofs.Lists.{in_map}
 use Rattle.meter_theory.specs.Sound.{is_name, has_part_sizes}
 use Rattle.meter_theory.specs.declared.limits.TheConstants as limits
-use Rattle.config_text.specs.Parts.{ConfigText, BodyText, DataText, RegisterText, ProfileText, ScriptTableText, MonitorText, ScheduleText, UnknownText}
+use Rattle.config_text.specs.Parts.{ConfigText, BodyText, DataText, RegisterText, ProfileText, ClockText, ScriptTableText, MonitorText, ScheduleText, UnknownText}
 use Rattle.config_rules.specs.Faultless.{IsFaultless}
 use Rattle.config_rules.specs.PlanOf.{object_of, part_of, cell_named, name_of, client_of}
 use Rattle.config_rules.proofs.Sound.{plan_is_sound}
@@ -25,6 +25,7 @@ room_in c (ProfileText captures period entries sort_method) h =
     let taken : List CellRef = map (λ x. cell_named c x.target) captures in
     (and_parts (list_all (λ x. is_name x.name) taken) (nat_le 1 entries && nat_le entries limits.PROFILE_ENTRIES)
     (and_parts (nat_le (length taken) limits.CAPTURE_OBJECTS) (list_all (λ x. is_name x.name) taken && (nat_le 1 entries && nat_le entries limits.PROFILE_ENTRIES)) h).1).1
+room_in c (ClockText time) h = refl
 room_in c (ScriptTableText scripts) h = refl
 room_in c (MonitorText monitored thresholds actions) h = refl
 room_in c (ScheduleText script type times) h = refl

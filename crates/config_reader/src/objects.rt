@@ -11,7 +11,8 @@ ghost use Rattle.config_reader.specs.Room.{has_room};
 
 use crate::scripts::scripts_of;
 use crate::targets::{actions_of, captured, cell_named, name_of, script_named};
-use class_control::parts::{MonitorPart, SchedulePart, ScriptTablePart};
+use civil_moment::moment::Moment;
+use class_control::parts::{ClockPart, MonitorPart, SchedulePart, ScriptTablePart};
 use class_profile::profile::ProfilePart;
 use config_judge::arrays::{times_of, value_or_null, values_of};
 use config_judge::directory::Directory;
@@ -61,6 +62,16 @@ fn profile(
         capture_period,
         profile_entries: entries as u32,
     }))
+}
+
+/// The moment that a text is, the first one where it is none.
+fn moment_of(text: &str) -> Moment
+    ensures { result ≡ plan.moment_of text.now }
+{
+    match Moment::read(text) {
+        Ok(moment) => moment,
+        Err(_) => Moment::first(),
+    }
 }
 
 fn monitor(
@@ -125,6 +136,9 @@ fn part(alloc: Global, directory: &Directory, body: &BodyParts) -> Result<Part, 
             entries,
             ..
         } => profile(alloc, directory, capture.as_slice(), *period, *entries),
+        BodyParts::Clock { time } => Ok(Part::Clock(ClockPart {
+            start: moment_of(time.as_str()),
+        })),
         BodyParts::ScriptTable { scripts } => Ok(Part::ScriptTable(ScriptTablePart {
             scripts: scripts_of(alloc, directory, scripts.as_slice())?,
         })),

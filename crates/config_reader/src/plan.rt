@@ -24,6 +24,7 @@ fn plan_parts(alloc: Global, directory: &Directory) -> Result<PlanParts, Memory>
     let objects = objects_of(alloc, directory, config.objects.as_slice())?;
     let rights = rights_of(alloc, directory, config.rights.as_slice())?;
     Ok(PlanParts {
+        version: config.version,
         clients,
         objects,
         rights,

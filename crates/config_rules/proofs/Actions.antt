@@ -9,21 +9,22 @@ use Rattle.cosem_data.specs.Kinds.{kind_of, same_kind}
 use Rattle.cosem_data.specs.declared.kind.Kind.{Kind}
 use Rattle.cosem_data.specs.declared.kind.Kind.TheVariants.{Array, DoubleLongUnsigned}
 use Rattle.cosem_data.specs.declared.cell.CellRef.{CellRef}
+use Rattle.meter_theory.specs.Classes.{has_method}
 use Rattle.meter_theory.specs.Lists.{IsIn, some_passes}
 use Rattle.cosem_data.specs.declared.cell.MethodRef.{MethodRef}
 use Rattle.meter_theory.specs.State.{value}
 use Rattle.meter_theory.specs.Value.{Rule, OfKind, Thresholds, meets, is_within_limits, elements}
 use Rattle.meter_theory.specs.Times.{are_execution_times}
 use Rattle.meter_theory.specs.Plan as theory
-use Rattle.meter_theory.specs.Plan.{Script, Action, start, rule_of, rule_in, cells, class_of, interface_of}
+use Rattle.meter_theory.specs.Plan.{Script, Action, rule_of, rule_in, cells, class_of}
 use Rattle.meter_theory.specs.Steps.{scripts_of}
-use Rattle.meter_theory.specs.Sound.{IsWrite, has_plain_method, are_indexes}
+use Rattle.meter_theory.specs.Sound.{IsWrite, has_plain_method, are_indexes, highest_method}
 use Rattle.meter_theory.specs.declared.limits.TheConstants as limits
 use Rattle.meter_theory.proofs.Lists.{from_map}
 use Rattle.config_text.specs.declared.service.Service.{Service}
 use Rattle.config_text.specs.declared.service.Service.TheVariants as services
-use Rattle.config_text.specs.Parts.{Text, ConfigText, ObjectText, ActionText, ScriptText, BodyText, DataText, RegisterText, ProfileText, ScriptTableText, MonitorText, ScheduleText, UnknownText}
-use Rattle.config_rules.specs.Names.{object_named, class_named, is_index, methods}
+use Rattle.config_text.specs.Parts.{Text, ConfigText, ObjectText, ActionText, ScriptText, BodyText, DataText, RegisterText, ProfileText, ClockText, ScriptTableText, MonitorText, ScheduleText, UnknownText}
+use Rattle.config_rules.specs.Names.{object_named, class_named}
 use Rattle.value_text.specs.Texts.{value_in}
 use Rattle.config_rules.specs.Values.{kind_in, has_kind, kind_named, may_stand, may_stand_at}
 use Rattle.config_rules.specs.PlanOf.{part_of, plan_of, value_of, or_else, cell_named, method_named, up_down_of, script_of, action_of, parameter_of}
@@ -57,6 +58,8 @@ meets_rule c ok o i (RegisterText text default scaler unit) is index rule h v st
     subst (λ r. meets r v ≡ true) (chosen (index == 2) _ rule h) (start_meets text v (register_start c ok o i text default scaler unit is).0 stands limit)
 meets_rule c ok o i (ProfileText captures period entries sort_method) is index rule h v stands limit =
     subst (λ r. meets r v ≡ true) (chosen (index == 4) _ rule h) (kind_meets DoubleLongUnsigned v stands limit)
+meets_rule c ok o i (ClockText time) is index rule h v stands limit =
+    subst (λ r. meets r v ≡ true) (chosen (index == 2) _ rule h) stands
 meets_rule c ok o i (ScriptTableText scripts) is index rule h v stands limit = cc
 meets_rule c ok o i (MonitorText monitored ths actions) is index rule h v stands limit =
     let source = monitor_source c ok o i monitored ths actions is in
@@ -150,16 +153,16 @@ action_calls : (c : ConfigText) (a : ActionText) → IsAction c a → (service :
 action_calls c a act services.Write is m v e = cc
 action_calls c a act services.Invoke is m v e =
     let index = subst (λ s. passes.usable_action c s act.index.0 a.target ≡ Ok tt) is act.index.1 in
-    let method : is_index methods (class_named c a.target.object) a.target.index ≡ true = holds _ _ _ index in
+    let method : has_method (class_named c a.target.object) a.target.index ≡ true = holds _ _ _ index in
     let plain : (class_named c a.target.object == 9) ≡ false = subst (λ s. (passes.is_invoke s && (class_named c a.target.object == 9)) ≡ false) is act.plain in
-    let there = method_of c act.object.body a.target.index (subst (λ k. is_index methods k a.target.index ≡ true) act.target.class method) in
+    let there = method_of (part_of c act.object.body) a.target.index (subst (λ k. has_method k a.target.index ≡ true) act.target.class method) in
     let method_is : m ≡ method_named c a.target = cc in
     subst (λ z. has_plain_method (plan_of c) z ≡ true) (sym method_is)
     (subst (λ found. some_passes (λ o. (class_of o.part == class_named c a.target.object)
-    && (not (class_named c a.target.object == 9) && are_indexes (interface_of o.part).methods (a.target.index ∷ []))) found ≡ true) (sym act.target.planned)
+    && (not (class_named c a.target.object == 9) && are_indexes (highest_method o.part) (a.target.index ∷ []))) found ≡ true) (sym act.target.planned)
     (and_from (class_of (part_of c act.object.body) == class_named c a.target.object) _ (eq-eqb (class_of (part_of c act.object.body)) (class_named c a.target.object) (sym act.target.class))
     (and_from (not (class_named c a.target.object == 9)) _ (ap not plain)
-    (and_from (nat_le 1 a.target.index && nat_le a.target.index (interface_of (part_of c act.object.body)).methods) true there refl))))
+    (and_from (nat_le 1 a.target.index && nat_le a.target.index (highest_method (part_of c act.object.body))) true there refl))))
 
 -- an action of a script of the plan
 action_of_plan : (c : ConfigText) → IsRight c → (o : ObjectText) → IsIn c.objects o → (body : BodyText) → o.body ≡ body → (script : Script) → IsIn (scripts_of (part_of c body)) script →
@@ -167,6 +170,7 @@ action_of_plan : (c : ConfigText) → IsRight c → (o : ObjectText) → IsIn c.
 action_of_plan c ok o i (DataText value) is script j action k = absurd j
 action_of_plan c ok o i (RegisterText value default scaler unit) is script j action k = absurd j
 action_of_plan c ok o i (ProfileText captures period entries sort_method) is script j action k = absurd j
+action_of_plan c ok o i (ClockText time) is script j action k = absurd j
 action_of_plan c ok o i (ScriptTableText scripts) is script j action k =
     let s = from_map (script_of c) scripts script j in
     let a = from_map (λ z. action_of c z.service z.target z.value) s.0.actions action (subst (λ z. IsIn z.actions action) s.2 k) in

@@ -5,14 +5,15 @@ use Rattle.std.proofs.lemmas.Bool.{or_cases, and_parts, cond-true, false≢true,
 use Rattle.cosem_data.specs.Tree.{Tree}
 use Rattle.cosem_data.specs.Cells.{cell}
 use Rattle.cosem_data.specs.declared.name.LogicalName.{LogicalName}
+use Rattle.meter_theory.specs.Classes.{is_known, is_settable}
 use Rattle.meter_theory.specs.Lists.{IsIn}
 use Rattle.meter_theory.specs.Value.{Rule}
 use Rattle.meter_theory.specs.Plan.{Plan, start_of, rule_in, rule_of, class_of, cells, object_at}
 use Rattle.meter_theory.proofs.Rights.{cell_of_found}
-use Rattle.config_text.specs.Parts.{Text, ConfigText, ObjectText, TargetText, BodyText, DataText, RegisterText, ProfileText, ScriptTableText, MonitorText, ScheduleText, UnknownText}
+use Rattle.config_text.specs.Parts.{Text, ConfigText, ObjectText, TargetText, BodyText, DataText, RegisterText, ProfileText, ClockText, ScriptTableText, MonitorText, ScheduleText, UnknownText}
 use Rattle.config_text.specs.declared.fault.Code.TheVariants.{ClassUnknown}
 use Rattle.config_text.specs.Fault.{fault_if}
-use Rattle.config_rules.specs.Names.{is_among, settable, is_known_class, object_named, class_named, class_in, target_is}
+use Rattle.config_rules.specs.Names.{object_named, class_named, class_in, target_is}
 use Rattle.config_rules.specs.Read.{is_body_of, IsRead}
 use Rattle.config_rules.specs.Passes as passes
 use Rattle.config_rules.specs.PlanOf.{part_of, object_of, plan_of, name_of, cell_named}
@@ -25,16 +26,17 @@ IsSettable P c body n index =
     ((rule : Rule) × (rule_in P (part_of c body) index ≡ Some rule)) × ((v : Tree) × IsIn (start_of n (part_of c body)) (cell (class_of (part_of c body)) n index, v))
 
 -- the index at which the test of a list with one fitting pair holds
-pub only_place : (place index : ℕ) → ((place == index) || false) ≡ true → index ≡ place
-only_place place index h = elim (or_cases (place == index) false h) [ inl e ↦ sym (eqb-true place index e) | inr e ↦ absurd (false≢true e) ]
+pub only_place : (place index : ℕ) → ((index == place) || false) ≡ true → index ≡ place
+only_place place index h = elim (or_cases (index == place) false h) [ inl e ↦ eqb-true index place e | inr e ↦ absurd (false≢true e) ]
 
 -- what is settable by the table of the classes is a settable cell
-settable_body : (P : Plan) (c : ConfigText) (n : LogicalName) (index : ℕ) (body : BodyText) → is_among settable (class_of (part_of c body)) index ≡ true → IsSettable P c body n index
+settable_body : (P : Plan) (c : ConfigText) (n : LogicalName) (index : ℕ) (body : BodyText) → is_settable (class_of (part_of c body)) index ≡ true → IsSettable P c body n index
 settable_body P c n index (DataText value) s = subst (IsSettable P c (DataText value) n) (sym (only_place 2 index s)) ((_, refl), (_, inl refl))
 settable_body P c n index (RegisterText value default scaler unit) s =
     subst (IsSettable P c (RegisterText value default scaler unit) n) (sym (only_place 2 index s)) ((_, refl), (_, inl refl))
 settable_body P c n index (ProfileText captures period entries sort_method) s =
     subst (IsSettable P c (ProfileText captures period entries sort_method) n) (sym (only_place 4 index s)) ((_, refl), (_, inr (inl refl)))
+settable_body P c n index (ClockText time) s = subst (IsSettable P c (ClockText time) n) (sym (only_place 2 index s)) ((_, refl), (_, inl refl))
 settable_body P c n index (ScriptTableText scripts) s = absurd (false≢true s)
 settable_body P c n index (MonitorText monitored thresholds actions) s =
     subst (IsSettable P c (MonitorText monitored thresholds actions) n) (sym (only_place 2 index s)) ((_, refl), (_, inl refl))
@@ -43,14 +45,15 @@ settable_body P c n index (ScheduleText script type times) s =
 settable_body P c n index UnknownText s = absurd (false≢true s)
 
 -- the class of a part is that of its body
-pub class_is : (c : ConfigText) (class : ℕ) (body : BodyText) → is_body_of class body ≡ true → is_known_class class ≡ true → class ≡ class_of (part_of c body)
+pub class_is : (c : ConfigText) (class : ℕ) (body : BodyText) → is_body_of c.version class body ≡ true → is_known c.version class ≡ true → class ≡ class_of (part_of c body)
 class_is c class (DataText value) b k = eqb-true class 1 b
 class_is c class (RegisterText value default scaler unit) b k = eqb-true class 3 b
 class_is c class (ProfileText captures period entries sort_method) b k = eqb-true class 7 (and_parts (class == 7) _ b).0
+class_is c class (ClockText time) b k = eqb-true class 8 b
 class_is c class (ScriptTableText scripts) b k = eqb-true class 9 b
 class_is c class (MonitorText monitored thresholds actions) b k = eqb-true class 21 b
 class_is c class (ScheduleText script type times) b k = eqb-true class 22 b
-class_is c class UnknownText b k = absurd (false≢true (sym (not-true (is_known_class class) b) ∙ k))
+class_is c class UnknownText b k = absurd (false≢true (sym (not-true (is_known c.version class) b) ∙ k))
 
 -- What a configuration with its passes passed has, part by part.
 pub record IsRight (c : ConfigText) : Type 0 where
@@ -58,7 +61,7 @@ pub record IsRight (c : ConfigText) : Type 0 where
   pub read : IsRead c
   pub names : AreNames c
   pub new : AreNew c
-  pub known : (o : ObjectText) → IsIn c.objects o → is_known_class o.class ≡ true
+  pub known : (o : ObjectText) → IsIn c.objects o → is_known c.version o.class ≡ true
 
 pub right : (c : ConfigText) → IsRead c → IsJudged c → IsRight c
 unfolding passes.known_classes
@@ -67,8 +70,8 @@ right c read judged = record {
   read = read;
   names = names_ok c judged.forms;
   new = names_new c judged.objects;
-  known = λ o i. let at = each_ok (λ place p. fault_if ClassUnknown (place ++ codes ".class") (not (is_known_class p.class))) (codes "object") 0 c.objects judged.classes o i in
-      holds ClassUnknown (at.0 ++ codes ".class") (is_known_class o.class) at.1;
+  known = λ o i. let at = each_ok (λ place p. fault_if ClassUnknown (place ++ codes ".class") (not (is_known c.version p.class))) (codes "object") 0 c.objects judged.classes o i in
+      holds ClassUnknown (at.0 ++ codes ".class") (is_known c.version o.class) at.1;
 }
 
 -- the object that a target names, in the configuration and in its plan
@@ -114,9 +117,9 @@ rule_at c text o t index =
     ∙ cond-true (class_of (part_of c o.body) == class_named c text) (rule_in (plan_of c) (part_of c o.body) index) None (eq-eqb (class_of (part_of c o.body)) (class_named c text) (sym t.class))
 
 -- a settable target is a cell of the plan with a rule
-pub settable_cell : (c : ConfigText) → IsRight c → (t : TargetText) (o : ObjectText) → IsTarget c t.object o → target_is c settable t ≡ true →
+pub settable_cell : (c : ConfigText) → IsRight c → (t : TargetText) (o : ObjectText) → IsTarget c t.object o → target_is c is_settable t ≡ true →
     IsIn (cells (plan_of c)) (cell_named c t) × ((rule : Rule) × (rule_of (plan_of c) (cell_named c t) ≡ Some rule))
 settable_cell c ok t o target h =
-    let s = settable_body (plan_of c) c (name_of t.object) t.index o.body (subst (λ k. is_among settable k t.index ≡ true) target.class h) in
+    let s = settable_body (plan_of c) c (name_of t.object) t.index o.body (subst (λ k. is_settable k t.index ≡ true) target.class h) in
     let there = subst (λ k. IsIn (start_of (name_of t.object) (part_of c o.body)) (cell k (name_of t.object) t.index, s.1.0)) (sym target.class) s.1.1 in
     (cell_of_found (plan_of c) (name_of t.object) (object_of c o) target.planned (cell_named c t) s.1.0 there, (s.0.0, rule_at c t.object o target t.index ∙ s.0.1))

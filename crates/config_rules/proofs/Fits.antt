@@ -14,21 +14,24 @@ use Rattle.cosem_data.specs.declared.cell.CellRef.{CellRef}
 use Rattle.cosem_data.proofs.Same.{same_kind-refl}
 use Rattle.meter_theory.specs.Lists.{IsIn}
 use Rattle.meter_theory.specs.State.{value}
-use Rattle.meter_theory.specs.Value.{Rule, OfKind, Thresholds, ExecutionTimes, counter, meets, is_within_limits}
-use Rattle.meter_theory.specs.Plan.{start, start_of, rule_in, rule_of, class_of, cells}
+use Rattle.meter_theory.specs.Times.{clock_value}
+use Rattle.meter_theory.specs.Value.{Rule, OfKind, Thresholds, ExecutionTimes, ClockTime, counter, meets, is_within_limits}
+use Rattle.meter_theory.specs.Plan.{start_values, start_of, rule_in, rule_of, class_of, cells}
 use Rattle.meter_theory.specs.Sound.{fits_some}
 use Rattle.meter_theory.specs.declared.limits.TheConstants as limits
+use Rattle.meter_theory.proofs.Clock.{value-clock_time}
 use Rattle.meter_theory.proofs.Lists.{from_map, from_flat_map}
 use Rattle.config_text.specs.declared.fault.Code.TheVariants.{Limit, Value}
 use Rattle.config_text.specs.Fault.{fault_if}
-use Rattle.config_text.specs.Parts.{Text, ConfigText, ObjectText, TargetText, ScriptRefText, UpDownText, BodyText, DataText, RegisterText, ProfileText, ScriptTableText, MonitorText, ScheduleText, UnknownText}
+use Rattle.config_text.specs.Parts.{Text, ConfigText, ObjectText, TargetText, ScriptRefText, UpDownText, BodyText, DataText, RegisterText, ProfileText, ClockText, ScriptTableText, MonitorText, ScheduleText, UnknownText}
 use Rattle.config_rules.specs.Names.{object_named}
 use Rattle.value_text.specs.Texts.{value_in}
 use Rattle.config_rules.specs.Values.{is_of_kind, kind_named, may_be_number}
-use Rattle.config_rules.specs.PlanOf.{part_of, object_of, plan_of, name_of, value_of, or_else, thresholds_value, times_value, cell_named, up_down_of}
+use Rattle.config_rules.specs.PlanOf.{part_of, object_of, plan_of, name_of, value_of, moment_of, or_else, thresholds_value, times_value, cell_named, up_down_of}
 use Rattle.config_rules.specs.Passes as passes
 use Rattle.config_rules.proofs.Named.{IsName}
 use Rattle.config_rules.proofs.Passed.{then_ok, holds, not_faulty, each_ok, references_ok, EachReference}
+use Rattle.config_rules.proofs.Clocks.{moment_there}
 use Rattle.config_rules.proofs.Cells.{IsRight, IsTarget, target_of}
 use Rattle.config_rules.proofs.Starts.{IsStart, values_at, of_body, data_start, register_start, rule_body, start_body}
 use Rattle.config_rules.proofs.Scripts.{IsScript, known_script}
@@ -50,6 +53,7 @@ known_of c ok o i =
     both (DataText value) h n = tt
     both (RegisterText value default scaler unit) h n = tt
     both (ProfileText captures period entries sort_method) h n = λ x j. target_of c ok x.target.object (n x j) (h x j)
+    both (ClockText time) h n = tt
     both (ScriptTableText scripts) h n = λ s j a k. target_of c ok a.target.object (n s j a k) (h s j a k)
     both (MonitorText monitored thresholds actions) h n =
         (target_of c ok monitored.object n.0 h.0, λ a j. (run a.up (h.1 a j).0 (n.1 a j).0, run a.down (h.1 a j).1 (n.1 a j).1))
@@ -80,7 +84,7 @@ all_kinds kind k is (text ∷ texts) h =
 -- the thresholds of a monitor meet their rule
 pub thresholds_fit : (c : ConfigText) → IsRight c → (o : ObjectText) → IsIn c.objects o → (monitored : TargetText) (ths : List Text) (actions : List UpDownText) →
     o.body ≡ MonitorText monitored ths actions →
-    meets (Thresholds (length (map up_down_of actions)) (kind_of (value (start (plan_of c)) (cell_named c monitored)))) (thresholds_value ths) ≡ true
+    meets (Thresholds (length (map up_down_of actions)) (kind_of (value (start_values (plan_of c)) (cell_named c monitored)))) (thresholds_value ths) ≡ true
 unfolding passes.valid_values_in passes.limits_in passes.equal_counts_in
 thresholds_fit c ok o i monitored ths actions is =
     let source = monitor_source c ok o i monitored ths actions is in
@@ -115,13 +119,13 @@ kind_fits text v =
 
 -- the start of a cell is what its rule asks for
 abbrev pub Fits : ConfigText → CellRef → Type 0
-Fits c x = fits_some (rule_of (plan_of c) x) (value (start (plan_of c)) x) ≡ true
+Fits c x = fits_some (rule_of (plan_of c) x) (value (start_values (plan_of c)) x) ≡ true
 
 -- a cell that can't be set
 unruled : (c : ConfigText) → IsRight c → (o : ObjectText) → IsIn c.objects o → (body : BodyText) → o.body ≡ body → (index : ℕ) → rule_in (plan_of c) (part_of c body) index ≡ None →
     (x : CellRef) → x ≡ cell (class_of (part_of c body)) (name_of o.name) index → Fits c x
 unruled c ok o i body is index none x e =
-    subst (Fits c) (sym e) (subst (λ r. fits_some r (value (start (plan_of c)) (cell (class_of (part_of c body)) (name_of o.name) index)) ≡ true) (sym (rule_body c ok o i body is index ∙ none)) refl)
+    subst (Fits c) (sym e) (subst (λ r. fits_some r (value (start_values (plan_of c)) (cell (class_of (part_of c body)) (name_of o.name) index)) ≡ true) (sym (rule_body c ok o i body is index ∙ none)) refl)
 
 ruled : (c : ConfigText) → IsRight c → (o : ObjectText) → IsIn c.objects o → (body : BodyText) → o.body ≡ body → (index : ℕ) (rule : Rule) (v : Tree) →
     rule_in (plan_of c) (part_of c body) index ≡ Some rule → IsIn (start_of (name_of o.name) (part_of c body)) (cell (class_of (part_of c body)) (name_of o.name) index, v) →
@@ -129,7 +133,7 @@ ruled : (c : ConfigText) → IsRight c → (o : ObjectText) → IsIn c.objects o
     (x : CellRef) → x ≡ cell (class_of (part_of c body)) (name_of o.name) index → Fits c x
 ruled c ok o i body is index rule v has there alone fits x e =
     let y : CellRef = cell (class_of (part_of c body)) (name_of o.name) index in
-    subst (Fits c) (sym e) (subst (λ r. fits_some r (value (start (plan_of c)) y) ≡ true) (sym (rule_body c ok o i body is index ∙ has))
+    subst (Fits c) (sym e) (subst (λ r. fits_some r (value (start_values (plan_of c)) y) ≡ true) (sym (rule_body c ok o i body is index ∙ has))
     (subst (λ w. meets rule w ≡ true) (sym (start_body c ok o i body is index v there alone)) fits))
 
 -- each cell of an object starts as it may
@@ -146,6 +150,10 @@ cell_fits c ok o i (ProfileText captures period entries sort_method) is x v (inr
     ruled c ok o i (ProfileText captures period entries sort_method) is 4 (OfKind DoubleLongUnsigned) (counter period) refl (inr (inl refl)) refl refl x (ap (λ z. z.0) e)
 cell_fits c ok o i (ProfileText captures period entries sort_method) is x v (inr (inr (inl e))) = unruled c ok o i (ProfileText captures period entries sort_method) is 7 refl x (ap (λ z. z.0) e)
 cell_fits c ok o i (ProfileText captures period entries sort_method) is x v (inr (inr (inr none))) = absurd none
+cell_fits c ok o i (ClockText time) is x v (inl e) =
+    let moment = moment_there time in
+    ruled c ok o i (ClockText time) is 2 ClockTime (clock_value (moment_of time)) refl (inl refl) refl (value-clock_time (moment_of time) moment) x (ap (λ z. z.0) e)
+cell_fits c ok o i (ClockText time) is x v (inr none) = absurd none
 cell_fits c ok o i (ScriptTableText scripts) is x v none = absurd none
 cell_fits c ok o i (MonitorText monitored ths actions) is x v (inl e) =
     ruled c ok o i (MonitorText monitored ths actions) is 2 _ (thresholds_value ths) refl (inl refl) refl (thresholds_fit c ok o i monitored ths actions is) x (ap (λ z. z.0) e)
@@ -159,7 +167,7 @@ cell_fits c ok o i UnknownText is x v none = absurd none
 -- Each cell of the plan starts as it may.
 pub starts : (c : ConfigText) → IsRight c → (x : CellRef) → IsIn (cells (plan_of c)) x → Fits c x
 starts c ok x i =
-    let entry = from_map (λ e. e.0) (start (plan_of c)) x i in
+    let entry = from_map (λ e. e.0) (start_values (plan_of c)) x i in
     let object = from_flat_map (λ p. start_of p.name p.part) (plan_of c).objects entry.0 entry.1 in
     let text = from_map (object_of c) c.objects object.0 object.1 in
     subst (Fits c) (sym entry.2)

@@ -1,9 +1,11 @@
 pub mod Actions
 pub mod Cells
+pub mod Clocks
 pub mod Fits
 pub mod Indexes
 pub mod Monitored
 pub mod Named
+pub mod OneClock
 pub mod Passed
 pub mod Rights
 pub mod Scripts

@@ -12,7 +12,7 @@ use Rattle.cosem_data.specs.Cells.{same_name}
 use Rattle.cosem_data.specs.declared.name.LogicalName.{LogicalName}
 use Rattle.cosem_data.proofs.Decimals.{name_takes}
 use Rattle.cosem_data.proofs.Same.{same_name-from, same_name-true}
-use Rattle.meter_theory.specs.ClientNames.{is_client_name}
+use Rattle.meter_theory.specs.ClientNames.{may_be_named}
 use Rattle.meter_theory.specs.Lists.{IsIn, AreDistinct}
 use Rattle.meter_theory.specs.Plan.{object_at, association_name}
 use Rattle.meter_theory.proofs.Lists.{none_in, found, none_found, in_map, from_map, one_of_key}
@@ -103,7 +103,7 @@ pub record AreNames (c : ConfigText) : Type 0 where
   pub objects : (o : ObjectText) → IsIn c.objects o → IsName o.name
   pub references : (o : ObjectText) → IsIn c.objects o → EachReference (λ t. IsName t.object) (λ r. IsName r.table) o.body
   pub rights : (r : RightText) → IsIn c.rights r → IsName r.object
-  pub clients : (client : ClientText) → IsIn c.clients client → is_client_name client.name ≡ true
+  pub clients : (client : ClientText) → IsIn c.clients client → may_be_named c.version client.name ≡ true
 
 is_name_at : (at text : Text) → passes.logical_form at text ≡ Ok tt → IsName text
 is_name_at at text h = named text (holds _ _ _ h)
@@ -111,9 +111,9 @@ is_name_at at text h = named text (holds _ _ _ h)
 pub names_ok : (c : ConfigText) → passes.forms c ≡ Ok tt → AreNames c
 unfolding passes.forms passes.object_forms passes.right_forms
 names_ok c h =
-    let clients = then_ok (each (λ at client. passes.client_form (at ++ codes ".name") client.name) (codes "client") c.clients) _ tt h in
+    let clients = then_ok (each (λ at client. passes.client_form c.version (at ++ codes ".name") client.name) (codes "client") c.clients) _ tt h in
     let objects = then_ok (each passes.object_forms (codes "object") c.objects) _ tt clients.2 in
-    let rights = then_ok (each passes.right_forms (codes "right") c.rights) _ tt objects.2 in
+    let rights = then_ok (each (passes.right_forms c.version) (codes "right") c.rights) _ tt objects.2 in
     let parts : (o : ObjectText) → IsIn c.objects o → IsName o.name × EachReference (λ t. IsName t.object) (λ r. IsName r.table) o.body = λ o i.
     let at = each_ok _ _ _ _ objects.1 o i in
     let both = then_ok (passes.logical_form _ o.name) _ tt at.1 in
@@ -121,7 +121,7 @@ names_ok c h =
     record {
       objects = λ o i. (parts o i).0;
       references = λ o i. (parts o i).1;
-      rights = λ r i. is_name_at _ r.object (then_ok (passes.client_form _ r.client) _ tt (each_ok _ _ _ _ rights.1 r i).1).2;
+      rights = λ r i. is_name_at _ r.object (then_ok (passes.client_form c.version _ r.client) _ tt (each_ok _ _ _ _ rights.1 r i).1).2;
       clients = λ client i. holds _ _ _ (each_ok _ _ _ _ clients.1 client i).1;
     }
 

@@ -8,7 +8,7 @@ use Rattle.meter_theory.specs.Lists.{IsIn, AreDistinct}
 use Rattle.meter_theory.proofs.Lists.{in_append_cases, in_map, from_map}
 use Rattle.config_text.specs.declared.fault.Code.{Code}
 use Rattle.config_text.specs.Fault.{Fault, fault_if, ◌>>=◌}
-use Rattle.config_text.specs.Parts.{Text, ConfigText, TargetText, ScriptRefText, CaptureText, ActionText, ScriptText, UpDownText, BodyText, DataText, RegisterText, ProfileText, ScriptTableText, MonitorText, ScheduleText, UnknownText}
+use Rattle.config_text.specs.Parts.{Text, ConfigText, TargetText, ScriptRefText, CaptureText, ActionText, ScriptText, UpDownText, BodyText, DataText, RegisterText, ProfileText, ClockText, ScriptTableText, MonitorText, ScheduleText, UnknownText}
 use Rattle.config_rules.specs.Walks.{Judge, each, each_from, each_after, each_new, each_action, script_actions, both_scripts, references, element_place}
 use Rattle.config_rules.specs.Passes as passes
 use Rattle.config_rules.specs.Passes.{judged}
@@ -104,6 +104,7 @@ abbrev pub EachReference : (TargetText → Type 0) → (ScriptRefText → Type 0
 EachReference T S (DataText value) = Unit {0}
 EachReference T S (RegisterText value default scaler unit) = Unit {0}
 EachReference T S (ProfileText captures period entries sort_method) = (x : CaptureText) → IsIn captures x → T x.target
+EachReference T S (ClockText time) = Unit {0}
 EachReference T S (ScriptTableText scripts) = (s : ScriptText) → IsIn scripts s → (a : ActionText) → IsIn s.actions a → T a.target
 EachReference T S (MonitorText monitored thresholds actions) = T monitored × ((a : UpDownText) → IsIn actions a → S a.up × S a.down)
 EachReference T S (ScheduleText script type times) = S script
@@ -117,6 +118,7 @@ references_ok T S target script t r at (DataText value) h = tt
 references_ok T S target script t r at (RegisterText value default scaler unit) h = tt
 references_ok T S target script t r at (ProfileText captures period entries sort_method) h = λ x i.
     let judged = each_ok (λ place c. target place c.target) (at ++ codes ".capture") 0 captures h x i in t judged.0 x.target judged.1
+references_ok T S target script t r at (ClockText time) h = tt
 references_ok T S target script t r at (ScriptTableText scripts) h = λ s i a j.
     let judged = each_action_ok (λ place x. target place x.target) at scripts h s i a j in t judged.0 a.target judged.1
 references_ok T S target script t r at (MonitorText monitored thresholds actions) h =
@@ -149,6 +151,7 @@ pub record IsJudged (c : ConfigText) : Type 0 where
   pub inputs : passes.fed_values c ≡ Ok tt
   pub times : passes.valid_times c ≡ Ok tt
   pub sorting : passes.valid_sorting c ≡ Ok tt
+  pub clocks : passes.new_clocks c ≡ Ok tt
 
 pub passed : (c : ConfigText) → judged c ≡ Ok tt → IsJudged c
 unfolding judged
@@ -169,6 +172,7 @@ passed c h =
     let p = then_ok _ _ tt o.2 in
     let q = then_ok _ _ tt p.2 in
     let r = then_ok _ _ tt q.2 in
+    let s = then_ok _ _ tt r.2 in
     record {
       forms = a.1;
       objects = b.1;
@@ -186,5 +190,6 @@ passed c h =
       labels = p.1;
       inputs = q.1;
       times = r.1;
-      sorting = r.2;
+      sorting = s.1;
+      clocks = s.2;
     }

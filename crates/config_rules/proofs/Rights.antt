@@ -5,12 +5,13 @@ use Rattle.std.proofs.lemmas.Bool.{and_from, lt-ltb}
 use Rattle.std.proofs.lemmas.List.{length-map}
 use Rattle.std.specs.List.{list_all, list_any, position_from}
 use Rattle.std.specs.Str.{bytes_eq}
+use Rattle.meter_theory.specs.Classes.{has_attribute, has_method}
 use Rattle.meter_theory.specs.Lists.{IsIn, some_passes}
 use Rattle.meter_theory.specs.Plan.{class_of, interface_of}
-use Rattle.meter_theory.specs.Sound.{is_right, are_indexes}
+use Rattle.meter_theory.specs.Sound.{is_right, are_indexes, highest_method}
 use Rattle.config_text.specs.declared.fault.Code.TheVariants as code
 use Rattle.config_text.specs.Parts.{Text, ConfigText, ClientText, ObjectText, RightText}
-use Rattle.config_rules.specs.Names.{class_named, is_index, attributes, methods}
+use Rattle.config_rules.specs.Names.{class_named}
 use Rattle.config_rules.specs.PlanOf.{part_of, plan_of, or_else, right_of, client_of, client_place}
 use Rattle.config_rules.specs.Passes as passes
 use Rattle.config_rules.specs.Passes.{judged}
@@ -52,13 +53,13 @@ right_is c ok r i =
     let sets = then_ok _ _ tt gets.2 in
     and_from (nat_lt (client_place c r.client) (length (map client_of c.clients))) _
     (lt-ltb (client_place c r.client) (length (map client_of c.clients)) (subst (λ n. client_place c r.client < n) (sym (length-map c.clients client_of)) (known_right c ok r i)))
-    (subst (λ found. some_passes (λ p. are_indexes (interface_of p.part).attributes r.gets && (are_indexes (interface_of p.part).attributes r.sets && are_indexes (interface_of p.part).methods r.acts)) found ≡ true) (sym o.1.planned)
-    (and_from (are_indexes (interface_of (part_of c o.0.body)).attributes r.gets) _ (attributes_of c o.0.body r.gets (at_class o.0 o.1 attributes r.gets _ gets.1))
-    (and_from (are_indexes (interface_of (part_of c o.0.body)).attributes r.sets) (are_indexes (interface_of (part_of c o.0.body)).methods r.acts)
-    (attributes_of c o.0.body r.sets (at_class o.0 o.1 attributes r.sets _ sets.1))
-    (methods_of c o.0.body r.acts (at_class o.0 o.1 methods r.acts _ sets.2)))))
+    (subst (λ found. some_passes (λ p. are_indexes (interface_of p.part).attributes r.gets && (are_indexes (interface_of p.part).attributes r.sets && are_indexes (highest_method p.part) r.acts)) found ≡ true) (sym o.1.planned)
+    (and_from (are_indexes (interface_of (part_of c o.0.body)).attributes r.gets) _ (attributes_of (part_of c o.0.body) r.gets (at_class o.0 o.1 has_attribute r.gets _ gets.1))
+    (and_from (are_indexes (interface_of (part_of c o.0.body)).attributes r.sets) (are_indexes (highest_method (part_of c o.0.body)) r.acts)
+    (attributes_of (part_of c o.0.body) r.sets (at_class o.0 o.1 has_attribute r.sets _ sets.1))
+    (methods_of (part_of c o.0.body) r.acts (at_class o.0 o.1 has_method r.acts _ sets.2)))))
   where
-    at_class : (o : ObjectText) → IsTarget c r.object o → (highest : List (ℕ × ℕ)) (indexes : List ℕ) (place : Text) → each (passes.right_index highest (class_named c r.object)) place indexes ≡ Ok tt →
-        list_all (is_index highest (class_of (part_of c o.body))) indexes ≡ true
-    at_class o target highest indexes place h =
-        subst (λ k. list_all (is_index highest k) indexes ≡ true) target.class (each_holds code.Index (is_index highest (class_named c r.object)) place 0 indexes h)
+    at_class : (o : ObjectText) → IsTarget c r.object o → (has : ℕ → ℕ → Bool) (indexes : List ℕ) (place : Text) → each (passes.right_index has (class_named c r.object)) place indexes ≡ Ok tt →
+        list_all (has (class_of (part_of c o.body))) indexes ≡ true
+    at_class o target has indexes place h =
+        subst (λ k. list_all (has k) indexes ≡ true) target.class (each_holds code.Index (has (class_named c r.object)) place 0 indexes h)

@@ -11,7 +11,7 @@ use Rattle.meter_theory.specs.Sound.{has_script}
 use Rattle.meter_theory.proofs.Lists.{none_in, from_map}
 use Rattle.config_text.specs.declared.fault.Code.TheVariants.{Reference, ScriptId}
 use Rattle.config_text.specs.Fault.{fault_if}
-use Rattle.config_text.specs.Parts.{Text, ConfigText, ObjectText, ScriptRefText, ScriptText, BodyText, DataText, RegisterText, ProfileText, ScriptTableText, MonitorText, ScheduleText, UnknownText}
+use Rattle.config_text.specs.Parts.{Text, ConfigText, ObjectText, ScriptRefText, ScriptText, BodyText, DataText, RegisterText, ProfileText, ClockText, ScriptTableText, MonitorText, ScheduleText, UnknownText}
 use Rattle.config_rules.specs.Names.{object_named, class_named, class_in, scripts_in}
 use Rattle.config_rules.specs.PlanOf.{part_of, plan_of, script_of, script_named, script_number}
 use Rattle.config_rules.specs.Passes as passes
@@ -29,6 +29,7 @@ scripts_are : (c : ConfigText) (body : BodyText) → scripts_of (part_of c body)
 scripts_are c (DataText value) = refl
 scripts_are c (RegisterText value default scaler unit) = refl
 scripts_are c (ProfileText captures period entries sort_method) = refl
+scripts_are c (ClockText time) = refl
 scripts_are c (ScriptTableText scripts) = refl
 scripts_are c (MonitorText monitored thresholds actions) = refl
 scripts_are c (ScheduleText script type times) = refl

@@ -1,5 +1,5 @@
 -- The plan of a configuration in which the passes find nothing is sound.
-use Rattle.std.proofs.Common.{◌≡◌, ℕ, ◌==◌, Bool, true, false, not, List, [], ◌∷◌, map, length, refl, sym, ap, subst, ◌∙◌, inl, inr, Option, Some, None, is_some, eqb-true, eq-eqb, nat_lt, nat_le, leb-true, Ok}
+use Rattle.std.proofs.Common.{◌≡◌, ◌⊎◌, ℕ, ◌==◌, Bool, true, false, not, List, [], ◌∷◌, map, length, refl, sym, ap, subst, ◌∙◌, inl, inr, Option, Some, None, is_some, eq-eqb, nat_lt, nat_le, leb-true, Ok}
 use Rattle.std.specs.Prelude.{option_and_then, codes, ◌&&◌, ◌||◌}
 use Rattle.std.proofs.lemmas.Bool.{or_cases, and_parts, and_from, false≢true, ltb-false, le-leb}
 use Rattle.std.proofs.lemmas.List.{length-map}
@@ -8,7 +8,8 @@ use Rattle.cosem_data.specs.Tree.{Tree, null_data}
 use Rattle.cosem_data.specs.Kinds.{kind_of}
 use Rattle.cosem_data.specs.Cells.{cell, same_name}
 use Rattle.cosem_data.specs.declared.cell.CellRef.{CellRef}
-use Rattle.meter_theory.specs.ClientNames.{is_client_name}
+use Rattle.meter_theory.specs.Classes.{is_settable, is_capturable}
+use Rattle.meter_theory.specs.ClientNames.{may_be_named}
 use Rattle.meter_theory.specs.Lists.{IsIn, AreDistinct}
 use Rattle.meter_theory.specs.declared.refs.ScriptRef.{ScriptRef}
 use Rattle.meter_theory.specs.State.{value}
@@ -23,8 +24,8 @@ use Rattle.config_text.specs.declared.fault.Code.TheVariants as code
 use Rattle.config_text.specs.declared.service.Service.{Service}
 use Rattle.config_text.specs.declared.service.Service.TheVariants as services
 use Rattle.config_text.specs.Fault.{fault_if}
-use Rattle.config_text.specs.Parts.{Text, ConfigText, ClientText, ObjectText, TargetText, ActionText, UpDownText, BodyText, DataText, RegisterText, ProfileText, ScriptTableText, MonitorText, ScheduleText, UnknownText}
-use Rattle.config_rules.specs.Names.{is_among, settable, capturable, target_is, class_named}
+use Rattle.config_text.specs.Parts.{Text, ConfigText, ClientText, ObjectText, TargetText, ActionText, UpDownText, BodyText, DataText, RegisterText, ProfileText, ClockText, ScriptTableText, MonitorText, ScheduleText, UnknownText}
+use Rattle.config_rules.specs.Names.{target_is, class_named}
 use Rattle.value_text.specs.Texts.{value_in}
 use Rattle.config_rules.specs.PlanOf.{part_of, object_of, plan_of, name_of, value_of, or_else, cell_named, up_down_of, script_of, action_of, parameter_of, thresholds_value, right_of, client_of, script_named}
 use Rattle.config_rules.specs.Read.{IsRead, is_body_of}
@@ -32,7 +33,8 @@ use Rattle.config_rules.specs.Passes as passes
 use Rattle.config_rules.specs.Passes.{judged}
 use Rattle.config_rules.proofs.Passed.{then_ok, holds, not_faulty, each_ok, EachReference, passed}
 use Rattle.config_rules.proofs.Named.{IsName, client_names_new, names_apart, plan_names, six_bytes, name_of_is}
-use Rattle.config_rules.proofs.Cells.{IsRight, IsTarget, right, settable_cell}
+use Rattle.config_rules.proofs.Cells.{IsRight, IsTarget, right, settable_cell, only_place}
+use Rattle.config_rules.proofs.Clocks.{moment_there}
 use Rattle.config_rules.proofs.Starts.{of_body, register_start}
 use Rattle.config_rules.proofs.Scripts.{IsScript, script_numbers}
 use Rattle.config_rules.proofs.Actions.{IsAction, action_at, written_value, writes, calls}
@@ -68,18 +70,31 @@ in_use c t o target class index = at o.body refl
           subst (IsIn (cells (plan_of c))) same (cell_of_found (plan_of c) (name_of t.object) (object_of c o) target.planned (entries_in_use (name_of t.object)) (counter 0) there),
           inr (object_of c o, planned, _, ap (λ b. captures_in (part_of c b)) is, named),
         )
+    at (ClockText time) is = other 8 refl (class_at (ClockText time) is)
     at (ScriptTableText scripts) is = other 9 refl (class_at (ScriptTableText scripts) is)
     at (MonitorText monitored ths actions) is = other 21 refl (class_at (MonitorText monitored ths actions) is)
     at (ScheduleText script type times) is = other 22 refl (class_at (ScheduleText script type times) is)
     at UnknownText is = other 9 refl (class_at UnknownText is)
 
-captured_cell : (c : ConfigText) → IsRight c → (t : TargetText) (o : ObjectText) → IsTarget c t.object o → target_is c capturable t ≡ true →
+-- what is capturable by the table of the classes is settable, or the entries in use of a profile
+capturable_body : (c : ConfigText) (index : ℕ) (body : BodyText) → is_capturable (class_of (part_of c body)) index ≡ true →
+    (is_settable (class_of (part_of c body)) index ≡ true) ⊎ ((7 ≡ class_of (part_of c body)) × (7 ≡ index))
+capturable_body c index (DataText value) h = inl h
+capturable_body c index (RegisterText value default scaler unit) h = inl h
+capturable_body c index (ProfileText captures period entries sort_method) h =
+    elim (or_cases (index == 4) ((index == 7) || false) h) [ inl e ↦ inl (ap (λ b. b || false) e) | inr e ↦ inr (refl, sym (only_place 7 index e)) ]
+capturable_body c index (ClockText time) h = inl h
+capturable_body c index (ScriptTableText scripts) h = absurd (false≢true h)
+capturable_body c index (MonitorText monitored thresholds actions) h = inl h
+capturable_body c index (ScheduleText script type times) h = inl h
+capturable_body c index UnknownText h = absurd (false≢true h)
+
+captured_cell : (c : ConfigText) → IsRight c → (t : TargetText) (o : ObjectText) → IsTarget c t.object o → target_is c is_capturable t ≡ true →
     IsIn (cells (plan_of c)) (cell_named c t) × IsCapturable (plan_of c) (cell_named c t)
 captured_cell c ok t o target h =
-    elim (or_cases ((7 == class_named c t.object) && (7 == t.index)) (is_among settable (class_named c t.object) t.index) h) [
-      | inl e ↦ let both = and_parts (7 == class_named c t.object) (7 == t.index) e in
-          in_use c t o target (eqb-true 7 (class_named c t.object) both.0) (eqb-true 7 t.index both.1)
-      | inr e ↦ let s = settable_cell c ok t o target e in (s.0, inl s.1)
+    elim (capturable_body c t.index o.body (subst (λ k. is_capturable k t.index ≡ true) target.class h)) [
+      | inl e ↦ let s = settable_cell c ok t o target (subst (λ k. is_settable k t.index ≡ true) (sym target.class) e) in (s.0, inl s.1)
+      | inr e ↦ in_use c t o target (e.0 ∙ sym target.class) e.1
     ]
 
 captures : (c : ConfigText) → IsRight c → (o : ObjectText) → IsIn c.objects o → (body : BodyText) → o.body ≡ body → (taken : Captures) → captures_in (part_of c body) ≡ Some taken →
@@ -94,6 +109,7 @@ captures c ok o i (ProfileText all period entries sort_method) is taken e x j =
     let index = each_ok _ _ _ _ (of_body c ok o i (ProfileText all period entries sort_method) is).indexes.1 y.0 y.1 in
     let r = captured_cell c ok y.0.target refers.0 refers.1 (holds _ _ _ index.1) in
     (subst (IsIn (cells (plan_of c))) (sym y.2) r.0, subst (IsCapturable (plan_of c)) (sym y.2) r.1)
+captures c ok o i (ClockText time) is taken e x j = cc
 captures c ok o i (ScriptTableText scripts) is taken e x j = cc
 captures c ok o i (MonitorText monitored ths actions) is taken e x j = cc
 captures c ok o i (ScheduleText script type times) is taken e x j = cc
@@ -107,6 +123,7 @@ scripts_run : (c : ConfigText) → IsRight c → (o : ObjectText) → IsIn c.obj
 scripts_run c ok o i (DataText value) is r j = absurd j
 scripts_run c ok o i (RegisterText value default scaler unit) is r j = absurd j
 scripts_run c ok o i (ProfileText captures period entries sort_method) is r j = absurd j
+scripts_run c ok o i (ClockText time) is r j = absurd j
 scripts_run c ok o i (ScriptTableText scripts) is r j = absurd j
 scripts_run c ok o i (MonitorText monitored ths actions) is r j =
     let refers = subst (EachReference (λ t. (p : ObjectText) × IsTarget c t.object p) (IsScript c)) is (known_of c ok o i) in
@@ -129,6 +146,7 @@ sound_part : (c : ConfigText) → IsRight c → (o : ObjectText) → IsIn c.obje
 sound_part c ok o i (DataText value) is = tt
 sound_part c ok o i (RegisterText value default scaler unit) is = (register_start c ok o i value default scaler unit is).1
 sound_part c ok o i (ProfileText captures period entries sort_method) is = tt
+sound_part c ok o i (ClockText time) is = moment_there time
 sound_part c ok o i (ScriptTableText scripts) is = tt
 sound_part c ok o i (MonitorText monitored ths actions) is =
     let source = monitor_source c ok o i monitored ths actions is in
@@ -177,10 +195,11 @@ part_sizes c ok o i (RegisterText value default scaler unit) is = refl
 part_sizes c ok o i (ProfileText all period entries sort_method) is =
     let names = subst (EachReference (λ t. IsName t.object) (λ r. IsName r.table)) is (ok.names.references o i) in
     let both = then_ok (passes.at_most limits.CAPTURE_OBJECTS _ all) _ tt (of_body c ok o i (ProfileText all period entries sort_method) is).limits.1 in
-    let one = (and_parts (o.class == 7) (nat_le 1 entries) (subst (λ b. is_body_of o.class b ≡ true) is (ok.read.bodies o i))).1 in
+    let one = (and_parts (o.class == 7) (nat_le 1 entries) (subst (λ b. is_body_of c.version o.class b ≡ true) is (ok.read.bodies o i))).1 in
     and_from (nat_le (length (map (λ y. cell_named c y.target) all)) limits.CAPTURE_OBJECTS) _ (few_of_map (λ y. cell_named c y.target) limits.CAPTURE_OBJECTS all (at_most_ok _ _ all both.1))
     (and_from (list_all (λ x. is_name x.name) (map (λ y. cell_named c y.target) all)) _ (each_of_map (λ x. is_name x.name) (λ y. cell_named c y.target) all (λ y j. six y.target.object (names y j)))
     (and_from (nat_le 1 entries) (nat_le entries limits.PROFILE_ENTRIES) one (le-leb entries limits.PROFILE_ENTRIES (ltb-false limits.PROFILE_ENTRIES entries (not_faulty _ _ _ both.2)))))
+part_sizes c ok o i (ClockText time) is = refl
 part_sizes c ok o i (ScriptTableText scripts) is =
     let names = subst (EachReference (λ t. IsName t.object) (λ r. IsName r.table)) is (ok.names.references o i) in
     let few = then_ok (passes.at_most limits.SCRIPTS _ scripts) _ tt (of_body c ok o i (ScriptTableText scripts) is).limits.1 in
@@ -228,7 +247,7 @@ plan_is_sound c read h = record {
       (and_from (is_name (name_of p.0.name)) (has_part_sizes (part_of c p.0.body)) (six p.0.name (ok.names.objects p.0 p.1)) (part_sizes c ok p.0 p.1 p.0.body refl));
   saps = λ client i. let p = from_map client_of c.clients client i in subst (λ z. has_sap z ≡ true) (sym p.2) (read.saps p.0 p.1);
   client_names = λ client i. let p = from_map client_of c.clients client i in
-      subst (λ z. is_client_name z.name ≡ true) (sym p.2) (ok.names.clients p.0 p.1);
+      subst (λ z. may_be_named c.version z.name ≡ true) (sym p.2) (ok.names.clients p.0 p.1);
   clients_apart = subst AreDistinct (sym (names_of_clients c.clients)) (client_names_new c ok.judged.access);
   rights = λ r i. let p = from_map (right_of c) c.rights r i in
       subst (λ z. is_right (plan_of c) z ≡ true) (sym p.2) (right_is c ok p.0 p.1);

@@ -9,7 +9,7 @@ use Rattle.cosem_data.specs.declared.cell.CellRef.{CellRef}
 use Rattle.meter_theory.specs.Lists.{IsIn}
 use Rattle.meter_theory.specs.State.{value}
 use Rattle.meter_theory.specs.Value.{OfKind, meets, is_within_limits}
-use Rattle.meter_theory.specs.Plan.{start, start_of, rule_in, rule_of, class_of, object_at}
+use Rattle.meter_theory.specs.Plan.{start_values, inner_start, clock_object, start_of, rule_in, rule_of, class_of, object_at}
 use Rattle.meter_theory.specs.declared.limits.TheConstants as limits
 use Rattle.meter_theory.proofs.Lists.{in_map, one_of_key}
 use Rattle.config_text.specs.declared.fault.Code.TheVariants.{Value}
@@ -25,6 +25,8 @@ use Rattle.config_rules.proofs.Passed.{then_ok, holds, each_ok}
 use Rattle.config_rules.proofs.Named.{plan_names}
 use Rattle.config_rules.proofs.Cells.{IsRight, target_itself}
 use Rattle.meter_theory.proofs.Start.{started}
+use Rattle.meter_theory.proofs.Held.{value-first}
+use Rattle.meter_theory.proofs.Rights.{cell_of_object}
 
 -- a value that is there and keeps within the limits
 value_there : (text : Text) → is_some (value_in text) ≡ true → (v : Tree) × (value_in text ≡ Some v) × (value_of text ≡ v)
@@ -61,10 +63,12 @@ in_values (e ∷ es) x w (inr j) =
 -- the start value of a cell whose index no other of its object has
 pub start_body : (c : ConfigText) → IsRight c → (o : ObjectText) → IsIn c.objects o → (body : BodyText) → o.body ≡ body → (index : ℕ) (v : Tree) →
     IsIn (start_of (name_of o.name) (part_of c body)) (cell (class_of (part_of c body)) (name_of o.name) index, v) →
-    values_at index (start_of (name_of o.name) (part_of c body)) ≡ v ∷ [] → value (start (plan_of c)) (cell (class_of (part_of c body)) (name_of o.name) index) ≡ v
+    values_at index (start_of (name_of o.name) (part_of c body)) ≡ v ∷ [] → value (start_values (plan_of c)) (cell (class_of (part_of c body)) (name_of o.name) index) ≡ v
 start_body c ok o i body is index v there alone =
-    started (plan_of c) (one_of_key (λ p. p.name) (plan_of c).objects (plan_names c ok.names ok.new)) (object_of c o) (in_map (object_of c) c.objects o i) x v
-    (subst (λ b. IsIn (start_of (name_of o.name) (part_of c b)) (x, v)) (sym is) there)
+    let cell_is = subst (λ b. IsIn (start_of (name_of o.name) (part_of c b)) (x, v)) (sym is) there in
+    let held = cell_of_object (plan_of c) (object_of c o) x v (in_map (object_of c) c.objects o i) cell_is in
+    sym (value-first (start_values (plan_of c)) (inner_start (clock_object (plan_of c))) x held)
+    ∙ started (plan_of c) (one_of_key (λ p. p.name) (plan_of c).objects (plan_names c ok.names ok.new)) (object_of c o) (in_map (object_of c) c.objects o i) x v cell_is
     (λ w j. only w (subst (λ vs. IsIn vs w) alone (in_values (start_of (name_of o.name) (part_of c body)) x w (subst (λ b. IsIn (start_of (name_of o.name) (part_of c b)) (x, w)) is j))))
   where
     x : CellRef

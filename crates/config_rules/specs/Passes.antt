@@ -4,16 +4,18 @@ use Rattle.std.specs.Prelude.{ℕ, ℤ, pos, ◌==◌, nat_lt, int_le, Bool, tru
 use Rattle.std.specs.List.{list_any}
 use Rattle.std.specs.Str.{bytes_eq}
 use Rattle.cosem_data.specs.Tree.{Tree}
-use Rattle.meter_theory.specs.ClientNames.{is_client_name}
+use Rattle.meter_theory.specs.Classes.{is_known, has_attribute, has_method, is_cell, is_settable, is_capturable, is_monitorable, may_be_fed}
+use Rattle.meter_theory.specs.ClientNames.{may_be_named}
 use Rattle.meter_theory.specs.Value.{is_within_limits, elements}
 use Rattle.meter_theory.specs.Times.{are_execution_times}
 use Rattle.meter_theory.specs.declared.limits.TheConstants as limits
+use Rattle.civil_moment.specs.MomentText.{moment_in}
 use Rattle.config_text.specs.Fault.{Fault, fault_if, ◌>>=◌}
-use Rattle.config_text.specs.declared.fault.Code.TheVariants.{Form, ObjectTwice, ClassUnknown, ClientUnknown, ClientTwice, Reference, Index, Value, NotSettable, Counts, ScriptId, Execute, Limit, Label, Fed, Times, Sorting}
+use Rattle.config_text.specs.declared.fault.Code.TheVariants.{Form, ObjectTwice, ClassUnknown, ClientUnknown, ClientTwice, Reference, Index, Value, NotSettable, Counts, ScriptId, Execute, Limit, Label, Fed, Times, Sorting, SecondClock}
 use Rattle.config_text.specs.declared.service.Service.{Service}
 use Rattle.config_text.specs.declared.service.Service.TheVariants.{Write, Invoke}
-use Rattle.config_text.specs.Parts.{Text, ClientText, ObjectText, TargetText, ScriptRefText, ActionText, ScriptText, RightText, SetsText, LabelText, ConfigText, BodyText, DataText, RegisterText, ProfileText, ScriptTableText, MonitorText, ScheduleText, UnknownText}
-use Rattle.config_rules.specs.Names.{object_named, has_client, class_named, scripts_in, is_known_class, is_index, attributes, methods, target_is, settable, capturable, monitorable, is_among, cells}
+use Rattle.config_text.specs.Parts.{Text, ClientText, ObjectText, TargetText, ScriptRefText, ActionText, ScriptText, RightText, SetsText, LabelText, ConfigText, BodyText, DataText, RegisterText, ProfileText, ClockText, ScriptTableText, MonitorText, ScheduleText}
+use Rattle.config_rules.specs.Names.{object_named, has_client, class_named, scripts_in, target_is}
 use Rattle.value_text.specs.Texts.{name_in, value_in}
 use Rattle.config_rules.specs.Values.{kind_in, kind_named, is_of_kind, is_number, may_be_number, may_stand_at, is_time_text}
 use Rattle.config_rules.specs.PlanOf.{thresholds_value, times_value}
@@ -30,31 +32,32 @@ both_sets judge at s = do
 abbrev pub logical_form : Judge Text
 logical_form at name = fault_if Form at (not (is_some (name_in name)))
 
-abbrev pub client_form : Judge Text
-client_form at name = fault_if Form at (not (is_client_name name))
+-- a client's name that may stand in a configuration of this version
+abbrev pub client_form : ℕ → Judge Text
+client_form version at name = fault_if Form at (not (may_be_named version name))
 
 unfoldable pub object_forms : Judge ObjectText
 object_forms at o = do
   name ← logical_form (at ++ codes ".name") o.name
   references (λ at t. logical_form (at ++ codes ".object") t.object) (λ at r. logical_form (at ++ codes ".table") r.table) at o.body
 
-unfoldable pub right_forms : Judge RightText
-right_forms at r = do
-  client ← client_form (at ++ codes ".client") r.client
+unfoldable pub right_forms : ℕ → Judge RightText
+right_forms version at r = do
+  client ← client_form version (at ++ codes ".client") r.client
   logical_form (at ++ codes ".object") r.object
 
-unfoldable pub label_forms : Judge LabelText
-label_forms at l = do
+unfoldable pub label_forms : ℕ → Judge LabelText
+label_forms version at l = do
   object ← logical_form (at ++ codes ".object") l.target.object
-  both_sets client_form at l.sets
+  both_sets (client_form version) at l.sets
 
 unfoldable pub forms : ConfigText → Result ⊤ Fault
 forms c = do
-  clients ← each (λ at client. client_form (at ++ codes ".name") client.name) (codes "client") c.clients
+  clients ← each (λ at client. client_form c.version (at ++ codes ".name") client.name) (codes "client") c.clients
   objects ← each object_forms (codes "object") c.objects
-  rights ← each right_forms (codes "right") c.rights
-  policy ← both_sets client_form (codes "policy") c.policy
-  each label_forms (codes "label") c.labels
+  rights ← each (right_forms c.version) (codes "right") c.rights
+  policy ← both_sets (client_form c.version) (codes "policy") c.policy
+  each (label_forms c.version) (codes "label") c.labels
 
 -- C5 A name of an object that an earlier one has, or the current association
 
@@ -66,10 +69,10 @@ new_object earlier at o =
 unfoldable pub new_objects : ConfigText → Result ⊤ Fault
 new_objects c = each_new new_object (codes "object") c.objects
 
--- C6 An interface class that isn't known
+-- C6 An interface class that isn't known in the configuration's version
 
 unfoldable pub known_classes : ConfigText → Result ⊤ Fault
-known_classes c = each (λ at o. fault_if ClassUnknown (at ++ codes ".class") (not (is_known_class o.class))) (codes "object") c.objects
+known_classes c = each (λ at o. fault_if ClassUnknown (at ++ codes ".class") (not (is_known c.version o.class))) (codes "object") c.objects
 
 -- C7 A client that isn't there
 
@@ -118,36 +121,36 @@ known_references c = do
 
 -- C10 An index that the class doesn't have, or that isn't usable there
 
-abbrev pub usable : ConfigText → List (ℕ × ℕ) → Judge TargetText
-usable c pairs at t = fault_if Index (at ++ codes ".index") (not (target_is c pairs t))
+abbrev pub usable : ConfigText → (ℕ → ℕ → Bool) → Judge TargetText
+usable c test at t = fault_if Index (at ++ codes ".index") (not (target_is c test t))
 
 abbrev pub usable_action : ConfigText → Service → Judge TargetText
-usable_action c Write at t = usable c settable at t
-usable_action c Invoke at t = fault_if Index (at ++ codes ".index") (not (is_index methods (class_named c t.object) t.index))
+usable_action c Write at t = usable c is_settable at t
+usable_action c Invoke at t = usable c has_method at t
 
 unfoldable pub usable_indexes : ConfigText → Judge BodyText
 usable_indexes c at (ProfileText captures period entries sort_method) =
-    each (λ at x. usable c capturable at x.target) (at ++ codes ".capture") captures
+    each (λ at x. usable c is_capturable at x.target) (at ++ codes ".capture") captures
 usable_indexes c at (ScriptTableText scripts) = each_action (λ at a. usable_action c a.service at a.target) at scripts
-usable_indexes c at (MonitorText monitored thresholds actions) = usable c monitorable (at ++ codes ".monitored") monitored
+usable_indexes c at (MonitorText monitored thresholds actions) = usable c is_monitorable (at ++ codes ".monitored") monitored
 usable_indexes c at _ = Ok tt
 
 -- a right is on attributes and methods that the class has
-abbrev pub right_index : List (ℕ × ℕ) → ℕ → Judge ℕ
-right_index highest class at index = fault_if Index at (not (is_index highest class index))
+abbrev pub right_index : (ℕ → ℕ → Bool) → ℕ → Judge ℕ
+right_index has class at index = fault_if Index at (not (has class index))
 
 unfoldable pub right_indexes : ConfigText → Judge RightText
 right_indexes c at r = do
-  gets ← each (right_index attributes (class_named c r.object)) (at ++ codes ".get") r.gets
-  sets ← each (right_index attributes (class_named c r.object)) (at ++ codes ".set") r.sets
-  each (right_index methods (class_named c r.object)) (at ++ codes ".act") r.acts
+  gets ← each (right_index has_attribute (class_named c r.object)) (at ++ codes ".get") r.gets
+  sets ← each (right_index has_attribute (class_named c r.object)) (at ++ codes ".set") r.sets
+  each (right_index has_method (class_named c r.object)) (at ++ codes ".act") r.acts
 
 unfoldable pub known_indexes : ConfigText → Result ⊤ Fault
 known_indexes c = do
   objects ← each (λ at o. usable_indexes c at o.body) (codes "object") c.objects
   each (right_indexes c) (codes "right") c.rights
 
--- C11 A value that isn't hex, isn't one Data, or isn't of the kind
+-- C11 A value that isn't hex, isn't one Data, or isn't of the kind, and a clock's time that is no moment
 
 -- a value that may stand in the target
 abbrev pub written_value : ConfigText → TargetText → Option Tree → Bool
@@ -167,6 +170,7 @@ valid_values_in c at (DataText value) = fault_if Value (at ++ codes ".value") (n
 valid_values_in c at (RegisterText value default scaler unit) = do
   start ← fault_if Value (at ++ codes ".value") (not (is_number (kind_in value)))
   fault_if Value (at ++ codes ".default") (not (is_of_kind (kind_in value) (value_in default)))
+valid_values_in c at (ClockText time) = fault_if Value (at ++ codes ".time") (not (is_some (moment_in time)))
 valid_values_in c at (ScriptTableText scripts) = each_action (valid_action_value c) at scripts
 valid_values_in c at (MonitorText monitored thresholds actions) = do
   source ← fault_if Value (at ++ codes ".monitored.index") (not (may_be_number (kind_named c monitored.object)))
@@ -182,7 +186,7 @@ valid_values c = each (λ at o. valid_values_in c at o.body) (codes "object") c.
 
 unfoldable pub settable_rights : ConfigText → Result ⊤ Fault
 settable_rights c =
-    each (λ at r. each (λ at index. fault_if NotSettable at (not (is_among settable (class_named c r.object) index))) (at ++ codes ".set") r.sets)
+    each (λ at r. each (λ at index. fault_if NotSettable at (not (is_settable (class_named c r.object) index))) (at ++ codes ".set") r.sets)
     (codes "right") c.rights
 
 -- C13 Thresholds and actions that differ in number
@@ -248,7 +252,7 @@ limits_in at (MonitorText monitored thresholds actions) = do
   at_most limits.THRESHOLDS (at ++ codes ".action") actions
 limits_in at (ScheduleText script type times) =
     fault_if Limit (at ++ codes ".times") (nat_lt limits.EXECUTION_TIMES (length times) || not (is_within_limits (times_value times)))
-limits_in at UnknownText = Ok tt
+limits_in at _ = Ok tt
 
 unfoldable pub within_limits : ConfigText → Result ⊤ Fault
 within_limits c = do
@@ -263,7 +267,7 @@ same_target s t = bytes_eq s.object t.object && (s.index == t.index)
 
 abbrev pub new_label : ConfigText → List LabelText → Judge LabelText
 new_label c earlier at l =
-    fault_if Label (at ++ codes ".index") (not (target_is c cells l.target) || list_any (λ e. same_target e.target l.target) earlier)
+    fault_if Label (at ++ codes ".index") (not (target_is c is_cell l.target) || list_any (λ e. same_target e.target l.target) earlier)
 
 unfoldable pub new_labels : ConfigText → Result ⊤ Fault
 new_labels c = each_new (new_label c) (codes "label") c.labels
@@ -272,7 +276,7 @@ new_labels c = each_new (new_label c) (codes "label") c.labels
 
 unfoldable pub fed_values : ConfigText → Result ⊤ Fault
 fed_values c =
-    each (λ at o. fault_if Fed (at ++ codes ".fed") (o.fed && not ((o.class == 1) || (o.class == 3)))) (codes "object") c.objects
+    each (λ at o. fault_if Fed (at ++ codes ".fed") (o.fed && not (may_be_fed o.class))) (codes "object") c.objects
 
 -- C19 Execution times that the type doesn't allow
 
@@ -299,6 +303,17 @@ valid_sorting_in at _ = Ok tt
 unfoldable pub valid_sorting : ConfigText → Result ⊤ Fault
 valid_sorting c = each (λ at o. valid_sorting_in at o.body) (codes "object") c.objects
 
+-- C21 A second clock
+
+abbrev pub is_clock : ObjectText → Bool
+is_clock o = o.class == 8
+
+abbrev pub new_clock : List ObjectText → Judge ObjectText
+new_clock earlier at o = fault_if SecondClock (at ++ codes ".class") (is_clock o && list_any is_clock earlier)
+
+unfoldable pub new_clocks : ConfigText → Result ⊤ Fault
+new_clocks c = each_new new_clock (codes "object") c.objects
+
 -- The passes, one code after another.
 unfoldable pub judged : ConfigText → Result ⊤ Fault
 judged c = do
@@ -318,4 +333,5 @@ judged c = do
   labels ← new_labels c  -- C17
   inputs ← fed_values c  -- C18
   times ← valid_times c  -- C19
-  valid_sorting c  -- C20
+  sorting ← valid_sorting c  -- C20
+  new_clocks c  -- C21

@@ -7,14 +7,16 @@ use Rattle.cosem_data.specs.Cells.{cell}
 use Rattle.cosem_data.specs.declared.name.LogicalName.{LogicalName}
 use Rattle.cosem_data.specs.declared.cell.CellRef.{CellRef}
 use Rattle.cosem_data.specs.declared.cell.MethodRef.{MethodRef}
+use Rattle.meter_theory.specs.Times.{Moment, first_moment}
 use Rattle.meter_theory.specs.Value.{array_of}
 use Rattle.meter_theory.specs.declared.refs.ScriptRef.{ScriptRef}
 use Rattle.meter_theory.specs.declared.refs.UpDown.{UpDown}
 use Rattle.meter_theory.specs.Plan as theory
 use Rattle.meter_theory.specs.Plan.{Plan, Client, Action, Script, Part, Object, Right}
+use Rattle.civil_moment.specs.MomentText.{moment_in}
 use Rattle.config_text.specs.declared.service.Service.{Service}
 use Rattle.config_text.specs.declared.service.Service.TheVariants.{Write, Invoke}
-use Rattle.config_text.specs.Parts.{Text, ClientText, ObjectText, TargetText, ScriptRefText, ScriptText, UpDownText, RightText, ConfigText, BodyText, DataText, RegisterText, ProfileText, ScriptTableText, MonitorText, ScheduleText, UnknownText}
+use Rattle.config_text.specs.Parts.{Text, ClientText, ObjectText, TargetText, ScriptRefText, ScriptText, UpDownText, RightText, ConfigText, BodyText, DataText, RegisterText, ProfileText, ClockText, ScriptTableText, MonitorText, ScheduleText, UnknownText}
 use Rattle.config_rules.specs.Names.{class_named}
 use Rattle.value_text.specs.Texts.{name_in, bytes_in, value_in}
 use Rattle.config_rules.specs.Values.{time_and_date}
@@ -37,6 +39,9 @@ value_of text = or_else null_data (value_in text)
 
 abbrev pub time_of : Text → Tree
 time_of text = time_and_date (or_else [] (bytes_in text))
+
+abbrev pub moment_of : Text → Moment
+moment_of text = or_else first_moment (moment_in text)
 
 abbrev pub thresholds_value : List Text → Tree
 thresholds_value thresholds = array_of (map value_of thresholds)
@@ -78,6 +83,7 @@ part_of c (RegisterText value default scaler unit) =
     theory.Register (value_of value) (value_of default) (record { scaler = scaler; unit = unit })
 part_of c (ProfileText captures period entries sort_method) =
     theory.ProfileGeneric (map (λ x. cell_named c x.target) captures) period entries
+part_of c (ClockText time) = theory.Clock (moment_of time)
 part_of c (ScriptTableText scripts) = theory.ScriptTable (map (script_of c) scripts)
 part_of c (MonitorText monitored thresholds actions) =
     theory.RegisterMonitor (cell_named c monitored) (thresholds_value thresholds) (map up_down_of actions)
@@ -99,4 +105,4 @@ right_of c r = record { client = client_place c r.client; object = name_of r.obj
 
 -- The plan of a configuration.
 abbrev pub plan_of : ConfigText → Plan
-plan_of c = record { clients = map client_of c.clients; objects = map (object_of c) c.objects; rights = map (right_of c) c.rights }
+plan_of c = record { version = c.version; clients = map client_of c.clients; objects = map (object_of c) c.objects; rights = map (right_of c) c.rights }

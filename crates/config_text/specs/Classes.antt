@@ -2,7 +2,7 @@
 use Rattle.std.specs.Prelude.{◌==◌, ◌^◌, ◌-◌, if◌then◌else◌, pos, negsuc, [], ◌∷◌, codes, Result, Ok, ⊤}
 use Rattle.toml.specs.Data.{Members}
 use Rattle.config_text.specs.Fault.{Fault, ◌>>=◌}
-use Rattle.config_text.specs.Parts.{Text, BodyText, DataText, RegisterText, ProfileText, ScriptTableText, MonitorText, ScheduleText, CaptureText, ActionText, ScriptText, UpDownText}
+use Rattle.config_text.specs.Parts.{Text, BodyText, DataText, RegisterText, ProfileText, ClockText, ScriptTableText, MonitorText, ScheduleText, CaptureText, ActionText, ScriptText, UpDownText}
 use Rattle.config_text.specs.declared.service.Service.{Service}
 use Rattle.config_text.specs.declared.service.Service.TheVariants.{Write, Invoke}
 use Rattle.config_text.specs.Keys.{needed, only}
@@ -68,6 +68,17 @@ profile_of at t = do
   entries ← natural_at 1 (2 ^ 63 - 1) at (codes "entries") t
   sort_method ← optional_integer_at at (codes "sort_method") t
   Ok (ProfileText captures period entries sort_method)
+
+-- class 8, Clock: the moment at which its time starts, as a text
+unfoldable pub clock_keys : Text → Members → Result ⊤ Fault
+clock_keys at t = do
+  time ← needed at (codes "time") t
+  only at (codes "class" ∷ codes "name" ∷ codes "fed" ∷ codes "time" ∷ []) t
+
+unfoldable pub clock_of : Text → Members → Result BodyText Fault
+clock_of at t = do
+  time ← text_at at (codes "time") t
+  Ok (ClockText time)
 
 -- class 9, Script table: an action, a script, and the table
 unfoldable pub action_keys : Text → Members → Result ⊤ Fault

@@ -1,14 +1,14 @@
 -- What the tables of a configuration text say, or their first fault: the passes C1 to C3, each over the whole text and only
 -- where the passes before it found nothing.
-use Rattle.std.specs.Prelude.{[], ◌∷◌, codes, Result, Ok, ⊤}
-use Rattle.toml.specs.Data.{Members}
+use Rattle.std.specs.Prelude.{ℕ, [], ◌∷◌, codes, unwrap_or, option_and_then, Result, Ok, ⊤}
+use Rattle.toml.specs.Data.{Members, as_integer, get_member}
 use Rattle.toml.specs.Parse.{parse_document}
 use Rattle.config_text.specs.Fault.{Fault, found_or, ◌>>=◌}
 use Rattle.config_text.specs.Parts.{Text, ConfigText}
 use Rattle.config_text.specs.declared.fault.Code.TheVariants.{NotToml}
 use Rattle.config_text.specs.Keys.{needed, only}
 use Rattle.config_text.specs.Tables.{list_at, list_keys_at, optional_list_at, table_at, table_keys_at}
-use Rattle.config_text.specs.Values.{natural_at}
+use Rattle.config_text.specs.Values.{natural_at, natural_in}
 use Rattle.config_text.specs.Clients.{client_keys, client_of}
 use Rattle.config_text.specs.Objects.{object_keys, object_of}
 use Rattle.config_text.specs.Rights.{right_keys, right_of, policy_keys, sets_of, label_keys, label_of}
@@ -17,6 +17,10 @@ use Rattle.config_text.specs.Rights.{right_keys, right_of, policy_keys, sets_of,
 unfoldable pub document_of : Text → Result Members Fault
 document_of text = found_or NotToml (codes "text") (parse_document text)
 
+-- the version by which the keys of objects are looked at: 1, unless it is told to be 2
+abbrev pub told_version : Members → ℕ
+told_version t = unwrap_or (natural_in 1 2 (option_and_then as_integer (get_member (codes "version") t))) 1
+
 -- C2: the keys that have to be there are, and no unknown ones
 unfoldable pub config_keys : Members → Result ⊤ Fault
 config_keys t = do
@@ -24,7 +28,7 @@ config_keys t = do
   client ← needed [] (codes "client") t
   clients ← list_keys_at client_keys [] (codes "client") t
   object ← needed [] (codes "object") t
-  objects ← list_keys_at object_keys [] (codes "object") t
+  objects ← list_keys_at (object_keys (told_version t)) [] (codes "object") t
   rights ← list_keys_at right_keys [] (codes "right") t
   policy ← needed [] (codes "policy") t
   sets ← table_keys_at policy_keys [] (codes "policy") t
@@ -34,13 +38,13 @@ config_keys t = do
 -- C3: the values are of their kinds and in their ranges; and what they say
 unfoldable pub parts_of : Members → Result ConfigText Fault
 parts_of t = do
-  version ← natural_at 1 1 [] (codes "version") t
+  version ← natural_at 1 2 [] (codes "version") t
   clients ← list_at client_of [] (codes "client") t
-  objects ← list_at object_of [] (codes "object") t
+  objects ← list_at (object_of version) [] (codes "object") t
   rights ← optional_list_at right_of [] (codes "right") t
   policy ← table_at sets_of [] (codes "policy") t
   labels ← optional_list_at label_of [] (codes "label") t
-  Ok (record { clients = clients; objects = objects; rights = rights; policy = policy; labels = labels })
+  Ok (record { version = version; clients = clients; objects = objects; rights = rights; policy = policy; labels = labels })
 
 unfoldable pub tables_of : Text → Result ConfigText Fault
 tables_of text = do

@@ -67,3 +67,4 @@ number_of codes.Label = 17
 number_of codes.Fed = 18
 number_of codes.Times = 19
 number_of codes.Sorting = 20
+number_of codes.SecondClock = 21

@@ -41,11 +41,12 @@ pub record UpDownText : Type 0 where
   pub up : ScriptRefText
   pub down : ScriptRefText
 
--- what an object's class says of it (IEC 62056-6-2): class 1, 3, 7, 9, 21, 22, and any other
+-- what an object's class says of it (IEC 62056-6-2): class 1, 3, 7, 8 (in version 2), 9, 21, 22, and any other
 pub data BodyText : Type 0 where
   DataText : (value : Text) → BodyText
   RegisterText : (value default : Text) → (scaler : ℤ) → (unit : ℕ) → BodyText
   ProfileText : List CaptureText → (period entries : ℕ) → (sort_method : Option ℤ) → BodyText
+  ClockText : (time : Text) → BodyText
   ScriptTableText : List ScriptText → BodyText
   MonitorText : (monitored : TargetText) → (thresholds : List Text) → List UpDownText → BodyText
   ScheduleText : ScriptRefText → (type : ℕ) → (times : List Text) → BodyText
@@ -74,6 +75,7 @@ pub record LabelText : Type 0 where
   pub sets : SetsText
 
 pub record ConfigText : Type 0 where
+  pub version : ℕ
   pub clients : List ClientText
   pub objects : List ObjectText
   pub rights : List RightText

@@ -16,19 +16,19 @@ impl TableForm for ClientTable {
 
     type Parts = ClientParts;
 
-    ghost keys = { client_keys };
+    ghost keys = { λ form. client_keys };
 
-    ghost says = { client_of };
+    ghost says = { λ form. client_of };
 
     #[tactic(auto, unfolding(crate::specs::Clients::client_keys))]
-    fn check_keys(at: &Place<'_>, table: &Table) -> Result<(), ConfigFault> {
+    fn check_keys(&self, at: &Place<'_>, table: &Table) -> Result<(), ConfigFault> {
         needed(at, "name", table)?;
         needed(at, "sap", table)?;
         only(at, &["name", "sap", "password"], table)
     }
 
     #[tactic(auto, unfolding(crate::specs::Clients::client_of))]
-    fn read(at: &Place<'_>, table: &Table) -> Result<ClientParts, ConfigFault> {
+    fn read(&self, at: &Place<'_>, table: &Table) -> Result<ClientParts, ConfigFault> {
         let name = text_at(at, "name", table)?;
         let sap = natural_at(1, 127, at, "sap", table)?;
         let password = optional_ascii_at(1, 64, at, "password", table)?;

@@ -50,6 +50,8 @@ pub enum Code {
     Times,
     /// C20: a sort method other than fifo, or an index into a captured attribute.
     Sorting,
+    /// C21: a second clock.
+    SecondClock,
 }
 
 impl Code {
@@ -78,6 +80,7 @@ impl Code {
             Code::Fed => 18,
             Code::Times => 19,
             Code::Sorting => 20,
+            Code::SecondClock => 21,
         }
     }
 }

@@ -4,6 +4,7 @@
 #![tactic(auto)]
 
 mod client;
+mod clock;
 pub mod fault;
 mod key_text;
 mod keys;

@@ -22,23 +22,23 @@ impl TableForm for UpDownTable {
 
     type Parts = UpDownParts;
 
-    ghost keys = { up_down_keys };
+    ghost keys = { λ form. up_down_keys };
 
-    ghost says = { up_down_of };
+    ghost says = { λ form. up_down_of };
 
     #[tactic(auto, unfolding(crate::specs::Classes::up_down_keys))]
-    fn check_keys(at: &Place<'_>, table: &Table) -> Result<(), ConfigFault> {
+    fn check_keys(&self, at: &Place<'_>, table: &Table) -> Result<(), ConfigFault> {
         needed(at, "up", table)?;
-        table_keys_at::<ScriptRefTable>(at, "up", table)?;
+        table_keys_at(&ScriptRefTable, at, "up", table)?;
         needed(at, "down", table)?;
-        table_keys_at::<ScriptRefTable>(at, "down", table)?;
+        table_keys_at(&ScriptRefTable, at, "down", table)?;
         only(at, &["up", "down"], table)
     }
 
     #[tactic(auto, unfolding(crate::specs::Classes::up_down_of))]
-    fn read(at: &Place<'_>, table: &Table) -> Result<UpDownParts, ConfigFault> {
-        let up = table_at::<ScriptRefTable>(at, "up", table)?;
-        let down = table_at::<ScriptRefTable>(at, "down", table)?;
+    fn read(&self, at: &Place<'_>, table: &Table) -> Result<UpDownParts, ConfigFault> {
+        let up = table_at(&ScriptRefTable, at, "up", table)?;
+        let down = table_at(&ScriptRefTable, at, "down", table)?;
         Ok(UpDownParts { up, down })
     }
 }
@@ -49,10 +49,10 @@ pub(crate) fn monitor_keys(at: &Place<'_>, table: &Table) -> Result<(), ConfigFa
     ensures { Gives (λ u. u) result (spec.monitor_keys at.now (table_view table.now)) }
 {
     needed(at, "monitored", table)?;
-    table_keys_at::<TargetTable>(at, "monitored", table)?;
+    table_keys_at(&TargetTable, at, "monitored", table)?;
     needed(at, "thresholds", table)?;
     needed(at, "action", table)?;
-    list_keys_at::<UpDownTable>(at, "action", table)?;
+    list_keys_at(&UpDownTable, at, "action", table)?;
     let known = ["class", "name", "fed", "monitored", "thresholds", "action"];
     only(at, &known, table)
 }
@@ -62,9 +62,9 @@ pub(crate) fn monitor_keys(at: &Place<'_>, table: &Table) -> Result<(), ConfigFa
 pub(crate) fn monitor_of(at: &Place<'_>, table: &Table) -> Result<BodyParts, ConfigFault>
     ensures { Gives body_text result (spec.monitor_of at.now (table_view table.now)) }
 {
-    let monitored = table_at::<TargetTable>(at, "monitored", table)?;
+    let monitored = table_at(&TargetTable, at, "monitored", table)?;
     let thresholds = texts_at(at, "thresholds", table)?;
-    let actions = list_at::<UpDownTable>(at, "action", table)?;
+    let actions = list_at(&UpDownTable, at, "action", table)?;
     Ok(BodyParts::RegisterMonitor {
         monitored,
         thresholds,

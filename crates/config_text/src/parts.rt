@@ -149,6 +149,10 @@ pub enum BodyParts {
         entries: u64,
         sort_method: Option<i64>,
     },
+    /// Class 8, in version 2: the moment at which its time starts, as a text.
+    Clock {
+        time: String,
+    },
     /// Class 9.
     ScriptTable {
         scripts: Vec<ScriptParts>,
@@ -252,6 +256,8 @@ impl Model for LabelParts {
 /// All that a configuration says.
 #[derive(Debug, Drop)]
 pub struct ConfigParts {
+    /// 1 or 2: that of the file's form.
+    pub version: u8,
     pub clients: Vec<ClientParts>,
     pub objects: Vec<ObjectParts>,
     pub rights: Vec<RightParts>,
@@ -265,5 +271,5 @@ impl Model for ConfigParts {
 
     ghost Value = { ConfigText };
 
-    ghost view = { λ c. record { clients = c.clients.items; objects = c.objects.items; rights = c.rights.items; policy = c.policy; labels = c.labels.items } };
+    ghost view = { λ c. record { version = c.version; clients = c.clients.items; objects = c.objects.items; rights = c.rights.items; policy = c.policy; labels = c.labels.items } };
 }

@@ -25,19 +25,19 @@ impl TableForm for CaptureTable {
 
     type Parts = CaptureParts;
 
-    ghost keys = { capture_keys };
+    ghost keys = { λ form. capture_keys };
 
-    ghost says = { capture_of };
+    ghost says = { λ form. capture_of };
 
     #[tactic(auto, unfolding(crate::specs::Classes::capture_keys))]
-    fn check_keys(at: &Place<'_>, table: &Table) -> Result<(), ConfigFault> {
+    fn check_keys(&self, at: &Place<'_>, table: &Table) -> Result<(), ConfigFault> {
         needed(at, "object", table)?;
         needed(at, "index", table)?;
         only(at, &["object", "index", "data_index"], table)
     }
 
     #[tactic(auto, unfolding(crate::specs::Classes::capture_of))]
-    fn read(at: &Place<'_>, table: &Table) -> Result<CaptureParts, ConfigFault> {
+    fn read(&self, at: &Place<'_>, table: &Table) -> Result<CaptureParts, ConfigFault> {
         let target = target_of(at, table)?;
         let data_index = optional_integer_at(at, "data_index", table)?;
         Ok(CaptureParts { target, data_index })
@@ -50,7 +50,7 @@ pub(crate) fn profile_keys(at: &Place<'_>, table: &Table) -> Result<(), ConfigFa
     ensures { Gives (λ u. u) result (spec.profile_keys at.now (table_view table.now)) }
 {
     needed(at, "capture", table)?;
-    list_keys_at::<CaptureTable>(at, "capture", table)?;
+    list_keys_at(&CaptureTable, at, "capture", table)?;
     needed(at, "period", table)?;
     needed(at, "entries", table)?;
     let known = [
@@ -70,7 +70,7 @@ pub(crate) fn profile_keys(at: &Place<'_>, table: &Table) -> Result<(), ConfigFa
 pub(crate) fn profile_of(at: &Place<'_>, table: &Table) -> Result<BodyParts, ConfigFault>
     ensures { Gives body_text result (spec.profile_of at.now (table_view table.now)) }
 {
-    let capture = list_at::<CaptureTable>(at, "capture", table)?;
+    let capture = list_at(&CaptureTable, at, "capture", table)?;
     let period = natural_at(0, 4_294_967_295, at, "period", table)?;
     let entries = natural_at(1, GREATEST, at, "entries", table)?;
     let sort_method = optional_integer_at(at, "sort_method", table)?;

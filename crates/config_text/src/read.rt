@@ -1,5 +1,6 @@
 //! The tables of a configuration text, read pass by pass.
 
+ghost use Rattle.std.specs.Prelude.{◌≡◌};
 ghost use Rattle.toml.specs.View.{table_view};
 ghost use Rattle.config_text.specs.Fault.{Gives};
 ghost use Rattle.config_text.specs.Document as spec;
@@ -12,7 +13,7 @@ use crate::parts::ConfigParts;
 use crate::place::Place;
 use crate::right::{LabelTable, PolicyTable, RightTable};
 use crate::tables::{list_at, list_keys_at, optional_list_at, table_at, table_keys_at};
-use crate::values::natural_at;
+use crate::values::{natural_at, natural_or_none};
 use std::alloc::Global;
 use toml::Table;
 
@@ -33,6 +34,13 @@ fn document(alloc: Global, text: &str) -> Result<Table, ConfigFault>
     }
 }
 
+/// The version by which the keys of objects are looked at: 1, unless it is told to be 2.
+fn told_version(table: &Table) -> u64
+    ensures { result ≡ spec.told_version (table_view table.now) }
+{
+    natural_or_none(1, 2, "version", table).unwrap_or(1)
+}
+
 /// The first key that is missing or unknown.
 #[tactic(auto, unfolding(crate::specs::Document::config_keys))]
 fn config_keys(alloc: Global, table: &Table) -> Result<(), ConfigFault>
@@ -41,13 +49,16 @@ fn config_keys(alloc: Global, table: &Table) -> Result<(), ConfigFault>
     let top = Place::top(alloc, "");
     needed(&top, "version", table)?;
     needed(&top, "client", table)?;
-    list_keys_at::<ClientTable>(&top, "client", table)?;
+    list_keys_at(&ClientTable, &top, "client", table)?;
     needed(&top, "object", table)?;
-    list_keys_at::<ObjectTable>(&top, "object", table)?;
-    list_keys_at::<RightTable>(&top, "right", table)?;
+    let objects = ObjectTable {
+        version: told_version(table),
+    };
+    list_keys_at(&objects, &top, "object", table)?;
+    list_keys_at(&RightTable, &top, "right", table)?;
     needed(&top, "policy", table)?;
-    table_keys_at::<PolicyTable>(&top, "policy", table)?;
-    list_keys_at::<LabelTable>(&top, "label", table)?;
+    table_keys_at(&PolicyTable, &top, "policy", table)?;
+    list_keys_at(&LabelTable, &top, "label", table)?;
     let known = ["version", "client", "object", "right", "policy", "label"];
     only(&top, &known, table)
 }
@@ -58,13 +69,14 @@ fn parts_of(alloc: Global, table: &Table) -> Result<ConfigParts, ConfigFault>
     ensures { Gives (λ x. x) result (spec.parts_of (table_view table.now)) }
 {
     let top = Place::top(alloc, "");
-    natural_at(1, 1, &top, "version", table)?;
-    let clients = list_at::<ClientTable>(&top, "client", table)?;
-    let objects = list_at::<ObjectTable>(&top, "object", table)?;
-    let rights = optional_list_at::<RightTable>(&top, "right", table)?;
-    let policy = table_at::<PolicyTable>(&top, "policy", table)?;
-    let labels = optional_list_at::<LabelTable>(&top, "label", table)?;
+    let version = natural_at(1, 2, &top, "version", table)?;
+    let clients = list_at(&ClientTable, &top, "client", table)?;
+    let objects = list_at(&ObjectTable { version }, &top, "object", table)?;
+    let rights = optional_list_at(&RightTable, &top, "right", table)?;
+    let policy = table_at(&PolicyTable, &top, "policy", table)?;
+    let labels = optional_list_at(&LabelTable, &top, "label", table)?;
     Ok(ConfigParts {
+        version: version as u8,
         clients,
         objects,
         rights,

@@ -22,19 +22,19 @@ impl TableForm for RightTable {
 
     type Parts = RightParts;
 
-    ghost keys = { right_keys };
+    ghost keys = { λ form. right_keys };
 
-    ghost says = { right_of };
+    ghost says = { λ form. right_of };
 
     #[tactic(auto, unfolding(crate::specs::Rights::right_keys))]
-    fn check_keys(at: &Place<'_>, table: &Table) -> Result<(), ConfigFault> {
+    fn check_keys(&self, at: &Place<'_>, table: &Table) -> Result<(), ConfigFault> {
         needed(at, "client", table)?;
         needed(at, "object", table)?;
         only(at, &["client", "object", "get", "set", "act"], table)
     }
 
     #[tactic(auto, unfolding(crate::specs::Rights::right_of))]
-    fn read(at: &Place<'_>, table: &Table) -> Result<RightParts, ConfigFault> {
+    fn read(&self, at: &Place<'_>, table: &Table) -> Result<RightParts, ConfigFault> {
         let client = text_at(at, "client", table)?;
         let object = text_at(at, "object", table)?;
         let gets = optional_naturals_at(0, 127, at, "get", table)?;
@@ -68,18 +68,18 @@ impl TableForm for PolicyTable {
 
     type Parts = SetsParts;
 
-    ghost keys = { policy_keys };
+    ghost keys = { λ form. policy_keys };
 
-    ghost says = { sets_of };
+    ghost says = { λ form. sets_of };
 
     #[tactic(auto, unfolding(crate::specs::Rights::policy_keys))]
-    fn check_keys(at: &Place<'_>, table: &Table) -> Result<(), ConfigFault> {
+    fn check_keys(&self, at: &Place<'_>, table: &Table) -> Result<(), ConfigFault> {
         needed(at, "influence", table)?;
         needed(at, "learn", table)?;
         only(at, &["influence", "learn"], table)
     }
 
-    fn read(at: &Place<'_>, table: &Table) -> Result<SetsParts, ConfigFault> {
+    fn read(&self, at: &Place<'_>, table: &Table) -> Result<SetsParts, ConfigFault> {
         sets_of(at, table)
     }
 }
@@ -92,12 +92,12 @@ impl TableForm for LabelTable {
 
     type Parts = LabelParts;
 
-    ghost keys = { label_keys };
+    ghost keys = { λ form. label_keys };
 
-    ghost says = { label_of };
+    ghost says = { λ form. label_of };
 
     #[tactic(auto, unfolding(crate::specs::Rights::label_keys))]
-    fn check_keys(at: &Place<'_>, table: &Table) -> Result<(), ConfigFault> {
+    fn check_keys(&self, at: &Place<'_>, table: &Table) -> Result<(), ConfigFault> {
         needed(at, "object", table)?;
         needed(at, "index", table)?;
         needed(at, "influence", table)?;
@@ -106,7 +106,7 @@ impl TableForm for LabelTable {
     }
 
     #[tactic(auto, unfolding(crate::specs::Rights::label_of))]
-    fn read(at: &Place<'_>, table: &Table) -> Result<LabelParts, ConfigFault> {
+    fn read(&self, at: &Place<'_>, table: &Table) -> Result<LabelParts, ConfigFault> {
         let target = target_of(at, table)?;
         let sets = sets_of(at, table)?;
         Ok(LabelParts { target, sets })

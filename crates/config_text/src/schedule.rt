@@ -21,7 +21,7 @@ pub(crate) fn schedule_keys(at: &Place<'_>, table: &Table) -> Result<(), ConfigF
     ensures { Gives (λ u. u) result (spec.schedule_keys at.now (table_view table.now)) }
 {
     needed(at, "script", table)?;
-    table_keys_at::<ScriptRefTable>(at, "script", table)?;
+    table_keys_at(&ScriptRefTable, at, "script", table)?;
     needed(at, "type", table)?;
     needed(at, "times", table)?;
     let known = ["class", "name", "fed", "script", "type", "times"];
@@ -33,7 +33,7 @@ pub(crate) fn schedule_keys(at: &Place<'_>, table: &Table) -> Result<(), ConfigF
 pub(crate) fn schedule_of(at: &Place<'_>, table: &Table) -> Result<BodyParts, ConfigFault>
     ensures { Gives body_text result (spec.schedule_of at.now (table_view table.now)) }
 {
-    let script = table_at::<ScriptRefTable>(at, "script", table)?;
+    let script = table_at(&ScriptRefTable, at, "script", table)?;
     let kind = natural_at(1, 5, at, "type", table)?;
     let times = texts_at(at, "times", table)?;
     Ok(BodyParts::SingleActionSchedule {

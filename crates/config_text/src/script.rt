@@ -36,12 +36,12 @@ impl TableForm for ActionTable {
 
     type Parts = ActionParts;
 
-    ghost keys = { action_keys };
+    ghost keys = { λ form. action_keys };
 
-    ghost says = { action_of };
+    ghost says = { λ form. action_of };
 
     #[tactic(auto, unfolding(crate::specs::Classes::action_keys))]
-    fn check_keys(at: &Place<'_>, table: &Table) -> Result<(), ConfigFault> {
+    fn check_keys(&self, at: &Place<'_>, table: &Table) -> Result<(), ConfigFault> {
         needed(at, "service", table)?;
         needed(at, "object", table)?;
         needed(at, "index", table)?;
@@ -49,7 +49,7 @@ impl TableForm for ActionTable {
     }
 
     #[tactic(auto, unfolding(crate::specs::Classes::action_of))]
-    fn read(at: &Place<'_>, table: &Table) -> Result<ActionParts, ConfigFault> {
+    fn read(&self, at: &Place<'_>, table: &Table) -> Result<ActionParts, ConfigFault> {
         let service = service_at(at, "service", table)?;
         let target = target_of(at, table)?;
         let value = optional_text_at(at, "value", table)?;
@@ -69,22 +69,22 @@ impl TableForm for ScriptTable {
 
     type Parts = ScriptParts;
 
-    ghost keys = { script_keys };
+    ghost keys = { λ form. script_keys };
 
-    ghost says = { script_of };
+    ghost says = { λ form. script_of };
 
     #[tactic(auto, unfolding(crate::specs::Classes::script_keys))]
-    fn check_keys(at: &Place<'_>, table: &Table) -> Result<(), ConfigFault> {
+    fn check_keys(&self, at: &Place<'_>, table: &Table) -> Result<(), ConfigFault> {
         needed(at, "id", table)?;
         needed(at, "action", table)?;
-        list_keys_at::<ActionTable>(at, "action", table)?;
+        list_keys_at(&ActionTable, at, "action", table)?;
         only(at, &["id", "action"], table)
     }
 
     #[tactic(auto, unfolding(crate::specs::Classes::script_of))]
-    fn read(at: &Place<'_>, table: &Table) -> Result<ScriptParts, ConfigFault> {
+    fn read(&self, at: &Place<'_>, table: &Table) -> Result<ScriptParts, ConfigFault> {
         let id = natural_at(0, 65535, at, "id", table)?;
-        let actions = list_at::<ActionTable>(at, "action", table)?;
+        let actions = list_at(&ActionTable, at, "action", table)?;
         Ok(ScriptParts {
             id: id as u16,
             actions,
@@ -98,7 +98,7 @@ pub(crate) fn script_table_keys(at: &Place<'_>, table: &Table) -> Result<(), Con
     ensures { Gives (λ u. u) result (spec.script_table_keys at.now (table_view table.now)) }
 {
     needed(at, "script", table)?;
-    list_keys_at::<ScriptTable>(at, "script", table)?;
+    list_keys_at(&ScriptTable, at, "script", table)?;
     only(at, &["class", "name", "fed", "script"], table)
 }
 
@@ -107,6 +107,6 @@ pub(crate) fn script_table_keys(at: &Place<'_>, table: &Table) -> Result<(), Con
 pub(crate) fn script_table_of(at: &Place<'_>, table: &Table) -> Result<BodyParts, ConfigFault>
     ensures { Gives body_text result (spec.script_table_of at.now (table_view table.now)) }
 {
-    let scripts = list_at::<ScriptTable>(at, "script", table)?;
+    let scripts = list_at(&ScriptTable, at, "script", table)?;
     Ok(BodyParts::ScriptTable { scripts })
 }

@@ -26,35 +26,40 @@ pub(crate) trait TableForm {
     type Parts: Drop;
 
     /// The first key that is missing or unknown.
-    ghost keys: { Text → Members → Result ⊤ Fault };
+    ghost keys: { Self → Text → Members → Result ⊤ Fault };
 
     /// What the table says, or the first value of a wrong kind.
-    ghost says: { Text → Members → Result Self.Parts Fault };
+    ghost says: { Self → Text → Members → Result Self.Parts Fault };
 
     /// Looks for keys that are missing or unknown.
     ///
     /// # Errors
     /// C2 at the first of them.
-    fn check_keys(at: &Place<'_>, table: &Table) -> Result<(), ConfigFault>
-        ensures { Gives (λ u. u) result (keys at.now (table_view table.now)) };
+    fn check_keys(&self, at: &Place<'_>, table: &Table) -> Result<(), ConfigFault>
+        ensures { Gives (λ u. u) result (keys self.now at.now (table_view table.now)) };
 
     /// Reads a table.
     ///
     /// # Errors
     /// C3 at the first value of a wrong kind.
-    fn read(at: &Place<'_>, table: &Table) -> Result<Self::Parts, ConfigFault>
-        ensures { Gives (λ x. x) result (says at.now (table_view table.now)) };
+    fn read(&self, at: &Place<'_>, table: &Table) -> Result<Self::Parts, ConfigFault>
+        ensures { Gives (λ x. x) result (says self.now at.now (table_view table.now)) };
 }
 
 /// The keys of one element, if it is a table.
-fn element_keys<T: TableForm>(name: &Place<'_>, i: usize, value: &Value) -> Result<(), ConfigFault>
-    ensures { Gives (λ u. u) result (spec.keys_of T.keys (element_place name.now i) (as_table (view value.now))) }
+fn element_keys<T: TableForm>(
+    form: &T,
+    name: &Place<'_>,
+    i: usize,
+    value: &Value,
+) -> Result<(), ConfigFault>
+    ensures { Gives (λ u. u) result (spec.keys_of (T.keys form.now) (element_place name.now i) (as_table (view value.now))) }
 {
     match value.as_table() {
         Some(table) => {
             let place = name.element(i);
             let at = place.below(".");
-            T::check_keys(&at, table)
+            form.check_keys(&at, table)
         }
         None => Ok(()),
     }
@@ -62,11 +67,11 @@ fn element_keys<T: TableForm>(name: &Place<'_>, i: usize, value: &Value) -> Resu
 
 /// The first fault of the keys of each table in an array.
 #[tactic(auto, unfolding(crate::specs::Tables::each_keys))]
-fn each_keys<T: TableForm>(name: &Place<'_>, array: &Array) -> Result<(), ConfigFault>
-    ensures { Gives (λ u. u) result (spec.each_keys T.keys name.now 0 (array_view array.now)) }
+fn each_keys<T: TableForm>(form: &T, name: &Place<'_>, array: &Array) -> Result<(), ConfigFault>
+    ensures { Gives (λ u. u) result (spec.each_keys (T.keys form.now) name.now 0 (array_view array.now)) }
 {
     for (i, value) in array.iter().enumerate() {
-        element_keys::<T>(name, i, value)?;
+        element_keys(form, name, i, value)?;
     }
     Ok(())
 }
@@ -77,16 +82,17 @@ fn each_keys<T: TableForm>(name: &Place<'_>, array: &Array) -> Result<(), Config
 /// C2 at the first key that is missing or unknown.
 #[tactic(auto, unfolding(crate::specs::Tables::list_keys_at, crate::specs::Tables::each_keys))]
 pub(crate) fn list_keys_at<T: TableForm>(
+    form: &T,
     at: &Place<'_>,
     key: &str,
     table: &Table,
 ) -> Result<(), ConfigFault>
-    ensures { Gives (λ u. u) result (spec.list_keys_at T.keys at.now key.now (table_view table.now)) }
+    ensures { Gives (λ u. u) result (spec.list_keys_at (T.keys form.now) at.now key.now (table_view table.now)) }
 {
     match array(table, key) {
         Some(items) => {
             let name = at.below(key);
-            each_keys::<T>(&name, items)
+            each_keys(form, &name, items)
         }
         None => Ok(()),
     }
@@ -98,31 +104,37 @@ pub(crate) fn list_keys_at<T: TableForm>(
 /// C2 at the first key that is missing or unknown.
 #[tactic(auto, unfolding(crate::specs::Tables::table_keys_at))]
 pub(crate) fn table_keys_at<T: TableForm>(
+    form: &T,
     at: &Place<'_>,
     key: &str,
     table: &Table,
 ) -> Result<(), ConfigFault>
-    ensures { Gives (λ u. u) result (spec.table_keys_at T.keys at.now key.now (table_view table.now)) }
+    ensures { Gives (λ u. u) result (spec.table_keys_at (T.keys form.now) at.now key.now (table_view table.now)) }
 {
     match table_in(table, key) {
         Some(inner) => {
             let name = at.below(key);
             let inner_at = name.below(".");
-            T::check_keys(&inner_at, inner)
+            form.check_keys(&inner_at, inner)
         }
         None => Ok(()),
     }
 }
 
 /// What one element says.
-fn element<T: TableForm>(name: &Place<'_>, i: usize, value: &Value) -> Result<T::Parts, ConfigFault>
-    ensures { Gives (λ x. x) result (spec.table_of T.says (element_place name.now i) (view value.now)) }
+fn element<T: TableForm>(
+    form: &T,
+    name: &Place<'_>,
+    i: usize,
+    value: &Value,
+) -> Result<T::Parts, ConfigFault>
+    ensures { Gives (λ x. x) result (spec.table_of (T.says form.now) (element_place name.now i) (view value.now)) }
 {
     match value.as_table() {
         Some(table) => {
             let place = name.element(i);
             let at = place.below(".");
-            T::read(&at, table)
+            form.read(&at, table)
         }
         None => Err(fault(Code::Kind, &name.element(i), "")),
     }
@@ -130,12 +142,16 @@ fn element<T: TableForm>(name: &Place<'_>, i: usize, value: &Value) -> Result<T:
 
 /// What each table of an array says.
 #[tactic(auto, unfolding(crate::specs::Lists::each))]
-fn each_table<T: TableForm>(name: &Place<'_>, array: &Array) -> Result<Vec<T::Parts>, ConfigFault>
-    ensures { Gives (λ v. v.items) result (each (spec.table_of T.says) name.now 0 (array_view array.now)) }
+fn each_table<T: TableForm>(
+    form: &T,
+    name: &Place<'_>,
+    array: &Array,
+) -> Result<Vec<T::Parts>, ConfigFault>
+    ensures { Gives (λ v. v.items) result (each (spec.table_of (T.says form.now)) name.now 0 (array_view array.now)) }
 {
     let mut all = Vec::with_capacity(name.alloc(), array.len())?;
     for (i, value) in array.iter().enumerate() {
-        all.push(element::<T>(name, i, value)?)?;
+        all.push(element(form, name, i, value)?)?;
     }
     Ok(all)
 }
@@ -146,15 +162,16 @@ fn each_table<T: TableForm>(name: &Place<'_>, array: &Array) -> Result<Vec<T::Pa
 /// C3 at the key where it is no array, at the first element that is no table, and where a table says so.
 #[tactic(auto, unfolding(crate::specs::Tables::list_at))]
 pub(crate) fn list_at<T: TableForm>(
+    form: &T,
     at: &Place<'_>,
     key: &str,
     table: &Table,
 ) -> Result<Vec<T::Parts>, ConfigFault>
-    ensures { Gives (λ v. v.items) result (spec.list_at T.says at.now key.now (table_view table.now)) }
+    ensures { Gives (λ v. v.items) result (spec.list_at (T.says form.now) at.now key.now (table_view table.now)) }
 {
     let items = array_at(at, key, table)?;
     let name = at.below(key);
-    each_table::<T>(&name, items)
+    each_table(form, &name, items)
 }
 
 /// What the tables in the array at a key say, none where it is left out.
@@ -163,17 +180,18 @@ pub(crate) fn list_at<T: TableForm>(
 /// C3 at the key where it is no array, at the first element that is no table, and where a table says so.
 #[tactic(auto, unfolding(crate::specs::Tables::optional_list_at))]
 pub(crate) fn optional_list_at<T: TableForm>(
+    form: &T,
     at: &Place<'_>,
     key: &str,
     table: &Table,
 ) -> Result<Vec<T::Parts>, ConfigFault>
-    ensures { Gives (λ v. v.items) result (spec.optional_list_at T.says at.now key.now (table_view table.now)) }
+    ensures { Gives (λ v. v.items) result (spec.optional_list_at (T.says form.now) at.now key.now (table_view table.now)) }
 {
     match value_at(table, key) {
         Some(value) => match value.as_array() {
             Some(items) => {
                 let name = at.below(key);
-                each_table::<T>(&name, items)
+                each_table(form, &name, items)
             }
             None => Err(fault(Code::Kind, at, key)),
         },
@@ -187,17 +205,18 @@ pub(crate) fn optional_list_at<T: TableForm>(
 /// C3 at the key where it is no table, and where the table says so.
 #[tactic(auto, unfolding(crate::specs::Tables::table_at))]
 pub(crate) fn table_at<T: TableForm>(
+    form: &T,
     at: &Place<'_>,
     key: &str,
     table: &Table,
 ) -> Result<T::Parts, ConfigFault>
-    ensures { Gives (λ x. x) result (spec.table_at T.says at.now key.now (table_view table.now)) }
+    ensures { Gives (λ x. x) result (spec.table_at (T.says form.now) at.now key.now (table_view table.now)) }
 {
     match table_in(table, key) {
         Some(inner) => {
             let name = at.below(key);
             let inner_at = name.below(".");
-            T::read(&inner_at, inner)
+            form.read(&inner_at, inner)
         }
         None => Err(fault(Code::Kind, at, key)),
     }

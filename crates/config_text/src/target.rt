@@ -33,18 +33,18 @@ impl TableForm for TargetTable {
 
     type Parts = TargetParts;
 
-    ghost keys = { target_keys };
+    ghost keys = { λ form. target_keys };
 
-    ghost says = { target_of };
+    ghost says = { λ form. target_of };
 
     #[tactic(auto, unfolding(crate::specs::Targets::target_keys))]
-    fn check_keys(at: &Place<'_>, table: &Table) -> Result<(), ConfigFault> {
+    fn check_keys(&self, at: &Place<'_>, table: &Table) -> Result<(), ConfigFault> {
         needed(at, "object", table)?;
         needed(at, "index", table)?;
         only(at, &["object", "index"], table)
     }
 
-    fn read(at: &Place<'_>, table: &Table) -> Result<TargetParts, ConfigFault> {
+    fn read(&self, at: &Place<'_>, table: &Table) -> Result<TargetParts, ConfigFault> {
         target_of(at, table)
     }
 }
@@ -57,19 +57,19 @@ impl TableForm for ScriptRefTable {
 
     type Parts = ScriptRefParts;
 
-    ghost keys = { script_ref_keys };
+    ghost keys = { λ form. script_ref_keys };
 
-    ghost says = { script_ref_of };
+    ghost says = { λ form. script_ref_of };
 
     #[tactic(auto, unfolding(crate::specs::Targets::script_ref_keys))]
-    fn check_keys(at: &Place<'_>, table: &Table) -> Result<(), ConfigFault> {
+    fn check_keys(&self, at: &Place<'_>, table: &Table) -> Result<(), ConfigFault> {
         needed(at, "table", table)?;
         needed(at, "script", table)?;
         only(at, &["table", "script"], table)
     }
 
     #[tactic(auto, unfolding(crate::specs::Targets::script_ref_of))]
-    fn read(at: &Place<'_>, table: &Table) -> Result<ScriptRefParts, ConfigFault> {
+    fn read(&self, at: &Place<'_>, table: &Table) -> Result<ScriptRefParts, ConfigFault> {
         let name = text_at(at, "table", table)?;
         let script = integer_at(at, "script", table)?;
         Ok(ScriptRefParts {

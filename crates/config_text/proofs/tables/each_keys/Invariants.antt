@@ -6,5 +6,5 @@ use Rattle.config_text.proofs.tables.each_keys.Given as goal
 -- what is left has the first fault of all
 abbrev pub invariant-loop-i : goal.invariant-loop-i
 invariant-loop-i g l =
-    let keys = g.T.TableForm.keys in
+    let keys = g.T.TableForm.keys l.form in
     each_keys keys l.name l.i (items_view (drop l.i l.array.items)) ≡ each_keys keys l.name 0 (array_view l.array)

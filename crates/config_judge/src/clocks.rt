@@ -1,0 +1,61 @@
+//! C21: a second clock.
+ghost use Rattle.std.specs.Prelude.{◌≡◌};
+ghost use Rattle.std.specs.List.{list_any};
+ghost use Rattle.config_text.specs.Fault.{Gives};
+ghost use Rattle.config_rules.specs.Passes as passes;
+
+use crate::judged::fault_if;
+use crate::walk::{JudgeNew, each_new};
+use config_text::fault::{Code, ConfigFault};
+use config_text::parts::{ConfigParts, ObjectParts};
+use config_text::place::Place;
+use std::alloc::Global;
+
+/// The interface class of clocks (IEC 62056-6-2).
+const CLOCK: u16 = 8;
+
+fn is_clock(object: &ObjectParts) -> bool
+    ensures { result ≡ passes.is_clock object.now }
+{
+    object.class_id == CLOCK
+}
+
+fn has_clock(objects: &[ObjectParts]) -> bool
+    ensures { result ≡ list_any passes.is_clock objects.now }
+{
+    objects.iter().any(|object| is_clock(object))
+}
+
+/// A clock, beside the objects before it.
+#[derive(Drop)]
+struct NewClock;
+
+impl JudgeNew for NewClock {
+    ghost use Rattle.config_rules.specs.Passes.{new_clock};
+
+    type Part = ObjectParts;
+
+    ghost judges = { λ _. new_clock };
+
+    fn judge(
+        &self,
+        earlier: &[ObjectParts],
+        at: &Place<'_>,
+        object: &ObjectParts,
+    ) -> Result<(), ConfigFault> {
+        let second = is_clock(object) && has_clock(earlier);
+        fault_if(Code::SecondClock, at, ".class", second)
+    }
+}
+
+/// Judges whether there is one clock at most. The objects before a clock are looked at, and so at most twice.
+///
+/// # Errors
+/// C21 at the second clock.
+#[tactic(auto, unfolding(config_rules::specs::Passes::new_clocks))]
+pub(crate) fn new_clocks(alloc: Global, config: &ConfigParts) -> Result<(), ConfigFault>
+    ensures { Gives (λ u. u) result (passes.new_clocks config.now) }
+{
+    let object_place = Place::top(alloc, "object");
+    each_new(&NewClock, &object_place, config.objects.as_slice())
+}
