@@ -1,7 +1,7 @@
 -- Edges as they are printed.
 use Rattle.std.specs.Prelude.{ℕ, List, ◌++◌, codes}
 use Rattle.meter_theory.specs.declared.flow.Cause.{Cause}
-use Rattle.meter_theory.specs.declared.flow.Cause.TheVariants.{Monitored, Monitor, Captured, Period, Schedule}
+use Rattle.meter_theory.specs.declared.flow.Cause.TheVariants.{Monitored, Monitor, Captured, Period, Schedule, Clock}
 use Rattle.meter_theory.specs.declared.flow.Edge.{Edge}
 use Rattle.value_text.specs.Texts.{cell_text}
 
@@ -12,6 +12,7 @@ cause_word Monitor = codes "monitor"
 cause_word Captured = codes "captured"
 cause_word Period = codes "period"
 cause_word Schedule = codes "schedule"
+cause_word Clock = codes "clock"
 
 -- `CELL -> CELL CAUSE` (own profile)
 abbrev pub edge_text : Edge → List ℕ

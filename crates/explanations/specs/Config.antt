@@ -8,6 +8,7 @@ use Rattle.config_text.specs.declared.fault.ConfigFault.{ConfigFault}
 use Rattle.config_text.specs.declared.fault.ConfigFault.TheVariants as faults
 use Rattle.toml.specs.Data.{Data, string, integer, float, boolean, datetime, array, table}
 use Rattle.toml.specs.Parse.{parse_document}
+use Rattle.explanations.specs.Advice.{meaning_at, mending_at}
 use Rattle.explanations.specs.Following.{object_name, shown_at}
 use Rattle.explanations.specs.Meanings.{meaning, mending, memory_meaning, memory_mending}
 use Rattle.explanations.specs.Printable.{printable, quoted}
@@ -44,9 +45,9 @@ value_line (Some d) = concat (codes "  the text there is " ∷ value_words d ∷
 -- a fault at a place of a text that is this table: what it means, where it is and how it is mended (own profile)
 abbrev pub told : List ℕ → Code → List ℕ → Data → List ℕ
 told file code place whole = concat (
-    codes "cosem-flow: " ∷ printable file ∷ codes ": " ∷ printable place ∷ codes ": " ∷ meaning code ∷ codes "\n"
+    codes "cosem-flow: " ∷ printable file ∷ codes ": " ∷ printable place ∷ codes ": " ∷ meaning_at code place ∷ codes "\n"
     ∷ object_line (object_name whole place) ∷ value_line (shown_at code whole place)
-    ∷ codes "  " ∷ mending code ∷ codes "\n" ∷ [])
+    ∷ codes "  " ∷ mending_at code whole place ∷ codes "\n" ∷ [])
 
 -- the line and the column behind these bytes, from those before them; a column counts characters (own profile)
 abbrev pub place_behind : ℕ → ℕ → List ℕ → ℕ × ℕ

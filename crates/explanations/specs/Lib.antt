@@ -1,6 +1,7 @@
 pub mod Printable
 pub mod Following
 pub mod Meanings
+pub mod Advice
 pub mod Config
 pub mod Labels
 pub mod Cells

@@ -25,6 +25,7 @@ meaning faults.Label = codes "the label is on what is no cell, or is the second 
 meaning faults.Fed = codes "fed is true of a class other than 1 and 3"
 meaning faults.Times = codes "the type doesn't allow these times"
 meaning faults.Sorting = codes "sort_method isn't 1, or data_index isn't 0"
+meaning faults.SecondClock = codes "a second clock: a meter has one at most"
 
 -- how it is mended (own profile)
 abbrev pub mending : Code → List ℕ
@@ -48,6 +49,7 @@ mending faults.Label = codes "label each cell once"
 mending faults.Fed = codes "feed objects of the classes 1 and 3 alone"
 mending faults.Times = codes "use another type, or fewer times"
 mending faults.Sorting = codes "leave the key out"
+mending faults.SecondClock = codes "keep one object of class 8"
 
 -- what want of memory means, and how it is mended (own profile)
 abbrev pub memory_meaning : List ℕ

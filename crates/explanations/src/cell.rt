@@ -69,5 +69,6 @@ pub fn word_of(cause: Cause) -> &'static str
         Cause::Captured => "captured",
         Cause::Period => "period",
         Cause::Schedule => "schedule",
+        Cause::Clock => "clock",
     }
 }

@@ -4,8 +4,8 @@ ghost use Rattle.toml.specs.View.{view};
 ghost use Rattle.explanations.specs.Config as spec;
 ghost use Rattle.explanations.specs.Config.{Explains};
 
+use crate::advice::{meaning_at, mending_at};
 use crate::following::{object_name, shown_at};
-use crate::meaning::{meaning_of, mending_of};
 use crate::printable::printable_text;
 use crate::syntax::explain_no_toml;
 use crate::value::value_words;
@@ -46,10 +46,10 @@ fn told(alloc: Global, file: &str, code: Code, place: &str, whole: &Value) -> Re
 {
     let object = object_line(alloc, object_name(whole, place))?;
     let value = value_line(alloc, shown_at(code, whole, place))?;
+    let meaning = meaning_at(code, place);
+    let mending = mending_at(code, whole, place);
     let file = printable_text(alloc, file)?;
     let place = printable_text(alloc, place)?;
-    let meaning = meaning_of(code);
-    let mending = mending_of(code);
     Ok(format!(in alloc; "cosem-flow: {file}: {place}: {meaning}\n{object}{value}  {mending}\n")?)
 }
 

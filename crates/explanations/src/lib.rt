@@ -2,9 +2,11 @@
 //! it is mended (own profile).
 //!
 //! The definitions stand in `specs/`: texts without control characters (`Printable`), the value to which a place leads
-//! (`Following`), the sentences of each code (`Meanings`), and the explanations (`Config`, `Labels`, `Refusals`, `Files`).
+//! (`Following`), the sentences of each code (`Meanings`) and of some places (`Advice`), and the explanations (`Config`, `Labels`,
+//! `Refusals`, `Files`).
 #![tactic(auto)]
 
+mod advice;
 pub mod cell;
 pub mod config;
 pub mod file;

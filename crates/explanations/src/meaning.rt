@@ -31,6 +31,7 @@ pub fn meaning_of(code: Code) -> &'static str
         Code::Fed => "fed is true of a class other than 1 and 3",
         Code::Times => "the type doesn't allow these times",
         Code::Sorting => "sort_method isn't 1, or data_index isn't 0",
+        Code::SecondClock => "a second clock: a meter has one at most",
     }
 }
 
@@ -63,5 +64,6 @@ pub fn mending_of(code: Code) -> &'static str
         Code::Fed => "feed objects of the classes 1 and 3 alone",
         Code::Times => "use another type, or fewer times",
         Code::Sorting => "leave the key out",
+        Code::SecondClock => "keep one object of class 8",
     }
 }

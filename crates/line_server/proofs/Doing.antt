@@ -1,5 +1,5 @@
 -- What lines give an asker to do, and what it does to a meter alone.
-use Rattle.std.proofs.Common.{◌≡◌, ℕ, ◌+◌, ◌<◌, List, [], ◌∷◌, ◌++◌, take, drop, length, get_or, Option, Some, None, Result, Ok, Err, OnOk, OnErr, inl, refl, sym, ap, subst, ◌∙◌, append-nil, append_assoc}
+use Rattle.std.proofs.Common.{◌≡◌, ℕ, zero, suc, ◌+◌, ◌-◌, ◌<◌, List, [], ◌∷◌, ◌++◌, take, drop, length, get_or, Option, Some, None, Result, Ok, Err, OnOk, OnErr, inl, refl, sym, ap, subst, ◌∙◌, append-nil, append_assoc, zero-add, suc-add, arith}
 use Rattle.std.specs.Prelude.{option_to_list, option_and_then, IfErr}
 use Rattle.std.specs.List.{flat_map, filter_map}
 use Rattle.std.proofs.lemmas.List.{take_more, take-append-drop}
@@ -8,7 +8,8 @@ use Rattle.cosem_data.specs.declared.memory.Memory.{Memory as NoMemory}
 use Rattle.meter_theory.specs.Plan.{Plan, Object}
 use Rattle.meter_theory.specs.State.{State}
 use Rattle.meter_theory.specs.Steps.{Step, next}
-use Rattle.meter_theory.specs.Times.{Moment}
+use Rattle.meter_theory.specs.Replies.{Reply}
+use Rattle.meter_core.specs.Moments.{offered, second_steps, tick_steps}
 use Rattle.xdlms_services.specs.declared.request.Request.{Request}
 use Rattle.xdlms_services.specs.Asking.{Asked, asking_at, asking_of, apdu_of}
 use Rattle.xdlms_services.specs.Reading.{request_at}
@@ -17,7 +18,6 @@ use Rattle.acse_session.specs.Solo.{Alone, AnswersAlone}
 use Rattle.line_server.specs.Asking.{Ask}
 use Rattle.line_server.specs.Answering.{Task, Answer, Take, next_by, reply_by, next_of, reply_of_ask}
 use Rattle.line_server.specs.Doing.{DoesAsked, AnswersAsk, MayAsk, FailsAsk, Does, TakesAll, StopsBehind, TakesLine}
-use Rattle.line_server.specs.Driving.{offered}
 use Rattle.line_server.specs.Lines.{Puts}
 use Rattle.line_server.specs.Running.{tasks_in}
 use Rattle.line_server.specs.Solo.{meter_after, replies_to, AnswersLine, StopsAtLine}
@@ -82,35 +82,85 @@ one_offered f x None e = rw e refl
 one_offered f x (Some y) e = rw e refl
 
 -- what is offered to the objects up to one more
-offered_up-to : (t : Moment) (objects : List Object) (i : ℕ) (o : Object) → i < length objects → o ≡ get_or objects i o
-    → filter_map (offered t) (take i objects) ++ option_to_list (offered t o) ≡ filter_map (offered t) (take (i + 1) objects)
-offered_up-to t objects i o within is =
-    let front = filter_map (offered t) (take i objects) in
-    ap (λ (l : List Step). front ++ l) (sym (one_offered (offered t) o (offered t o) refl))
-    ∙ ap (λ (x : Object). front ++ filter_map (offered t) (x ∷ [])) is
-    ∙ sym (filter_map-append (offered t) (take i objects) (get_or objects i o ∷ []))
-    ∙ ap (λ (l : List Object). filter_map (offered t) l) (sym (take_more objects i o within))
+offered_up-to : (objects : List Object) (i : ℕ) (o : Object) → i < length objects → o ≡ get_or objects i o
+    → filter_map offered (take i objects) ++ option_to_list (offered o) ≡ filter_map offered (take (i + 1) objects)
+offered_up-to objects i o within is =
+    let front = filter_map offered (take i objects) in
+    ap (λ (l : List Step). front ++ l) (sym (one_offered offered o (offered o) refl))
+    ∙ ap (λ (x : Object). front ++ filter_map offered (x ∷ [])) is
+    ∙ sym (filter_map-append offered (take i objects) (get_or objects i o ∷ []))
+    ∙ ap (λ (l : List Object). filter_map offered l) (sym (take_more objects i o within))
 
 -- the asker behind one object more
-pub offered-more : {A : Type 0} (answers : Answers A) (old mid new : A) (t : Moment) (objects : List Object) (i : ℕ) (o : Object) → i < length objects → o ≡ get_or objects i o
-    → TakesAll answers old (filter_map (offered t) (take i objects)) mid → TakesAll answers mid (option_to_list (offered t o)) new
-    → TakesAll answers old (filter_map (offered t) (take (i + 1) objects)) new
-offered-more answers old mid new t objects i o within is before after =
-    subst (λ (steps : List Step). TakesAll answers old steps new) (offered_up-to t objects i o within is)
-    (takes-append answers old mid new (filter_map (offered t) (take i objects)) (option_to_list (offered t o)) before after)
+pub offered-more : {A : Type 0} (answers : Answers A) (old mid new : A) (objects : List Object) (i : ℕ) (o : Object) → i < length objects → o ≡ get_or objects i o
+    → TakesAll answers old (filter_map offered (take i objects)) mid → TakesAll answers mid (option_to_list (offered o)) new
+    → TakesAll answers old (filter_map offered (take (i + 1) objects)) new
+offered-more answers old mid new objects i o within is before after =
+    subst (λ (steps : List Step). TakesAll answers old steps new) (offered_up-to objects i o within is)
+    (takes-append answers old mid new (filter_map offered (take i objects)) (option_to_list (offered o)) before after)
 
 -- memory was refused for an object's step
-pub offered-stops : {A : Type 0} (answers : Answers A) (old mid new : A) (t : Moment) (objects : List Object) (i : ℕ) (o : Object) → i < length objects → o ≡ get_or objects i o
-    → TakesAll answers old (filter_map (offered t) (take i objects)) mid → StopsBehind answers mid (option_to_list (offered t o)) new → StopsBehind answers old (filter_map (offered t) objects) new
-offered-stops answers old mid new t objects i o within is before stop =
-    let front = filter_map (offered t) (take i objects) in
-    let more = filter_map (offered t) (drop (i + 1) objects) in
+pub offered-stops : {A : Type 0} (answers : Answers A) (old mid new : A) (objects : List Object) (i : ℕ) (o : Object) → i < length objects → o ≡ get_or objects i o
+    → TakesAll answers old (filter_map offered (take i objects)) mid → StopsBehind answers mid (option_to_list (offered o)) new → StopsBehind answers old (filter_map offered objects) new
+offered-stops answers old mid new objects i o within is before stop =
+    let front = filter_map offered (take i objects) in
+    let more = filter_map offered (drop (i + 1) objects) in
     subst (λ (steps : List Step). StopsBehind answers old steps new)
-    (sym (append_assoc front (option_to_list (offered t o)) more)
-    ∙ ap (λ (l : List Step). l ++ more) (offered_up-to t objects i o within is)
-    ∙ sym (filter_map-append (offered t) (take (i + 1) objects) (drop (i + 1) objects))
-    ∙ ap (filter_map (offered t)) (take-append-drop (i + 1) objects))
-    (stops-push answers old mid new front (option_to_list (offered t o)) more before stop)
+    (sym (append_assoc front (option_to_list (offered o)) more)
+    ∙ ap (λ (l : List Step). l ++ more) (offered_up-to objects i o within is)
+    ∙ sym (filter_map-append offered (take (i + 1) objects) (drop (i + 1) objects))
+    ∙ ap (filter_map offered) (take-append-drop (i + 1) objects))
+    (stops-push answers old mid new front (option_to_list (offered o)) more before stop)
+
+-- ---- seconds that pass
+
+-- so many seconds, and then as many more
+ticks-split : (plan : Plan) (m n : ℕ) → tick_steps plan (m + n) ≡ tick_steps plan m ++ tick_steps plan n
+unfolding tick_steps
+ticks-split plan zero n = rw zero-add refl
+ticks-split plan (suc m) n = rw suc-add (ap (λ (l : List Step). second_steps plan ++ l) (ticks-split plan m n) ∙ sym (append_assoc (second_steps plan) (tick_steps plan m) (tick_steps plan n)))
+
+one-tick : (plan : Plan) → tick_steps plan 1 ≡ second_steps plan
+unfolding tick_steps
+one-tick plan = append-nil (second_steps plan)
+
+-- the asker behind one second more
+pub ticks-more : {A : Type 0} (answers : Answers A) (plan : Plan) (old mid new : A) (i : ℕ)
+    → TakesAll answers old (tick_steps plan i) mid → TakesAll answers mid (second_steps plan) new → TakesAll answers old (tick_steps plan (i + 1)) new
+ticks-more answers plan old mid new i before after =
+    subst (λ (steps : List Step). TakesAll answers old steps new) (ap (λ (l : List Step). tick_steps plan i ++ l) (sym (one-tick plan)) ∙ sym (ticks-split plan i 1))
+    (takes-append answers old mid new (tick_steps plan i) (second_steps plan) before after)
+
+-- memory was refused in one of the seconds
+pub ticks-stop : {A : Type 0} (answers : Answers A) (plan : Plan) (old mid new : A) (i n : ℕ) → i < n
+    → TakesAll answers old (tick_steps plan i) mid → StopsBehind answers mid (second_steps plan) new → StopsBehind answers old (tick_steps plan n) new
+ticks-stop answers plan old mid new i n within before stop =
+    let whole : i + (1 + (n - (i + 1))) ≡ n = omega arith in
+    let rest = tick_steps plan (n - (i + 1)) in
+    subst (λ (steps : List Step). StopsBehind answers old steps new)
+    (ap (λ (l : List Step). tick_steps plan i ++ (l ++ rest)) (sym (one-tick plan))
+    ∙ ap (λ (l : List Step). tick_steps plan i ++ l) (sym (ticks-split plan 1 (n - (i + 1))))
+    ∙ sym (ticks-split plan i (1 + (n - (i + 1))))
+    ∙ ap (tick_steps plan) whole)
+    (stops-push answers old mid new (tick_steps plan i) (second_steps plan) rest before stop)
+
+-- an asker that took a step takes others behind it
+pub takes-first : {A : Type 0} (answers : Answers A) (old mid new : A) (x : Step) (xs : List Step) (reply : Reply) (r : Result (Unit {0}) NoMemory) → answers old x (Ok reply) mid
+    → OnOk r (TakesAll answers mid xs new) → OnOk r (TakesAll answers old (x ∷ xs) new)
+takes-first answers old mid new x xs reply (Ok u) a t = (mid, reply, a, t)
+takes-first answers old mid new x xs reply (Err e) a t = tt
+
+-- or stops at one of these
+pub stops-later : {A : Type 0} (answers : Answers A) (old mid new : A) (x : Step) (xs : List Step) (reply : Reply) (r : Result (Unit {0}) NoMemory) → answers old x (Ok reply) mid
+    → OnErr r (StopsBehind answers mid xs new) → OnErr r (StopsBehind answers old (x ∷ xs) new)
+stops-later answers old mid new x xs reply (Ok u) a s = tt
+stops-later answers old mid new x xs reply (Err e) a s = (x ∷ s.0, s.1, s.2, s.3, s.4, ap (λ (l : List Step). x ∷ l) s.5, (mid, reply, a, s.6), s.7)
+
+-- or at the step itself
+pub stops-at : {A : Type 0} (answers : Answers A) (old new : A) (x : Step) (xs : List Step) (refused : NoMemory) (r : Result (Unit {0}) NoMemory) → answers old x (Err refused) new
+    → OnErr r (StopsBehind answers old (x ∷ xs) new)
+stops-at answers old new x xs refused (Ok u) a = tt
+stops-at answers old new x xs refused (Err e) a = ([], x, xs, old, refused, refl, (refl, refl), a)
 
 -- ---- one line
 

@@ -1,4 +1,3 @@
-pub mod Moments
 pub mod Replying
 pub mod Doing
 pub mod Breaking

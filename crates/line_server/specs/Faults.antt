@@ -20,4 +20,6 @@ reason_words reasons.Digits = codes "the client's name isn't followed by hex dig
 reason_words reasons.Name = codes "the logical name isn't six numbers from 0 to 255, joined by dots, without leading zeros"
 reason_words reasons.Value = codes "the value isn't the hex text of one Data with nothing behind it"
 reason_words reasons.Moment = codes "the moment isn't YYYY-MM-DDTHH:MM:SS in the years 2000 to 9999, or the calendar hasn't it"
+reason_words reasons.Clock = codes "the configuration has a clock object: `at` sets the time of a meter without one alone"
+reason_words reasons.Seconds = codes "the seconds aren't a number from 1 to 3600, without leading zeros"
 reason_words reasons.Return = codes "the byte 0D stands at its end: lines end with a newline alone"

@@ -7,9 +7,9 @@ use Rattle.meter_theory.specs.Replies.{replies}
 use Rattle.meter_theory.specs.Steps as steps
 use Rattle.cosem_data.specs.View.{tree}
 use Rattle.line_server.specs.Answering.{Task, Answer, Take, steps_of, apdus_of}
-use Rattle.line_server.specs.Driving.{moment_steps}
+use Rattle.meter_core.specs.Moments.{moment_steps, tick_steps}
 use Rattle.line_server.specs.declared.line.Line.{Line as LineValue}
-use Rattle.line_server.specs.declared.line.Line.TheVariants.{Skipped, Ask, Input, Evaluate, At, Unreadable}
+use Rattle.line_server.specs.declared.line.Line.TheVariants.{Skipped, Ask, Input, Evaluate, At, Ticks, Unreadable}
 use Rattle.line_server.specs.declared.reason.Reason.{Reason}
 use Rattle.line_server.specs.declared.running.LineFault.{LineFault}
 use Rattle.line_server.specs.declared.running.LineFault.TheVariants.{Read, Write, Line, Memory}
@@ -22,13 +22,14 @@ IsReadable plan line = (why : Reason) → line_of plan line ≢ Unreadable why
 
 -- A run
 
--- what a line gives the meter to do, in order: an APDU is answered; an input, an evaluation and what a moment offers are steps of the meter's own (own profile)
+-- what a line gives the meter to do, in order: an APDU is answered; an input, an evaluation, and what a moment or seconds that pass offer are steps of the meter's own (own profile)
 abbrev pub tasks_in : Plan → LineValue → List Task
 tasks_in plan Skipped = []
 tasks_in plan (Ask ask) = Answer ask ∷ []
 tasks_in plan (Input cell value) = Take (steps.Input cell (tree value)) ∷ []
 tasks_in plan (Evaluate monitor) = Take (steps.Evaluate monitor) ∷ []
 tasks_in plan (At moment) = map Take (moment_steps plan moment)
+tasks_in plan (Ticks seconds) = map Take (tick_steps plan seconds)
 tasks_in plan (Unreadable why) = []
 
 -- what the lines give it to do, in order (own profile)

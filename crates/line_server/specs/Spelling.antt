@@ -1,5 +1,5 @@
 -- What a line says, and what is written.
-use Rattle.std.specs.Prelude.{ℕ, ◌+◌, ◌-◌, ◌%◌, ◌==◌, Bool, true, false, List, [], ◌∷◌, ◌++◌, length, take, drop, codes, position, slice_get, Option, Some, None, if◌then◌else◌}
+use Rattle.std.specs.Prelude.{ℕ, ◌+◌, ◌-◌, ◌%◌, ◌==◌, Bool, ◌&&◌, true, false, List, [], ◌∷◌, ◌++◌, length, take, drop, codes, position, slice_get, Option, Some, None, if◌then◌else◌}
 use Rattle.std.specs.Fmt.{decimal}
 use Rattle.std.specs.Option.{option_map_or}
 use Rattle.std.specs.Str.{bytes_eq}
@@ -9,12 +9,13 @@ use Rattle.cosem_data.specs.View.{data_of}
 use Rattle.cosem_data.specs.Cells.{cell}
 use Rattle.cosem_data.specs.declared.name.LogicalName.{LogicalName}
 use Rattle.cosem_data.specs.declared.cell.CellRef.{CellRef}
-use Rattle.meter_theory.specs.Plan.{Plan, Object, class_of, client_named, object_at}
+use Rattle.meter_theory.specs.Plan.{Plan, Object, class_of, client_named, clock_object, object_at}
 use Rattle.meter_theory.specs.Times.{Moment}
 use Rattle.value_text.specs.Texts.{name_in, bytes_in, value_in}
-use Rattle.line_server.specs.Words.{moment_in}
+use Rattle.civil_moment.specs.MomentText.{moment_in}
+use Rattle.line_server.specs.Words.{seconds_in}
 use Rattle.line_server.specs.declared.line.Line.{Line}
-use Rattle.line_server.specs.declared.line.Line.TheVariants.{Skipped, Ask, Input, Evaluate, At, Unreadable}
+use Rattle.line_server.specs.declared.line.Line.TheVariants.{Skipped, Ask, Input, Evaluate, At, Ticks, Unreadable}
 use Rattle.line_server.specs.declared.reason.Reason.{Reason}
 use Rattle.line_server.specs.declared.reason.Reason.TheVariants as reasons
 
@@ -48,6 +49,20 @@ abbrev pub moment_of : Option Moment → Line
 moment_of None = Unreadable reasons.Moment
 moment_of (Some moment) = At moment
 
+-- `at` sets the clock of a meter that has no clock object, and of no other (own profile)
+abbrev pub moment_at : Option Object → Option Moment → Line
+moment_at None moment = moment_of moment
+moment_at (Some clock) moment = Unreadable reasons.Clock
+
+-- what follows `tick`: how many seconds pass (own profile)
+abbrev pub ticks_of : Option ℕ → Line
+ticks_of None = Unreadable reasons.Seconds
+ticks_of (Some seconds) = Ticks seconds
+
+-- `tick` begins a step over a plan of version 2; before, it may be a client's name (own profile)
+abbrev pub begins_ticks : Plan → List ℕ → Bool
+begins_ticks plan word = bytes_eq word (codes "tick") && (plan.version == 2)
+
 -- why hex digits are none: they are odd in number, or one is no hex digit (own profile)
 abbrev pub digits_fault : List ℕ → Reason
 digits_fault text = if length text % 2 == 1 then reasons.OddDigits else reasons.Digits
@@ -66,12 +81,13 @@ asked_by (Some client) text = option_map_or (ask_of client) (bytes_in text) (Unr
 abbrev pub first_space : List ℕ → Option ℕ
 first_space text = position (λ c. c == 32) text
 
--- the first word and what follows it: `in NAME HEX`, `eval NAME`, `at MOMENT`, else `CLIENT HEX` (own profile)
+-- the first word and what follows it: `in NAME HEX`, `eval NAME`, `at MOMENT`, `tick N`, else `CLIENT HEX` (own profile)
 abbrev pub said_by : Plan → List ℕ → List ℕ → Line
 said_by plan word text =
     if bytes_eq word (codes "in") then input_at plan text (first_space text)
     else if bytes_eq word (codes "eval") then evaluation_of (name_in text)
-    else if bytes_eq word (codes "at") then moment_of (moment_in text)
+    else if bytes_eq word (codes "at") then moment_at (clock_object plan) (moment_in text)
+    else if begins_ticks plan word then ticks_of (seconds_in text)
     else asked_by (client_named plan word) text
 
 -- the first word, the space at this place, and what follows (own profile)

@@ -1,22 +1,20 @@
 //! The steps that a meter takes by itself.
-ghost use Rattle.std.specs.Prelude.{◌≡◌, option_map, option_to_list, OnOk, OnErr};
-ghost use Rattle.meter_core.specs.StepView.{step_of};
-ghost use Rattle.line_server.specs.Driving as spec;
-ghost use Rattle.line_server.specs.Driving.{moment_steps};
+ghost use Rattle.std.specs.Prelude.{◌≡◌, option_to_list, OnOk, OnErr};
 ghost use Rattle.line_server.specs.Doing.{TakesAll, StopsBehind};
+ghost use Rattle.meter_core.specs.Moments as spec;
+ghost use Rattle.meter_core.specs.Moments.{driven, moment_steps, second_steps, tick_steps};
 
 use acse_session::asker::Asker;
 use civil_moment::moment::Moment;
 use cosem_data::memory::Memory;
+use meter_core::moments::offered;
 use meter_core::step::Step;
 use object_model::object::Object;
-use object_model::part::Part;
 use object_model::plan::Plan;
 use std::alloc::Global;
 
-/// The asker takes the steps that a moment offers, object by object in plan order: a profile captures if its period is over,
-/// a register monitor is evaluated, and a single action schedule runs its script if the moment is one of its times (own
-/// profile). The error is that memory was refused for one of them, and then those before it were taken.
+/// The asker takes the steps of a moment: the clock is set to it, and each object is offered its step (own profile). The error is
+/// that memory was refused for one of them, and then those before it were taken.
 pub fn take_moment<A: Asker>(
     alloc: Global,
     plan: &Plan,
@@ -26,43 +24,56 @@ pub fn take_moment<A: Asker>(
     ensures taken { OnOk result (TakesAll A.answers asker.old (moment_steps plan.now moment) asker.new) }
     ensures err { OnErr result (StopsBehind A.answers asker.old (moment_steps plan.now moment) asker.new) }
 {
-    for object in plan.objects() {
-        take_offered(alloc, asker, object, moment)?;
+    asker.ask(alloc, Step::ClockAt { moment })?;
+    take_driven(alloc, plan, asker)
+}
+
+/// The asker takes the steps of so many seconds, one after another: the clock ticks, and each object is offered its step (own
+/// profile). The error is that memory was refused for one of them, and then those before it were taken.
+pub fn take_ticks<A: Asker>(
+    alloc: Global,
+    plan: &Plan,
+    asker: &mut A,
+    seconds: u16,
+) -> Result<(), Memory>
+    ensures taken { OnOk result (TakesAll A.answers asker.old (tick_steps plan.now seconds) asker.new) }
+    ensures err { OnErr result (StopsBehind A.answers asker.old (tick_steps plan.now seconds) asker.new) }
+{
+    for _second in 0..seconds {
+        take_second(alloc, plan, asker)?;
     }
     Ok(())
 }
 
-/// The asker takes the step that a moment offers to an object, if there is one.
-fn take_offered<A: Asker>(
-    alloc: Global,
-    asker: &mut A,
-    object: &Object,
-    moment: Moment,
-) -> Result<(), Memory>
-    ensures taken { OnOk result (TakesAll A.answers asker.old (option_to_list (spec.offered moment object.now)) asker.new) }
-    ensures err { OnErr result (StopsBehind A.answers asker.old (option_to_list (spec.offered moment object.now)) asker.new) }
+/// The asker takes the steps of a second: the clock ticks, and each object is offered its step (own profile). The error is that
+/// memory was refused for one of them, and then those before it were taken.
+fn take_second<A: Asker>(alloc: Global, plan: &Plan, asker: &mut A) -> Result<(), Memory>
+    ensures taken { OnOk result (TakesAll A.answers asker.old (second_steps plan.now) asker.new) }
+    ensures err { OnErr result (StopsBehind A.answers asker.old (second_steps plan.now) asker.new) }
 {
-    if let Some(step) = offered(object, moment) {
+    asker.ask(alloc, Step::Tick)?;
+    take_driven(alloc, plan, asker)
+}
+
+/// The asker takes the steps that are offered when the clock has moved, object by object in plan order. The error is that memory
+/// was refused for one of them, and then those before it were taken.
+fn take_driven<A: Asker>(alloc: Global, plan: &Plan, asker: &mut A) -> Result<(), Memory>
+    ensures taken { OnOk result (TakesAll A.answers asker.old (driven plan.now) asker.new) }
+    ensures err { OnErr result (StopsBehind A.answers asker.old (driven plan.now) asker.new) }
+{
+    for object in plan.objects() {
+        take_offered(alloc, asker, object)?;
+    }
+    Ok(())
+}
+
+/// The asker takes the step that is offered to an object, if there is one.
+fn take_offered<A: Asker>(alloc: Global, asker: &mut A, object: &Object) -> Result<(), Memory>
+    ensures taken { OnOk result (TakesAll A.answers asker.old (option_to_list (spec.offered object.now)) asker.new) }
+    ensures err { OnErr result (StopsBehind A.answers asker.old (option_to_list (spec.offered object.now)) asker.new) }
+{
+    if let Some(step) = offered(object) {
         asker.ask(alloc, step)?;
     }
     Ok(())
-}
-
-/// The step that a moment offers to an object, if there is one.
-pub fn offered(object: &Object, moment: Moment) -> Option<Step>
-    ensures { option_map step_of result ≡ spec.offered moment object.now }
-{
-    let name = object.name();
-    match object.part() {
-        Part::ProfileGeneric(_) => Some(Step::CaptureAt {
-            profile: name,
-            moment,
-        }),
-        Part::RegisterMonitor(_) => Some(Step::Evaluate { monitor: name }),
-        Part::SingleActionSchedule(_) => Some(Step::ScheduleAt {
-            schedule: name,
-            moment,
-        }),
-        Part::Data(_) | Part::Register(_) | Part::ScriptTable(_) => None,
-    }
 }

@@ -2,9 +2,10 @@ ghost use Rattle.std.specs.Prelude.{◌≡◌, ◌<◌, ℕ, List, IfOk, IfSome,
 ghost use Rattle.std.specs.Result.{result_ok};
 ghost use Rattle.hex.specs.Hex.{decode_of};
 ghost use Rattle.cosem_data.specs.View.{tree};
-ghost use Rattle.meter_theory.specs.Plan.{object_at};
+ghost use Rattle.meter_theory.specs.Plan.{clock_object, object_at};
 ghost use Rattle.line_server.specs.Spelling as spec;
 ghost use Rattle.line_server.specs.Spelling.{line_of};
+ghost use Rattle.civil_moment.specs.MomentText as moments;
 ghost use Rattle.line_server.specs.Words as words;
 
 use crate::answering::Ask;
@@ -14,10 +15,12 @@ use cosem_data::cell::CellRef;
 use cosem_data::data::Data;
 use cosem_data::memory::Memory;
 use cosem_data::name::LogicalName;
+use meter_theory::limits::TICK_SECONDS;
 use object_model::plan::Plan;
 use std::alloc::Global;
 use value_text::name::name_in;
 use value_text::value::value_in;
+use value_words::numbers::number_in;
 
 /// What a line says.
 #[derive(Debug, Drop)]
@@ -30,8 +33,10 @@ pub enum Line<'a> {
     Input { cell: CellRef, value: Data },
     /// `eval NAME`: the register monitor with this name is evaluated.
     Evaluate(LogicalName),
-    /// `at MOMENT`: the moment is offered to each object.
+    /// `at MOMENT`: the clock of a meter without a clock object is set to the moment, and each object is offered its step.
     At(Moment),
+    /// `tick N`: so many seconds pass, 1 to 3600, and at each of them each object is offered its step.
+    Ticks(u16),
     /// Anything else, and why.
     Unreadable(Reason),
 }
@@ -42,12 +47,14 @@ const RETURN: u8 = b'\r';
 
 const SPACE: u8 = b' ';
 
-/// The words that begin a step of the meter itself. No client has such a name.
+/// The words that begin a step of the meter itself. No client has such a name, but for `tick` in version 1.
 const INPUT: &[u8] = b"in";
 
 const EVALUATE: &[u8] = b"eval";
 
 const AT: &[u8] = b"at";
+
+const TICK: &[u8] = b"tick";
 
 /// What a line says; the byte that ends it is no part of it. An APDU is decoded into the room, whatever it holds. The only
 /// error is want of memory.
@@ -129,7 +136,9 @@ fn said_by<'a>(
     } else if word == EVALUATE {
         Ok(evaluation_of(name_in(text)))
     } else if word == AT {
-        Ok(moment_of(moment_in(text)))
+        Ok(moment_at(plan, moment_in(text)))
+    } else if begins_ticks(plan, word) {
+        Ok(ticks_of(seconds_in(text)))
     } else {
         asked_by(plan.client_named(word), text, room)
     }
@@ -195,7 +204,7 @@ fn evaluation_of(name: Option<LogicalName>) -> Line<'static>
 
 /// The moment that a word is, written YYYY-MM-DDTHH:MM:SS, if it is one.
 fn moment_in(word: &[u8]) -> Option<Moment>
-    ensures { result ≡ words.moment_in word.now }
+    ensures { result ≡ moments.moment_in word.now }
 {
     Moment::read_bytes(word).ok()
 }
@@ -207,6 +216,45 @@ fn moment_of(moment: Option<Moment>) -> Line<'static>
     match moment {
         Some(moment) => Line::At(moment),
         None => Line::Unreadable(Reason::Moment),
+    }
+}
+
+/// What is said by a moment, if it is there, over this plan.
+fn moment_at(plan: &Plan, moment: Option<Moment>) -> Line<'static>
+    ensures { result ≡ spec.moment_at (clock_object plan.now) moment }
+{
+    match plan.clock() {
+        None => moment_of(moment),
+        Some(_) => Line::Unreadable(Reason::Clock),
+    }
+}
+
+/// Whether the word begins a line of seconds that pass, over this plan.
+fn begins_ticks(plan: &Plan, word: &[u8]) -> bool
+    ensures { result ≡ spec.begins_ticks plan.now word.now }
+{
+    word == TICK && plan.version() == 2
+}
+
+/// How many seconds a text lets pass, if it is a number from 1 to 3600.
+fn seconds_in(text: &[u8]) -> Option<u16>
+    ensures { result ≡ words.seconds_in text.now }
+{
+    let seconds = number_in(u64::from(TICK_SECONDS), text)?;
+    if seconds >= 1 {
+        Some(seconds as u16)
+    } else {
+        None
+    }
+}
+
+/// What is said by a number of seconds, if it is there.
+fn ticks_of(seconds: Option<u16>) -> Line<'static>
+    ensures { result ≡ spec.ticks_of seconds }
+{
+    match seconds {
+        Some(seconds) => Line::Ticks(seconds),
+        None => Line::Unreadable(Reason::Seconds),
     }
 }
 

@@ -19,6 +19,10 @@ pub enum Reason {
     Value,
     /// The moment isn't one of the calendar in the years 2000 to 9999, or not of its form.
     Moment,
+    /// `at` over a plan with a clock object, which its own clients set.
+    Clock,
+    /// What follows `tick` is no number from 1 to 3600.
+    Seconds,
     /// The byte 0D ends it.
     Return,
 }
@@ -46,6 +50,10 @@ impl fmt::Display for Reason {
             Reason::Moment => {
                 "the moment isn't YYYY-MM-DDTHH:MM:SS in the years 2000 to 9999, or the calendar hasn't it"
             }
+            Reason::Clock => {
+                "the configuration has a clock object: `at` sets the time of a meter without one alone"
+            }
+            Reason::Seconds => "the seconds aren't a number from 1 to 3600, without leading zeros",
             Reason::Return => "the byte 0D stands at its end: lines end with a newline alone",
         })
     }

@@ -9,7 +9,7 @@ ghost use Rattle.line_server.specs.Running.{RunsLines, IsFirstBad, IsAllReadable
 ghost use Rattle.line_server.specs.Spelling.{reply_text};
 
 use crate::answering::{Ask, answer};
-use crate::driving::take_moment;
+use crate::driving::{take_moment, take_ticks};
 use crate::line::{Line, read_line};
 use crate::lines::{AnswersLines, answer_lines};
 use crate::reason::Reason;
@@ -183,6 +183,11 @@ fn take_line<A: Asker>(
                 return Err(LineFault::Memory);
             };
         }
+        Line::Ticks(seconds) => {
+            let Ok(()) = take_ticks(alloc, plan, asker, seconds) else {
+                return Err(LineFault::Memory);
+            };
+        }
         Line::Unreadable(why) => {
             let Ok(()) = put_unreadable(alloc, number, waiting) else {
                 return Err(LineFault::Memory);
@@ -215,8 +220,9 @@ fn answer_ask<A: Asker>(
 /// A line ends with a newline, and the last one may end with the input. `CLIENT HEX` is an APDU of the
 /// client with this name; what the meter replies is written as upper case hex in a line of its own.
 /// `in NAME HEX` is a value that comes from outside to the object with this name, `eval NAME` the
-/// evaluation of a register monitor, and `at MOMENT` a moment, which is offered to each object in plan
-/// order; nothing is written of these. An empty line and one that begins with `#` are skipped. Any
+/// evaluation of a register monitor. `at MOMENT` sets the clock of a meter without a clock object, `tick N` lets
+/// so many seconds pass over a configuration of version 2; whenever the clock has moved each object is offered its
+/// step, in plan order. Nothing is written of these. An empty line and one that begins with `#` are skipped. Any
 /// other line is told by `line N: unreadable`, and ends the run with `LineFault::Line`, which says why.
 ///
 /// One line and one reply are in memory at a time, and the texts that wait to be written: they are written before each

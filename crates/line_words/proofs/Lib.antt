@@ -1,4 +1,4 @@
 mod Looking
 mod Rows
-mod States
+pub mod States
 mod Told

@@ -14,7 +14,7 @@ use Rattle.meter_theory.specs.Plan.{Plan, cells}
 use Rattle.meter_theory.specs.Sound.{IsSound}
 use Rattle.meter_theory.specs.State.{State, keys, value}
 use Rattle.object_model.proofs.Numbers.{cells-apart}
-use Rattle.line_words.specs.Changes.{change_of, change_lines}
+use Rattle.line_words.specs.Changes.{change_of, change_lines, told_part}
 
 -- equal cells stand at one place
 abbrev AreApart : List CellRef → Type 0
@@ -65,38 +65,45 @@ valued-again : (s t : State) → map (λ e. (e.0, value t e.0)) s ≡ valued t (
 valued-again [] t = refl
 valued-again (e ∷ s) t = ap (λ ys. (e.0, value t e.0) ∷ ys) (valued-again s t)
 
--- a state whose cells are given their values in another is that other
-renewed : (P : Plan) (before after : State) → IsSound P → keys before ≡ cells P → keys after ≡ cells P → map (λ e. (e.0, value after e.0)) before ≡ after
-renewed P before after sound k m = valued-again before after ∙ ap (valued after) k ∙ valued-cells P after sound m
+-- cells that are given their values in another state are its told part
+renewed : (P : Plan) (before after : State) → keys before ≡ cells P → map (λ e. (e.0, value after e.0)) before ≡ told_part P after
+renewed P before after k = valued-again before after ∙ ap (valued after) k
 
 -- the lines of changes, by what a list of cells and values held before
-lines-along : (P : Plan) (before after : State) → IsSound P → keys before ≡ cells P → keys after ≡ cells P →
-    flat_map (λ e. change_of e.0 e.1 (value after e.0)) before ≡ change_lines before after
+lines-along : (P : Plan) (before after : State) → IsSound P → keys before ≡ cells P →
+    flat_map (λ e. change_of e.0 e.1 (value after e.0)) before ≡ change_lines before (told_part P after)
 unfolding change_lines
-lines-along P before after sound k m =
+lines-along P before after sound k =
     ap (flat_map (λ e. change_of e.0 e.1 (value after e.0))) (sym (valued-cells P before sound k))
     ∙ flat_map-map (λ e. change_of e.0 e.1 (value after e.0)) (λ x. (x, value before x)) (cells P)
     ∙ sym (flat_map-map (λ e. change_of e.0 (value before e.0) e.1) (λ x. (x, value after x)) (cells P))
-    ∙ ap (flat_map (λ e. change_of e.0 (value before e.0) e.1)) (valued-cells P after sound m)
 
 -- the cells of a plan with their values, when each has been read
-pub all-valued : (P : Plan) (s kept : State) (xs : List CellRef) (i : ℕ) → IsSound P → keys s ≡ cells P → xs ≡ cells P → length xs ≤ i → kept ≡ valued s (take i xs) → kept ≡ s
-all-valued P s kept xs i sound k all past read = read ∙ ap (valued s) (take_all i xs past ∙ all) ∙ valued-cells P s sound k
+pub all-valued : (P : Plan) (s kept : State) (xs : List CellRef) (i : ℕ) → xs ≡ cells P → length xs ≤ i → kept ≡ valued s (take i xs) → kept ≡ told_part P s
+all-valued P s kept xs i all past read = read ∙ ap (valued s) (take_all i xs past ∙ all)
+
+-- the told part has the cells of the plan
+keys-valued : (s : State) (xs : List CellRef) → keys (valued s xs) ≡ xs
+keys-valued s [] = refl
+keys-valued s (x ∷ xs) = ap (λ ys. x ∷ ys) (keys-valued s xs)
+
+pub told_cells : (P : Plan) (s : State) → keys (told_part P s) ≡ cells P
+told_cells P s = keys-valued s (cells P)
 
 -- a cell whose value is the one that was kept
 pub unchanged : (e : CellRef × Tree) (v : Tree) → true ≡ same_tree e.1 v → e ≡ (e.0, v)
 unchanged e v h = ap (λ w. (e.0, w)) (same_tree-true e.1 v (sym h))
 
 -- the cells that were kept, as they lie in memory, have all been looked at: the lines that were put behind none
-pub lines-looked : (P : Plan) (held items before after : State) (first lines : List ℕ) → IsSound P → keys before ≡ cells P → keys after ≡ cells P →
-    held ≡ items → items ≡ before → first ≡ [] → lines ≡ first ++ flat_map (λ e. change_of e.0 e.1 (value after e.0)) held → lines ≡ change_lines before after
-lines-looked P held items before after first lines sound k m here viewed none told =
+pub lines-looked : (P : Plan) (held items before after : State) (first lines : List ℕ) → IsSound P → keys before ≡ cells P →
+    held ≡ items → items ≡ before → first ≡ [] → lines ≡ first ++ flat_map (λ e. change_of e.0 e.1 (value after e.0)) held → lines ≡ change_lines before (told_part P after)
+lines-looked P held items before after first lines sound k here viewed none told =
     told ∙ ap (λ l. l ++ flat_map (λ e. change_of e.0 e.1 (value after e.0)) held) none
-    ∙ ap (flat_map (λ e. change_of e.0 e.1 (value after e.0))) (here ∙ viewed) ∙ lines-along P before after sound k m
+    ∙ ap (flat_map (λ e. change_of e.0 e.1 (value after e.0))) (here ∙ viewed) ∙ lines-along P before after sound k
 
 -- and what is kept then
-pub kept-looked : (P : Plan) (held items before after now : State) (n : ℕ) → IsSound P → keys before ≡ cells P → keys after ≡ cells P →
-    held ≡ items → items ≡ before → length now ≡ length held → length held ≡ n → now ≡ map (λ e. (e.0, value after e.0)) held → take n (now ++ drop (length now) items) ≡ after
-kept-looked P held items before after now n sound k m here viewed long all kept =
+pub kept-looked : (P : Plan) (held items before after now : State) (n : ℕ) → keys before ≡ cells P →
+    held ≡ items → items ≡ before → length now ≡ length held → length held ≡ n → now ≡ map (λ e. (e.0, value after e.0)) held → take n (now ++ drop (length now) items) ≡ told_part P after
+kept-looked P held items before after now n k here viewed long all kept =
     take_at now (drop (length now) items) n (omega (arith, long, all))
-    ∙ kept ∙ ap (map (λ e. (e.0, value after e.0))) (here ∙ viewed) ∙ renewed P before after sound k m
+    ∙ kept ∙ ap (map (λ e. (e.0, value after e.0))) (here ∙ viewed) ∙ renewed P before after k

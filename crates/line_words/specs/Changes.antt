@@ -1,11 +1,16 @@
 -- What changed in a meter, in words: a line for each cell that holds another value than before (own profile). Texts are lists of bytes.
-use Rattle.std.specs.Prelude.{ℕ, List, [], ◌∷◌, ◌++◌, codes, flat_map, if◌then◌else◌}
+use Rattle.std.specs.Prelude.{ℕ, List, [], ◌∷◌, ◌++◌, codes, flat_map, map, if◌then◌else◌}
 use Rattle.cosem_data.specs.Tree.{Tree}
 use Rattle.cosem_data.specs.Equal.{same_tree}
 use Rattle.cosem_data.specs.declared.cell.CellRef.{CellRef}
+use Rattle.meter_theory.specs.Plan.{Plan, cells}
 use Rattle.meter_theory.specs.State.{State, value}
 use Rattle.value_text.specs.Texts.{cell_text}
 use Rattle.value_words.specs.Words.{value_words}
+
+-- the cells of a plan with their values in a state: what is told of it. An inner clock isn't among them (own profile)
+abbrev pub told_part : Plan → State → State
+told_part P s = map (λ x. (x, value s x)) (cells P)
 
 -- `  CELL is now VALUE` (own profile)
 unfoldable pub change_line : CellRef → Tree → List ℕ

@@ -6,6 +6,7 @@ ghost use Rattle.meter_theory.specs.State.{keys};
 ghost use Rattle.meter_theory.specs.States.{IsState};
 ghost use Rattle.step_words.specs.StepLines.{decoded_step};
 ghost use Rattle.step_words.specs.Texts.{decoded};
+ghost use Rattle.line_words.specs.Changes.{told_part};
 ghost use Rattle.line_words.specs.Telling.{answered_text, line_text, or_nothing, told_text, told_with};
 
 use crate::watch::Watch;
@@ -120,8 +121,8 @@ pub fn push_told(
 ) -> Result<(), Memory>
     requires of_plan { IsState plan.now meter.now }
     requires watched { keys watch.old ≡ cells plan.now }
-    ensures told { OnOk result (text.new.items ≡ text.old.items ++ told_text answered.entry.number (decoded_step answered.entry.line.now) answered.entry.reply.now watch.old meter.now) }
-    ensures kept { OnOk result (watch.new ≡ meter.now) }
+    ensures told { OnOk result (text.new.items ≡ text.old.items ++ told_text answered.entry.number (decoded_step answered.entry.line.now) answered.entry.reply.now watch.old (told_part plan.now meter.now)) }
+    ensures kept { OnOk result (watch.new ≡ told_part plan.now meter.now) }
     ensures err { OnErr result (text.new.items ≡ text.old.items) }
 {
     let changes = watch.changes(alloc, plan, meter)?;

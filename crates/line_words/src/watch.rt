@@ -5,7 +5,7 @@ ghost use Rattle.cosem_data.specs.Equal.{same_tree};
 ghost use Rattle.meter_theory.specs.Plan.{cells};
 ghost use Rattle.meter_theory.specs.State.{keys, value};
 ghost use Rattle.meter_theory.specs.States.{IsState};
-ghost use Rattle.line_words.specs.Changes.{change_line, change_lines, change_of};
+ghost use Rattle.line_words.specs.Changes.{change_line, change_lines, change_of, told_part};
 
 use crate::held::is_held;
 use cosem_data::cell::CellRef;
@@ -41,7 +41,8 @@ impl Model for Kept {
     ghost view = { λ k. (k.cell, tree k.value) };
 }
 
-/// What the cells of a meter held when they were looked at last. Contracts see the state: a value for each cell, in plan order.
+/// What the cells of a meter held when they were looked at last. Contracts see the part of the state that is told: a value for
+/// each cell of the plan, in plan order. An inner clock isn't watched (own profile).
 #[derive(Drop)]
 pub struct Watch {
     kept: Vec<Kept>,
@@ -65,9 +66,8 @@ impl Watch {
     /// `Memory` where memory is refused.
     pub fn new(alloc: Global, plan: &Plan, meter: &Meter) -> Result<Watch, Memory>
         requires { IsState plan.now meter.now }
-        ensures { IfOk result (λ watch. watch ≡ meter.now) }
+        ensures { IfOk result (λ watch. watch ≡ told_part plan.now meter.now) }
     {
-        plan.known();
         let cells = plan.cells(alloc)?;
         let mut kept = Vec::with_capacity(alloc, cells.len())?;
         for cell in &cells {
@@ -88,8 +88,8 @@ impl Watch {
     ) -> Result<Vec<u8>, Memory>
         requires of_plan { IsState plan.now meter.now }
         requires watched { keys self.old ≡ cells plan.now }
-        ensures told { IfOk result (λ lines. lines.items ≡ change_lines self.old meter.now) }
-        ensures kept { OnOk result (self.new ≡ meter.now) }
+        ensures told { IfOk result (λ lines. lines.items ≡ change_lines self.old (told_part plan.now meter.now)) }
+        ensures kept { OnOk result (self.new ≡ told_part plan.now meter.now) }
     {
         plan.known();
         let mut lines = Vec::new(alloc);

@@ -4,7 +4,7 @@ use Rattle.std.specs.Prelude.{MatchBool, Some, Ok}
 use mathlib.Core.List.{IsPrefix}
 use Rattle.meter_theory.specs.Plan.{Plan, start}
 use Rattle.meter_theory.specs.Replies.{Reply, reply_to, run}
-use Rattle.meter_theory.specs.Steps.{Step, Get, Set, Act, Input, CaptureAt, Evaluate, ScheduleAt}
+use Rattle.meter_theory.specs.Steps.{Step, Get, Set, Act, Input, CaptureAt, Evaluate, ScheduleAt, Tick, ClockAt}
 use Rattle.meter_live.proofs.Fronts.{prefix_self}
 use Rattle.meter_live.specs.Changes.{Answers, changes_of, is_get}
 use Rattle.meter_live.specs.Tally.{Tally, HasSeen, counted}
@@ -18,9 +18,11 @@ answers-read P old new t t' (Get c d selection) reply get later is same seen = (
 answers-read P old new t t' (Set c d selected v) reply get later is same seen = absurd (cc get)
 answers-read P old new t t' (Act c d argument) reply get later is same seen = absurd (cc get)
 answers-read P old new t t' (Input x v) reply get later is same seen = absurd (cc get)
-answers-read P old new t t' (CaptureAt n m) reply get later is same seen = absurd (cc get)
+answers-read P old new t t' (CaptureAt n) reply get later is same seen = absurd (cc get)
 answers-read P old new t t' (Evaluate n) reply get later is same seen = absurd (cc get)
-answers-read P old new t t' (ScheduleAt n m) reply get later is same seen = absurd (cc get)
+answers-read P old new t t' (ScheduleAt n) reply get later is same seen = absurd (cc get)
+answers-read P old new t t' Tick reply get later is same seen = absurd (cc get)
+answers-read P old new t t' (ClockAt m) reply get later is same seen = absurd (cc get)
 
 -- any other step, which is taken under the lock
 pub answers-put : (P : Plan) (old new : List Step) (t t' : Tally) (step : Step) (reply : Reply) → is_get step ≡ false → IsPrefix old new
@@ -30,9 +32,11 @@ answers-put P old new t t' (Get c d selection) reply other later is counts = abs
 answers-put P old new t t' (Set c d selected v) reply other later is counts = (later, (is, counts))
 answers-put P old new t t' (Act c d argument) reply other later is counts = (later, (is, counts))
 answers-put P old new t t' (Input x v) reply other later is counts = (later, (is, counts))
-answers-put P old new t t' (CaptureAt n m) reply other later is counts = (later, (is, counts))
+answers-put P old new t t' (CaptureAt n) reply other later is counts = (later, (is, counts))
 answers-put P old new t t' (Evaluate n) reply other later is counts = (later, (is, counts))
-answers-put P old new t t' (ScheduleAt n m) reply other later is counts = (later, (is, counts))
+answers-put P old new t t' (ScheduleAt n) reply other later is counts = (later, (is, counts))
+answers-put P old new t t' Tick reply other later is counts = (later, (is, counts))
+answers-put P old new t t' (ClockAt m) reply other later is counts = (later, (is, counts))
 
 -- the reader has seen on, whether it was told or not
 pub told-later : (A : Type 0) (told : Bool) (old new : List Step) → MatchBool told (IsPrefix old new × A) (new ≡ old) → IsPrefix old new

@@ -48,10 +48,10 @@ selection_sync : IsSync (Tuple (u8 ∷ arguments.the_row ∷ []))
 selection_sync = declared_sync (tuple_type (u8 ∷ arguments.the_row ∷ [])) (as_row_sync (row_field u8) (search sendable), (as_row_sync (row_field arguments.the_row) argument_sync, tt))
 
 pub step_send : IsSend steps.the_row
-step_send = variants_send steps.enum ((search sendable depth 12, (search sendable depth 12, (search (selection_send, sendable) depth 12, tt))), ((search sendable depth 12, (search sendable depth 12, (search sendable depth 12, (argument_send, tt)))), ((search sendable depth 12, (search sendable depth 12, (argument_send, tt))), ((cell_send, (data_send, tt)), ((search sendable depth 12, (search sendable depth 12, tt)), ((search sendable depth 12, tt), ((search sendable depth 12, (search sendable depth 12, tt)), tt)))))))
+step_send = variants_send steps.enum ((search sendable depth 12, (search sendable depth 12, (search (selection_send, sendable) depth 12, tt))), ((search sendable depth 12, (search sendable depth 12, (search sendable depth 12, (argument_send, tt)))), ((search sendable depth 12, (search sendable depth 12, (argument_send, tt))), ((cell_send, (data_send, tt)), ((search sendable depth 12, tt), ((search sendable depth 12, tt), ((search sendable depth 12, tt), (tt, ((search sendable depth 12, tt), tt)))))))))
 
 step_sync : IsSync steps.the_row
-step_sync = variants_sync steps.enum ((search sendable depth 12, (search sendable depth 12, (search (selection_sync, sendable) depth 12, tt))), ((search sendable depth 12, (search sendable depth 12, (search sendable depth 12, (argument_sync, tt)))), ((search sendable depth 12, (search sendable depth 12, (argument_sync, tt))), ((cell_sync, (data_sync, tt)), ((search sendable depth 12, (search sendable depth 12, tt)), ((search sendable depth 12, tt), ((search sendable depth 12, (search sendable depth 12, tt)), tt)))))))
+step_sync = variants_sync steps.enum ((search sendable depth 12, (search sendable depth 12, (search (selection_sync, sendable) depth 12, tt))), ((search sendable depth 12, (search sendable depth 12, (search sendable depth 12, (argument_sync, tt)))), ((search sendable depth 12, (search sendable depth 12, (argument_sync, tt))), ((cell_sync, (data_sync, tt)), ((search sendable depth 12, tt), ((search sendable depth 12, tt), ((search sendable depth 12, tt), (tt, ((search sendable depth 12, tt), tt)))))))))
 
 pub reply_send : IsSend replies.the_row
 reply_send = variants_send replies.enum ((data_send, tt), ((search sendable depth 12, tt), (tt, tt)))

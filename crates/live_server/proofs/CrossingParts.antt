@@ -18,7 +18,10 @@ use Rattle.cosem_class.specs.contracts.register.RegisterPart as register_parts
 use Rattle.cosem_class.specs.contracts.register.Register as registers
 use Rattle.class_profile.specs.contracts.profile.ProfilePart as profile_parts
 use Rattle.class_profile.specs.contracts.profile.Profile as profiles
+use Rattle.civil_moment.specs.contracts.moment.Moment as moments
 use Rattle.class_control.specs.contracts.action.Action as actions
+use Rattle.class_control.specs.contracts.clock.Clock as clocks
+use Rattle.class_control.specs.contracts.parts.ClockPart as clock_parts
 use Rattle.class_control.specs.contracts.script.Script as scripts
 use Rattle.class_control.specs.contracts.parts.ScriptTablePart as script_table_parts
 use Rattle.meter_theory.specs.contracts.refs.UpDown as up_downs
@@ -86,6 +89,24 @@ profile_send = declared_send profiles.the_type (rows_send, (search sendable dept
 
 pub profile_sync : IsSync profiles.the_row
 profile_sync = declared_sync profiles.the_type (rows_sync, (search sendable depth 12, (search sendable depth 12, tt)))
+
+pub moment_send : IsSend moments.the_row
+moment_send = search sendable depth 12
+
+pub moment_sync : IsSync moments.the_row
+moment_sync = search sendable depth 12
+
+pub clock_part_send : IsSend clock_parts.the_row
+clock_part_send = declared_send clock_parts.the_type (moment_send, tt)
+
+pub clock_part_sync : IsSync clock_parts.the_row
+clock_part_sync = declared_sync clock_parts.the_type (moment_sync, tt)
+
+pub clock_send : IsSend clocks.the_row
+clock_send = declared_send clocks.the_type (moment_send, tt)
+
+pub clock_sync : IsSync clocks.the_row
+clock_sync = declared_sync clocks.the_type (moment_sync, tt)
 
 action_send : IsSend actions.the_row
 action_send = variants_send actions.enum ((cell_send, (data_send, tt)), ((method_send, (data_send, tt)), tt))

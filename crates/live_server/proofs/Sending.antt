@@ -3,7 +3,7 @@ use Rattle.std.proofs.Common.{◌≡◌, List, sym, subst}
 use Rattle.meter_theory.specs.Plan.{Plan, start}
 use Rattle.meter_theory.specs.Replies.{Reply, reply_to, run}
 use Rattle.meter_theory.specs.Sound.{IsSound}
-use Rattle.meter_theory.specs.Steps.{Step, Get, Set, Act, Input, CaptureAt, Evaluate, ScheduleAt}
+use Rattle.meter_theory.specs.Steps.{Step, Get, Set, Act, Input, CaptureAt, Evaluate, ScheduleAt, Tick, ClockAt}
 use Rattle.meter_theory.proofs.Start.{start-is-state}
 use Rattle.meter_theory.proofs.KeepSteps.{run-keeps}
 use Rattle.xdlms_services.specs.declared.writing.Service.{Service}
@@ -18,9 +18,11 @@ answers-sendable P sound (Get c d selection) reply (s, k, is) = subst (IsSendabl
 answers-sendable P sound (Set c d selected v) reply is = λ service e. subst (λ (x : Service). CanSend x reply) (sym e) (subst (CanSend services.Set) (sym is) tt)
 answers-sendable P sound (Act c d argument) reply is = λ service e. subst (λ (x : Service). CanSend x reply) (sym e) (subst (CanSend services.Act) (sym is) tt)
 answers-sendable P sound (Input x v) reply h = λ service e. absurd e
-answers-sendable P sound (CaptureAt n t) reply h = λ service e. absurd e
+answers-sendable P sound (CaptureAt n) reply h = λ service e. absurd e
 answers-sendable P sound (Evaluate n) reply h = λ service e. absurd e
-answers-sendable P sound (ScheduleAt n t) reply h = λ service e. absurd e
+answers-sendable P sound (ScheduleAt n) reply h = λ service e. absurd e
+answers-sendable P sound Tick reply h = λ service e. absurd e
+answers-sendable P sound (ClockAt m) reply h = λ service e. absurd e
 
 -- what a reader answers
 pub read-sendable : (P : Plan) → IsSound P → (seen : List Step) (step : Step) (reply : Reply) → reply ≡ reply_to P (run P (start P) seen) step → IsSendable step reply

@@ -5,11 +5,11 @@ use crate::asking::PortAsker;
 use acse_session::asker::Asker;
 use civil_moment::moment::Moment;
 use cosem_data::memory::Memory;
-use line_server::driving::offered;
 use line_server::line::{Line, read_line};
 use line_server::lines::AnswersLines;
 use line_server::running::LineFault;
 use line_server::text::put_unreadable;
+use meter_core::moments::offered;
 use meter_core::step::Step;
 use meter_live::names::Naming;
 use object_model::plan::Plan;
@@ -98,11 +98,12 @@ fn take_steps<A: Asker>(
         }
         Line::Evaluate(monitor) => take(alloc, asker, number, Step::Evaluate { monitor }, told),
         Line::At(moment) => take_moment(alloc, plan, asker, number, moment, told),
+        Line::Ticks(seconds) => take_ticks(alloc, plan, asker, number, seconds, told),
         Line::Ask(_) | Line::Unreadable(_) => put_unreadable(alloc, number, told),
     }
 }
 
-/// Takes the steps that a moment offers to the objects of the plan, in their order.
+/// Takes the steps of a moment: the clock is set to it, and each object is offered its step.
 fn take_moment<A: Asker>(
     alloc: Global,
     plan: &Plan,
@@ -111,8 +112,36 @@ fn take_moment<A: Asker>(
     moment: Moment,
     told: &mut Vec<u8>,
 ) -> Result<(), Memory> {
+    take(alloc, asker, number, Step::ClockAt { moment }, told)?;
+    take_driven(alloc, plan, asker, number, told)
+}
+
+/// Takes the steps of so many seconds: at each the clock ticks, and each object is offered its step.
+fn take_ticks<A: Asker>(
+    alloc: Global,
+    plan: &Plan,
+    asker: &mut A,
+    number: u64,
+    seconds: u16,
+    told: &mut Vec<u8>,
+) -> Result<(), Memory> {
+    for _second in 0..seconds {
+        take(alloc, asker, number, Step::Tick, told)?;
+        take_driven(alloc, plan, asker, number, told)?;
+    }
+    Ok(())
+}
+
+/// Takes the steps that are offered to the objects of the plan when the clock has moved, in their order.
+fn take_driven<A: Asker>(
+    alloc: Global,
+    plan: &Plan,
+    asker: &mut A,
+    number: u64,
+    told: &mut Vec<u8>,
+) -> Result<(), Memory> {
     for object in plan.objects() {
-        if let Some(step) = offered(object, moment) {
+        if let Some(step) = offered(object) {
             take(alloc, asker, number, step, told)?;
         }
     }

@@ -2,8 +2,9 @@
 use Rattle.std.proofs.Common.{◌≡◌, ℕ, ◌+◌, List, [], ◌∷◌, ◌++◌, length, Option, Some, None, OnOk, Result, Ok, Err, refl, sym, ap, subst, ◌∙◌, append_assoc, append-nil, inl, inr, arith}
 use Rattle.std.proofs.KnownBytes.{Appends-nil, Appends-trans}
 use Rattle.std.specs.Io.KnownBytes.{Appends}
-use Rattle.meter_theory.specs.Plan.{start}
-use Rattle.meter_theory.specs.State.{State}
+use Rattle.meter_theory.specs.Plan.{cells, start}
+use Rattle.meter_theory.specs.State.{State, keys}
+use Rattle.line_words.proofs.States.{told_cells}
 use Rattle.line_words.specs.Telling.{told_text}
 use Rattle.step_words.specs.StepLines.{decoded_step}
 use Rattle.acse_session.specs.Solo.{Alone}
@@ -13,9 +14,13 @@ use Rattle.line_server.specs.Lines.{Moment, Turn, lines_of, Leads, Hears, EndsWi
 use Rattle.line_server.specs.Running.{RunsLines, tasks_in}
 use Rattle.line_server.specs.Spelling.{line_of}
 use Rattle.line_server.specs.Solo.{AnswersLine, StopsAtLine, told}
-use Rattle.meter_server.specs.Watching.{Watched, AnswersAloud, StopsAloud, Tells, TellsAll, meter_behind, telling, tellings}
+use Rattle.meter_server.specs.Watching.{Watched, shown, AnswersAloud, StopsAloud, Tells, TellsAll, meter_behind, telling, tellings}
 use Rattle.line_server.proofs.Alone.{runs}
 use Rattle.line_server.proofs.Taking.{Leads-push, lines-push}
+
+-- what is kept of a meter has the cells of its plan
+pub watched_cells : (held : State) (solo : Alone) → held ≡ shown solo → keys held ≡ cells solo.plan
+watched_cells held solo is = ap keys is ∙ told_cells solo.plan solo.meter
 
 -- ---- the meter alone
 
@@ -104,10 +109,10 @@ told-more text more now (Some old) None start before after t (front, left, is, f
 
 -- what was told of a line is what there is to tell of it
 line-told : (old new : Watched) (number : ℕ) (line text : List ℕ) → AnswersLine old.solo number line text new.solo
-    → told_text number (decoded_step line) text old.solo.meter new.solo.meter ≡ telling old.solo.plan number old.solo.meter line
+    → told_text number (decoded_step line) text (shown old.solo) (shown new.solo) ≡ telling old.solo.plan number old.solo.meter line
 line-told old new number line text a =
-    ap (λ (t : List ℕ). told_text number (decoded_step line) t old.solo.meter new.solo.meter) a.1
-    ∙ ap (λ (s : Alone). told_text number (decoded_step line) (told old.solo.plan old.solo.meter (tasks_in old.solo.plan (line_of old.solo.plan line))) old.solo.meter s.meter) a.2
+    ap (λ (t : List ℕ). told_text number (decoded_step line) t (shown old.solo) (shown new.solo)) a.1
+    ∙ ap (λ (s : Alone). told_text number (decoded_step line) (told old.solo.plan old.solo.meter (tasks_in old.solo.plan (line_of old.solo.plan line))) (shown old.solo) (shown s)) a.2
 
 led-told : (old new : Watched) (count : ℕ) (turns : List Turn) (text : List ℕ) (start : Option (List ℕ)) → Leads AnswersAloud old count turns new → Told text old.watch start old.told
     → Told (text ++ tellings old.solo.plan count old.solo.meter (lines_of turns)) new.watch start new.told
@@ -119,7 +124,7 @@ led-told old new count (turn ∷ turns) text start l t =
     let one = telling plan (count + 1) meter turn.line in
     let first : Told (text ++ one) mid.watch start mid.told =
     subst (λ (x : List ℕ). Told (text ++ x) mid.watch start mid.told) (line-told old mid (count + 1) turn.line turn.text l.1.0)
-    (told-more text _ mid.solo.meter old.watch mid.watch start old.told mid.told t l.1.1)
+    (told-more text _ (shown mid.solo) old.watch mid.watch start old.told mid.told t l.1.1)
     in
     let others = led-told mid new (count + 1) turns (text ++ one) start l.2 first in
     subst (λ (x : List ℕ). Told x new.watch start new.told) (append_assoc text one (tellings plan (count + 1) (meter_behind plan meter turn.line) (lines_of turns)))

@@ -7,6 +7,7 @@ use Rattle.meter_theory.specs.PlanCode.{state_code}
 use Rattle.meter_theory.specs.State.{State}
 use Rattle.acse_session.specs.Solo.{Alone, alone_code}
 use Rattle.step_words.specs.StepLines.{decoded_step}
+use Rattle.line_words.specs.Changes.{told_part}
 use Rattle.line_words.specs.Telling.{told_text}
 use Rattle.line_server.specs.declared.running.LineFault.{LineFault}
 use Rattle.line_server.specs.Spelling.{line_of}
@@ -26,10 +27,14 @@ watched_code =
     code_by (Alone × (Option State × Option (List ℕ))) (coded× alone_code (coded× (coded_option state_code) (coded_option (coded_list coded_ℕ)))) (λ w. (w.solo, (w.watch, w.told)))
     (λ p. record { solo = p.0; watch = p.1.0; told = p.1.1 }) (λ _. refl)
 
+-- what is told of a meter alone: what the cells of its plan hold (own profile)
+abbrev pub shown : Alone → State
+shown solo = told_part solo.plan solo.meter
+
 -- it was looked at last behind the line before, if it is watched (own profile)
 abbrev pub IsWatched : Alone → Option State → Type 0
 IsWatched solo None = Unit {0}
-IsWatched solo (Some held) = held ≡ solo.meter
+IsWatched solo (Some held) = held ≡ shown solo
 
 -- what was told where this is to be told of a line: all of it, and the meter is watched on; or a beginning of it, and nothing more is told (own profile)
 abbrev pub Tells : List ℕ → State → Option State → Option State → (before after : Option (List ℕ)) → Type 0
@@ -40,7 +45,7 @@ Tells text now (Some old) None before after = (front : List ℕ) × (left : List
 -- a line was answered by this text, and told of (own profile)
 abbrev pub AnswersAloud : Watched → ℕ → List ℕ → List ℕ → Watched → Type 0
 AnswersAloud old number line text new =
-    AnswersLine old.solo number line text new.solo × Tells (told_text number (decoded_step line) text old.solo.meter new.solo.meter) new.solo.meter old.watch new.watch old.told new.told
+    AnswersLine old.solo number line text new.solo × Tells (told_text number (decoded_step line) text (shown old.solo) (shown new.solo)) (shown new.solo) old.watch new.watch old.told new.told
 
 -- a line ended the run as it ends that of a meter which isn't watched (own profile)
 abbrev pub StopsAloud : Watched → ℕ → List ℕ → List ℕ → LineFault → Type 0
@@ -52,7 +57,8 @@ meter_behind plan meter line = meter_after plan meter (tasks_in plan (line_of pl
 
 -- what there is to tell of a line with this number which finds the meter so (own profile)
 abbrev pub telling : Plan → ℕ → State → List ℕ → List ℕ
-telling plan number meter line = told_text number (decoded_step line) (told plan meter (tasks_in plan (line_of plan line))) meter (meter_behind plan meter line)
+telling plan number meter line =
+    told_text number (decoded_step line) (told plan meter (tasks_in plan (line_of plan line))) (told_part plan meter) (told_part plan (meter_behind plan meter line))
 
 -- of lines, before which there are so many (own profile)
 abbrev pub tellings : Plan → ℕ → State → List (List ℕ) → List ℕ

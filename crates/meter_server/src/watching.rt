@@ -5,7 +5,7 @@ ghost use Rattle.meter_theory.specs.State.{keys};
 ghost use Rattle.line_words.specs.Telling.{told_text};
 ghost use Rattle.step_words.specs.StepLines.{decoded_step};
 ghost use Rattle.line_server.specs.Running.{RunsLines};
-ghost use Rattle.meter_server.specs.Watching.{Tells, TellsAll};
+ghost use Rattle.meter_server.specs.Watching.{Tells, TellsAll, shown};
 
 use cosem_data::memory::Memory;
 use frame_server::writing::write_whole;
@@ -64,6 +64,7 @@ impl<'a, E: Write + Drop> AnswersLines for Watched<'a, E> {
 
     ghost stops = { StopsAloud };
 
+    #[tactic(auto, using(crate::proofs::Aloud::watched_cells))]
     fn answer_line(
         &mut self,
         alloc: Global,
@@ -97,8 +98,8 @@ fn tell<E: Write>(
     errors: &mut E,
 ) -> Option<Watch>
     requires { keys watch ≡ cells solo.now.plan }
-    ensures { Tells (told_text answered.entry.number (decoded_step answered.entry.line.now) answered.entry.reply.now watch solo.now.meter)
-        solo.now.meter (Some watch) result (E.contents errors.old) (E.contents errors.new) }
+    ensures { Tells (told_text answered.entry.number (decoded_step answered.entry.line.now) answered.entry.reply.now watch (shown solo.now))
+        (shown solo.now) (Some watch) result (E.contents errors.old) (E.contents errors.new) }
 {
     solo.known();
     let mut text = Vec::new(alloc);

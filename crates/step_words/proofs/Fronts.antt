@@ -1,6 +1,6 @@
 -- The front of a step line is read again, whatever stands behind it.
 use Rattle.std.proofs.Common.{◌≡◌, ℕ, ◌<◌, Bool, true, false, cond, List, [], ◌∷◌, ◌++◌, length, Option, Result, Ok, refl, sym, ap, subst, ◌∙◌, append_assoc, arith}
-use Rattle.std.specs.Prelude.{codes}
+use Rattle.std.specs.Prelude.{codes, is_some}
 use Rattle.std.specs.Str.{bytes_eq}
 use Rattle.std.proofs.lemmas.List.{append-nil, length-append}
 use Rattle.cosem_data.specs.declared.name.LogicalName.{LogicalName}
@@ -11,15 +11,16 @@ use Rattle.value_words.specs.WordReading.{front, past}
 use Rattle.value_words.proofs.Runs.{front-past, front-passes, front-again, past-again, NoneInFront}
 use Rattle.step_words.specs.declared.fault.Asked.TheVariants as asked
 use Rattle.step_words.specs.declared.head.Head.{Head}
-use Rattle.step_words.specs.declared.head.Head.TheVariants.{Input, Client, Whole}
+use Rattle.step_words.specs.declared.head.Head.TheVariants.{Input, Client, NamedTick, Whole}
 use Rattle.step_words.specs.declared.stop.Stop.{Stop}
 use Rattle.step_words.specs.Parts.{◌>>=◌, stops, found, mark_at, ended, is_name_digit, name_at, moment_at}
-use Rattle.step_words.specs.StepLines.{input_at, evaluation_at, offer_at, client_at, head_step, head_at}
+use Rattle.step_words.specs.StepLines.{input_at, evaluation_at, offer_at, seconds_in, tick_at, client_at, head_step, head_at}
 use Rattle.step_words.proofs.Stops.{bind_ok, done, ok_is, found_ok, mark_takes, ended_ok}
 
--- behind a whole line nothing stands
+-- behind a whole line nothing stands, and behind the client named `tick` no number of seconds
 abbrev pub Fits : Head → List ℕ → Type 0
 Fits Whole x = x ≡ []
+Fits NamedTick x = is_some (seconds_in x) ≡ false
 Fits _ x = Unit {0}
 
 -- ---- behind the first word
@@ -118,6 +119,42 @@ offer_takes text h rest e =
           ∙ ap (λ (t : List ℕ). done {A = Head × List ℕ} (Whole, t)) (sym f);
     })
 
+-- by whether it is a number of seconds
+abbrev ticks : List ℕ → Bool → Result (Head × List ℕ) Stop
+ticks rest b = cond b (Ok (Whole, [])) (Ok (NamedTick, rest))
+
+tick_again : (text : List ℕ) (b : Bool) → is_some (seconds_in text) ≡ b → tick_at (32 ∷ text) ≡ ticks text b
+unfolding tick_at
+tick_again text b h = ap (λ (c : Bool). cond c (done {A = Head × List ℕ} (Whole, [])) (Ok (NamedTick, text))) h
+
+tick_takes : (text : List ℕ) (h : Head) (rest : List ℕ) → tick_at text ≡ Ok (h, rest) → IsPart tick_at text h rest
+unfolding tick_at
+tick_takes text h rest e =
+    let a = bind_ok (mark_at asked.Space (codes " ") text) _ (h, rest) e in
+    at a.0 (mark_takes asked.Space (codes " ") text a.0 a.1) (is_some (seconds_in a.0)) refl a.2
+  where
+    at : (t : List ℕ) → text ≡ 32 ∷ t → (b : Bool) → is_some (seconds_in t) ≡ b → ticks t b ≡ Ok (h, rest) → IsPart tick_at text h rest
+    at t is true seconds e =
+        subst (λ (x : Head × List ℕ). IsPart tick_at text x.0 x.1) (ok_is {A = Head × List ℕ} (Whole, []) (h, rest) e)
+        (record {
+          part = t;
+          is = is ∙ ap (λ (s : List ℕ). 32 ∷ s) (sym (append-nil t));
+          fits = refl;
+          again = λ x f.
+              ap (λ (s : List ℕ). tick_at (32 ∷ (t ++ s))) f
+              ∙ ap (λ (s : List ℕ). tick_at (32 ∷ s)) (append-nil t)
+              ∙ tick_again t true seconds
+              ∙ ap (λ (s : List ℕ). done {A = Head × List ℕ} (Whole, s)) (sym f);
+        })
+    at t is false seconds e =
+        subst (λ (x : Head × List ℕ). IsPart tick_at text x.0 x.1) (ok_is {A = Head × List ℕ} (NamedTick, t) (h, rest) e)
+        (record {
+          part = [];
+          is = is;
+          fits = seconds;
+          again = λ x f. tick_again x false f;
+        })
+
 client_takes : (text : List ℕ) (h : Head) (rest : List ℕ) → client_at text ≡ Ok (h, rest) → IsPart client_at text h rest
 unfolding client_at
 client_takes text h rest e =
@@ -133,22 +170,24 @@ client_takes text h rest e =
 -- ---- the first word
 
 -- the front by what the first word is
-abbrev by_word : Bool → Bool → Bool → Bool → List ℕ → List ℕ → Result (Head × List ℕ) Stop
-by_word a b c d text rest = cond a (input_at rest) (cond b (evaluation_at rest) (cond c (offer_at rest) (cond d (client_at rest) (stops asked.FirstWord text))))
+abbrev by_word : Bool → Bool → Bool → Bool → Bool → List ℕ → List ℕ → Result (Head × List ℕ) Stop
+by_word a b c t d text rest =
+    cond a (input_at rest) (cond b (evaluation_at rest) (cond c (offer_at rest) (cond t (tick_at rest) (cond d (client_at rest) (stops asked.FirstWord text)))))
 
 -- a space and a part behind the first word
-record IsWord (a b c d : Bool) (text : List ℕ) (h : Head) (rest : List ℕ) : Type 0 where
+record IsWord (a b c t d : Bool) (text : List ℕ) (h : Head) (rest : List ℕ) : Type 0 where
   part : List ℕ
   is : text ≡ 32 ∷ (part ++ rest)
   fits : Fits h rest
-  again : (t x : List ℕ) → Fits h x → by_word a b c d t (32 ∷ (part ++ x)) ≡ Ok (h, x)
+  again : (line x : List ℕ) → Fits h x → by_word a b c t d line (32 ∷ (part ++ x)) ≡ Ok (h, x)
 
-word_takes : (a b c d : Bool) (text left : List ℕ) (h : Head) (rest : List ℕ) → by_word a b c d text left ≡ Ok (h, rest) → IsWord a b c d left h rest
-word_takes true b c d text left h rest e = let p = input_takes left h rest e in record { part = p.part; is = p.is; fits = p.fits; again = λ t x f. p.again x f }
-word_takes false true c d text left h rest e = let p = evaluation_takes left h rest e in record { part = p.part; is = p.is; fits = p.fits; again = λ t x f. p.again x f }
-word_takes false false true d text left h rest e = let p = offer_takes left h rest e in record { part = p.part; is = p.is; fits = p.fits; again = λ t x f. p.again x f }
-word_takes false false false true text left h rest e = let p = client_takes left h rest e in record { part = p.part; is = p.is; fits = p.fits; again = λ t x f. p.again x f }
-word_takes false false false false text left h rest e = absurd cc
+word_takes : (a b c t d : Bool) (text left : List ℕ) (h : Head) (rest : List ℕ) → by_word a b c t d text left ≡ Ok (h, rest) → IsWord a b c t d left h rest
+word_takes true b c t d text left h rest e = let p = input_takes left h rest e in record { part = p.part; is = p.is; fits = p.fits; again = λ l x f. p.again x f }
+word_takes false true c t d text left h rest e = let p = evaluation_takes left h rest e in record { part = p.part; is = p.is; fits = p.fits; again = λ l x f. p.again x f }
+word_takes false false true t d text left h rest e = let p = offer_takes left h rest e in record { part = p.part; is = p.is; fits = p.fits; again = λ l x f. p.again x f }
+word_takes false false false true d text left h rest e = let p = tick_takes left h rest e in record { part = p.part; is = p.is; fits = p.fits; again = λ l x f. p.again x f }
+word_takes false false false false true text left h rest e = let p = client_takes left h rest e in record { part = p.part; is = p.is; fits = p.fits; again = λ l x f. p.again x f }
+word_takes false false false false false text left h rest e = absurd cc
 
 -- a front, which is read again whatever stands behind it
 pub record IsFront (text : List ℕ) (h : Head) (rest : List ℕ) : Type 0 where
@@ -164,7 +203,7 @@ head_takes text h rest e =
     let word = front is_name_byte text in
     let all = front-passes is_name_byte text in
     let w =
-    word_takes (bytes_eq word (codes "in")) (bytes_eq word (codes "eval")) (bytes_eq word (codes "at")) (is_client_name word) text (past is_name_byte text) h rest e in
+    word_takes (bytes_eq word (codes "in")) (bytes_eq word (codes "eval")) (bytes_eq word (codes "at")) (bytes_eq word (codes "tick")) (is_client_name word) text (past is_name_byte text) h rest e in
     record {
       first = word ++ 32 ∷ w.part;
       is = sym (front-past is_name_byte text) ∙ ap (λ (t : List ℕ). word ++ t) w.is ∙ sym (append_assoc word (32 ∷ w.part) rest);

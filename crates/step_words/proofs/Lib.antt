@@ -1,4 +1,3 @@
-pub mod Moments
 pub mod Ranges
 pub mod Sending
 pub mod Lines

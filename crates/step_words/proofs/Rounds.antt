@@ -1,6 +1,6 @@
 -- What is made of a line in words is made into the same line again.
 use Rattle.std.proofs.Common.{◌≡◌, ℕ, ◌-◌, ◌/◌, ◌%◌, ◌<◌, Bool, true, false, cond, eqb, List, [], ◌∷◌, ◌++◌, length, Option, Some, Result, Ok, Err, refl, sym, ap, subst, ◌∙◌, arith, inl, inr}
-use Rattle.std.specs.Prelude.{slice_index, option_and_then}
+use Rattle.std.specs.Prelude.{slice_index, option_and_then, is_some}
 use Rattle.std.specs.List.{AllByRecursion}
 use Rattle.std.specs.Result.{result_ok}
 use Rattle.std.proofs.lemmas.Bool.{eqb-true}
@@ -19,13 +19,13 @@ use Rattle.value_words.proofs.Steps.{chosen}
 use Rattle.value_words.proofs.Octets.{digit_again}
 use Rattle.step_words.specs.declared.fault.Asked.TheVariants as asked
 use Rattle.step_words.specs.declared.head.Head.{Head}
-use Rattle.step_words.specs.declared.head.Head.TheVariants.{Input, Client, Whole}
+use Rattle.step_words.specs.declared.head.Head.TheVariants.{Input, Client, NamedTick, Whole}
 use Rattle.step_words.specs.declared.stop.Stop.{Stop}
 use Rattle.step_words.specs.declared.stop.Stop.TheVariants as stop
 use Rattle.step_words.specs.declared.texts.Way.TheVariants.{Encode, Decode}
-use Rattle.step_words.specs.Parts.{◌>>=◌, ended, value_at}
+use Rattle.step_words.specs.Parts.{◌>>=◌, stops, ended, value_at}
 use Rattle.step_words.specs.RequestReading.{asked_bytes}
-use Rattle.step_words.specs.StepLines.{head_at, up_to, hex_at, encoded_step, ask_words, ask_step, input_step, words_at, decoded_step}
+use Rattle.step_words.specs.StepLines.{seconds_in, head_at, up_to, or_seconds, no_seconds, hex_at, encoded_step, ask_words, ask_step, input_step, words_at, decoded_step}
 use Rattle.step_words.specs.Texts.{spared, with_return, ends_in_return, made_of, line_at}
 use Rattle.step_words.proofs.Ranges.{AreBytes}
 use Rattle.step_words.proofs.Stops.{bind_ok, done, ok_is, ended_ok}
@@ -101,10 +101,33 @@ client_hex text hex e =
       tt,
     )
 
+seconds_ok : (r : Result (List ℕ) Stop) (bytes : List ℕ) → or_seconds r ≡ Ok bytes → r ≡ Ok bytes
+seconds_ok (Ok x) bytes e = e
+seconds_ok (Err stop.Memory) bytes e = absurd cc
+seconds_ok (Err (stop.At left asked.Service)) bytes e = absurd cc
+seconds_ok (Err (stop.At left _)) bytes e = absurd cc
+
+named_tick_hex : (text hex : List ℕ) → hex_at NamedTick text ≡ Ok hex → IsHexOf NamedTick text hex
+unfolding hex_at words_at
+named_tick_hex text hex e =
+    let b = bind_ok (or_seconds (asked_bytes text)) (λ bytes. no_seconds (encode_upper bytes)) hex e in
+    let told = asked_takes text b.0 (seconds_ok (asked_bytes text) b.0 b.1) in
+    let digits = encode_upper b.0 in
+    elim (chosen (is_some (seconds_in digits)) (stops asked.NoSeconds digits) (Ok digits) (Ok hex) b.2) [
+      | inl p ↦ let wrong = p.1 in absurd cc
+      | inr p ↦
+          subst (IsHexOf NamedTick text) (ok_is digits hex p.1) (
+            ap (ask_step digits) (hex_again b.0 told.are_bytes) ∙ some_asked digits b.0 told.some ∙ ap (λ (s : List ℕ). done s) told.said,
+            hex_in_line b.0 told.are_bytes,
+            p.0,
+          )
+    ]
+
 hex_takes : (h : Head) (text hex : List ℕ) → Fits h text → hex_at h text ≡ Ok hex → IsHexOf h text hex
 unfolding hex_at words_at
 hex_takes Input text hex fits e = input_hex text hex e
 hex_takes Client text hex fits e = client_hex text hex e
+hex_takes NamedTick text hex fits e = named_tick_hex text hex e
 hex_takes Whole text hex fits e = subst (IsHexOf Whole text) (ok_is {A = List ℕ} [] hex e) (ap (λ (s : List ℕ). done s) (sym fits), tt, refl)
 
 -- ---- steps

@@ -22,11 +22,12 @@ value_asked_words parts.Letter = codes "a printable letter, \\xHH for another by
 
 -- what was asked (own profile)
 abbrev pub asked_words : Asked → List ℕ
-asked_words asked.FirstWord = codes "in, eval, at, or a client's name of 1 to 16 characters of a to z, 0 to 9 and _"
+asked_words asked.FirstWord = codes "in, eval, at, tick, or a client's name of 1 to 16 characters of a to z, 0 to 9 and _"
 asked_words asked.Space = codes "a space and what follows it"
 asked_words asked.Name = codes "a logical name of six numbers, as 1.0.1.8.0.255"
 asked_words asked.Moment = codes "a moment that the calendar has, as 2024-02-29T12:00:00, and the end of the line"
 asked_words asked.Service = codes "get, set, act or apdu, and a space"
+asked_words asked.SecondsOrService = codes "a number of seconds from 1 to 3600, without leading zeros, or get, set, act or apdu, and a space"
 asked_words asked.Class = codes "a class from 0 to 65535, without leading zeros"
 asked_words asked.Slash = codes "a slash"
 asked_words asked.Index = codes "an index from -128 to 127, without leading zeros"
@@ -39,6 +40,7 @@ asked_words asked.InvokeOrEnd = codes "the end of the line, or the word invoke b
 asked_words asked.End = codes "the end of the line"
 asked_words asked.Bytes = codes "upper-case hex digits, two a byte, to the end of the line"
 asked_words asked.Request = codes "the words get, set or act, since the bytes are such a request"
+asked_words asked.NoSeconds = codes "hex digits that are no number from 1 to 3600, since tick and such a number lets seconds pass"
 asked_words asked.ShortValue = codes "a value whose encoding has less than 4294967296 bytes"
 asked_words asked.HexDigits = codes "hex digits, two a byte, to the end of the line"
 asked_words asked.Encoding = codes "the hex digits of one value, to the end of the line"

@@ -1,13 +1,13 @@
 -- Reading the parts of a line from left to right: the part and what stands behind it, or the first place where something else stands than what is asked. Texts are lists of bytes.
-use Rattle.std.specs.Prelude.{◌≡◌, ◌≤◌, ℕ, ℤ, pos, ◌-◌, ◌^◌, ◌==◌, ◌||◌, ◌&&◌, nat_le, nat_lt, Bool, List, [], ◌∷◌, length, codes, cond, Option, Some, None, option_map, option_and_then, Result, Ok, Err, if◌then◌else◌}
+use Rattle.std.specs.Prelude.{◌≡◌, ◌≤◌, ℕ, ℤ, pos, ◌-◌, ◌^◌, ◌==◌, ◌||◌, ◌&&◌, nat_le, Bool, List, [], ◌∷◌, length, codes, Option, Some, None, option_map, Result, Ok, Err, if◌then◌else◌}
 use Rattle.std.specs.Char.{is_ascii_digit}
 use Rattle.cosem_data.specs.Tree.{Tree, depth}
 use Rattle.cosem_axdr.specs.Canonical.{canonical, HasLengths}
 use Rattle.cosem_axdr.specs.Laws.{HasRanges}
 use Rattle.cosem_data.specs.declared.name.LogicalName.{LogicalName}
-use Rattle.meter_theory.specs.Times.{Moment, last_day}
+use Rattle.meter_theory.specs.Times.{Moment}
 use Rattle.meter_theory.specs.ClientNames.{is_name_byte}
-use Rattle.civil_moment.specs.Texts.{numbers_at}
+use Rattle.civil_moment.specs.MomentText.{moment_in}
 use Rattle.value_text.specs.Texts.{name_in}
 use Rattle.value_words.specs.declared.fault.ValueFault.{ValueFault}
 use Rattle.value_words.specs.declared.fault.ValueFault.TheVariants as fault
@@ -80,18 +80,6 @@ index_at text = index_step text (behind (codes "-") text)
 -- a logical name (IEC 62056-6-2, logical_name); it ends where digits and dots end (own profile)
 unfoldable pub name_at : Reader LogicalName
 name_at text = found asked.Name text (name_in (front is_name_digit text)) (past is_name_digit text)
-
--- a moment of the years 2000 to 9999 that the calendar has (own profile)
-abbrev pub is_moment : Moment → Bool
-is_moment t =
-    (nat_le 2000 t.year && nat_le t.year 9999)
-    && ((nat_le 1 t.month && nat_le t.month 12)
-    && ((nat_le 1 t.day && nat_le t.day (last_day t))
-    && (nat_lt t.hour 24 && (nat_lt t.minute 60 && nat_lt t.second 60))))
-
--- the moment that a text is, if it is one: YYYY-MM-DDTHH:MM:SS (own profile)
-abbrev pub moment_in : List ℕ → Option Moment
-moment_in text = option_and_then (λ t. cond (is_moment t) (Some t) None) (numbers_at text)
 
 -- a moment to the end of the line (own profile)
 unfoldable pub moment_at : Reader Moment

@@ -1,17 +1,19 @@
 -- Step lines, in words and in hex: the front is the same in both, and what stands behind it is translated (own profile). Texts are lists of bytes.
-use Rattle.std.specs.Prelude.{ℕ, ◌-◌, List, [], ◌∷◌, ◌++◌, length, take, codes, Option, Some, None, unwrap_or, Result, Ok, if◌then◌else◌}
+use Rattle.std.specs.Prelude.{ℕ, ◌-◌, nat_le, List, [], ◌∷◌, ◌++◌, length, take, codes, Option, Some, None, option_and_then, is_some, unwrap_or, Result, Ok, Err, if◌then◌else◌}
 use Rattle.std.specs.Str.{bytes_eq}
 use Rattle.hex.specs.Hex.{encode_upper}
 use Rattle.cosem_data.specs.Tree.{Tree}
 use Rattle.cosem_axdr.specs.Canonical.{canonical}
 use Rattle.meter_theory.specs.ClientNames.{is_name_byte, is_client_name}
+use Rattle.meter_theory.specs.declared.limits.TheConstants as limits
 use Rattle.value_text.specs.Texts.{bytes_in, value_in}
 use Rattle.value_words.specs.Words.{value_words}
-use Rattle.value_words.specs.WordReading.{front, past}
+use Rattle.value_words.specs.WordReading.{front, past, number_in}
 use Rattle.step_words.specs.declared.fault.Asked.TheVariants as asked
 use Rattle.step_words.specs.declared.head.Head.{Head}
-use Rattle.step_words.specs.declared.head.Head.TheVariants.{Input, Client, Whole}
+use Rattle.step_words.specs.declared.head.Head.TheVariants.{Input, Client, NamedTick, Whole}
 use Rattle.step_words.specs.declared.stop.Stop.{Stop}
+use Rattle.step_words.specs.declared.stop.Stop.TheVariants as stop
 use Rattle.step_words.specs.Parts.{◌>>=◌, Reader, stops, mark_at, ended, name_at, moment_at, value_at}
 use Rattle.step_words.specs.RequestWords.{apdu_words}
 use Rattle.step_words.specs.RequestReading.{asked_bytes, words_in}
@@ -39,6 +41,17 @@ offer_at text = do
   moment ← moment_at rest
   Ok (Whole, [])
 
+-- how many seconds pass: 1 to 3600 as a decimal number without leading zeros, and nothing behind it (own profile)
+abbrev pub seconds_in : List ℕ → Option ℕ
+seconds_in text = option_and_then (λ n. if nat_le 1 n then Some n else None) (number_in limits.TICK_SECONDS text)
+
+-- behind `tick`: a space and a number of seconds, to the end of the line; with anything else behind the space `tick` is a client's
+-- name, as a plan of version 1 may have it (own profile)
+unfoldable pub tick_at : Reader Head
+tick_at text = do
+  rest ← mark_at asked.Space (codes " ") text
+  if is_some (seconds_in rest) then Ok (Whole, []) else Ok (NamedTick, rest)
+
 -- behind the name of a client: a space, and then what it asks (own profile)
 unfoldable pub client_at : Reader Head
 client_at text = mark_at asked.Space (codes " ") text >>= λ rest. Ok (Client, rest)
@@ -49,6 +62,7 @@ head_step text word rest =
     if bytes_eq word (codes "in") then input_at rest
     else if bytes_eq word (codes "eval") then evaluation_at rest
     else if bytes_eq word (codes "at") then offer_at rest
+    else if bytes_eq word (codes "tick") then tick_at rest
     else if is_client_name word then client_at rest
     else stops asked.FirstWord text
 
@@ -60,10 +74,21 @@ head_at text = head_step text (front is_name_byte text) (past is_name_byte text)
 abbrev pub up_to : List ℕ → List ℕ → List ℕ
 up_to text rest = take (length text - length rest) text
 
+-- where none of the words of a client stands behind `tick`, a number of seconds is asked too (own profile)
+abbrev pub or_seconds : Result (List ℕ) Stop → Result (List ℕ) Stop
+or_seconds (Err (stop.At left asked.Service)) = Err (stop.At left asked.SecondsOrService)
+or_seconds read = read
+
+-- the hex digits of what a client named `tick` asks. Where they are a number of seconds they end the line in words too, behind
+-- `apdu`, and reading stops in front of them (own profile)
+abbrev pub no_seconds : List ℕ → Result (List ℕ) Stop
+no_seconds digits = if is_some (seconds_in digits) then stops asked.NoSeconds digits else Ok digits
+
 -- the hex of what stands in words behind the front (own profile)
 unfoldable pub hex_at : Head → List ℕ → Result (List ℕ) Stop
 hex_at Input text = value_at text >>= λ v. ended (encode_upper (canonical v.0)) v.1
 hex_at Client text = asked_bytes text >>= λ bytes. Ok (encode_upper bytes)
+hex_at NamedTick text = or_seconds (asked_bytes text) >>= λ bytes. no_seconds (encode_upper bytes)
 hex_at Whole text = Ok []
 
 -- the step line in hex of a step in words (own profile)
@@ -91,6 +116,7 @@ input_step text (Some t) = Ok (value_words t)
 unfoldable pub words_at : Head → List ℕ → Result (List ℕ) Stop
 words_at Input text = input_step text (value_in text)
 words_at Client text = ask_step text (bytes_in text)
+words_at NamedTick text = ask_step text (bytes_in text)
 words_at Whole text = Ok []
 
 -- the step in words of a step line in hex (own profile)

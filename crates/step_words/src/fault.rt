@@ -21,6 +21,8 @@ pub enum Asked {
     Moment,
     /// The word of what a client asks, with the space behind it.
     Service,
+    /// A number of seconds to the end of the line, or the word of what a client named `tick` asks.
+    SecondsOrService,
     /// The identifier of a class.
     Class,
     /// The slash behind a class or a name.
@@ -45,6 +47,8 @@ pub enum Asked {
     Bytes,
     /// The words of a request, for an APDU that is one.
     Request,
+    /// Behind the name of a client `tick`, hex digits that aren't a number of seconds.
+    NoSeconds,
     /// A value whose encoding a meter can be sent.
     ShortValue,
     /// Hex digits in either case, at least two.
@@ -64,12 +68,15 @@ impl Asked {
     {
         match self {
             Asked::FirstWord =>
-                "in, eval, at, or a client's name of 1 to 16 characters of a to z, 0 to 9 and _",
+                "in, eval, at, tick, or a client's name of 1 to 16 characters of a to z, 0 to 9 and _",
             Asked::Space => "a space and what follows it",
             Asked::Name => "a logical name of six numbers, as 1.0.1.8.0.255",
             Asked::Moment =>
                 "a moment that the calendar has, as 2024-02-29T12:00:00, and the end of the line",
             Asked::Service => "get, set, act or apdu, and a space",
+            Asked::SecondsOrService => {
+                "a number of seconds from 1 to 3600, without leading zeros, or get, set, act or apdu, and a space"
+            }
             Asked::Class => "a class from 0 to 65535, without leading zeros",
             Asked::Slash => "a slash",
             Asked::Index => "an index from -128 to 127, without leading zeros",
@@ -82,6 +89,9 @@ impl Asked {
             Asked::End => "the end of the line",
             Asked::Bytes => "upper-case hex digits, two a byte, to the end of the line",
             Asked::Request => "the words get, set or act, since the bytes are such a request",
+            Asked::NoSeconds => {
+                "hex digits that are no number from 1 to 3600, since tick and such a number lets seconds pass"
+            }
             Asked::ShortValue => "a value whose encoding has less than 4294967296 bytes",
             Asked::HexDigits => "hex digits, two a byte, to the end of the line",
             Asked::Encoding => "the hex digits of one value, to the end of the line",

@@ -1,5 +1,5 @@
 //! Reading the front of a step line, which words and hex have alike.
-ghost use Rattle.std.specs.Prelude.{◌≡◌};
+ghost use Rattle.std.specs.Prelude.{◌≡◌, is_some};
 ghost use Rattle.std.specs.List.{list_all};
 ghost use Rattle.meter_theory.specs.ClientNames as names;
 ghost use Rattle.step_words.specs.Parts.{Reads};
@@ -7,10 +7,11 @@ ghost use Rattle.step_words.specs.StepLines as spec;
 
 use crate::fault::Asked;
 use crate::marks::{end_of, mark_of};
+use crate::numbers::number_in;
 use crate::parts::{moment_of, name_of};
 use crate::runs::{Run, run_of};
 use crate::stop::{Stop, stop_at};
-use meter_theory::limits::NAME_CHARACTERS;
+use meter_theory::limits::{NAME_CHARACTERS, TICK_SECONDS};
 
 /// What stands behind the front of a step line.
 #[derive(Clone, Copy, Debug)]
@@ -19,7 +20,9 @@ pub(crate) enum Head {
     Input,
     /// What a client asks, behind its name and a space.
     Client,
-    /// Nothing: the front is the whole line, `eval NAME` or `at MOMENT`.
+    /// What a client named `tick` asks, behind its name and a space: anything but a number of seconds.
+    NamedTick,
+    /// Nothing: the front is the whole line, `eval NAME`, `at MOMENT` or `tick N`.
     Whole,
 }
 
@@ -29,6 +32,8 @@ const INPUT: &[u8] = b"in";
 const EVALUATE: &[u8] = b"eval";
 
 const AT: &[u8] = b"at";
+
+const TICK: &[u8] = b"tick";
 
 /// Whether a text has a to z, 0 to 9 and _ alone.
 fn has_name_bytes(text: &[u8]) -> bool
@@ -84,6 +89,29 @@ fn offer_of(text: &[u8]) -> Result<(Head, &[u8]), Stop>
     Ok((Head::Whole, b""))
 }
 
+/// Whether a text is how many seconds pass: 1 to 3600 as a decimal number without leading zeros.
+pub(crate) fn is_seconds(text: &[u8]) -> bool
+    ensures { result ≡ is_some (spec.seconds_in text.now) }
+{
+    match number_in(u32::from(TICK_SECONDS), text) {
+        Some(seconds) => seconds >= 1,
+        None => false,
+    }
+}
+
+/// What stands behind `tick`: how many seconds pass, or what a client with this name asks.
+#[tactic(auto, unfolding(crate::specs::StepLines::tick_at))]
+fn tick_of(text: &[u8]) -> Result<(Head, &[u8]), Stop>
+    ensures { Reads (λ x. (x.0, x.1.now)) result (spec.tick_at text.now) }
+{
+    let rest = mark_of(Asked::Space, b" ", text)?;
+    if is_seconds(rest) {
+        Ok((Head::Whole, b""))
+    } else {
+        Ok((Head::NamedTick, rest))
+    }
+}
+
 /// What stands behind the name of a client.
 #[tactic(auto, unfolding(crate::specs::StepLines::client_at))]
 fn client_of(text: &[u8]) -> Result<(Head, &[u8]), Stop>
@@ -104,6 +132,8 @@ pub(crate) fn head_of(text: &[u8]) -> Result<(Head, &[u8]), Stop>
         evaluation_of(rest)
     } else if word == AT {
         offer_of(rest)
+    } else if word == TICK {
+        tick_of(rest)
     } else if is_client_name(word) {
         client_of(rest)
     } else {

@@ -1,5 +1,6 @@
 //! Reading names, moments and values.
 ghost use Rattle.std.specs.Prelude.{◌≡◌, [], IfOk};
+ghost use Rattle.civil_moment.specs.MomentText as moments;
 ghost use Rattle.cosem_data.specs.View.{tree};
 ghost use Rattle.step_words.specs.Parts as spec;
 ghost use Rattle.step_words.specs.Parts.{Reads, CanBeSent, name_at, moment_at, value_at};
@@ -30,7 +31,7 @@ pub(crate) fn name_of(text: &[u8]) -> Result<(LogicalName, &[u8]), Stop>
 
 /// The moment that a text is, if it is one.
 fn moment_in(text: &[u8]) -> Option<Moment>
-    ensures { result ≡ spec.moment_in text.now }
+    ensures { result ≡ moments.moment_in text.now }
 {
     Moment::read_bytes(text).ok()
 }

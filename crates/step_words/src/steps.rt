@@ -5,12 +5,13 @@ ghost use Rattle.hex.specs.Hex.{encode_upper};
 ghost use Rattle.cosem_data.specs.View.{tree};
 ghost use Rattle.cosem_axdr.specs.Canonical.{canonical, HasLengths};
 ghost use Rattle.step_words.specs.Parts.{Reads};
+ghost use Rattle.step_words.specs.RequestReading as reading;
 ghost use Rattle.step_words.specs.RequestWords as requests;
 ghost use Rattle.step_words.specs.StepLines as spec;
 
 use crate::asking::{asked_bytes, words_in};
 use crate::fault::Asked;
-use crate::head::{Head, head_of};
+use crate::head::{Head, head_of, is_seconds};
 use crate::marks::end_of;
 use crate::parts::value_of;
 use crate::stop::{Stop, stop_at};
@@ -38,6 +39,30 @@ fn hex_of_value(alloc: Global, value: &Data) -> Result<Vec<u8>, Memory>
     hex_of(alloc, &bytes)
 }
 
+/// The bytes of what a client named `tick` asks.
+fn named_tick_bytes(alloc: Global, text: &[u8]) -> Result<Vec<u8>, Stop>
+    ensures { Reads (λ x. x.items) result (spec.or_seconds (reading.asked_bytes text.now)) }
+{
+    match asked_bytes(alloc, text) {
+        // A person who types `tick 0` means seconds.
+        Err(Stop::At(left, Asked::Service)) => Err(Stop::At(left, Asked::SecondsOrService)),
+        read => read,
+    }
+}
+
+/// The hex digits of what a client named `tick` asks.
+#[tactic(auto, unfolding(crate::specs::StepLines::hex_at))]
+fn hex_of_named_tick(alloc: Global, text: &[u8]) -> Result<Vec<u8>, Stop>
+    ensures { Reads (λ x. x.items) result (spec.hex_at Head.NamedTick text.now) }
+{
+    let digits = hex_of(alloc, &named_tick_bytes(alloc, text)?)?;
+    if is_seconds(&digits) {
+        // `tick apdu 12` would become `tick 12`, which is decoded as twelve seconds.
+        return Err(stop_at(&digits, Asked::NoSeconds));
+    }
+    Ok(digits)
+}
+
 /// The hex of what stands in words behind the front of a step line.
 #[tactic(auto, unfolding(crate::specs::StepLines::hex_at))]
 fn hex_behind(alloc: Global, head: Head, text: &[u8]) -> Result<Vec<u8>, Stop>
@@ -50,6 +75,7 @@ fn hex_behind(alloc: Global, head: Head, text: &[u8]) -> Result<Vec<u8>, Stop>
             Ok(hex_of_value(alloc, &value)?)
         }
         Head::Client => Ok(hex_of(alloc, &asked_bytes(alloc, text)?)?),
+        Head::NamedTick => hex_of_named_tick(alloc, text),
         Head::Whole => Ok(Vec::new(alloc)),
     }
 }
@@ -125,7 +151,7 @@ fn words_behind(alloc: Global, head: Head, text: &[u8]) -> Result<Vec<u8>, Stop>
 {
     match head {
         Head::Input => input_words(alloc, text),
-        Head::Client => client_words(alloc, text),
+        Head::Client | Head::NamedTick => client_words(alloc, text),
         Head::Whole => Ok(Vec::new(alloc)),
     }
 }

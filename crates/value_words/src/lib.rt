@@ -10,7 +10,7 @@ pub mod fault;
 mod kinds;
 pub mod laws;
 mod marks;
-mod numbers;
+pub mod numbers;
 pub mod reading;
 mod stop;
 mod strings;

@@ -21,7 +21,7 @@ fn with_digit(most: u64, value: u64, digit: u8) -> Option<u64>
 }
 
 /// The number up to the most that a text is in decimal, without leading zeros.
-fn number_in(most: u64, text: &[u8]) -> Option<u64>
+pub fn number_in(most: u64, text: &[u8]) -> Option<u64>
     ensures value { result ≡ spec.number_in most text.now }
     ensures most { IfSome result (λ n. n ≤ most) }
 {

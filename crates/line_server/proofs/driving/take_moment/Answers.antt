@@ -1,23 +1,20 @@
-use Rattle.std.proofs.Common.{List, Result, Ok, Err, OnErr, subst}
-use Rattle.std.specs.List.{filter_map}
-use Rattle.meter_theory.specs.Plan.{Object}
-use Rattle.line_server.specs.Doing.{StopsBehind}
-use Rattle.line_server.specs.Driving.{offered}
-use Rattle.line_server.proofs.Doing.{offered-more, offered-stops}
+use Rattle.meter_theory.specs.Steps.{ClockAt}
+use Rattle.meter_core.specs.Moments.{driven}
+use Rattle.line_server.proofs.Doing.{takes-first, stops-later, stops-at}
+use Rattle.meter_core.specs.StepView.{reply_of}
 use Rattle.line_server.proofs.driving.take_moment.Goals as goal
 
-pub loop-object-preserved : goal.loop-object-preserved
-loop-object-preserved g c = record {
-  taken = offered-more g.A.Asker.answers c.args.asker.now c.loop-object.asker c.take_offered.new.asker c.args.moment c.objects-object-items.result.now c.loop-object.object-index c.object-item.result
-      c.loop-object-test.true c.object-item.is c.loop-object.invariant.taken c.in_ok-take_offered.ensures.taken;
-}
+pub returns-clause-taken : goal.returns-clause-taken
+returns-clause-taken g c =
+    takes-first g.A.Asker.answers c.args.asker.now c.ask.new.self c.take_driven.new.asker (ClockAt c.args.moment) (driven c.args.plan.now) (reply_of c.in_ok-ask.field-0) c.take_driven.result
+    c.in_ok-ask.ensures.answer c.take_driven.ensures.taken
 
-on_err : {A E P : Type 0} (r : Result A E) → P → OnErr r P
-on_err (Ok x) p = tt
-on_err (Err e) p = p
+pub returns-clause-err : goal.returns-clause-err
+returns-clause-err g c =
+    stops-later g.A.Asker.answers c.args.asker.now c.ask.new.self c.take_driven.new.asker (ClockAt c.args.moment) (driven c.args.plan.now) (reply_of c.in_ok-ask.field-0) c.take_driven.result
+    c.in_ok-ask.ensures.answer c.take_driven.ensures.err
 
-pub returns-in_err-take_offered-clause-err : goal.returns-in_err-take_offered-clause-err
-returns-in_err-take_offered-clause-err g c =
-    on_err c.from_residual.result (subst (λ (l : List Object). StopsBehind g.A.Asker.answers c.args.asker.now (filter_map (offered c.args.moment) l) c.take_offered.new.asker) c.objects-object-items.ensures
-    (offered-stops g.A.Asker.answers c.args.asker.now c.loop-object.asker c.take_offered.new.asker c.args.moment c.objects-object-items.result.now c.loop-object.object-index c.object-item.result
-    c.loop-object-test.true c.object-item.is c.loop-object.invariant.taken c.in_err-take_offered.ensures.err))
+pub returns-in_err-ask-clause-err : goal.returns-in_err-ask-clause-err
+returns-in_err-ask-clause-err g c =
+    stops-at g.A.Asker.answers c.args.asker.now c.ask.new.self (ClockAt c.args.moment) (driven c.args.plan.now) c.in_err-ask.field-0.0 c.from_residual.result
+    c.in_err-ask.ensures.answer

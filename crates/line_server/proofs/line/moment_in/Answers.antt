@@ -1,5 +1,5 @@
 use Rattle.std.proofs.Common.{◌∙◌}
-use Rattle.line_server.proofs.Moments.{moment_read}
+use Rattle.civil_moment.proofs.MomentText.{moment_read}
 use Rattle.line_server.proofs.line.moment_in.Goals as goal
 
 pub returns : goal.returns

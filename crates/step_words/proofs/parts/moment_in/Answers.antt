@@ -1,5 +1,5 @@
 use Rattle.std.proofs.Common.{◌∙◌}
-use Rattle.step_words.proofs.Moments.{moment_read}
+use Rattle.civil_moment.proofs.MomentText.{moment_read}
 use Rattle.step_words.proofs.parts.moment_in.Goals as goal
 
 pub returns : goal.returns
