@@ -4,6 +4,7 @@ mod plans;
 mod refusals;
 mod runs;
 mod samples;
+mod seconds;
 mod sessions;
 mod slow;
 mod steps;

@@ -1,7 +1,7 @@
 ghost use Rattle.meter_theory.specs.States.{IsState};
 
 use super::samples::{ENERGY, encode, plan_of, started};
-use super::steps::Event::{Evaluate, Input};
+use super::steps::Event::{CaptureAt, Evaluate, Input, ScheduleAt, Tick};
 use super::steps::{AB, C, Event, GET_ALARM, OCTETS_TEXT, PROFILE, SET_AB, TABLE, is_this, step};
 use cosem_data::cell::CellRef;
 use cosem_data::memory::Memory;
@@ -39,9 +39,9 @@ const BUFFER: Event = Event::Get((7, PROFILE, 2), "");
 /// The rows from the second to the second and the columns from the second to the second are one alarm.
 const ENTRY: Event = Event::Get((7, PROFILE, 2), "020406000000020600000002120002120002");
 
-const CAPTURE_AT: Event = Event::CaptureAt("2024-02-28T00:15:00");
+const AT_A_QUARTER: Event = Event::ClockAt("2024-02-28T00:14:59");
 
-const SCHEDULE_AT: Event = Event::ScheduleAt("2024-02-29T00:00:00");
+const AT_MIDNIGHT: Event = Event::ClockAt("2024-02-29T00:00:00");
 
 /// Energies that the monitor has seen.
 const FIVE: &str = "0600000005";
@@ -72,8 +72,8 @@ const ROWS_9_0: &str = "010202020600000009090144\
 const TIMES: &str = "010102020904000000FF0905FFFFFFFEFF";
 
 /// Requests; evaluations, the second of which finds 100 crossed, sets the alarm and captures into a full profile; further
-/// captures into it; the longer script, by schedule; a reset, and the script again, by request.
-static ROWS: [Row; 21] = [
+/// captures into it, one a second behind the clock's quarter; the longer script, by schedule; a reset, and the script again, by request.
+static ROWS: [Row; 25] = [
     (SET_AB, "0", 5, AB, "00", NO_ROWS, 0),
     (GET_ALARM, AB, 5, AB, "00", NO_ROWS, 0),
     (CAPTURE, "0", 5, AB, "00", ROW_5, 1),
@@ -89,9 +89,13 @@ static ROWS: [Row; 21] = [
     (Input(7), "quiet", 7, C, HUNDRED, ROWS_100_100, 2),
     (CAPTURE, "0", 7, C, HUNDRED, ROWS_100_7, 2),
     (Input(8), "quiet", 8, C, HUNDRED, ROWS_100_7, 2),
-    (CAPTURE_AT, "quiet", 8, C, HUNDRED, ROWS_7_8, 2),
+    (AT_A_QUARTER, "quiet", 8, C, HUNDRED, ROWS_100_7, 2),
+    (CaptureAt, "quiet", 8, C, HUNDRED, ROWS_100_7, 2),
+    (Tick, "quiet", 8, C, HUNDRED, ROWS_100_7, 2),
+    (CaptureAt, "quiet", 8, C, HUNDRED, ROWS_7_8, 2),
     (Input(9), "quiet", 9, C, HUNDRED, ROWS_7_8, 2),
-    (SCHEDULE_AT, "quiet", 0, EF, HUNDRED, ROWS_9_0, 2),
+    (AT_MIDNIGHT, "quiet", 9, C, HUNDRED, ROWS_7_8, 2),
+    (ScheduleAt, "quiet", 0, EF, HUNDRED, ROWS_9_0, 2),
     (CLEAR, "0", 0, EF, HUNDRED, NO_ROWS, 0),
     (Input(9), "quiet", 9, EF, HUNDRED, NO_ROWS, 0),
     (EXECUTE, "0", 0, EF, HUNDRED, ROWS_9_0, 2),

@@ -88,10 +88,14 @@ pub(super) enum Event {
     Input(u32),
     /// The monitor is evaluated.
     Evaluate,
-    /// A moment is offered to the profile.
-    CaptureAt(&'static str),
-    /// A moment is offered to the schedule.
-    ScheduleAt(&'static str),
+    /// The clock is set to a moment.
+    ClockAt(&'static str),
+    /// A second passes.
+    Tick,
+    /// The clock has moved, which is offered to the profile.
+    CaptureAt,
+    /// The clock has moved, which is offered to the schedule.
+    ScheduleAt,
 }
 
 /// Encodings of alarms of two letters, of one and of none.
@@ -145,14 +149,12 @@ pub(super) fn step(alloc: Global, event: Event) -> Result<Step, Fail> {
             value: Data::DoubleLongUnsigned(energy),
         },
         Event::Evaluate => Step::Evaluate { monitor: MONITOR },
-        Event::CaptureAt(text) => Step::CaptureAt {
-            profile: PROFILE,
+        Event::ClockAt(text) => Step::ClockAt {
             moment: Moment::read(text)?,
         },
-        Event::ScheduleAt(text) => Step::ScheduleAt {
-            schedule: SCHEDULE,
-            moment: Moment::read(text)?,
-        },
+        Event::Tick => Step::Tick,
+        Event::CaptureAt => Step::CaptureAt { profile: PROFILE },
+        Event::ScheduleAt => Step::ScheduleAt { schedule: SCHEDULE },
     })
 }
 

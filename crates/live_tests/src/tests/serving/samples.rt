@@ -6,7 +6,7 @@ use std::net::{Net, SocketAddr, TcpStream};
 
 /// A register that comes from outside, an alarm that the manager sets, a long identifier and a profile whose period the
 /// installer sets.
-pub(super) const TEXT: &str = r#"version = 1
+pub(super) const TEXT: &str = r#"version = 2
 client = [
  { name = "reader", sap = 32 },
  { name = "installer", sap = 48 },

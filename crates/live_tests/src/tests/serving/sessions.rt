@@ -226,12 +226,12 @@ fn a_seat_is_free_again(rt: HostRuntime) -> Result<(), Fail> {
     serves(&rt, Clients::Fill, 200, &Open, (1, 1))
 }
 
-/// Two inputs, between them an APDU and a line that is none.
+/// Two inputs, between them an APDU, a line that is none, two seconds, at each of which the profile has its turn, and a moment that isn't one.
 const LINES: &[u8] =
-    b"in 1.0.1.8.0.255 060000005A\nreader C001C100030100010800FF0200\n\nnothing\nin 1.0.1.8.0.255 0600000064";
+    b"in 1.0.1.8.0.255 060000005A\nreader C001C100030100010800FF0200\n\nnothing\ntick 2\nat 2023-02-29T00:00:00\nin 1.0.1.8.0.255 0600000064";
 
 /// What is told of the lines that are none.
-const TOLD: &[u8] = b"line 2: unreadable\nline 4: unreadable\n";
+const TOLD: &[u8] = b"line 2: unreadable\nline 4: unreadable\nline 6: unreadable\n";
 
 /// The reader is answered the last of the inputs in the end.
 fn see_the_driver<R: Net<Stream = TcpStream>>(
@@ -259,7 +259,7 @@ fn sees_the_last(reader: &mut Client) -> Option<()> {
 fn the_driver_brings_inputs(rt: HostRuntime) -> Result<(), Fail> {
     let mut faults = Vec::new(rt.alloc());
     let clients = Clients::SeeTheDriver;
-    serves_driven(&rt, clients, 1, &Open, LINES, &mut faults, (2, 2))?;
+    serves_driven(&rt, clients, 1, &Open, LINES, &mut faults, (6, 6))?;
     assert!(rt; faults.as_slice() == TOLD);
     Ok(())
 }
