@@ -4,9 +4,12 @@
     bench/instructions.py [PROGRAM]
 
 Told are the instructions for a mixed line of the demo, for a GET by a random name over 512 objects and 2,048 rights, for a byte
-of that configuration's text, for a GET of a buffer of 1,000 rows, whole and by 10 rows, and for a capture into full buffers of
-10 and 1,000 rows. Each figure is a run with many lines less one with few. Run `tools/build` first; another program of the same words can be named, to be counted beside it.
+of that configuration's text, for a GET of a buffer of 1,000 rows, whole and by 10 rows, for a capture into full buffers of
+10 and 1,000 rows, and for a second over 512 objects of which 20 have a turn at it, told by `tick 3600` and by 3,600 lines `at`. Each
+figure is a run with many lines less one with few. Run `tools/build` first; another program of the same words can be named, to be counted beside it.
 """
+import datetime
+import itertools
 import os
 import random
 import re
@@ -19,6 +22,19 @@ import demo
 import profile
 
 COUNTED = re.compile(rb"Collected : (\d+)")
+
+
+def turns():
+    """A configuration of 512 objects without a clock, of which 20 have a turn when a second passes: profiles, monitors and schedules."""
+    target = 'object = "0.0.96.0.0.255", index = 2'
+    script = 'table = "0.0.10.0.100.255", script = 1'
+    values = [f' {{ class = 1, name = "0.0.96.{n // 256}.{n % 256}.255", value = "0600000000" }}' for n in range(491)]
+    table = f' {{ class = 9, name = "0.0.10.0.100.255", script = [ {{ id = 1, action = [ {{ service = 1, {target}, value = "0600000001" }} ] }} ] }}'
+    profiles = [f' {{ class = 7, name = "1.0.99.{n}.0.255", period = 900, entries = 10, capture = [ {{ {target} }} ] }}' for n in range(8)]
+    monitors = [f' {{ class = 21, name = "0.0.16.{n}.0.255", monitored = {{ {target} }}, thresholds = ["0600000064"], action = [ {{ up = {{ {script} }}, down = {{ {script} }} }} ] }}' for n in range(6)]
+    schedules = [f' {{ class = 22, name = "0.0.15.{n}.0.255", script = {{ {script} }}, type = 1, times = ["17000000FFFFFFFFFF"] }}' for n in range(6)]
+    objects = ",\n".join(values + [table] + profiles + monitors + schedules)
+    return f'version = 2\nclient = [{{ name = "reader", sap = 32 }}]\nobject = [\n{objects}\n]\npolicy = {{ influence = [], learn = [] }}\n'
 
 
 def counted(program, text, lines):
@@ -55,6 +71,12 @@ def main():
             print(f"a capture into {entries} full entries: {each(text, full, lambda: profile.CAPTURE, 0, 2_000):.0f}")
         print(f"a GET of 1,000 rows: {each(text, full, lambda: profile.GET, 0, 20):.0f}")
         print(f"a GET of 10 of 1,000 rows: {each(text, full, lambda: profile.GET_OF_TEN, 0, 200):.0f}")
+        wide = profile.written(folder, "turns.toml", turns())
+        begin = datetime.datetime(2024, 2, 28, 22, 29, 59)
+        moments = (f"at {(begin + datetime.timedelta(seconds=n)).isoformat()}\n" for n in itertools.count(1))
+        at = each(wide, "", lambda: next(moments), 0, 3_600)
+        tick = each(wide, f"at {begin.isoformat()}\n", lambda: "tick 3600\n", 0, 1) / 3_600
+        print(f"a second over 512 objects: {tick:.0f} by tick, {at:.0f} by at")
 
 
 if __name__ == "__main__":
