@@ -5,3 +5,4 @@ pub mod DataClass
 pub mod DataLaws
 pub mod RegisterClass
 pub mod RegisterLaws
+pub mod Parts

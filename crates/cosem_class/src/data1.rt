@@ -3,12 +3,18 @@ ghost use Rattle.cosem_class.specs.CellSets.{has};
 ghost use Rattle.cosem_data.specs.View.{tree};
 ghost use Rattle.cosem_data.specs.Kinds.{kind_of};
 ghost use Rattle.cosem_class.specs.DataClass.{DataFixed, value_cells, data_reading, data_refusal, data_new_value, data_touched, DataMeetsRule};
+ghost use Rattle.cosem_class.specs.Parts.{data_part_of};
 ghost use Rattle.cosem_class.specs.DataLaws.{data_depends_only_on_sources, data_writes_its_value, data_keeps_rules};
 
 use crate::cell_set::CellSet;
 use crate::class::{ClassFault, InterfaceClass, Lent, Op, Row};
-use crate::judge::judge_kind;
+use crate::judge::{judge_kind, kind_answer};
+use crate::part::ClassPart;
 use cosem_data::data::Data;
+use cosem_data::kind::Kind;
+use cosem_data::memory::Memory;
+use cosem_data::name::LogicalName;
+use meter_theory::access::AccessCode;
 use meter_theory::refs::Interface;
 use std::alloc::Global;
 use std::mem;
@@ -27,6 +33,9 @@ pub struct Data1 {
     pub value: Data,
 }
 
+/// The indexes of the cells.
+static CELLS: [u8; 1] = [Data1::VALUE];
+
 impl Data1 {
     /// Class 1, Data, version 0, with two attributes and no method (IEC 62056-6-2).
     pub const INTERFACE: Interface = Interface {
@@ -38,6 +47,41 @@ impl Data1 {
 
     /// The index of the value.
     pub const VALUE: u8 = 2;
+}
+
+impl ClassPart for DataPart {
+    ghost part = { data_part_of };
+
+    fn interface(&self) -> Interface {
+        Data1::INTERFACE
+    }
+
+    fn cells(&self) -> &'static [u8] {
+        &CELLS
+    }
+
+    fn start_kind(&self, index: u8) -> Kind {
+        match index {
+            Data1::VALUE => self.start.kind(),
+            _ => Kind::NullData,
+        }
+    }
+
+    #[tactic(auto, unfolding(meter_theory::specs::Fixed::fixed_in))]
+    fn fixed(&self, _alloc: Global, _index: u8) -> Result<Data, Memory> {
+        Ok(Data::NullData)
+    }
+
+    fn judge(&self, _monitored: Kind, index: u8, value: &Data) -> Result<(), AccessCode> {
+        match index {
+            Data1::VALUE => kind_answer(self.start.kind(), value),
+            _ => Err(AccessCode::TypeUnmatched),
+        }
+    }
+
+    fn push_references(&self, _names: &mut Vec<LogicalName>) -> Result<(), Memory> {
+        Ok(())
+    }
 }
 
 impl<'a> InterfaceClass<Lent<'a, DataPart>> for Data1 {

@@ -1,12 +1,13 @@
-ghost use Rattle.std.specs.Prelude.{◌≡◌};
+ghost use Rattle.std.specs.Prelude.{◌≡◌, Some};
 ghost use Rattle.cosem_data.specs.View.{tree};
 ghost use Rattle.meter_theory.specs.Value.{OfKind, is_within_limits};
-ghost use Rattle.cosem_class.specs.Judged.{judged, answer_of};
+ghost use Rattle.cosem_class.specs.Judged.{judged, answer_of, coded_answer, rule_answer};
 
 use crate::class::ClassFault;
 use cosem_axdr::limits::is_encoded_within;
 use cosem_data::data::Data;
 use cosem_data::kind::Kind;
+use meter_theory::access::AccessCode;
 use meter_theory::limits::{VALUE_BYTES, VALUE_LEVELS};
 
 /// Whether a value keeps within the limits of a cell: `VALUE_BYTES` when encoded, `VALUE_LEVELS` of nesting (own profile).
@@ -28,4 +29,19 @@ pub fn judge_kind(kind: Kind, value: &Data) -> Result<(), ClassFault>
         return Err(ClassFault::Rule);
     }
     Ok(())
+}
+
+/// An answer with the code of its fault.
+pub fn coded(answer: Result<(), ClassFault>) -> Result<(), AccessCode>
+    ensures { result ≡ coded_answer answer }
+{
+    answer?;
+    Ok(())
+}
+
+/// The same as `judge_kind`, with the code of the fault.
+pub fn kind_answer(kind: Kind, value: &Data) -> Result<(), AccessCode>
+    ensures { result ≡ rule_answer (Some (OfKind kind)) (tree value.now) }
+{
+    coded(judge_kind(kind, value))
 }

@@ -7,5 +7,6 @@ pub mod class;
 pub mod data1;
 pub mod generic;
 pub mod judge;
+pub mod part;
 pub mod register;
 pub mod shapes;

@@ -3,13 +3,19 @@ ghost use Rattle.cosem_data.specs.View.{tree};
 ghost use Rattle.cosem_class.specs.CellSets.{has};
 ghost use Rattle.cosem_class.specs.DataClass.{value_cells};
 ghost use Rattle.cosem_class.specs.RegisterClass.{RegisterFixed, register_reading, register_refusal, register_new_value, register_touched, RegisterMeetsRule};
+ghost use Rattle.cosem_class.specs.Parts.{register_part_of};
 ghost use Rattle.cosem_class.specs.RegisterLaws.{register_depends_only_on_sources, register_writes_its_value, register_keeps_rules};
 
 use crate::cell_set::CellSet;
 use crate::class::{ClassFault, InterfaceClass, Lent, Op, Row};
-use crate::judge::judge_kind;
+use crate::judge::{judge_kind, kind_answer};
+use crate::part::ClassPart;
 use crate::shapes::scaler_unit_data;
 use cosem_data::data::Data;
+use cosem_data::kind::Kind;
+use cosem_data::memory::Memory;
+use cosem_data::name::LogicalName;
+use meter_theory::access::AccessCode;
 use meter_theory::refs::{Interface, ScalerUnit};
 use std::alloc::Global;
 use std::mem;
@@ -32,6 +38,9 @@ pub struct Register {
     pub value: Data,
 }
 
+/// The indexes of the cells.
+static CELLS: [u8; 1] = [Register::VALUE];
+
 impl Register {
     /// Class 3, Register, version 0, with three attributes and one method, reset (IEC 62056-6-2).
     pub const INTERFACE: Interface = Interface {
@@ -49,6 +58,45 @@ impl Register {
 
     /// The method that puts the default.
     pub const RESET: u8 = 1;
+}
+
+impl ClassPart for RegisterPart {
+    ghost part = { register_part_of };
+
+    fn interface(&self) -> Interface {
+        Register::INTERFACE
+    }
+
+    fn cells(&self) -> &'static [u8] {
+        &CELLS
+    }
+
+    fn start_kind(&self, index: u8) -> Kind {
+        match index {
+            Register::VALUE => self.start.kind(),
+            _ => Kind::NullData,
+        }
+    }
+
+    /// Attribute 3, scaler_unit (IEC 62056-6-2, Register).
+    #[tactic(auto, unfolding(meter_theory::specs::Fixed::fixed_in))]
+    fn fixed(&self, alloc: Global, index: u8) -> Result<Data, Memory> {
+        match index {
+            Register::SCALER_UNIT => scaler_unit_data(alloc, self.scaler_unit),
+            _ => Ok(Data::NullData),
+        }
+    }
+
+    fn judge(&self, _monitored: Kind, index: u8, value: &Data) -> Result<(), AccessCode> {
+        match index {
+            Register::VALUE => kind_answer(self.start.kind(), value),
+            _ => Err(AccessCode::TypeUnmatched),
+        }
+    }
+
+    fn push_references(&self, _names: &mut Vec<LogicalName>) -> Result<(), Memory> {
+        Ok(())
+    }
 }
 
 impl<'a> InterfaceClass<Lent<'a, RegisterPart>> for Register {

@@ -2,7 +2,7 @@ use Rattle.std.proofs.Common.{◌∙◌, ap}
 use Rattle.cosem_data.specs.View.{tree}
 use Rattle.cosem_class.specs.Judged.{coded_answer, coded_answer-judged}
 use Rattle.meter_theory.specs.Value.{OfKind}
-use Rattle.object_model.proofs.part.kind_answer.Goals as goal
+use Rattle.cosem_class.proofs.judge.kind_answer.Goals as goal
 
 pub returns : goal.returns
 returns c = c.coded.ensures ∙ ap coded_answer c.judge_kind.ensures ∙ coded_answer-judged (OfKind c.args.kind) (tree c.args.value.now)
