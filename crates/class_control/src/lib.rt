@@ -9,6 +9,7 @@ pub mod judge;
 pub mod matching;
 pub mod monitor;
 pub mod parts;
+mod references;
 pub mod schedule;
 pub mod script;
 pub mod script_table;

@@ -1,13 +1,27 @@
 //! What a plan fixes of an object of each class, with the start values of its cells.
-ghost use Rattle.std.specs.Prelude.{◌<◌};
+ghost use Rattle.std.specs.Prelude.{◌<◌, ◌≡◌, Some};
+ghost use Rattle.cosem_data.specs.View.{tree};
+ghost use Rattle.meter_theory.specs.Value.{ClockTime, ExecutionTimes, Thresholds};
+ghost use Rattle.cosem_class.specs.Judged.{rule_answer};
 
+use crate::clock::{Clock, judge_time};
+use crate::judge::{judge_thresholds, judge_times};
+use crate::monitor::Monitor;
+use crate::references::{push_scripts, push_tables};
+use crate::schedule::Schedule;
 use crate::script::Script;
+use crate::script_table::ScriptTable;
 use crate::shapes::{actions_data, monitored_data, no_date_time, script_ref_data, scripts_data};
 use civil_moment::moment::Moment;
+use cosem_class::judge::coded;
+use cosem_class::part::ClassPart;
 use cosem_data::cell::CellRef;
 use cosem_data::data::Data;
+use cosem_data::kind::Kind;
 use cosem_data::memory::Memory;
-use meter_theory::refs::{ScriptRef, UpDown};
+use cosem_data::name::LogicalName;
+use meter_theory::access::AccessCode;
+use meter_theory::refs::{Interface, ScriptRef, UpDown};
 use std::alloc::Global;
 
 /// The start of the time of a clock, of which a plan fixes nothing else (IEC 62056-6-2, Clock; own profile).
@@ -48,18 +62,41 @@ pub struct SchedulePart {
     pub start: Data,
 }
 
-impl ClockPart {
-    ghost use Rattle.std.specs.Prelude.{◌≡◌, IfOk};
-    ghost use Rattle.cosem_data.specs.View.{tree};
-    ghost use Rattle.meter_theory.specs.Fixed.{fixed_in};
+/// The indexes of the cells of a clock.
+static CLOCK_CELLS: [u8; 1] = [Clock::TIME];
+
+/// The indexes of the cells of a script table, which has none.
+static SCRIPT_TABLE_CELLS: [u8; 0] = [];
+
+/// The indexes of the cells of a register monitor.
+static MONITOR_CELLS: [u8; 2] = [Monitor::THRESHOLDS, Monitor::SEEN];
+
+/// The indexes of the cells of a schedule.
+static SCHEDULE_CELLS: [u8; 1] = [Schedule::EXECUTION_TIME];
+
+impl ClassPart for ClockPart {
     ghost use Rattle.class_control.specs.PartView.{clock_part_of};
 
-    /// A copy of a fixed attribute other than the logical name: 3 to 9, of a clock whose time zone says nothing and that knows no
-    /// daylight saving; null-data at any other index (IEC 62056-6-2, Clock; own profile).
+    ghost part = { clock_part_of };
+
+    fn interface(&self) -> Interface {
+        Clock::INTERFACE
+    }
+
+    fn cells(&self) -> &'static [u8] {
+        &CLOCK_CELLS
+    }
+
+    fn start_kind(&self, index: u8) -> Kind {
+        match index {
+            Clock::TIME => Kind::OctetString,
+            _ => Kind::NullData,
+        }
+    }
+
+    /// 3 to 9, of a clock whose time zone says nothing and that knows no daylight saving (IEC 62056-6-2, Clock; own profile).
     #[tactic(auto, unfolding(meter_theory::specs::Fixed::fixed_in))]
-    pub fn fixed(&self, alloc: Global, index: u8) -> Result<Data, Memory>
-        ensures { IfOk result (λ value. tree value ≡ fixed_in (clock_part_of self.now) index) }
-    {
+    fn fixed(&self, alloc: Global, index: u8) -> Result<Data, Memory> {
         match index {
             3 => Ok(Data::Long(0)),
             4 => Ok(Data::Unsigned(0)),
@@ -70,63 +107,157 @@ impl ClockPart {
             _ => Ok(Data::NullData),
         }
     }
+
+    fn judge(&self, _monitored: Kind, index: u8, value: &Data) -> Result<(), AccessCode> {
+        match index {
+            Clock::TIME => clock_answer(value),
+            _ => Err(AccessCode::TypeUnmatched),
+        }
+    }
+
+    fn push_references(&self, _names: &mut Vec<LogicalName>) -> Result<(), Memory> {
+        Ok(())
+    }
 }
 
-impl ScriptTablePart {
-    ghost use Rattle.std.specs.Prelude.{◌≡◌, IfOk};
-    ghost use Rattle.cosem_data.specs.View.{tree};
-    ghost use Rattle.meter_theory.specs.Fixed.{fixed_in};
+impl ClassPart for ScriptTablePart {
     ghost use Rattle.class_control.specs.PartView.{script_table_part_of};
 
-    /// A copy of a fixed attribute other than the logical name: 2, scripts; null-data at any other index (IEC 62056-6-2,
-    /// Script table).
+    ghost part = { script_table_part_of };
+
+    fn interface(&self) -> Interface {
+        ScriptTable::INTERFACE
+    }
+
+    fn cells(&self) -> &'static [u8] {
+        &SCRIPT_TABLE_CELLS
+    }
+
+    fn start_kind(&self, _index: u8) -> Kind {
+        Kind::NullData
+    }
+
+    /// 2, scripts (IEC 62056-6-2, Script table).
     #[tactic(auto, unfolding(meter_theory::specs::Fixed::fixed_in))]
-    pub fn fixed(&self, alloc: Global, index: u8) -> Result<Data, Memory>
-        ensures { IfOk result (λ value. tree value ≡ fixed_in (script_table_part_of self.now) index) }
-    {
+    fn fixed(&self, alloc: Global, index: u8) -> Result<Data, Memory> {
         match index {
-            2 => scripts_data(alloc, &self.scripts),
+            ScriptTable::SCRIPTS => scripts_data(alloc, &self.scripts),
             _ => Ok(Data::NullData),
         }
     }
+
+    fn judge(&self, _monitored: Kind, _index: u8, _value: &Data) -> Result<(), AccessCode> {
+        Err(AccessCode::TypeUnmatched)
+    }
+
+    fn push_references(&self, names: &mut Vec<LogicalName>) -> Result<(), Memory> {
+        push_scripts(&self.scripts, names)
+    }
 }
 
-impl MonitorPart {
-    ghost use Rattle.std.specs.Prelude.{◌≡◌, IfOk};
-    ghost use Rattle.cosem_data.specs.View.{tree};
-    ghost use Rattle.meter_theory.specs.Fixed.{fixed_in};
+impl ClassPart for MonitorPart {
     ghost use Rattle.class_control.specs.PartView.{monitor_part_of};
 
-    /// A copy of a fixed attribute other than the logical name: 3, monitored_value, and 4, actions; null-data at any other
-    /// index (IEC 62056-6-2, Register monitor).
-    #[tactic(auto, unfolding(meter_theory::specs::Fixed::fixed_in))]
-    pub fn fixed(&self, alloc: Global, index: u8) -> Result<Data, Memory>
-        ensures { IfOk result (λ value. tree value ≡ fixed_in (monitor_part_of self.now) index) }
-    {
+    ghost part = { monitor_part_of };
+
+    fn interface(&self) -> Interface {
+        Monitor::INTERFACE
+    }
+
+    fn cells(&self) -> &'static [u8] {
+        &MONITOR_CELLS
+    }
+
+    fn start_kind(&self, index: u8) -> Kind {
         match index {
-            3 => monitored_data(alloc, self),
-            4 => actions_data(alloc, &self.actions),
+            Monitor::THRESHOLDS => self.start.kind(),
+            _ => Kind::NullData,
+        }
+    }
+
+    /// 3, monitored_value, and 4, actions (IEC 62056-6-2, Register monitor).
+    #[tactic(auto, unfolding(meter_theory::specs::Fixed::fixed_in))]
+    fn fixed(&self, alloc: Global, index: u8) -> Result<Data, Memory> {
+        match index {
+            Monitor::MONITORED_VALUE => monitored_data(alloc, self),
+            Monitor::ACTIONS => actions_data(alloc, &self.actions),
             _ => Ok(Data::NullData),
         }
+    }
+
+    fn judge(&self, monitored: Kind, index: u8, value: &Data) -> Result<(), AccessCode> {
+        match index {
+            Monitor::THRESHOLDS => thresholds_answer(self.actions.len(), monitored, value),
+            _ => Err(AccessCode::TypeUnmatched),
+        }
+    }
+
+    fn push_references(&self, names: &mut Vec<LogicalName>) -> Result<(), Memory> {
+        names.push(self.monitored_value.name)?;
+        push_tables(&self.actions, names)
     }
 }
 
-impl SchedulePart {
-    ghost use Rattle.std.specs.Prelude.{◌≡◌, IfOk};
-    ghost use Rattle.cosem_data.specs.View.{tree};
-    ghost use Rattle.meter_theory.specs.Fixed.{fixed_in};
+impl ClassPart for SchedulePart {
     ghost use Rattle.class_control.specs.PartView.{schedule_part_of};
 
-    /// A copy of a fixed attribute other than the logical name: 2, executed_script, and 3, type; null-data at any other
-    /// index (IEC 62056-6-2, Single action schedule).
-    #[tactic(auto, unfolding(meter_theory::specs::Fixed::fixed_in))]
-    pub fn fixed(&self, alloc: Global, index: u8) -> Result<Data, Memory>
-        ensures { IfOk result (λ value. tree value ≡ fixed_in (schedule_part_of self.now) index) }
-    {
+    ghost part = { schedule_part_of };
+
+    fn interface(&self) -> Interface {
+        Schedule::INTERFACE
+    }
+
+    fn cells(&self) -> &'static [u8] {
+        &SCHEDULE_CELLS
+    }
+
+    fn start_kind(&self, index: u8) -> Kind {
         match index {
-            2 => script_ref_data(alloc, self.executed_script),
-            3 => Ok(Data::Enumerated(self.execution_type)),
+            Schedule::EXECUTION_TIME => self.start.kind(),
+            _ => Kind::NullData,
+        }
+    }
+
+    /// 2, executed_script, and 3, type (IEC 62056-6-2, Single action schedule).
+    #[tactic(auto, unfolding(meter_theory::specs::Fixed::fixed_in))]
+    fn fixed(&self, alloc: Global, index: u8) -> Result<Data, Memory> {
+        match index {
+            Schedule::EXECUTED_SCRIPT => script_ref_data(alloc, self.executed_script),
+            Schedule::TYPE => Ok(Data::Enumerated(self.execution_type)),
             _ => Ok(Data::NullData),
         }
     }
+
+    fn judge(&self, _monitored: Kind, index: u8, value: &Data) -> Result<(), AccessCode> {
+        match index {
+            Schedule::EXECUTION_TIME => times_answer(self.execution_type, value),
+            _ => Err(AccessCode::TypeUnmatched),
+        }
+    }
+
+    fn push_references(&self, names: &mut Vec<LogicalName>) -> Result<(), Memory> {
+        names.push(self.executed_script.table)?;
+        Ok(())
+    }
+}
+
+fn thresholds_answer(number: usize, kind: Kind, value: &Data) -> Result<(), AccessCode>
+    ensures { result ≡ rule_answer (Some (Thresholds number kind)) (tree value.now) }
+{
+    coded(judge_thresholds(number, kind, value))
+}
+
+fn clock_answer(value: &Data) -> Result<(), AccessCode>
+    ensures { result ≡ rule_answer (Some ClockTime) (tree value.now) }
+{
+    match judge_time(value) {
+        Ok(_) => Ok(()),
+        Err(fault) => Err(AccessCode::from(fault)),
+    }
+}
+
+fn times_answer(execution_type: u8, value: &Data) -> Result<(), AccessCode>
+    ensures { result ≡ rule_answer (Some (ExecutionTimes execution_type)) (tree value.now) }
+{
+    coded(judge_times(execution_type, value))
 }

@@ -1,11 +1,10 @@
-ghost use Rattle.std.specs.Prelude.{◌≡◌, ◌≤◌, ℕ, [], length, min, ◌+◌, true, IfOk, IsOk, OnOk, OnErr};
+ghost use Rattle.std.specs.Prelude.{◌≡◌, ◌≤◌, ℕ, [], ◌++◌, length, map, min, ◌+◌, true, IfOk, IsOk, OnOk, OnErr};
 ghost use Rattle.cosem_data.specs.View.{tree};
 ghost use Rattle.meter_theory.specs.Value.{array_of, structure_of, counter};
 ghost use Rattle.meter_theory.specs.Value as values;
 ghost use Rattle.meter_theory.specs.declared.limits.TheConstants.{PROFILE_ENTRIES};
 ghost use Rattle.meter_theory.specs.Steps.{buffer_after, in_use_after};
 ghost use Rattle.meter_theory.specs.Plan.{ProfileGeneric};
-ghost use Rattle.meter_theory.specs.Fixed.{fixed_in};
 ghost use Rattle.cosem_class.specs.CellSets.{has};
 ghost use Rattle.class_profile.specs.ProfileClass.{ProfileFixed, HaveAttributeIndexes, is_buffer, profile_cells, profile_reading, profile_refusal, profile_new_value, profile_touched, profile_own_sources, profile_row_cells, ProfileMeetsRule, IsProfileRow};
 ghost use Rattle.class_profile.specs.ProfileLaws.{profile_depends_only_on_sources, profile_writes_its_value, profile_keeps_rules};
@@ -15,11 +14,14 @@ use crate::rows::Rows;
 use crate::shapes::{capture_objects_data, no_sort_object_data};
 use cosem_class::cell_set::CellSet;
 use cosem_class::class::{ClassFault, InterfaceClass, Lent, Op, Row};
-use cosem_class::judge::judge_kind;
+use cosem_class::judge::{judge_kind, kind_answer};
+use cosem_class::part::ClassPart;
 use cosem_data::cell::CellRef;
 use cosem_data::data::Data;
 use cosem_data::kind::Kind;
 use cosem_data::memory::Memory;
+use cosem_data::name::LogicalName;
+use meter_theory::access::AccessCode;
 use meter_theory::refs::Interface;
 use std::alloc::Global;
 use std::mem;
@@ -41,13 +43,29 @@ pub struct ProfilePart {
     pub ghost entries_fit: { profile_entries ≤ PROFILE_ENTRIES },
 }
 
-impl ProfilePart {
-    /// A fixed attribute other than the logical name: 3, capture_objects, 5, sort_method, which is 1, fifo, 6, sort_object,
-    /// which names none, and 8, profile_entries; null-data at any other index (own profile).
+impl ClassPart for ProfilePart {
+    ghost part = { λ p. ProfileGeneric p.captured.items p.capture_period p.profile_entries };
+
+    fn interface(&self) -> Interface {
+        Profile::INTERFACE
+    }
+
+    fn cells(&self) -> &'static [u8] {
+        &CELLS
+    }
+
+    fn start_kind(&self, index: u8) -> Kind {
+        match index {
+            Profile::BUFFER => Kind::Array,
+            Profile::CAPTURE_PERIOD | Profile::ENTRIES_IN_USE => Kind::DoubleLongUnsigned,
+            _ => Kind::NullData,
+        }
+    }
+
+    /// 3, capture_objects, 5, sort_method, which is 1, fifo, 6, sort_object, which names none, and 8, profile_entries (own
+    /// profile).
     #[tactic(auto, unfolding(meter_theory::specs::Fixed::fixed_in))]
-    pub fn fixed(&self, alloc: Global, index: u8) -> Result<Data, Memory>
-        ensures { IfOk result (λ value. tree value ≡ fixed_in (ProfileGeneric self.now.captured.items self.now.capture_period self.now.profile_entries) index) }
-    {
+    fn fixed(&self, alloc: Global, index: u8) -> Result<Data, Memory> {
         match index {
             Profile::CAPTURE_OBJECTS => capture_objects_data(alloc, &self.captured),
             Profile::SORT_METHOD => Ok(Data::Enumerated(1)),
@@ -56,7 +74,35 @@ impl ProfilePart {
             _ => Ok(Data::NullData),
         }
     }
+
+    fn judge(&self, _monitored: Kind, index: u8, value: &Data) -> Result<(), AccessCode> {
+        match index {
+            Profile::CAPTURE_PERIOD => kind_answer(Kind::DoubleLongUnsigned, value),
+            _ => Err(AccessCode::TypeUnmatched),
+        }
+    }
+
+    fn push_references(&self, names: &mut Vec<LogicalName>) -> Result<(), Memory> {
+        push_captured(&self.captured, names)
+    }
 }
+
+/// Adds the objects of cells.
+fn push_captured(captured: &[CellRef], names: &mut Vec<LogicalName>) -> Result<(), Memory>
+    ensures { OnOk result (names.new.items ≡ names.old.items ++ map (λ x. x.name) captured.now) }
+{
+    for cell in captured {
+        names.push(cell.name)?;
+    }
+    Ok(())
+}
+
+/// The indexes of the cells.
+static CELLS: [u8; 3] = [
+    Profile::BUFFER,
+    Profile::CAPTURE_PERIOD,
+    Profile::ENTRIES_IN_USE,
+];
 
 /// The cells of an object of class 7, Profile generic: the last entries that were captured (IEC 62056-6-2, Profile generic,
 /// version 1).
