@@ -15,6 +15,7 @@ use crate::times::{day_of, is_at_most, month_of, octets_of, year_of};
 use civil_moment::moment::Moment;
 use cosem_class::cell_set::CellSet;
 use cosem_class::class::{ClassFault, InterfaceClass, Lent, Op, Row};
+use cosem_class::generic::put_into;
 use cosem_class::judge::keeps_limits;
 use cosem_data::bytes::Bytes;
 use cosem_data::data::Data;
@@ -43,6 +44,18 @@ impl Clock {
 
     /// The index of the time.
     pub const TIME: u8 = 2;
+
+    /// Puts a time that may stand there. The previous moment is returned. It takes no memory.
+    pub fn put(&mut self, lent: Lent<ClockPart>, index: u8, given: Data) -> Moment
+        requires index { index ≡ 2 }
+        requires fits { meets ClockTime (tree given) ≡ true }
+        ensures time { self.new.time ≡ clock_moment (tree given) }
+        ensures previous { result ≡ self.old.time }
+    {
+        let previous = self.time;
+        let _same = put_into(self, lent, index, given);
+        previous
+    }
 
     /// Goes on by a second; at the last moment it stays.
     pub fn tick(&mut self)

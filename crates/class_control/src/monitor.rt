@@ -1,6 +1,7 @@
-ghost use Rattle.std.specs.Prelude.{◌≡◌, ℕ, false, ⊤, [], IfOk};
+ghost use Rattle.std.specs.Prelude.{◌≡◌, ℕ, true, false, ⊤, [], length, IfOk};
+ghost use Rattle.cosem_data.specs.Tree.{null_data};
 ghost use Rattle.cosem_data.specs.View.{tree};
-ghost use Rattle.meter_theory.specs.Value.{elements};
+ghost use Rattle.meter_theory.specs.Value.{Thresholds, elements, meets};
 ghost use Rattle.meter_theory.specs.Steps.{due_scripts};
 ghost use Rattle.cosem_class.specs.CellSets.{has};
 ghost use Rattle.cosem_class.specs.Objects.{cells_after};
@@ -14,6 +15,7 @@ use crate::parts::MonitorPart;
 use crate::shapes::{actions_data, monitored_data};
 use cosem_class::cell_set::CellSet;
 use cosem_class::class::{ClassFault, InterfaceClass, Op, Row};
+use cosem_class::generic::put_into;
 use cosem_data::data::Data;
 use cosem_data::kind::Kind;
 use cosem_data::memory::Memory;
@@ -64,6 +66,39 @@ impl Monitor {
 
     /// The index of the actions.
     pub const ACTIONS: u8 = 4;
+
+    /// A monitor with the start of its thresholds, which has seen nothing.
+    pub fn start(alloc: Global, part: &MonitorPart) -> Result<Monitor, Memory>
+        ensures thresholds { IfOk result (λ object. tree object.thresholds ≡ tree part.now.start) }
+        ensures seen { IfOk result (λ object. tree object.seen ≡ null_data) }
+    {
+        Ok(Monitor {
+            thresholds: part.start.try_clone(alloc)?,
+            seen: Data::NullData,
+        })
+    }
+
+    /// A copy.
+    pub fn try_clone(&self, alloc: Global) -> Result<Monitor, Memory>
+        ensures thresholds { IfOk result (λ copy. tree copy.thresholds ≡ tree self.now.thresholds) }
+        ensures seen { IfOk result (λ copy. tree copy.seen ≡ tree self.now.seen) }
+    {
+        Ok(Monitor {
+            thresholds: self.thresholds.try_clone(alloc)?,
+            seen: self.seen.try_clone(alloc)?,
+        })
+    }
+
+    /// Puts thresholds that fit the actions and the monitored kind. The previous ones are returned. It takes no memory.
+    pub fn put(&mut self, watch: Watch, index: u8, given: Data) -> Data
+        requires index { index ≡ 2 }
+        requires fits { meets (Thresholds (length watch.part.now.actions.items) watch.kind) (tree given) ≡ true }
+        ensures thresholds { tree self.new.thresholds ≡ tree given }
+        ensures seen { tree self.new.seen ≡ tree self.old.seen }
+        ensures previous { tree result ≡ tree self.old.thresholds }
+    {
+        put_into(self, watch, index, given)
+    }
 
     /// Remembers the monitored value as the one of the last evaluation, and returns the one before (own profile). It takes
     /// no memory, and there is no error.

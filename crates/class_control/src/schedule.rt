@@ -1,7 +1,7 @@
-ghost use Rattle.std.specs.Prelude.{◌≡◌, ℕ, false, ⊤};
+ghost use Rattle.std.specs.Prelude.{◌≡◌, ℕ, true, false, ⊤, IfOk};
 ghost use Rattle.cosem_data.specs.View.{tree};
 ghost use Rattle.meter_theory.specs.Times.{is_schedule_due};
-ghost use Rattle.meter_theory.specs.Value.{elements};
+ghost use Rattle.meter_theory.specs.Value.{ExecutionTimes, elements, meets};
 ghost use Rattle.cosem_class.specs.CellSets.{has};
 ghost use Rattle.class_control.specs.ScheduleClass.{ScheduleFixed, schedule_cells, schedule_reading, schedule_refusal, schedule_new_value, schedule_touched, ScheduleMeetsRule};
 ghost use Rattle.class_control.specs.ScheduleLaws.{schedule_depends_only_on_sources, schedule_writes_its_value, schedule_keeps_rules};
@@ -13,7 +13,9 @@ use crate::shapes::script_ref_data;
 use civil_moment::moment::Moment;
 use cosem_class::cell_set::CellSet;
 use cosem_class::class::{ClassFault, InterfaceClass, Lent, Op, Row};
+use cosem_class::generic::put_into;
 use cosem_data::data::Data;
+use cosem_data::memory::Memory;
 use meter_theory::refs::Interface;
 use std::alloc::Global;
 use std::mem;
@@ -43,6 +45,34 @@ impl Schedule {
 
     /// The index of the times.
     pub const EXECUTION_TIME: u8 = 4;
+
+    /// An object with the start value.
+    pub fn start(alloc: Global, part: &SchedulePart) -> Result<Schedule, Memory>
+        ensures { IfOk result (λ object. tree object.times ≡ tree part.now.start) }
+    {
+        Ok(Schedule {
+            times: part.start.try_clone(alloc)?,
+        })
+    }
+
+    /// A copy.
+    pub fn try_clone(&self, alloc: Global) -> Result<Schedule, Memory>
+        ensures { IfOk result (λ copy. tree copy.times ≡ tree self.now.times) }
+    {
+        Ok(Schedule {
+            times: self.times.try_clone(alloc)?,
+        })
+    }
+
+    /// Puts times that fit the type. The previous one is returned. It takes no memory.
+    pub fn put(&mut self, lent: Lent<SchedulePart>, index: u8, given: Data) -> Data
+        requires index { index ≡ 4 }
+        requires fits { meets (ExecutionTimes lent.part.now.execution_type) (tree given) ≡ true }
+        ensures value { tree self.new.times ≡ tree given }
+        ensures previous { tree result ≡ tree self.old.times }
+    {
+        put_into(self, lent, index, given)
+    }
 
     /// Whether the script is to be run at the moment: some element of execution_time names it (IEC 62056-6-2, Single action
     /// schedule).

@@ -1,12 +1,12 @@
 ghost use Rattle.std.specs.Prelude.{◌≡◌, ◌≤◌, ℕ, [], ◌++◌, length, map, min, ◌+◌, true, IfOk, IsOk, OnOk, OnErr};
 ghost use Rattle.cosem_data.specs.View.{tree};
-ghost use Rattle.meter_theory.specs.Value.{array_of, structure_of, counter};
+ghost use Rattle.meter_theory.specs.Value.{array_of, structure_of, counter, meets};
 ghost use Rattle.meter_theory.specs.Value as values;
 ghost use Rattle.meter_theory.specs.declared.limits.TheConstants.{PROFILE_ENTRIES};
 ghost use Rattle.meter_theory.specs.Steps.{buffer_after, in_use_after};
 ghost use Rattle.meter_theory.specs.Plan.{ProfileGeneric};
 ghost use Rattle.cosem_class.specs.CellSets.{has};
-ghost use Rattle.class_profile.specs.ProfileClass.{ProfileFixed, HaveAttributeIndexes, is_buffer, profile_cells, profile_reading, profile_refusal, profile_new_value, profile_touched, profile_own_sources, profile_row_cells, ProfileMeetsRule, IsProfileRow};
+ghost use Rattle.class_profile.specs.ProfileClass.{ProfileFixed, HaveAttributeIndexes, is_buffer, profile_cells, profile_reading, profile_refusal, profile_new_value, profile_touched, profile_own_sources, period_rule, profile_row_cells, ProfileMeetsRule, IsProfileRow};
 ghost use Rattle.class_profile.specs.ProfileLaws.{profile_depends_only_on_sources, profile_writes_its_value, profile_keeps_rules};
 ghost use Rattle.class_profile.specs.ProfileView.{before_capture, with_entries};
 
@@ -14,6 +14,7 @@ use crate::rows::Rows;
 use crate::shapes::{capture_objects_data, no_sort_object_data};
 use cosem_class::cell_set::CellSet;
 use cosem_class::class::{ClassFault, InterfaceClass, Lent, Op, Row};
+use cosem_class::generic::put_into;
 use cosem_class::judge::{judge_kind, kind_answer};
 use cosem_class::part::ClassPart;
 use cosem_data::cell::CellRef;
@@ -169,6 +170,42 @@ impl Profile {
 
     /// The method that captures a row.
     pub const CAPTURE: u8 = 2;
+
+    /// A profile without entries, with room for as many as it may have.
+    pub fn start(alloc: Global, part: &ProfilePart) -> Result<Profile, Memory>
+        ensures { IfOk result (λ object. object ≡ record { buffer = []; capture_period = part.now.capture_period; entries_in_use = 0 }) }
+    {
+        Ok(Profile {
+            buffer: Rows::new(alloc, part.profile_entries)?,
+            capture_period: part.capture_period,
+            entries_in_use: 0,
+        })
+    }
+
+    /// A copy, in a ring of as many places.
+    pub fn try_clone(&self, alloc: Global) -> Result<Profile, Memory>
+        ensures { IfOk result (λ copy. copy ≡ self.now) }
+    {
+        Ok(Profile {
+            buffer: self.buffer.try_clone(alloc)?,
+            capture_period: self.capture_period,
+            entries_in_use: self.entries_in_use,
+        })
+    }
+
+    /// Puts a capture_period. The previous one is returned. It takes no memory.
+    pub fn put(&mut self, lent: Lent<ProfilePart>, index: u8, given: Data) -> u32
+        requires index { index ≡ 4 }
+        requires fits { meets period_rule (tree given) ≡ true }
+        ensures period { counter self.new.capture_period ≡ tree given }
+        ensures rows { array_of self.new.buffer ≡ array_of self.old.buffer }
+        ensures count { counter self.new.entries_in_use ≡ counter self.old.entries_in_use }
+        ensures previous { result ≡ self.old.capture_period }
+    {
+        let previous = self.capture_period;
+        let _same = put_into(self, lent, index, given);
+        previous
+    }
 
     /// Method 2, capture: the row goes behind the buffer, of which the oldest entry goes where there is no room, and then it
     /// takes no memory. What is returned takes it back. The only error is that memory was refused, and the object has not

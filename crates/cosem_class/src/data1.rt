@@ -1,13 +1,15 @@
-ghost use Rattle.std.specs.Prelude.{◌≡◌, ℕ, false, ⊤};
+ghost use Rattle.std.specs.Prelude.{◌≡◌, ℕ, true, false, ⊤, IfOk};
 ghost use Rattle.cosem_class.specs.CellSets.{has};
 ghost use Rattle.cosem_data.specs.View.{tree};
 ghost use Rattle.cosem_data.specs.Kinds.{kind_of};
+ghost use Rattle.meter_theory.specs.Value.{OfKind, meets};
 ghost use Rattle.cosem_class.specs.DataClass.{DataFixed, value_cells, data_reading, data_refusal, data_new_value, data_touched, DataMeetsRule};
 ghost use Rattle.cosem_class.specs.Parts.{data_part_of};
 ghost use Rattle.cosem_class.specs.DataLaws.{data_depends_only_on_sources, data_writes_its_value, data_keeps_rules};
 
 use crate::cell_set::CellSet;
 use crate::class::{ClassFault, InterfaceClass, Lent, Op, Row};
+use crate::generic::put_into;
 use crate::judge::{judge_kind, kind_answer};
 use crate::part::ClassPart;
 use cosem_data::data::Data;
@@ -47,6 +49,34 @@ impl Data1 {
 
     /// The index of the value.
     pub const VALUE: u8 = 2;
+
+    /// An object with the start value.
+    pub fn start(alloc: Global, part: &DataPart) -> Result<Data1, Memory>
+        ensures { IfOk result (λ object. tree object.value ≡ tree part.now.start) }
+    {
+        Ok(Data1 {
+            value: part.start.try_clone(alloc)?,
+        })
+    }
+
+    /// A copy.
+    pub fn try_clone(&self, alloc: Global) -> Result<Data1, Memory>
+        ensures { IfOk result (λ copy. tree copy.value ≡ tree self.now.value) }
+    {
+        Ok(Data1 {
+            value: self.value.try_clone(alloc)?,
+        })
+    }
+
+    /// Puts a value of the kind that is kept. The previous one is returned. It takes no memory.
+    pub fn put(&mut self, lent: Lent<DataPart>, index: u8, given: Data) -> Data
+        requires index { index ≡ 2 }
+        requires fits { meets (OfKind (kind_of (tree lent.part.now.start))) (tree given) ≡ true }
+        ensures value { tree self.new.value ≡ tree given }
+        ensures previous { tree result ≡ tree self.old.value }
+    {
+        put_into(self, lent, index, given)
+    }
 }
 
 impl ClassPart for DataPart {

@@ -1,5 +1,7 @@
-ghost use Rattle.std.specs.Prelude.{◌≡◌, ℕ, true, false, ⊤};
+ghost use Rattle.std.specs.Prelude.{◌≡◌, ℕ, true, false, ⊤, IfOk};
 ghost use Rattle.cosem_data.specs.View.{tree};
+ghost use Rattle.cosem_data.specs.Kinds.{kind_of};
+ghost use Rattle.meter_theory.specs.Value.{OfKind, meets};
 ghost use Rattle.cosem_class.specs.CellSets.{has};
 ghost use Rattle.cosem_class.specs.DataClass.{value_cells};
 ghost use Rattle.cosem_class.specs.RegisterClass.{RegisterFixed, register_reading, register_refusal, register_new_value, register_touched, RegisterMeetsRule};
@@ -8,6 +10,7 @@ ghost use Rattle.cosem_class.specs.RegisterLaws.{register_depends_only_on_source
 
 use crate::cell_set::CellSet;
 use crate::class::{ClassFault, InterfaceClass, Lent, Op, Row};
+use crate::generic::put_into;
 use crate::judge::{judge_kind, kind_answer};
 use crate::part::ClassPart;
 use crate::shapes::scaler_unit_data;
@@ -58,6 +61,34 @@ impl Register {
 
     /// The method that puts the default.
     pub const RESET: u8 = 1;
+
+    /// An object with the start value.
+    pub fn start(alloc: Global, part: &RegisterPart) -> Result<Register, Memory>
+        ensures { IfOk result (λ object. tree object.value ≡ tree part.now.start) }
+    {
+        Ok(Register {
+            value: part.start.try_clone(alloc)?,
+        })
+    }
+
+    /// A copy.
+    pub fn try_clone(&self, alloc: Global) -> Result<Register, Memory>
+        ensures { IfOk result (λ copy. tree copy.value ≡ tree self.now.value) }
+    {
+        Ok(Register {
+            value: self.value.try_clone(alloc)?,
+        })
+    }
+
+    /// Puts a value of the kind that is kept. The previous one is returned. It takes no memory.
+    pub fn put(&mut self, lent: Lent<RegisterPart>, index: u8, given: Data) -> Data
+        requires index { index ≡ 2 }
+        requires fits { meets (OfKind (kind_of (tree lent.part.now.start))) (tree given) ≡ true }
+        ensures value { tree self.new.value ≡ tree given }
+        ensures previous { tree result ≡ tree self.old.value }
+    {
+        put_into(self, lent, index, given)
+    }
 }
 
 impl ClassPart for RegisterPart {

@@ -18,7 +18,8 @@ use Rattle.class_control.specs.ScriptView.{script_of}
 use Rattle.class_control.specs.declared.action.Action as code
 use Rattle.class_control.specs.declared.script.Script.{Script}
 use Rattle.object_model.specs.InstanceView.{AtName}
-use Rattle.object_model.specs.Tables.{references, references_at, target}
+use Rattle.cosem_class.specs.Parts.{references, target}
+use Rattle.object_model.specs.Tables.{references_at}
 use Rattle.meter_effects.specs.Targets.{AreFew, AreTargets, StartsAt}
 
 get-left : {A : Type 0} (xs ys : List A) (k : ℕ) (x : A) → slice_get xs k ≡ Some x → slice_get (xs ++ ys) k ≡ Some x

@@ -8,7 +8,8 @@ use Rattle.meter_theory.specs.declared.limits.TheConstants as limits
 use Rattle.class_control.specs.ActionView.{action_of}
 use Rattle.class_control.specs.declared.script.Script.{Script}
 use Rattle.object_model.specs.InstanceView.{AtName}
-use Rattle.object_model.specs.Tables.{references_at, target}
+use Rattle.cosem_class.specs.Parts.{target}
+use Rattle.object_model.specs.Tables.{references_at}
 
 -- the script that a reference names: IEC 62056-6-2, Script table
 abbrev pub named_script : Plan → ScriptRef → Option theory.Script

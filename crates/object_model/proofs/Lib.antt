@@ -1,3 +1,4 @@
+mod Attributes
 pub mod ByObject
 pub mod Puts
 pub mod Positions

@@ -118,7 +118,7 @@ unplaced P x none = nowhere (same_cell x) (cells P) 0 (cell-none P x none)
 
 -- How many cells there are
 
-few-own : (n : LogicalName) (p : Part) → length (start_of n p) ≤ 3
+pub few-own : (n : LogicalName) (p : Part) → length (start_of n p) ≤ 3
 few-own n (Data1 start) = omega arith
 few-own n (Register start default scaler_unit) = omega arith
 few-own n (ProfileGeneric captured period entries) = omega arith

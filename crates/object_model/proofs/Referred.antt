@@ -19,7 +19,8 @@ use Rattle.meter_theory.proofs.Lists.{from_map, from_flat_map, in_any}
 use Rattle.object_model.specs.Grants.{place_in}
 use Rattle.object_model.specs.InstanceView.{AtName}
 use Rattle.object_model.specs.PartView.{monitored_in, monitored_kind}
-use Rattle.object_model.specs.Tables.{target, references, references_at, AreReferences}
+use Rattle.cosem_class.specs.Parts.{references, target}
+use Rattle.object_model.specs.Tables.{references_at, AreReferences}
 use Rattle.object_model.proofs.ByObject.{cell-none, position-map}
 use Rattle.object_model.proofs.Positions.{first, first-none, placed}
 

@@ -1,23 +1,21 @@
 -- What a part of the code stands for.
-use Rattle.std.specs.Prelude.{◌==◌, ℕ, cond, length, Option, Some, None}
-use Rattle.cosem_data.specs.View.{tree}
+use Rattle.std.specs.Prelude.{Option, Some, None}
 use Rattle.cosem_data.specs.Kinds.{kind_of}
 use Rattle.cosem_data.specs.declared.cell.CellRef.{CellRef}
 use Rattle.cosem_data.specs.declared.kind.Kind.{Kind}
 use Rattle.cosem_data.specs.declared.kind.Kind.TheVariants.{NullData}
-use Rattle.meter_theory.specs.Value.{Rule, OfKind, Thresholds, ExecutionTimes, ClockTime}
 use Rattle.meter_theory.specs.State.{value}
 use Rattle.meter_theory.specs.Plan as theory
 use Rattle.meter_theory.specs.Plan.{start_values}
-use Rattle.class_profile.specs.ProfileClass.{period_rule}
+use Rattle.cosem_class.specs.Parts.{data_part_of, register_part_of}
 use Rattle.class_control.specs.PartView.{clock_part_of, script_table_part_of, monitor_part_of, schedule_part_of}
 use Rattle.object_model.specs.declared.part.Part.{Part}
 use Rattle.object_model.specs.declared.part.Part.TheVariants as parts
 
 -- what is fixed of an object by its class, with the trees of its values: IEC 62056-6-2, interface classes
 abbrev pub part_of : Part → theory.Part
-part_of (parts.Data part) = theory.Data1 (tree part.start)
-part_of (parts.Register part) = theory.Register (tree part.start) (tree part.default) part.scaler_unit
+part_of (parts.Data part) = data_part_of part
+part_of (parts.Register part) = register_part_of part
 part_of (parts.ProfileGeneric part) = theory.ProfileGeneric part.captured.items part.capture_period part.profile_entries
 part_of (parts.Clock part) = clock_part_of part
 part_of (parts.ScriptTable part) = script_table_part_of part
@@ -33,14 +31,3 @@ monitored_in _ = None
 abbrev pub monitored_kind : theory.Plan → theory.Part → Kind
 monitored_kind P (theory.RegisterMonitor monitored thresholds actions) = kind_of (value (start_values P) monitored)
 monitored_kind P _ = NullData
-
--- what a settable cell may hold, where a register monitor watches a value of this kind: own profile
-abbrev pub rule_watching : Kind → theory.Part → ℕ → Option Rule
-rule_watching monitored (theory.Data1 first) index = cond (index == 2) (Some (OfKind (kind_of first))) None
-rule_watching monitored (theory.Register first default scaler_unit) index = cond (index == 2) (Some (OfKind (kind_of first))) None
-rule_watching monitored (theory.ProfileGeneric captured period entries) index = cond (index == 4) (Some period_rule) None
-rule_watching monitored (theory.Clock first) index = cond (index == 2) (Some ClockTime) None
-rule_watching monitored (theory.ScriptTable scripts) index = None
-rule_watching monitored (theory.RegisterMonitor source thresholds actions) index =
-    cond (index == 2) (Some (Thresholds (length actions) monitored)) None
-rule_watching monitored (theory.SingleActionSchedule script type times) index = cond (index == 4) (Some (ExecutionTimes type)) None

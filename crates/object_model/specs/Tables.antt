@@ -2,9 +2,9 @@
 use Rattle.std.specs.Prelude.{◌≡◌, ◌==◌, ◌<◌, ℕ, Bool, not, List, [], ◌∷◌, length, map, filter, take, flat_map, Option, Some, option_map}
 use Rattle.std.specs.List.{slice_index_or}
 use Rattle.cosem_data.specs.declared.name.LogicalName.{LogicalName}
-use Rattle.meter_theory.specs.Edges.{scripts_named}
+use Rattle.cosem_class.specs.Parts.{references}
 use Rattle.meter_theory.specs.Lists.{for_some}
-use Rattle.meter_theory.specs.Plan.{Plan, Object, Action, Write, Invoke, Part, ProfileGeneric, ScriptTable, RegisterMonitor, SingleActionSchedule, class_of, clock_object, object_at, start_of}
+use Rattle.meter_theory.specs.Plan.{Plan, Object, class_of, clock_object, object_at, start_of}
 use Rattle.meter_theory.specs.Sound.{IsSound}
 use Rattle.meter_theory.specs.State.{keys}
 use Rattle.object_model.specs.Grants.{AreGrants, place_in}
@@ -31,21 +31,7 @@ pub record ArePlaces (objects : List Object) (places : List Place) : Type 0 wher
   pub size : length places ≡ length objects
   pub each : (number : ℕ) → number < length objects → (other : Place) → slice_index_or places number other ≡ place_of objects number
 
--- whose attribute an action writes, or whose method it executes: IEC 62056-6-2, Script table, action_specification
-abbrev pub target : Action → LogicalName
-target (Write x v) = x.name
-target (Invoke m parameter) = m.name
-
--- The objects to which a part refers, in its order: of the captured cells, of the targets of its scripts' actions, of the
--- monitored value and then of the scripts that are run: IEC 62056-6-2, interface classes.
-abbrev pub references : Part → List LogicalName
-references (ProfileGeneric captured period entries) = map (λ x. x.name) captured
-references (ScriptTable scripts) = flat_map (λ s. map target s.actions) scripts
-references (RegisterMonitor monitored thresholds actions) = monitored.name ∷ map (λ r. r.table) (scripts_named actions)
-references (SingleActionSchedule script type times) = script.table ∷ []
-references _ = []
-
--- the same of the object with this name: own profile
+-- the objects to which the object with this name refers: own profile
 abbrev pub references_at : Plan → LogicalName → List LogicalName
 references_at P n = for_some (object_at P n) (λ o. references o.part)
 

@@ -16,7 +16,8 @@ ghost use Rattle.meter_theory.specs.Times.{clock_moment, clock_value, next_secon
 ghost use Rattle.meter_theory.specs.Value.{Rule, meets};
 ghost use Rattle.class_profile.specs.ProfileClass.{is_buffer};
 ghost use Rattle.object_model.specs.EffectView.{effect_of, IsProfile, MayTake};
-ghost use Rattle.object_model.specs.PartView.{part_of, rule_watching};
+ghost use Rattle.cosem_class.specs.Parts.{rule_watching};
+ghost use Rattle.object_model.specs.PartView.{part_of};
 ghost use Rattle.object_model.specs.Stored.{captured, held_tree, inner_pairs, is_rows, stored_pairs, stores};
 ghost use Rattle.object_model.specs.Tables.{references_at};
 ghost use Rattle.object_model.specs.Undone.{changed_cell, undone};
@@ -54,7 +55,6 @@ impl Model for Meter {
     ghost use Rattle.std.specs.Prelude.{flat_map, ◌++◌};
     ghost use Rattle.meter_theory.specs.State.{State};
     ghost use Rattle.meter_theory.specs.PlanCode.{state_code};
-    ghost use Rattle.object_model.specs.PartView.{part_of, rule_watching};
     ghost use Rattle.object_model.specs.Stored.{inner_pairs, stored_pairs};
 
     ghost Value = { State };

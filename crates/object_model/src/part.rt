@@ -1,33 +1,22 @@
 //! What a plan fixes of an object by its interface class.
-ghost use Rattle.std.specs.Prelude.{◌≡◌, ◌≤◌, ◌++◌, length, IfOk, OnOk, Some};
+ghost use Rattle.std.specs.Prelude.{◌≡◌, ◌==◌, ◌≤◌, ◌++◌, ◌&&◌, map, length, IfOk, OnOk};
 ghost use Rattle.cosem_data.specs.declared.name.LogicalName.{LogicalName as LogicalNameValue};
 ghost use Rattle.std.specs.List.{list_any, position_from};
 ghost use Rattle.cosem_data.specs.View.{tree};
-ghost use Rattle.cosem_data.specs.Cells.{same_cell};
+ghost use Rattle.cosem_data.specs.Cells.{cell, same_cell, same_name};
 ghost use Rattle.cosem_data.specs.Kinds.{kind_of};
-ghost use Rattle.cosem_class.specs.Judged.{coded_answer, rule_answer};
+ghost use Rattle.cosem_class.specs.Judged.{rule_answer};
+ghost use Rattle.cosem_class.specs.Parts.{references, rule_watching};
 ghost use Rattle.meter_theory.specs.Plan.{class_of, interface_of, start_of};
 ghost use Rattle.meter_theory.specs.State.{keys, value};
 ghost use Rattle.meter_theory.specs.Fixed.{fixed_in};
-ghost use Rattle.meter_theory.specs.Value.{OfKind, Thresholds, ExecutionTimes, ClockTime};
-ghost use Rattle.object_model.specs.PartView.{part_of, monitored_in, rule_watching};
+ghost use Rattle.object_model.specs.PartView.{part_of, monitored_in};
 
-use crate::cells::{
-    buffer, capture_period, clock_time, data_value, entries_in_use, execution_time, register_value,
-    seen, thresholds,
-};
-use class_control::clock::{Clock, judge_time};
-use class_control::judge::{judge_thresholds, judge_times};
-use class_control::monitor::Monitor;
 use class_control::parts::{ClockPart, MonitorPart, SchedulePart, ScriptTablePart};
-use class_control::schedule::Schedule;
-use class_control::script_table::ScriptTable;
-use class_profile::profile::{Profile, ProfilePart};
-use cosem_class::class::ClassFault;
-use cosem_class::data1::{Data1, DataPart};
-use cosem_class::judge::judge_kind;
-use cosem_class::register::{Register, RegisterPart};
-use cosem_class::shapes::scaler_unit_data;
+use class_profile::profile::ProfilePart;
+use cosem_class::data1::DataPart;
+use cosem_class::part::ClassPart;
+use cosem_class::register::RegisterPart;
 use cosem_data::cell::CellRef;
 use cosem_data::data::Data;
 use cosem_data::kind::Kind;
@@ -57,20 +46,27 @@ pub enum Part {
     SingleActionSchedule(SchedulePart),
 }
 
+/// The value of an expression over what the part holds, whichever its class is.
+macro_rules! of_part {
+    ($part:expr, $held:ident => $value:expr) => {
+        match $part {
+            Part::Data($held) => $value,
+            Part::Register($held) => $value,
+            Part::ProfileGeneric($held) => $value,
+            Part::Clock($held) => $value,
+            Part::ScriptTable($held) => $value,
+            Part::RegisterMonitor($held) => $value,
+            Part::SingleActionSchedule($held) => $value,
+        }
+    };
+}
+
 impl Part {
     /// Its interface class, with the highest attribute and method (IEC 62056-6-2).
     pub fn interface(&self) -> Interface
         ensures { result ≡ interface_of (part_of self.now) }
     {
-        match self {
-            Part::Data(_) => Data1::INTERFACE,
-            Part::Register(_) => Register::INTERFACE,
-            Part::ProfileGeneric(_) => Profile::INTERFACE,
-            Part::Clock(_) => Clock::INTERFACE,
-            Part::ScriptTable(_) => ScriptTable::INTERFACE,
-            Part::RegisterMonitor(_) => Monitor::INTERFACE,
-            Part::SingleActionSchedule(_) => Schedule::INTERFACE,
-        }
+        of_part!(self, part => part.interface())
     }
 
     /// The class_id of its interface class (IEC 62056-6-2).
@@ -80,25 +76,11 @@ impl Part {
         self.interface().class_id
     }
 
-    /// A copy of a fixed attribute other than the logical name, null-data at any other index: of a register attribute 3, of
-    /// a profile 3, 5, 6 and 8, of a clock 3 to 9, of a script table 2, of a register monitor 3 and 4, of a schedule 2 and 3 (IEC 62056-6-2).
-    #[tactic(auto, unfolding(meter_theory::specs::Fixed::fixed_in))]
+    /// A copy of a fixed attribute other than the logical name, null-data at any other index (IEC 62056-6-2).
     pub fn fixed(&self, alloc: Global, index: u8) -> Result<Data, Memory>
         ensures { IfOk result (λ value. tree value ≡ fixed_in (part_of self.now) index) }
     {
-        match self {
-            Part::Data(_) => Ok(Data::NullData),
-            Part::Register(part) if index == Register::SCALER_UNIT => scaler_unit_data(
-                alloc,
-                part.scaler_unit,
-            ),
-            Part::Register(_) => Ok(Data::NullData),
-            Part::ProfileGeneric(part) => part.fixed(alloc, index),
-            Part::Clock(part) => part.fixed(alloc, index),
-            Part::ScriptTable(part) => part.fixed(alloc, index),
-            Part::RegisterMonitor(part) => part.fixed(alloc, index),
-            Part::SingleActionSchedule(part) => part.fixed(alloc, index),
-        }
+        of_part!(self, part => part.fixed(alloc, index))
     }
 
     /// The attribute that a register monitor watches.
@@ -111,17 +93,19 @@ impl Part {
         }
     }
 
+    /// The indexes of the cells of an object with this part, what a register monitor has seen, at index 0, among them.
+    fn cells(&self) -> &'static [u8]
+        ensures { (name : LogicalNameValue) → map (cell (class_of (part_of self.now)) name) result.now ≡ keys (start_of name (part_of self.now)) }
+    {
+        of_part!(self, part => part.cells())
+    }
+
     /// How many cells an object with this part has, what a register monitor has seen among them.
     pub(crate) fn number_of_cells(&self) -> u16
         ensures number { (name : LogicalNameValue) → result ≡ length (start_of name (part_of self.now)) }
         ensures few { result ≤ 3 }
     {
-        match self {
-            Part::Data(_) | Part::Register(_) | Part::Clock(_) | Part::SingleActionSchedule(_) => 1,
-            Part::ProfileGeneric(_) => 3,
-            Part::ScriptTable(_) => 0,
-            Part::RegisterMonitor(_) => 2,
-        }
+        self.cells().len() as u16
     }
 
     /// Puts the cells of an object with this part and name behind others. The only error is want of memory.
@@ -132,21 +116,14 @@ impl Part {
     ) -> Result<(), Memory>
         ensures { OnOk result (cells.new.items ≡ cells.old.items ++ keys (start_of name (part_of self.now))) }
     {
-        match self {
-            Part::Data(_) => cells.push(data_value(name))?,
-            Part::Register(_) => cells.push(register_value(name))?,
-            Part::ProfileGeneric(_) => {
-                cells.push(buffer(name))?;
-                cells.push(capture_period(name))?;
-                cells.push(entries_in_use(name))?;
-            }
-            Part::Clock(_) => cells.push(clock_time(name))?,
-            Part::ScriptTable(_) => {}
-            Part::RegisterMonitor(_) => {
-                cells.push(thresholds(name))?;
-                cells.push(seen(name))?;
-            }
-            Part::SingleActionSchedule(_) => cells.push(execution_time(name))?,
+        let class_id = self.class_id();
+        let indexes = self.cells();
+        for index in indexes {
+            cells.push(CellRef {
+                class_id,
+                name,
+                index: *index,
+            })?;
         }
         Ok(())
     }
@@ -164,37 +141,28 @@ impl Part {
     pub(crate) fn cell_place(&self, name: LogicalName, cell: &CellRef) -> Option<u16>
         ensures { result ≡ position_from (same_cell cell.now) 0 (keys (start_of name (part_of self.now))) }
     {
-        match self {
-            Part::Data(_) => place_among(&[data_value(name)], cell),
-            Part::Register(_) => place_among(&[register_value(name)], cell),
-            Part::ProfileGeneric(_) => place_among(
-                &[buffer(name), capture_period(name), entries_in_use(name)],
-                cell,
-            ),
-            Part::Clock(_) => place_among(&[clock_time(name)], cell),
-            Part::ScriptTable(_) => None,
-            Part::RegisterMonitor(_) => place_among(&[thresholds(name), seen(name)], cell),
-            Part::SingleActionSchedule(_) => place_among(&[execution_time(name)], cell),
+        if !self.is_attribute(name, cell) {
+            return None;
         }
+        let place = place_among(self.cells(), cell.index)?;
+        Some(place as u16)
     }
 
     /// The kind of the value with which a cell of an object with this part starts; that of null-data for what is no cell.
     pub fn start_kind(&self, name: LogicalName, cell: &CellRef) -> Kind
         ensures { result ≡ kind_of (value (start_of name (part_of self.now)) cell.now) }
     {
-        if !self.has_cell(name, cell) {
+        if !self.is_attribute(name, cell) {
             return Kind::NullData;
         }
-        match (self, cell.index) {
-            (Part::Data(part), _) => part.start.kind(),
-            (Part::Register(part), _) => part.start.kind(),
-            (Part::ProfileGeneric(_), 2) => Kind::Array,
-            (Part::ProfileGeneric(_), _) => Kind::DoubleLongUnsigned,
-            (Part::Clock(_), _) => Kind::OctetString,
-            (Part::RegisterMonitor(part), 2) => part.start.kind(),
-            (Part::SingleActionSchedule(part), _) => part.start.kind(),
-            _ => Kind::NullData,
-        }
+        of_part!(self, part => part.start_kind(cell.index))
+    }
+
+    /// Whether the cell is named as one of an object with this part and name.
+    fn is_attribute(&self, name: LogicalName, cell: &CellRef) -> bool
+        ensures { result ≡ ((cell.now.class_id == class_of (part_of self.now)) && same_name cell.now.name name) }
+    {
+        cell.class_id == self.class_id() && cell.name == name
     }
 
     /// Whether a value may be put at this index, where a register monitor watches a value of this kind: `TypeUnmatched` for
@@ -203,67 +171,20 @@ impl Part {
     pub fn judge(&self, monitored: Kind, index: u8, value: &Data) -> Result<(), AccessCode>
         ensures { result ≡ rule_answer (rule_watching monitored (part_of self.now) index) (tree value.now) }
     {
-        match (self, index) {
-            (Part::Data(DataPart { start }) | Part::Register(RegisterPart { start, .. }), 2) => {
-                kind_answer(start.kind(), value)
-            }
-            (Part::ProfileGeneric(_), 4) => kind_answer(Kind::DoubleLongUnsigned, value),
-            (Part::Clock(_), 2) => clock_answer(value),
-            (Part::RegisterMonitor(part), 2) => {
-                thresholds_answer(part.actions.len(), monitored, value)
-            }
-            (Part::SingleActionSchedule(part), 4) => times_answer(part.execution_type, value),
-            _ => Err(AccessCode::TypeUnmatched),
-        }
+        of_part!(self, part => part.judge(monitored, index, value))
+    }
+
+    /// Puts the names of the objects to which it refers behind others, in its order. The only error is want of memory.
+    pub(crate) fn push_references(&self, names: &mut Vec<LogicalName>) -> Result<(), Memory>
+        ensures { OnOk result (names.new.items ≡ names.old.items ++ references (part_of self.now)) }
+    {
+        of_part!(self, part => part.push_references(names))
     }
 }
 
-/// Where a cell stands among those of one object, counted from 0.
-fn place_among(cells: &[CellRef], cell: &CellRef) -> Option<u16>
-    requires { length cells.now ≤ 3 }
-    ensures { result ≡ position_from (same_cell cell.now) 0 cells.now }
+/// Where an index stands first among those of the cells of one object, counted from 0.
+fn place_among(indexes: &[u8], index: u8) -> Option<usize>
+    ensures { result ≡ position_from (λ i. index == i) 0 indexes.now }
 {
-    let place = position_of(cells, cell)?;
-    Some(place as u16)
-}
-
-/// The first place of a cell in a list.
-fn position_of(cells: &[CellRef], cell: &CellRef) -> Option<usize>
-    ensures { result ≡ position_from (same_cell cell.now) 0 cells.now }
-{
-    cells.iter().position(|other| *cell == *other)
-}
-
-fn coded(answer: Result<(), ClassFault>) -> Result<(), AccessCode>
-    ensures { result ≡ coded_answer answer }
-{
-    answer?;
-    Ok(())
-}
-
-fn kind_answer(kind: Kind, value: &Data) -> Result<(), AccessCode>
-    ensures { result ≡ rule_answer (Some (OfKind kind)) (tree value.now) }
-{
-    coded(judge_kind(kind, value))
-}
-
-fn thresholds_answer(number: usize, kind: Kind, value: &Data) -> Result<(), AccessCode>
-    ensures { result ≡ rule_answer (Some (Thresholds number kind)) (tree value.now) }
-{
-    coded(judge_thresholds(number, kind, value))
-}
-
-fn clock_answer(value: &Data) -> Result<(), AccessCode>
-    ensures { result ≡ rule_answer (Some ClockTime) (tree value.now) }
-{
-    match judge_time(value) {
-        Ok(_) => Ok(()),
-        Err(fault) => Err(AccessCode::from(fault)),
-    }
-}
-
-fn times_answer(execution_type: u8, value: &Data) -> Result<(), AccessCode>
-    ensures { result ≡ rule_answer (Some (ExecutionTimes execution_type)) (tree value.now) }
-{
-    coded(judge_times(execution_type, value))
+    indexes.iter().position(|other| index == *other)
 }

@@ -9,7 +9,8 @@ ghost use Rattle.meter_theory.specs.Steps.{clear, kept};
 ghost use Rattle.meter_theory.specs.Times.{clock_moment, clock_value, next_second};
 ghost use Rattle.meter_theory.specs.Value.{Rule, elements, meets};
 ghost use Rattle.class_profile.specs.ProfileClass.{is_buffer};
-ghost use Rattle.object_model.specs.PartView.{part_of, rule_watching};
+ghost use Rattle.cosem_class.specs.Parts.{rule_watching};
+ghost use Rattle.object_model.specs.PartView.{part_of};
 ghost use Rattle.object_model.specs.Stored.{captured, held_tree, is_rows, pairs_if, stored_pairs, stores};
 ghost use Rattle.object_model.specs.Undone.{cell_changed, change_undone};
 

@@ -4,7 +4,7 @@ use Rattle.cosem_data.specs.View.{tree}
 use Rattle.meter_theory.specs.Plan.{object_at}
 use Rattle.meter_theory.specs.Steps.{action_effects, plain_method}
 use Rattle.class_control.specs.ActionView.{action_of}
-use Rattle.object_model.specs.Tables.{target}
+use Rattle.cosem_class.specs.Parts.{target}
 use Rattle.meter_effects.specs.Adds.{Adds}
 use Rattle.meter_effects.proofs.Added.{adds-is, found_again, found_there, plain_effects}
 use Rattle.meter_effects.proofs.Targets.{is_referred}

@@ -3,7 +3,7 @@ use Rattle.std.specs.Prelude.{option_map, option_and_then, slice_get}
 use Rattle.std.specs.List.{position_from}
 use Rattle.cosem_data.specs.Cells.{same_name}
 use Rattle.meter_theory.specs.Plan.{Plan}
-use Rattle.object_model.specs.Tables.{references}
+use Rattle.cosem_class.specs.Parts.{references}
 use Rattle.object_model.proofs.Referred.{reference-at}
 use Rattle.object_model.proofs.plan.Plan.reference.Goals as goal
 

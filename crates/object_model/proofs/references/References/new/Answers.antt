@@ -1,6 +1,6 @@
 use Rattle.std.proofs.Common.{◌∙◌, ap, subst}
 use Rattle.meter_theory.specs.Lists.{IsIn}
-use Rattle.object_model.specs.Tables.{references}
+use Rattle.cosem_class.specs.Parts.{references}
 use Rattle.object_model.proofs.Positions.{item-in}
 use Rattle.object_model.proofs.references.References.new.Goals as goal
 

@@ -1,6 +1,6 @@
 use Rattle.std.proofs.Common.{◌≡◌, map, take, Some}
 use Rattle.object_model.specs.Grants.{place_in}
-use Rattle.object_model.specs.Tables.{references}
+use Rattle.cosem_class.specs.Parts.{references}
 use Rattle.object_model.proofs.references.References.new.Given as goal
 
 abbrev pub invariant-loop-object : goal.invariant-loop-object
