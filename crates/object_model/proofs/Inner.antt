@@ -13,7 +13,7 @@ use Rattle.meter_theory.specs.Lists.{IsIn}
 use Rattle.meter_theory.specs.Times.{Moment, IsMoment, is_moment, next_second, clock_moment, clock_value}
 use Rattle.meter_theory.specs.Value.{array_of, counter, elements, structure_of}
 use Rattle.meter_theory.specs.State.{State, keys, value, put}
-use Rattle.meter_theory.specs.Plan.{Plan, Object, clock_object, inner_clock, inner_start, start_values, start_of, clock_cell, cells, held, buffer, entries_in_use, clock_time}
+use Rattle.meter_theory.specs.Plan.{Plan, Object, clock_object, inner_clock, inner_start, start_of, clock_cell, cells, held, buffer, entries_in_use, clock_time}
 use Rattle.meter_theory.specs.Steps.{clear, buffer_after, in_use_after, Put, effects, kept, present, ticked, clock_set}
 use Rattle.meter_theory.proofs.Rights.{cell_of_object}
 use Rattle.meter_theory.proofs.Held.{keys-append, held-is, cell_apart, clock_found}
@@ -25,7 +25,7 @@ use Rattle.object_model.specs.declared.stored.Stored.{Stored}
 use Rattle.object_model.specs.declared.undo.Change.{Change}
 use Rattle.object_model.specs.declared.undo.Change.TheVariants as changes
 use Rattle.object_model.specs.Stored.{pairs_of, stored_pairs, inner_pairs, captured}
-use Rattle.object_model.specs.Undone.{change_undone, cell_changed}
+use Rattle.object_model.specs.Undone.{change_undone}
 use Rattle.object_model.proofs.ByObject.{value-second}
 use Rattle.object_model.proofs.Stores.{put-second}
 

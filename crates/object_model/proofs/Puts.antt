@@ -7,7 +7,7 @@ use Rattle.cosem_data.specs.Tree.{Tree}
 use Rattle.cosem_data.specs.declared.cell.CellRef.{CellRef}
 use Rattle.meter_theory.specs.Lists.{IsIn}
 use Rattle.meter_theory.specs.Value.{valid_tag, valid_parts, is_within_limits}
-use Rattle.meter_theory.specs.State.{State, keys}
+use Rattle.meter_theory.specs.State.{State}
 use Rattle.meter_theory.specs.Plan as theory
 use Rattle.meter_theory.specs.Plan.{object_at, class_of, rule_in, rule_of, cells}
 use Rattle.meter_theory.specs.Rights.{Given, has_valid_tag}

@@ -1,5 +1,5 @@
 -- The stored objects of a meter, as a state.
-use Rattle.std.proofs.Common.{◌≡◌, ◌+◌, ℕ, refl, ap, sym, ◌∙◌, Bool, true, false, ◌||◌, ◌&&◌, cond, Option, Some, None, is_some, List, [], ◌∷◌, ◌++◌, flat_map}
+use Rattle.std.proofs.Common.{◌≡◌, ◌+◌, ℕ, refl, ap, sym, ◌∙◌, Bool, true, false, ◌||◌, cond, Option, Some, None, is_some, List, [], ◌∷◌, ◌++◌, flat_map}
 use Rattle.std.proofs.lemmas.Bool.{or_parts, cond-true, cond-false}
 use Rattle.std.specs.List.{list_any, position_from}
 use Rattle.cosem_data.specs.Tree.{Tree, null_data}
@@ -91,15 +91,6 @@ stores-named x n (cells.SingleActionSchedule object) h = one x 22 n 4 h
 
 pub stored-name : (x : CellRef) (o : Stored) → stores x o ≡ true → x.name ≡ o.name
 stored-name x o h = stores-named x o.name o.cells h
-
--- words for the cells of a class
-
-pub never_both : (b : Bool) → (b && false) ≡ false
-never_both true = refl
-never_both false = refl
-
-pub same_value : (a b : Tree) → Some a ≡ Some b → a ≡ b
-same_value a b e = cc
 
 -- the cells of one object, of which a name is the same as itself
 pub put-seen : (n : LogicalName) (limits last now : Tree) → put ((thresholds n, limits) ∷ (seen n, last) ∷ []) (seen n) now ≡ (thresholds n, limits) ∷ (seen n, now) ∷ []

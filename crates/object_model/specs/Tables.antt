@@ -1,5 +1,5 @@
 -- What a plan keeps beside its parts, so that nothing is looked for twice.
-use Rattle.std.specs.Prelude.{◌≡◌, ◌==◌, ◌<◌, ℕ, Bool, not, List, [], ◌∷◌, length, map, filter, take, flat_map, Option, Some, option_map}
+use Rattle.std.specs.Prelude.{◌≡◌, ◌==◌, ◌<◌, ℕ, Bool, not, List, length, map, filter, take, flat_map, Option, Some, option_map}
 use Rattle.std.specs.List.{slice_index_or}
 use Rattle.cosem_data.specs.declared.name.LogicalName.{LogicalName}
 use Rattle.cosem_class.specs.Parts.{references}

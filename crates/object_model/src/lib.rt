@@ -20,6 +20,5 @@ mod references;
 pub mod right;
 mod stored;
 pub mod undo;
-mod writes;
 
 pub use meter_theory::access::AccessCode;

@@ -10,7 +10,8 @@ ghost use Rattle.meter_theory.specs.Sound.{IsSound};
 ghost use Rattle.object_model.specs.Grants.{AreMasksOf};
 ghost use Rattle.object_model.specs.PlanView.{plan_of};
 ghost use Rattle.object_model.specs.Stored.{stored_pairs};
-ghost use Rattle.object_model.specs.Tables.{place_of, references};
+ghost use Rattle.cosem_class.specs.Parts.{references};
+ghost use Rattle.object_model.specs.Tables.{place_of};
 
 use crate::client::Client;
 use crate::grants::Grants;

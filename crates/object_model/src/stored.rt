@@ -22,15 +22,11 @@ use crate::held::Held;
 use crate::object::Object;
 use crate::part::Part;
 use crate::undo::Change;
-use crate::writes::{
-    write_clock, write_data, write_monitor, write_profile, write_register, write_schedule,
-};
 use civil_moment::moment::Moment;
 use class_control::clock::Clock;
 use class_control::monitor::{Monitor, Watch};
 use class_control::schedule::Schedule;
 use class_profile::profile::{Profile, ProfilePart};
-use class_profile::rows::Rows;
 use cosem_class::class::{Lent, Row};
 use cosem_class::data1::Data1;
 use cosem_class::register::Register;
@@ -65,26 +61,15 @@ impl Stored {
         ensures { IfOk result (λ stored. pairs_if stored ≡ start_of object.now.name object.now.part) }
     {
         let cells = match object.part() {
-            Part::Data(part) => Cells::Data(Data1 {
-                value: part.start.try_clone(alloc)?,
-            }),
-            Part::Register(part) => Cells::Register(Register {
-                value: part.start.try_clone(alloc)?,
-            }),
-            Part::ProfileGeneric(part) => Cells::ProfileGeneric(Profile {
-                buffer: Rows::new(alloc, part.profile_entries)?,
-                capture_period: part.capture_period,
-                entries_in_use: 0,
-            }),
+            Part::Data(part) => Cells::Data(Data1::start(alloc, part)?),
+            Part::Register(part) => Cells::Register(Register::start(alloc, part)?),
+            Part::ProfileGeneric(part) => Cells::ProfileGeneric(Profile::start(alloc, part)?),
             Part::Clock(part) => Cells::Clock(Clock { time: part.start }),
             Part::ScriptTable(_) => return Ok(None),
-            Part::RegisterMonitor(part) => Cells::RegisterMonitor(Monitor {
-                thresholds: part.start.try_clone(alloc)?,
-                seen: Data::NullData,
-            }),
-            Part::SingleActionSchedule(part) => Cells::SingleActionSchedule(Schedule {
-                times: part.start.try_clone(alloc)?,
-            }),
+            Part::RegisterMonitor(part) => Cells::RegisterMonitor(Monitor::start(alloc, part)?),
+            Part::SingleActionSchedule(part) => {
+                Cells::SingleActionSchedule(Schedule::start(alloc, part)?)
+            }
         };
         Ok(Some(Stored {
             name: object.name(),
@@ -97,25 +82,14 @@ impl Stored {
         ensures { IfOk result (λ copy. stored_pairs copy ≡ stored_pairs self.now) }
     {
         let cells = match &self.cells {
-            Cells::Data(object) => Cells::Data(Data1 {
-                value: object.value.try_clone(alloc)?,
-            }),
-            Cells::Register(object) => Cells::Register(Register {
-                value: object.value.try_clone(alloc)?,
-            }),
-            Cells::ProfileGeneric(object) => Cells::ProfileGeneric(Profile {
-                buffer: object.buffer.try_clone(alloc)?,
-                capture_period: object.capture_period,
-                entries_in_use: object.entries_in_use,
-            }),
+            Cells::Data(object) => Cells::Data(object.try_clone(alloc)?),
+            Cells::Register(object) => Cells::Register(object.try_clone(alloc)?),
+            Cells::ProfileGeneric(object) => Cells::ProfileGeneric(object.try_clone(alloc)?),
             Cells::Clock(object) => Cells::Clock(Clock { time: object.time }),
-            Cells::RegisterMonitor(object) => Cells::RegisterMonitor(Monitor {
-                thresholds: object.thresholds.try_clone(alloc)?,
-                seen: object.seen.try_clone(alloc)?,
-            }),
-            Cells::SingleActionSchedule(object) => Cells::SingleActionSchedule(Schedule {
-                times: object.times.try_clone(alloc)?,
-            }),
+            Cells::RegisterMonitor(object) => Cells::RegisterMonitor(object.try_clone(alloc)?),
+            Cells::SingleActionSchedule(object) => {
+                Cells::SingleActionSchedule(object.try_clone(alloc)?)
+            }
         };
         Ok(Stored {
             name: self.name,
@@ -179,23 +153,23 @@ impl Stored {
         let name = self.name;
         match (&mut self.cells, part) {
             (Cells::Data(object), Part::Data(part)) => {
-                Change::Data(write_data(object, Lent { name, part }, index, given))
+                Change::Data(object.put(Lent { name, part }, index, given))
             }
             (Cells::Register(object), Part::Register(part)) => {
-                Change::Register(write_register(object, Lent { name, part }, index, given))
+                Change::Register(object.put(Lent { name, part }, index, given))
             }
             (Cells::ProfileGeneric(object), Part::ProfileGeneric(part)) => {
-                Change::Period(write_profile(object, Lent { name, part }, index, given))
+                Change::Period(object.put(Lent { name, part }, index, given))
             }
             (Cells::Clock(object), Part::Clock(part)) => {
-                Change::Clock(write_clock(object, Lent { name, part }, index, given))
+                Change::Clock(object.put(Lent { name, part }, index, given))
             }
             (Cells::RegisterMonitor(object), Part::RegisterMonitor(part)) => {
                 let kind = monitored;
-                Change::Thresholds(write_monitor(object, Watch { name, part, kind }, index, given))
+                Change::Thresholds(object.put(Watch { name, part, kind }, index, given))
             }
             (Cells::SingleActionSchedule(object), Part::SingleActionSchedule(part)) => {
-                Change::Times(write_schedule(object, Lent { name, part }, index, given))
+                Change::Times(object.put(Lent { name, part }, index, given))
             }
             _ => unreachable!(),
         }

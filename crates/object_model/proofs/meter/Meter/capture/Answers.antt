@@ -1,9 +1,8 @@
 use Rattle.std.proofs.Common.{◌≡◌, ◌∙◌, ◌++◌, map, refl, ap, ap₂, sym, subst, length, true, flat_map}
 use Rattle.std.specs.List.{position_from}
-use Rattle.meter_theory.specs.Lists.{IsIn}
 use Rattle.meter_theory.specs.Plan.{buffer, object_at}
 use Rattle.meter_theory.specs.Steps.{capture, captures_of}
-use Rattle.meter_theory.specs.State.{keys, value}
+use Rattle.meter_theory.specs.State.{value}
 use Rattle.class_profile.specs.ProfileClass.{is_buffer}
 use Rattle.class_profile.specs.ProfileStates.{is_buffer-of_state}
 use Rattle.object_model.specs.Stored.{captured, inner_pairs, stored_pairs, stores}

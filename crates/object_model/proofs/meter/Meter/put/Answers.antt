@@ -1,8 +1,6 @@
-use Rattle.std.proofs.Common.{◌∙◌, ap, sym, subst, flat_map}
+use Rattle.std.proofs.Common.{◌∙◌, ap, sym, flat_map}
 use Rattle.std.specs.List.{position_from}
 use Rattle.cosem_data.specs.View.{tree}
-use Rattle.meter_theory.specs.Lists.{IsIn}
-use Rattle.meter_theory.specs.State.{keys}
 use Rattle.object_model.specs.Stored.{stores}
 use Rattle.object_model.proofs.Puts.{put-is-there}
 use Rattle.meter_theory.specs.State.{put}

@@ -1,9 +1,7 @@
-use Rattle.std.proofs.Common.{◌∙◌, refl, ap, ap₂, sym, subst, flat_map}
+use Rattle.std.proofs.Common.{◌∙◌, refl, ap, ap₂, sym, flat_map}
 use Rattle.std.specs.List.{position_from}
 use Rattle.cosem_data.specs.View.{tree}
-use Rattle.meter_theory.specs.Lists.{IsIn}
 use Rattle.meter_theory.specs.Plan.{seen}
-use Rattle.meter_theory.specs.State.{keys}
 use Rattle.object_model.specs.Stored.{stores}
 use Rattle.meter_theory.specs.State.{put}
 use Rattle.object_model.specs.Stored.{stored_pairs}

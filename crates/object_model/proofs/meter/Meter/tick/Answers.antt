@@ -1,5 +1,4 @@
 use Rattle.std.proofs.Common.{◌∙◌, ap, flat_map, Some, ◌++◌}
-use Rattle.meter_theory.specs.Times.{next_second}
 use Rattle.object_model.specs.Stored.{inner_pairs, stored_pairs}
 use Rattle.object_model.proofs.Inner.{inner_ticked, some_clock}
 use Rattle.object_model.proofs.meter.Meter.tick.Goals as goal

@@ -1,4 +1,4 @@
-use Rattle.std.proofs.Common.{◌≡◌, ◌∙◌, ap, ap₂, sym, subst, arith, flat_map}
+use Rattle.std.proofs.Common.{◌∙◌, ap, ap₂, sym, arith, flat_map}
 use Rattle.std.specs.List.{position_from}
 use Rattle.meter_theory.specs.Plan.{clock_time}
 use Rattle.meter_theory.specs.State.{value}

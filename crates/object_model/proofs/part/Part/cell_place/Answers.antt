@@ -1,8 +1,5 @@
-use Rattle.std.proofs.Common.{◌≡◌, ◌∙◌, sym, arith}
-use Rattle.std.specs.List.{position_from}
-use Rattle.cosem_data.specs.Cells.{same_cell}
-use Rattle.meter_theory.specs.Plan.{class_of, start_of}
-use Rattle.meter_theory.specs.State.{keys}
+use Rattle.std.proofs.Common.{◌∙◌, sym, arith}
+use Rattle.meter_theory.specs.Plan.{class_of}
 use Rattle.object_model.specs.PartView.{part_of}
 use Rattle.object_model.proofs.Attributes.{few-indexes, placed}
 use Rattle.object_model.proofs.Puts.{position-within}
