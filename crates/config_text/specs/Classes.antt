@@ -11,7 +11,7 @@ use Rattle.config_text.specs.Tables.{list_at, list_keys_at, table_at, table_keys
 use Rattle.config_text.specs.Values.{text_at, natural_at, signed_at, optional_text_at, optional_integer_at}
 use Rattle.config_text.specs.Targets.{target_keys, target_of, script_ref_keys, script_ref_of}
 
--- class 1, Data
+-- Data
 unfoldable pub data_keys : Text → Members → Result ⊤ Fault
 data_keys at t = do
   value ← needed at (codes "value") t
@@ -22,7 +22,7 @@ data_of at t = do
   value ← text_at at (codes "value") t
   Ok (DataText value)
 
--- class 3, Register
+-- Register
 unfoldable pub register_keys : Text → Members → Result ⊤ Fault
 register_keys at t = do
   value ← needed at (codes "value") t
@@ -39,7 +39,7 @@ register_of at t = do
   unit ← natural_at 0 255 at (codes "unit") t
   Ok (RegisterText value default scaler unit)
 
--- class 7, Profile generic: an attribute that it captures, and the profile
+-- Profile generic: an attribute that it captures, and the profile
 unfoldable pub capture_keys : Text → Members → Result ⊤ Fault
 capture_keys at t = do
   object ← needed at (codes "object") t
@@ -69,7 +69,7 @@ profile_of at t = do
   sort_method ← optional_integer_at at (codes "sort_method") t
   Ok (ProfileText captures period entries sort_method)
 
--- class 8, Clock: the moment at which its time starts, as a text
+-- Clock: the moment at which its time starts, as a text
 unfoldable pub clock_keys : Text → Members → Result ⊤ Fault
 clock_keys at t = do
   time ← needed at (codes "time") t
@@ -80,7 +80,7 @@ clock_of at t = do
   time ← text_at at (codes "time") t
   Ok (ClockText time)
 
--- class 9, Script table: an action, a script, and the table
+-- Script table: an action, a script, and the table
 unfoldable pub action_keys : Text → Members → Result ⊤ Fault
 action_keys at t = do
   service ← needed at (codes "service") t
@@ -125,7 +125,7 @@ script_table_of at t = do
   scripts ← list_at script_of at (codes "script") t
   Ok (ScriptTableText scripts)
 
--- class 21, Register monitor: the scripts of a threshold, and the monitor
+-- Register monitor: the scripts of a threshold, and the monitor
 unfoldable pub up_down_keys : Text → Members → Result ⊤ Fault
 up_down_keys at t = do
   up ← needed at (codes "up") t
@@ -156,7 +156,7 @@ monitor_of at t = do
   actions ← list_at up_down_of at (codes "action") t
   Ok (MonitorText monitored thresholds actions)
 
--- class 22, Single action schedule
+-- Single action schedule
 unfoldable pub schedule_keys : Text → Members → Result ⊤ Fault
 schedule_keys at t = do
   script ← needed at (codes "script") t

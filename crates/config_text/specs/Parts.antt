@@ -41,7 +41,7 @@ pub record UpDownText : Type 0 where
   pub up : ScriptRefText
   pub down : ScriptRefText
 
--- what an object's class says of it (IEC 62056-6-2): class 1, 3, 7, 8 (in version 2), 9, 21, 22, and any other
+-- what an object's class says of it (IEC 62056-6-2): a form for each class, and one where it isn't known
 pub data BodyText : Type 0 where
   DataText : (value : Text) → BodyText
   RegisterText : (value default : Text) → (scaler : ℤ) → (unit : ℕ) → BodyText

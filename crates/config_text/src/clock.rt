@@ -1,4 +1,4 @@
-//! The table of class 8.
+//! The table of a clock.
 
 ghost use Rattle.toml.specs.View.{table_view};
 ghost use Rattle.config_text.specs.BodyView.{body_text};
@@ -12,7 +12,7 @@ use crate::place::Place;
 use crate::values::text_at;
 use toml::Table;
 
-/// The keys of class 8.
+/// The keys of a clock.
 #[tactic(auto, unfolding(crate::specs::Classes::clock_keys))]
 pub(crate) fn clock_keys(at: &Place<'_>, table: &Table) -> Result<(), ConfigFault>
     ensures { Gives (λ u. u) result (spec.clock_keys at.now (table_view table.now)) }
@@ -21,7 +21,7 @@ pub(crate) fn clock_keys(at: &Place<'_>, table: &Table) -> Result<(), ConfigFaul
     only(at, &["class", "name", "fed", "time"], table)
 }
 
-/// What the table says of class 8. Whether the text is a moment is judged with the other values.
+/// What the table says of a clock. Whether the text is a moment is judged with the other values.
 #[tactic(auto, unfolding(crate::specs::Classes::clock_of))]
 pub(crate) fn clock_of(at: &Place<'_>, table: &Table) -> Result<BodyParts, ConfigFault>
     ensures { Gives body_text result (spec.clock_of at.now (table_view table.now)) }

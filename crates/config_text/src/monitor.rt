@@ -1,4 +1,4 @@
-//! The tables of class 21.
+//! The tables of a register monitor.
 
 ghost use Rattle.toml.specs.View.{table_view};
 ghost use Rattle.config_text.specs.BodyView.{body_text};
@@ -43,7 +43,7 @@ impl TableForm for UpDownTable {
     }
 }
 
-/// The keys of class 21.
+/// The keys of a register monitor.
 #[tactic(auto, unfolding(crate::specs::Classes::monitor_keys))]
 pub(crate) fn monitor_keys(at: &Place<'_>, table: &Table) -> Result<(), ConfigFault>
     ensures { Gives (λ u. u) result (spec.monitor_keys at.now (table_view table.now)) }
@@ -57,7 +57,7 @@ pub(crate) fn monitor_keys(at: &Place<'_>, table: &Table) -> Result<(), ConfigFa
     only(at, &known, table)
 }
 
-/// What the table says of class 21.
+/// What the table says of a register monitor.
 #[tactic(auto, unfolding(crate::specs::Classes::monitor_of))]
 pub(crate) fn monitor_of(at: &Place<'_>, table: &Table) -> Result<BodyParts, ConfigFault>
     ensures { Gives body_text result (spec.monitor_of at.now (table_view table.now)) }

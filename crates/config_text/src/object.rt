@@ -18,66 +18,64 @@ use crate::schedule::{schedule_keys, schedule_of};
 use crate::script::{script_table_keys, script_table_of};
 use crate::tables::TableForm;
 use crate::values::{flag_at, natural_at, natural_or_none, text_at};
+use meter_theory::classes::Class;
 use toml::Table;
 
-/// The keys that the class asks for; none where it isn't known in this version.
-fn class_keys(
-    version: u64,
-    class: Option<u64>,
-    at: &Place<'_>,
-    table: &Table,
-) -> Result<(), ConfigFault>
-    ensures { Gives (λ u. u) result (spec.class_keys version class at.now (table_view table.now)) }
+/// The class of an object's table, if it can be one and is known in this version.
+fn class_told(version: u8, table: &Table) -> Option<Class>
+    ensures { result ≡ spec.class_told version (table_view table.now) }
+{
+    let class_id = natural_or_none(0, 65535, "class", table)?;
+    Class::in_version(version, class_id as u16)
+}
+
+/// The keys that the class asks for; none where it isn't known.
+fn class_keys(class: Option<Class>, at: &Place<'_>, table: &Table) -> Result<(), ConfigFault>
+    ensures { Gives (λ u. u) result (spec.class_keys class at.now (table_view table.now)) }
 {
     match class {
-        Some(1) => data_keys(at, table),
-        Some(3) => register_keys(at, table),
-        Some(7) => profile_keys(at, table),
-        Some(8) if version >= 2 => clock_keys(at, table),
-        Some(9) => script_table_keys(at, table),
-        Some(21) => monitor_keys(at, table),
-        Some(22) => schedule_keys(at, table),
-        _ => Ok(()),
+        Some(Class::Data) => data_keys(at, table),
+        Some(Class::Register) => register_keys(at, table),
+        Some(Class::ProfileGeneric) => profile_keys(at, table),
+        Some(Class::Clock) => clock_keys(at, table),
+        Some(Class::ScriptTable) => script_table_keys(at, table),
+        Some(Class::RegisterMonitor) => monitor_keys(at, table),
+        Some(Class::SingleActionSchedule) => schedule_keys(at, table),
+        None => Ok(()),
     }
 }
 
-/// Whether the object is fed. It isn't looked at where the class isn't known in this version.
-fn fed_of(version: u64, class: u16, at: &Place<'_>, table: &Table) -> Result<bool, ConfigFault>
-    ensures { Gives (λ b. b) result (spec.fed_of version class at.now (table_view table.now)) }
+/// Whether the object is fed. It isn't looked at where the class isn't known.
+fn fed_of(class: Option<Class>, at: &Place<'_>, table: &Table) -> Result<bool, ConfigFault>
+    ensures { Gives (λ b. b) result (spec.fed_of class at.now (table_view table.now)) }
 {
     match class {
-        1 | 3 | 7 | 9 | 21 | 22 => flag_at(false, at, "fed", table),
-        8 if version >= 2 => flag_at(false, at, "fed", table),
-        _ => Ok(false),
+        Some(_) => flag_at(false, at, "fed", table),
+        None => Ok(false),
     }
 }
 
 /// What the table says of its class.
-fn body_of(
-    version: u64,
-    class: u16,
-    at: &Place<'_>,
-    table: &Table,
-) -> Result<BodyParts, ConfigFault>
-    ensures { Gives body_text result (spec.body_of version class at.now (table_view table.now)) }
+fn body_of(class: Option<Class>, at: &Place<'_>, table: &Table) -> Result<BodyParts, ConfigFault>
+    ensures { Gives body_text result (spec.body_of class at.now (table_view table.now)) }
 {
     match class {
-        1 => data_of(at, table),
-        3 => register_of(at, table),
-        7 => profile_of(at, table),
-        8 if version >= 2 => clock_of(at, table),
-        9 => script_table_of(at, table),
-        21 => monitor_of(at, table),
-        22 => schedule_of(at, table),
-        _ => Ok(BodyParts::Unknown),
+        Some(Class::Data) => data_of(at, table),
+        Some(Class::Register) => register_of(at, table),
+        Some(Class::ProfileGeneric) => profile_of(at, table),
+        Some(Class::Clock) => clock_of(at, table),
+        Some(Class::ScriptTable) => script_table_of(at, table),
+        Some(Class::RegisterMonitor) => monitor_of(at, table),
+        Some(Class::SingleActionSchedule) => schedule_of(at, table),
+        None => Ok(BodyParts::Unknown),
     }
 }
 
 /// `class`, `name`, perhaps `fed`, and what the class asks for: an object.
 #[derive(Drop)]
 pub(crate) struct ObjectTable {
-    /// The version of the text; class 8 is known from 2 on.
-    pub version: u64,
+    /// The version of the text, by which classes are known.
+    pub version: u8,
 }
 
 impl TableForm for ObjectTable {
@@ -93,16 +91,17 @@ impl TableForm for ObjectTable {
     fn check_keys(&self, at: &Place<'_>, table: &Table) -> Result<(), ConfigFault> {
         needed(at, "class", table)?;
         needed(at, "name", table)?;
-        let class = natural_or_none(0, 65535, "class", table);
-        class_keys(self.version, class, at, table)
+        let class = class_told(self.version, table);
+        class_keys(class, at, table)
     }
 
     #[tactic(auto, unfolding(crate::specs::Objects::object_of))]
     fn read(&self, at: &Place<'_>, table: &Table) -> Result<ObjectParts, ConfigFault> {
         let class_id = natural_at(0, 65535, at, "class", table)? as u16;
         let name = text_at(at, "name", table)?;
-        let fed = fed_of(self.version, class_id, at, table)?;
-        let body = body_of(self.version, class_id, at, table)?;
+        let class = Class::in_version(self.version, class_id);
+        let fed = fed_of(class, at, table)?;
+        let body = body_of(class, at, table)?;
         Ok(ObjectParts {
             class_id,
             name,

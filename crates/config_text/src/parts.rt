@@ -128,48 +128,49 @@ impl Model for UpDownParts {
     ghost view = { λ a. record { up = a.up; down = a.down } };
 }
 
-/// What an object's class says of it (IEC 62056-6-2, interface classes). Values are the hex texts of their encodings.
+/// What an object's class says of it (IEC 62056-6-2, interface classes): a form for each class that is known. Values are the hex
+/// texts of their encodings.
 #[derive(Debug, Drop)]
 pub enum BodyParts {
-    /// Class 1.
+    /// The start of its value.
     Data {
         value: String,
     },
-    /// Class 3: the start of its value, what a reset puts, and its scaler and unit.
+    /// The start of its value, what a reset puts, and its scaler and unit.
     Register {
         value: String,
         default: String,
         scaler: i8,
         unit: u8,
     },
-    /// Class 7: capture_period is in seconds, entries are at least 1; sort_method 1 is fifo.
+    /// capture_period is in seconds, entries are at least 1; sort_method 1 is fifo.
     ProfileGeneric {
         capture: Vec<CaptureParts>,
         period: u32,
         entries: u64,
         sort_method: Option<i64>,
     },
-    /// Class 8, in version 2: the moment at which its time starts, as a text.
+    /// The moment at which its time starts, as a text.
     Clock {
         time: String,
     },
-    /// Class 9.
+    /// Its scripts, in the order of the text.
     ScriptTable {
         scripts: Vec<ScriptParts>,
     },
-    /// Class 21.
+    /// What is monitored, its thresholds, and what is run at each.
     RegisterMonitor {
         monitored: TargetParts,
         thresholds: Vec<String>,
         actions: Vec<UpDownParts>,
     },
-    /// Class 22: the type is 1 to 5, the times are hex texts of nine bytes.
+    /// The type is 1 to 5, the times are hex texts of nine bytes.
     SingleActionSchedule {
         script: ScriptRefParts,
         kind: u8,
         times: Vec<String>,
     },
-    /// A class that isn't known.
+    /// Of a class that isn't known.
     Unknown,
 }
 

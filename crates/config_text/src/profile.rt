@@ -1,4 +1,4 @@
-//! The tables of class 7.
+//! The tables of a profile.
 
 ghost use Rattle.toml.specs.View.{table_view};
 ghost use Rattle.config_text.specs.BodyView.{body_text};
@@ -44,7 +44,7 @@ impl TableForm for CaptureTable {
     }
 }
 
-/// The keys of class 7.
+/// The keys of a profile.
 #[tactic(auto, unfolding(crate::specs::Classes::profile_keys))]
 pub(crate) fn profile_keys(at: &Place<'_>, table: &Table) -> Result<(), ConfigFault>
     ensures { Gives (λ u. u) result (spec.profile_keys at.now (table_view table.now)) }
@@ -65,7 +65,7 @@ pub(crate) fn profile_keys(at: &Place<'_>, table: &Table) -> Result<(), ConfigFa
     only(at, &known, table)
 }
 
-/// What the table says of class 7.
+/// What the table says of a profile.
 #[tactic(auto, unfolding(crate::specs::Classes::profile_of))]
 pub(crate) fn profile_of(at: &Place<'_>, table: &Table) -> Result<BodyParts, ConfigFault>
     ensures { Gives body_text result (spec.profile_of at.now (table_view table.now)) }

@@ -35,10 +35,13 @@ fn document(alloc: Global, text: &str) -> Result<Table, ConfigFault>
 }
 
 /// The version by which the keys of objects are looked at: 1, unless it is told to be 2.
-fn told_version(table: &Table) -> u64
+fn told_version(table: &Table) -> u8
     ensures { result ≡ spec.told_version (table_view table.now) }
 {
-    natural_or_none(1, 2, "version", table).unwrap_or(1)
+    match natural_or_none(1, 2, "version", table) {
+        Some(version) => version as u8,
+        None => 1,
+    }
 }
 
 /// The first key that is missing or unknown.
@@ -69,14 +72,14 @@ fn parts_of(alloc: Global, table: &Table) -> Result<ConfigParts, ConfigFault>
     ensures { Gives (λ x. x) result (spec.parts_of (table_view table.now)) }
 {
     let top = Place::top(alloc, "");
-    let version = natural_at(1, 2, &top, "version", table)?;
+    let version = natural_at(1, 2, &top, "version", table)? as u8;
     let clients = list_at(&ClientTable, &top, "client", table)?;
     let objects = list_at(&ObjectTable { version }, &top, "object", table)?;
     let rights = optional_list_at(&RightTable, &top, "right", table)?;
     let policy = table_at(&PolicyTable, &top, "policy", table)?;
     let labels = optional_list_at(&LabelTable, &top, "label", table)?;
     Ok(ConfigParts {
-        version: version as u8,
+        version,
         clients,
         objects,
         rights,

@@ -1,4 +1,4 @@
-//! The tables of classes 1 and 3.
+//! The tables of Data and of a register.
 
 ghost use Rattle.toml.specs.View.{table_view};
 ghost use Rattle.config_text.specs.BodyView.{body_text};
@@ -12,7 +12,7 @@ use crate::place::Place;
 use crate::values::{natural_at, signed_at, text_at};
 use toml::Table;
 
-/// The keys of class 1.
+/// The keys of Data.
 #[tactic(auto, unfolding(crate::specs::Classes::data_keys))]
 pub(crate) fn data_keys(at: &Place<'_>, table: &Table) -> Result<(), ConfigFault>
     ensures { Gives (λ u. u) result (spec.data_keys at.now (table_view table.now)) }
@@ -21,7 +21,7 @@ pub(crate) fn data_keys(at: &Place<'_>, table: &Table) -> Result<(), ConfigFault
     only(at, &["class", "name", "fed", "value"], table)
 }
 
-/// What the table says of class 1.
+/// What the table says of Data.
 #[tactic(auto, unfolding(crate::specs::Classes::data_of))]
 pub(crate) fn data_of(at: &Place<'_>, table: &Table) -> Result<BodyParts, ConfigFault>
     ensures { Gives body_text result (spec.data_of at.now (table_view table.now)) }
@@ -30,7 +30,7 @@ pub(crate) fn data_of(at: &Place<'_>, table: &Table) -> Result<BodyParts, Config
     Ok(BodyParts::Data { value })
 }
 
-/// The keys of class 3.
+/// The keys of a register.
 #[tactic(auto, unfolding(crate::specs::Classes::register_keys))]
 pub(crate) fn register_keys(at: &Place<'_>, table: &Table) -> Result<(), ConfigFault>
     ensures { Gives (λ u. u) result (spec.register_keys at.now (table_view table.now)) }
@@ -43,7 +43,7 @@ pub(crate) fn register_keys(at: &Place<'_>, table: &Table) -> Result<(), ConfigF
     only(at, &known, table)
 }
 
-/// What the table says of class 3.
+/// What the table says of a register.
 #[tactic(auto, unfolding(crate::specs::Classes::register_of))]
 pub(crate) fn register_of(at: &Place<'_>, table: &Table) -> Result<BodyParts, ConfigFault>
     ensures { Gives body_text result (spec.register_of at.now (table_view table.now)) }

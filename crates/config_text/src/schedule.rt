@@ -1,4 +1,4 @@
-//! The table of class 22.
+//! The table of a single action schedule.
 
 ghost use Rattle.toml.specs.View.{table_view};
 ghost use Rattle.config_text.specs.BodyView.{body_text};
@@ -15,7 +15,7 @@ use crate::target::ScriptRefTable;
 use crate::values::natural_at;
 use toml::Table;
 
-/// The keys of class 22.
+/// The keys of a single action schedule.
 #[tactic(auto, unfolding(crate::specs::Classes::schedule_keys))]
 pub(crate) fn schedule_keys(at: &Place<'_>, table: &Table) -> Result<(), ConfigFault>
     ensures { Gives (λ u. u) result (spec.schedule_keys at.now (table_view table.now)) }
@@ -28,7 +28,7 @@ pub(crate) fn schedule_keys(at: &Place<'_>, table: &Table) -> Result<(), ConfigF
     only(at, &known, table)
 }
 
-/// What the table says of class 22.
+/// What the table says of a single action schedule.
 #[tactic(auto, unfolding(crate::specs::Classes::schedule_of))]
 pub(crate) fn schedule_of(at: &Place<'_>, table: &Table) -> Result<BodyParts, ConfigFault>
     ensures { Gives body_text result (spec.schedule_of at.now (table_view table.now)) }

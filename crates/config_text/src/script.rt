@@ -1,4 +1,4 @@
-//! The tables of class 9.
+//! The tables of a script table.
 
 ghost use Rattle.toml.specs.View.{table_view};
 ghost use Rattle.config_text.specs.BodyView.{body_text};
@@ -92,7 +92,7 @@ impl TableForm for ScriptTable {
     }
 }
 
-/// The keys of class 9.
+/// The keys of a script table.
 #[tactic(auto, unfolding(crate::specs::Classes::script_table_keys))]
 pub(crate) fn script_table_keys(at: &Place<'_>, table: &Table) -> Result<(), ConfigFault>
     ensures { Gives (λ u. u) result (spec.script_table_keys at.now (table_view table.now)) }
@@ -102,7 +102,7 @@ pub(crate) fn script_table_keys(at: &Place<'_>, table: &Table) -> Result<(), Con
     only(at, &["class", "name", "fed", "script"], table)
 }
 
-/// What the table says of class 9.
+/// What the table says of a script table.
 #[tactic(auto, unfolding(crate::specs::Classes::script_table_of))]
 pub(crate) fn script_table_of(at: &Place<'_>, table: &Table) -> Result<BodyParts, ConfigFault>
     ensures { Gives body_text result (spec.script_table_of at.now (table_view table.now)) }

@@ -1,6 +1,6 @@
 //! What a table says at a key that holds a text, a number or a yes or no. `at` is the place of the table, up to its dot.
 
-ghost use Rattle.std.specs.Prelude.{◌≡◌, ◌≤◌, ◌≤ℤ◌, option_map, option_and_then, string_bytes, length, IfOk};
+ghost use Rattle.std.specs.Prelude.{◌≡◌, ◌≤◌, ◌≤ℤ◌, option_map, option_and_then, string_bytes, length, IfOk, IfSome};
 ghost use Rattle.std.specs.Char.{is_ascii};
 ghost use Rattle.std.specs.List.{list_all};
 ghost use Rattle.toml.specs.Data.{as_str, as_integer, get_member};
@@ -89,7 +89,8 @@ pub(crate) fn optional_ascii_at(
 
 /// A whole number from `low` to `high`.
 pub(crate) fn natural(found: Option<i64>, low: u64, high: u64) -> Option<u64>
-    ensures { result ≡ spec.natural_in low high found }
+    ensures value { result ≡ spec.natural_in low high found }
+    ensures range { IfSome result (λ n. (low ≤ n) × (n ≤ high)) }
 {
     let number = u64::try_from(found?).ok()?;
     if low <= number && number <= high {
@@ -101,7 +102,8 @@ pub(crate) fn natural(found: Option<i64>, low: u64, high: u64) -> Option<u64>
 
 /// The whole number at a key, if it has one from `low` to `high`.
 pub(crate) fn natural_or_none(low: u64, high: u64, key: &str, table: &Table) -> Option<u64>
-    ensures { result ≡ spec.natural_in low high (option_and_then as_integer (get_member key.now (table_view table.now))) }
+    ensures value { result ≡ spec.natural_in low high (option_and_then as_integer (get_member key.now (table_view table.now))) }
+    ensures range { IfSome result (λ n. (low ≤ n) × (n ≤ high)) }
 {
     natural(integer(table, key), low, high)
 }

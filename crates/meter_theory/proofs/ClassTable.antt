@@ -1,11 +1,18 @@
 -- The table of the interface classes says of a part's class what plans say of the part.
-use Rattle.std.proofs.Common.{◌≡◌, ℕ, ◌==◌, Bool, true, false, cond, refl, Some, None, is_some}
-use Rattle.std.specs.Prelude.{◌||◌}
+use Rattle.std.proofs.Common.{◌≡◌, ℕ, ◌==◌, Bool, true, false, cond, List, [], ◌∷◌, refl, sym, subst, Option, Some, None, is_some}
+use Rattle.std.specs.Prelude.{◌||◌, ◌&&◌, nat_le, option_map, find}
+use Rattle.std.specs.List.{list_any}
+use Rattle.std.proofs.lemmas.Bool.{and_parts, and_from}
 use Rattle.cosem_data.specs.declared.name.LogicalName.{LogicalName}
 use Rattle.meter_theory.specs.Value.{Rule}
 use Rattle.meter_theory.specs.Plan.{Plan, Part, Data1, Register, ProfileGeneric, Clock, ScriptTable, RegisterMonitor, SingleActionSchedule, class_of, interface_of, rule_in}
 use Rattle.meter_theory.specs.Sound.{highest_method}
-use Rattle.meter_theory.specs.Classes.{interface_with, is_up_to, has_attribute, has_method, is_cell, starts_at, is_settable}
+use Rattle.meter_theory.specs.declared.classes.Class.{Class}
+use Rattle.meter_theory.specs.declared.classes.Class.TheVariants as classes
+use Rattle.meter_theory.specs.declared.classes.ClassRow.{ClassRow}
+use Rattle.meter_theory.specs.declared.classes.TheConstants as table
+use Rattle.meter_theory.specs.Classes.{interface_with, same_class, class_at, class_in, is_of_class, is_known, is_up_to, has_attribute, has_method, is_cell, starts_at, is_settable}
+use Rattle.meter_theory.proofs.Lists.{found, in_any}
 
 last : (b : Bool) → (b || false) ≡ b
 last true = refl
@@ -15,6 +22,15 @@ last false = refl
 ruled : (rule : Rule) (b : Bool) → (b || false) ≡ is_some (cond b (Some rule) None)
 ruled rule true = refl
 ruled rule false = refl
+
+pub classes_are : (part : Part) → is_of_class (class_of part) (class_at part) ≡ true
+classes_are (Data1 start) = refl
+classes_are (Register start default scaler_unit) = refl
+classes_are (ProfileGeneric captured period entries) = refl
+classes_are (Clock start) = refl
+classes_are (ScriptTable scripts) = refl
+classes_are (RegisterMonitor monitored thresholds actions) = refl
+classes_are (SingleActionSchedule script type times) = refl
 
 pub attributes_are : (part : Part) (index : ℕ) → has_attribute (class_of part) index ≡ is_up_to (interface_of part).attributes index
 attributes_are (Data1 start) index = last (is_up_to 2 index)
@@ -60,3 +76,42 @@ cells_are n (Clock start) index = refl
 cells_are n (ScriptTable scripts) index = refl
 cells_are n (RegisterMonitor monitored thresholds actions) index = refl
 cells_are n (SingleActionSchedule script type times) index = refl
+
+same_itself : (class : Class) → same_class class class ≡ true
+same_itself classes.Data = refl
+same_itself classes.Register = refl
+same_itself classes.ProfileGeneric = refl
+same_itself classes.Clock = refl
+same_itself classes.ScriptTable = refl
+same_itself classes.RegisterMonitor = refl
+same_itself classes.SingleActionSchedule = refl
+
+-- a number that is known is that of its class
+pub known_is_of_class : (version number : ℕ) (class : Class) → class_in version number ≡ Some class → is_of_class number class ≡ true
+known_is_of_class version number class h = at (find known table.CLASSES) refl h
+  where
+    known : ClassRow → Bool
+    known row = (number == row.class_id) && nat_le row.since version
+
+    at : (r : Option ClassRow) → find known table.CLASSES ≡ r → option_map (λ row. row.class) r ≡ Some class → is_of_class number class ≡ true
+    at (Some row) is e =
+        let there = found known table.CLASSES row is in
+        let named : row.class ≡ class = cc in
+        in_any (λ z. same_class z.class class && (number == z.class_id)) table.CLASSES row there.0
+        (and_from (same_class row.class class) (number == row.class_id)
+        (subst (λ k. same_class k class ≡ true) (sym named) (same_itself class))
+        (and_parts (number == row.class_id) (nat_le row.since version) there.1).0)
+    at None is e = cc
+
+-- what has no class isn't known
+pub unknown_has_no_class : (version number : ℕ) → class_in version number ≡ None → is_known version number ≡ false
+unknown_has_no_class version number h = none_passes (λ row. (number == row.class_id) && nat_le row.since version) table.CLASSES h
+  where
+    none_passes : (test : ClassRow → Bool) (rows : List ClassRow) → option_map (λ row. row.class) (find test rows) ≡ None → list_any test rows ≡ false
+    none_passes test [] e = refl
+    none_passes test (row ∷ rows) e = at (none_passes test rows) (test row) refl e
+      where
+        at : (option_map (λ r. r.class) (find test rows) ≡ None → list_any test rows ≡ false) → (b : Bool) → test row ≡ b →
+            option_map (λ r. r.class) (cond b (Some row) (find test rows)) ≡ None → (b || list_any test rows) ≡ false
+        at others true is h = cc
+        at others false is h = others h

@@ -1,17 +1,49 @@
 -- What the table of the interface classes says of a class by its number (IEC 62056-6-2, interface classes).
-use Rattle.std.specs.Prelude.{ℕ, ◌==◌, nat_le, Bool, not, ◌&&◌, Option, option_map, find}
+use Rattle.std.specs.Prelude.{ℕ, ◌==◌, nat_le, Bool, true, false, not, ◌&&◌, Option, option_map, find}
 use Rattle.std.specs.List.{list_any}
 use Rattle.meter_theory.specs.declared.classes.CellRow.{CellRow}
+use Rattle.meter_theory.specs.declared.classes.Class.{Class}
+use Rattle.meter_theory.specs.declared.classes.Class.TheVariants as classes
 use Rattle.meter_theory.specs.declared.classes.TheConstants as table
 use Rattle.cosem_data.specs.declared.name.LogicalName.{LogicalName}
 use Rattle.meter_theory.specs.declared.refs.Interface.{Interface}
-use Rattle.meter_theory.specs.Plan.{Part, start_of}
+use Rattle.meter_theory.specs.Plan.{Part, Data1, Register, ProfileGeneric, Clock, ScriptTable, RegisterMonitor, SingleActionSchedule, start_of}
+
+-- the class of a part
+abbrev pub class_at : Part → Class
+class_at (Data1 start) = classes.Data
+class_at (Register start default scaler_unit) = classes.Register
+class_at (ProfileGeneric captured period entries) = classes.ProfileGeneric
+class_at (Clock start) = classes.Clock
+class_at (ScriptTable scripts) = classes.ScriptTable
+class_at (RegisterMonitor monitored thresholds actions) = classes.RegisterMonitor
+class_at (SingleActionSchedule script type times) = classes.SingleActionSchedule
 
 -- the interface class with this number
 abbrev pub interface_with : ℕ → Option Interface
 interface_with class =
     option_map (λ row. record { class_id = row.class_id; version = row.version; attributes = row.attributes; methods = row.methods })
     (find (λ row. class == row.class_id) table.CLASSES)
+
+-- two classes are one
+abbrev pub same_class : Class → Class → Bool
+same_class classes.Data classes.Data = true
+same_class classes.Register classes.Register = true
+same_class classes.ProfileGeneric classes.ProfileGeneric = true
+same_class classes.Clock classes.Clock = true
+same_class classes.ScriptTable classes.ScriptTable = true
+same_class classes.RegisterMonitor classes.RegisterMonitor = true
+same_class classes.SingleActionSchedule classes.SingleActionSchedule = true
+same_class _ _ = false
+
+-- the class with this number, if a configuration of this version may have objects of it
+abbrev pub class_in : ℕ → ℕ → Option Class
+class_in version number =
+    option_map (λ row. row.class) (find (λ row. (number == row.class_id) && nat_le row.since version) table.CLASSES)
+
+-- this is the number of the class
+abbrev pub is_of_class : ℕ → Class → Bool
+is_of_class number class = list_any (λ row. same_class row.class class && (number == row.class_id)) table.CLASSES
 
 -- a configuration of this version may have objects of the class
 abbrev pub is_known : ℕ → ℕ → Bool

@@ -1,14 +1,27 @@
 //! The one table of the interface classes whose objects a meter may have, and of their attributes that can change. Whatever
-//! asks for a class by its number reads it here.
-ghost use Rattle.std.specs.Prelude.{◌≡◌, ℕ, Some, is_some};
+//! asks for a class by its number reads it here, and goes on with the [`Class`].
+ghost use Rattle.std.specs.Prelude.{◌≡◌, ℕ, true, Some, is_some};
 ghost use Rattle.cosem_data.specs.declared.name.LogicalName.{LogicalName};
 ghost use Rattle.meter_theory.specs.Plan.{Plan, Part, class_of, interface_of, rule_in};
 ghost use Rattle.meter_theory.specs.Sound.{highest_method};
 ghost use Rattle.meter_theory.specs.Classes as spec;
 
-/// An interface class (IEC 62056-6-2, interface classes).
+/// The interface classes whose objects a meter may have (IEC 62056-6-2, interface classes).
 #[derive(Clone, Copy, Debug, PartialEq, Eq, Drop)]
+pub enum Class {
+    Data,
+    Register,
+    ProfileGeneric,
+    Clock,
+    ScriptTable,
+    RegisterMonitor,
+    SingleActionSchedule,
+}
+
+/// What the table says of an interface class.
+#[derive(Clone, Copy, Debug, Drop)]
 pub struct ClassRow {
+    pub class: Class,
     pub class_id: u16,
     pub version: u8,
     /// Its highest attribute.
@@ -22,7 +35,7 @@ pub struct ClassRow {
 }
 
 /// An attribute that can change, and what may name it (own profile).
-#[derive(Clone, Copy, Debug, PartialEq, Eq, Drop)]
+#[derive(Clone, Copy, Debug, Drop)]
 pub struct CellRow {
     pub class_id: u16,
     pub index: u8,
@@ -38,9 +51,10 @@ pub struct CellRow {
     pub is_inner: bool,
 }
 
-/// Data, Register, Profile generic, Clock, Script table, Register monitor and Single action schedule.
+/// A row for each class, by their numbers.
 pub const CLASSES: [ClassRow; 7] = [
     ClassRow {
+        class: Class::Data,
         class_id: 1,
         version: 0,
         attributes: 2,
@@ -49,6 +63,7 @@ pub const CLASSES: [ClassRow; 7] = [
         since: 1,
     },
     ClassRow {
+        class: Class::Register,
         class_id: 3,
         version: 0,
         attributes: 3,
@@ -57,6 +72,7 @@ pub const CLASSES: [ClassRow; 7] = [
         since: 1,
     },
     ClassRow {
+        class: Class::ProfileGeneric,
         class_id: 7,
         version: 1,
         attributes: 8,
@@ -65,6 +81,7 @@ pub const CLASSES: [ClassRow; 7] = [
         since: 1,
     },
     ClassRow {
+        class: Class::Clock,
         class_id: 8,
         version: 0,
         attributes: 9,
@@ -73,6 +90,7 @@ pub const CLASSES: [ClassRow; 7] = [
         since: 2,
     },
     ClassRow {
+        class: Class::ScriptTable,
         class_id: 9,
         version: 0,
         attributes: 2,
@@ -81,6 +99,7 @@ pub const CLASSES: [ClassRow; 7] = [
         since: 1,
     },
     ClassRow {
+        class: Class::RegisterMonitor,
         class_id: 21,
         version: 0,
         attributes: 4,
@@ -89,6 +108,7 @@ pub const CLASSES: [ClassRow; 7] = [
         since: 1,
     },
     ClassRow {
+        class: Class::SingleActionSchedule,
         class_id: 22,
         version: 0,
         attributes: 4,
@@ -193,6 +213,27 @@ impl CellRow {
     }
 }
 
+impl Class {
+    /// The class with this number, if a configuration of this version may have objects of it.
+    pub fn in_version(version: u8, class_id: u16) -> Option<Class>
+        ensures { result ≡ spec.class_in version class_id }
+    {
+        let row = CLASSES
+            .iter()
+            .find(|row| class_id == row.class_id && row.since <= version)?;
+        Some(row.class)
+    }
+}
+
+/// Whether this is the number of the class.
+pub fn is_of_class(class_id: u16, class: Class) -> bool
+    ensures { result ≡ spec.is_of_class class_id class }
+{
+    CLASSES
+        .iter()
+        .any(|row| row.class == class && class_id == row.class_id)
+}
+
 /// Whether a configuration of this version may have objects of the class.
 pub fn is_known(version: u8, class_id: u16) -> bool
     ensures { result ≡ spec.is_known version class_id }
@@ -261,9 +302,10 @@ pub fn may_be_fed(class_id: u16) -> bool
         .any(|row| row.is_fed && class_id == row.class_id)
 }
 
-/// The table says of the class of each part what plans say of the part: its interface, its attributes, the methods that may be
-/// granted, its cells, and what may be set.
+/// The table says of the class of each part what plans say of the part: which class it is, its interface, its attributes, the
+/// methods that may be granted, its cells, and what may be set.
 pub fn parts_are_as_in_the_table()
+    ensures classes { (part : Part) → spec.is_of_class (class_of part) (spec.class_at part) ≡ true }
     ensures interfaces { (part : Part) → spec.interface_with (class_of part) ≡ Some (interface_of part) }
     ensures attributes { (part : Part) (index : ℕ) →
         spec.has_attribute (class_of part) index ≡ spec.is_up_to (interface_of part).attributes index }
