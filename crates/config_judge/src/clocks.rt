@@ -9,15 +9,13 @@ use crate::walk::{JudgeNew, each_new};
 use config_text::fault::{Code, ConfigFault};
 use config_text::parts::{ConfigParts, ObjectParts};
 use config_text::place::Place;
+use meter_theory::classes::{Class, is_of_class};
 use std::alloc::Global;
-
-/// The interface class of clocks (IEC 62056-6-2).
-const CLOCK: u16 = 8;
 
 fn is_clock(object: &ObjectParts) -> bool
     ensures { result ≡ passes.is_clock object.now }
 {
-    object.class_id == CLOCK
+    is_of_class(object.class_id, Class::Clock)
 }
 
 fn has_clock(objects: &[ObjectParts]) -> bool

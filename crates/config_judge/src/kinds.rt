@@ -13,7 +13,7 @@ use cosem_data::kind::Kind;
 use cosem_data::memory::Memory;
 use std::alloc::Global;
 
-/// The kind of the value with which an object of class 1 or 3 starts, none of another and where it can't be read.
+/// The kind of the value with which an object of the class Data or Register starts, none of another and where it can't be read.
 fn start_kind_in(alloc: Global, body: &BodyParts) -> Result<Option<Kind>, Memory>
     ensures { IfOk result (λ kind. kind ≡ spec.start_kind_in (body_text body.now)) }
 {

@@ -17,10 +17,8 @@ use config_text::parts::{
     BodyParts, LabelParts, ObjectParts, RightParts, ScriptParts, ScriptRefParts, TargetParts,
 };
 use config_text::place::Place;
+use meter_theory::classes::{Class, is_of_class};
 use std::alloc::Global;
-
-/// The interface class of script tables (IEC 62056-6-2).
-pub(crate) const SCRIPT_TABLE: u16 = 9;
 
 /// Judges whether the object that is named at a place is there.
 fn known_object(directory: &Directory<'_>, at: &Place<'_>, name: &str) -> Result<(), ConfigFault>
@@ -77,7 +75,7 @@ fn known_script(
     ensures { Gives (λ u. u) result (spec.known_script directory.now.config.now at.now script.now) }
 {
     let table = script.table.as_str();
-    let is_table = directory.class(table) == SCRIPT_TABLE;
+    let is_table = is_of_class(directory.class(table), Class::ScriptTable);
     fault_if(Code::Reference, at, ".table", !is_table)?;
     let known = has_script(scripts_of(directory, table), script.script);
     fault_if(Code::Reference, at, ".script", !known)

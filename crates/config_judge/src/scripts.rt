@@ -1,20 +1,19 @@
 //! C14 and C15: scripts with identifier 0 or that of an earlier one, and actions that execute a script table.
-ghost use Rattle.std.specs.Prelude.{◌≡◌, ◌==◌, ◌&&◌};
-ghost use Rattle.std.specs.List.{list_any};
+ghost use Rattle.std.specs.Prelude.{◌≡◌};
 ghost use Rattle.config_text.specs.BodyView.{body_text};
 ghost use Rattle.config_text.specs.Fault.{Gives};
-ghost use Rattle.config_rules.specs.Names as names;
 ghost use Rattle.config_rules.specs.Passes as passes;
 
 use crate::directory::Directory;
 use crate::judged::fault_if;
 use crate::reference_walk::each_action;
-use crate::references::{SCRIPT_TABLE, has_id, scripts_in};
+use crate::references::{has_id, scripts_in};
 use crate::walk::{Judge, JudgeNew, each, each_new};
 use config_text::fault::{Code, ConfigFault};
 use config_text::parts::{ActionParts, BodyParts, ConfigParts, ObjectParts, ScriptParts};
 use config_text::place::Place;
 use config_text::service::Service;
+use meter_theory::classes::{Class, is_of_class};
 use std::alloc::Global;
 
 /// The identifier of a script.
@@ -72,12 +71,12 @@ pub(crate) fn new_scripts(alloc: Global, config: &ConfigParts) -> Result<(), Con
 
 /// Whether an action executes a script table.
 fn executes(directory: &Directory<'_>, action: &ActionParts) -> bool
-    ensures { result ≡ (passes.is_invoke action.now.service && (names.class_named directory.now.config.now action.now.target.object == 9)) }
+    ensures { result ≡ passes.executes directory.now.config.now action.now }
 {
     let class = directory.class(action.target.object.as_str());
     match action.service {
         Service::Write => false,
-        Service::Invoke => class == SCRIPT_TABLE,
+        Service::Invoke => is_of_class(class, Class::ScriptTable),
     }
 }
 

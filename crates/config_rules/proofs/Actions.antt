@@ -1,7 +1,7 @@
 -- What the actions of scripts write and call is there.
 use Rattle.std.proofs.Common.{◌≡◌, ℕ, ◌==◌, Bool, true, false, cond, not, List, [], ◌∷◌, map, length, refl, sym, ap, subst, ◌∙◌, Option, Some, None, eqb-true, eq-eqb, nat_le, Ok}
 use Rattle.std.specs.Prelude.{option_map, option_and_then, ◌&&◌}
-use Rattle.std.proofs.lemmas.Bool.{and_parts, and_from, false≢true}
+use Rattle.std.proofs.lemmas.Bool.{and_parts, and_from, or_parts, false≢true}
 use Rattle.std.proofs.lemmas.List.{length-map}
 use Rattle.std.specs.List.{list_all}
 use Rattle.cosem_data.specs.Tree.{Tree, null_data}
@@ -9,7 +9,8 @@ use Rattle.cosem_data.specs.Kinds.{kind_of, same_kind}
 use Rattle.cosem_data.specs.declared.kind.Kind.{Kind}
 use Rattle.cosem_data.specs.declared.kind.Kind.TheVariants.{Array, DoubleLongUnsigned}
 use Rattle.cosem_data.specs.declared.cell.CellRef.{CellRef}
-use Rattle.meter_theory.specs.Classes.{has_method}
+use Rattle.meter_theory.specs.Classes.{has_method, is_of_class}
+use Rattle.meter_theory.specs.declared.classes.Class.TheVariants as classes
 use Rattle.meter_theory.specs.Lists.{IsIn, some_passes}
 use Rattle.cosem_data.specs.declared.cell.MethodRef.{MethodRef}
 use Rattle.meter_theory.specs.State.{value}
@@ -84,7 +85,7 @@ pub record IsAction (c : ConfigText) (a : ActionText) : Type 0 where
   pub target : IsTarget c a.target.object object
   pub index : (at : Text) × (passes.usable_action c a.service at a.target ≡ Ok tt)
   pub value : passes.action_value c a.service a.target a.value ≡ true
-  pub plain : (passes.is_invoke a.service && (class_named c a.target.object == 9)) ≡ false
+  pub plain : passes.executes c a ≡ false
   pub limit : passes.is_small (option_and_then value_in a.value) ≡ true
 
 pub action_at : (c : ConfigText) → IsRight c → (o : ObjectText) → IsIn c.objects o → (scripts : List ScriptText) → o.body ≡ ScriptTableText scripts →
@@ -154,7 +155,9 @@ action_calls c a act services.Write is m v e = cc
 action_calls c a act services.Invoke is m v e =
     let index = subst (λ s. passes.usable_action c s act.index.0 a.target ≡ Ok tt) is act.index.1 in
     let method : has_method (class_named c a.target.object) a.target.index ≡ true = holds _ _ _ index in
-    let plain : (class_named c a.target.object == 9) ≡ false = subst (λ s. (passes.is_invoke s && (class_named c a.target.object == 9)) ≡ false) is act.plain in
+    let plain : (class_named c a.target.object == 9) ≡ false =
+    (or_parts (class_named c a.target.object == 9) false
+    (subst (λ s. (passes.is_invoke s && is_of_class (class_named c a.target.object) classes.ScriptTable) ≡ false) is act.plain)).0 in
     let there = method_of (part_of c act.object.body) a.target.index (subst (λ k. has_method k a.target.index ≡ true) act.target.class method) in
     let method_is : m ≡ method_named c a.target = cc in
     subst (λ z. has_plain_method (plan_of c) z ≡ true) (sym method_is)

@@ -5,7 +5,8 @@ use Rattle.std.proofs.lemmas.Bool.{or_cases, and_parts, cond-true, false≢true,
 use Rattle.cosem_data.specs.Tree.{Tree}
 use Rattle.cosem_data.specs.Cells.{cell}
 use Rattle.cosem_data.specs.declared.name.LogicalName.{LogicalName}
-use Rattle.meter_theory.specs.Classes.{is_known, is_settable}
+use Rattle.meter_theory.specs.Classes.{is_known, is_of_class, is_settable}
+use Rattle.meter_theory.specs.declared.classes.Class.TheVariants as classes
 use Rattle.meter_theory.specs.Lists.{IsIn}
 use Rattle.meter_theory.specs.Value.{Rule}
 use Rattle.meter_theory.specs.Plan.{Plan, start_of, rule_in, rule_of, class_of, cells, object_at}
@@ -46,13 +47,13 @@ settable_body P c n index UnknownText s = absurd (false≢true s)
 
 -- the class of a part is that of its body
 pub class_is : (c : ConfigText) (class : ℕ) (body : BodyText) → is_body_of c.version class body ≡ true → is_known c.version class ≡ true → class ≡ class_of (part_of c body)
-class_is c class (DataText value) b k = eqb-true class 1 b
-class_is c class (RegisterText value default scaler unit) b k = eqb-true class 3 b
-class_is c class (ProfileText captures period entries sort_method) b k = eqb-true class 7 (and_parts (class == 7) _ b).0
-class_is c class (ClockText time) b k = eqb-true class 8 b
-class_is c class (ScriptTableText scripts) b k = eqb-true class 9 b
-class_is c class (MonitorText monitored thresholds actions) b k = eqb-true class 21 b
-class_is c class (ScheduleText script type times) b k = eqb-true class 22 b
+class_is c class (DataText value) b k = only_place _ class b
+class_is c class (RegisterText value default scaler unit) b k = only_place _ class b
+class_is c class (ProfileText captures period entries sort_method) b k = only_place _ class (and_parts (is_of_class class classes.ProfileGeneric) _ b).0
+class_is c class (ClockText time) b k = only_place _ class b
+class_is c class (ScriptTableText scripts) b k = only_place _ class b
+class_is c class (MonitorText monitored thresholds actions) b k = only_place _ class b
+class_is c class (ScheduleText script type times) b k = only_place _ class b
 class_is c class UnknownText b k = absurd (false≢true (sym (not-true (is_known c.version class) b) ∙ k))
 
 -- What a configuration with its passes passed has, part by part.

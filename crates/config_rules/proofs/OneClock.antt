@@ -4,19 +4,20 @@ use Rattle.std.specs.Prelude.{codes, ◌&&◌, ◌||◌}
 use Rattle.std.specs.List.{list_any}
 use Rattle.std.proofs.lemmas.Bool.{false≢true}
 use Rattle.std.proofs.lemmas.List.Folds.{list_any-append}
-use Rattle.meter_theory.specs.Classes.{is_known, may_be_fed}
+use Rattle.meter_theory.specs.Classes.{is_known, is_of_class, may_be_fed}
+use Rattle.meter_theory.specs.declared.classes.Class.TheVariants as classes
 use Rattle.meter_theory.specs.Lists.{IsIn}
 use Rattle.meter_theory.specs.Plan.{Object, class_of, clock_object}
 use Rattle.meter_theory.proofs.Lists.{found, from_map}
 use Rattle.config_text.specs.Parts.{Text, ConfigText, ObjectText}
-use Rattle.config_rules.specs.Faultless.{HasAtMostOneClock}
+use Rattle.config_rules.specs.Faultless.{IsClock, HasAtMostOneClock}
 use Rattle.config_rules.specs.Passes as passes
 use Rattle.config_rules.specs.Passes.{is_clock, new_clock, judged}
 use Rattle.config_rules.specs.PlanOf.{object_of, plan_of}
 use Rattle.config_rules.specs.Read.{IsRead}
 use Rattle.config_rules.specs.Walks.{each_after, element_place}
 use Rattle.config_rules.proofs.Passed.{then_ok, not_faulty, each_ok, passed}
-use Rattle.config_rules.proofs.Cells.{IsRight, right, class_is}
+use Rattle.config_rules.proofs.Cells.{IsRight, right, class_is, only_place}
 
 -- Objects behind a clock
 
@@ -72,11 +73,12 @@ one_clock name earlier (z ∷ zs) h x y i j one other = at (λ k l. one_clock na
 -- Objects of the plan
 
 -- a clock of the plan is one of the configuration
-clock_text : (c : ConfigText) → IsRight c → (o : Object) → IsIn (plan_of c).objects o → class_of o.part ≡ 8 →
-    (t : ObjectText) × IsIn c.objects t × (o ≡ object_of c t) × (t.class ≡ 8)
+clock_text : (c : ConfigText) → IsRight c → (o : Object) → IsIn (plan_of c).objects o → IsClock o →
+    (t : ObjectText) × IsIn c.objects t × (o ≡ object_of c t) × (is_clock t ≡ true)
 clock_text c ok o i h =
     let t = from_map (object_of c) c.objects o i in
-    (t.0, t.1, t.2, class_is c t.0.class t.0.body (ok.read.bodies t.0 t.1) (ok.known t.0 t.1) ∙ (sym (ap (λ z. class_of z.part) t.2) ∙ h))
+    let same : class_of o.part ≡ t.0.class = ap (λ z. class_of z.part) t.2 ∙ sym (class_is c t.0.class t.0.body (ok.read.bodies t.0 t.1) (ok.known t.0 t.1)) in
+    (t.0, t.1, t.2, subst (λ k. is_of_class k classes.Clock ≡ true) same h)
 
 not_both : (b : Bool) → (b && true) ≡ false → b ≡ false
 not_both true h = h
@@ -88,12 +90,12 @@ one_clock_at_most c read h = record {
   one = λ o p i j first second.
       let t = clock_text c ok o i first in
       let u = clock_text c ok p j second in
-      let same = one_clock (codes "object") [] c.objects ok.judged.clocks t.0 u.0 t.1 u.1 (eq-eqb t.0.class 8 t.3) (eq-eqb u.0.class 8 u.3) in
+      let same = one_clock (codes "object") [] c.objects ok.judged.clocks t.0 u.0 t.1 u.1 t.3 u.3 in
       t.2 ∙ (ap (object_of c) same ∙ sym u.2);
   fed = λ o i class.
       let t = clock_text c ok o i class in
       let at = each_ok _ _ _ _ ok.judged.inputs t.0 t.1 in
-      ap (λ z. z.fed) t.2 ∙ not_both t.0.fed (subst (λ k. (t.0.fed && not (may_be_fed k)) ≡ false) t.3 (not_faulty _ _ _ at.1));
+      ap (λ z. z.fed) t.2 ∙ not_both t.0.fed (subst (λ k. (t.0.fed && not (may_be_fed k)) ≡ false) (only_place 8 t.0.class t.3) (not_faulty _ _ _ at.1));
   since = λ version. none version (clock_object (plan_of c)) refl;
 }
   where
@@ -104,6 +106,6 @@ one_clock_at_most c read h = record {
     none version None is = refl
     none version (Some o) is =
         let there = found (λ z. class_of z.part == 8) (plan_of c).objects o is in
-        let t = clock_text c ok o there.0 (eqb-true (class_of o.part) 8 there.1) in
-        let known : is_known 1 8 ≡ true = subst (λ k. is_known 1 k ≡ true) t.3 (subst (λ v. is_known v t.0.class ≡ true) version (ok.known t.0 t.1)) in
+        let t = clock_text c ok o there.0 (ap (λ b. b || false) there.1) in
+        let known : is_known 1 8 ≡ true = subst (λ k. is_known 1 k ≡ true) (only_place 8 t.0.class t.3) (subst (λ v. is_known v t.0.class ≡ true) version (ok.known t.0 t.1)) in
         absurd (false≢true known)

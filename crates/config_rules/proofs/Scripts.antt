@@ -3,6 +3,8 @@ use Rattle.std.proofs.Common.{◌≡◌, ℕ, ◌==◌, Bool, true, false, cond,
 use Rattle.std.specs.Prelude.{ℤ, pos, negsuc, int_le, unsigned_abs, codes, ◌&&◌, ◌||◌}
 use Rattle.std.specs.List.{list_any}
 use Rattle.std.proofs.lemmas.Bool.{and_from, or_parts, false≢true}
+use Rattle.meter_theory.specs.Classes.{is_of_class}
+use Rattle.meter_theory.specs.declared.classes.Class.TheVariants as classes
 use Rattle.meter_theory.specs.Lists.{IsIn, AreDistinct, some_passes}
 use Rattle.meter_theory.specs.Plan.{class_of}
 use Rattle.meter_theory.specs.Rights.{knows_script}
@@ -18,7 +20,7 @@ use Rattle.config_rules.specs.Passes as passes
 use Rattle.config_rules.specs.Walks.{each_new}
 use Rattle.config_rules.proofs.Passed.{then_ok, holds, not_faulty, each_ok, each_new_distinct, each_new_in, AsksNewKey}
 use Rattle.config_rules.proofs.Named.{IsName}
-use Rattle.config_rules.proofs.Cells.{IsRight, target_of}
+use Rattle.config_rules.proofs.Cells.{IsRight, target_of, only_place}
 
 -- the script that is named is one of the plan
 abbrev pub IsScript : ConfigText → ScriptRefText → Type 0
@@ -57,16 +59,16 @@ known_number c scripts (negsuc n) h = absurd (false≢true h)
 pub known_script : (c : ConfigText) → IsRight c → (at : Text) (r : ScriptRefText) → IsName r.table → passes.known_script c at r ≡ Ok tt → IsScript c r
 unfolding passes.known_script
 known_script c ok at r name h =
-    let both = then_ok (fault_if Reference _ (not (class_named c r.table == 9))) _ tt h in
-    let class : (class_named c r.table == 9) ≡ true = holds _ _ _ both.1 in
+    let both = then_ok (fault_if Reference _ (not (is_of_class (class_named c r.table) classes.ScriptTable))) _ tt h in
+    let class : is_of_class (class_named c r.table) classes.ScriptTable ≡ true = holds _ _ _ both.1 in
     let number : passes.has_script (passes.scripts_of (object_named c r.table)) r.script ≡ true = holds _ _ _ both.2 in
     let table = target_of c ok r.table name (there (object_named c r.table) class) in
     subst (λ found. some_passes (λ o. (class_of o.part == 9) && knows_script (scripts_of o.part) (script_number r.script)) found ≡ true) (sym table.1.planned)
-    (and_from (class_of (part_of c table.0.body) == 9) _ (subst (λ k. (k == 9) ≡ true) table.1.class class)
+    (and_from (class_of (part_of c table.0.body) == 9) _ (eq-eqb _ 9 (sym table.1.class ∙ only_place 9 _ class))
     (subst (λ scripts. knows_script scripts (script_number r.script) ≡ true) (sym (scripts_are c table.0.body))
     (known_number c (scripts_in table.0.body) r.script (subst (λ found. passes.has_script (passes.scripts_of found) r.script ≡ true) table.1.is number))))
   where
-    there : (found : Option ObjectText) → (class_in found == 9) ≡ true → is_some found ≡ true
+    there : (found : Option ObjectText) → is_of_class (class_in found) classes.ScriptTable ≡ true → is_some found ≡ true
     there None k = absurd (false≢true k)
     there (Some o) k = refl
 

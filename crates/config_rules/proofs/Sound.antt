@@ -8,7 +8,8 @@ use Rattle.cosem_data.specs.Tree.{Tree, null_data}
 use Rattle.cosem_data.specs.Kinds.{kind_of}
 use Rattle.cosem_data.specs.Cells.{cell, same_name}
 use Rattle.cosem_data.specs.declared.cell.CellRef.{CellRef}
-use Rattle.meter_theory.specs.Classes.{is_settable, is_capturable}
+use Rattle.meter_theory.specs.Classes.{is_of_class, is_settable, is_capturable}
+use Rattle.meter_theory.specs.declared.classes.Class.TheVariants as classes
 use Rattle.meter_theory.specs.ClientNames.{may_be_named}
 use Rattle.meter_theory.specs.Lists.{IsIn, AreDistinct}
 use Rattle.meter_theory.specs.declared.refs.ScriptRef.{ScriptRef}
@@ -195,7 +196,7 @@ part_sizes c ok o i (RegisterText value default scaler unit) is = refl
 part_sizes c ok o i (ProfileText all period entries sort_method) is =
     let names = subst (EachReference (λ t. IsName t.object) (λ r. IsName r.table)) is (ok.names.references o i) in
     let both = then_ok (passes.at_most limits.CAPTURE_OBJECTS _ all) _ tt (of_body c ok o i (ProfileText all period entries sort_method) is).limits.1 in
-    let one = (and_parts (o.class == 7) (nat_le 1 entries) (subst (λ b. is_body_of c.version o.class b ≡ true) is (ok.read.bodies o i))).1 in
+    let one = (and_parts (is_of_class o.class classes.ProfileGeneric) (nat_le 1 entries) (subst (λ b. is_body_of c.version o.class b ≡ true) is (ok.read.bodies o i))).1 in
     and_from (nat_le (length (map (λ y. cell_named c y.target) all)) limits.CAPTURE_OBJECTS) _ (few_of_map (λ y. cell_named c y.target) limits.CAPTURE_OBJECTS all (at_most_ok _ _ all both.1))
     (and_from (list_all (λ x. is_name x.name) (map (λ y. cell_named c y.target) all)) _ (each_of_map (λ x. is_name x.name) (λ y. cell_named c y.target) all (λ y j. six y.target.object (names y j)))
     (and_from (nat_le 1 entries) (nat_le entries limits.PROFILE_ENTRIES) one (le-leb entries limits.PROFILE_ENTRIES (ltb-false limits.PROFILE_ENTRIES entries (not_faulty _ _ _ both.2)))))

@@ -4,7 +4,8 @@ use Rattle.std.specs.Prelude.{ℕ, ℤ, pos, ◌==◌, nat_lt, int_le, Bool, tru
 use Rattle.std.specs.List.{list_any}
 use Rattle.std.specs.Str.{bytes_eq}
 use Rattle.cosem_data.specs.Tree.{Tree}
-use Rattle.meter_theory.specs.Classes.{is_known, has_attribute, has_method, is_cell, is_settable, is_capturable, is_monitorable, may_be_fed}
+use Rattle.meter_theory.specs.Classes.{is_known, is_of_class, has_attribute, has_method, is_cell, is_settable, is_capturable, is_monitorable, may_be_fed}
+use Rattle.meter_theory.specs.declared.classes.Class.TheVariants as classes
 use Rattle.meter_theory.specs.ClientNames.{may_be_named}
 use Rattle.meter_theory.specs.Value.{is_within_limits, elements}
 use Rattle.meter_theory.specs.Times.{are_execution_times}
@@ -110,7 +111,7 @@ scripts_of (Some o) = scripts_in o.body
 
 unfoldable pub known_script : ConfigText → Judge ScriptRefText
 known_script c at r = do
-  table ← fault_if Reference (at ++ codes ".table") (not (class_named c r.table == 9))
+  table ← fault_if Reference (at ++ codes ".table") (not (is_of_class (class_named c r.table) classes.ScriptTable))
   fault_if Reference (at ++ codes ".script") (not (has_script (scripts_of (object_named c r.table)) r.script))
 
 unfoldable pub known_references : ConfigText → Result ⊤ Fault
@@ -213,8 +214,11 @@ abbrev pub is_invoke : Service → Bool
 is_invoke Write = false
 is_invoke Invoke = true
 
+abbrev pub executes : ConfigText → ActionText → Bool
+executes c a = is_invoke a.service && is_of_class (class_named c a.target.object) classes.ScriptTable
+
 abbrev pub no_execute : ConfigText → Judge ActionText
-no_execute c at a = fault_if Execute (at ++ codes ".object") (is_invoke a.service && (class_named c a.target.object == 9))
+no_execute c at a = fault_if Execute (at ++ codes ".object") (executes c a)
 
 unfoldable pub no_executes : ConfigText → Result ⊤ Fault
 no_executes c = each (λ at o. each_action (no_execute c) at (scripts_in o.body)) (codes "object") c.objects
@@ -306,7 +310,7 @@ valid_sorting c = each (λ at o. valid_sorting_in at o.body) (codes "object") c.
 -- C21 A second clock
 
 abbrev pub is_clock : ObjectText → Bool
-is_clock o = o.class == 8
+is_clock o = is_of_class o.class classes.Clock
 
 abbrev pub new_clock : List ObjectText → Judge ObjectText
 new_clock earlier at o = fault_if SecondClock (at ++ codes ".class") (is_clock o && list_any is_clock earlier)

@@ -1,7 +1,8 @@
 -- What the reading of a configuration's tables has judged before: numbers within their ranges, and objects that say what
 -- their classes ask for.
-use Rattle.std.specs.Prelude.{◌≡◌, ℕ, ◌==◌, nat_le, Bool, true, not, ◌&&◌}
-use Rattle.meter_theory.specs.Classes.{is_known}
+use Rattle.std.specs.Prelude.{◌≡◌, ℕ, nat_le, Bool, true, not, ◌&&◌}
+use Rattle.meter_theory.specs.Classes.{is_known, is_of_class}
+use Rattle.meter_theory.specs.declared.classes.Class.TheVariants as classes
 use Rattle.meter_theory.specs.Lists.{IsIn}
 use Rattle.config_text.specs.Parts.{ClientText, ObjectText, ConfigText, BodyText, DataText, RegisterText, ProfileText, ClockText, ScriptTableText, MonitorText, ScheduleText, UnknownText}
 
@@ -11,13 +12,13 @@ has_sap client = nat_le 1 client.sap && nat_le client.sap 127
 
 -- in a configuration of this version the body is that of the class; a profile has at least 1 entry
 abbrev pub is_body_of : ℕ → ℕ → BodyText → Bool
-is_body_of version class (DataText value) = class == 1
-is_body_of version class (RegisterText value default scaler unit) = class == 3
-is_body_of version class (ProfileText captures period entries sort_method) = (class == 7) && nat_le 1 entries
-is_body_of version class (ClockText time) = class == 8
-is_body_of version class (ScriptTableText scripts) = class == 9
-is_body_of version class (MonitorText monitored thresholds actions) = class == 21
-is_body_of version class (ScheduleText script type times) = class == 22
+is_body_of version class (DataText value) = is_of_class class classes.Data
+is_body_of version class (RegisterText value default scaler unit) = is_of_class class classes.Register
+is_body_of version class (ProfileText captures period entries sort_method) = is_of_class class classes.ProfileGeneric && nat_le 1 entries
+is_body_of version class (ClockText time) = is_of_class class classes.Clock
+is_body_of version class (ScriptTableText scripts) = is_of_class class classes.ScriptTable
+is_body_of version class (MonitorText monitored thresholds actions) = is_of_class class classes.RegisterMonitor
+is_body_of version class (ScheduleText script type times) = is_of_class class classes.SingleActionSchedule
 is_body_of version class UnknownText = not (is_known version class)
 
 pub record IsRead (c : ConfigText) : Type 0 where
