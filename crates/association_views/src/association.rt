@@ -9,6 +9,8 @@ ghost use Rattle.meter_theory.specs.Plan.{interface_of};
 ghost use Rattle.meter_theory.specs.Rights.{has_right};
 ghost use Rattle.meter_theory.specs.Fixed as shapes;
 
+use class_profile::profile::Profile;
+use cosem_class::class::InterfaceClass;
 use cosem_class::shapes::{array, structure};
 use cosem_data::bytes::Bytes;
 use cosem_data::cell::CellRef;
@@ -250,7 +252,8 @@ fn access_selectors(
 ) -> Result<Data, Memory>
     ensures { IfOk result (λ value. tree value ≡ shapes.access_selectors instance.now.plan client (cell class_id instance.now.name index)) }
 {
-    if class_id == 7 && index == 2 && instance.may_read(client, index) {
+    let is_buffer = class_id == Profile::CLASS_ID && index == Profile::BUFFER;
+    if is_buffer && instance.may_read(client, index) {
         array(alloc, [Data::Integer(2)])
     } else {
         Ok(Data::NullData)

@@ -12,6 +12,7 @@ ghost use Rattle.association_views.specs.Permits.{permitted, value_code};
 
 use crate::selection::descriptor_in;
 use class_control::script_table::{ScriptTable, knows_script};
+use class_profile::profile::Profile;
 use cosem_class::class::InterfaceClass;
 use cosem_data::cell::CellRef;
 use meter_theory::access::AccessCode;
@@ -64,7 +65,9 @@ fn takes_selection(cell: &CellRef, selection: &Option<(u8, Argument)>) -> bool
 {
     match selection {
         None => true,
-        Some((selector, _)) => cell.class_id == 7 && cell.index == 2 && *selector == 2,
+        Some((selector, _)) => {
+            cell.class_id == Profile::CLASS_ID && cell.index == Profile::BUFFER && *selector == 2
+        }
     }
 }
 

@@ -3,8 +3,11 @@ use Rattle.std.proofs.Common.{◌≡◌, ℕ, ◌+◌, ◌==◌, Bool, true, fal
 use Rattle.std.proofs.lemmas.Bool.{and_parts, and_from}
 use Rattle.std.specs.Prelude.{codes, option_and_then, ◌&&◌, if◌then◌else◌, ◌^◌, ◌-◌}
 use Rattle.toml.specs.Data.{Data, Items, Members, no_items, item, get_member, as_integer, as_table}
-use Rattle.meter_theory.specs.Classes.{is_known}
+use Rattle.meter_theory.specs.Classes.{class_in, is_of_class}
+use Rattle.meter_theory.specs.declared.classes.Class.{Class}
+use Rattle.meter_theory.specs.declared.classes.Class.TheVariants as classes
 use Rattle.meter_theory.specs.Lists.{IsIn}
+use Rattle.meter_theory.proofs.ClassTable.{known_is_of_class, unknown_has_no_class}
 use Rattle.config_text.specs.Fault.{Fault, found_or, ◌>>=◌}
 use Rattle.config_text.specs.Parts.{Text, ClientText, ObjectText, ConfigText, BodyText, DataText, RegisterText, ProfileText, ClockText, ScriptTableText, MonitorText, ScheduleText, UnknownText}
 use Rattle.config_text.specs.declared.fault.Code.{Code}
@@ -18,7 +21,7 @@ use Rattle.config_text.specs.Classes.{data_of, register_of, capture_of, profile_
 use Rattle.config_text.specs.Targets.{target_of, script_ref_of}
 use Rattle.config_text.specs.Rights.{right_of, sets_of, label_of}
 use Rattle.config_text.specs.Clients.{client_of}
-use Rattle.config_text.specs.Objects.{object_of, body_of, fed_of, is_clock}
+use Rattle.config_text.specs.Objects.{object_of, body_of, fed_of}
 use Rattle.config_text.specs.Document.{tables_of, parts_of, config_keys, document_of}
 
 -- what was said last
@@ -95,13 +98,15 @@ list_said says at key t xs h x there =
     table_said says one.0 one.1 x one.2
 
 -- what a table says is the body of its class
-data_body : (version class : ℕ) (at : Text) (t : Members) (body : BodyText) → data_of at t ≡ Ok body → (class == 1) ≡ true → is_body_of version class body ≡ true
+data_body : (version class : ℕ) (at : Text) (t : Members) (body : BodyText) → data_of at t ≡ Ok body →
+    is_of_class class classes.Data ≡ true → is_body_of version class body ≡ true
 unfolding data_of
 data_body version class at t body h is =
     let value = then_ok (text_at at (codes "value") t) (λ value. Ok (DataText value)) body h in
     subst (λ b. is_body_of version class b ≡ true) (said (DataText value.0) body value.2) is
 
-register_body : (version class : ℕ) (at : Text) (t : Members) (body : BodyText) → register_of at t ≡ Ok body → (class == 3) ≡ true → is_body_of version class body ≡ true
+register_body : (version class : ℕ) (at : Text) (t : Members) (body : BodyText) → register_of at t ≡ Ok body →
+    is_of_class class classes.Register ≡ true → is_body_of version class body ≡ true
 unfolding register_of
 register_body version class at t body h is =
     let value = then_ok (text_at at (codes "value") t) (λ value. text_at at (codes "default") t >>= λ default.
@@ -115,7 +120,8 @@ register_body version class at t body h is =
     let unit = then_ok (natural_at 0 255 at (codes "unit") t) (λ unit. Ok (RegisterText value.0 default.0 scaler.0 unit)) body scaler.2 in
     subst (λ b. is_body_of version class b ≡ true) (said (RegisterText value.0 default.0 scaler.0 unit.0) body unit.2) is
 
-profile_body : (version class : ℕ) (at : Text) (t : Members) (body : BodyText) → profile_of at t ≡ Ok body → (class == 7) ≡ true → is_body_of version class body ≡ true
+profile_body : (version class : ℕ) (at : Text) (t : Members) (body : BodyText) → profile_of at t ≡ Ok body →
+    is_of_class class classes.ProfileGeneric ≡ true → is_body_of version class body ≡ true
 unfolding profile_of
 profile_body version class at t body h is =
     let captures = then_ok (list_at capture_of at (codes "capture") t) (λ captures. natural_at 0 4294967295 at (codes "period") t >>= λ period.
@@ -129,22 +135,25 @@ profile_body version class at t body h is =
     let sort_method = then_ok (optional_integer_at at (codes "sort_method") t) (λ sort_method.
     Ok (ProfileText captures.0 period.0 entries.0 sort_method)) body entries.2 in
     subst (λ b. is_body_of version class b ≡ true) (said (ProfileText captures.0 period.0 entries.0 sort_method.0) body sort_method.2)
-    (and_from (class == 7) (nat_le 1 entries.0) is
+    (and_from (is_of_class class classes.ProfileGeneric) (nat_le 1 entries.0) is
     (and_parts (nat_le 1 entries.0) (nat_le entries.0 (2 ^ 63 - 1)) (natural_in_range 1 (2 ^ 63 - 1) at (codes "entries") t entries.0 entries.1)).0)
 
-clock_body : (version class : ℕ) (at : Text) (t : Members) (body : BodyText) → clock_of at t ≡ Ok body → (class == 8) ≡ true → is_body_of version class body ≡ true
+clock_body : (version class : ℕ) (at : Text) (t : Members) (body : BodyText) → clock_of at t ≡ Ok body →
+    is_of_class class classes.Clock ≡ true → is_body_of version class body ≡ true
 unfolding clock_of
 clock_body version class at t body h is =
     let time = then_ok (text_at at (codes "time") t) (λ time. Ok (ClockText time)) body h in
     subst (λ b. is_body_of version class b ≡ true) (said (ClockText time.0) body time.2) is
 
-script_table_body : (version class : ℕ) (at : Text) (t : Members) (body : BodyText) → script_table_of at t ≡ Ok body → (class == 9) ≡ true → is_body_of version class body ≡ true
+script_table_body : (version class : ℕ) (at : Text) (t : Members) (body : BodyText) → script_table_of at t ≡ Ok body →
+    is_of_class class classes.ScriptTable ≡ true → is_body_of version class body ≡ true
 unfolding script_table_of
 script_table_body version class at t body h is =
     let scripts = then_ok (list_at script_of at (codes "script") t) (λ scripts. Ok (ScriptTableText scripts)) body h in
     subst (λ b. is_body_of version class b ≡ true) (said (ScriptTableText scripts.0) body scripts.2) is
 
-monitor_body : (version class : ℕ) (at : Text) (t : Members) (body : BodyText) → monitor_of at t ≡ Ok body → (class == 21) ≡ true → is_body_of version class body ≡ true
+monitor_body : (version class : ℕ) (at : Text) (t : Members) (body : BodyText) → monitor_of at t ≡ Ok body →
+    is_of_class class classes.RegisterMonitor ≡ true → is_body_of version class body ≡ true
 unfolding monitor_of
 monitor_body version class at t body h is =
     let monitored = then_ok (table_at target_of at (codes "monitored") t) (λ monitored. texts_at at (codes "thresholds") t >>= λ thresholds.
@@ -154,7 +163,8 @@ monitor_body version class at t body h is =
     let actions = then_ok (list_at up_down_of at (codes "action") t) (λ actions. Ok (MonitorText monitored.0 thresholds.0 actions)) body thresholds.2 in
     subst (λ b. is_body_of version class b ≡ true) (said (MonitorText monitored.0 thresholds.0 actions.0) body actions.2) is
 
-schedule_body : (version class : ℕ) (at : Text) (t : Members) (body : BodyText) → schedule_of at t ≡ Ok body → (class == 22) ≡ true → is_body_of version class body ≡ true
+schedule_body : (version class : ℕ) (at : Text) (t : Members) (body : BodyText) → schedule_of at t ≡ Ok body →
+    is_of_class class classes.SingleActionSchedule ≡ true → is_body_of version class body ≡ true
 unfolding schedule_of
 schedule_body version class at t body h is =
     let script = then_ok (table_at script_ref_of at (codes "script") t) (λ script. natural_at 1 5 at (codes "type") t >>= λ type.
@@ -164,57 +174,31 @@ schedule_body version class at t body h is =
     let times = then_ok (texts_at at (codes "times") t) (λ times. Ok (ScheduleText script.0 type.0 times)) body type.2 in
     subst (λ b. is_body_of version class b ≡ true) (said (ScheduleText script.0 type.0 times.0) body times.2) is
 
--- a choice by a test, whose answer is kept
-by_test : {A : Type 0} (b : Bool) (x y : A) (G : A → Type 0) → (b ≡ true → G x) → (b ≡ false → G y) → G (if b then x else y)
-by_test true x y G this other = this refl
-by_test false x y G this other = other refl
-
-is_body : (version class : ℕ) (at : Text) (t : Members) (body : BodyText) → body_of version class at t ≡ Ok body → is_body_of version class body ≡ true
-is_body version class at t body =
-    by_test (class == 1) (data_of at t) (other3) (G) (λ is h. data_body version class at t body h is) λ not1.
-    by_test (class == 3) (register_of at t) (other7) (G) (λ is h. register_body version class at t body h is) λ not3.
-    by_test (class == 7) (profile_of at t) (other8) (G) (λ is h. profile_body version class at t body h is) λ not7.
-    by_test (is_clock version class) (clock_of at t) (other9) (G) (λ is h. clock_body version class at t body h (and_parts (class == 8) (nat_le 2 version) is).0) λ not8.
-    by_test (class == 9) (script_table_of at t) (other21) (G) (λ is h. script_table_body version class at t body h is) λ not9.
-    by_test (class == 21) (monitor_of at t) (other22) (G) (λ is h. monitor_body version class at t body h is) λ not21.
-    by_test (class == 22) (schedule_of at t) (Ok UnknownText) (G) (λ is h. schedule_body version class at t body h is) λ not22 h.
-    subst (λ b. is_body_of version class b ≡ true) (said UnknownText body h) (unknown not1 not3 not7 not8 not9 not21 not22)
+is_body : (version number : ℕ) (at : Text) (t : Members) (body : BodyText) → body_of (class_in version number) at t ≡ Ok body → is_body_of version number body ≡ true
+is_body version number at t body h = of_class (class_in version number) refl h
   where
-    G : Result BodyText Fault → Type 0
-    G r = r ≡ Ok body → is_body_of version class body ≡ true
-
-    other22 : Result BodyText Fault
-    other22 = if class == 22 then schedule_of at t else Ok UnknownText
-
-    other21 : Result BodyText Fault
-    other21 = if class == 21 then monitor_of at t else other22
-
-    other9 : Result BodyText Fault
-    other9 = if class == 9 then script_table_of at t else other21
-
-    other8 : Result BodyText Fault
-    other8 = if is_clock version class then clock_of at t else other9
-
-    other7 : Result BodyText Fault
-    other7 = if class == 7 then profile_of at t else other8
-
-    other3 : Result BodyText Fault
-    other3 = if class == 3 then register_of at t else other7
-
-    unknown : (class == 1) ≡ false → (class == 3) ≡ false → (class == 7) ≡ false → is_clock version class ≡ false → (class == 9) ≡ false →
-        (class == 21) ≡ false → (class == 22) ≡ false → not (is_known version class) ≡ true
-    unknown a b c d e f g = rw (a, b, c, d, e, f, g) refl
+    of_class : (class : Option Class) → class_in version number ≡ class → body_of class at t ≡ Ok body → is_body_of version number body ≡ true
+    of_class (Some classes.Data) is e = data_body version number at t body e (known_is_of_class version number classes.Data is)
+    of_class (Some classes.Register) is e = register_body version number at t body e (known_is_of_class version number classes.Register is)
+    of_class (Some classes.ProfileGeneric) is e = profile_body version number at t body e (known_is_of_class version number classes.ProfileGeneric is)
+    of_class (Some classes.Clock) is e = clock_body version number at t body e (known_is_of_class version number classes.Clock is)
+    of_class (Some classes.ScriptTable) is e = script_table_body version number at t body e (known_is_of_class version number classes.ScriptTable is)
+    of_class (Some classes.RegisterMonitor) is e = monitor_body version number at t body e (known_is_of_class version number classes.RegisterMonitor is)
+    of_class (Some classes.SingleActionSchedule) is e =
+        schedule_body version number at t body e (known_is_of_class version number classes.SingleActionSchedule is)
+    of_class None is e =
+        subst (λ b. is_body_of version number b ≡ true) (said UnknownText body e) (ap not (unknown_has_no_class version number is))
 
 object_has_body : (version : ℕ) (at : Text) (t : Members) (o : ObjectText) → object_of version at t ≡ Ok o → is_body_of version o.class o.body ≡ true
 unfolding object_of
 object_has_body version at t o h =
-    let class = then_ok (natural_at 0 65535 at (codes "class") t) (λ class. text_at at (codes "name") t >>= λ name. fed_of version class at t >>= λ fed.
-    body_of version class at t >>= λ body. Ok (record { class = class; name = name; fed = fed; body = body })) o h in
-    let name = then_ok (text_at at (codes "name") t) (λ name. fed_of version class.0 at t >>= λ fed.
-    body_of version class.0 at t >>= λ body. Ok (record { class = class.0; name = name; fed = fed; body = body })) o class.2 in
-    let fed = then_ok (fed_of version class.0 at t) (λ fed.
-    body_of version class.0 at t >>= λ body. Ok (record { class = class.0; name = name.0; fed = fed; body = body })) o name.2 in
-    let body = then_ok (body_of version class.0 at t) (λ body. Ok (record { class = class.0; name = name.0; fed = fed.0; body = body })) o fed.2 in
+    let class = then_ok (natural_at 0 65535 at (codes "class") t) (λ class. text_at at (codes "name") t >>= λ name. fed_of (class_in version class) at t >>= λ fed.
+    body_of (class_in version class) at t >>= λ body. Ok (record { class = class; name = name; fed = fed; body = body })) o h in
+    let name = then_ok (text_at at (codes "name") t) (λ name. fed_of (class_in version class.0) at t >>= λ fed.
+    body_of (class_in version class.0) at t >>= λ body. Ok (record { class = class.0; name = name; fed = fed; body = body })) o class.2 in
+    let fed = then_ok (fed_of (class_in version class.0) at t) (λ fed.
+    body_of (class_in version class.0) at t >>= λ body. Ok (record { class = class.0; name = name.0; fed = fed; body = body })) o name.2 in
+    let body = then_ok (body_of (class_in version class.0) at t) (λ body. Ok (record { class = class.0; name = name.0; fed = fed.0; body = body })) o fed.2 in
     subst (λ p. is_body_of version p.class p.body ≡ true) (said (record { class = class.0; name = name.0; fed = fed.0; body = body.0 }) o body.2)
     (is_body version class.0 at t body.0 body.1)
 
