@@ -5,7 +5,7 @@ use Rattle.std.specs.Str.{bytes_eq}
 use Rattle.config_text.specs.declared.fault.Code.{Code}
 use Rattle.config_text.specs.declared.fault.Code.TheVariants as faults
 use Rattle.toml.specs.Data.{Data, integer, get}
-use Rattle.explanations.specs.Meanings.{meaning, mending}
+use Rattle.explanations.specs.Meanings.{meaning, mending, known_mending}
 
 -- What stands there
 
@@ -32,8 +32,7 @@ meaning_at code place = meaning code
 -- how a class that isn't known is mended (own profile)
 abbrev pub class_mending : Data → List ℕ
 class_mending whole =
-    if knows_clocks whole then codes "use one of the classes 1, 3, 7, 8, 9, 21 and 22"
-    else mending faults.ClassUnknown
+    if knows_clocks whole then known_mending 2 else mending faults.ClassUnknown
 
 -- how a value is mended (own profile)
 abbrev pub value_mending : Data → List ℕ → List ℕ

@@ -1,5 +1,6 @@
 pub mod Printable
 pub mod Following
+pub mod ClassWords
 pub mod Meanings
 pub mod Advice
 pub mod Config

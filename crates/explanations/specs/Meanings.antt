@@ -1,7 +1,20 @@
 -- What each code of a configuration's fault means, and how it is mended.
-use Rattle.std.specs.Prelude.{ℕ, List, codes}
+use Rattle.std.specs.Prelude.{ℕ, List, ◌++◌, codes}
 use Rattle.config_text.specs.declared.fault.Code.{Code}
 use Rattle.config_text.specs.declared.fault.Code.TheVariants as faults
+use Rattle.explanations.specs.ClassWords.{class_words}
+use Rattle.explanations.specs.declared.class_words.ClassesTold.TheVariants.{Known, Fed, Clocks}
+
+-- that an object is fed whose class can't be: what it means, and how it is mended (own profile)
+abbrev pub fed_meaning : List ℕ
+fed_meaning = codes "fed is true of a class other than " ++ class_words Fed
+
+abbrev pub fed_mending : List ℕ
+fed_mending = codes "feed objects of the classes " ++ (class_words Fed ++ codes " alone")
+
+-- how a second clock is mended (own profile)
+abbrev pub clock_mending : List ℕ
+clock_mending = codes "keep one object of class " ++ class_words Clocks
 
 -- what a code means (own profile)
 abbrev pub meaning : Code → List ℕ
@@ -22,19 +35,23 @@ meaning faults.ScriptId = codes "the id of a script is 0 or stands twice"
 meaning faults.Execute = codes "service 2 is on a script table"
 meaning faults.Limit = codes "this is more than a limit allows"
 meaning faults.Label = codes "the label is on what is no cell, or is the second one for a cell"
-meaning faults.Fed = codes "fed is true of a class other than 1 and 3"
+meaning faults.Fed = fed_meaning
 meaning faults.Times = codes "the type doesn't allow these times"
 meaning faults.Sorting = codes "sort_method isn't 1, or data_index isn't 0"
 meaning faults.SecondClock = codes "a second clock: a meter has one at most"
 
--- how it is mended (own profile)
+-- how a class is mended that a text of this version doesn't know (own profile)
+abbrev pub known_mending : ℕ → List ℕ
+known_mending version = codes "use one of the classes " ++ class_words (Known version)
+
+-- how it is mended, in a text of version 1 (own profile)
 abbrev pub mending : Code → List ℕ
 mending faults.NotToml = codes "write each key with its value, as version = 1"
 mending faults.Key = codes "remove it, or add the missing key"
 mending faults.Kind = codes "give a value of the kind and in the range that the key takes"
 mending faults.Form = codes "write a name as six numbers from 0 to 255 with dots between them, without leading zeros, and a client name as 1 to 16 of a to z, 0 to 9 and _"
 mending faults.ObjectTwice = codes "give each object its own name, and none the name 0.0.40.0.0.255"
-mending faults.ClassUnknown = codes "use one of the classes 1, 3, 7, 9, 21 and 22"
+mending faults.ClassUnknown = known_mending 1
 mending faults.ClientUnknown = codes "add the client, or mend its name"
 mending faults.ClientTwice = codes "give each client its own"
 mending faults.Reference = codes "name one that is there"
@@ -46,10 +63,10 @@ mending faults.ScriptId = codes "number the scripts from 1, each once"
 mending faults.Execute = codes "write out the actions of the other script"
 mending faults.Limit = codes "keep to 16 clients, 512 objects, 32 captured cells, 1000 entries, 64 scripts, 32 actions, 16 thresholds, 16 times, and values of 1024 bytes that nest 14 deep"
 mending faults.Label = codes "label each cell once"
-mending faults.Fed = codes "feed objects of the classes 1 and 3 alone"
+mending faults.Fed = fed_mending
 mending faults.Times = codes "use another type, or fewer times"
 mending faults.Sorting = codes "leave the key out"
-mending faults.SecondClock = codes "keep one object of class 8"
+mending faults.SecondClock = clock_mending
 
 -- what want of memory means, and how it is mended (own profile)
 abbrev pub memory_meaning : List ℕ

@@ -46,8 +46,8 @@ fn told(alloc: Global, file: &str, code: Code, place: &str, whole: &Value) -> Re
 {
     let object = object_line(alloc, object_name(whole, place))?;
     let value = value_line(alloc, shown_at(code, whole, place))?;
-    let meaning = meaning_at(code, place);
-    let mending = mending_at(code, whole, place);
+    let meaning = meaning_at(alloc, code, place)?;
+    let mending = mending_at(alloc, code, whole, place)?;
     let file = printable_text(alloc, file)?;
     let place = printable_text(alloc, place)?;
     Ok(format!(in alloc; "cosem-flow: {file}: {place}: {meaning}\n{object}{value}  {mending}\n")?)

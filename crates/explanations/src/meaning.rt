@@ -1,14 +1,50 @@
 //! What each code of a configuration's fault means, and how it is mended (own profile).
-ghost use Rattle.std.specs.Prelude.{◌≡◌};
+ghost use Rattle.std.specs.Prelude.{◌≡◌, IfOk, string_bytes};
+ghost use Rattle.explanations.specs.Meanings as spec;
 ghost use Rattle.explanations.specs.Meanings.{meaning, mending};
 
+use crate::class_words::{ClassesTold, class_words};
 use config_text::fault::Code;
+use cosem_data::memory::Memory;
+use std::alloc::Global;
 
-/// What a code means, in one sentence.
-pub fn meaning_of(code: Code) -> &'static str
-    ensures { result.now ≡ meaning code }
+/// What it means that an object is fed whose class can't be.
+fn fed_meaning(alloc: Global) -> Result<String, Memory>
+    ensures { IfOk result (λ words. string_bytes words ≡ spec.fed_meaning) }
 {
-    match code {
+    let classes = class_words(alloc, ClassesTold::Fed)?;
+    Ok(format!(in alloc; "fed is true of a class other than {classes}")?)
+}
+
+/// How that is mended.
+fn fed_mending(alloc: Global) -> Result<String, Memory>
+    ensures { IfOk result (λ words. string_bytes words ≡ spec.fed_mending) }
+{
+    let classes = class_words(alloc, ClassesTold::Fed)?;
+    Ok(format!(in alloc; "feed objects of the classes {classes} alone")?)
+}
+
+/// How a second clock is mended.
+fn clock_mending(alloc: Global) -> Result<String, Memory>
+    ensures { IfOk result (λ words. string_bytes words ≡ spec.clock_mending) }
+{
+    let class = class_words(alloc, ClassesTold::Clocks)?;
+    Ok(format!(in alloc; "keep one object of class {class}")?)
+}
+
+/// How a class is mended that a text of this version doesn't know. The error is that memory was refused.
+pub(crate) fn known_mending(alloc: Global, version: u8) -> Result<String, Memory>
+    ensures { IfOk result (λ words. string_bytes words ≡ spec.known_mending version) }
+{
+    let classes = class_words(alloc, ClassesTold::Known(version))?;
+    Ok(format!(in alloc; "use one of the classes {classes}")?)
+}
+
+/// What a code means, in one sentence. The error is that memory was refused.
+pub fn meaning_of(alloc: Global, code: Code) -> Result<String, Memory>
+    ensures { IfOk result (λ words. string_bytes words ≡ meaning code) }
+{
+    let words = match code {
         Code::NotToml => "the text isn't TOML",
         Code::Key => "a key is missing or unknown",
         Code::Kind => "the value is of another TOML kind than the key takes, or out of its range",
@@ -28,18 +64,19 @@ pub fn meaning_of(code: Code) -> &'static str
         Code::Execute => "service 2 is on a script table",
         Code::Limit => "this is more than a limit allows",
         Code::Label => "the label is on what is no cell, or is the second one for a cell",
-        Code::Fed => "fed is true of a class other than 1 and 3",
+        Code::Fed => return fed_meaning(alloc),
         Code::Times => "the type doesn't allow these times",
         Code::Sorting => "sort_method isn't 1, or data_index isn't 0",
         Code::SecondClock => "a second clock: a meter has one at most",
-    }
+    };
+    Ok(String::from_str(alloc, words)?)
 }
 
-/// How what a code means is mended.
-pub fn mending_of(code: Code) -> &'static str
-    ensures { result.now ≡ mending code }
+/// How what a code means is mended, in a text of version 1. The error is that memory was refused.
+pub fn mending_of(alloc: Global, code: Code) -> Result<String, Memory>
+    ensures { IfOk result (λ words. string_bytes words ≡ mending code) }
 {
-    match code {
+    let words = match code {
         Code::NotToml => "write each key with its value, as version = 1",
         Code::Key => "remove it, or add the missing key",
         Code::Kind => "give a value of the kind and in the range that the key takes",
@@ -47,7 +84,7 @@ pub fn mending_of(code: Code) -> &'static str
             "write a name as six numbers from 0 to 255 with dots between them, without leading zeros, and a client name as 1 to 16 of a to z, 0 to 9 and _"
         }
         Code::ObjectTwice => "give each object its own name, and none the name 0.0.40.0.0.255",
-        Code::ClassUnknown => "use one of the classes 1, 3, 7, 9, 21 and 22",
+        Code::ClassUnknown => return known_mending(alloc, 1),
         Code::ClientUnknown => "add the client, or mend its name",
         Code::ClientTwice => "give each client its own",
         Code::Reference => "name one that is there",
@@ -61,9 +98,10 @@ pub fn mending_of(code: Code) -> &'static str
             "keep to 16 clients, 512 objects, 32 captured cells, 1000 entries, 64 scripts, 32 actions, 16 thresholds, 16 times, and values of 1024 bytes that nest 14 deep"
         }
         Code::Label => "label each cell once",
-        Code::Fed => "feed objects of the classes 1 and 3 alone",
+        Code::Fed => return fed_mending(alloc),
         Code::Times => "use another type, or fewer times",
         Code::Sorting => "leave the key out",
-        Code::SecondClock => "keep one object of class 8",
-    }
+        Code::SecondClock => return clock_mending(alloc),
+    };
+    Ok(String::from_str(alloc, words)?)
 }
