@@ -212,7 +212,7 @@ impl<'a> InterfaceClass<Lent<'a, ClockPart>> for Clock {
                 let before = mem::replace(&mut self.time, moment);
                 Ok(time_in(value, before))
             }
-            1 | 3 | 4 | 5 | 6 | 7 | 8 | 9 => Err(ClassFault::NotSettable),
+            1 | 3..=9 => Err(ClassFault::NotSettable),
             _ => Err(ClassFault::NoIndex),
         }
     }
