@@ -5,17 +5,6 @@ use Rattle.config_text.specs.declared.fault.Code.TheVariants as faults
 use Rattle.explanations.specs.ClassWords.{class_words}
 use Rattle.explanations.specs.declared.class_words.ClassesTold.TheVariants.{Known, Fed, Clocks}
 
--- that an object is fed whose class can't be: what it means, and how it is mended (own profile)
-abbrev pub fed_meaning : List ℕ
-fed_meaning = codes "fed is true of a class other than " ++ class_words Fed
-
-abbrev pub fed_mending : List ℕ
-fed_mending = codes "feed objects of the classes " ++ (class_words Fed ++ codes " alone")
-
--- how a second clock is mended (own profile)
-abbrev pub clock_mending : List ℕ
-clock_mending = codes "keep one object of class " ++ class_words Clocks
-
 -- what a code means (own profile)
 abbrev pub meaning : Code → List ℕ
 meaning faults.NotToml = codes "the text isn't TOML"
@@ -35,7 +24,7 @@ meaning faults.ScriptId = codes "the id of a script is 0 or stands twice"
 meaning faults.Execute = codes "service 2 is on a script table"
 meaning faults.Limit = codes "this is more than a limit allows"
 meaning faults.Label = codes "the label is on what is no cell, or is the second one for a cell"
-meaning faults.Fed = fed_meaning
+meaning faults.Fed = codes "fed is true of a class other than " ++ class_words Fed
 meaning faults.Times = codes "the type doesn't allow these times"
 meaning faults.Sorting = codes "sort_method isn't 1, or data_index isn't 0"
 meaning faults.SecondClock = codes "a second clock: a meter has one at most"
@@ -63,10 +52,10 @@ mending faults.ScriptId = codes "number the scripts from 1, each once"
 mending faults.Execute = codes "write out the actions of the other script"
 mending faults.Limit = codes "keep to 16 clients, 512 objects, 32 captured cells, 1000 entries, 64 scripts, 32 actions, 16 thresholds, 16 times, and values of 1024 bytes that nest 14 deep"
 mending faults.Label = codes "label each cell once"
-mending faults.Fed = fed_mending
+mending faults.Fed = codes "feed objects of the classes " ++ (class_words Fed ++ codes " alone")
 mending faults.Times = codes "use another type, or fewer times"
 mending faults.Sorting = codes "leave the key out"
-mending faults.SecondClock = clock_mending
+mending faults.SecondClock = codes "keep one object of class " ++ class_words Clocks
 
 -- what want of memory means, and how it is mended (own profile)
 abbrev pub memory_meaning : List ℕ

@@ -1,5 +1,5 @@
 //! The numbers of interface classes in words, from the table of the classes (own profile).
-ghost use Rattle.std.specs.Prelude.{◌≡◌, ◌<◌, IfOk, string_bytes};
+ghost use Rattle.std.specs.Prelude.{◌≡◌, ◌<◌, ◌++◌, IfOk, string_bytes};
 ghost use Rattle.explanations.specs.ClassWords as spec;
 
 use cosem_data::memory::Memory;
@@ -67,10 +67,16 @@ fn listed(alloc: Global, numbers: &[u16]) -> Result<String, Memory>
     Ok(words)
 }
 
-/// The numbers that are told as a list. The error is that memory was refused.
-pub(crate) fn class_words(alloc: Global, told: ClassesTold) -> Result<String, Memory>
-    ensures { IfOk result (λ words. string_bytes words ≡ spec.class_words told) }
+/// The numbers that are told as a list, between words. The error is that memory was refused.
+pub(crate) fn with_classes(
+    alloc: Global,
+    before: &str,
+    told: ClassesTold,
+    behind: &str,
+) -> Result<String, Memory>
+    ensures { IfOk result (λ words. string_bytes words ≡ before.now ++ (spec.class_words told ++ behind.now)) }
 {
     let numbers = numbers_told(alloc, told, &CLASSES)?;
-    listed(alloc, numbers.as_slice())
+    let classes = listed(alloc, numbers.as_slice())?;
+    Ok(format!(in alloc; "{before}{classes}{behind}")?)
 }

@@ -3,41 +3,21 @@ ghost use Rattle.std.specs.Prelude.{◌≡◌, IfOk, string_bytes};
 ghost use Rattle.explanations.specs.Meanings as spec;
 ghost use Rattle.explanations.specs.Meanings.{meaning, mending};
 
-use crate::class_words::{ClassesTold, class_words};
+use crate::class_words::{ClassesTold, with_classes};
 use config_text::fault::Code;
 use cosem_data::memory::Memory;
 use std::alloc::Global;
-
-/// What it means that an object is fed whose class can't be.
-fn fed_meaning(alloc: Global) -> Result<String, Memory>
-    ensures { IfOk result (λ words. string_bytes words ≡ spec.fed_meaning) }
-{
-    let classes = class_words(alloc, ClassesTold::Fed)?;
-    Ok(format!(in alloc; "fed is true of a class other than {classes}")?)
-}
-
-/// How that is mended.
-fn fed_mending(alloc: Global) -> Result<String, Memory>
-    ensures { IfOk result (λ words. string_bytes words ≡ spec.fed_mending) }
-{
-    let classes = class_words(alloc, ClassesTold::Fed)?;
-    Ok(format!(in alloc; "feed objects of the classes {classes} alone")?)
-}
-
-/// How a second clock is mended.
-fn clock_mending(alloc: Global) -> Result<String, Memory>
-    ensures { IfOk result (λ words. string_bytes words ≡ spec.clock_mending) }
-{
-    let class = class_words(alloc, ClassesTold::Clocks)?;
-    Ok(format!(in alloc; "keep one object of class {class}")?)
-}
 
 /// How a class is mended that a text of this version doesn't know. The error is that memory was refused.
 pub(crate) fn known_mending(alloc: Global, version: u8) -> Result<String, Memory>
     ensures { IfOk result (λ words. string_bytes words ≡ spec.known_mending version) }
 {
-    let classes = class_words(alloc, ClassesTold::Known(version))?;
-    Ok(format!(in alloc; "use one of the classes {classes}")?)
+    with_classes(
+        alloc,
+        "use one of the classes ",
+        ClassesTold::Known(version),
+        "",
+    )
 }
 
 /// What a code means, in one sentence. The error is that memory was refused.
@@ -64,7 +44,14 @@ pub fn meaning_of(alloc: Global, code: Code) -> Result<String, Memory>
         Code::Execute => "service 2 is on a script table",
         Code::Limit => "this is more than a limit allows",
         Code::Label => "the label is on what is no cell, or is the second one for a cell",
-        Code::Fed => return fed_meaning(alloc),
+        Code::Fed => {
+            return with_classes(
+                alloc,
+                "fed is true of a class other than ",
+                ClassesTold::Fed,
+                "",
+            );
+        }
         Code::Times => "the type doesn't allow these times",
         Code::Sorting => "sort_method isn't 1, or data_index isn't 0",
         Code::SecondClock => "a second clock: a meter has one at most",
@@ -98,10 +85,19 @@ pub fn mending_of(alloc: Global, code: Code) -> Result<String, Memory>
             "keep to 16 clients, 512 objects, 32 captured cells, 1000 entries, 64 scripts, 32 actions, 16 thresholds, 16 times, and values of 1024 bytes that nest 14 deep"
         }
         Code::Label => "label each cell once",
-        Code::Fed => return fed_mending(alloc),
+        Code::Fed => {
+            return with_classes(
+                alloc,
+                "feed objects of the classes ",
+                ClassesTold::Fed,
+                " alone",
+            );
+        }
         Code::Times => "use another type, or fewer times",
         Code::Sorting => "leave the key out",
-        Code::SecondClock => return clock_mending(alloc),
+        Code::SecondClock => {
+            return with_classes(alloc, "keep one object of class ", ClassesTold::Clocks, "");
+        }
     };
     Ok(String::from_str(alloc, words)?)
 }
