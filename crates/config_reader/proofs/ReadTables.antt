@@ -1,5 +1,5 @@
 -- What the tables of a text say was judged as it was read.
-use Rattle.std.proofs.Common.{◌≡◌, ℕ, ◌+◌, ◌==◌, Bool, true, false, not, List, [], ◌∷◌, ◌++◌, refl, sym, ap, subst, ◌∙◌, inl, inr, Option, Some, None, Result, Ok, nat_le, ℤ, pos, negsuc}
+use Rattle.std.proofs.Common.{◌≡◌, ℕ, ◌+◌, Bool, true, false, not, List, [], ◌∷◌, ◌++◌, refl, sym, ap, subst, ◌∙◌, inl, inr, Option, Some, None, Result, Ok, nat_le, ℤ, pos, negsuc}
 use Rattle.std.proofs.lemmas.Bool.{and_parts, and_from}
 use Rattle.std.specs.Prelude.{codes, option_and_then, ◌&&◌, if◌then◌else◌, ◌^◌, ◌-◌}
 use Rattle.toml.specs.Data.{Data, Items, Members, no_items, item, get_member, as_integer, as_table}
