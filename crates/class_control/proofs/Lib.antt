@@ -1,3 +1,4 @@
+pub mod Crossing
 mod FirstTimes
 mod Refused
 mod AnyOfMapped

@@ -3,3 +3,4 @@ mod Rings
 mod Places
 mod Selected
 mod Written
+pub mod Crossing
