@@ -5,8 +5,8 @@ use base.Stored.{Coded}
 use denote.RattleType.{RattleType}
 use denote.Hole.{as_row}
 use denote.Model.{View}
-use denote.Struct.Recorded.{Recorded}
 use denote.Struct.Field.{Field}
+use denote.Struct.Recorded.{Recorded}
 use denote.Struct.Declared as structs
 use denote.Enum.Declared as enums
 use denote.Param.Send.{IsSend, IsSync, recorded_send, recorded_sync, sendable, view_send, view_sync}
@@ -17,8 +17,13 @@ use Rattle.std.specs.contracts.vec.Vec as vectors
 use Rattle.std.proofs.Crossing.{Vec-send, Vec-sync}
 use Rattle.std.proofs.Crossing as below
 
-abbrev pub Crosses : RattleType → Type 0
-Crosses R = IsSend R × IsSync R
+pub record Crosses (R : RattleType) : Type 0 where
+  pub send : IsSend R
+  pub sync : IsSync R
+
+-- a type of which the toolchain's search finds both
+pub both_cross : (R : RattleType) → IsSend R → IsSync R → Crosses R
+both_cross R s y = record { send = s; sync = y }
 
 module _ (H : RattleType → Type 0) (says : (R : RattleType) → Crosses R → H R) where
   fields_have : (Fs : List Field) → FieldsHave Crosses Fs → FieldsHave H Fs
@@ -29,28 +34,35 @@ module _ (H : RattleType → Type 0) (says : (R : RattleType) → Crosses R → 
   variants_have [] c = tt
   variants_have (Fs ∷ Fss) c = (fields_have Fs c.0, variants_have Fss c.1)
 
--- a struct whose fields may
-pub struct_crosses : (T : structs.Declared) → FieldsHave Crosses T.parts → Crosses (structs.row T)
-struct_crosses T c = (declared_send T (fields_have IsSend (λ R c. c.0) T.parts c), declared_sync T (fields_have IsSync (λ R c. c.1) T.parts c))
+send_of : (R : RattleType) → Crosses R → IsSend R
+send_of R c = c.send
 
--- an enum whose variants' fields may
+sync_of : (R : RattleType) → Crosses R → IsSync R
+sync_of R c = c.sync
+
+-- a struct of fields that may
+pub struct_crosses : (T : structs.Declared) → FieldsHave Crosses T.parts → Crosses (structs.row T)
+struct_crosses T c = record { send = declared_send T (fields_have IsSend send_of T.parts c); sync = declared_sync T (fields_have IsSync sync_of T.parts c) }
+
+-- an enum of such variants
 pub enum_crosses : (N : enums.Record) → VariantsHave Crosses N.parts → Crosses (enums.row (enums.declared N))
-enum_crosses N c = (variants_send N (variants_have IsSend (λ R c. c.0) N.parts c), variants_sync N (variants_have IsSync (λ R c. c.1) N.parts c))
+enum_crosses N c = record { send = variants_send N (variants_have IsSend send_of N.parts c); sync = variants_sync N (variants_have IsSync sync_of N.parts c) }
 
 -- a vector of what may
 pub vec_crosses : (T : RattleType) → Crosses T → Crosses (vectors.the_row T Heap.the_row ghosts)
-vec_crosses T c = (Vec-send T c.0, Vec-sync T c.1)
+vec_crosses T c = record { send = Vec-send T c.send; sync = Vec-sync T c.sync }
 
--- a type whose values are seen through its fields
-pub view_crosses : (F : RattleType) (D : Type 0) (c : Coded D) (view : F.Denot → D) (holds : F.Denot → Type 0) → Crosses F → Crosses (View F D c view holds)
-view_crosses F D c view holds x = (view_send F D c view holds x.0, view_sync F D c view holds x.1)
+-- a type that contracts see by a view of its fields
+pub view_crosses : (F : RattleType) (D : Type 0) (coded : Coded D) (view : F.Denot → D) (holds : F.Denot → Type 0) → Crosses F → Crosses (View F D coded view holds)
+view_crosses F D coded view holds c = record { send = view_send F D coded view holds c.send; sync = view_sync F D coded view holds c.sync }
 
--- values of another type in the place of a type's own
+-- a type at other values
 pub recorded_crosses : (R : RattleType) (D : Type 0) (to : D → R.Denot) (one : (x y : D) → to x ≡ to y → x ≡ y) → Crosses R → Crosses (Recorded R D to one)
-recorded_crosses R D to one x = (recorded_send R D to one x.0, recorded_sync R D to one x.1)
+recorded_crosses R D to one c = record { send = recorded_send R D to one c.send; sync = recorded_sync R D to one c.sync }
 
--- a field at the values that it has in a declared type
+-- a field at the values that a declared type has there
 pub field_crosses : (F : Field) → Crosses F.row → Crosses (as_row F)
-field_crosses F c = (as_row_send F c.0, as_row_sync F c.1)
+field_crosses F c = record { send = as_row_send F c.send; sync = as_row_sync F c.sync }
 
-pub ruleset crosses = (struct_crosses, enum_crosses, vec_crosses, view_crosses, below.crosses, sendable)
+-- for `search`
+pub ruleset crosses = (view_crosses, struct_crosses, enum_crosses, vec_crosses, recorded_crosses, both_cross, below.crosses, sendable)

@@ -3,13 +3,12 @@
 use denote.RattleType.{RattleType}
 use denote.Hole.{as_row}
 use denote.Struct.Field.{row_field}
-use denote.Param.Send.{IsSend, IsSync, sendable}
+use denote.Param.Send.{IsSend, IsSync}
 use denote.Model.Local.{Parts, rows}
 use denote.Model.Cut.{split_one}
 use denote.Model.Goals.{has_of, part_has}
 use denote.Model.Goals as goals
 use denote.Model.Marks.{both_send, both_sync}
-use Rattle.std.proofs.Crossing.{crosses}
 use Rattle.cosem_data.specs.declared.data.Items.{Items, the_code}
 use Rattle.cosem_data.specs.declared.data.Items.TheInside.{Inside}
 use Rattle.cosem_data.specs.declared.data.Items.TheView as view
@@ -22,10 +21,10 @@ use Rattle.cosem_data.specs.contracts.bytes.Bytes.{the_row as bytes_row, the_fie
 use Rattle.cosem_data.specs.contracts.cell.CellRef as cells
 use Rattle.cosem_data.specs.contracts.cell.MethodRef as methods
 use Rattle.cosem_data.specs.contracts.name.LogicalName as names
-use Rattle.cosem_data.proofs.Crosses.{Crosses, enum_crosses, field_crosses, recorded_crosses, struct_crosses, vec_crosses, view_crosses}
+use Rattle.cosem_data.proofs.Crosses.{Crosses, crosses, enum_crosses, field_crosses, recorded_crosses, struct_crosses, vec_crosses, view_crosses}
 
 bytes_crosses : Crosses bytes_row
-bytes_crosses = search (crosses, sendable) depth 20
+bytes_crosses = search crosses depth 30
 
 module _ (p : Parts frame) (all : (j : the_members) → Crosses (rows frame p j)) where
   abbrev member : RattleType
@@ -34,7 +33,7 @@ module _ (p : Parts frame) (all : (j : the_members) → Crosses (rows frame p j)
   layer_data_crosses : Crosses (layer-Data member member)
   layer_data_crosses = let m = field_crosses (row_field member) (all member-Items) in
       let b = field_crosses (row_field (as_row bytes_field)) bytes_crosses in
-      enum_crosses (type-Data member member) (search (m, b, crosses, sendable) depth 20)
+      enum_crosses (type-Data member member) (search (m, b, crosses) depth 30)
 
   at_data_crosses : Crosses (at-Data p)
   at_data_crosses = recorded_crosses (layer-Data member member) the_data split-Data (split_one (layer-Data member member) the_data split-Data join-Data joins-Data) layer_data_crosses
@@ -43,27 +42,27 @@ module _ (p : Parts frame) (all : (j : the_members) → Crosses (rows frame p j)
   at_items_crosses = recorded_crosses (layer-Items (at-Data p)) Inside split-Items (split_one (layer-Items (at-Data p)) Inside split-Items join-Items joins-Items)
       (struct_crosses (type-Items (at-Data p)) (field_crosses (row_field _) (vec_crosses (at-Data p) at_data_crosses), tt))
 
-  step_crosses : (i : the_members) → Crosses (rows frame (step p) i)
-  step_crosses member-Items = let c = view_crosses (at-Items p) Items the_code view.view view.invariant at_items_crosses in
-      (has_of frame goals.send (step p) member-Items (part_has goals.send (view-Items p) c.0), has_of frame goals.sync (step p) member-Items (part_has goals.sync (view-Items p) c.1))
+  step_has : (l : goals.Law) → ((R : RattleType) → Crosses R → goals.Has l R) → (i : the_members) → goals.Has l (rows frame (step p) i)
+  step_has l says member-Items = has_of frame l (step p) member-Items
+      (part_has l (view-Items p) (says (view-Items p) (view_crosses (at-Items p) Items the_code view.view view.invariant at_items_crosses)))
 
 step_send : (p : Parts frame) → ((j : the_members) → IsSend (rows frame p j)) → ((j : the_members) → IsSync (rows frame p j)) → (i : the_members) → IsSend (rows frame (step p) i)
-step_send p s y i = (step_crosses p (λ j. (s j, y j)) i).0
+step_send p s y = step_has p (λ j. record { send = s j; sync = y j }) goals.send (λ R c. c.send)
 
 step_sync : (p : Parts frame) → ((j : the_members) → IsSend (rows frame p j)) → ((j : the_members) → IsSync (rows frame p j)) → (i : the_members) → IsSync (rows frame (step p) i)
-step_sync p s y i = (step_crosses p (λ j. (s j, y j)) i).1
+step_sync p s y = step_has p (λ j. record { send = s j; sync = y j }) goals.sync (λ R c. c.sync)
 
 items_crosses : Crosses items_row
-items_crosses = (both_send frame step sizes step_send step_sync member-Items, both_sync frame step sizes step_send step_sync member-Items)
+items_crosses = record { send = both_send frame step sizes step_send step_sync member-Items; sync = both_sync frame step sizes step_send step_sync member-Items }
 
 pub data_crosses : Crosses data_row
-data_crosses = let i = items_crosses in let b = bytes_crosses in enum_crosses enum (search (i, b, crosses, sendable) depth 20)
+data_crosses = let i = items_crosses in let b = bytes_crosses in enum_crosses enum (search (i, b, crosses) depth 30)
 
 pub cell_crosses : Crosses cells.the_row
-cell_crosses = search (crosses, sendable) depth 12
+cell_crosses = search crosses depth 30
 
 pub method_crosses : Crosses methods.the_row
-method_crosses = search (crosses, sendable) depth 12
+method_crosses = search crosses depth 30
 
 pub name_crosses : Crosses names.the_row
-name_crosses = search (crosses, sendable) depth 12
+name_crosses = search crosses depth 30

@@ -1,4 +1,5 @@
 mod Attributes
+pub mod Crossing
 pub mod ByObject
 pub mod Puts
 pub mod Positions
