@@ -1,11 +1,13 @@
--- Plans, policies and meters may cross threads, each by what its fields are. `part_crosses` has the parts of all classes, `cells_crosses` what
+-- Plans, policies, meters and arguments may cross threads, each by what its fields are. `part_crosses` has the parts of all classes, `cells_crosses` what
 -- objects of all classes keep.
 use Rattle.cosem_data.proofs.Crosses.{Crosses, crosses}
-use Rattle.cosem_data.proofs.Crossing.{cell_crosses, name_crosses}
+use Rattle.cosem_data.proofs.Crossing.{cell_crosses, data_crosses, name_crosses}
+use Rattle.civil_moment.specs.contracts.moment.Moment as moments
 use Rattle.cosem_class.proofs.Crossing.{data1_crosses, data_part_crosses, register_crosses, register_part_crosses}
 use Rattle.class_profile.proofs.Crossing.{profile_crosses, profile_part_crosses}
 use Rattle.class_control.proofs.Crossing.{clock_crosses, clock_part_crosses, script_table_part_crosses}
 use Rattle.class_control.proofs.Crossing.{monitor_crosses, monitor_part_crosses, schedule_crosses, schedule_part_crosses}
+use Rattle.object_model.specs.contracts.argument.Argument as arguments
 use Rattle.object_model.specs.contracts.part.Part as parts
 use Rattle.object_model.specs.contracts.object.Object as objects
 use Rattle.object_model.specs.contracts.client.Client as clients
@@ -75,5 +77,11 @@ cells_crosses = search (data1_crosses, register_crosses, profile_crosses, clock_
 stored_crosses : Crosses stored.the_row
 stored_crosses = search (name_crosses, cells_crosses, crosses) depth 30
 
+moment_crosses : Crosses moments.the_row
+moment_crosses = search crosses depth 30
+
 pub meter_crosses : Crosses meters.the_row
-meter_crosses = search (stored_crosses, crosses) depth 30
+meter_crosses = search (moment_crosses, stored_crosses, crosses) depth 30
+
+pub argument_crosses : Crosses arguments.the_row
+argument_crosses = search (data_crosses, crosses) depth 30
