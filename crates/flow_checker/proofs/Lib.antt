@@ -1,3 +1,4 @@
+pub mod Crossing
 pub mod Firsts
 pub mod Within
 pub mod Placed
