@@ -1,3 +1,4 @@
+pub mod Crossing
 pub mod Adding
 pub mod Changing
 pub mod Fronts
