@@ -3,7 +3,7 @@ use denote.Param.{param}
 use denote.Param.Send.{param_send, arg_send, shr_send}
 use Rattle.std.proofs.Crossing.{send}
 use Rattle.live_server.proofs.CrossingCalls.{three_send}
-use Rattle.live_server.proofs.CrossingPorts.{board_reader_send}
+use Rattle.meter_live.proofs.Crossing.{board_reader_send}
 use Rattle.live_tests.proofs.tests.serving.threads.Steps.TheSendSync as steps
 use Rattle.live_tests.proofs.tests.serving.threads.is_read_while_held.Goals as goal
 
