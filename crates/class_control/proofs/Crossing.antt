@@ -1,4 +1,4 @@
--- What clocks, script tables, register monitors and single action schedules keep and fix may cross threads, each by what its fields are.
+-- What clocks, script tables, register monitors and single action schedules keep and fix may cross threads.
 use Rattle.cosem_data.proofs.Crosses.{Crosses, crosses}
 use Rattle.cosem_data.proofs.Crossing.{cell_crosses, data_crosses, method_crosses, name_crosses}
 use Rattle.meter_theory.specs.contracts.refs.UpDown as up_downs

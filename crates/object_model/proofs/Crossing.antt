@@ -1,7 +1,7 @@
--- Plans, policies, meters and arguments may cross threads, each by what its fields are. `part_crosses` has the parts of all classes, `cells_crosses` what
--- objects of all classes keep.
+-- Plans, policies, meters and arguments may cross threads. `part_crosses` names what is fixed of objects of each class,
+-- `cells_crosses` what they keep.
 use Rattle.cosem_data.proofs.Crosses.{Crosses, crosses}
-use Rattle.cosem_data.proofs.Crossing.{cell_crosses, data_crosses, name_crosses}
+use Rattle.cosem_data.proofs.Crossing.{cell_crosses, client_set_crosses, data_crosses, name_crosses}
 use Rattle.civil_moment.specs.contracts.moment.Moment as moments
 use Rattle.cosem_class.proofs.Crossing.{data1_crosses, data_part_crosses, register_crosses, register_part_crosses}
 use Rattle.class_profile.proofs.Crossing.{profile_crosses, profile_part_crosses}
@@ -69,10 +69,18 @@ plan_crosses = search (
 ) depth 30
 
 pub policy_crosses : Crosses policies.the_row
-policy_crosses = search (cell_crosses, crosses) depth 30
+policy_crosses = search (cell_crosses, client_set_crosses, crosses) depth 30
 
 cells_crosses : Crosses held.the_row
-cells_crosses = search (data1_crosses, register_crosses, profile_crosses, clock_crosses, monitor_crosses, schedule_crosses, crosses) depth 30
+cells_crosses = search (
+  data1_crosses,
+  register_crosses,
+  profile_crosses,
+  clock_crosses,
+  monitor_crosses,
+  schedule_crosses,
+  crosses,
+) depth 30
 
 stored_crosses : Crosses stored.the_row
 stored_crosses = search (name_crosses, cells_crosses, crosses) depth 30
