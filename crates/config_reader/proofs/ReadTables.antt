@@ -174,16 +174,22 @@ schedule_body version class at t body h is =
     let times = then_ok (texts_at at (codes "times") t) (λ times. Ok (ScheduleText script.0 type.0 times)) body type.2 in
     subst (λ b. is_body_of version class b ≡ true) (said (ScheduleText script.0 type.0 times.0) body times.2) is
 
-is_body : (version number : ℕ) (at : Text) (t : Members) (body : BodyText) → body_of (class_in version number) at t ≡ Ok body → is_body_of version number body ≡ true
+is_body : (version number : ℕ) (at : Text) (t : Members) (body : BodyText) → body_of (class_in version number) at t ≡ Ok body →
+    is_body_of version number body ≡ true
 is_body version number at t body h = of_class (class_in version number) refl h
   where
-    of_class : (class : Option Class) → class_in version number ≡ class → body_of class at t ≡ Ok body → is_body_of version number body ≡ true
+    of_class : (class : Option Class) → class_in version number ≡ class → body_of class at t ≡ Ok body →
+        is_body_of version number body ≡ true
     of_class (Some classes.Data) is e = data_body version number at t body e (known_is_of_class version number classes.Data is)
-    of_class (Some classes.Register) is e = register_body version number at t body e (known_is_of_class version number classes.Register is)
-    of_class (Some classes.ProfileGeneric) is e = profile_body version number at t body e (known_is_of_class version number classes.ProfileGeneric is)
+    of_class (Some classes.Register) is e =
+        register_body version number at t body e (known_is_of_class version number classes.Register is)
+    of_class (Some classes.ProfileGeneric) is e =
+        profile_body version number at t body e (known_is_of_class version number classes.ProfileGeneric is)
     of_class (Some classes.Clock) is e = clock_body version number at t body e (known_is_of_class version number classes.Clock is)
-    of_class (Some classes.ScriptTable) is e = script_table_body version number at t body e (known_is_of_class version number classes.ScriptTable is)
-    of_class (Some classes.RegisterMonitor) is e = monitor_body version number at t body e (known_is_of_class version number classes.RegisterMonitor is)
+    of_class (Some classes.ScriptTable) is e =
+        script_table_body version number at t body e (known_is_of_class version number classes.ScriptTable is)
+    of_class (Some classes.RegisterMonitor) is e =
+        monitor_body version number at t body e (known_is_of_class version number classes.RegisterMonitor is)
     of_class (Some classes.SingleActionSchedule) is e =
         schedule_body version number at t body e (known_is_of_class version number classes.SingleActionSchedule is)
     of_class None is e =

@@ -77,7 +77,8 @@ clock_text : (c : ConfigText) → IsRight c → (o : Object) → IsIn (plan_of c
     (t : ObjectText) × IsIn c.objects t × (o ≡ object_of c t) × (is_clock t ≡ true)
 clock_text c ok o i h =
     let t = from_map (object_of c) c.objects o i in
-    let same : class_of o.part ≡ t.0.class = ap (λ z. class_of z.part) t.2 ∙ sym (class_is c t.0.class t.0.body (ok.read.bodies t.0 t.1) (ok.known t.0 t.1)) in
+    let same : class_of o.part ≡ t.0.class = ap (λ z. class_of z.part) t.2
+    ∙ sym (class_is c t.0.class t.0.body (ok.read.bodies t.0 t.1) (ok.known t.0 t.1)) in
     (t.0, t.1, t.2, subst (λ k. is_of_class k classes.Clock ≡ true) same h)
 
 not_both : (b : Bool) → (b && true) ≡ false → b ≡ false

@@ -14,7 +14,8 @@ has_sap client = nat_le 1 client.sap && nat_le client.sap 127
 abbrev pub is_body_of : ℕ → ℕ → BodyText → Bool
 is_body_of version class (DataText value) = is_of_class class classes.Data
 is_body_of version class (RegisterText value default scaler unit) = is_of_class class classes.Register
-is_body_of version class (ProfileText captures period entries sort_method) = is_of_class class classes.ProfileGeneric && nat_le 1 entries
+is_body_of version class (ProfileText captures period entries sort_method) =
+    is_of_class class classes.ProfileGeneric && nat_le 1 entries
 is_body_of version class (ClockText time) = is_of_class class classes.Clock
 is_body_of version class (ScriptTableText scripts) = is_of_class class classes.ScriptTable
 is_body_of version class (MonitorText monitored thresholds actions) = is_of_class class classes.RegisterMonitor

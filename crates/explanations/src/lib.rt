@@ -2,8 +2,8 @@
 //! it is mended (own profile).
 //!
 //! The definitions stand in `specs/`: texts without control characters (`Printable`), the value to which a place leads
-//! (`Following`), the sentences of each code (`Meanings`, with classes by `ClassWords`) and of some places (`Advice`), and the explanations (`Config`, `Labels`,
-//! `Refusals`, `Files`).
+//! (`Following`), lists of classes (`ClassWords`), the sentences of each code (`Meanings`) and of some places (`Advice`), and the
+//! explanations (`Config`, `Labels`, `Refusals`, `Files`).
 #![tactic(auto)]
 
 mod advice;

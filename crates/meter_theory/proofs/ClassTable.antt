@@ -87,13 +87,15 @@ same_itself classes.RegisterMonitor = refl
 same_itself classes.SingleActionSchedule = refl
 
 -- a number that is known is that of its class
-pub known_is_of_class : (version number : ℕ) (class : Class) → class_in version number ≡ Some class → is_of_class number class ≡ true
+pub known_is_of_class : (version number : ℕ) (class : Class) → class_in version number ≡ Some class →
+    is_of_class number class ≡ true
 known_is_of_class version number class h = at (find known table.CLASSES) refl h
   where
     known : ClassRow → Bool
     known row = (number == row.class_id) && nat_le row.since version
 
-    at : (r : Option ClassRow) → find known table.CLASSES ≡ r → option_map (λ row. row.class) r ≡ Some class → is_of_class number class ≡ true
+    at : (r : Option ClassRow) → find known table.CLASSES ≡ r → option_map (λ row. row.class) r ≡ Some class →
+        is_of_class number class ≡ true
     at (Some row) is e =
         let there = found known table.CLASSES row is in
         let named : row.class ≡ class = cc in
@@ -107,7 +109,8 @@ known_is_of_class version number class h = at (find known table.CLASSES) refl h
 pub unknown_has_no_class : (version number : ℕ) → class_in version number ≡ None → is_known version number ≡ false
 unknown_has_no_class version number h = none_passes (λ row. (number == row.class_id) && nat_le row.since version) table.CLASSES h
   where
-    none_passes : (test : ClassRow → Bool) (rows : List ClassRow) → option_map (λ row. row.class) (find test rows) ≡ None → list_any test rows ≡ false
+    none_passes : (test : ClassRow → Bool) (rows : List ClassRow) → option_map (λ row. row.class) (find test rows) ≡ None →
+        list_any test rows ≡ false
     none_passes test [] e = refl
     none_passes test (row ∷ rows) e = at (none_passes test rows) (test row) refl e
       where
