@@ -47,7 +47,8 @@ pub(crate) fn due_scripts(
     seen: &Data,
     now: &Data,
 ) -> Result<Vec<ScriptRef>, Memory>
-    ensures { IfOk result (λ scripts. scripts.items ≡ theory.due_scripts actions.now (map tree thresholds.now) (tree seen.now) (tree now.now)) }
+    ensures { IfOk result (λ scripts. scripts.items
+        ≡ theory.due_scripts actions.now (map tree thresholds.now) (tree seen.now) (tree now.now)) }
 {
     let before = seen.number();
     let now = now.number();

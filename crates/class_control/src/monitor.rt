@@ -123,7 +123,8 @@ impl Monitor {
         part: &MonitorPart,
         now: &Data,
     ) -> Result<Vec<ScriptRef>, Memory>
-        ensures { IfOk result (λ scripts. scripts.items ≡ due_scripts part.now.actions.items (elements (tree self.now.thresholds)) (tree self.now.seen) (tree now.now)) }
+        ensures { IfOk result (λ scripts. scripts.items
+            ≡ due_scripts part.now.actions.items (elements (tree self.now.thresholds)) (tree self.now.seen) (tree now.now)) }
     {
         due_scripts(
             alloc,

@@ -10,11 +10,13 @@ ghost use Rattle.class_profile.specs.Reversal.{dropped, buffer_before};
 
 /// What a state of a plan holds of a profile may stand in an object of class 7: its buffer, and its entries in use.
 pub fn states_hold_profiles()
-    ensures buffer { (P : Plan) (captured : List CellRef) (entries : ℕ) (buffer : Tree) → IsBuffer P captured entries buffer → is_buffer (length captured) entries buffer ≡ true }
+    ensures buffer { (P : Plan) (captured : List CellRef) (entries : ℕ) (buffer : Tree) → IsBuffer P captured entries buffer →
+        is_buffer (length captured) entries buffer ≡ true }
     ensures count { (entries : ℕ) (count : Tree) → IsCount entries count → is_count entries count ≡ true }
 {}
 
 /// A capture that is taken back with the row that it dropped leaves the buffer as it was.
 pub fn captures_are_taken_back()
-    ensures { (columns entries : ℕ) (buffer row : Tree) → 1 ≤ entries → is_buffer columns entries buffer ≡ true → buffer_before (dropped entries buffer) (buffer_after entries buffer row) ≡ buffer }
+    ensures { (columns entries : ℕ) (buffer row : Tree) → 1 ≤ entries → is_buffer columns entries buffer ≡ true →
+        buffer_before (dropped entries buffer) (buffer_after entries buffer row) ≡ buffer }
 {}

@@ -173,7 +173,8 @@ impl Profile {
 
     /// A profile without entries, with room for as many as it may have.
     pub fn start(alloc: Global, part: &ProfilePart) -> Result<Profile, Memory>
-        ensures { IfOk result (λ object. object ≡ record { buffer = []; capture_period = part.now.capture_period; entries_in_use = 0 }) }
+        ensures { IfOk result (λ object. object
+            ≡ record { buffer = []; capture_period = part.now.capture_period; entries_in_use = 0 }) }
     {
         Ok(Profile {
             buffer: Rows::new(alloc, part.profile_entries)?,
@@ -218,8 +219,10 @@ impl Profile {
     ) -> Result<Captured, Memory>
         requires { is_buffer (length part.now.captured.items) part.now.profile_entries (array_of self.old.buffer) ≡ true }
         ensures same { self.new.capture_period ≡ self.old.capture_period }
-        ensures rows { OnOk result (array_of self.new.buffer ≡ buffer_after part.now.profile_entries (array_of self.old.buffer) (structure_of row)) }
-        ensures count { OnOk result (counter self.new.entries_in_use ≡ in_use_after part.now.profile_entries (counter self.old.entries_in_use)) }
+        ensures rows { OnOk result (array_of self.new.buffer
+            ≡ buffer_after part.now.profile_entries (array_of self.old.buffer) (structure_of row)) }
+        ensures count { OnOk result (counter self.new.entries_in_use
+            ≡ in_use_after part.now.profile_entries (counter self.old.entries_in_use)) }
         ensures before { IfOk result (λ captured. before_capture captured self.new ≡ self.old) }
         ensures err { OnErr result (self.new ≡ self.old) }
         ensures full { length self.old.buffer ≡ part.now.profile_entries → IsOk result }

@@ -127,7 +127,8 @@ fn is_written(
     target: &TargetParts,
     text: &str,
 ) -> Result<bool, Memory>
-    ensures { IfOk result (λ right. right ≡ passes.written_value kinds.now.directory.now.config.now target.now (value_in text.now)) }
+    ensures { IfOk result (λ right. right
+        ≡ passes.written_value kinds.now.directory.now.config.now target.now (value_in text.now)) }
 {
     match value_in(alloc, text.as_bytes())? {
         Some(value) => Ok(may_stand_at(kinds, target, &value)),
@@ -137,7 +138,8 @@ fn is_written(
 
 /// Whether an action has a value that it can write, or a parameter that is a value.
 fn action_value(alloc: Global, kinds: &Kinds<'_, '_>, action: &ActionParts) -> Result<bool, Memory>
-    ensures { IfOk result (λ right. right ≡ passes.action_value kinds.now.directory.now.config.now action.now.service action.now.target action.now.value) }
+    ensures { IfOk result (λ right. right
+        ≡ passes.action_value kinds.now.directory.now.config.now action.now.service action.now.target action.now.value) }
 {
     match (action.service, &action.value) {
         (Service::Write, Some(text)) => is_written(alloc, kinds, &action.target, text.as_str()),

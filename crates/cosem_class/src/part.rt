@@ -30,11 +30,13 @@ pub trait ClassPart {
 
     /// The indexes of the attributes that can change, its cells, in their order; an inner cell has index 0 (own profile).
     fn cells(&self) -> &'static [u8]
-        ensures { (name : NameValue) → map (cell (class_of (part self.now)) name) result.now ≡ keys (start_of name (part self.now)) };
+        ensures { (name : NameValue) → map (cell (class_of (part self.now)) name) result.now
+            ≡ keys (start_of name (part self.now)) };
 
     /// The kind of the value with which the cell at this index starts; that of null-data where there is no cell.
     fn start_kind(&self, index: u8) -> Kind
-        ensures { (name : NameValue) → result ≡ kind_of (value (start_of name (part self.now)) (cell (class_of (part self.now)) name index)) };
+        ensures { (name : NameValue) → result
+            ≡ kind_of (value (start_of name (part self.now)) (cell (class_of (part self.now)) name index)) };
 
     /// A copy of a fixed attribute other than the logical name; null-data at any other index.
     fn fixed(&self, alloc: Global, index: u8) -> Result<Data, Memory>

@@ -27,14 +27,18 @@ ghost use Rattle.meter_theory.specs.Unequal.{UnequalSecrecy};
 /// about who influences a cell, and keeps from each client what they hide from it, also over schedules that differ by steps
 /// which the client can't notice.
 pub fn lawful_effects_keep_promises()
-    ensures influence { (P : Plan) (policy : Labelling) (labels : Labels) → IsSound P → EffectLaws P → Admits P policy labels → Influence P policy × Influence P (labelling_of labels) }
-    ensures secrecy { (P : Plan) (policy : Labelling) (labels : Labels) → IsSound P → EffectLaws P → Admits P policy labels → Secrecy P policy × Secrecy P (labelling_of labels) }
-    ensures unequal { (P : Plan) (policy : Labelling) (labels : Labels) → IsSound P → EffectLaws P → Admits P policy labels → UnequalSecrecy P policy × UnequalSecrecy P (labelling_of labels) }
+    ensures influence { (P : Plan) (policy : Labelling) (labels : Labels) → IsSound P → EffectLaws P → Admits P policy labels →
+        Influence P policy × Influence P (labelling_of labels) }
+    ensures secrecy { (P : Plan) (policy : Labelling) (labels : Labels) → IsSound P → EffectLaws P → Admits P policy labels →
+        Secrecy P policy × Secrecy P (labelling_of labels) }
+    ensures unequal { (P : Plan) (policy : Labelling) (labels : Labels) → IsSound P → EffectLaws P → Admits P policy labels →
+        UnequalSecrecy P policy × UnequalSecrecy P (labelling_of labels) }
 {}
 
 /// Where the effects of a plan keep their laws, states that agree on a closed set of cells agree on it after each step.
 pub fn lawful_effects_keep_agreement()
-    ensures { (P : Plan) (S : CellRef → Bool) → EffectLaws P → IsClosed P S → (step : Step) → KeepsAgreementOn S (λ s. next P s step) }
+    ensures { (P : Plan) (S : CellRef → Bool) → EffectLaws P → IsClosed P S → (step : Step) →
+        KeepsAgreementOn S (λ s. next P s step) }
 {}
 
 /// The list of edges has each edge of a sound plan, and no other.
@@ -44,16 +48,21 @@ pub fn edges_are_listed()
 
 /// The six tests decide admission; what a refusal names isn't admitted, and there is one refusal at most.
 pub fn tests_decide_admission()
-    ensures decided { (P : Plan) (policy : Labelling) (labels : Labels) → IsSound P → (AllPass P policy labels ↔ Admits P policy labels) }
-    ensures refused { (P : Plan) (policy : Labelling) (labels : Labels) (r : Refusal) → IsSound P → Refuses P policy labels r → Admits P policy labels → ⊥ }
-    ensures unique { (P : Plan) (policy : Labelling) (labels : Labels) (r q : Refusal) → Refuses P policy labels r → Refuses P policy labels q → r ≡ q }
+    ensures decided { (P : Plan) (policy : Labelling) (labels : Labels) → IsSound P →
+        (AllPass P policy labels ↔ Admits P policy labels) }
+    ensures refused { (P : Plan) (policy : Labelling) (labels : Labels) (r : Refusal) → IsSound P → Refuses P policy labels r →
+        Admits P policy labels → ⊥ }
+    ensures unique { (P : Plan) (policy : Labelling) (labels : Labels) (r q : Refusal) → Refuses P policy labels r →
+        Refuses P policy labels q → r ≡ q }
 {}
 
 /// Where the least labels of a plan are refused for a policy, no labels are admitted for it: the configuration or the policy
 /// has to change.
 pub fn least_labels_decide()
-    ensures admits { (P : Plan) (policy : Labelling) (least labels : Labels) → AreLeast P least → Admits P policy labels → Admits P policy least }
-    ensures refused { (P : Plan) (policy : Labelling) (least labels : Labels) (r : Refusal) → IsSound P → AreLeast P least → Refuses P policy least r → Admits P policy labels → ⊥ }
+    ensures admits { (P : Plan) (policy : Labelling) (least labels : Labels) → AreLeast P least → Admits P policy labels →
+        Admits P policy least }
+    ensures refused { (P : Plan) (policy : Labelling) (least labels : Labels) (r : Refusal) → IsSound P → AreLeast P least →
+        Refuses P policy least r → Admits P policy labels → ⊥ }
 {}
 
 /// The test of the rights that change a cell tells who has one, and a right to a method changes cells of the plan alone.
@@ -79,15 +88,19 @@ pub fn states_are_kept()
 
 /// Every value that a sound plan's meter answers can be written: its lengths and counts fit four bytes.
 pub fn replies_can_be_written()
-    ensures { (P : Plan) (s : State) (step : Step) (v : Tree) → IsSound P → IsState P s → reply_to P s step ≡ Value v → HasLengths v }
+    ensures { (P : Plan) (s : State) (step : Step) (v : Tree) → IsSound P → IsState P s → reply_to P s step ≡ Value v →
+        HasLengths v }
 {}
 
 /// The inner clock is looked at: behind a moment that it is set to, a profile captures and a schedule runs its script exactly where
 /// the one is due at that moment, and no cell of the plan has changed. Where a plan has a clock, nothing sets an inner one.
 pub fn moments_are_looked_at()
-    ensures capture { (P : Plan) (s : State) (t : Moment) (n : LogicalName) → clock_object P ≡ None → HasCells P s → IsMoment t → effects_of P (next P s (ClockAt t)) (CaptureAt n) ≡ for_some (object_at P n) (λ o. captured_at s n t o.part) }
-    ensures schedule { (P : Plan) (s : State) (t : Moment) (n : LogicalName) → clock_object P ≡ None → HasCells P s → IsMoment t → effects_of P (next P s (ClockAt t)) (ScheduleAt n) ≡ for_some (object_at P n) (λ o. scheduled_at P s n t o.part) }
-    ensures cells { (P : Plan) (s : State) (t : Moment) (x : CellRef) → IsIn (cells P) x → value (next P s (ClockAt t)) x ≡ value s x }
+    ensures capture { (P : Plan) (s : State) (t : Moment) (n : LogicalName) → clock_object P ≡ None → HasCells P s → IsMoment t →
+        effects_of P (next P s (ClockAt t)) (CaptureAt n) ≡ for_some (object_at P n) (λ o. captured_at s n t o.part) }
+    ensures schedule { (P : Plan) (s : State) (t : Moment) (n : LogicalName) → clock_object P ≡ None → HasCells P s → IsMoment t →
+        effects_of P (next P s (ClockAt t)) (ScheduleAt n) ≡ for_some (object_at P n) (λ o. scheduled_at P s n t o.part) }
+    ensures cells { (P : Plan) (s : State) (t : Moment) (x : CellRef) → IsIn (cells P) x →
+        value (next P s (ClockAt t)) x ≡ value s x }
     ensures clock { (P : Plan) (s : State) (t : Moment) (o : Object) → clock_object P ≡ Some o → next P s (ClockAt t) ≡ s }
 {}
 

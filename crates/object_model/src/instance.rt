@@ -93,7 +93,8 @@ impl<'a> Instance<'a> {
 
     /// What the plan fixes of the profile with this name, or None where it has none.
     pub fn profile(&self) -> Option<&'a ProfilePart>
-        ensures { option_map (λ part. record { captured = part.now.captured.items; entries = part.now.profile_entries }) result ≡ captures_of (object_at self.now.plan self.now.name) }
+        ensures { option_map (λ part. record { captured = part.now.captured.items; entries = part.now.profile_entries }) result
+            ≡ captures_of (object_at self.now.plan self.now.name) }
     {
         match self.object()?.part() {
             Part::ProfileGeneric(part) => Some(part),

@@ -8,6 +8,7 @@ ghost use Rattle.meter_theory.specs.declared.limits.TheConstants.{OBJECTS};
 
 /// Each cell of a sound plan stands once in plan order, and there are three at most an object.
 pub fn cells_are_apart()
-    ensures apart { (P : Plan) → IsSound P → (i j : ℕ) (x y : CellRef) → slice_get (cells P) i ≡ Some x → slice_get (cells P) j ≡ Some y → same_cell x y ≡ true → i ≡ j }
+    ensures apart { (P : Plan) → IsSound P → (i j : ℕ) (x y : CellRef) → slice_get (cells P) i ≡ Some x →
+        slice_get (cells P) j ≡ Some y → same_cell x y ≡ true → i ≡ j }
     ensures few { (P : Plan) → IsSound P → length (cells P) ≤ 3 * OBJECTS }
 {}

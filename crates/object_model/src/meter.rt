@@ -351,8 +351,10 @@ fn write_in(
 ) -> Undo
     requires place { position_from (stores cell.now) 0 objects.old.items ≡ Some place }
     requires class { class_of (part_of part.now) ≡ cell.now.class_id }
-    requires fits { (rule : Rule) × (rule_watching monitored (part_of part.now) cell.now.index ≡ Some rule) × (meets rule (tree given) ≡ true) }
-    ensures put { flat_map stored_pairs objects.new.items ≡ state.put (flat_map stored_pairs objects.old.items) cell.now (kept cell.now (tree given)) }
+    requires fits { (rule : Rule) × (rule_watching monitored (part_of part.now) cell.now.index ≡ Some rule)
+        × (meets rule (tree given) ≡ true) }
+    ensures put { flat_map stored_pairs objects.new.items
+        ≡ state.put (flat_map stored_pairs objects.old.items) cell.now (kept cell.now (tree given)) }
     ensures before { undone result (flat_map stored_pairs objects.new.items) ≡ flat_map stored_pairs objects.old.items }
 {
     let change = objects[place].write(part, monitored, cell.index, given);
@@ -365,7 +367,8 @@ fn write_in(
 /// The register monitor at this place remembers a value.
 fn remember_in(objects: &mut Vec<Stored>, place: usize, name: LogicalName, now: Data) -> Undo
     requires place { position_from (stores (plans.seen name)) 0 objects.old.items ≡ Some place }
-    ensures put { flat_map stored_pairs objects.new.items ≡ state.put (flat_map stored_pairs objects.old.items) (plans.seen name) (tree now) }
+    ensures put { flat_map stored_pairs objects.new.items
+        ≡ state.put (flat_map stored_pairs objects.old.items) (plans.seen name) (tree now) }
     ensures before { undone result (flat_map stored_pairs objects.new.items) ≡ flat_map stored_pairs objects.old.items }
 {
     let change = objects[place].remember(now);
@@ -383,8 +386,10 @@ fn capture_in(
 ) -> Result<Undo, Memory>
     requires place { position_from (stores (plans.buffer name)) 0 objects.old.items ≡ Some place }
     requires rows { is_buffer (length part.now.captured.items) part.now.profile_entries (value (flat_map stored_pairs objects.old.items) (plans.buffer name)) ≡ true }
-    ensures ok { OnOk result (flat_map stored_pairs objects.new.items ≡ captured name part.now.profile_entries row (flat_map stored_pairs objects.old.items)) }
-    ensures before { IfOk result (λ undo. undone undo (flat_map stored_pairs objects.new.items) ≡ flat_map stored_pairs objects.old.items) }
+    ensures ok { OnOk result (flat_map stored_pairs objects.new.items
+        ≡ captured name part.now.profile_entries row (flat_map stored_pairs objects.old.items)) }
+    ensures before { IfOk result (λ undo. undone undo (flat_map stored_pairs objects.new.items)
+        ≡ flat_map stored_pairs objects.old.items) }
     ensures err { OnErr result (flat_map stored_pairs objects.new.items ≡ flat_map stored_pairs objects.old.items) }
 {
     let change = objects[place].capture(alloc, part, row)?;
@@ -404,7 +409,8 @@ fn clear_in(objects: &mut Vec<Stored>, place: usize, name: LogicalName) -> Undo
 /// The clock at this place goes on by a second.
 fn tick_in(objects: &mut Vec<Stored>, place: usize, name: LogicalName)
     requires place { position_from (stores (plans.clock_time name)) 0 objects.old.items ≡ Some place }
-    ensures { flat_map stored_pairs objects.new.items ≡ state.put (flat_map stored_pairs objects.old.items) (plans.clock_time name) (clock_value (next_second (clock_moment (value (flat_map stored_pairs objects.old.items) (plans.clock_time name))))) }
+    ensures { flat_map stored_pairs objects.new.items
+        ≡ state.put (flat_map stored_pairs objects.old.items) (plans.clock_time name) (clock_value (next_second (clock_moment (value (flat_map stored_pairs objects.old.items) (plans.clock_time name))))) }
 {
     objects[place].tick();
 }

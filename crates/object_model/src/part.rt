@@ -95,7 +95,8 @@ impl Part {
 
     /// The indexes of the cells of an object with this part, what a register monitor has seen, at index 0, among them.
     fn cells(&self) -> &'static [u8]
-        ensures { (name : LogicalNameValue) → map (cell (class_of (part_of self.now)) name) result.now ≡ keys (start_of name (part_of self.now)) }
+        ensures { (name : LogicalNameValue) → map (cell (class_of (part_of self.now)) name) result.now
+            ≡ keys (start_of name (part_of self.now)) }
     {
         of_part!(self, part => part.cells())
     }

@@ -37,7 +37,8 @@ impl References {
         index: &Index,
         objects: &[Object],
     ) -> Result<References, Memory>
-        requires { (o : theory.Object) → IsIn objects.now o → (name : NameValue) → IsIn (references o.part) name → (number : ℕ) × (place_in index.now name ≡ Some number) }
+        requires { (o : theory.Object) → IsIn objects.now o → (name : NameValue) → IsIn (references o.part) name → (number : ℕ)
+            × (place_in index.now name ≡ Some number) }
         ensures { IfOk result (λ numbers. AreReferences index.now objects.now numbers) }
     {
         let mut numbers = Vec::with_capacity(alloc, objects.len())?;

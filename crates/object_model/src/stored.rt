@@ -143,10 +143,12 @@ impl Stored {
     /// Writes a value that may stand in the cell at this index, by the object's class, to which the plan lends this part
     /// and the kind that a register monitor watches.
     pub(crate) fn write(&mut self, part: &Part, monitored: Kind, index: u8, given: Data) -> Change
-        requires fits { (rule : Rule) × (rule_watching monitored (part_of part.now) index ≡ Some rule) × (meets rule (tree given) ≡ true) }
+        requires fits { (rule : Rule) × (rule_watching monitored (part_of part.now) index ≡ Some rule)
+            × (meets rule (tree given) ≡ true) }
         requires stored { stores (cell (class_of (part_of part.now)) self.old.name index) self.old ≡ true }
         ensures name { self.new.name ≡ self.old.name }
-        ensures put { stored_pairs self.new ≡ put (stored_pairs self.old) (cell (class_of (part_of part.now)) self.old.name index) (kept (cell (class_of (part_of part.now)) self.old.name index) (tree given)) }
+        ensures put { stored_pairs self.new
+            ≡ put (stored_pairs self.old) (cell (class_of (part_of part.now)) self.old.name index) (kept (cell (class_of (part_of part.now)) self.old.name index) (tree given)) }
         ensures cell { cell_changed self.old.name result ≡ cell (class_of (part_of part.now)) self.old.name index }
         ensures before { change_undone self.old.name result (stored_pairs self.new) ≡ stored_pairs self.old }
     {
@@ -190,7 +192,8 @@ impl Stored {
     pub(crate) fn tick(&mut self)
         requires { stores (theory.clock_time self.old.name) self.old ≡ true }
         ensures name { self.new.name ≡ self.old.name }
-        ensures put { stored_pairs self.new ≡ put (stored_pairs self.old) (theory.clock_time self.old.name) (clock_value (next_second (clock_moment (value (stored_pairs self.old) (theory.clock_time self.old.name))))) }
+        ensures put { stored_pairs self.new
+            ≡ put (stored_pairs self.old) (theory.clock_time self.old.name) (clock_value (next_second (clock_moment (value (stored_pairs self.old) (theory.clock_time self.old.name))))) }
     {
         match &mut self.cells {
             Cells::Clock(object) => object.tick(),
@@ -223,11 +226,14 @@ impl Stored {
         requires stored { stores (theory.buffer self.old.name) self.old ≡ true }
         requires rows { is_buffer (length part.now.captured.items) part.now.profile_entries (value (stored_pairs self.old) (theory.buffer self.old.name)) ≡ true }
         ensures name { self.new.name ≡ self.old.name }
-        ensures ok { OnOk result (stored_pairs self.new ≡ captured self.old.name part.now.profile_entries row (stored_pairs self.old)) }
-        ensures before { IfOk result (λ change. change_undone self.old.name change (stored_pairs self.new) ≡ stored_pairs self.old) }
+        ensures ok { OnOk result (stored_pairs self.new
+            ≡ captured self.old.name part.now.profile_entries row (stored_pairs self.old)) }
+        ensures before { IfOk result (λ change. change_undone self.old.name change (stored_pairs self.new)
+            ≡ stored_pairs self.old) }
         ensures cell { IfOk result (λ change. cell_changed self.old.name change ≡ theory.buffer self.old.name) }
         ensures err { OnErr result (stored_pairs self.new ≡ stored_pairs self.old) }
-        ensures full { length (elements (value (stored_pairs self.old) (theory.buffer self.old.name))) ≡ part.now.profile_entries → IsOk result }
+        ensures full { length (elements (value (stored_pairs self.old) (theory.buffer self.old.name)))
+            ≡ part.now.profile_entries → IsOk result }
     {
         match &mut self.cells {
             Cells::ProfileGeneric(object) => {
