@@ -5,6 +5,7 @@ mod callers;
 mod closing;
 mod faults;
 mod fleets;
+mod gates;
 mod progress;
 mod samples;
 mod serving;

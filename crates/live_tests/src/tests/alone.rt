@@ -116,12 +116,8 @@ fn trail_is_closed<R: Wait + Abort>(
 }
 
 #[test]
-fn a_full_trail_of_gets_is_closed(rt: HostRuntime) -> Result<(), Fail> {
-    trail_is_closed(&rt, rt.alloc(), &get_energy(), 0)
-}
-
-#[test]
 fn a_full_trail_is_closed_in_the_state_then(rt: HostRuntime) -> Result<(), Fail> {
+    trail_is_closed(&rt, rt.alloc(), &get_energy(), 0)?;
     trail_is_closed(&rt, rt.alloc(), &set_alarm(1), 1)
 }
 

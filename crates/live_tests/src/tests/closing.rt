@@ -9,7 +9,7 @@ use std::test::Fail;
 
 /// A writer that takes no byte, for this reason.
 #[derive(Drop)]
-struct Full(ErrorKind);
+pub(super) struct Full(pub(super) ErrorKind);
 
 impl Write for Full {
     fn write(&mut self, _bytes: &[u8]) -> io::Result<usize> {

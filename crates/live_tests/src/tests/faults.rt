@@ -23,68 +23,54 @@ fn is_told(rt: &impl Abort, alloc: Global, fault: &impl Display, want: &str) -> 
     Ok(())
 }
 
-/// An unreadable line has its number, and a frame fault its own.
+/// An unreadable line has its number, a frame fault its own, a text's fault its place and an unread file its path; the words of a wrong
+/// command line are clap's.
 #[test]
-fn faults_of_inputs_are_told(rt: HostRuntime) -> Result<(), Fail> {
-    let alloc = rt.alloc();
-    is_told(&rt, alloc, &LineFault::Read, "the lines can't be read")?;
-    is_told(
-        &rt,
-        alloc,
-        &LineFault::Line(12, Reason::Moment),
-        "line 12: unreadable",
-    )?;
-    is_told(&rt, alloc, &ServeFault::Cut, "input ended inside a frame")?;
-    is_told(
-        &rt,
-        alloc,
-        &ServeFault::Wrap(WrapFault::Length),
-        "frame fault 3",
-    )?;
-    is_told(
-        &rt,
-        alloc,
-        &ServerFault::Listen,
-        "connections can't be taken there",
-    )?;
-    is_told(&rt, alloc, &ListFault::Write, "the output can't be written")?;
-    is_told(&rt, alloc, &AuditFault::GaveUp, "the gate gave up")
-}
-
-/// A text's fault has its place.
-#[test]
-fn faults_of_texts_are_told(rt: HostRuntime) -> Result<(), Fail> {
+fn faults_are_told(rt: HostRuntime) -> Result<(), Fail> {
+    let a = rt.alloc();
+    let byte = FileFault::NotText { byte: 3 };
     let at = TextFault::At {
         line: 2,
         column: 7,
         asked: Asked::Slash,
     };
+    is_told(&rt, a, &LineFault::Read, "the lines can't be read")?;
     is_told(
         &rt,
-        rt.alloc(),
+        a,
+        &LineFault::Line(12, Reason::Moment),
+        "line 12: unreadable",
+    )?;
+    is_told(&rt, a, &ServeFault::Cut, "input ended inside a frame")?;
+    is_told(
+        &rt,
+        a,
+        &ServeFault::Wrap(WrapFault::Length),
+        "frame fault 3",
+    )?;
+    is_told(
+        &rt,
+        a,
+        &ServerFault::Listen,
+        "connections can't be taken there",
+    )?;
+    is_told(&rt, a, &ListFault::Write, "the output can't be written")?;
+    is_told(&rt, a, &AuditFault::GaveUp, "the gate gave up")?;
+    is_told(
+        &rt,
+        a,
         &TranslationFault::Text(at),
         "line 2, column 7: asked is a slash",
     )?;
-    let byte = FileFault::NotText { byte: 3 };
     is_told(
         &rt,
-        rt.alloc(),
+        a,
         &byte,
         "it isn't UTF-8: the first byte that is none is byte 3, counted from 0",
-    )
-}
-
-/// An unread file has its path.
-#[test]
-fn faults_of_fleets_are_told(rt: HostRuntime) -> Result<(), Fail> {
-    let path = String::from_str(rt.alloc(), "north.toml")?;
-    let fault = FleetFault::Unread(path, FileFault::Missing);
-    is_told(&rt, rt.alloc(), &fault, "north.toml: there is no such file")
-}
-
-/// The words of a wrong command line are clap's.
-#[test]
-fn faults_of_words_are_told(rt: HostRuntime) -> Result<(), Fail> {
-    let fault = WordsFault::Usage(String::from_str(rt.alloc(), "error: no\n")?);
-    is_told(&rt, rt.alloc(), &fault, "error: no\n")
+    )?;
+    let path = String::from_str(a, "north.toml")?;
+    let unread = FleetFault::Unread(path, FileFault::Missing);
+    is_told(&rt, a, &unread, "north.toml: there is no such file")?;
+    let usage = WordsFault::Usage(String::from_str(a, "error: no\n")?);
+    is_told(&rt, a, &usage, "error: no\n")
 }

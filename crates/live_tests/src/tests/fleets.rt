@@ -1,6 +1,6 @@
 mod giving_up;
 mod memory;
-mod samples;
+pub(super) mod samples;
 mod verdicts;
 mod waiting;
 mod watching;

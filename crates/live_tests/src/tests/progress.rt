@@ -1,5 +1,6 @@
+use super::closing::Full;
+use super::fleets::samples::{configs, workers};
 use config_text::fault::ConfigFault;
-use fleet_audit::fleet::Text;
 use fleet_audit::verdict::Verdict;
 use fleet_audit::watch::Watch;
 use meter_server::auditing::audit_texts_aloud;
@@ -8,7 +9,6 @@ use meter_server::progress::Progress;
 use std::alloc::Global;
 use std::io;
 use std::io::{ErrorKind, Write};
-use std::num::NonZeroUsize;
 use std::sync::atomic::{AtomicUsize, Ordering};
 use std::test::Fail;
 use std::time::{Clock, Duration};
@@ -42,20 +42,6 @@ impl Clock for Times<'_> {
     }
 }
 
-/// A writer that takes nothing.
-#[derive(Drop)]
-struct Shut;
-
-impl Write for Shut {
-    fn write(&mut self, _bytes: &[u8]) -> io::Result<usize> {
-        Err(ErrorKind::Other.into())
-    }
-
-    fn flush(&mut self) -> io::Result<()> {
-        Ok(())
-    }
-}
-
 /// A verdict that accepts, and one that doesn't.
 const VERDICTS: [Verdict; 2] = [Verdict::Accepted, Verdict::Config(ConfigFault::Memory)];
 
@@ -80,43 +66,37 @@ fn are_told(alloc: Global, times: &[u64], want: &str) -> Result<(), Fail> {
     }
 }
 
-/// A line comes a tenth of a second behind the one before at the soonest, and covers it.
-#[test]
-fn lines_come_ten_times_a_second(rt: HostRuntime) -> Result<(), Fail> {
-    are_told(
-        rt.alloc(),
+/// An audit at these times of the clock, and the lines that tell how far it is.
+static LINES: [(&[u64], &str); 6] = [
+    // A line comes a tenth of a second behind the one before at the soonest, and covers it.
+    (
         &[5000, 5060, 5100, 5199, 6000, 6400],
         "\r2 of 4 done, 1 refused, 2 left, 20 a second\
          \r4 of 4 done, 2 refused, 0 left, 4 a second \
          \r4 of 4 done, 2 refused, 0 left, 2 a second\n",
-    )
-}
-
-/// An audit that is done at once has one line.
-#[test]
-fn the_last_line_is_written_at_once(rt: HostRuntime) -> Result<(), Fail> {
-    are_told(
-        rt.alloc(),
+    ),
+    // An audit that is done at once has one line.
+    (
         &[0, 1, 2, 3, 4, 5],
         "\r4 of 4 done, 2 refused, 0 left, 800 a second\n",
-    )
-}
+    ),
+    // A clock that stands still, goes back or can't be read says nothing of a second.
+    (&[7, 7, 7, 7, 7, 7], NOTHING_OF_A_SECOND),
+    (&[700, 600, 500, 400, 300, 200], NOTHING_OF_A_SECOND),
+    (&[700], NOTHING_OF_A_SECOND),
+    (&[], NOTHING_OF_A_SECOND),
+];
 
-/// A clock that stands still, goes back or can't be read says nothing of a second.
-#[test]
-fn clocks_may_fail(rt: HostRuntime) -> Result<(), Fail> {
-    let want = "\r4 of 4 done, 2 refused, 0 left, 0 a second\n";
-    are_told(rt.alloc(), &[7, 7, 7, 7, 7, 7], want)?;
-    are_told(rt.alloc(), &[700, 600, 500, 400, 300, 200], want)?;
-    are_told(rt.alloc(), &[700], want)?;
-    are_told(rt.alloc(), &[], want)
-}
+const NOTHING_OF_A_SECOND: &str = "\r4 of 4 done, 2 refused, 0 left, 0 a second\n";
 
-/// A write that fails is passed over.
+/// Lines come ten times a second, whatever the clock has. A write that fails is passed over.
 #[test]
-fn a_writer_may_fail(rt: HostRuntime) -> Result<(), Fail> {
+fn lines_tell_how_far_an_audit_is(rt: HostRuntime) -> Result<(), Fail> {
+    for (times, want) in &LINES {
+        are_told(rt.alloc(), times, want)?;
+    }
     let clock = Times::of(&[0, 1000, 2000, 3000, 4000, 5000]);
-    tell_four(Progress::start(rt.alloc(), &clock, 4, Shut));
+    tell_four(Progress::start(rt.alloc(), &clock, 4, Full(ErrorKind::Other)));
     Ok(())
 }
 
@@ -124,16 +104,15 @@ fn a_writer_may_fail(rt: HostRuntime) -> Result<(), Fail> {
 #[test]
 fn an_audit_tells_how_far_it_is(rt: HostRuntime) -> Result<(), Fail> {
     let alloc = rt.alloc();
-    let mut texts = Vec::with_capacity(alloc, 3)?;
-    for config in ["", "=", ""] {
-        texts.push(Text {
-            config: String::from_str(alloc, config)?,
-            labels: String::new(alloc),
-        })?;
-    }
-    let workers = NonZeroUsize::new(2).expect(&rt, "there is a worker");
+    let texts = configs(alloc, &["", "=", ""])?;
     let mut told = Vec::new(alloc);
-    let outcome = audit_texts_aloud(&rt, &["one", "two", "six"], texts, workers, &mut told);
+    let outcome = audit_texts_aloud(
+        &rt,
+        &["one", "two", "six"],
+        texts,
+        workers(&rt, 2),
+        &mut told,
+    );
     let lines = "one: config C2 at version\ntwo: config C1 at text\nsix: config C2 at version\n";
     let Outcome::Audited { text, is_accepted } = outcome else {
         return Err(Fail::new("there are no verdicts"));

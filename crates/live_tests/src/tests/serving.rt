@@ -1,4 +1,3 @@
 mod holding;
 mod samples;
 mod sessions;
-mod threads;

@@ -69,17 +69,20 @@ fn are_judged<R: Threads + AllocGlobal + Abort + Sync>(
     Ok(())
 }
 
+/// How many workers there are, and the seats that are judged where the gate gives up at the first, the second and so on.
+static JUDGED: [(usize, [u64; 4]); 4] = [
+    (1, [0, 1000, 1100, 1110]),
+    (2, [101, 1010, 1101, 1110]),
+    (3, [110, 1011, 1101, 1110]),
+    (5, [111, 1011, 1101, 1110]),
+];
+
 /// The worker whose gate gave up begins no further text, and the others judge all theirs.
 #[test]
 fn a_gate_that_gives_up_ends_its_worker_alone(rt: HostRuntime) -> Result<(), Fail> {
-    for (by, wants) in [
-        (1, [0, 1000, 1100, 1110]),
-        (2, [101, 1010, 1101, 1110]),
-        (3, [110, 1011, 1101, 1110]),
-        (5, [111, 1011, 1101, 1110]),
-    ] {
+    for (by, wants) in &JUDGED {
         for (at, want) in wants.iter().enumerate() {
-            are_judged(&rt, by, at, *want)?;
+            are_judged(&rt, *by, at, *want)?;
         }
     }
     Ok(())

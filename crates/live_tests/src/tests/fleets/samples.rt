@@ -23,11 +23,11 @@ pub const LABELS: &str = "\
     7/1.0.99.1.0.255/7 influence=installer,manager learn=reader,manager\n\
     22/0.0.15.0.0.255/4 influence=installer learn=reader,installer,manager\n";
 
-/// What stands where the list of objects ends.
+/// What stands where the list of objects ends, and the same behind the alarm of the demo configuration.
 const END_OF_OBJECTS: &str = "]\nright = [";
 
-/// The alarm of the demo configuration.
-const ALARM: &str = r#" { class = 1, name = "0.0.96.11.0.255", value = "1100" },"#;
+const ALARM_AND_END: &str =
+    " { class = 1, name = \"0.0.96.11.0.255\", value = \"1100\" },\n]\nright = [";
 
 /// The label of the profile's buffer, and one that doesn't let the installer influence it.
 const BUFFER: &str = "7/1.0.99.1.0.255/2 influence=installer,manager";
@@ -39,6 +39,15 @@ pub fn text(alloc: Global, config: &str, labels: &str) -> Result<Text, Fail> {
     let config = String::from_str(alloc, config)?;
     let labels = String::from_str(alloc, labels)?;
     Ok(Text { config, labels })
+}
+
+/// Configurations without labels.
+pub fn configs(alloc: Global, configs: &[&str]) -> Result<Vec<Text>, Fail> {
+    let mut texts = Vec::with_capacity(alloc, configs.len())?;
+    for config in configs {
+        texts.push(text(alloc, config, "")?)?;
+    }
+    Ok(texts)
 }
 
 /// A text in which one part, which stands there once, is exchanged for another.
@@ -56,15 +65,19 @@ fn exchanged(
 /// The demo and its labels; the demo whose alarm stands once more behind the other objects; the demo and labels that let the
 /// installer influence less; and two empty files.
 pub fn four(rt: &impl Abort, alloc: Global) -> Result<Vec<Text>, Fail> {
-    let twice = format!(in alloc; "{ALARM}\n{END_OF_OBJECTS}")?;
-    let alarms = exchanged(rt, alloc, DEMO, END_OF_OBJECTS, twice.as_str())?;
-    let narrow = exchanged(rt, alloc, LABELS, BUFFER, BUFFER_OF_THE_MANAGER)?;
     let mut texts = Vec::with_capacity(alloc, 4)?;
+    push_four(rt, alloc, &mut texts)?;
+    Ok(texts)
+}
+
+fn push_four(rt: &impl Abort, alloc: Global, texts: &mut Vec<Text>) -> Result<(), Fail> {
     texts.push(text(alloc, DEMO, LABELS)?)?;
+    let alarms = exchanged(rt, alloc, DEMO, END_OF_OBJECTS, ALARM_AND_END)?;
     texts.push(text(alloc, alarms.as_str(), LABELS)?)?;
+    let narrow = exchanged(rt, alloc, LABELS, BUFFER, BUFFER_OF_THE_MANAGER)?;
     texts.push(text(alloc, DEMO, narrow.as_str())?)?;
     texts.push(text(alloc, "", "")?)?;
-    Ok(texts)
+    Ok(())
 }
 
 /// The verdicts on the four.

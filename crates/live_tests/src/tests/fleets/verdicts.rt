@@ -1,20 +1,17 @@
-use super::samples::{are_told, four_are_judged, text, workers};
+use super::samples::{are_told, configs, four_are_judged, workers};
 use config_text::fault::ConfigFault;
 use fleet_audit::fleet::audit;
 use fleet_audit::verdict::{Verdict, verdict_text};
 use flow_checker::check::Refused;
 use gates::Open;
 use label_certificate::fault::LabelFault;
+use std::alloc::Global;
 use std::process::Abort;
 use std::test::Fail;
 
 #[test]
-fn one_worker_judges_the_four(rt: HostRuntime) -> Result<(), Fail> {
-    four_are_judged(&rt, 1, &Open)
-}
-
-#[test]
-fn no_texts_have_no_verdicts(rt: HostRuntime) -> Result<(), Fail> {
+fn as_many_verdicts_are_told_as_texts(rt: HostRuntime) -> Result<(), Fail> {
+    four_are_judged(&rt, 1, &Open)?;
     for count in [1, 64] {
         let verdicts = audit(&rt, Vec::new(rt.alloc()), workers(&rt, count), &Open)?;
         assert!(rt; verdicts.is_empty(), "by {count}");
@@ -26,10 +23,7 @@ fn no_texts_have_no_verdicts(rt: HostRuntime) -> Result<(), Fail> {
 #[test]
 fn three_texts_have_64_workers(rt: HostRuntime) -> Result<(), Fail> {
     let alloc = rt.alloc();
-    let mut texts = Vec::with_capacity(alloc, 3)?;
-    for config in ["", "=", "version = 1"] {
-        texts.push(text(alloc, config, "")?)?;
-    }
+    let texts = configs(alloc, &["", "=", "version = 1"])?;
     let verdicts = audit(&rt, texts, workers(&rt, 64), &Open)?;
     let want = [
         "config C2 at version\n",
@@ -39,14 +33,16 @@ fn three_texts_have_64_workers(rt: HostRuntime) -> Result<(), Fail> {
     are_told(&rt, alloc, &verdicts, &want)
 }
 
+/// The verdict is told so.
+fn is_told(rt: &impl Abort, alloc: Global, verdict: &Verdict, want: &str) -> Result<(), Fail> {
+    assert_eq!(rt; verdict_text(alloc, verdict)?.as_str(), want);
+    Ok(())
+}
+
 #[test]
 fn refused_memory_is_a_verdict(rt: HostRuntime) -> Result<(), Fail> {
-    for (verdict, want) in [
-        (Verdict::Config(ConfigFault::Memory), "config C0\n"),
-        (Verdict::Labels(LabelFault::Memory), "labels L5\n"),
-        (Verdict::Refused(Refused::Memory), "refused 7\n"),
-    ] {
-        assert_eq!(rt; verdict_text(rt.alloc(), &verdict)?.as_str(), want);
-    }
-    Ok(())
+    let a = rt.alloc();
+    is_told(&rt, a, &Verdict::Config(ConfigFault::Memory), "config C0\n")?;
+    is_told(&rt, a, &Verdict::Labels(LabelFault::Memory), "labels L5\n")?;
+    is_told(&rt, a, &Verdict::Refused(Refused::Memory), "refused 7\n")
 }
