@@ -35,30 +35,21 @@ fn push_part(whole: &mut String, part: &str) -> Option<()> {
 /// Appends so many numbered copies of the item.
 fn push_copies(whole: &mut String, count: u32, item: &str) -> Option<()> {
     for number in 0..count {
-        push_copy(whole, number, item)?;
-    }
-    Some(())
-}
-
-/// Appends the copy of the item that has this number, counted from 0.
-fn push_copy(whole: &mut String, number: u32, item: &str) -> Option<()> {
-    for char in item.chars() {
-        match char {
-            '$' => push_number(whole, number % 90 + 10)?,
-            '&' => push_number(whole, number / 90 % 90 + 10)?,
-            _ => whole.push(char).ok()?,
+        for char in item.chars() {
+            match char {
+                '$' => push_number(whole, number % 90 + 10)?,
+                '&' => push_number(whole, number / 90 % 90 + 10)?,
+                _ => whole.push(char).ok()?,
+            }
         }
     }
     Some(())
 }
 
-/// Appends the last two digits of a number.
+/// Appends a number of two digits.
 fn push_number(whole: &mut String, number: u32) -> Option<()> {
-    whole.push(digit(number / 10)).ok()?;
-    whole.push(digit(number)).ok()
-}
-
-/// The last digit of a number.
-fn digit(number: u32) -> char {
-    char::from(b'0' + (number % 10) as u8)
+    whole
+        .push(char::from(b'0' + (number / 10 % 10) as u8))
+        .ok()?;
+    whole.push(char::from(b'0' + (number % 10) as u8)).ok()
 }

@@ -6,8 +6,3 @@ pub(crate) fn bytes_of(alloc: Global, text: &str) -> Option<Vec<u8>> {
     let digits = text.replace(alloc, " ", "").ok()?;
     hex::decode(alloc, digits.as_str()).ok()
 }
-
-/// Whether a hex text is that of these bytes.
-pub(crate) fn is_hex_of(alloc: Global, text: &str, bytes: &[u8]) -> Option<bool> {
-    Some(bytes_of(alloc, text)?.as_slice() == bytes)
-}

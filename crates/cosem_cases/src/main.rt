@@ -47,10 +47,9 @@
 #![tactic(auto)]
 
 mod case;
-mod command;
 mod copies;
 mod hex_text;
-mod row;
+mod kind;
 mod run;
 mod story;
 mod texts;
@@ -58,12 +57,7 @@ mod wanted;
 
 use case::Tally;
 use std::fs;
-use std::net::{Net, TcpListener, TcpStream};
 use std::process::ExitCode;
-use std::sync::Wait;
-use std::thread::Threads;
-use std::time::Clock;
-use texts::is_passed;
 
 /// The file that lists the cases, in the current folder.
 const CASES: &str = "cases";
@@ -73,30 +67,12 @@ fn main(rt: HostRuntime) -> ExitCode {
         let _ = rt.eprintln("cosem_cases: the file cases can't be read");
         return ExitCode::FAILURE;
     };
-    let tally = tried(&rt, &rt, list.as_str());
+    let mut tally = Tally::new();
+    tally.count_all(&rt, &rt, list.as_str());
     let is_told = println!(rt; "{} cases as expected", tally.count).is_ok();
     if tally.failed == 0 && is_told {
         ExitCode::SUCCESS
     } else {
         ExitCode::FAILURE
     }
-}
-
-/// Tries each case that is listed, and counts them.
-fn tried<H>(rt: &H, host: &HostRuntime, list: &str) -> Tally
-where
-    H: AllocGlobal
-        + Clock
-        + Net<Stream = TcpStream, Listener = TcpListener>
-        + Threads
-        + Wait
-        + Sync,
-{
-    let mut tally = Tally::new();
-    for line in list.lines() {
-        if !is_passed(line) {
-            tally.count(rt, host, line);
-        }
-    }
-    tally
 }

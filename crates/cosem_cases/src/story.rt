@@ -2,7 +2,7 @@
 ghost use Rattle.std.specs.Prelude.{◌≡◌, IfSome};
 ghost use Rattle.meter_theory.specs.States.{IsState};
 
-use crate::hex_text::{bytes_of, is_hex_of};
+use crate::hex_text::bytes_of;
 use crate::texts::parted;
 use acse_session::session::Session;
 use acse_session::solo::Solo;
@@ -10,48 +10,6 @@ use config_reader::read_config;
 use object_model::meter::Meter;
 use object_model::plan::Plan;
 use std::alloc::Global;
-
-/// Which of the two sessions a line is for.
-#[derive(Clone, Copy)]
-enum Which {
-    First,
-    Second,
-}
-
-impl Which {
-    /// The session of this name.
-    fn read(name: &str) -> Option<Which> {
-        match name {
-            "first" => Some(Which::First),
-            "second" => Some(Which::Second),
-            _ => None,
-        }
-    }
-}
-
-/// A line of a story: from this wPort comes this APDU, and this answers it, both in hex.
-#[derive(Clone, Copy)]
-struct Line<'a> {
-    session: Which,
-    source: u16,
-    apdu: &'a str,
-    answer: &'a str,
-}
-
-impl<'a> Line<'a> {
-    /// The line `SESSION WPORT APDU => ANSWER`.
-    fn read(text: &'a str) -> Option<Line<'a>> {
-        let (given, answer) = parted(text, " => ");
-        let (name, given) = parted(given, " ");
-        let (source, apdu) = parted(given, " ");
-        Some(Line {
-            session: Which::read(name)?,
-            source: source.parse::<u16>().ok()?,
-            apdu,
-            answer,
-        })
-    }
-}
 
 /// Two sessions on one meter.
 #[derive(Drop)]
@@ -106,7 +64,7 @@ fn are_told<'a>(alloc: Global, pair: &mut Pair<'a>, solo: &mut Solo<'_>, story: 
     is_any
 }
 
-/// Whether a line of a story is as expected.
+/// Whether the line `SESSION WPORT APDU => ANSWER` is as expected: from this wPort comes this APDU, and this answers it, both in hex.
 fn is_line_told<'a>(
     alloc: Global,
     pair: &mut Pair<'a>,
@@ -119,27 +77,30 @@ fn is_line_told<'a>(
     ensures second { pair.new.second.plan ≡ pair.old.second.plan }
     ensures plan { solo.new.plan ≡ solo.old.plan }
 {
-    let line = Line::read(line)?;
-    match line.session {
-        Which::First => is_answer_told(alloc, &mut pair.first, solo, line),
-        Which::Second => is_answer_told(alloc, &mut pair.second, solo, line),
+    let (given, answer) = parted(line, " => ");
+    let (name, given) = parted(given, " ");
+    match name {
+        "first" => is_answered(alloc, &mut pair.first, solo, given, answer),
+        "second" => is_answered(alloc, &mut pair.second, solo, given, answer),
+        _ => None,
     }
 }
 
-/// Whether a session answers a line as expected.
-fn is_answer_told<'a>(
+/// Whether a session answers what is given to it, `WPORT APDU`, as expected.
+fn is_answered<'a>(
     alloc: Global,
     session: &mut Session<'a>,
     solo: &mut Solo<'_>,
-    line: Line<'_>,
+    given: &str,
+    want: &str,
 ) -> Option<bool>
     requires { session.old.plan ≡ solo.old.plan }
     ensures session { session.new.plan ≡ session.old.plan }
     ensures plan { solo.new.plan ≡ solo.old.plan }
 {
-    let apdu = bytes_of(alloc, line.apdu)?;
-    match session.answer(alloc, line.source, &apdu, solo) {
-        Ok(answer) => is_hex_of(alloc, line.answer, &answer),
-        Err(_) => None,
-    }
+    let (source, apdu) = parted(given, " ");
+    let source = source.parse::<u16>().ok()?;
+    let apdu = bytes_of(alloc, apdu)?;
+    let answer = session.answer(alloc, source, &apdu, solo).ok()?;
+    Some(bytes_of(alloc, want)? == answer)
 }

@@ -1,5 +1,6 @@
 //! Texts of the cases: stored in files, and a configuration and its labels as files in memory.
 use crate::copies::with_copies;
+use crate::kind::Kind;
 use explanations::file::FileFault;
 use meter_server::files::TextFiles;
 use std::alloc::Global;
@@ -24,65 +25,88 @@ pub(crate) fn parted<'a>(text: &'a str, mark: &str) -> (&'a str, &'a str) {
     text.split_once(mark).unwrap_or((text, ""))
 }
 
-/// Whether a line or a row is none that is tried: it is empty, or a comment.
-pub(crate) fn is_passed(text: &str) -> bool {
-    text.is_empty() || text.starts_with('#')
+/// The text of a row, with its ends of lines and its copies spelt out.
+pub(crate) fn spelt(alloc: Global, row: &str) -> Option<String> {
+    let ended = row.replace(alloc, "\\n", "\n").ok()?;
+    let ended = ended.replace(alloc, "\\r", "\r").ok()?;
+    with_copies(alloc, ended.as_str())
 }
 
 /// A configuration and labels for it, which the program reads as the files `demo.toml` and `demo.labels`.
 #[derive(Drop)]
 pub(crate) struct Texts {
     pub(crate) config: String,
-    pub(crate) labels: String,
+    labels: String,
 }
 
 impl Texts {
-    /// The texts of a configuration of the cases, and of its labels, which are empty where it has none.
-    pub(crate) fn stored(host: &HostRuntime, configuration: &str) -> Option<Self> {
+    /// Empty texts.
+    pub(crate) fn new(alloc: Global) -> Self {
+        Texts {
+            config: String::new(alloc),
+            labels: String::new(alloc),
+        }
+    }
+
+    /// The texts of a configuration of the cases, and of its labels, which are empty where it has none. A command line reads none.
+    pub(crate) fn of_case(host: &HostRuntime, kind: Kind, configuration: &str) -> Option<Self> {
+        if matches!(kind, Kind::Command) {
+            return Some(Texts::new(host.alloc()));
+        }
         let config = stored(host, "", configuration, ".toml")?;
         let labels = stored_or_empty(host, "", configuration, ".labels");
         Some(Texts { config, labels })
     }
 
-    /// The same texts once more.
-    pub(crate) fn copied(&self) -> Option<Self> {
-        let config = self.config.clone().ok()?;
-        let labels = self.labels.clone().ok()?;
-        Some(Texts { config, labels })
+    /// Appends other texts to these.
+    pub(crate) fn append(&mut self, texts: &Texts) -> Option<()> {
+        self.config.push_str(texts.config.as_str()).ok()?;
+        self.labels.push_str(texts.labels.as_str()).ok()
     }
 
-    /// Puts what is new in place of what is old, which stands once in the text that the word names, `config` or `labels`.
-    pub(crate) fn edit(&mut self, alloc: Global, place: &str, old: &str, new: &str) -> Option<()> {
+    /// Makes the edits `EDIT => NEW => ..`.
+    pub(crate) fn edit_all(&mut self, alloc: Global, kind: Kind, edits: &str) -> Option<()> {
+        let mut begun = None;
+        for part in edits.split(" => ") {
+            begun = match begun {
+                None => Some(part),
+                Some(edit) => {
+                    self.edit(alloc, kind, edit, part)?;
+                    None
+                }
+            };
+        }
+        match begun {
+            None => Some(()),
+            Some(_) => None,
+        }
+    }
+
+    /// Puts what is new in place of what is old, which stands once in the text that the edit names: it is `config OLD` or `labels OLD`,
+    /// or OLD alone where the configuration is all that is edited.
+    fn edit(&mut self, alloc: Global, kind: Kind, edit: &str, new: &str) -> Option<()> {
+        let (place, old) = match kind {
+            Kind::Edits => ("config", edit),
+            _ => parted(edit, " "),
+        };
         match place {
-            "config" => edit_text(alloc, &mut self.config, old, new),
-            "labels" => edit_text(alloc, &mut self.labels, old, new),
-            _ => None,
+            "config" => self.config = with_edit(alloc, self.config.as_str(), old, new)?,
+            "labels" => self.labels = with_edit(alloc, self.labels.as_str(), old, new)?,
+            _ => return None,
         }
-    }
-
-    /// The text that the program reads as the file with this path.
-    fn of_file(&self, path: &str) -> Option<&String> {
-        match path {
-            "demo.toml" => Some(&self.config),
-            "demo.labels" => Some(&self.labels),
-            _ => None,
-        }
+        Some(())
     }
 }
 
 impl TextFiles for Texts {
     fn read(&self, path: &str) -> Result<String, FileFault> {
-        match self.of_file(path) {
-            Some(text) => text.clone().map_err(|_| FileFault::Memory),
-            None => Err(FileFault::Missing),
-        }
+        let text = match path {
+            "demo.toml" => &self.config,
+            "demo.labels" => &self.labels,
+            _ => return Err(FileFault::Missing),
+        };
+        text.clone().map_err(|_| FileFault::Memory)
     }
-}
-
-/// Puts what is new in a text in place of what is old, which it has once.
-fn edit_text(alloc: Global, text: &mut String, old: &str, new: &str) -> Option<()> {
-    *text = with_edit(alloc, text.as_str(), old, new)?;
-    Some(())
 }
 
 /// The text with what is new in place of what is old, which it has once.
@@ -92,11 +116,4 @@ fn with_edit(alloc: Global, text: &str, old: &str, new: &str) -> Option<String> 
         return None;
     }
     format!(in alloc; "{before}{new}{after}").ok()
-}
-
-/// The text of a row, with its ends of lines and its copies spelt out.
-pub(crate) fn spelt(alloc: Global, row: &str) -> Option<String> {
-    let ended = row.replace(alloc, "\\n", "\n").ok()?;
-    let ended = ended.replace(alloc, "\\r", "\r").ok()?;
-    with_copies(alloc, ended.as_str())
 }
