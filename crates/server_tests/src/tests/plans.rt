@@ -5,6 +5,7 @@ use super::samples::{
     plan_of, started,
 };
 use config_reader::read_config;
+use cosem_data::cell::CellRef;
 use cosem_data::clients::ClientSet;
 use object_model::meter::Meter;
 use object_model::plan::Plan;
@@ -13,46 +14,51 @@ use std::alloc::Global;
 use std::process::Abort;
 use std::test::Fail;
 
-fn has_clients(rt: &impl Abort, plan: &Plan) -> Result<(), Fail> {
+/// The cells of the plan, and their values at the start.
+static CELLS: [CellRef; 3] = [
+    CellRef {
+        class_id: 3,
+        name: ENERGY,
+        index: 2,
+    },
+    CellRef {
+        class_id: 1,
+        name: ALARM,
+        index: 2,
+    },
+    CellRef {
+        class_id: 1,
+        name: DEVICE,
+        index: 2,
+    },
+];
+
+static VALUES: [&str; 3] = ["060001E240", "1100", "0900"];
+
+fn has_its_parts(rt: &impl Abort, alloc: Global, plan: &Plan) -> Result<(), Fail> {
     let reader = plan.client(READER).ok_or("no reader")?;
     assert_eq!(rt; reader.name(), b"reader".as_slice());
     assert!(rt; plan.client(NOBODY).is_none());
-    Ok(())
-}
-
-fn has_objects(rt: &impl Abort, plan: &Plan) -> Result<(), Fail> {
     let device = plan.object(2).ok_or("no third object")?;
     assert_eq!(rt; device.name(), DEVICE);
     assert!(rt; plan.object(3).is_none());
+    assert_eq!(rt; plan.cells(alloc)?.as_slice(), CELLS.as_slice());
     Ok(())
-}
-
-fn has_cells(rt: &impl Abort, alloc: Global, plan: &Plan) -> Result<(), Fail> {
-    let values = [cell(3, ENERGY, 2), cell(1, ALARM, 2), cell(1, DEVICE, 2)];
-    let cells = plan.cells(alloc)?;
-    assert_eq!(rt; cells.as_slice(), values.as_slice());
-    Ok(())
-}
-
-fn has_its_parts(rt: &impl Abort, alloc: Global, plan: &Plan) -> Result<(), Fail> {
-    has_clients(rt, plan)?;
-    has_objects(rt, plan)?;
-    has_cells(rt, alloc, plan)
 }
 
 /// Of an attribute that is no cell null-data is held.
 fn holds_the_start(rt: &impl Abort, alloc: Global, plan: &Plan, meter: &Meter) -> Result<(), Fail>
     requires { IsState plan.now meter.now }
 {
-    for (at, want) in [
-        (cell(3, ENERGY, 2), "060001E240"),
-        (cell(1, ALARM, 2), "1100"),
-        (cell(1, DEVICE, 2), "0900"),
-        (cell(1, ENERGY, 2), "00"),
-    ] {
-        is_written(rt, alloc, meter.value(alloc, plan, &at), want)?;
+    for (at, want) in CELLS.iter().zip(&VALUES) {
+        is_written(rt, alloc, meter.value(alloc, plan, at), want)?;
     }
-    Ok(())
+    is_written(
+        rt,
+        alloc,
+        meter.value(alloc, plan, &cell(1, ENERGY, 2)),
+        "00",
+    )
 }
 
 /// A copy of the meter holds the start too.
@@ -80,25 +86,21 @@ fn a_plan_is_as_configured(rt: HostRuntime) -> Result<(), Fail> {
     is_as_configured(&rt, rt.alloc(), &plan)
 }
 
-/// Whether a client is in the set, for public, reader, installer and manager; no other is.
-fn has_just(set: ClientSet, members: [bool; 4]) -> bool {
-    let found = [
-        set.has(PUBLIC),
-        set.has(READER),
-        set.has(INSTALLER),
-        set.has(MANAGER),
-    ];
-    found == members && !set.has(NOBODY)
+/// These clients are in the set, and no other of the plan.
+fn has_just(rt: &impl Abort, set: ClientSet, members: &[u8]) {
+    for client in PUBLIC..=NOBODY {
+        assert!(rt; set.has(client) == members.contains(&client), "{client}");
+    }
 }
 
 /// The device has a label of its own, and the alarm that of the policy.
 fn labels_each_cell(rt: &impl Abort, policy: &Policy) {
     let alarm = policy.label(&cell(1, ALARM, 2));
-    assert!(rt; has_just(alarm.influence, [false, false, false, true]));
-    assert!(rt; has_just(alarm.learn, [false, true, false, true]));
+    has_just(rt, alarm.influence, &[MANAGER]);
+    has_just(rt, alarm.learn, &[READER, MANAGER]);
     let device = policy.label(&cell(1, DEVICE, 2));
-    assert!(rt; has_just(device.influence, [false, false, true, false]));
-    assert!(rt; has_just(device.learn, [false, true, true, true]));
+    has_just(rt, device.influence, &[INSTALLER]);
+    has_just(rt, device.learn, &[READER, INSTALLER, MANAGER]);
 }
 
 #[test]

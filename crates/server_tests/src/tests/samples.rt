@@ -1,9 +1,9 @@
 ghost use Rattle.std.specs.Prelude.{IfOk};
 ghost use Rattle.meter_theory.specs.States.{IsState};
 
+use super::attributes;
 use config_reader::read_config;
 use cosem_axdr::limits::is_encoded_within;
-use cosem_axdr::reading::read_data;
 use cosem_axdr::writing::write_data;
 use cosem_data::cell::CellRef;
 use cosem_data::data::Data;
@@ -86,8 +86,7 @@ pub(super) fn written(rt: &impl Abort, alloc: Global, value: &Data) -> Result<St
 /// The value that this text is the encoding of, in hex.
 pub(super) fn value_of(alloc: Global, text: &str) -> Result<Data, Fail> {
     let bytes = hex::decode(alloc, text)?;
-    let (value, _) = read_data(alloc, &bytes)?;
-    Ok(value)
+    attributes::value_of(alloc, &bytes)
 }
 
 /// The value has this encoding, in upper case hex.

@@ -2,8 +2,7 @@ ghost use Rattle.std.specs.Prelude.{◌≡◌};
 
 use super::super::samples::{plan_of, started};
 use super::samples::{
-    AARE, CAPTURE, IS_CAPTURED, IS_SET, MANAGER, MANAGER_AARQ, READER, READER_AARQ, SET, TEXT,
-    is_answered,
+    AARE, CAPTURE, IS_CAPTURED, IS_SET, MANAGER, MANAGER_AARQ, READER, SET, TEXT, is_answered,
 };
 use acse_session::session::Session;
 use acse_session::solo::Solo;
@@ -29,10 +28,29 @@ static BUFFER_ROW: [u8; 104] = [
     0x62, 0x63,
 ];
 
+/// AARQs of the reader, with the password; the last two bytes are how many bytes of an APDU it takes.
+const TAKES_64: [u8; 56] = [
+    0x60, 0x36, 0xA1, 9, 6, 7, 0x60, 0x85, 0x74, 5, 8, 1, 1, 0x8A, 2, 7, 0x80, 0x8B, 7, 0x60, 0x85,
+    0x74, 5, 8, 2, 1, 0xAC, 0x0A, 0x80, 8, 0x31, 0x32, 0x33, 0x34, 0x35, 0x36, 0x37, 0x38, 0xBE,
+    0x10, 4, 0x0E, 1, 0, 0, 0, 6, 0x5F, 0x1F, 4, 0, 0, 0x7E, 0x1F, 0, 0x40,
+];
+
+const TAKES_1024: [u8; 56] = [
+    0x60, 0x36, 0xA1, 9, 6, 7, 0x60, 0x85, 0x74, 5, 8, 1, 1, 0x8A, 2, 7, 0x80, 0x8B, 7, 0x60, 0x85,
+    0x74, 5, 8, 2, 1, 0xAC, 0x0A, 0x80, 8, 0x31, 0x32, 0x33, 0x34, 0x35, 0x36, 0x37, 0x38, 0xBE,
+    0x10, 4, 0x0E, 1, 0, 0, 0, 6, 0x5F, 0x1F, 4, 0, 0, 0x7E, 0x1F, 4, 0,
+];
+
+const TAKES_65535: [u8; 56] = [
+    0x60, 0x36, 0xA1, 9, 6, 7, 0x60, 0x85, 0x74, 5, 8, 1, 1, 0x8A, 2, 7, 0x80, 0x8B, 7, 0x60, 0x85,
+    0x74, 5, 8, 2, 1, 0xAC, 0x0A, 0x80, 8, 0x31, 0x32, 0x33, 0x34, 0x35, 0x36, 0x37, 0x38, 0xBE,
+    0x10, 4, 0x0E, 1, 0, 0, 0, 6, 0x5F, 0x1F, 4, 0, 0, 0x7E, 0x1F, 0xFF, 0xFF,
+];
+
 /// How the buffer's 104,004 bytes go to a client.
 struct Sending {
-    /// What its AARQ says: the most bytes of an APDU that it takes.
-    max_pdu: u16,
+    /// Its AARQ, which says the most bytes of an APDU that it takes.
+    aarq: &'static [u8],
     /// The most bytes of an APDU that are sent to it.
     limit: usize,
     /// The number of blocks.
@@ -47,7 +65,7 @@ struct Sending {
 /// Nine bytes stand in front of the length. 1,926 times 54 bytes are all, and so are 102 times 1,012 and 780.
 static SENDINGS: [Sending; 3] = [
     Sending {
-        max_pdu: 64,
+        aarq: &TAKES_64,
         limit: 64,
         blocks: 1926,
         most: 54,
@@ -55,7 +73,7 @@ static SENDINGS: [Sending; 3] = [
         last_length: &[54],
     },
     Sending {
-        max_pdu: 1024,
+        aarq: &TAKES_1024,
         limit: 1024,
         blocks: 103,
         most: 1012,
@@ -63,7 +81,7 @@ static SENDINGS: [Sending; 3] = [
         last_length: &[0x82, 3, 0x0C],
     },
     Sending {
-        max_pdu: 65535,
+        aarq: &TAKES_65535,
         limit: 1024,
         blocks: 103,
         most: 1012,
@@ -93,15 +111,6 @@ fn is_block(apdu: &[u8], is_last: bool, number: u32, length: &[u8], raw: &[u8]) 
         },
         None => false,
     }
-}
-
-/// The reader's AARQ, by which it takes so many bytes of an APDU.
-fn aarq(max_pdu: u16) -> [u8; 56] {
-    let mut bytes = READER_AARQ;
-    let [high, low] = max_pdu.to_be_bytes();
-    bytes[54] = high;
-    bytes[55] = low;
-    bytes
 }
 
 /// A request for the block behind this one.
@@ -183,8 +192,7 @@ fn is_sent(
     requires reader_plan { asker.old.plan ≡ reader.old.plan }
     requires manager_plan { asker.old.plan ≡ manager.old.plan }
 {
-    let aarq = aarq(sending.max_pdu);
-    is_answered(rt, alloc, reader, asker, READER, &aarq, AARE)?;
+    is_answered(rt, alloc, reader, asker, READER, sending.aarq, AARE)?;
     assert!(rt; sending.most <= bytes.len());
     let (first, behind) = bytes.split_at(sending.most);
     is_sent_block(rt, alloc, reader, asker, sending, GET_BUFFER, (1, first))?;

@@ -45,13 +45,3 @@ fn other_texts_are_no_moments(rt: HostRuntime) {
         assert!(rt; Moment::read(text) == Err(BadMoment), "{text}");
     }
 }
-
-#[test]
-fn a_moment_is_written_as_it_is_read(rt: HostRuntime) -> Result<(), Fail> {
-    let last: Moment = "9999-12-31T23:59:59".parse()?;
-    assert!(rt; (last.year, last.month, last.day) == (9999, 12, 31));
-    assert!(rt; (last.hour, last.minute, last.second) == (23, 59, 59));
-    let text = format!(in rt.alloc(); "{last}")?;
-    assert!(rt; text.as_str() == "9999-12-31T23:59:59");
-    Ok(())
-}

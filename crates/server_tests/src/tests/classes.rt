@@ -1,11 +1,10 @@
 ghost use Rattle.std.specs.Prelude.{◌≡◌};
 
-use super::attributes::{Step, shows, take};
+use super::attributes::{Step, shows, take, value_of};
 use cosem_class::class::{ClassFault, InterfaceClass, Lent};
 use cosem_class::data1::{Data1, DataPart};
 use cosem_class::judge::judge_kind;
 use cosem_class::register::{Register, RegisterPart};
-use cosem_data::bytes::Bytes;
 use cosem_data::data::{Data, Items};
 use cosem_data::kind::Kind;
 use cosem_data::name::LogicalName;
@@ -20,45 +19,29 @@ const DEVICE: LogicalName = LogicalName([0, 0, 96, 1, 0, 255]);
 /// Total active energy import, as the OBIS table of IEC 62056-6-1 has it.
 const ENERGY: LogicalName = LogicalName([1, 0, 1, 8, 0, 255]);
 
-/// An octet-string of so many zeros.
-pub(super) fn zeros(alloc: Global, count: usize) -> Result<Data, Fail> {
-    Ok(Data::OctetString(Bytes::new(vec![in alloc; 0; count]?)))
-}
-
-/// So many arrays in one another, with null-data inside.
-fn nested(alloc: Global, depth: u16) -> Result<Data, Fail> {
-    let mut value = Data::NullData;
-    for _ in 0..depth {
-        value = Data::Array(Items::new(vec![in alloc; value]?));
-    }
-    Ok(value)
-}
-
-/// So many arrays in one another for the kind array, and else an octet-string of so many zeros.
-fn sized(alloc: Global, kind: Kind, size: u16) -> Result<Data, Fail> {
-    match kind {
-        Kind::Array => nested(alloc, size),
-        _ => zeros(alloc, usize::from(size)),
-    }
-}
-
-/// Kinds of cells, sizes, and what is judged of a value of this size.
-static LIMITS: [(Kind, u16, Result<(), ClassFault>); 5] = [
-    // One byte of tag and three of length, 82 03 FC.
-    (Kind::OctetString, 1020, Ok(())),
-    (Kind::OctetString, 1021, Err(ClassFault::Rule)),
-    (Kind::Array, 14, Ok(())),
-    (Kind::Array, 15, Err(ClassFault::Rule)),
-    // The tag is judged first.
-    (Kind::VisibleString, 1021, Err(ClassFault::Kind)),
+/// Arrays in one another, 14 and 15 of them, with null-data inside.
+static ARRAYS: [(&[u8], Result<(), ClassFault>); 2] = [
+    (
+        &[
+            1, 1, 1, 1, 1, 1, 1, 1, 1, 1, 1, 1, 1, 1, 1, 1, 1, 1, 1, 1, 1, 1, 1, 1, 1, 1, 1, 1, 0,
+        ],
+        Ok(()),
+    ),
+    (
+        &[
+            1, 1, 1, 1, 1, 1, 1, 1, 1, 1, 1, 1, 1, 1, 1, 1, 1, 1, 1, 1, 1, 1, 1, 1, 1, 1, 1, 1, 1,
+            1, 0,
+        ],
+        Err(ClassFault::Rule),
+    ),
 ];
 
-/// Values just within the limits may stand in a cell, and those just beyond may not.
+/// Arrays just within the limit may stand in a cell, and those just beyond may not. How long a string may be is stored in the cases.
 #[test]
-fn limits_are_met_exactly(rt: HostRuntime) -> Result<(), Fail> {
-    for (kind, size, want) in &LIMITS {
-        let judged = judge_kind(*kind, &sized(rt.alloc(), *kind, *size)?);
-        assert!(rt; judged == *want, "{size}");
+fn the_depth_of_a_cell_is_met_exactly(rt: HostRuntime) -> Result<(), Fail> {
+    for (bytes, want) in &ARRAYS {
+        let judged = judge_kind(Kind::Array, &value_of(rt.alloc(), bytes)?);
+        assert!(rt; judged == *want, "{bytes:?}");
     }
     Ok(())
 }
@@ -116,16 +99,21 @@ fn call(
     )
 }
 
+/// The double-long-unsigned 7, the default, and 8.
+const SEVEN: [u8; 5] = [0x06, 0, 0, 0, 7];
+
+const EIGHT: [u8; 5] = [0x06, 0, 0, 0, 8];
+
 static STEPS_OF_A_REGISTER: [Step<'static>; 8] = [
     Step::Shows(1, &[0x09, 0x06, 1, 0, 1, 8, 0, 255]),
     Step::Shows(3, &[0x02, 0x02, 0x0F, 0xFD, 0x16, 30]),
     Step::Hides(4),
-    Step::Writes(1, &[0x06, 0, 0, 0, 8], Err(ClassFault::NotSettable)),
-    Step::Writes(3, &[0x06, 0, 0, 0, 8], Err(ClassFault::NotSettable)),
+    Step::Writes(1, &EIGHT, Err(ClassFault::NotSettable)),
+    Step::Writes(3, &EIGHT, Err(ClassFault::NotSettable)),
     Step::Writes(2, &[0x05, 0, 0, 0, 8], Err(ClassFault::Kind)),
     // 123,457 is 0x1E241.
     Step::Shows(2, &[0x06, 0x00, 0x01, 0xE2, 0x41]),
-    Step::Writes(2, &[0x06, 0, 0, 0, 8], Ok(())),
+    Step::Writes(2, &EIGHT, Ok(())),
 ];
 
 /// Writes a register, and calls its methods: a reset puts the default.
@@ -137,9 +125,9 @@ fn writes_and_resets(
 ) -> Result<(), Fail> {
     take(rt, a, &lent(part), object, &STEPS_OF_A_REGISTER)?;
     assert!(rt; call(a, part, object, 2) == Err(ClassFault::NoIndex));
-    shows(rt, a, lent(part), object, 2, &[0x06, 0, 0, 0, 8])?;
+    shows(rt, a, lent(part), object, 2, &EIGHT)?;
     call(a, part, object, 1)?;
-    shows(rt, a, lent(part), object, 2, &[0x06, 0, 0, 0, 7])
+    shows(rt, a, lent(part), object, 2, &SEVEN)
 }
 
 #[test]

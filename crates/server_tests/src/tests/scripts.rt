@@ -99,7 +99,7 @@ static CALLS: [Call; 6] = [
 /// A call has its result.
 fn is_called(rt: &impl Abort, a: Global, part: &ScriptTablePart, call: &Call) -> Result<(), Fail> {
     let (method, bytes, want) = *call;
-    let argument = value_of(rt, a, bytes)?;
+    let argument = value_of(a, bytes)?;
     let done = ScriptTable.invoke(a, lent(part), method, &argument, Items::new(Vec::new(a)));
     assert!(rt; done == want, "{bytes:?}");
     Ok(())

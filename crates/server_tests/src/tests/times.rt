@@ -77,7 +77,7 @@ static OTHERS: [&[u8]; 5] = [
 #[test]
 fn elements_have_a_time_and_a_date(rt: HostRuntime) -> Result<(), Fail> {
     for bytes in OTHERS {
-        let value = value_of(&rt, rt.alloc(), bytes)?;
+        let value = value_of(rt.alloc(), bytes)?;
         assert!(rt; !is_execution_time(&value), "{bytes:?}");
     }
     Ok(())

@@ -8,10 +8,11 @@ use std::process::Abort;
 use std::test::Fail;
 
 /// The value that these bytes encode, to their end.
-pub(crate) fn value_of(rt: &impl Abort, alloc: Global, bytes: &[u8]) -> Result<Data, Fail> {
-    let (value, used) = read_data(alloc, bytes)?;
-    assert!(rt; used == bytes.len(), "{bytes:?}");
-    Ok(value)
+pub(crate) fn value_of(alloc: Global, bytes: &[u8]) -> Result<Data, Fail> {
+    match read_data(alloc, bytes)? {
+        (value, used) if used == bytes.len() => Ok(value),
+        _ => Err("bytes behind a value".into()),
+    }
 }
 
 /// The value is the one that these bytes encode.
@@ -21,7 +22,7 @@ pub(crate) fn is_encoded(
     value: &Data,
     bytes: &[u8],
 ) -> Result<(), Fail> {
-    let want = value_of(rt, alloc, bytes)?;
+    let want = value_of(alloc, bytes)?;
     assert!(rt; *value == want, "{value:?}");
     Ok(())
 }
@@ -68,7 +69,7 @@ pub(crate) fn take<L: Lend, C: InterfaceClass<L>>(
     for step in steps {
         let (index, fault, want) = match step {
             Step::Writes(index, bytes, want) => {
-                let value = value_of(rt, a, bytes)?;
+                let value = value_of(a, bytes)?;
                 let done = object.write(lent.again(), *index, value);
                 (*index, done.err(), want.err())
             }

@@ -120,7 +120,7 @@ fn fixes(rt: &impl Abort, a: Global, part: &Part, fixed: &[Fixed]) -> Result<(),
 /// The part judges values so.
 fn judges(rt: &impl Abort, a: Global, part: &Part, judged: &[Judged]) -> Result<(), Fail> {
     for (index, bytes, want) in judged {
-        let judged = part.judge(Kind::DoubleLongUnsigned, *index, &value_of(rt, a, bytes)?);
+        let judged = part.judge(Kind::DoubleLongUnsigned, *index, &value_of(a, bytes)?);
         assert!(rt; judged == *want, "{bytes:?}");
     }
     Ok(())

@@ -1,5 +1,5 @@
 ghost use Rattle.std.specs.Prelude.{◌≡◌, length, IfOk, OnOk};
-ghost use Rattle.meter_tests.specs.Profiles.{MayStandIn};
+ghost use Rattle.server_tests.specs.Profiles.{MayStandIn};
 
 use super::attributes::{Step, shows, take};
 use civil_moment::moment::Moment;

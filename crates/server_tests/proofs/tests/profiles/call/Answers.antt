@@ -4,9 +4,9 @@ use Rattle.std.proofs.lemmas.Bool.{eqb-true}
 use Rattle.meter_theory.specs.Value.{array_of, counter}
 use Rattle.class_profile.specs.declared.profile.Profile.{Profile}
 use Rattle.class_profile.specs.declared.profile.ProfilePart.{ProfilePart}
-use Rattle.meter_tests.proofs.Called.{buffer_kept, count_kept, either}
-use Rattle.meter_tests.specs.Profiles.{MayStandIn}
-use Rattle.meter_tests.proofs.tests.profiles.call.Goals as goal
+use Rattle.server_tests.proofs.Called.{buffer_kept, count_kept, either}
+use Rattle.server_tests.specs.Profiles.{MayStandIn}
+use Rattle.server_tests.proofs.tests.profiles.call.Goals as goal
 
 pub returns : goal.returns
 returns c =
