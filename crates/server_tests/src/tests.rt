@@ -20,5 +20,4 @@ mod sessions;
 mod slow;
 mod steps;
 mod tables;
-mod times;
 mod views;

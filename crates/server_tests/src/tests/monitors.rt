@@ -1,4 +1,4 @@
-use super::attributes::{Step, shows, take};
+use super::attributes::{Step, take};
 use super::scripts::SCRIPTS;
 use class_control::monitor::{Monitor, Watch};
 use class_control::parts::MonitorPart;
@@ -10,7 +10,6 @@ use cosem_data::kind::Kind;
 use cosem_data::name::LogicalName;
 use meter_theory::refs::{ScriptRef, UpDown};
 use std::alloc::Global;
-use std::process::Abort;
 use std::test::Fail;
 
 /// A register monitor.
@@ -102,49 +101,9 @@ static STEPS: [Step<'static>; 15] = [
     Step::Shows(2, &[0x01, 0x01, 0x06, 0, 0, 0, 7]),
 ];
 
-/// What the value of energy comes to, one after the other, and what is due then: nothing was seen before the first, 100 lies on the
-/// side above, and each is remembered.
-static CROSSINGS: [(u32, &[ScriptRef]); 8] = [
-    (99, &[]),
-    (99, &[]),
-    (100, &[ABOVE]),
-    (101, &[]),
-    (100, &[]),
-    (99, &[BELOW]),
-    (4_000_000_000, &[ABOVE]),
-    (0, &[BELOW]),
-];
-
-/// Scripts are due as the value crosses the threshold, and each value is remembered.
-fn crosses_the_threshold(
-    rt: &impl Abort,
-    a: Global,
-    part: &MonitorPart,
-    object: &mut Monitor,
-) -> Result<(), Fail> {
-    for (number, want) in &CROSSINGS {
-        let due = object.due(a, part, &Data::DoubleLongUnsigned(*number))?;
-        assert!(rt; due.as_slice() == *want, "at {number}");
-        let _before = object.remember(Data::DoubleLongUnsigned(*number));
-    }
-    Ok(())
-}
-
-/// Crosses the threshold, which that leaves, and then reads the monitor and writes its thresholds.
-fn crosses_and_is_written(
-    rt: &impl Abort,
-    a: Global,
-    part: &MonitorPart,
-    object: &mut Monitor,
-) -> Result<(), Fail> {
-    crosses_the_threshold(rt, a, part, object)?;
-    shows(rt, a, watch(part), object, 2, &ONE_THRESHOLD)?;
-    take(rt, a, &watch(part), object, &STEPS)
-}
-
 #[test]
-fn a_monitor_is_crossed_read_and_written(rt: HostRuntime) -> Result<(), Fail> {
+fn a_monitor_is_read_and_its_thresholds_written(rt: HostRuntime) -> Result<(), Fail> {
     let a = rt.alloc();
     let part = monitor_part(a)?;
-    crosses_and_is_written(&rt, a, &part, &mut monitor(a, &part)?)
+    take(&rt, a, &watch(&part), &mut monitor(a, &part)?, &STEPS)
 }

@@ -1,10 +1,12 @@
 use super::attributes::{Step, take};
 use super::scripts::SCRIPTS;
-use super::times::{MIDNIGHT, MONTH_END, element};
 use class_control::parts::SchedulePart;
 use class_control::schedule::Schedule;
 use cosem_class::class::{ClassFault, Lent};
-use cosem_class::shapes::array;
+use cosem_class::shapes::{array, structure};
+use cosem_data::bytes::Bytes;
+use cosem_data::data::Data;
+use cosem_data::memory::Memory;
 use cosem_data::name::LogicalName;
 use meter_theory::refs::ScriptRef;
 use std::alloc::Global;
@@ -12,6 +14,19 @@ use std::test::Fail;
 
 /// A single action schedule.
 const SCHEDULE: LogicalName = LogicalName([0, 0, 15, 0, 0, 255]);
+
+/// Midnight, hundredths not specified.
+const MIDNIGHT: [u8; 4] = [0, 0, 0, 0xFF];
+
+/// The last day of each month.
+const MONTH_END: [u8; 5] = [0xFF, 0xFF, 0xFF, 0xFE, 0xFF];
+
+/// An element of execution_time.
+fn element(alloc: Global, time: &[u8], date: &[u8]) -> Result<Data, Memory> {
+    let time = Data::OctetString(Bytes::new(Vec::from_slice(alloc, time)?));
+    let date = Data::OctetString(Bytes::new(Vec::from_slice(alloc, date)?));
+    structure(alloc, [time, date])
+}
 
 /// Script 3 is run at the end of each month: of type 1, one time, with wildcards.
 pub(crate) fn schedule_part(alloc: Global) -> Result<SchedulePart, Fail> {
