@@ -1,3 +1,4 @@
 mod holding;
 mod samples;
 mod sessions;
+mod threads;
