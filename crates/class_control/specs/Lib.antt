@@ -10,3 +10,4 @@ pub mod MonitorLaws
 pub mod DueScript
 pub mod ScheduleClass
 pub mod ScheduleLaws
+pub mod MonitorChanges

@@ -57,6 +57,13 @@ impl Clock {
         previous
     }
 
+    /// Puts the previous moment back.
+    pub fn undo(&mut self, held: Moment)
+        ensures { self.new.time ≡ held }
+    {
+        self.time = held;
+    }
+
     /// Goes on by a second; at the last moment it stays.
     pub fn tick(&mut self)
         ensures { self.new.time ≡ theory.next_second self.old.time }

@@ -7,6 +7,7 @@ ghost use Rattle.cosem_class.specs.CellSets.{has};
 ghost use Rattle.cosem_class.specs.Objects.{cells_after};
 ghost use Rattle.cosem_class.specs.declared.class.Op.TheVariants as ops;
 ghost use Rattle.class_control.specs.MonitorClass.{MonitorFixed, monitor_fixed, monitor_cells, monitor_reading, monitor_refusal, monitor_new_value, monitor_touched, MonitorMeetsRule};
+ghost use Rattle.class_control.specs.MonitorChanges.{seen_before, thresholds_before};
 ghost use Rattle.class_control.specs.MonitorLaws.{monitor_depends_only_on_sources, monitor_writes_its_value, monitor_keeps_rules};
 
 use crate::due::due_scripts;
@@ -44,6 +45,15 @@ pub struct Monitor {
     /// The inner cell, which no request names: the monitored value at the last evaluation, null-data before the first (own
     /// profile).
     pub seen: Data,
+}
+
+/// What an operation changed of a register monitor.
+#[derive(Drop)]
+pub enum MonitorChange {
+    /// The thresholds before.
+    Thresholds(Data),
+    /// What it saw last before.
+    Seen(Data),
 }
 
 impl Monitor {
@@ -98,6 +108,17 @@ impl Monitor {
         ensures previous { tree result ≡ tree self.old.thresholds }
     {
         put_into(self, watch, index, given)
+    }
+
+    /// Puts back what was there before.
+    pub fn undo(&mut self, change: MonitorChange)
+        ensures thresholds { tree self.new.thresholds ≡ thresholds_before change (tree self.old.thresholds) }
+        ensures seen { tree self.new.seen ≡ seen_before change (tree self.old.seen) }
+    {
+        match change {
+            MonitorChange::Thresholds(held) => self.thresholds = held,
+            MonitorChange::Seen(held) => self.seen = held,
+        }
     }
 
     /// Remembers the monitored value as the one of the last evaluation, and returns the one before (own profile). It takes

@@ -74,6 +74,13 @@ impl Schedule {
         put_into(self, lent, index, given)
     }
 
+    /// Puts the previous times back.
+    pub fn undo(&mut self, held: Data)
+        ensures { tree self.new.times ≡ tree held }
+    {
+        self.times = held;
+    }
+
     /// Whether the script is to be run at the moment: some element of execution_time names it (IEC 62056-6-2, Single action
     /// schedule).
     pub fn is_due(&self, moment: Moment) -> bool

@@ -135,6 +135,17 @@ pub struct Cleared {
     pub entries_in_use: u32,
 }
 
+/// What an operation changed of a profile, and what takes it back.
+#[derive(Drop)]
+pub enum ProfileChange {
+    /// The capture_period before.
+    Period(u32),
+    /// A capture.
+    Captured(Captured),
+    /// A reset.
+    Cleared(Cleared),
+}
+
 impl Profile {
     /// Class 7, Profile generic, version 1, with eight attributes and two methods, reset and capture (IEC 62056-6-2).
     pub const INTERFACE: Interface = Interface {
@@ -261,6 +272,21 @@ impl Profile {
     {
         self.buffer = cleared.buffer;
         self.entries_in_use = cleared.entries_in_use;
+    }
+}
+
+impl Profile {
+    ghost use Rattle.class_profile.specs.ProfileView.{before_change};
+
+    /// Takes a change back.
+    pub fn undo(&mut self, change: ProfileChange)
+        ensures { self.new ≡ before_change change self.old }
+    {
+        match change {
+            ProfileChange::Period(period) => self.capture_period = period,
+            ProfileChange::Captured(captured) => self.take_back(captured),
+            ProfileChange::Cleared(cleared) => self.restore(cleared),
+        }
     }
 }
 

@@ -77,6 +77,13 @@ impl Data1 {
     {
         put_into(self, lent, index, given)
     }
+
+    /// Puts the previous value back.
+    pub fn undo(&mut self, held: Data)
+        ensures { tree self.new.value ≡ tree held }
+    {
+        self.value = held;
+    }
 }
 
 impl ClassPart for DataPart {

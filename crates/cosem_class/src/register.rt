@@ -89,6 +89,13 @@ impl Register {
     {
         put_into(self, lent, index, given)
     }
+
+    /// Puts the previous value back.
+    pub fn undo(&mut self, held: Data)
+        ensures { tree self.new.value ≡ tree held }
+    {
+        self.value = held;
+    }
 }
 
 impl ClassPart for RegisterPart {

@@ -1,11 +1,10 @@
 -- What is added to effects, and which effects methods, scripts and a meter's own steps have.
-use Rattle.std.specs.Prelude.{◌≡◌, ℕ, ◌+◌, ◌<◌, ◌==◌, Bool, true, false, ◌&&◌, cond, List, [], ◌∷◌, ◌++◌, map, flat_map, find, take, length, get_or, Option, Some, None, option_map, option_and_then, Ok, Err, is_ok, is_some, if◌then◌else◌}
+use Rattle.std.specs.Prelude.{◌≡◌, ℕ, ◌+◌, ◌<◌, ◌==◌, Bool, true, false, ◌&&◌, cond, List, [], ◌∷◌, ◌++◌, map, flat_map, find, take, length, get_or, Option, Some, None, option_map, option_and_then, Ok, Err, is_ok, if◌then◌else◌}
 use Rattle.std.proofs.Common.{refl, sym, ap, ap₂, subst, ◌∙◌, zero, suc, arith, inl, inr}
-use Rattle.std.proofs.lemmas.Bool.{and_parts, or_right, cond-true, cond-false}
-use Rattle.std.proofs.lemmas.List.{map_more, map_push, append_assoc, append-nil, flat_map_more}
+use Rattle.std.proofs.lemmas.Bool.{and_parts, cond-true, cond-false}
+use Rattle.std.proofs.lemmas.List.{map_more, map_push, append_assoc, flat_map_more}
 use Rattle.cosem_data.specs.Tree.{Tree, array, no_trees}
-use Rattle.cosem_data.specs.declared.kind.Kind.TheVariants.{NullData}
-use Rattle.cosem_data.specs.Kinds.{kind_of, same_kind}
+use Rattle.cosem_data.specs.Kinds.{kind_of}
 use Rattle.cosem_data.specs.View.{tree}
 use Rattle.cosem_data.specs.declared.data.Data.{Data}
 use Rattle.cosem_data.specs.declared.cell.CellRef.{CellRef}
@@ -19,13 +18,12 @@ use Rattle.meter_theory.specs.declared.refs.UpDown.{UpDown}
 use Rattle.meter_theory.specs.Rights.{Argument, Given, has_valid_tag, script_number}
 use Rattle.meter_theory.proofs.Held.{cell_held}
 use Rattle.meter_theory.proofs.Rights.{ruled-cell}
-use Rattle.class_control.specs.MonitorClass.{may_be_seen}
 use Rattle.meter_theory.specs.declared.access.AccessCode.{AccessCode}
 use Rattle.meter_theory.specs.declared.access.AccessCode.TheVariants as codes
 use Rattle.meter_theory.specs.Plan.{Plan, Object, Script, Part, Data1, Register, ProfileGeneric, Clock, ScriptTable, RegisterMonitor, SingleActionSchedule, class_of, object_at, rule_in, rule_of, register_value, capture_period, start_values, thresholds, seen}
 use Rattle.meter_theory.specs.Sound.{IsSound, IsSoundPart}
 use Rattle.meter_theory.specs.State.{State, keys, value}
-use Rattle.meter_theory.specs.States.{IsState, IsSeen, IsRemembered, Holds, Fits, MayStand}
+use Rattle.meter_theory.specs.States.{IsState, IsRemembered, Fits, MayStand}
 use Rattle.meter_theory.specs.Times.{Moment, is_capture_due}
 use Rattle.meter_theory.specs.Value.{Rule, OfKind, Thresholds, meets, valid_tag, valid_parts, is_within_limits, elements, count_of}
 use Rattle.meter_theory.specs.Steps as theory

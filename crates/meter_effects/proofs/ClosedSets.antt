@@ -16,7 +16,7 @@ use Rattle.meter_theory.specs.Steps.{Captures, captures_of, capture, clear, kept
 use Rattle.meter_theory.specs.declared.flow.Cause.TheVariants.{Captured}
 use Rattle.meter_theory.specs.Edges.{IsClosed, EdgeIn, edge}
 use Rattle.cosem_class.specs.declared.class.Op.{Op}
-use Rattle.cosem_class.specs.declared.class.Op.TheVariants.{Write, Invoke, Remember}
+use Rattle.cosem_class.specs.declared.class.Op.TheVariants.{Invoke}
 use Rattle.cosem_class.specs.DataClass.{DataFixed, data_touched, data_new_value}
 use Rattle.cosem_class.specs.RegisterClass.{RegisterFixed, register_touched, register_new_value}
 use Rattle.class_profile.specs.ProfileClass.{ProfileFixed, profile_touched, profile_own_sources, profile_row_cells, profile_new_value}

@@ -1,19 +1,18 @@
 -- Effects one after another, and taken back.
-use Rattle.std.proofs.Common.{zero, suc, inl, arith, ◌≡◌, ℕ, ◌<◌, ◌+◌, List, [], ◌∷◌, ◌++◌, map, take, length, get_or, refl, sym, ap, ap₂, subst, ◌∙◌}
+use Rattle.std.proofs.Common.{inl, ◌≡◌, List, [], ◌∷◌, ◌++◌, refl, ap, ◌∙◌}
 use Rattle.std.specs.Prelude.{Result, Ok, Err, is_ok, if◌then◌else◌}
-use Rattle.std.proofs.lemmas.List.{map_more}
 use Rattle.meter_theory.specs.Plan.{Plan, buffer, entries_in_use}
 use Rattle.meter_theory.specs.States.{Fits}
 use Rattle.meter_theory.specs.State.{State, keys, put}
-use Rattle.meter_theory.specs.Steps as theory
-use Rattle.meter_theory.proofs.Agreement.{effects-append}
 use Rattle.meter_theory.proofs.State.{keys-put}
-use Rattle.object_model.specs.EffectView.{effect_of, MayTake, MayTakeAll}
+use Rattle.object_model.specs.EffectView.{effect_of, MayTake}
 use Rattle.object_model.specs.Undone.{undone, all_undone}
 use Rattle.object_model.specs.declared.effect.Effect.{Effect}
 use Rattle.object_model.specs.declared.effect.Effect.TheVariants as effects
 use Rattle.object_model.specs.declared.undo.Change.{Change}
 use Rattle.object_model.specs.declared.undo.Change.TheVariants as changes
+use Rattle.class_control.specs.declared.monitor.MonitorChange.TheVariants as monitors
+use Rattle.class_profile.specs.declared.profile.ProfileChange.TheVariants as profiles
 use Rattle.object_model.specs.declared.undo.Undo.{Undo}
 
 -- the last effect is taken back first
@@ -28,13 +27,13 @@ keys-undone undo s = at undo.change
     at : (change : Change) → keys (undone (record { name = undo.name; change = change }) s) ≡ keys s
     at (changes.Data held) = keys-put s _ _
     at (changes.Register held) = keys-put s _ _
-    at (changes.Period held) = keys-put s _ _
+    at (changes.ProfileGeneric (profiles.Period held)) = keys-put s _ _
     at (changes.Clock held) = keys-put s _ _
-    at (changes.Captured c) = keys-put (put s (buffer undo.name) _) (entries_in_use undo.name) _ ∙ keys-put s _ _
-    at (changes.Cleared c) = keys-put (put s (buffer undo.name) _) (entries_in_use undo.name) _ ∙ keys-put s _ _
-    at (changes.Thresholds held) = keys-put s _ _
-    at (changes.Seen held) = keys-put s _ _
-    at (changes.Times held) = keys-put s _ _
+    at (changes.ProfileGeneric (profiles.Captured c)) = keys-put (put s (buffer undo.name) _) (entries_in_use undo.name) _ ∙ keys-put s _ _
+    at (changes.ProfileGeneric (profiles.Cleared c)) = keys-put (put s (buffer undo.name) _) (entries_in_use undo.name) _ ∙ keys-put s _ _
+    at (changes.RegisterMonitor (monitors.Thresholds held)) = keys-put s _ _
+    at (changes.RegisterMonitor (monitors.Seen held)) = keys-put s _ _
+    at (changes.SingleActionSchedule held) = keys-put s _ _
 
 -- and keeps the kinds
 pub may_take-fits : (P : Plan) (e : Effect) → MayTake P e → Fits P (effect_of e)

@@ -20,6 +20,8 @@ use Rattle.object_model.specs.declared.stored.Cells.TheVariants as cells
 use Rattle.object_model.specs.declared.stored.Stored.{Stored}
 use Rattle.object_model.specs.declared.undo.Change.{Change}
 use Rattle.object_model.specs.declared.undo.Change.TheVariants as changes
+use Rattle.class_control.specs.declared.monitor.MonitorChange.TheVariants as monitors
+use Rattle.class_profile.specs.declared.profile.ProfileChange.TheVariants as profiles
 use Rattle.object_model.specs.Stored.{pairs_of, stored_pairs, stores}
 use Rattle.object_model.specs.Undone.{change_undone, cell_changed}
 use Rattle.object_model.proofs.ByObject.{value-first, value-second}
@@ -134,15 +136,15 @@ undone-between : (n : LogicalName) (change : Change) (a t b : State) → has (ce
     change_undone n change (a ++ (t ++ b)) ≡ a ++ (change_undone n change t ++ b)
 undone-between n (changes.Data held) a t b lacks there count = put-between a t b _ (tree held) lacks there
 undone-between n (changes.Register held) a t b lacks there count = put-between a t b _ (tree held) lacks there
-undone-between n (changes.Period held) a t b lacks there count = put-between a t b _ (counter held) lacks there
+undone-between n (changes.ProfileGeneric (profiles.Period held)) a t b lacks there count = put-between a t b _ (counter held) lacks there
 undone-between n (changes.Clock held) a t b lacks there count = put-between a t b _ (clock_value held) lacks there
-undone-between n (changes.Captured c) a t b lacks there count =
+undone-between n (changes.ProfileGeneric (profiles.Captured c)) a t b lacks there count =
     both-between a t b n (λ v. array_of (rows_before (option_map tree c.dropped) (elements v))) (λ w. counter c.entries_in_use) lacks (count refl).0 there (count refl).1
-undone-between n (changes.Cleared c) a t b lacks there count =
+undone-between n (changes.ProfileGeneric (profiles.Cleared c)) a t b lacks there count =
     both-between a t b n (λ v. array_of c.buffer) (λ w. counter c.entries_in_use) lacks (count refl).0 there (count refl).1
-undone-between n (changes.Thresholds held) a t b lacks there count = put-between a t b _ (tree held) lacks there
-undone-between n (changes.Seen held) a t b lacks there count = put-between a t b _ (tree held) lacks there
-undone-between n (changes.Times held) a t b lacks there count = put-between a t b _ (tree held) lacks there
+undone-between n (changes.RegisterMonitor (monitors.Thresholds held)) a t b lacks there count = put-between a t b _ (tree held) lacks there
+undone-between n (changes.RegisterMonitor (monitors.Seen held)) a t b lacks there count = put-between a t b _ (tree held) lacks there
+undone-between n (changes.SingleActionSchedule held) a t b lacks there count = put-between a t b _ (tree held) lacks there
 
 -- what takes a change of the object back takes back that of the whole
 pub undone-in : (ms : List Stored) (x : CellRef) (k : ℕ) (d m : Stored) (n : LogicalName) (change : Change) → Split ms x k d → cell_changed n change ≡ x → keys (stored_pairs m) ≡ keys (stored_pairs (get_or ms k d)) →
@@ -188,7 +190,14 @@ on_err (Err e) q = q
 
 pub changed-name : (n : LogicalName) (change : Change) → (cell_changed n change).name ≡ n
 changed-name n (changes.Data held) = refl
-changed-name n change = refl
+changed-name n (changes.Register held) = refl
+changed-name n (changes.ProfileGeneric (profiles.Period held)) = refl
+changed-name n (changes.ProfileGeneric (profiles.Captured c)) = refl
+changed-name n (changes.ProfileGeneric (profiles.Cleared c)) = refl
+changed-name n (changes.Clock held) = refl
+changed-name n (changes.RegisterMonitor (monitors.Thresholds held)) = refl
+changed-name n (changes.RegisterMonitor (monitors.Seen held)) = refl
+changed-name n (changes.SingleActionSchedule held) = refl
 
 -- a cell that nothing stores can't be put into
 pub absent : (ms : List Stored) (x : CellRef) (v : Tree) → position_from (stores x) 0 ms ≡ None → put (flat_map stored_pairs ms) x v ≡ flat_map stored_pairs ms
@@ -208,15 +217,15 @@ count-nowhere (m ∷ ms) n start e = at (stores (buffer n) m) (count-with_rows n
 pub undone-nowhere : (ms : List Stored) (n : LogicalName) (change : Change) → position_from (stores (cell_changed n change)) 0 ms ≡ None → change_undone n change (flat_map stored_pairs ms) ≡ flat_map stored_pairs ms
 undone-nowhere ms n (changes.Data held) e = absent ms _ (tree held) e
 undone-nowhere ms n (changes.Register held) e = absent ms _ (tree held) e
-undone-nowhere ms n (changes.Period held) e = absent ms _ (counter held) e
+undone-nowhere ms n (changes.ProfileGeneric (profiles.Period held)) e = absent ms _ (counter held) e
 undone-nowhere ms n (changes.Clock held) e = absent ms _ (clock_value held) e
-undone-nowhere ms n (changes.Captured c) e =
+undone-nowhere ms n (changes.ProfileGeneric (profiles.Captured c)) e =
     ap (λ s. put s (entries_in_use n) (counter c.entries_in_use)) (absent ms (buffer n) _ e) ∙ absent ms (entries_in_use n) (counter c.entries_in_use) (count-nowhere ms n 0 e)
-undone-nowhere ms n (changes.Cleared c) e =
+undone-nowhere ms n (changes.ProfileGeneric (profiles.Cleared c)) e =
     ap (λ s. put s (entries_in_use n) (counter c.entries_in_use)) (absent ms (buffer n) _ e) ∙ absent ms (entries_in_use n) (counter c.entries_in_use) (count-nowhere ms n 0 e)
-undone-nowhere ms n (changes.Thresholds held) e = absent ms _ (tree held) e
-undone-nowhere ms n (changes.Seen held) e = absent ms _ (tree held) e
-undone-nowhere ms n (changes.Times held) e = absent ms _ (tree held) e
+undone-nowhere ms n (changes.RegisterMonitor (monitors.Thresholds held)) e = absent ms _ (tree held) e
+undone-nowhere ms n (changes.RegisterMonitor (monitors.Seen held)) e = absent ms _ (tree held) e
+undone-nowhere ms n (changes.SingleActionSchedule held) e = absent ms _ (tree held) e
 
 pub clear-nowhere : (ms : List Stored) (n : LogicalName) → position_from (stores (buffer n)) 0 ms ≡ None → clear (flat_map stored_pairs ms) n ≡ flat_map stored_pairs ms
 clear-nowhere ms n e = ap (λ s. put s (entries_in_use n) (counter 0)) (absent ms (buffer n) (array no_trees) e) ∙ absent ms (entries_in_use n) (counter 0) (count-nowhere ms n 0 e)

@@ -24,6 +24,8 @@ use Rattle.object_model.specs.declared.stored.Cells.TheVariants as cells_of
 use Rattle.object_model.specs.declared.stored.Stored.{Stored}
 use Rattle.object_model.specs.declared.undo.Change.{Change}
 use Rattle.object_model.specs.declared.undo.Change.TheVariants as changes
+use Rattle.class_control.specs.declared.monitor.MonitorChange.TheVariants as monitors
+use Rattle.class_profile.specs.declared.profile.ProfileChange.TheVariants as profiles
 use Rattle.object_model.specs.Stored.{pairs_of, stored_pairs, inner_pairs, captured}
 use Rattle.object_model.specs.Undone.{change_undone}
 use Rattle.object_model.proofs.ByObject.{value-second}
@@ -75,13 +77,13 @@ clock-apart n = and_right (same_name inner_clock.name n) false refl
 pub inner_undone : (s : State) (i : Option Moment) (n : LogicalName) (change : Change) → change_undone n change (s ++ inner_pairs i) ≡ change_undone n change s ++ inner_pairs i
 inner_undone s i n (changes.Data held) = inner_put s i _ (tree held) refl
 inner_undone s i n (changes.Register held) = inner_put s i _ (tree held) refl
-inner_undone s i n (changes.Period held) = inner_put s i _ (counter held) refl
+inner_undone s i n (changes.ProfileGeneric (profiles.Period held)) = inner_put s i _ (counter held) refl
 inner_undone s i n (changes.Clock held) = inner_put s i _ (clock_value held) (clock-apart n)
-inner_undone s i n (changes.Captured c) = inner_both s i n (λ v. array_of (rows_before (option_map tree c.dropped) (elements v))) (λ w. counter c.entries_in_use)
-inner_undone s i n (changes.Cleared c) = inner_both s i n (λ v. array_of c.buffer) (λ w. counter c.entries_in_use)
-inner_undone s i n (changes.Thresholds held) = inner_put s i _ (tree held) refl
-inner_undone s i n (changes.Seen held) = inner_put s i _ (tree held) refl
-inner_undone s i n (changes.Times held) = inner_put s i _ (tree held) refl
+inner_undone s i n (changes.ProfileGeneric (profiles.Captured c)) = inner_both s i n (λ v. array_of (rows_before (option_map tree c.dropped) (elements v))) (λ w. counter c.entries_in_use)
+inner_undone s i n (changes.ProfileGeneric (profiles.Cleared c)) = inner_both s i n (λ v. array_of c.buffer) (λ w. counter c.entries_in_use)
+inner_undone s i n (changes.RegisterMonitor (monitors.Thresholds held)) = inner_put s i _ (tree held) refl
+inner_undone s i n (changes.RegisterMonitor (monitors.Seen held)) = inner_put s i _ (tree held) refl
+inner_undone s i n (changes.SingleActionSchedule held) = inner_put s i _ (tree held) refl
 
 -- The keys
 

@@ -10,11 +10,21 @@ use Rattle.cosem_data.proofs.Same.{same_cell-true, same_name-from}
 use Rattle.meter_theory.specs.State.{State, keys, value, put}
 use Rattle.meter_theory.specs.Plan.{buffer, capture_period, entries_in_use, thresholds, seen}
 use Rattle.cosem_data.specs.TreeCode.{parts-trees}
-use Rattle.meter_theory.specs.Value.{array_of, elements}
+use Rattle.meter_theory.specs.Value.{array_of, counter, elements}
 use Rattle.class_profile.specs.Reversal.{rows_before}
 use Rattle.object_model.specs.declared.stored.Cells.{Cells}
 use Rattle.object_model.specs.declared.stored.Cells.TheVariants as cells
 use Rattle.object_model.specs.declared.stored.Stored.{Stored}
+use Rattle.std.specs.Prelude.{option_map}
+use Rattle.cosem_data.specs.View.{tree}
+use Rattle.class_control.specs.declared.monitor.MonitorChange.{MonitorChange}
+use Rattle.class_control.specs.declared.monitor.MonitorChange.TheVariants as monitors
+use Rattle.class_control.specs.MonitorChanges.{seen_before, thresholds_before}
+use Rattle.class_profile.specs.declared.profile.Profile.{Profile}
+use Rattle.class_profile.specs.declared.profile.ProfileChange.{ProfileChange}
+use Rattle.class_profile.specs.declared.profile.ProfileChange.TheVariants as profiles
+use Rattle.class_profile.specs.ProfileView.{before_change}
+use Rattle.object_model.specs.Undone.{monitor_undone, profile_undone}
 use Rattle.object_model.specs.Stored.{pairs_of, stored_pairs, stores}
 use Rattle.object_model.proofs.ByObject.{list_any-keys, one, same_cell-turned, same_cell-apart, value-absent}
 
@@ -118,6 +128,31 @@ undone-captured n rows period in_use count dropped s is =
     (ap elements (value-buffer n (array_of rows) period in_use) ∙ parts-trees rows)
     ∙ ap (λ t. put t (entries_in_use n) count) (put-buffer n (array_of rows) period in_use (array_of (rows_before dropped rows)))
     ∙ put-in_use n (array_of (rows_before dropped rows)) period in_use count
+
+pub put-period : (n : LogicalName) (rows period in_use given : Tree) →
+    put ((buffer n, rows) ∷ (capture_period n, period) ∷ (entries_in_use n, in_use) ∷ []) (capture_period n) given ≡ (buffer n, rows) ∷ (capture_period n, given) ∷ (entries_in_use n, in_use) ∷ []
+put-period n rows period in_use given = rw (same_name-from n n refl) refl
+
+pub put-thresholds : (n : LogicalName) (limits last given : Tree) → put ((thresholds n, limits) ∷ (seen n, last) ∷ []) (thresholds n) given ≡ (thresholds n, given) ∷ (seen n, last) ∷ []
+put-thresholds n limits last given = rw (same_name-from n n refl) refl
+
+-- what the class puts back is what the change found
+
+pub profile-restored : (n : LogicalName) (change : ProfileChange) (p : Profile) →
+    pairs_of n (cells.ProfileGeneric (before_change change p)) ≡ profile_undone n change (pairs_of n (cells.ProfileGeneric p))
+profile-restored n (profiles.Period held) p = sym (put-period n (array_of p.buffer) (counter p.capture_period) (counter p.entries_in_use) (counter held))
+profile-restored n (profiles.Captured c) p =
+    sym (undone-captured n p.buffer (counter p.capture_period) (counter p.entries_in_use) (counter c.entries_in_use) (option_map tree c.dropped)
+    (pairs_of n (cells.ProfileGeneric p)) refl)
+profile-restored n (profiles.Cleared c) p =
+    sym (ap (λ s. put s (entries_in_use n) (counter c.entries_in_use))
+    (put-buffer n (array_of p.buffer) (counter p.capture_period) (counter p.entries_in_use) (array_of c.buffer))
+    ∙ put-in_use n (array_of c.buffer) (counter p.capture_period) (counter p.entries_in_use) (counter c.entries_in_use))
+
+pub monitor-restored : (n : LogicalName) (change : MonitorChange) (limits last : Tree) →
+    (thresholds n, thresholds_before change limits) ∷ (seen n, seen_before change last) ∷ [] ≡ monitor_undone n change ((thresholds n, limits) ∷ (seen n, last) ∷ [])
+monitor-restored n (monitors.Thresholds held) limits last = sym (put-thresholds n limits last (tree held))
+monitor-restored n (monitors.Seen held) limits last = sym (put-seen n limits last (tree held))
 
 -- the rows of a profile
 pub rows-held : (n : LogicalName) (rows : List Tree) (period in_use : Tree) (s : State) → s ≡ (buffer n, array_of rows) ∷ (capture_period n, period) ∷ (entries_in_use n, in_use) ∷ [] →

@@ -8,34 +8,54 @@ use Rattle.meter_theory.specs.State.{State, value, put}
 use Rattle.meter_theory.specs.Times.{clock_value}
 use Rattle.meter_theory.specs.Value.{array_of, counter, elements}
 use Rattle.class_profile.specs.Reversal.{rows_before}
+use Rattle.class_control.specs.declared.monitor.MonitorChange.{MonitorChange}
+use Rattle.class_control.specs.declared.monitor.MonitorChange.TheVariants as monitors
+use Rattle.class_profile.specs.declared.profile.ProfileChange.{ProfileChange}
+use Rattle.class_profile.specs.declared.profile.ProfileChange.TheVariants as profiles
 use Rattle.object_model.specs.declared.undo.Change.{Change}
 use Rattle.object_model.specs.declared.undo.Change.TheVariants as changes
 use Rattle.object_model.specs.declared.undo.Undo.{Undo}
+
+-- the state with what a change of the profile with this name found: own profile
+abbrev pub profile_undone : LogicalName → ProfileChange → State → State
+profile_undone n (profiles.Period held) s = put s (capture_period n) (counter held)
+profile_undone n (profiles.Captured captured) s =
+    put (put s (buffer n) (array_of (rows_before (option_map tree captured.dropped) (elements (value s (buffer n)))))) (entries_in_use n) (counter captured.entries_in_use)
+profile_undone n (profiles.Cleared cleared) s = put (put s (buffer n) (array_of cleared.buffer)) (entries_in_use n) (counter cleared.entries_in_use)
+
+-- the same of a register monitor: own profile
+abbrev pub monitor_undone : LogicalName → MonitorChange → State → State
+monitor_undone n (monitors.Thresholds held) s = put s (thresholds n) (tree held)
+monitor_undone n (monitors.Seen held) s = put s (seen n) (tree held)
 
 -- the state with what a change of the object with this name found: own profile
 abbrev pub change_undone : LogicalName → Change → State → State
 change_undone n (changes.Data held) s = put s (data_value n) (tree held)
 change_undone n (changes.Register held) s = put s (register_value n) (tree held)
-change_undone n (changes.Period held) s = put s (capture_period n) (counter held)
+change_undone n (changes.ProfileGeneric change) s = profile_undone n change s
 change_undone n (changes.Clock held) s = put s (clock_time n) (clock_value held)
-change_undone n (changes.Captured captured) s =
-    put (put s (buffer n) (array_of (rows_before (option_map tree captured.dropped) (elements (value s (buffer n)))))) (entries_in_use n) (counter captured.entries_in_use)
-change_undone n (changes.Cleared cleared) s = put (put s (buffer n) (array_of cleared.buffer)) (entries_in_use n) (counter cleared.entries_in_use)
-change_undone n (changes.Thresholds held) s = put s (thresholds n) (tree held)
-change_undone n (changes.Seen held) s = put s (seen n) (tree held)
-change_undone n (changes.Times held) s = put s (execution_time n) (tree held)
+change_undone n (changes.RegisterMonitor change) s = monitor_undone n change s
+change_undone n (changes.SingleActionSchedule held) s = put s (execution_time n) (tree held)
+
+-- a cell of the profile that was changed: own profile
+abbrev pub profile_changed : LogicalName → ProfileChange → CellRef
+profile_changed n (profiles.Period held) = capture_period n
+profile_changed n (profiles.Captured captured) = buffer n
+profile_changed n (profiles.Cleared cleared) = buffer n
+
+-- the same of a register monitor: own profile
+abbrev pub monitor_changed : LogicalName → MonitorChange → CellRef
+monitor_changed n (monitors.Thresholds held) = thresholds n
+monitor_changed n (monitors.Seen held) = seen n
 
 -- a cell of the object that was changed: own profile
 abbrev pub cell_changed : LogicalName → Change → CellRef
 cell_changed n (changes.Data held) = data_value n
 cell_changed n (changes.Register held) = register_value n
-cell_changed n (changes.Period held) = capture_period n
+cell_changed n (changes.ProfileGeneric change) = profile_changed n change
 cell_changed n (changes.Clock held) = clock_time n
-cell_changed n (changes.Captured captured) = buffer n
-cell_changed n (changes.Cleared cleared) = buffer n
-cell_changed n (changes.Thresholds held) = thresholds n
-cell_changed n (changes.Seen held) = seen n
-cell_changed n (changes.Times held) = execution_time n
+cell_changed n (changes.RegisterMonitor change) = monitor_changed n change
+cell_changed n (changes.SingleActionSchedule held) = execution_time n
 
 abbrev pub changed_cell : Undo → CellRef
 changed_cell undo = cell_changed undo.name undo.change

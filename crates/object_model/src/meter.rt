@@ -31,7 +31,7 @@ use crate::plan::Plan;
 use crate::stored::Stored;
 use crate::undo::{Change, Undo};
 use civil_moment::moment::Moment;
-use class_profile::profile::{Cleared, ProfilePart};
+use class_profile::profile::{Cleared, ProfileChange, ProfilePart};
 use class_profile::rows::Rows;
 use cosem_class::class::Row;
 use cosem_data::cell::CellRef;
@@ -231,10 +231,10 @@ impl Meter {
             Some(place) => clear_in(&mut self.objects, place, profile),
             None => Undo {
                 name: profile,
-                change: Change::Cleared(Cleared {
+                change: Change::ProfileGeneric(ProfileChange::Cleared(Cleared {
                     buffer: Rows::none(),
                     entries_in_use: 0,
-                }),
+                })),
             },
         }
     }

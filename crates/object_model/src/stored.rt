@@ -24,9 +24,9 @@ use crate::part::Part;
 use crate::undo::Change;
 use civil_moment::moment::Moment;
 use class_control::clock::Clock;
-use class_control::monitor::{Monitor, Watch};
+use class_control::monitor::{Monitor, MonitorChange, Watch};
 use class_control::schedule::Schedule;
-use class_profile::profile::{Profile, ProfilePart};
+use class_profile::profile::{Profile, ProfileChange, ProfilePart};
 use cosem_class::class::{Lent, Row};
 use cosem_class::data1::Data1;
 use cosem_class::register::Register;
@@ -161,17 +161,25 @@ impl Stored {
                 Change::Register(object.put(Lent { name, part }, index, given))
             }
             (Cells::ProfileGeneric(object), Part::ProfileGeneric(part)) => {
-                Change::Period(object.put(Lent { name, part }, index, given))
+                Change::ProfileGeneric(ProfileChange::Period(object.put(
+                    Lent { name, part },
+                    index,
+                    given,
+                )))
             }
             (Cells::Clock(object), Part::Clock(part)) => {
                 Change::Clock(object.put(Lent { name, part }, index, given))
             }
             (Cells::RegisterMonitor(object), Part::RegisterMonitor(part)) => {
                 let kind = monitored;
-                Change::Thresholds(object.put(Watch { name, part, kind }, index, given))
+                Change::RegisterMonitor(MonitorChange::Thresholds(object.put(
+                    Watch { name, part, kind },
+                    index,
+                    given,
+                )))
             }
             (Cells::SingleActionSchedule(object), Part::SingleActionSchedule(part)) => {
-                Change::Times(object.put(Lent { name, part }, index, given))
+                Change::SingleActionSchedule(object.put(Lent { name, part }, index, given))
             }
             _ => unreachable!(),
         }
@@ -210,7 +218,9 @@ impl Stored {
         ensures before { change_undone self.old.name result (stored_pairs self.new) ≡ stored_pairs self.old }
     {
         match &mut self.cells {
-            Cells::RegisterMonitor(object) => Change::Seen(object.remember(now)),
+            Cells::RegisterMonitor(object) => {
+                Change::RegisterMonitor(MonitorChange::Seen(object.remember(now)))
+            }
             _ => unreachable!(),
         }
     }
@@ -237,7 +247,8 @@ impl Stored {
     {
         match &mut self.cells {
             Cells::ProfileGeneric(object) => {
-                Ok(Change::Captured(object.capture(alloc, part, row)?))
+                let captured = object.capture(alloc, part, row)?;
+                Ok(Change::ProfileGeneric(ProfileChange::Captured(captured)))
             }
             _ => unreachable!(),
         }
@@ -252,7 +263,9 @@ impl Stored {
         ensures before { change_undone self.old.name result (stored_pairs self.new) ≡ stored_pairs self.old }
     {
         match &mut self.cells {
-            Cells::ProfileGeneric(object) => Change::Cleared(object.clear()),
+            Cells::ProfileGeneric(object) => {
+                Change::ProfileGeneric(ProfileChange::Cleared(object.clear()))
+            }
             _ => unreachable!(),
         }
     }
@@ -264,17 +277,16 @@ impl Stored {
         ensures pairs { stored_pairs self.new ≡ change_undone self.old.name change (stored_pairs self.old) }
     {
         match (&mut self.cells, change) {
-            (Cells::Data(object), Change::Data(held)) => object.value = held,
-            (Cells::Register(object), Change::Register(held)) => object.value = held,
-            (Cells::ProfileGeneric(object), Change::Period(held)) => object.capture_period = held,
-            (Cells::ProfileGeneric(object), Change::Captured(captured)) => {
-                object.take_back(captured)
+            (Cells::Data(object), Change::Data(held)) => object.undo(held),
+            (Cells::Register(object), Change::Register(held)) => object.undo(held),
+            (Cells::ProfileGeneric(object), Change::ProfileGeneric(change)) => object.undo(change),
+            (Cells::Clock(object), Change::Clock(held)) => object.undo(held),
+            (Cells::RegisterMonitor(object), Change::RegisterMonitor(change)) => {
+                object.undo(change)
             }
-            (Cells::ProfileGeneric(object), Change::Cleared(cleared)) => object.restore(cleared),
-            (Cells::Clock(object), Change::Clock(held)) => object.time = held,
-            (Cells::RegisterMonitor(object), Change::Thresholds(held)) => object.thresholds = held,
-            (Cells::RegisterMonitor(object), Change::Seen(held)) => object.seen = held,
-            (Cells::SingleActionSchedule(object), Change::Times(held)) => object.times = held,
+            (Cells::SingleActionSchedule(object), Change::SingleActionSchedule(held)) => {
+                object.undo(held)
+            }
             _ => unreachable!(),
         }
     }

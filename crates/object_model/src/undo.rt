@@ -7,32 +7,27 @@ use crate::cells::{
     thresholds,
 };
 use civil_moment::moment::Moment;
-use class_profile::profile::{Captured, Cleared};
+use class_control::monitor::MonitorChange;
+use class_profile::profile::ProfileChange;
 use cosem_data::cell::CellRef;
 use cosem_data::data::Data;
 use cosem_data::name::LogicalName;
 
-/// What an effect changed of an object, by its class: the previous value of a cell, or what a profile needs.
+/// What an effect changed of an object, by its class: what that takes back.
 #[derive(Drop)]
 pub enum Change {
-    /// The value of a data object.
+    /// The previous value.
     Data(Data),
-    /// The value of a register.
+    /// The previous value.
     Register(Data),
-    /// The capture_period of a profile.
-    Period(u32),
-    /// The time of a clock.
+    /// The previous capture_period, a capture, or a reset.
+    ProfileGeneric(ProfileChange),
+    /// The previous time.
     Clock(Moment),
-    /// A capture.
-    Captured(Captured),
-    /// A reset of a profile.
-    Cleared(Cleared),
-    /// The thresholds of a register monitor.
-    Thresholds(Data),
-    /// What a register monitor saw last.
-    Seen(Data),
-    /// The execution_time of a single action schedule.
-    Times(Data),
+    /// The previous thresholds, or what it saw last before.
+    RegisterMonitor(MonitorChange),
+    /// The previous execution_time.
+    SingleActionSchedule(Data),
 }
 
 /// What takes an effect back: the object's name, and what was changed of it.
@@ -51,12 +46,12 @@ impl Undo {
         match &self.change {
             Change::Data(_) => data_value(name),
             Change::Register(_) => register_value(name),
-            Change::Period(_) => capture_period(name),
+            Change::ProfileGeneric(ProfileChange::Period(_)) => capture_period(name),
+            Change::ProfileGeneric(_) => buffer(name),
             Change::Clock(_) => clock_time(name),
-            Change::Captured(_) | Change::Cleared(_) => buffer(name),
-            Change::Thresholds(_) => thresholds(name),
-            Change::Seen(_) => seen(name),
-            Change::Times(_) => execution_time(name),
+            Change::RegisterMonitor(MonitorChange::Thresholds(_)) => thresholds(name),
+            Change::RegisterMonitor(MonitorChange::Seen(_)) => seen(name),
+            Change::SingleActionSchedule(_) => execution_time(name),
         }
     }
 }

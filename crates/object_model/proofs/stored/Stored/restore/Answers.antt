@@ -1,17 +1,25 @@
-use Rattle.std.proofs.Common.{ap, sym, ◌∙◌}
-use Rattle.std.specs.Prelude.{option_map}
+use Rattle.std.proofs.Common.{ap, ap₂, sym, ◌∙◌, [], ◌∷◌}
 use Rattle.cosem_data.specs.View.{tree}
-use Rattle.meter_theory.specs.Value.{counter}
+use Rattle.meter_theory.specs.Plan.{seen, thresholds}
 use Rattle.object_model.specs.Stored.{pairs_of}
 use Rattle.object_model.specs.Undone.{change_undone}
 use Rattle.object_model.specs.declared.stored.Cells.TheVariants.{ProfileGeneric}
-use Rattle.object_model.proofs.Stores.{undone-captured}
+use Rattle.object_model.proofs.Stores.{monitor-restored, profile-restored}
 use Rattle.object_model.proofs.stored.Stored.restore.Goals as goal
 
-pub returns-in-ProfileGeneric-Captured-clause-pairs : goal.returns-in-ProfileGeneric-Captured-clause-pairs
-returns-in-ProfileGeneric-Captured-clause-pairs c =
-    ap (λ p. pairs_of c.args.self.now.name (ProfileGeneric p)) c.take_back.ensures
-    ∙ sym (undone-captured c.args.self.now.name c.in-ProfileGeneric-Captured.object.buffer (counter c.in-ProfileGeneric-Captured.object.capture_period) (counter c.in-ProfileGeneric-Captured.object.entries_in_use)
-    (counter c.in-ProfileGeneric-Captured.captured.entries_in_use) (option_map tree c.in-ProfileGeneric-Captured.captured.dropped)
-    (pairs_of c.args.self.now.name c.args.self.now.cells) (ap (pairs_of c.args.self.now.name) c.in-ProfileGeneric-Captured.is-0))
-    ∙ ap (λ change. change_undone c.args.self.now.name change (pairs_of c.args.self.now.name c.args.self.now.cells)) (sym c.in-ProfileGeneric-Captured.is-1)
+pub returns-in-ProfileGeneric-ProfileGeneric-clause-pairs : goal.returns-in-ProfileGeneric-ProfileGeneric-clause-pairs
+returns-in-ProfileGeneric-ProfileGeneric-clause-pairs c =
+    let n = c.args.self.now.name in
+    let m = c.in-ProfileGeneric-ProfileGeneric in
+    ap (λ p. pairs_of n (ProfileGeneric p)) c.undo-in-ProfileGeneric-ProfileGeneric.ensures
+    ∙ profile-restored n m.change m.object
+    ∙ sym (ap₂ (λ change cells. change_undone n change (pairs_of n cells)) m.is-1 m.is-0)
+
+pub returns-in-RegisterMonitor-RegisterMonitor-clause-pairs : goal.returns-in-RegisterMonitor-RegisterMonitor-clause-pairs
+returns-in-RegisterMonitor-RegisterMonitor-clause-pairs c =
+    let n = c.args.self.now.name in
+    let m = c.in-RegisterMonitor-RegisterMonitor in
+    let undo = c.undo-in-RegisterMonitor-RegisterMonitor in
+    ap₂ (λ limits last. (thresholds n, limits) ∷ (seen n, last) ∷ []) undo.ensures.thresholds undo.ensures.seen
+    ∙ monitor-restored n m.change (tree m.object.thresholds) (tree m.object.seen)
+    ∙ sym (ap₂ (λ change cells. change_undone n change (pairs_of n cells)) m.is-1 m.is-0)
