@@ -7,6 +7,7 @@ use super::samples::{
 use config_reader::read_config;
 use cosem_data::cell::CellRef;
 use cosem_data::clients::ClientSet;
+use cosem_data::memory::Memory;
 use object_model::meter::Meter;
 use object_model::plan::Plan;
 use object_model::policy::Policy;
@@ -35,14 +36,27 @@ static CELLS: [CellRef; 3] = [
 
 static VALUES: [&str; 3] = ["060001E240", "1100", "0900"];
 
-fn has_its_parts(rt: &impl Abort, alloc: Global, plan: &Plan) -> Result<(), Fail> {
-    let reader = plan.client(READER).ok_or("no reader")?;
-    assert_eq!(rt; reader.name(), b"reader".as_slice());
+fn has_its_clients(rt: &impl Abort, plan: &Plan) {
+    let is_reader = match plan.client(READER) {
+        Some(client) => client.name() == b"reader".as_slice(),
+        None => false,
+    };
+    assert!(rt; is_reader);
     assert!(rt; plan.client(NOBODY).is_none());
-    let device = plan.object(2).ok_or("no third object")?;
-    assert_eq!(rt; device.name(), DEVICE);
+}
+
+fn has_its_objects(rt: &impl Abort, plan: &Plan) {
+    let is_device = match plan.object(2) {
+        Some(object) => object.name() == DEVICE,
+        None => false,
+    };
+    assert!(rt; is_device);
     assert!(rt; plan.object(3).is_none());
-    assert_eq!(rt; plan.cells(alloc)?.as_slice(), CELLS.as_slice());
+}
+
+fn has_its_cells(rt: &impl Abort, alloc: Global, plan: &Plan) -> Result<(), Memory> {
+    let cells = plan.cells(alloc)?;
+    assert!(rt; cells.as_slice() == CELLS.as_slice());
     Ok(())
 }
 
@@ -76,7 +90,9 @@ fn starts_as_configured(rt: &impl Abort, alloc: Global, plan: &Plan) -> Result<(
 }
 
 fn is_as_configured(rt: &impl Abort, alloc: Global, plan: &Plan) -> Result<(), Fail> {
-    has_its_parts(rt, alloc, plan)?;
+    has_its_clients(rt, plan);
+    has_its_objects(rt, plan);
+    has_its_cells(rt, alloc, plan)?;
     starts_as_configured(rt, alloc, plan)
 }
 

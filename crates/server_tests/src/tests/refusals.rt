@@ -101,6 +101,21 @@ static ROWS: [Row; 25] = [
     (EXECUTE, "0", 0, EF, HUNDRED, ROWS_9_0, 2),
 ];
 
+/// What a cell holds goes behind the bytes, as its encoding.
+fn hold(
+    rt: &impl Abort,
+    alloc: Global,
+    plan: &Plan,
+    cell: &CellRef,
+    meter: &Meter,
+    bytes: &mut Vec<u8>,
+) -> Result<(), Memory>
+    requires { IsState plan.now meter.now }
+{
+    let value = meter.value(alloc, plan, cell)?;
+    encode(rt, &value, bytes)
+}
+
 /// What all cells of the plan hold, in plan order, as encodings in hex.
 fn all_held(
     rt: &impl Abort,
@@ -113,8 +128,7 @@ fn all_held(
 {
     let mut bytes = Vec::with_capacity(alloc, 256)?;
     for cell in cells {
-        let value = meter.value(alloc, plan, cell)?;
-        encode(rt, &value, &mut bytes)?;
+        hold(rt, alloc, plan, cell, meter, &mut bytes)?;
     }
     Ok(hex::encode_upper(alloc, &bytes)?)
 }

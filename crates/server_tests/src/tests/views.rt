@@ -74,22 +74,33 @@ fn is_seen(rt: &impl Abort, alloc: Global, view: &View) -> Result<(), Fail> {
     Ok(())
 }
 
+/// A client's GET of the object_list.
+fn get(plan: &Plan, client: u8) -> Result<(), AccessCode> {
+    permit_get(plan, client, &descriptor((15, ASSOCIATION, 2)), &None)
+}
+
+/// A client's SET of the alarm.
+fn set(plan: &Plan, client: u8, value: Argument) -> Result<(), AccessCode> {
+    permit_set(plan, client, &descriptor((1, ALARM, 2)), false, &value)
+}
+
+/// A client's ACTION, a reset of the energy.
+fn act(plan: &Plan, client: u8) -> Result<(), AccessCode> {
+    let method = descriptor((3, ENERGY, 1));
+    permit_action(plan, client, &method, &Argument::Absent)
+}
+
 /// A GET, a SET and an ACTION of a client are answered so.
 fn are_answered(rt: &impl Abort, plan: &Plan, client: u8, want: Result<(), AccessCode>) {
-    let got = permit_get(plan, client, &descriptor((15, ASSOCIATION, 2)), &None);
-    assert_eq!(rt; got, want, "GET by {client}");
     let value = Argument::Value(Data::Unsigned(1));
-    let set = permit_set(plan, client, &descriptor((1, ALARM, 2)), false, &value);
-    assert_eq!(rt; set, want, "SET by {client}");
-    let method = descriptor((3, ENERGY, 1));
-    let called = permit_action(plan, client, &method, &Argument::Absent);
-    assert_eq!(rt; called, want, "ACTION by {client}");
+    assert!(rt; set(plan, client, value) == want, "SET by {client}");
+    assert!(rt; get(plan, client) == want, "GET by {client}");
+    assert!(rt; act(plan, client) == want, "ACTION by {client}");
 }
 
 fn no_value_is_refused(rt: &impl Abort, plan: &Plan) {
-    let alarm = descriptor((1, ALARM, 2));
-    let absent = permit_set(plan, MANAGER, &alarm, false, &Argument::Absent);
-    assert_eq!(rt; absent, Err(AccessCode::TypeUnmatched));
+    let absent = set(plan, MANAGER, Argument::Absent);
+    assert!(rt; absent == Err(AccessCode::TypeUnmatched));
 }
 
 /// The manager may do all of this but set no value; at the place of no client nothing is seen.

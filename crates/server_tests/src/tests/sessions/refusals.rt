@@ -2,16 +2,16 @@ ghost use Rattle.std.specs.Prelude.{◌≡◌, ⊤};
 
 use super::super::samples::{plan_of, started};
 use super::super::slow::{SlowReader, SlowWriter};
-use super::connections::{ANSWERS, frames};
+use super::connections::{ANSWERS, frames, serve_new};
 use super::samples::{
-    AARE, CAPTURE, GET_REGISTER, IS_SET, MANAGER, MANAGER_AARQ, REGISTER, SET, TEXT, is_answered,
+    AARE, CAPTURE, GET_REGISTER, IS_SET, MANAGER, MANAGER_AARQ, REGISTER, SET, TEXT, answered,
+    is_answered,
 };
 use acse_session::asker::Asker;
 use acse_session::session::Session;
 use acse_session::solo::Solo;
 use cosem_data::memory::Memory;
 use frame_server::fault::ServeFault;
-use frame_server::serving::serve;
 use meter_core::reply::Reply;
 use meter_core::step::Step;
 use object_model::plan::Plan;
@@ -79,12 +79,10 @@ fn goes_on(
     ensures plan { session.new.plan ≡ session.old.plan }
 {
     let (apdu, want, refused) = turn;
-    match session.answer(alloc, MANAGER, apdu, asker) {
-        Ok(answer) => {
-            if answer.as_slice() == want {
-                return Ok(());
-            }
-            assert_eq!(rt; answer.as_slice(), refused);
+    match answered(alloc, session, asker, MANAGER, apdu, want, refused) {
+        Ok((true, _)) => Ok(()),
+        Ok((false, is_refused)) => {
+            assert!(rt; is_refused);
             is_answered(rt, alloc, session, asker, MANAGER, apdu, want)
         }
         Err(_) => {
@@ -159,20 +157,26 @@ static ONE_FAILS: [u8; 77] = [
 /// How many bytes of `ANSWERS` the answers to none, one and two frames have, and those to all three.
 static FRONTS: [usize; 4] = [0, 51, 71, 84];
 
+/// A connection may end so with these bytes written: behind all answers, or where memory is refused, behind those to the frames before.
+fn is_end(end: Result<u64, ServeFault>, written: &[u8]) -> bool {
+    match end {
+        Ok(frames) => {
+            frames == 3 && (written == ANSWERS.as_slice() || written == ONE_FAILS.as_slice())
+        }
+        Err(fault) => {
+            fault == ServeFault::Memory
+                && FRONTS.contains(&written.len())
+                && ANSWERS.starts_with(written)
+        }
+    }
+}
+
 /// Three frames are answered by a new meter. Where memory is refused, the answers to the frames before are written.
 fn is_served(rt: &impl Abort, alloc: Global, plan: &Plan) -> Result<(), Memory> {
-    let mut asker = Solo::new(plan, started(plan, alloc)?);
-    let mut reader = SlowReader::new(frames(), 0);
     let mut writer = SlowWriter::new(alloc, 0)?;
-    let end = serve(alloc, &mut reader, &mut writer, plan, &mut asker);
-    let written = writer.held.as_slice();
-    if end == Ok(3) {
-        assert!(rt; written == ANSWERS.as_slice() || written == ONE_FAILS.as_slice());
-        return Ok(());
-    }
-    assert_eq!(rt; end, Err(ServeFault::Memory));
-    assert!(rt; FRONTS.contains(&written.len()) && ANSWERS.starts_with(written));
-    Err(Memory)
+    let end = serve_new(alloc, plan, &mut SlowReader::new(frames(), 0), &mut writer)?;
+    assert!(rt; is_end(end, writer.held.as_slice()));
+    if end.is_ok() { Ok(()) } else { Err(Memory) }
 }
 
 /// A connection that is cut is followed by one that isn't.
