@@ -58,6 +58,18 @@ pub(crate) enum Step<'a> {
     Hides(u8),
 }
 
+/// Why the value that these bytes encode isn't written, or None where it is.
+fn fault_of<L: Lend, C: InterfaceClass<L>>(
+    a: Global,
+    lent: &L,
+    object: &mut C,
+    index: u8,
+    bytes: &[u8],
+) -> Result<Option<ClassFault>, Fail> {
+    let value = value_of(a, bytes)?;
+    Ok(object.write(lent.again(), index, value).err())
+}
+
 /// Takes these steps, for which the plan lends this.
 pub(crate) fn take<L: Lend, C: InterfaceClass<L>>(
     rt: &impl Abort,
@@ -69,9 +81,8 @@ pub(crate) fn take<L: Lend, C: InterfaceClass<L>>(
     for step in steps {
         let (index, fault, want) = match step {
             Step::Writes(index, bytes, want) => {
-                let value = value_of(a, bytes)?;
-                let done = object.write(lent.again(), *index, value);
-                (*index, done.err(), want.err())
+                let fault = fault_of(a, lent, object, *index, bytes)?;
+                (*index, fault, want.err())
             }
             Step::Shows(index, bytes) => {
                 shows(rt, a, lent.again(), object, *index, bytes)?;

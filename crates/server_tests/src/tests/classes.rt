@@ -36,11 +36,17 @@ static ARRAYS: [(&[u8], Result<(), ClassFault>); 2] = [
     ),
 ];
 
+/// Judges the value that these bytes encode for a cell of an array.
+fn judge_array(alloc: Global, bytes: &[u8]) -> Result<Result<(), ClassFault>, Fail> {
+    let value = value_of(alloc, bytes)?;
+    Ok(judge_kind(Kind::Array, &value))
+}
+
 /// Arrays just within the limit may stand in a cell, and those just beyond may not. How long a string may be is stored in the cases.
 #[test]
 fn the_depth_of_a_cell_is_met_exactly(rt: HostRuntime) -> Result<(), Fail> {
     for (bytes, want) in &ARRAYS {
-        let judged = judge_kind(Kind::Array, &value_of(rt.alloc(), bytes)?);
+        let judged = judge_array(rt.alloc(), bytes)?;
         assert!(rt; judged == *want, "{bytes:?}");
     }
     Ok(())

@@ -133,6 +133,26 @@ fn all_held(
     Ok(hex::encode_upper(alloc, &bytes)?)
 }
 
+/// Tries to take a step. Where memory is refused, there is no reply, and the cells hold what they held.
+fn tried(
+    rt: &impl Abort,
+    alloc: Global,
+    plan: &Plan,
+    cells: &[CellRef],
+    meter: &mut Meter,
+    step: &Step,
+) -> Result<Option<Reply>, Memory>
+    requires { IsState plan.now meter.old }
+    ensures { IsState plan.now meter.new }
+{
+    let before = all_held(rt, alloc, plan, cells, meter)?;
+    if let Ok(reply) = apply(alloc, plan, meter, step) {
+        return Ok(Some(reply));
+    }
+    are_held(rt, alloc, plan, cells, meter, before.as_str())?;
+    Ok(None)
+}
+
 /// Takes a step. Where memory is refused, the cells hold what they held, and the step is taken once more.
 fn taken(
     rt: &impl Abort,
@@ -145,12 +165,9 @@ fn taken(
     requires { IsState plan.now meter.old }
     ensures { IsState plan.now meter.new }
 {
-    let before = all_held(rt, alloc, plan, cells, meter)?;
-    if let Ok(reply) = apply(alloc, plan, meter, step) {
+    if let Some(reply) = tried(rt, alloc, plan, cells, meter, step)? {
         return Ok(reply);
     }
-    let behind = all_held(rt, alloc, plan, cells, meter)?;
-    assert_eq!(rt; behind.as_str(), before.as_str());
     let again = apply(alloc, plan, meter, step);
     assert!(rt; again.is_ok(), "refused once more");
     again
@@ -181,6 +198,23 @@ fn are_held(
     Ok(())
 }
 
+/// The step has this reply, also where memory is refused once.
+fn is_replied(
+    rt: &impl Abort,
+    alloc: Global,
+    plan: &Plan,
+    cells: &[CellRef],
+    meter: &mut Meter,
+    step: &Step,
+    want: &str,
+) -> Result<(), Fail>
+    requires { IsState plan.now meter.old }
+    ensures { IsState plan.now meter.new }
+{
+    let reply = taken(rt, alloc, plan, cells, meter, step)?;
+    is_this(rt, alloc, &reply, want)
+}
+
 /// The step of a row has its reply, also where memory is refused once.
 fn survives(
     rt: &impl Abort,
@@ -194,8 +228,7 @@ fn survives(
     ensures { IsState plan.now meter.new }
 {
     let step = step(alloc, row.0)?;
-    let reply = taken(rt, alloc, plan, cells, meter, &step)?;
-    is_this(rt, alloc, &reply, row.1)
+    is_replied(rt, alloc, plan, cells, meter, &step, row.1)
 }
 
 /// Each step has its reply and leaves in the cells what its row says.

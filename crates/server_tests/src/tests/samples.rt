@@ -89,6 +89,12 @@ pub(super) fn value_of(alloc: Global, text: &str) -> Result<Data, Fail> {
     attributes::value_of(alloc, &bytes)
 }
 
+/// Whether the value has this encoding, in upper case hex.
+fn encodes_so(rt: &impl Abort, alloc: Global, value: &Data, want: &str) -> Result<bool, Memory> {
+    let text = written(rt, alloc, value)?;
+    Ok(text.as_str() == want)
+}
+
 /// The value has this encoding, in upper case hex.
 pub(super) fn is_written(
     rt: &impl Abort,
@@ -96,8 +102,8 @@ pub(super) fn is_written(
     value: Result<Data, Memory>,
     want: &str,
 ) -> Result<(), Fail> {
-    let text = written(rt, alloc, &value?)?;
-    assert_eq!(rt; text.as_str(), want);
+    let is_right = encodes_so(rt, alloc, &value?, want)?;
+    assert!(rt; is_right, "not {want}");
     Ok(())
 }
 

@@ -98,14 +98,14 @@ fn ends_with_the_input(rt: &impl Abort, alloc: Global, plan: &Plan) -> Result<()
 }
 
 /// A connection ends so.
-fn all_end(rt: &impl Abort, alloc: Global, plan: &Plan) -> Result<(), Memory> {
+fn all_end(rt: &impl Abort, alloc: Global, plan: &Plan) -> Result<(), Fail> {
     ends_with_the_input(rt, alloc, plan)?;
     ends_where_reading_fails(rt, alloc, plan)?;
-    ends_where_writing_fails(rt, alloc, plan)
+    Ok(ends_where_writing_fails(rt, alloc, plan)?)
 }
 
 #[test]
 fn a_failing_call_ends_a_connection(rt: HostRuntime) -> Result<(), Fail> {
     let plan = plan_of(rt.alloc(), TEXT)?;
-    Ok(all_end(&rt, rt.alloc(), &plan)?)
+    all_end(&rt, rt.alloc(), &plan)
 }

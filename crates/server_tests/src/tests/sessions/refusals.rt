@@ -123,17 +123,17 @@ fn converses_at_last(
     alloc: Global,
     session: &mut Session<'_>,
     asker: &mut Solo<'_>,
-) -> Result<(), Memory>
+) -> Result<(), Fail>
     requires { asker.old.plan ≡ session.old.plan }
 {
     if converses(rt, alloc, session, asker).is_ok() {
         return Ok(());
     }
-    converses(rt, alloc, session, asker)
+    Ok(converses(rt, alloc, session, asker)?)
 }
 
 /// A new meter's session answers all at last.
-fn session_goes_on(rt: &impl Abort, alloc: Global, plan: &Plan) -> Result<(), Memory> {
+fn session_goes_on(rt: &impl Abort, alloc: Global, plan: &Plan) -> Result<(), Fail> {
     let mut asker = Solo::new(plan, started(plan, alloc)?);
     let mut session = Session::new(plan);
     converses_at_last(rt, alloc, &mut session, &mut asker)
@@ -143,7 +143,7 @@ fn session_goes_on(rt: &impl Abort, alloc: Global, plan: &Plan) -> Result<(), Me
 #[test]
 fn a_refused_growth_leaves_a_session(rt: HostRuntime) -> Result<(), Fail> {
     let plan = plan_of(rt.alloc(), TEXT)?;
-    Ok(session_goes_on(&rt, rt.alloc(), &plan)?)
+    session_goes_on(&rt, rt.alloc(), &plan)
 }
 
 /// As `ANSWERS`, but the GET is answered by temporary-failure.
@@ -157,7 +157,8 @@ static ONE_FAILS: [u8; 77] = [
 /// How many bytes of `ANSWERS` the answers to none, one and two frames have, and those to all three.
 static FRONTS: [usize; 4] = [0, 51, 71, 84];
 
-/// A connection may end so with these bytes written: behind all answers, or where memory is refused, behind those to the frames before.
+/// A connection may end so with these bytes written: behind all answers, or where memory is refused, behind those to the frames
+/// before.
 fn is_end(end: Result<u64, ServeFault>, written: &[u8]) -> bool {
     match end {
         Ok(frames) => {
@@ -180,18 +181,18 @@ fn is_served(rt: &impl Abort, alloc: Global, plan: &Plan) -> Result<(), Memory> 
 }
 
 /// A connection that is cut is followed by one that isn't.
-fn is_served_at_last(rt: &impl Abort, alloc: Global, plan: &Plan) -> Result<(), Memory> {
+fn is_served_at_last(rt: &impl Abort, alloc: Global, plan: &Plan) -> Result<(), Fail> {
     if is_served(rt, alloc, plan).is_ok() {
         return Ok(());
     }
-    is_served(rt, alloc, plan)
+    Ok(is_served(rt, alloc, plan)?)
 }
 
 /// Whichever growth is refused, a connection ends in all answers, or is cut behind one; and all is answered in the next one.
 #[test]
 fn a_refused_growth_cuts_no_answer(rt: HostRuntime) -> Result<(), Fail> {
     let plan = plan_of(rt.alloc(), TEXT)?;
-    Ok(is_served_at_last(&rt, rt.alloc(), &plan)?)
+    is_served_at_last(&rt, rt.alloc(), &plan)
 }
 
 /// A meter of the plan that is refused memory for each step.
@@ -225,7 +226,7 @@ fn all_fail(
     alloc: Global,
     session: &mut Session<'_>,
     asker: &mut Refused<'_>,
-) -> Result<(), Memory>
+) -> Result<(), Fail>
     requires { asker.old.plan.now ≡ session.old.plan }
 {
     for (apdu, want) in &REFUSALS {
@@ -234,7 +235,7 @@ fn all_fail(
     Ok(())
 }
 
-fn all_are_refused(rt: &impl Abort, alloc: Global, plan: &Plan) -> Result<(), Memory> {
+fn all_are_refused(rt: &impl Abort, alloc: Global, plan: &Plan) -> Result<(), Fail> {
     let mut asker = Refused { plan };
     let mut session = Session::new(plan);
     all_fail(rt, alloc, &mut session, &mut asker)
@@ -243,5 +244,5 @@ fn all_are_refused(rt: &impl Abort, alloc: Global, plan: &Plan) -> Result<(), Me
 #[test]
 fn what_a_meter_has_no_memory_for_fails(rt: HostRuntime) -> Result<(), Fail> {
     let plan = plan_of(rt.alloc(), TEXT)?;
-    Ok(all_are_refused(&rt, rt.alloc(), &plan)?)
+    all_are_refused(&rt, rt.alloc(), &plan)
 }
