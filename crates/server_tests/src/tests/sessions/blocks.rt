@@ -251,7 +251,7 @@ fn is_filled_and_sent(
 }
 
 /// To clients of all limits go these bytes.
-fn all_are_sent(rt: &impl Abort, alloc: Global, plan: &Plan, bytes: &[u8]) -> Result<(), Fail> {
+fn all_are_sent(rt: &impl Abort, alloc: Global, plan: &Plan, bytes: &[u8]) -> Result<(), Memory> {
     assert_eq!(rt; bytes.len(), 104_004);
     for sending in &SENDINGS {
         is_filled_and_sent(rt, alloc, plan, sending, bytes)?;
@@ -260,7 +260,7 @@ fn all_are_sent(rt: &impl Abort, alloc: Global, plan: &Plan, bytes: &[u8]) -> Re
 }
 
 /// To clients of all limits go the same bytes, those of the buffer as it was when it was asked for.
-fn buffer_is_sent(rt: &impl Abort, alloc: Global, plan: &Plan) -> Result<(), Fail> {
+fn buffer_is_sent(rt: &impl Abort, alloc: Global, plan: &Plan) -> Result<(), Memory> {
     let bytes = buffer(alloc)?;
     all_are_sent(rt, alloc, plan, &bytes)
 }
@@ -268,5 +268,5 @@ fn buffer_is_sent(rt: &impl Abort, alloc: Global, plan: &Plan) -> Result<(), Fai
 #[test]
 fn a_long_value_goes_in_blocks(rt: HostRuntime) -> Result<(), Fail> {
     let plan = plan_of(rt.alloc(), TEXT)?;
-    buffer_is_sent(&rt, rt.alloc(), &plan)
+    Ok(buffer_is_sent(&rt, rt.alloc(), &plan)?)
 }
