@@ -5,7 +5,7 @@ mod callers;
 mod closing;
 mod faults;
 mod fleets;
-mod gates;
+mod holds;
 mod progress;
 mod samples;
 mod serving;

@@ -1,4 +1,4 @@
-use super::super::gates::{Holds, Until};
+use super::super::holds::{Holds, Until};
 use super::samples::four_are_judged;
 use std::test::Fail;
 

@@ -1,6 +1,6 @@
 //! Gates that hold the second frame of a seat.
 
-use super::super::gates::{Holds, Until};
+use super::super::holds::{Holds, Until};
 use super::sessions::{Clients, serves};
 use std::test::Fail;
 
