@@ -4,22 +4,23 @@ use Rattle.cosem_data.proofs.Same.{same_name-true, same_name-from}
 use Rattle.std.proofs.Common.{[], ◌++◌, ◌∙◌, ◌≡◌, ◌==◌, ◌<◌, ℕ, Bool, true, false, not, ◌&&◌, ◌||◌, List, ◌∷◌, map, refl, sym, ap, subst, inl, inr, Option, Some, None, is_some, eqb-true, eq-eqb, ltb-true, nat_lt, length, arith}
 use Rattle.std.specs.List.{list_any, range_with_len}
 use Rattle.std.proofs.lemmas.Bool.{and_parts, and_from, or_cases, or_left, or_right}
-use Rattle.meter_theory.specs.Lists.{IsIn, for_some}
+use Rattle.meter_theory.specs.Lists.{IsIn}
 use Rattle.cosem_data.specs.declared.name.LogicalName.{LogicalName}
 use Rattle.cosem_data.specs.declared.cell.CellRef.{CellRef}
-use Rattle.meter_theory.specs.Plan.{Plan, Object, Right, Part, Data1, Register, ProfileGeneric, ScriptTable, RegisterMonitor, SingleActionSchedule, cells, object_at}
+use Rattle.meter_theory.specs.Plan.{Plan, Right, cells}
 use Rattle.cosem_data.specs.declared.cell.MethodRef.{MethodRef}
 use Rattle.meter_theory.specs.Rights.{has_right, lists, may_get, may_set}
-use Rattle.meter_theory.specs.Steps.{changed_by, actions_effects, scripts_of}
+use Rattle.meter_theory.specs.Steps.{changed_by_write}
 use Rattle.meter_theory.specs.Edges.{among, edges}
 use Rattle.meter_theory.specs.declared.flow.Label.{Label}
-use Rattle.meter_theory.specs.Labels.{Labels, Labelling, label_at, labelling_of, has, within, MayChange, method_changes, method_changes_of, all_scripts, Admits, AreLeast}
+use Rattle.meter_theory.specs.Labels.{Labels, Labelling, label_at, labelling_of, has, within, MayChange, method_changes_of, Admits, AreLeast}
 use Rattle.meter_theory.specs.Sound.{IsSound}
-use Rattle.meter_theory.specs.Check.{may_change, clients_with_cells, is_labelled, keeps_policy, admits_changer, admits_reader, influence_flows, learn_flows, Pass, FirstFailure, Refuses, AllPass}
+use Rattle.meter_theory.specs.Check.{may_write, may_change, clients_with_cells, is_labelled, keeps_policy, admits_changer, admits_reader, influence_flows, learn_flows, Pass, FirstFailure, Refuses, AllPass}
 use Rattle.meter_theory.specs.declared.flow.Refusal.{Refusal}
 use Rattle.meter_theory.specs.declared.flow.Refusal.TheVariants.{NotLabelled, PastPolicy, Changer, Reader, InfluenceEscapes, LearnEscapes}
 use Rattle.meter_theory.proofs.Lists.{any_in, in_any, in_append_right, in_flat_map, from_flat_map, in_map, from_map, in_range}
-use Rattle.meter_theory.proofs.Agreement.{object-found, not_both}
+use Rattle.meter_theory.proofs.Agreement.{not_both}
+use Rattle.meter_theory.proofs.Writes.{write-cells}
 use Rattle.meter_theory.proofs.Theorem.{within_trans}
 use Rattle.meter_theory.proofs.Check.{among_in, in_among, method_cells, edge-listed, listed-edge}
 
@@ -52,8 +53,11 @@ known_client P sound c name test h =
 
 pub changer_from : (P : Plan) (c : ℕ) (x : CellRef) → IsIn (cells P) x → may_change P c x ≡ true → MayChange P c x
 changer_from P c x there h =
-    elim (or_cases (may_set P c x) (list_any (λ r. (r.client == c) && list_any (λ i. among (method_changes_of P (record { class_id = 0; name = r.object; index = i })) x) r.acts) P.rights) h) [
-      | inl e ↦ inl (there, e)
+    elim (or_cases (may_write P c x) (list_any (λ r. (r.client == c) && list_any (λ i. among (method_changes_of P (record { class_id = 0; name = r.object; index = i })) x) r.acts) P.rights) h) [
+      | inl e ↦
+          let y = any_in (λ y. may_set P c y && among (changed_by_write y) x) (cells P) e in
+          let a = and_parts (may_set P c y.0) (among (changed_by_write y.0) x) y.2 in
+          inl (y.0, y.1, a.0, among_in (changed_by_write y.0) x a.1)
       | inr e ↦
           let r = any_in (λ r. (r.client == c) && list_any (λ i. among (method_changes_of P (record { class_id = 0; name = r.object; index = i })) x) r.acts) P.rights e in
           let a = and_parts (r.0.client == c) (list_any (λ i. among (method_changes_of P (record { class_id = 0; name = r.0.object; index = i })) x) r.0.acts) r.2 in
@@ -69,7 +73,9 @@ changer_from P c x there h =
     ]
 
 pub changer_found : (P : Plan) (c : ℕ) (x : CellRef) → MayChange P c x → may_change P c x ≡ true
-changer_found P c x (inl h) = or_left (may_set P c x) (list_any (λ r. (r.client == c) && list_any (λ i. among (method_changes_of P (record { class_id = 0; name = r.object; index = i })) x) r.acts) P.rights) h.1
+changer_found P c x (inl h) =
+    or_left (may_write P c x) (list_any (λ r. (r.client == c) && list_any (λ i. among (method_changes_of P (record { class_id = 0; name = r.object; index = i })) x) r.acts) P.rights)
+    (in_any (λ y. may_set P c y && among (changed_by_write y) x) (cells P) h.0 h.1 (and_from (may_set P c h.0) (among (changed_by_write h.0) x) h.2 (in_among (changed_by_write h.0) x h.3)))
 changer_found P c x (inr h) =
     let m = h.0 in
     let r = any_in (λ z. ((z.client == c) && same_name z.object m.name) && lists z.acts m.index) P.rights h.1 in
@@ -81,7 +87,7 @@ changer_found P c x (inr h) =
     let there : IsIn (method_changes_of P (record { class_id = 0; name = r.0.object; index = i.0 })) x =
     subst (λ n. IsIn (method_changes_of P (record { class_id = 0; name = n; index = i.0 })) x) (sym name)
     (subst (λ k. IsIn (method_changes_of P (record { class_id = 0; name = m.name; index = k })) x) (sym index) h.2) in
-    or_right (may_set P c x) (list_any (λ z. (z.client == c) && list_any (λ k. among (method_changes_of P (record { class_id = 0; name = z.object; index = k })) x) z.acts) P.rights)
+    or_right (may_write P c x) (list_any (λ z. (z.client == c) && list_any (λ k. among (method_changes_of P (record { class_id = 0; name = z.object; index = k })) x) z.acts) P.rights)
     (in_any (λ z. (z.client == c) && list_any (λ k. among (method_changes_of P (record { class_id = 0; name = z.object; index = k })) x) z.acts) P.rights r.0 r.1
     (and_from (r.0.client == c) (list_any (λ k. among (method_changes_of P (record { class_id = 0; name = r.0.object; index = k })) x) r.0.acts) b.0
     (in_any (λ k. among (method_changes_of P (record { class_id = 0; name = r.0.object; index = k })) x) r.0.acts i.0 i.1
@@ -107,11 +113,11 @@ passes-admits P policy labels sound a = record {
 }
   where
     changer_known : (c : ℕ) (x : CellRef) → MayChange P c x → c < length P.clients
-    changer_known c x (inl h) = known_client P sound c x.name (λ r. lists r.sets x.index) h.1
+    changer_known c x (inl h) = known_client P sound c h.0.name (λ r. lists r.sets h.0.index) h.2
     changer_known c x (inr h) = known_client P sound c h.0.name (λ r. lists r.acts h.0.index) h.1
 
     changed_cell : (c : ℕ) (x : CellRef) → MayChange P c x → IsIn (cells P) x
-    changed_cell c x (inl h) = h.0
+    changed_cell c x (inl h) = write-cells P h.0 h.1 x h.3
     changed_cell c x (inr h) = method_cells P sound h.0 x h.2
 
 pub admits-passes : (P : Plan) (policy : Labelling) (labels : Labels) → IsSound P → Admits P policy labels → AllPass P policy labels

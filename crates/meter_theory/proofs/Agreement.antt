@@ -10,7 +10,7 @@ use Rattle.cosem_data.specs.declared.cell.CellRef.{CellRef}
 use Rattle.cosem_data.specs.Cells.{same_name}
 use Rattle.meter_theory.specs.State.{State, keys, value, put}
 use Rattle.meter_theory.specs.Plan.{Plan, Object, buffer, entries_in_use, object_at}
-use Rattle.meter_theory.specs.Steps.{Effect, Put, Capture, Clear, Captures, captures_of, row_of, buffer_after, in_use_after, capture, kept, effect, effects, changed_by, changed, Step, effects_of, next}
+use Rattle.meter_theory.specs.Steps.{Effect, Put, Capture, Clear, Captures, captures_of, captured_in, row_of, buffer_after, in_use_after, capture, clear, empties, kept, effect, effects, changed_by, changed, Step, effects_of, next}
 use Rattle.meter_theory.specs.Sound.{IsSound}
 use Rattle.meter_theory.specs.Edges.{Agree, IsClosed}
 use Rattle.meter_theory.specs.EffectLaws.{KeepsAgreementOn, EffectLaws}
@@ -27,15 +27,24 @@ object-found P n o h =
 pub one_named : (P : Plan) → IsSound P → (o p : Object) → IsIn P.objects o → IsIn P.objects p → o.name ≡ p.name → o ≡ p
 one_named P sound = one_of_key (λ o. o.name) P.objects sound.names
 
+pub keys-clear : (s : State) (n : LogicalName) → keys (clear s n) ≡ keys s
+keys-clear s n = keys-put (put s (buffer n) (array no_trees)) (entries_in_use n) (counter 0) ∙ keys-put s (buffer n) (array no_trees)
+
+pub keys-emptied : (s : State) (n : LogicalName) (b : Bool) → keys (cond b (clear s n) s) ≡ keys s
+keys-emptied s n true = keys-clear s n
+keys-emptied s n false = refl
+
 -- An effect leaves the cells of a state.
 pub effect-keys : (P : Plan) (s : State) (e : Effect) → keys (effect P s e) ≡ keys s
-effect-keys P s (Put x v) = keys-put s x (kept x v)
-effect-keys P s (Clear n) = keys-put (put s (buffer n) (array no_trees)) (entries_in_use n) (counter 0) ∙ keys-put s (buffer n) (array no_trees)
+effect-keys P s (Put x v) = keys-put (cond (empties x) (clear s x.name) s) x (kept x v) ∙ keys-emptied s x.name (empties x)
+effect-keys P s (Clear n) = keys-clear s n
 effect-keys P s (Capture n) = at (captures_of (object_at P n))
   where
     at : (c : Option Captures) → keys (capture s n c) ≡ keys s
     at None = refl
-    at (Some c) = keys-put (put s (buffer n) (buffer_after c.entries (value s (buffer n)) (row_of s c.captured))) (entries_in_use n) (in_use_after c.entries (value s (entries_in_use n))) ∙ keys-put s (buffer n) (buffer_after c.entries (value s (buffer n)) (row_of s c.captured))
+    at (Some c) =
+        let after = buffer_after c.entries (value s (buffer n)) (row_of s (captured_in s n c.captured)) in
+        keys-put (put s (buffer n) after) (entries_in_use n) (in_use_after c.entries (value s (entries_in_use n))) ∙ keys-put s (buffer n) after
 
 pub effects-keys : (P : Plan) (s : State) (es : List Effect) → keys (effects P s es) ≡ keys s
 effects-keys P s [] = refl

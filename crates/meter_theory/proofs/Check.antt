@@ -4,6 +4,7 @@ use Rattle.std.proofs.Common.{◌≡◌, ◌==◌, ◌⊎◌, ℕ, Bool, true, f
 use Rattle.std.specs.List.{list_any}
 use Rattle.std.proofs.lemmas.Bool.{and_parts}
 use Rattle.meter_theory.specs.Lists.{IsIn, for_some}
+use Rattle.meter_theory.specs.Menus.{Choice, alternatives, has_menu}
 use Rattle.meter_theory.specs.Value.{counter}
 use Rattle.cosem_data.specs.Tree.{Tree, null_data, array, no_trees}
 use Rattle.cosem_data.specs.declared.name.LogicalName.{LogicalName}
@@ -11,19 +12,21 @@ use Rattle.cosem_data.specs.declared.cell.CellRef.{CellRef}
 use Rattle.cosem_data.specs.Cells.{same_cell}
 use Rattle.meter_theory.specs.declared.refs.ScriptRef.{ScriptRef}
 use Rattle.meter_theory.specs.declared.refs.UpDown.{UpDown}
-use Rattle.meter_theory.specs.Plan.{Plan, Object, Script, Action, Write, Invoke, Part, Data1, Register, ProfileGeneric, Clock, ScriptTable, RegisterMonitor, SingleActionSchedule, cells, start, start_of, buffer, capture_period, entries_in_use, thresholds, seen, execution_time, object_at, told_clock}
+use Rattle.meter_theory.specs.Plan.{Plan, Object, Script, Action, Write, Invoke, Part, Data1, Register, ProfileGeneric, Clock, ScriptTable, RegisterMonitor, SingleActionSchedule, cells, start, start_of, buffer, capture_objects, capture_period, entries_in_use, thresholds, seen, executed_script, execution_time, object_at, told_clock}
 use Rattle.cosem_data.specs.declared.cell.MethodRef.{MethodRef}
-use Rattle.meter_theory.specs.Steps.{Effect, Put, Capture, Clear, changed_by, changed, plain_method, plain_method_of, action_effects, actions_effects, script_in, scripts_of}
+use Rattle.meter_theory.specs.Steps.{Effect, Put, Capture, Clear, changed_by_write, changed_by, changed, plain_method, plain_method_of, action_effects, actions_effects, script_in, scripts_of}
 use Rattle.meter_theory.specs.declared.flow.Cause.{Cause}
 use Rattle.meter_theory.specs.declared.flow.Edge.{Edge}
 use Rattle.meter_theory.specs.declared.flow.Cause.TheVariants as causes
-use Rattle.meter_theory.specs.declared.flow.Cause.TheVariants.{Monitored, Monitor, Captured, Period, Schedule}
-use Rattle.meter_theory.specs.Edges.{edge, EdgeIn, IsEdge, script_changes, scripts_named, monitor_changes, among, in_plan_order, edges_from_clock, edges_in, same_cause, same_edge, first_of_each, edges}
+use Rattle.meter_theory.specs.declared.flow.Cause.TheVariants.{Monitored, Monitor, Captured, Menu, Period, Schedule}
+use Rattle.meter_theory.specs.Edges.{edge, EdgeIn, IsEdge, script_changes, scripts_named, monitor_changes, captured_by, schedule_changes, among, in_plan_order, edges_from_clock, menu_edges, edges_in, same_cause, same_edge, first_of_each, edges}
 use Rattle.meter_theory.specs.Labels.{method_changes, method_changes_of, all_scripts}
 use Rattle.meter_theory.specs.Sound.{IsSound}
 use Rattle.meter_theory.proofs.Lists.{any_in, in_any, found, in_append_left, in_append_right, in_append_cases, in_flat_map, from_flat_map, in_map, from_map, in_filter, from_filter}
+use Rattle.meter_theory.proofs.Menus.{in_count}
 use Rattle.meter_theory.proofs.Agreement.{object-found}
 use Rattle.meter_theory.proofs.Rights.{cell_of_object, cell_of_found}
+use Rattle.meter_theory.proofs.Writes.{write-cells}
 
 -- Membership as a test
 
@@ -39,6 +42,7 @@ same_cause-true : (a b : Cause) → same_cause a b ≡ true → a ≡ b
 same_cause-true Monitored Monitored h = refl
 same_cause-true Monitor Monitor h = refl
 same_cause-true Captured Captured h = refl
+same_cause-true Menu Menu h = refl
 same_cause-true Period Period h = refl
 same_cause-true Schedule Schedule h = refl
 same_cause-true causes.Clock causes.Clock h = refl
@@ -82,6 +86,18 @@ from_first earlier (f ∷ es) e i =
       | false ↦ λ j. elim j [ inl same ↦ inl same | inr k ↦ inr (from_first (f ∷ earlier) es e k) ]
     ] i
 
+-- The edges of a menu
+
+in_menu_edges : {A : Type 0} (c : Choice A) (x y : CellRef) (ys : List CellRef) → has_menu c ≡ true → IsIn ys y → IsIn (menu_edges c x ys) (edge Menu x y)
+in_menu_edges c x y ys h i = subst (λ b. IsIn (cond b (map (λ z. edge Menu x z) ys) []) (edge Menu x y)) (sym h) (in_map (λ z. edge Menu x z) ys y i)
+
+from_menu_edges : {A : Type 0} (c : Choice A) (x : CellRef) (ys : List CellRef) (e : Edge) → IsIn (menu_edges c x ys) e → (has_menu c ≡ true) × ((y : CellRef) × IsIn ys y × (e ≡ edge Menu x y))
+from_menu_edges c x ys e i = at (has_menu c) refl i
+  where
+    at : (b : Bool) → has_menu c ≡ b → IsIn (cond b (map (λ z. edge Menu x z) ys) []) e → (has_menu c ≡ true) × ((y : CellRef) × IsIn ys y × (e ≡ edge Menu x y))
+    at true h j = (h, from_map (λ z. edge Menu x z) ys e j)
+    at false h none = absurd none
+
 -- What scripts change is cells of the plan
 
 module _ (P : Plan) (sound : IsSound P) where
@@ -98,7 +114,7 @@ module _ (P : Plan) (sound : IsSound P) where
     where
       two : IsIn (buffer n ∷ entries_in_use n ∷ []) x → IsIn (cells P) x
       two (inl e) = cell_of_found P n o is x (array no_trees) (subst (λ p. IsIn (start_of n p) (x, array no_trees)) (sym h) (inl (ap (λ z. (z, array no_trees)) e)))
-      two (inr (inl e)) = cell_of_found P n o is x (counter 0) (subst (λ p. IsIn (start_of n p) (x, counter 0)) (sym h) (inr (inr (inl (ap (λ z. (z, counter 0)) e)))))
+      two (inr (inl e)) = cell_of_found P n o is x (counter 0) (subst (λ p. IsIn (start_of n p) (x, counter 0)) (sym h) (subst (λ z. IsIn (start_of n (ProfileGeneric captured period entries)) (z, counter 0)) (sym e) (in_count n captured period entries)))
       two (inr (inr none)) = absurd none
 
       at : (b : Bool) → IsIn (changed (cond b (Clear n ∷ []) (Capture n ∷ []))) x → IsIn (cells P) x
@@ -121,11 +137,8 @@ module _ (P : Plan) (sound : IsSound P) where
       at : (action : Action) → IsIn script.actions action → (e : Effect) → IsIn (action_effects P action) e → IsIn (changed_by e) x → IsIn (cells P) x
       at (Write y v) j e k m =
           let same : e ≡ Put y v = elim k [ inl p ↦ p | inr none ↦ absurd none ] in
-          let here : IsIn (y ∷ []) x = subst (λ z. IsIn (changed_by z) x) same m in
-          elim here [
-            | inl p ↦ subst (IsIn (cells P)) (sym p) (sound.writes o there script s y v j).cell
-            | inr none ↦ absurd none
-          ]
+          let here : IsIn (changed_by_write y) x = subst (λ z. IsIn (changed_by z) x) same m in
+          write-cells P y (sound.writes o there script s y v j).cell x here
       at (Invoke m parameter) j e k n = plain_of_cells m x (in_flat_map changed_by (plain_method_of P m) e x k n)
 
   pub script_cells : (r : ScriptRef) (x : CellRef) → IsIn (script_changes P r) x → IsIn (cells P) x
@@ -142,6 +155,11 @@ module _ (P : Plan) (sound : IsSound P) where
   monitor_cells : (actions : List UpDown) (x : CellRef) → IsIn (monitor_changes P actions) x → IsIn (cells P) x
   monitor_cells actions x i =
       let r = from_flat_map (script_changes P) (scripts_named actions) x i in
+      script_cells r.0 x r.2
+
+  schedule_cells : (script : Choice ScriptRef) (x : CellRef) → IsIn (schedule_changes P script) x → IsIn (cells P) x
+  schedule_cells script x i =
+      let r = from_flat_map (script_changes P) (alternatives script) x i in
       script_cells r.0 x r.2
 
   ordered : (xs : List CellRef) (x : CellRef) → IsIn xs x → IsIn (cells P) x → IsIn (in_plan_order P xs) x
@@ -161,8 +179,8 @@ module _ (P : Plan) (sound : IsSound P) where
       let y = from_map (λ w. edge causes.Clock x.0 w) targets e x.2 in
       (x.0, y.0, x.1, y.1, y.2)
 
-  abbrev after_captured : LogicalName → List Edge
-  after_captured n =
+  abbrev after_menu : LogicalName → List Edge
+  after_menu n =
       edge Period (capture_period n) (buffer n) ∷ edge Period (capture_period n) (entries_in_use n) ∷ edges_from_clock P (buffer n ∷ entries_in_use n ∷ [])
 
   -- Each edge that an object makes is listed, and no other.
@@ -178,25 +196,39 @@ module _ (P : Plan) (sound : IsSound P) where
       of_three (inr (inr (inl p))) = inr (inr (inl (ap (λ z. edge Monitor z y) p)))
       of_three (inr (inr (inr none))) = absurd none
   edge_listed n (ProfileGeneric captured period entries) Captured x y e =
-      in_append_left (map (λ z. edge Captured z (buffer n)) captured) (after_captured n) (edge Captured x y)
-      (subst (λ z. IsIn (map (λ w. edge Captured w (buffer n)) captured) (edge Captured x z)) (sym e.1) (in_map (λ z. edge Captured z (buffer n)) captured x e.0))
+      in_append_left (map (λ z. edge Captured z (buffer n)) (captured_by captured)) _ (edge Captured x y)
+      (subst (λ z. IsIn (map (λ w. edge Captured w (buffer n)) (captured_by captured)) (edge Captured x z)) (sym e.1) (in_map (λ z. edge Captured z (buffer n)) (captured_by captured) x e.0))
+  edge_listed n (ProfileGeneric captured period entries) Menu x y e =
+      in_append_right (map (λ z. edge Captured z (buffer n)) (captured_by captured)) _ (edge Menu x y)
+      (in_append_left (menu_edges captured (capture_objects n) (buffer n ∷ entries_in_use n ∷ [])) _ (edge Menu x y)
+      (subst (λ z. IsIn (menu_edges captured (capture_objects n) (buffer n ∷ entries_in_use n ∷ [])) (edge Menu z y)) (sym e.1)
+      (in_menu_edges captured (capture_objects n) y (buffer n ∷ entries_in_use n ∷ []) e.0 e.2)))
   edge_listed n (ProfileGeneric captured period entries) Period x y e =
-      in_append_right (map (λ z. edge Captured z (buffer n)) captured) (after_captured n) (edge Period x y) (of_two e.1)
+      in_append_right (map (λ z. edge Captured z (buffer n)) (captured_by captured)) _ (edge Period x y)
+      (in_append_right (menu_edges captured (capture_objects n) (buffer n ∷ entries_in_use n ∷ [])) (after_menu n) (edge Period x y)
+      (of_two e.1))
     where
-      of_two : IsIn (buffer n ∷ entries_in_use n ∷ []) y → IsIn (after_captured n) (edge Period x y)
+      of_two : IsIn (buffer n ∷ entries_in_use n ∷ []) y → IsIn (after_menu n) (edge Period x y)
       of_two (inl p) = inl (ap₂ (edge Period) e.0 p)
       of_two (inr (inl p)) = inr (inl (ap₂ (edge Period) e.0 p))
       of_two (inr (inr none)) = absurd none
   edge_listed n (ProfileGeneric captured period entries) causes.Clock x y e =
-      in_append_right (map (λ z. edge Captured z (buffer n)) captured) (after_captured n) (edge causes.Clock x y)
-      (inr (inr (from_clock (buffer n ∷ entries_in_use n ∷ []) x y e.0 e.1)))
+      in_append_right (map (λ z. edge Captured z (buffer n)) (captured_by captured)) _ (edge causes.Clock x y)
+      (in_append_right (menu_edges captured (capture_objects n) (buffer n ∷ entries_in_use n ∷ [])) (after_menu n) (edge causes.Clock x y)
+      (inr (inr (from_clock (buffer n ∷ entries_in_use n ∷ []) x y e.0 e.1))))
   edge_listed n (SingleActionSchedule script type times) Schedule x y e =
       subst (λ z. IsIn (edges_in P n (SingleActionSchedule script type times)) (edge Schedule z y)) (sym e.0)
-      (in_append_left (map (λ z. edge Schedule (execution_time n) z) (in_plan_order P (script_changes P script))) (edges_from_clock P (in_plan_order P (script_changes P script))) (edge Schedule (execution_time n) y)
-      (in_map (λ z. edge Schedule (execution_time n) z) (in_plan_order P (script_changes P script)) y (ordered (script_changes P script) y e.1 (script_cells script y e.1))))
+      (in_append_left (map (λ z. edge Schedule (execution_time n) z) (in_plan_order P (schedule_changes P script))) _ (edge Schedule (execution_time n) y)
+      (in_map (λ z. edge Schedule (execution_time n) z) (in_plan_order P (schedule_changes P script)) y (ordered (schedule_changes P script) y e.1 (schedule_cells script y e.1))))
+  edge_listed n (SingleActionSchedule script type times) Menu x y e =
+      subst (λ z. IsIn (edges_in P n (SingleActionSchedule script type times)) (edge Menu z y)) (sym e.1)
+      (in_append_right (map (λ z. edge Schedule (execution_time n) z) (in_plan_order P (schedule_changes P script))) _ (edge Menu (executed_script n) y)
+      (in_append_left (menu_edges script (executed_script n) (in_plan_order P (schedule_changes P script))) _ (edge Menu (executed_script n) y)
+      (in_menu_edges script (executed_script n) y (in_plan_order P (schedule_changes P script)) e.0 (ordered (schedule_changes P script) y e.2 (schedule_cells script y e.2)))))
   edge_listed n (SingleActionSchedule script type times) causes.Clock x y e =
-      in_append_right (map (λ z. edge Schedule (execution_time n) z) (in_plan_order P (script_changes P script))) (edges_from_clock P (in_plan_order P (script_changes P script))) (edge causes.Clock x y)
-      (from_clock (in_plan_order P (script_changes P script)) x y e.0 (ordered (script_changes P script) y e.1 (script_cells script y e.1)))
+      in_append_right (map (λ z. edge Schedule (execution_time n) z) (in_plan_order P (schedule_changes P script))) _ (edge causes.Clock x y)
+      (in_append_right (menu_edges script (executed_script n) (in_plan_order P (schedule_changes P script))) _ (edge causes.Clock x y)
+      (from_clock (in_plan_order P (schedule_changes P script)) x y e.0 (ordered (schedule_changes P script) y e.1 (schedule_cells script y e.1))))
   edge_listed n _ _ x y e = absurd e
 
   pub edge-listed : (e : Edge) → IsEdge P e → IsIn (edges P) e
@@ -228,28 +260,38 @@ module _ (P : Plan) (sound : IsSound P) where
         ]
       ]
   listed_in n (ProfileGeneric captured period entries) e i =
-      elim (in_append_cases (map (λ z. edge Captured z (buffer n)) captured) (after_captured n) e i) [
+      elim (in_append_cases (map (λ z. edge Captured z (buffer n)) (captured_by captured)) _ e i) [
         | inl j ↦
-            let x = from_map (λ z. edge Captured z (buffer n)) captured e j in
+            let x = from_map (λ z. edge Captured z (buffer n)) (captured_by captured) e j in
             subst (λ z. EdgeIn P n (ProfileGeneric captured period entries) z.cause z.source z.target) (sym x.2) (x.1, refl)
-        | inr j ↦ elim j [
-          | inl p ↦ subst (λ z. EdgeIn P n (ProfileGeneric captured period entries) z.cause z.source z.target) (sym p) (refl, inl refl)
+        | inr j ↦ elim (in_append_cases (menu_edges captured (capture_objects n) (buffer n ∷ entries_in_use n ∷ [])) _ e j) [
+          | inl k ↦
+              let m = from_menu_edges captured (capture_objects n) (buffer n ∷ entries_in_use n ∷ []) e k in
+              subst (λ z. EdgeIn P n (ProfileGeneric captured period entries) z.cause z.source z.target) (sym m.1.2) (m.0, refl, m.1.1)
           | inr k ↦ elim k [
-            | inl p ↦ subst (λ z. EdgeIn P n (ProfileGeneric captured period entries) z.cause z.source z.target) (sym p) (refl, inr (inl refl))
-            | inr m ↦
-                let c = of_clock (buffer n ∷ entries_in_use n ∷ []) e m in
-                subst (λ z. EdgeIn P n (ProfileGeneric captured period entries) z.cause z.source z.target) (sym c.4) (c.2, c.3)
+            | inl p ↦ subst (λ z. EdgeIn P n (ProfileGeneric captured period entries) z.cause z.source z.target) (sym p) (refl, inl refl)
+            | inr l ↦ elim l [
+              | inl p ↦ subst (λ z. EdgeIn P n (ProfileGeneric captured period entries) z.cause z.source z.target) (sym p) (refl, inr (inl refl))
+              | inr m ↦
+                  let c = of_clock (buffer n ∷ entries_in_use n ∷ []) e m in
+                  subst (λ z. EdgeIn P n (ProfileGeneric captured period entries) z.cause z.source z.target) (sym c.4) (c.2, c.3)
+            ]
           ]
         ]
       ]
   listed_in n (SingleActionSchedule script type times) e i =
-      elim (in_append_cases (map (λ z. edge Schedule (execution_time n) z) (in_plan_order P (script_changes P script))) (edges_from_clock P (in_plan_order P (script_changes P script))) e i) [
+      elim (in_append_cases (map (λ z. edge Schedule (execution_time n) z) (in_plan_order P (schedule_changes P script))) _ e i) [
         | inl j ↦
-            let y = from_map (λ z. edge Schedule (execution_time n) z) (in_plan_order P (script_changes P script)) e j in
-            subst (λ z. EdgeIn P n (SingleActionSchedule script type times) z.cause z.source z.target) (sym y.2) (refl, from_ordered (script_changes P script) y.0 y.1)
-        | inr j ↦
-            let c = of_clock (in_plan_order P (script_changes P script)) e j in
-            subst (λ z. EdgeIn P n (SingleActionSchedule script type times) z.cause z.source z.target) (sym c.4) (c.2, from_ordered (script_changes P script) c.1 c.3)
+            let y = from_map (λ z. edge Schedule (execution_time n) z) (in_plan_order P (schedule_changes P script)) e j in
+            subst (λ z. EdgeIn P n (SingleActionSchedule script type times) z.cause z.source z.target) (sym y.2) (refl, from_ordered (schedule_changes P script) y.0 y.1)
+        | inr j ↦ elim (in_append_cases (menu_edges script (executed_script n) (in_plan_order P (schedule_changes P script))) _ e j) [
+          | inl k ↦
+              let m = from_menu_edges script (executed_script n) (in_plan_order P (schedule_changes P script)) e k in
+              subst (λ z. EdgeIn P n (SingleActionSchedule script type times) z.cause z.source z.target) (sym m.1.2) (m.0, refl, from_ordered (schedule_changes P script) m.1.0 m.1.1)
+          | inr k ↦
+              let c = of_clock (in_plan_order P (schedule_changes P script)) e k in
+              subst (λ z. EdgeIn P n (SingleActionSchedule script type times) z.cause z.source z.target) (sym c.4) (c.2, from_ordered (schedule_changes P script) c.1 c.3)
+        ]
       ]
 
   pub listed-edge : (e : Edge) → IsIn (edges P) e → IsEdge P e
@@ -267,19 +309,22 @@ edge_target P sound e h = at h.0.part refl e.cause e.source e.target h.2
     entry : (part : Part) → o.part ≡ part → (x : CellRef) (v : Tree) → IsIn (start_of o.name part) (x, v) → IsIn (cells P) x
     entry part is x v i = cell_of_object P o x v h.1 (subst (λ q. IsIn (start_of o.name q) (x, v)) (sym is) i)
 
-    two : (captured : List CellRef) (period entries : ℕ) → o.part ≡ ProfileGeneric captured period entries → (y : CellRef) → IsIn (buffer o.name ∷ entries_in_use o.name ∷ []) y → IsIn (cells P) y
+    two : (captured : Choice (List CellRef)) (period entries : ℕ) → o.part ≡ ProfileGeneric captured period entries → (y : CellRef) → IsIn (buffer o.name ∷ entries_in_use o.name ∷ []) y → IsIn (cells P) y
     two captured period entries is y (inl p) = entry (ProfileGeneric captured period entries) is y (array no_trees) (inl (ap (λ z. (z, array no_trees)) p))
-    two captured period entries is y (inr (inl p)) = entry (ProfileGeneric captured period entries) is y (counter 0) (inr (inr (inl (ap (λ z. (z, counter 0)) p))))
+    two captured period entries is y (inr (inl p)) = entry (ProfileGeneric captured period entries) is y (counter 0)
+        (subst (λ z. IsIn (start_of o.name (ProfileGeneric captured period entries)) (z, counter 0)) (sym p) (in_count o.name captured period entries))
     two captured period entries is y (inr (inr none)) = absurd none
 
     at : (part : Part) → o.part ≡ part → (cause : Cause) (x y : CellRef) → EdgeIn P o.name part cause x y → IsIn (cells P) y
     at (RegisterMonitor monitored th actions) is Monitored x y i = entry (RegisterMonitor monitored th actions) is y null_data (inr (inl (ap (λ z. (z, null_data)) i.1)))
     at (RegisterMonitor monitored th actions) is Monitor x y i = monitor_cells P sound actions y i.1
     at (ProfileGeneric captured period entries) is Captured x y i = two captured period entries is y (inl i.1)
+    at (ProfileGeneric captured period entries) is Menu x y i = two captured period entries is y i.2
     at (ProfileGeneric captured period entries) is Period x y i = two captured period entries is y i.1
     at (ProfileGeneric captured period entries) is causes.Clock x y i = two captured period entries is y i.1
-    at (SingleActionSchedule script type times) is Schedule x y i = script_cells P sound script y i.1
-    at (SingleActionSchedule script type times) is causes.Clock x y i = script_cells P sound script y i.1
+    at (SingleActionSchedule script type times) is Schedule x y i = schedule_cells P sound script y i.1
+    at (SingleActionSchedule script type times) is Menu x y i = schedule_cells P sound script y i.2
+    at (SingleActionSchedule script type times) is causes.Clock x y i = schedule_cells P sound script y i.1
     at _ is _ x y i = absurd i
 
 -- what a method changes is cells of the plan

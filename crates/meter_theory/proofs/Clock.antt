@@ -1,13 +1,13 @@
 -- The time of a clock: its form and its moment, and what a put leaves of it.
-use Rattle.std.proofs.Common.{◌≡◌, ◌==◌, ◌≤◌, ◌<◌, ◌*◌, ◌+◌, ◌/◌, ◌%◌, ℕ, Bool, true, false, cond, ◌&&◌, refl, sym, ap, subst, ◌∙◌, arith, nat_le, nat_lt, ltb-true, eqb-true, Option, Some, None, ℤ, pos}
+use Rattle.std.proofs.Common.{◌≡◌, ◌==◌, ◌≤◌, ◌<◌, ◌*◌, ◌+◌, ◌/◌, ◌%◌, ℕ, Bool, true, false, cond, ◌&&◌, refl, sym, ap, subst, arith, nat_lt, ltb-true, ℤ, pos}
 use Rattle.std.proofs.lemmas.Bool.{and_parts, and_from, cond-false, leb-true, le-leb, lt-ltb}
 use Rattle.jiff_core.specs.Calendar.{days_in_month}
 use Rattle.jiff_core.proofs.SignedLemmas.{signed_arith}
 use Rattle.cosem_axdr.specs.Canonical as canonical
 use Rattle.cosem_data.specs.Tree.{Tree}
 use Rattle.cosem_data.specs.declared.cell.CellRef.{CellRef}
-use Rattle.meter_theory.specs.Times.{Moment, IsMoment, is_moment, first_moment, last_day, next_day, next_second, clock_moment, clock_value, is_clock_time}
-use Rattle.meter_theory.specs.Value.{ClockTime, is_within_limits, valid_tag, valid_parts, meets}
+use Rattle.meter_theory.specs.Times.{Moment, IsMoment, is_moment, first_moment, last_day, next_day, next_second, clock_moment, clock_value}
+use Rattle.meter_theory.specs.Value.{ClockTime, is_within_limits, valid_tag, valid_content, meets}
 use Rattle.meter_theory.specs.Steps.{kept}
 
 -- a clock's time in the kept form says its moment
@@ -113,8 +113,8 @@ next_second-is_moment t h =
 -- it says a moment
 pub clock_time-moment : (v : Tree) → meets ClockTime v ≡ true → IsMoment (clock_moment v)
 clock_time-moment v h =
-    let tag = and_parts (valid_tag ClockTime v) (is_within_limits v && valid_parts ClockTime v) h in
-    let limits = and_parts (is_within_limits v) (valid_parts ClockTime v) tag.1 in
+    let tag = and_parts (valid_tag ClockTime v) (is_within_limits v && valid_content ClockTime v) h in
+    let limits = and_parts (is_within_limits v) (valid_content ClockTime v) tag.1 in
     let bytes = and_parts _ _ limits.1 in
     moment-true (clock_moment v) (and_parts _ _ bytes.1).0
 

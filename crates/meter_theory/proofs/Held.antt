@@ -1,6 +1,6 @@
 -- The cells of a meter's state: those of the plan, and the inner clock where the plan has none.
 use Rattle.cosem_data.proofs.Same.{same_cell-true, same_cell-refl}
-use Rattle.std.proofs.Common.{◌≡◌, ◌==◌, ◌⊎◌, ℕ, Bool, true, false, cond, List, [], ◌∷◌, ◌++◌, map, refl, sym, ap, subst, ◌∙◌, inl, inr, Option, Some, None}
+use Rattle.std.proofs.Common.{◌≡◌, ◌==◌, ◌⊎◌, Bool, true, false, [], ◌∷◌, ◌++◌, refl, sym, ap, subst, ◌∙◌, inl, inr, Option, Some, None}
 use Rattle.std.proofs.lemmas.Bool.{and_right, cond-true, cond-false, false_from_ne_true}
 use Rattle.meter_theory.specs.Lists.{IsIn}
 use Rattle.cosem_data.specs.Tree.{Tree}
@@ -11,7 +11,7 @@ use Rattle.meter_theory.specs.Times.{Moment, first_moment, clock_value}
 use Rattle.meter_theory.specs.State.{State, keys, value}
 use Rattle.meter_theory.specs.Plan.{Plan, Object, Part, Data1, Register, ProfileGeneric, Clock, ScriptTable, RegisterMonitor, SingleActionSchedule, class_of, start_of, start_values, cells, clock_object, inner_clock, clock_time, clock_cell, clock, inner_start, start, held}
 use Rattle.meter_theory.proofs.Lists.{found, in_append_left, in_append_right, in_append_cases, from_flat_map, from_map}
-use Rattle.meter_theory.proofs.State.{is_touched}
+use Rattle.meter_theory.proofs.Menus.{profile_entry, schedule_entry}
 use Rattle.meter_theory.proofs.Rights.{cell_of_object}
 
 pub keys-append : (s t : State) → keys (s ++ t) ≡ keys s ++ keys t
@@ -78,18 +78,22 @@ start_apart n (Data1 start) x v (inl e) = ap (λ z. same_cell inner_clock z.0) e
 start_apart n (Data1 start) x v (inr none) = absurd none
 start_apart n (Register start default scaler_unit) x v (inl e) = ap (λ z. same_cell inner_clock z.0) e
 start_apart n (Register start default scaler_unit) x v (inr none) = absurd none
-start_apart n (ProfileGeneric captured period entries) x v (inl e) = ap (λ z. same_cell inner_clock z.0) e
-start_apart n (ProfileGeneric captured period entries) x v (inr (inl e)) = ap (λ z. same_cell inner_clock z.0) e
-start_apart n (ProfileGeneric captured period entries) x v (inr (inr (inl e))) = ap (λ z. same_cell inner_clock z.0) e
-start_apart n (ProfileGeneric captured period entries) x v (inr (inr (inr none))) = absurd none
+start_apart n (ProfileGeneric captured period entries) x v i =
+    elim (profile_entry n captured period entries (x, v) i) [
+      | inl e ↦ ap (λ z. same_cell inner_clock z.0) e
+      | inr j ↦ elim j [
+        | inl e ↦ ap (λ z. same_cell inner_clock z.0) e.1
+        | inr k ↦ elim k [ inl e ↦ ap (λ z. same_cell inner_clock z.0) e | inr e ↦ ap (λ z. same_cell inner_clock z.0) e ]
+      ]
+    ]
 start_apart n (Clock start) x v (inl e) = ap (λ z. same_cell inner_clock z.0) e ∙ and_right (same_name inner_clock.name n) false refl
 start_apart n (Clock start) x v (inr none) = absurd none
 start_apart n (ScriptTable scripts) x v none = absurd none
 start_apart n (RegisterMonitor monitored th actions) x v (inl e) = ap (λ z. same_cell inner_clock z.0) e
 start_apart n (RegisterMonitor monitored th actions) x v (inr (inl e)) = ap (λ z. same_cell inner_clock z.0) e
 start_apart n (RegisterMonitor monitored th actions) x v (inr (inr none)) = absurd none
-start_apart n (SingleActionSchedule script type times) x v (inl e) = ap (λ z. same_cell inner_clock z.0) e
-start_apart n (SingleActionSchedule script type times) x v (inr none) = absurd none
+start_apart n (SingleActionSchedule script type times) x v i =
+    elim (schedule_entry n script type times (x, v) i) [ inl e ↦ ap (λ z. same_cell inner_clock z.0) e.1 | inr e ↦ ap (λ z. same_cell inner_clock z.0) e ]
 
 -- the inner clock is no cell of the plan
 pub cell_apart : (P : Plan) (x : CellRef) → IsIn (cells P) x → same_cell inner_clock x ≡ false

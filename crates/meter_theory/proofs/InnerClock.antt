@@ -1,16 +1,14 @@
 -- The inner clock is looked at, and changes no cell of the plan.
-use Rattle.cosem_data.proofs.Same.{same_cell-true}
 use Rattle.std.proofs.Common.{◌≡◌, Bool, true, false, cond, [], ◌∷◌, refl, sym, ap, ap₂, subst, ◌∙◌, Option, Some, None}
 use Rattle.std.proofs.lemmas.Bool.{cond-true}
 use Rattle.meter_theory.specs.Lists.{IsIn, for_some}
-use Rattle.cosem_data.specs.Tree.{Tree}
-use Rattle.cosem_data.specs.Cells.{same_cell}
 use Rattle.cosem_data.specs.declared.name.LogicalName.{LogicalName}
 use Rattle.cosem_data.specs.declared.cell.CellRef.{CellRef}
 use Rattle.meter_theory.specs.Times.{Moment, IsMoment, is_moment, clock_moment, clock_value, is_capture_due, is_schedule_due}
 use Rattle.meter_theory.specs.Value.{count_of, elements}
 use Rattle.meter_theory.specs.State.{State, keys, value, put}
-use Rattle.meter_theory.specs.Plan.{Plan, Object, Part, ProfileGeneric, SingleActionSchedule, cells, capture_period, execution_time, object_at, inner_clock, clock_object, clock_cell, clock}
+use Rattle.meter_theory.specs.Menus.{chosen, script_ref_value}
+use Rattle.meter_theory.specs.Plan.{Plan, Object, Part, ProfileGeneric, SingleActionSchedule, cells, capture_period, executed_script, execution_time, object_at, inner_clock, clock_object, clock_cell, clock}
 use Rattle.meter_theory.specs.Steps.{Put, Capture, effects, effects_of_script, kept, present, captured_at, scheduled_at, effects_of, CaptureAt, ScheduleAt, ClockAt, clock_set, next}
 use Rattle.meter_theory.specs.Safety.{HasCells}
 use Rattle.meter_theory.proofs.State.{value-put_other, value-put_there}
@@ -52,6 +50,9 @@ period_stays P s t n none h = ap (λ u. value u (capture_period n)) (set-inner P
 times_stay : (P : Plan) (s : State) (t : Moment) (n : LogicalName) → clock_object P ≡ None → IsMoment t → value (next P s (ClockAt t)) (execution_time n) ≡ value s (execution_time n)
 times_stay P s t n none h = ap (λ u. value u (execution_time n)) (set-inner P s t none h) ∙ value-put_other s inner_clock (execution_time n) (clock_value t) refl
 
+script_stays : (P : Plan) (s : State) (t : Moment) (n : LogicalName) → clock_object P ≡ None → IsMoment t → value (next P s (ClockAt t)) (executed_script n) ≡ value s (executed_script n)
+script_stays P s t n none h = ap (λ u. value u (executed_script n)) (set-inner P s t none h) ∙ value-put_other s inner_clock (executed_script n) (clock_value t) refl
+
 pub capture-looks : (P : Plan) (s : State) (t : Moment) (n : LogicalName) → clock_object P ≡ None → HasCells P s → IsMoment t →
     effects_of P (next P s (ClockAt t)) (CaptureAt n) ≡ for_some (object_at P n) (λ o. captured_at s n t o.part)
 capture-looks P s t n none is h = at (object_at P n)
@@ -77,7 +78,9 @@ schedule-looks P s t n none is h = at (object_at P n)
 
     of_part : (part : Part) → scheduled_at P u n (present P u) part ≡ scheduled_at P s n t part
     of_part (SingleActionSchedule script type times) =
-        ap₂ (λ v m. cond (is_schedule_due (elements v) m) (effects_of_script P script) []) (times_stay P s t n none h) (present-set P s t none is h)
+        ap₂ (λ b r. cond b (effects_of_script P r) [])
+        (ap₂ (λ v m. is_schedule_due (elements v) m) (times_stay P s t n none h) (present-set P s t none is h))
+        (ap (chosen script_ref_value script) (script_stays P s t n none h))
     of_part _ = refl
 
     at : (o : Option Object) → for_some o (λ z. scheduled_at P u n (present P u) z.part) ≡ for_some o (λ z. scheduled_at P s n t z.part)

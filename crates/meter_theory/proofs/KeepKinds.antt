@@ -1,22 +1,27 @@
 -- Each effect that fits keeps the kinds.
 use Rattle.cosem_data.proofs.Same.{same_cell-true, same_name-true, same_name-from}
-use Rattle.std.proofs.Common.{◌≡◌, ◌==◌, ◌+◌, ◌-◌, min, ℕ, zero, suc, Bool, true, false, cond, List, [], ◌∷◌, ◌++◌, map, length, drop, refl, sym, ap, subst, ◌∙◌, inl, inr, Option, Some, None, option_and_then, arith, length-drop, eqb-true, eq-eqb}
+use Rattle.std.proofs.Common.{◌≡◌, ◌==◌, ◌+◌, ◌-◌, min, ℕ, zero, suc, Bool, true, false, cond, List, [], ◌∷◌, ◌++◌, map, length, drop, refl, sym, ap, subst, subst₂, ◌∙◌, inl, inr, Option, Some, None, option_and_then, arith, length-drop, eqb-true, eq-eqb}
 use Rattle.std.proofs.lemmas.Bool.{and_right, cond-true, false_from_ne_true}
 use Rattle.meter_theory.specs.Lists.{IsIn, keep_last}
 use Rattle.cosem_data.specs.Tree.{Tree, null_data, array, no_trees, parts, trees}
+use Rattle.meter_theory.specs.Menus.{Choice, alternatives, chosen, capture_objects_value}
 use Rattle.meter_theory.specs.Times.{clock_moment, clock_value, ShowsMoment}
 use Rattle.meter_theory.specs.Value.{Rule, ClockTime, meets, array_of, structure_of, elements, counter}
 use Rattle.cosem_data.specs.declared.cell.CellRef.{CellRef}
 use Rattle.cosem_data.specs.Cells.{same_name, cell, same_cell}
 use Rattle.meter_theory.specs.State.{State, keys, value, put}
 use Rattle.cosem_data.specs.declared.name.LogicalName.{LogicalName}
-use Rattle.meter_theory.specs.Plan.{Plan, Object, Part, Data1, Register, ProfileGeneric, Clock, ScriptTable, RegisterMonitor, SingleActionSchedule, cells, start, start_of, held, inner_clock, clock_object, clock_cell, clock, rule_in, rule_of, class_of, object_at, buffer, entries_in_use, seen}
-use Rattle.meter_theory.specs.Steps.{Effect, Put, Capture, Clear, Captures, captures_in, captures_of, capture, clear, kept, effect, row_of, buffer_after, in_use_after}
+use Rattle.meter_theory.specs.Plan.{Plan, Object, Part, Data1, Register, ProfileGeneric, Clock, ScriptTable, RegisterMonitor, SingleActionSchedule, cells, start, start_of, held, inner_clock, clock_object, clock_cell, clock, rule_in, rule_of, class_of, object_at, buffer, capture_objects, entries_in_use, seen}
+use Rattle.meter_theory.specs.Steps.{Effect, Put, Capture, Clear, Captures, captures_in, captures_of, captured_in, capture, clear, empties, write, kept, effect, row_of, buffer_after, in_use_after}
+use Rattle.meter_theory.specs.Edges.{captured_by}
 use Rattle.meter_theory.specs.Sound.{IsSound, IsCapturable}
 use Rattle.meter_theory.specs.States.{IsCaptured, AreCaptured, AreRows, IsBuffer, IsCount, IsSeen, Holds, IsState, IsRemembered, Fits}
+use Rattle.meter_theory.proofs.Lists.{in_flat_map}
+use Rattle.meter_theory.proofs.Menus.{chosen-in, in_count}
 use Rattle.meter_theory.proofs.State.{keys-put, value-put_other, value-put_there}
 use Rattle.meter_theory.proofs.Agreement.{object-found, one_named, not_both}
 use Rattle.meter_theory.proofs.Rights.{cell_of_object}
+use Rattle.meter_theory.proofs.Writes.{clock-empties}
 use Rattle.meter_theory.proofs.Held.{cell_held, clock_held}
 use Rattle.meter_theory.proofs.Clock.{kept-value, clock_time-moment, value-clock_time}
 
@@ -114,6 +119,10 @@ buffer_off_clock : (o : Option Object) (n : LogicalName) → (same_cell (clock_c
 buffer_off_clock None n = (refl, refl)
 buffer_off_clock (Some o) n = (refl, refl)
 
+objects_off_clock : (o : Option Object) (n : LogicalName) → same_cell (clock_cell o) (capture_objects n) ≡ false
+objects_off_clock None n = refl
+objects_off_clock (Some o) n = refl
+
 in_use_off_clock : (o : Option Object) (n : LogicalName) → (same_cell (clock_cell o) (entries_in_use n) ≡ false) × (same_cell (entries_in_use n) (clock_cell o) ≡ false)
 in_use_off_clock None n = (refl, refl)
 in_use_off_clock (Some o) n = (refl, refl)
@@ -133,22 +142,29 @@ apart_from_ruled P x y rule h k = false_from_ne_true (same_cell x y) (λ e.
     let same : rule_of P x ≡ rule_of P y = ap (rule_of P) (same_cell-true x y e) in
     cc)
 
--- what an object holds depends on three of its cells
-holds_same : (P : Plan) (s t : State) (n : LogicalName) (part : Part) → value t (buffer n) ≡ value s (buffer n) → value t (entries_in_use n) ≡ value s (entries_in_use n) → value t (seen n) ≡ value s (seen n) → Holds P s n part → Holds P t n part
-holds_same P s t n (ProfileGeneric captured period entries) b u e h = (subst (IsBuffer P captured entries) (sym b) h.0, subst (IsCount entries) (sym u) h.1)
-holds_same P s t n (RegisterMonitor monitored th actions) b u e h = subst (IsSeen P monitored) (sym e) h
-holds_same P s t n _ b u e h = tt
+-- a profile's rows, of what it captures
+abbrev OfNow : Plan → Choice (List CellRef) → ℕ → Tree → Tree → Type 0
+OfNow P captured entries now b = IsBuffer P (chosen capture_objects_value captured now) entries b
 
--- a value that meets its rule
-pub put-keeps : (P : Plan) (s : State) (x : CellRef) (v : Tree) (rule : Rule) → rule_of P x ≡ Some rule → meets rule v ≡ true → (x ≡ clock P → ShowsMoment v) → IsState P s → IsState P (put s x v)
-put-keeps P s x v rule h fits shows k = record {
+-- what an object holds depends on four of its cells
+holds_same : (P : Plan) (s t : State) (n : LogicalName) (part : Part) →
+    value t (capture_objects n) ≡ value s (capture_objects n) → value t (buffer n) ≡ value s (buffer n) → value t (entries_in_use n) ≡ value s (entries_in_use n) → value t (seen n) ≡ value s (seen n) →
+    Holds P s n part → Holds P t n part
+holds_same P s t n (ProfileGeneric captured period entries) m b u e h = (subst₂ (OfNow P captured entries) (sym m) (sym b) h.0, subst (IsCount entries) (sym u) h.1)
+holds_same P s t n (RegisterMonitor monitored th actions) m b u e h = subst (IsSeen P monitored) (sym e) h
+holds_same P s t n _ m b u e h = tt
+
+no_rows : (P : Plan) (captured : List CellRef) (entries : ℕ) (v : Tree) → v ≡ array no_trees → IsBuffer P captured entries v
+no_rows P captured entries v e = ([], e, omega arith, tt)
+
+-- a value that meets its rule, put where the buffers that it would empty are empty
+put_keeps : (P : Plan) (s : State) (x : CellRef) (v : Tree) (rule : Rule) → rule_of P x ≡ Some rule → meets rule v ≡ true → (x ≡ clock P → ShowsMoment v) →
+    (empties x ≡ true → (o : Object) → IsIn P.objects o → o.name ≡ x.name → (captured : Choice (List CellRef)) (period entries : ℕ) → o.part ≡ ProfileGeneric captured period entries → value s (buffer o.name) ≡ array no_trees) →
+    IsState P s → IsState P (put s x v)
+put_keeps P s x v rule h fits shows emptied k = record {
   cells = keys-put s x v ∙ k.cells;
   settable = λ y i other is. at y (subst (λ ks. IsIn ks y) (keys-put s x v) i) other is (same_cell x y) refl;
-  inner = λ o there. holds_same P s (put s x v) o.name o.part
-      (value-put_other s x (buffer o.name) v (ruled_apart P x (buffer o.name) rule h (buffer_unruled P o.name)))
-      (value-put_other s x (entries_in_use o.name) v (ruled_apart P x (entries_in_use o.name) rule h (in_use_unruled P o.name)))
-      (value-put_other s x (seen o.name) v (ruled_apart P x (seen o.name) rule h (seen_unruled P o.name)))
-      (k.inner o there);
+  inner = λ o there. in_object o there (same_cell x (capture_objects o.name)) refl;
   clock = of_clock (same_cell x (clock P)) refl;
 }
   where
@@ -158,6 +174,36 @@ put-keeps P s x v rule h fits shows k = record {
         let same : x ≡ clock P = same_cell-true x (clock P) p in
         subst (λ z. ShowsMoment (value (put s x v) z)) same
         (subst ShowsMoment (sym (value-put_there s x v (subst (IsIn (keys s)) (sym same) (subst (λ ks. IsIn ks (clock P)) (sym k.cells) (clock_held P))))) (shows same))
+
+    buffer_stays : (n : LogicalName) → value (put s x v) (buffer n) ≡ value s (buffer n)
+    buffer_stays n = value-put_other s x (buffer n) v (ruled_apart P x (buffer n) rule h (buffer_unruled P n))
+
+    in_use_stays : (n : LogicalName) → value (put s x v) (entries_in_use n) ≡ value s (entries_in_use n)
+    in_use_stays n = value-put_other s x (entries_in_use n) v (ruled_apart P x (entries_in_use n) rule h (in_use_unruled P n))
+
+    seen_stays : (n : LogicalName) → value (put s x v) (seen n) ≡ value s (seen n)
+    seen_stays n = value-put_other s x (seen n) v (ruled_apart P x (seen n) rule h (seen_unruled P n))
+
+    in_object : (o : Object) → IsIn P.objects o → (b : Bool) → same_cell x (capture_objects o.name) ≡ b → Holds P (put s x v) o.name o.part
+    in_object o there false p =
+        holds_same P s (put s x v) o.name o.part (value-put_other s x (capture_objects o.name) v p) (buffer_stays o.name) (in_use_stays o.name) (seen_stays o.name) (k.inner o there)
+    in_object o there true p = of_part o.part refl (k.inner o there)
+      where
+        same : x ≡ capture_objects o.name
+        same = same_cell-true x (capture_objects o.name) p
+
+        of_part : (part : Part) → o.part ≡ part → Holds P s o.name part → Holds P (put s x v) o.name part
+        of_part (ProfileGeneric captured period entries) is held = (
+          no_rows P (captured_in (put s x v) o.name captured) entries (value (put s x v) (buffer o.name))
+              (buffer_stays o.name ∙ emptied (ap empties same) o there (sym (ap (λ z. z.name) same)) captured period entries is),
+          subst (IsCount entries) (sym (in_use_stays o.name)) held.1,
+        )
+        of_part (RegisterMonitor monitored th actions) is held = subst (IsSeen P monitored) (sym (seen_stays o.name)) held
+        of_part (Data1 first) is held = tt
+        of_part (Register first default scaler_unit) is held = tt
+        of_part (Clock first) is held = tt
+        of_part (ScriptTable scripts) is held = tt
+        of_part (SingleActionSchedule script type times) is held = tt
 
     at : (y : CellRef) → IsIn (keys s) y → (other : Rule) → rule_of P y ≡ Some other → (b : Bool) → same_cell x y ≡ b → meets other (value (put s x v) y) ≡ true
     at y i other is false p = subst (λ w. meets other w ≡ true) (sym (value-put_other s x y v p)) (k.settable y i other is)
@@ -182,6 +228,7 @@ remember-keeps P sound s n v own k = record {
     at : (o : Object) → IsIn P.objects o → (b : Bool) → (same_name o.name n) ≡ b → Holds P (put s (seen n) v) o.name o.part
     at o there true p = own o there (same_name-true o.name n p)
     at o there false p = holds_same P s (put s (seen n) v) o.name o.part
+        (value-put_other s (seen n) (capture_objects o.name) v refl)
         (value-put_other s (seen n) (buffer o.name) v refl)
         (value-put_other s (seen n) (entries_in_use o.name) v refl)
         (value-put_other s (seen n) (seen o.name) v (false_from_ne_true (same_cell (seen n) (seen o.name)) (λ e.
@@ -195,6 +242,7 @@ clock-keeps P s v shows k = record {
   cells = keys-put s (clock P) v ∙ k.cells;
   settable = λ y i other is. at y (subst (λ ks. IsIn ks y) (keys-put s (clock P) v) i) other is (same_cell (clock P) y) refl;
   inner = λ o there. holds_same P s (put s (clock P) v) o.name o.part
+      (value-put_other s (clock P) (capture_objects o.name) v (objects_off_clock (clock_object P) o.name))
       (value-put_other s (clock P) (buffer o.name) v (buffer_off_clock (clock_object P) o.name).0)
       (value-put_other s (clock P) (entries_in_use o.name) v (in_use_off_clock (clock_object P) o.name).0)
       (value-put_other s (clock P) (seen o.name) v (seen_off_clock (clock_object P) o.name).0)
@@ -215,11 +263,11 @@ clock-keeps P s v shows k = record {
 
 -- A profile's two cells
 
-abbrev OwnFits : Plan → Part → Tree → Tree → Type 0
-OwnFits P (ProfileGeneric captured period entries) b u = IsBuffer P captured entries b × IsCount entries u
-OwnFits P _ b u = Unit {0}
+abbrev OwnFits : Plan → State → LogicalName → Part → Tree → Tree → Type 0
+OwnFits P s n (ProfileGeneric captured period entries) b u = IsBuffer P (captured_in s n captured) entries b × IsCount entries u
+OwnFits P s n _ b u = Unit {0}
 
-both-keep : (P : Plan) (s : State) (n : LogicalName) (b u : Tree) → ((o : Object) → IsIn P.objects o → o.name ≡ n → OwnFits P o.part b u) →
+both-keep : (P : Plan) (s : State) (n : LogicalName) (b u : Tree) → ((o : Object) → IsIn P.objects o → o.name ≡ n → OwnFits P s o.name o.part b u) →
     IsState P s → IsState P (put (put s (buffer n) b) (entries_in_use n) u)
 both-keep P s n b u own k = record {
   cells = keys_after ∙ k.cells;
@@ -263,20 +311,26 @@ both-keep P s n b u own k = record {
     seen_stays : (m : LogicalName) → value new (seen m) ≡ value s (seen m)
     seen_stays m = value-put_other (put s (buffer n) b) (entries_in_use n) (seen m) u refl ∙ value-put_other s (buffer n) (seen m) b refl
 
-    profile_at : (o : Object) → IsIn P.objects o → (captured : List CellRef) (period entries : ℕ) → o.part ≡ ProfileGeneric captured period entries → (t : Bool) → (same_name o.name n) ≡ t →
-        IsBuffer P captured entries (value new (buffer o.name)) × IsCount entries (value new (entries_in_use o.name))
+    choice_stays : (m : LogicalName) → value new (capture_objects m) ≡ value s (capture_objects m)
+    choice_stays m =
+        value-put_other (put s (buffer n) b) (entries_in_use n) (capture_objects m) u (and_right (same_name n m) false refl)
+        ∙ value-put_other s (buffer n) (capture_objects m) b (and_right (same_name n m) false refl)
+
+    profile_at : (o : Object) → IsIn P.objects o → (captured : Choice (List CellRef)) (period entries : ℕ) → o.part ≡ ProfileGeneric captured period entries → (t : Bool) → (same_name o.name n) ≡ t →
+        Holds P new o.name (ProfileGeneric captured period entries)
     profile_at o there captured period entries h false p =
         let old : Holds P s o.name (ProfileGeneric captured period entries) = subst (Holds P s o.name) h (k.inner o there) in
-        (subst (IsBuffer P captured entries) (sym (elsewhere o p 2 7)) old.0, subst (IsCount entries) (sym (elsewhere o p 7 7)) old.1)
+        (subst₂ (OfNow P captured entries) (sym (choice_stays o.name)) (sym (elsewhere o p 2 7)) old.0, subst (IsCount entries) (sym (elsewhere o p 7 7)) old.1)
     profile_at o there captured period entries h true p =
         let named : o.name ≡ n = same_name-true o.name n p in
-        let fits : IsBuffer P captured entries b × IsCount entries u = subst (λ q. OwnFits P q b u) h (own o there named) in
+        let fits : OwnFits P s o.name (ProfileGeneric captured period entries) b u = subst (λ q. OwnFits P s o.name q b u) h (own o there named) in
         let in_start : (x : CellRef) (v : Tree) → IsIn (start_of o.name (ProfileGeneric captured period entries)) (x, v) → IsIn (keys s) x =
         λ x v i. subst (λ ks. IsIn ks x) (sym k.cells) (cell_held P x (cell_of_object P o x v there (subst (λ q. IsIn (start_of o.name q) (x, v)) (sym h) i))) in
         let first : IsIn (keys s) (buffer n) = subst (λ m. IsIn (keys s) (buffer m)) named (in_start (buffer o.name) (array no_trees) (inl refl)) in
-        let second : IsIn (keys s) (entries_in_use n) = subst (λ m. IsIn (keys s) (entries_in_use m)) named (in_start (entries_in_use o.name) (counter 0) (inr (inr (inl refl)))) in
-        subst (λ m. IsBuffer P captured entries (value new (buffer m)) × IsCount entries (value new (entries_in_use m))) (sym named)
-        (subst (IsBuffer P captured entries) (sym (new_buffer first)) fits.0, subst (IsCount entries) (sym (new_in_use second)) fits.1)
+        let second : IsIn (keys s) (entries_in_use n) = subst (λ m. IsIn (keys s) (entries_in_use m)) named (in_start (entries_in_use o.name) (counter 0) (in_count o.name captured period entries)) in (
+          subst₂ (OfNow P captured entries) (sym (choice_stays o.name)) (sym (ap (λ m. value new (buffer m)) named ∙ new_buffer first)) fits.0,
+          subst (IsCount entries) (sym (ap (λ m. value new (entries_in_use m)) named ∙ new_in_use second)) fits.1,
+        )
 
     at : (o : Object) → IsIn P.objects o → (part : Part) → o.part ≡ part → Holds P new o.name part
     at o there (ProfileGeneric captured period entries) h = profile_at o there captured period entries h (same_name o.name n) refl
@@ -286,16 +340,34 @@ both-keep P s n b u own k = record {
     at o there _ h = tt
 
 pub clear-keeps : (P : Plan) (s : State) (n : LogicalName) → IsState P s → IsState P (clear s n)
-clear-keeps P s n k = both-keep P s n (array no_trees) (counter 0) (λ o there named. own o.part) k
+clear-keeps P s n k = both-keep P s n (array no_trees) (counter 0) (λ o there named. own o.name o.part) k
   where
-    own : (part : Part) → OwnFits P part (array no_trees) (counter 0)
-    own (Data1 start) = tt
-    own (Register start default scaler_unit) = tt
-    own (ProfileGeneric captured period entries) = (([], refl, omega arith, tt), (0, refl, omega arith))
-    own (Clock first) = tt
-    own (ScriptTable scripts) = tt
-    own (RegisterMonitor monitored th actions) = tt
-    own (SingleActionSchedule script type times) = tt
+    own : (m : LogicalName) (part : Part) → OwnFits P s m part (array no_trees) (counter 0)
+    own m (Data1 start) = tt
+    own m (Register start default scaler_unit) = tt
+    own m (ProfileGeneric captured period entries) = (no_rows P (captured_in s m captured) entries (array no_trees) refl, (0, refl, omega arith))
+    own m (Clock first) = tt
+    own m (ScriptTable scripts) = tt
+    own m (RegisterMonitor monitored th actions) = tt
+    own m (SingleActionSchedule script type times) = tt
+
+-- A write that keeps a value that meets its rule: into a profile's capture_objects it goes where the buffer is empty.
+write-keeps : (P : Plan) (s : State) (x : CellRef) (w : Tree) (rule : Rule) → rule_of P x ≡ Some rule → meets rule w ≡ true → (x ≡ clock P → ShowsMoment w) → IsState P s →
+    IsState P (put (cond (empties x) (clear s x.name) s) x w)
+write-keeps P s x w rule h fits shows k = at (empties x) refl
+  where
+    emptied : (o : Object) → IsIn P.objects o → o.name ≡ x.name → (captured : Choice (List CellRef)) (period entries : ℕ) → o.part ≡ ProfileGeneric captured period entries →
+        value (clear s x.name) (buffer o.name) ≡ array no_trees
+    emptied o there named captured period entries is =
+        subst (λ n. value (clear s x.name) (buffer n) ≡ array no_trees) (sym named)
+        (value-put_other (put s (buffer x.name) (array no_trees)) (entries_in_use x.name) (buffer x.name) (counter 0) (and_right (same_name x.name x.name) false refl)
+        ∙ value-put_there s (buffer x.name) (array no_trees) (subst (λ n. IsIn (keys s) (buffer n)) named
+        (subst (λ ks. IsIn ks (buffer o.name)) (sym k.cells)
+        (cell_held P (buffer o.name) (cell_of_object P o (buffer o.name) (array no_trees) there (subst (λ part. IsIn (start_of o.name part) (buffer o.name, array no_trees)) (sym is) (inl refl)))))))
+
+    at : (b : Bool) → empties x ≡ b → IsState P (put (cond b (clear s x.name) s) x w)
+    at true p = put_keeps P (clear s x.name) x w rule h fits shows (λ _. emptied) (clear-keeps P s x.name k)
+    at false p = put_keeps P s x w rule h fits shows (λ q. not_both (empties x) q p) k
 
 -- Rows
 
@@ -343,6 +415,11 @@ buffer_keeps P captured entries old values h c =
 count_keeps : (entries : ℕ) (old : Tree) → IsCount entries old → IsCount entries (in_use_after entries old)
 count_keeps entries old h = (min (h.0 + 1) entries, ap (in_use_after entries) h.1, omega arith)
 
+-- what a profile captures now is among what it may capture
+captured_now_by : (s : State) (n : LogicalName) (captured : Choice (List CellRef)) (x : CellRef) → IsIn (captured_in s n captured) x → IsIn (captured_by captured) x
+captured_now_by s n captured x i =
+    in_flat_map (λ xs. xs) (alternatives captured) (captured_in s n captured) x (chosen-in capture_objects_value captured (value s (capture_objects n))) i
+
 some_same : (d c : Captures) → Some d ≡ Some c → d ≡ c
 some_same d c e = cc
 
@@ -353,20 +430,22 @@ capture-keeps P sound s n k = at (object_at P n) refl
     with_captures o is None h = k
     with_captures o is (Some c) h =
         let there = object-found P n o is in
-        both-keep P s n (buffer_after c.entries (value s (buffer n)) (row_of s c.captured)) (in_use_after c.entries (value s (entries_in_use n)))
+        both-keep P s n (buffer_after c.entries (value s (buffer n)) (row_of s (captured_in s n c.captured))) (in_use_after c.entries (value s (entries_in_use n)))
         (λ p in_plan named. own p in_plan named (one_named P sound o p there.0 in_plan (there.1 ∙ sym named)) p.part refl) k
       where
-        row_fits : (p : Object) → IsIn P.objects p → (d : Captures) → captures_in p.part ≡ Some d → AreCaptured P d.captured (map (value s) d.captured)
-        row_fits p in_plan d is_d = captured_now P s d.captured (λ x i. let may = sound.captures p in_plan d is_d x i in capturable_now P s k x may.0 may.1)
+        row_fits : (p : Object) → IsIn P.objects p → (d : Captures) → captures_in p.part ≡ Some d → (m : LogicalName) → AreCaptured P (captured_in s m d.captured) (map (value s) (captured_in s m d.captured))
+        row_fits p in_plan d is_d m = captured_now P s (captured_in s m d.captured) (λ x i.
+            let may = sound.captures p in_plan d is_d x (captured_now_by s m d.captured x i) in capturable_now P s k x may.0 may.1)
 
-        own : (p : Object) → IsIn P.objects p → p.name ≡ n → o ≡ p → (part : Part) → p.part ≡ part → OwnFits P part (buffer_after c.entries (value s (buffer n)) (row_of s c.captured)) (in_use_after c.entries (value s (entries_in_use n)))
+        own : (p : Object) → IsIn P.objects p → p.name ≡ n → o ≡ p → (part : Part) → p.part ≡ part → OwnFits P s p.name part (buffer_after c.entries (value s (buffer n)) (row_of s (captured_in s n c.captured))) (in_use_after c.entries (value s (entries_in_use n)))
         own p in_plan named same (ProfileGeneric captured period entries) q =
             let d : Captures = record { captured = captured; entries = entries } in
             let is_d : captures_in p.part ≡ Some d = ap captures_in q in
             let e : d ≡ c = some_same d c (sym is_d ∙ (ap (λ z. captures_in z.part) (sym same) ∙ h)) in
-            let held : Holds P s n (ProfileGeneric captured period entries) = subst (λ m. Holds P s m (ProfileGeneric captured period entries)) named (subst (Holds P s p.name) q (k.inner p in_plan)) in
-            subst (λ z. IsBuffer P captured entries (buffer_after z.entries (value s (buffer n)) (row_of s z.captured)) × IsCount entries (in_use_after z.entries (value s (entries_in_use n)))) e
-            (buffer_keeps P captured entries (value s (buffer n)) (map (value s) captured) held.0 (row_fits p in_plan d is_d), count_keeps entries (value s (entries_in_use n)) held.1)
+            let held : Holds P s p.name (ProfileGeneric captured period entries) = subst (Holds P s p.name) q (k.inner p in_plan) in
+            let now : List CellRef = captured_in s p.name captured in
+            subst₂ (λ m z. IsBuffer P now entries (buffer_after z.entries (value s (buffer m)) (row_of s (captured_in s m z.captured))) × IsCount entries (in_use_after z.entries (value s (entries_in_use m)))) named e
+            (buffer_keeps P now entries (value s (buffer p.name)) (map (value s) now) held.0 (row_fits p in_plan d is_d p.name), count_keeps entries (value s (entries_in_use p.name)) held.1)
         own p in_plan named same (Data1 first) q = tt
         own p in_plan named same (Register first default scaler_unit) q = tt
         own p in_plan named same (Clock first) q = tt
@@ -402,7 +481,7 @@ is_seen_of P n _ x v r = absurd r
 
 -- An effect that fits keeps the kinds.
 pub effect-keeps : (P : Plan) → IsSound P → (s : State) (e : Effect) → Fits P e → IsState P s → IsState P (effect P s e)
-effect-keeps P sound s (Put x v) (inl f) k = put-keeps P s x (kept x v) f.0 f.1 (kept_meets P x v f.0 f.1 f.2) shows k
+effect-keeps P sound s (Put x v) (inl f) k = write-keeps P s x (kept x v) f.0 f.1 (kept_meets P x v f.0 f.1 f.2) shows k
   where
     shows : x ≡ clock P → ShowsMoment (kept x v)
     shows same =
@@ -415,11 +494,12 @@ effect-keeps P sound s (Put x v) (inl f) k = put-keeps P s x (kept x v) f.0 f.1 
 effect-keeps P sound s (Put x v) (inr (inl f)) k =
     let o : Object = f.0 in
     let same : x ≡ seen o.name = is_seen_of P o.name o.part x v f.2 in
-    subst (λ z. IsState P (put s z (kept z v))) (sym same)
+    subst (λ z. IsState P (write s z v)) (sym same)
     (remember-keeps P sound s o.name v
     (λ p there named. remembered P s o.name v k.cells o f.1 refl (subst (λ z. IsRemembered P o.name o.part z v) same f.2) p (one_named P sound o p f.1 there (sym named))) k)
 effect-keeps P sound s (Put x v) (inr (inr f)) k =
-    subst (λ z. IsState P (put s z (kept z v))) (sym f.0)
-    (subst (λ w. IsState P (put s (clock P) w)) (sym (ap (kept (clock P)) f.1.2 ∙ kept-value (clock P) f.1.0)) (clock-keeps P s (clock_value f.1.0) (f.1.0, f.1.1, refl) k))
+    subst (λ z. IsState P (write s z v)) (sym f.0)
+    (subst (λ b. IsState P (put (cond b (clear s (clock P).name) s) (clock P) (kept (clock P) v))) (sym (clock-empties P))
+    (subst (λ w. IsState P (put s (clock P) w)) (sym (ap (kept (clock P)) f.1.2 ∙ kept-value (clock P) f.1.0)) (clock-keeps P s (clock_value f.1.0) (f.1.0, f.1.1, refl) k)))
 effect-keeps P sound s (Capture n) f k = capture-keeps P sound s n k
 effect-keeps P sound s (Clear n) f k = clear-keeps P s n k

@@ -15,7 +15,7 @@ use Rattle.meter_theory.specs.Access.{is_success}
 use Rattle.meter_theory.specs.Times.{Moment, IsMoment, is_moment, next_second, clock_moment, clock_value, is_capture_due, is_schedule_due}
 use Rattle.meter_theory.specs.Rights.{Argument, Absent, Given, Unreadable, cell_of, method_of, set_answer, act_answer, set_places, meets_rule, script_number}
 use Rattle.meter_theory.specs.declared.access.AccessCode.TheVariants.{OtherReason}
-use Rattle.meter_theory.specs.Steps.{Effect, Put, Capture, Clear, effects, plain_method, plain_method_of, action_effects, actions_effects, script_in, scripts_of, effects_of_script, method_in, method_effects, due_scripts, Step, Get, Set, Act, Input, CaptureAt, Evaluate, ScheduleAt, Tick, ClockAt, present, clock_set, given_value, is_fed, meets_some, captured_at, evaluated, scheduled_at, effects_of, next}
+use Rattle.meter_theory.specs.Steps.{Effect, Put, Capture, Clear, effects, plain_method, plain_method_of, action_effects, actions_effects, script_in, scripts_of, effects_of_script, method_in, method_effects, due_scripts, Step, Get, Set, Act, Input, CaptureAt, Evaluate, ScheduleAt, Tick, ClockAt, present, clock_set, given_value, is_fed, meets_some, captured_at, evaluated, script_now, scheduled_at, effects_of, next}
 use Rattle.meter_theory.specs.Replies.{run}
 use Rattle.meter_theory.specs.Sound.{IsSound, IsSoundPart}
 use Rattle.meter_theory.specs.States.{IsState, IsSeen, IsRemembered, Fits}
@@ -120,7 +120,7 @@ module _ (P : Plan) (sound : IsSound P) where
   captured_fit s n t _ = λ e i. absurd i
 
   scheduled_fit : (s : State) (n : LogicalName) (t : Moment) (part : Part) → AllFit P (scheduled_at P s n t part)
-  scheduled_fit s n t (SingleActionSchedule script type times) = fit_if (is_schedule_due (elements (value s (execution_time n))) t) (effects_of_script P script) (λ h. script_fit script)
+  scheduled_fit s n t (SingleActionSchedule script type times) = fit_if (is_schedule_due (elements (value s (execution_time n))) t) (effects_of_script P (script_now s n script)) (λ h. script_fit (script_now s n script))
   scheduled_fit s n t _ = λ e i. absurd i
 
   evaluated_fit : (s : State) → IsState P s → (n : LogicalName) (o : Object) → object_at P n ≡ Some o → (part : Part) → o.part ≡ part → AllFit P (evaluated P s n part)

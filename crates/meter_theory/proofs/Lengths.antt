@@ -14,24 +14,27 @@ use Rattle.cosem_data.specs.Kinds.{kind_of}
 use Rattle.cosem_data.specs.Cells.{same_name, cell}
 use Rattle.cosem_data.specs.declared.name.LogicalName.{LogicalName}
 use Rattle.cosem_data.specs.declared.cell.CellRef.{CellRef}
-use Rattle.cosem_data.specs.declared.kind.Kind.TheVariants.{DoubleLongUnsigned}
+use Rattle.cosem_data.specs.declared.kind.Kind.{Kind}
+use Rattle.cosem_data.specs.declared.kind.Kind.TheVariants.{Array, Structure, DoubleLongUnsigned}
 use Rattle.meter_theory.specs.Lists.{IsIn}
 use Rattle.meter_theory.specs.declared.limits.TheConstants as limits
-use Rattle.meter_theory.specs.Value.{Rule, OfKind, Thresholds, ExecutionTimes, ClockTime, array_of, structure_of, elements, counter, valid_tag, valid_parts, is_within_limits, meets}
+use Rattle.meter_theory.specs.Menus.{Choice, alternatives, has_menu, capture_objects_value}
+use Rattle.meter_theory.specs.Value.{Rule, OfKind, Thresholds, ExecutionTimes, ClockTime, OneOf, array_of, structure_of, elements, counter, valid_tag, valid_content, is_within_limits, meets}
 use Rattle.meter_theory.specs.Times.{parts_of}
 use Rattle.meter_theory.specs.Selection.{EntryDescriptor, places_between, columns_of, entries_of}
 use Rattle.meter_theory.specs.State.{State, value}
 use Rattle.meter_theory.specs.declared.refs.UpDown.{UpDown}
 use Rattle.meter_theory.specs.declared.refs.Interface.{Interface}
-use Rattle.meter_theory.specs.Plan.{Plan, Client, Object, Part, Data1, Register, ProfileGeneric, Clock, ScriptTable, RegisterMonitor, SingleActionSchedule, Script, Action, Write, Invoke, association, association_name, interface_of, interface_at, object_at, class_of, cells, start, start_values, start_of, is_cell, rule_in, rule_of, clock_time, data_value, register_value, buffer, capture_period, thresholds, seen, execution_time}
+use Rattle.meter_theory.specs.Plan.{Plan, Client, Object, Part, Data1, Register, ProfileGeneric, Clock, ScriptTable, RegisterMonitor, SingleActionSchedule, Script, Action, Write, Invoke, association, association_name, interface_of, interface_at, object_at, class_of, cells, start, start_values, start_of, is_cell, rule_in, rule_of, rule_of_choice, clock_time, data_value, register_value, buffer, capture_objects, capture_period, thresholds, seen, executed_script, execution_time}
 use Rattle.meter_theory.specs.Rights.{cell_of, Selection, class_is, descriptor_in, get_answer, has_right, may_read}
-use Rattle.meter_theory.specs.Fixed.{name_value, capture_object, action_value, script_value, up_down_value, no_date_time, fixed_in, fixed_of, attribute_access, method_access, access_selectors, access_rights, listed_object, objects_of, object_list, partners, mechanism_of, of_client, association_attribute, fixed}
+use Rattle.meter_theory.specs.Fixed.{name_value, capture_object, action_value, script_value, script_ref_value, up_down_value, no_date_time, fixed_in, fixed_of, attribute_access, method_access, access_selectors, access_rights, listed_object, objects_of, object_list, partners, mechanism_of, of_client, association_attribute, fixed}
 use Rattle.meter_theory.specs.Access.{is_success}
 use Rattle.meter_theory.specs.Replies.{Value, Code, attribute, selected_by, selected, reply_to}
-use Rattle.meter_theory.specs.Steps.{Step, Get}
-use Rattle.meter_theory.specs.Sound.{IsSound, is_name, has_action_sizes, has_script_sizes, has_part_sizes}
+use Rattle.meter_theory.specs.Steps.{Step, Get, captured_in}
+use Rattle.meter_theory.specs.Sound.{IsSound, is_name, has_action_sizes, has_script_sizes, has_capture_sizes, has_part_sizes}
 use Rattle.meter_theory.specs.States.{IsCaptured, AreCaptured, AreRows, IsBuffer, IsSeen, Holds, IsState}
 use Rattle.meter_theory.proofs.Lists.{from_map, from_filter, from_flat_map, none_found}
+use Rattle.meter_theory.proofs.Menus.{chosen-in, profile_entry, schedule_entry}
 use Rattle.meter_theory.proofs.Agreement.{object-found, one_named}
 use Rattle.meter_theory.proofs.Rights.{get_class}
 use Rattle.meter_theory.proofs.Held.{cell_held}
@@ -71,7 +74,7 @@ small_writable v h =
 
 meeting_writable : (rule : Rule) (v : Tree) → meets rule v ≡ true → HasLengths v
 meeting_writable rule v h =
-    small_writable v (and_parts (is_within_limits v) (valid_parts rule v) (and_parts (valid_tag rule v) (is_within_limits v && valid_parts rule v) h).1).0
+    small_writable v (and_parts (is_within_limits v) (valid_content rule v) (and_parts (valid_tag rule v) (is_within_limits v && valid_content rule v) h).1).0
 
 -- Fixed attributes
 
@@ -80,6 +83,20 @@ part_of_sizes P sound o there = and_parts (is_name o.name) (has_part_sizes o.par
 
 capture_writable : (x : CellRef) → is_name x.name ≡ true → HasLengths (capture_object x)
 capture_writable x h = (lit< tt, (tt, (name_writable x.name h, (tt, (tt, tt)))))
+
+captures_writable : (xs : List CellRef) → has_capture_sizes xs ≡ true → HasLengths (capture_objects_value xs)
+captures_writable xs h =
+    let both = and_parts (nat_le (length xs) limits.CAPTURE_OBJECTS) (list_all (λ x. is_name x.name) xs) h in
+    map_writable capture_object xs limits.CAPTURE_OBJECTS (leb-true (length xs) limits.CAPTURE_OBJECTS both.0) (lit< tt) (λ x i. capture_writable x (all_at (λ z. is_name z.name) xs x both.1 i))
+
+-- each alternative of a profile has few cells, and it has few entries
+pub profile_sizes : (captured : Choice (List CellRef)) (period entries : ℕ) → has_part_sizes (ProfileGeneric captured period entries) ≡ true →
+    ((xs : List CellRef) → IsIn (alternatives captured) xs → has_capture_sizes xs ≡ true) × (entries ≤ limits.PROFILE_ENTRIES)
+profile_sizes captured period entries h =
+    let a = and_parts (nat_le (length captured.menu) limits.MENU) (list_all has_capture_sizes (alternatives captured) && (nat_le 1 entries && nat_le entries limits.PROFILE_ENTRIES)) h in
+    let b = and_parts (list_all has_capture_sizes (alternatives captured)) (nat_le 1 entries && nat_le entries limits.PROFILE_ENTRIES) a.1 in
+    let d = and_parts (nat_le 1 entries) (nat_le entries limits.PROFILE_ENTRIES) b.1 in
+    (λ xs i. all_at has_capture_sizes (alternatives captured) xs b.0 i, leb-true entries limits.PROFILE_ENTRIES d.1)
 
 action_writable : (a : Action) → has_action_sizes a ≡ true → HasLengths (action_value a)
 action_writable (Write x v) h =
@@ -110,10 +127,8 @@ part_writable (Data1 start) h index = tt
 part_writable (Register start default scaler_unit) h index =
     either_writable (index == 3) _ null_data (λ e. (lit< tt, (tt, (tt, tt)))) tt
 part_writable (ProfileGeneric captured period entries) h index =
-    let a = and_parts (nat_le (length captured) limits.CAPTURE_OBJECTS) (list_all (λ x. is_name x.name) captured && (nat_le 1 entries && nat_le entries limits.PROFILE_ENTRIES)) h in
-    let b = and_parts (list_all (λ x. is_name x.name) captured) (nat_le 1 entries && nat_le entries limits.PROFILE_ENTRIES) a.1 in
-    either_writable (index == 3) (array_of (map capture_object captured)) _
-    (λ e. map_writable capture_object captured limits.CAPTURE_OBJECTS (leb-true (length captured) limits.CAPTURE_OBJECTS a.0) (lit< tt) (λ x i. capture_writable x (all_at (λ z. is_name z.name) captured x b.0 i)))
+    either_writable (index == 3) (capture_objects_value captured.configured) _
+    (λ e. captures_writable captured.configured ((profile_sizes captured period entries h).0 captured.configured (inl refl)))
     (either_writable (index == 5) (enumerated 1) _ (λ e. tt)
     (either_writable (index == 6) _ _ (λ e. (lit< tt, (tt, (lit< tt, (tt, (tt, tt))))))
     (either_writable (index == 8) (counter entries) null_data (λ e. tt) tt)))
@@ -136,7 +151,9 @@ part_writable (RegisterMonitor monitored th actions) h index =
     (either_writable (index == 4) (array_of (map up_down_value actions)) null_data
     (λ e. map_writable up_down_value actions limits.THRESHOLDS (leb-true (length actions) limits.THRESHOLDS b.0) (lit< tt) (λ u i. up_down_writable u (all_at (λ z. is_name z.up.table && is_name z.down.table) actions u b.1 i))) tt)
 part_writable (SingleActionSchedule script type times) h index =
-    either_writable (index == 2) _ _ (λ e. (lit< tt, (name_writable script.table h, (tt, tt))))
+    let a = and_parts (nat_le (length script.menu) limits.MENU) (list_all (λ r. is_name r.table) (alternatives script)) h in
+    either_writable (index == 2) (script_ref_value script.configured) _
+    (λ e. (lit< tt, (name_writable script.configured.table (all_at (λ r. is_name r.table) (alternatives script) script.configured a.1 (inl refl)), (tt, tt))))
     (either_writable (index == 3) (enumerated type) null_data (λ e. tt) tt)
 
 -- The association
@@ -255,6 +272,10 @@ found_by_name P sound o there = at (object_at P o.name) refl
         let q = object-found P o.name p is in
         is ∙ ap Some (one_named P sound p o q.0 there q.1)
 
+-- the rule of an attribute that has a menu
+pub ruled_choice : {A : Type 0} (kind : Kind) (value_of : A → Tree) (c : Choice A) → has_menu c ≡ true → rule_of_choice kind value_of c ≡ Some (OneOf kind (map value_of (alternatives c)))
+ruled_choice kind value_of c h = ap (λ b. cond b (Some (OneOf kind (map value_of (alternatives c)))) None) h
+
 cell_writable : (P : Plan) → IsSound P → (s : State) → IsState P s → (x : CellRef) → IsIn (cells P) x → HasLengths (value s x)
 cell_writable P sound s k x i =
     let entry = from_map (λ z. z.0) (start_values P) x i in
@@ -288,18 +309,32 @@ cell_writable P sound s k x i =
         of_part (Data1 start) h (inr none) = absurd none
         of_part (Register start default scaler_unit) h (inl e) = ruled (register_value o.name) (OfKind (kind_of start)) (ap (λ z. z.0) e) (rule_at o (Register start default scaler_unit) h is 2)
         of_part (Register start default scaler_unit) h (inr none) = absurd none
-        of_part (ProfileGeneric captured period entries) h (inl e) =
-            let a = and_parts (nat_le (length captured) limits.CAPTURE_OBJECTS) (list_all (λ z. is_name z.name) captured && (nat_le 1 entries && nat_le entries limits.PROFILE_ENTRIES)) (sizes (ProfileGeneric captured period entries) h) in
-            let b = and_parts (list_all (λ z. is_name z.name) captured) (nat_le 1 entries && nat_le entries limits.PROFILE_ENTRIES) a.1 in
-            let d = and_parts (nat_le 1 entries) (nat_le entries limits.PROFILE_ENTRIES) b.1 in
-            let held : Holds P s o.name (ProfileGeneric captured period entries) = subst (Holds P s o.name) h (k.inner o there) in
-            subst (λ z. HasLengths (value s z)) (sym (ap (λ z. z.0) e))
-            (buffer_writable P captured entries (value s (buffer o.name)) (leb-true (length captured) limits.CAPTURE_OBJECTS a.0) (leb-true entries limits.PROFILE_ENTRIES d.1) held.0)
-        of_part (ProfileGeneric captured period entries) h (inr (inl e)) = ruled (capture_period o.name) (OfKind DoubleLongUnsigned) (ap (λ z. z.0) e) (rule_at o (ProfileGeneric captured period entries) h is 4)
-        of_part (ProfileGeneric captured period entries) h (inr (inr (inl e))) =
-            let held : Holds P s o.name (ProfileGeneric captured period entries) = subst (Holds P s o.name) h (k.inner o there) in
-            subst (λ z. HasLengths (value s z)) (sym (ap (λ z. z.0) e)) (subst HasLengths (sym held.1.1) tt)
-        of_part (ProfileGeneric captured period entries) h (inr (inr (inr none))) = absurd none
+        of_part (ProfileGeneric captured period entries) h i =
+            elim (profile_entry o.name captured period entries (x, v) i) [
+              | inl e ↦ subst (λ z. HasLengths (value s z)) (sym (ap (λ z. z.0) e))
+                  (buffer_writable P (captured_in s o.name captured) entries (value s (buffer o.name)) few fitting.1 held.0)
+              | inr a ↦ elim a [
+                | inl e ↦ ruled (capture_objects o.name) (OneOf Array (map capture_objects_value (alternatives captured))) (ap (λ z. z.0) e.1)
+                    (rule_at o (ProfileGeneric captured period entries) h is 3 ∙ ruled_choice Array capture_objects_value captured e.0)
+                | inr b ↦ elim b [
+                  | inl e ↦ ruled (capture_period o.name) (OfKind DoubleLongUnsigned) (ap (λ z. z.0) e) (rule_at o (ProfileGeneric captured period entries) h is 4)
+                  | inr e ↦ subst (λ z. HasLengths (value s z)) (sym (ap (λ z. z.0) e)) (subst HasLengths (sym held.1.1) tt)
+                ]
+              ]
+            ]
+          where
+            held : Holds P s o.name (ProfileGeneric captured period entries)
+            held = subst (Holds P s o.name) h (k.inner o there)
+
+            fitting : ((xs : List CellRef) → IsIn (alternatives captured) xs → has_capture_sizes xs ≡ true) × (entries ≤ limits.PROFILE_ENTRIES)
+            fitting = profile_sizes captured period entries (sizes (ProfileGeneric captured period entries) h)
+
+            few : length (captured_in s o.name captured) ≤ limits.CAPTURE_OBJECTS
+            few =
+                let now = captured_in s o.name captured in
+                leb-true (length now) limits.CAPTURE_OBJECTS
+                (and_parts (nat_le (length now) limits.CAPTURE_OBJECTS) (list_all (λ z. is_name z.name) now)
+                (fitting.0 now (chosen-in capture_objects_value captured (value s (capture_objects o.name))))).0
         of_part (Clock first) h (inl e) = ruled (clock_time o.name) ClockTime (ap (λ z. z.0) e) (rule_at o (Clock first) h is 2)
         of_part (Clock first) h (inr none) = absurd none
         of_part (ScriptTable scripts) h none = absurd none
@@ -312,8 +347,12 @@ cell_writable P sound s k x i =
               | inr fits ↦ meeting_writable (OfKind (kind_of (value (start_values P) monitored))) (value s (seen o.name)) fits
             ])
         of_part (RegisterMonitor monitored th actions) h (inr (inr none)) = absurd none
-        of_part (SingleActionSchedule script type times) h (inl e) = ruled (execution_time o.name) (ExecutionTimes type) (ap (λ z. z.0) e) (rule_at o (SingleActionSchedule script type times) h is 4)
-        of_part (SingleActionSchedule script type times) h (inr none) = absurd none
+        of_part (SingleActionSchedule script type times) h i =
+            elim (schedule_entry o.name script type times (x, v) i) [
+              | inl e ↦ ruled (executed_script o.name) (OneOf Structure (map script_ref_value (alternatives script))) (ap (λ z. z.0) e.1)
+                  (rule_at o (SingleActionSchedule script type times) h is 2 ∙ ruled_choice Structure script_ref_value script e.0)
+              | inr e ↦ ruled (execution_time o.name) (ExecutionTimes type) (ap (λ z. z.0) e) (rule_at o (SingleActionSchedule script type times) h is 4)
+            ]
 
 -- Selections
 

@@ -1,9 +1,12 @@
 pub mod Lists
 pub mod Clock
 pub mod State
+pub mod Menus
 pub mod Agreement
 pub mod Rights
 pub mod Held
+pub mod Writes
+pub mod Without
 pub mod Theorem
 pub mod Check
 pub mod ClassTable
@@ -17,3 +20,5 @@ pub mod InnerClock
 pub mod Ticks
 pub mod Unique
 pub mod Lengths
+pub mod MenuSizes
+mod MenuExamples

@@ -1,27 +1,30 @@
 -- A client's step changes only cells that its rights change.
-use Rattle.cosem_data.specs.declared.kind.Kind.TheVariants.{DoubleLongUnsigned}
-use Rattle.std.proofs.Common.{◌≡◌, ◌==◌, ℕ, Bool, true, false, not, cond, List, [], ◌∷◌, find, refl, sym, ap, subst, ◌∙◌, inl, inr, Option, Some, None, option_and_then, eqb-true, length}
+use Rattle.cosem_data.specs.declared.kind.Kind.{Kind}
+use Rattle.cosem_data.specs.declared.kind.Kind.TheVariants.{Array, Structure, DoubleLongUnsigned}
+use Rattle.std.proofs.Common.{◌≡◌, ◌==◌, ℕ, Bool, true, false, not, cond, List, [], ◌∷◌, map, find, refl, sym, ap, subst, ◌∙◌, inl, inr, Option, Some, None, option_and_then, eqb-true, length}
 use Rattle.std.specs.List.{list_all}
 use Rattle.std.proofs.lemmas.Bool.{not-false, not-true, and_parts}
 use Rattle.meter_theory.specs.Lists.{IsIn, for_some}
 use Rattle.cosem_data.specs.Tree.{Tree}
-use Rattle.meter_theory.specs.Value.{counter, OfKind, Thresholds, ExecutionTimes, ClockTime}
+use Rattle.meter_theory.specs.Menus.{Choice, alternatives, has_menu, capture_objects_value, script_ref_value}
+use Rattle.meter_theory.specs.Value.{counter, OfKind, Thresholds, ExecutionTimes, ClockTime, OneOf}
 use Rattle.cosem_data.specs.Kinds.{kind_of}
 use Rattle.cosem_data.specs.declared.name.LogicalName.{LogicalName}
 use Rattle.cosem_data.specs.declared.cell.CellRef.{CellRef}
 use Rattle.meter_theory.specs.State.{State, value}
 use Rattle.cosem_data.specs.Cells.{cell}
 use Rattle.meter_theory.specs.Times.{clock_value}
-use Rattle.meter_theory.specs.Plan.{cells, start, start_values, start_of, class_of, rule_in, Plan, Object, Script, Part, Data1, Register, ProfileGeneric, Clock, ScriptTable, RegisterMonitor, SingleActionSchedule, object_at, interface_at, rule_of}
+use Rattle.meter_theory.specs.Plan.{cells, start, start_values, start_of, class_of, rule_in, rule_of_choice, Plan, Object, Script, Part, Data1, Register, ProfileGeneric, Clock, ScriptTable, RegisterMonitor, SingleActionSchedule, object_at, interface_at, rule_of}
 use Rattle.cosem_data.specs.declared.cell.MethodRef.{MethodRef}
 use Rattle.meter_theory.specs.declared.access.AccessCode.{AccessCode}
 use Rattle.meter_theory.specs.declared.access.AccessCode.TheVariants.{ReadWriteDenied, ObjectClassInconsistent, TypeUnmatched}
 use Rattle.meter_theory.specs.Access.{is_success}
 use Rattle.meter_theory.specs.Rights.{first_place, Argument, Absent, Given, Unreadable, Descriptor, cell_of, method_of, Selection, may_set, may_act, may_read, class_is, get_answer, set_answer, act_answer, get_places, set_places, act_places, script_number, has_valid_tag}
-use Rattle.meter_theory.specs.Steps.{Effect, changed_by, changed, actions_effects, script_in, method_in, method_effects, Step, Get, Set, Act, client_of, given_value, effects_of}
+use Rattle.meter_theory.specs.Steps.{Effect, Put, changed_by_write, changed_by, changed, actions_effects, script_in, method_in, method_effects, Step, Get, Set, Act, client_of, given_value, effects_of}
 use Rattle.meter_theory.specs.Labels.{all_scripts, method_changes, method_changes_of, MayChange}
+use Rattle.meter_theory.proofs.Menus.{in_menu, in_period, in_script, in_times}
 use Rattle.meter_theory.proofs.Agreement.{object-found}
-use Rattle.meter_theory.proofs.Lists.{in_map, found, in_flat_map, from_flat_map}
+use Rattle.meter_theory.proofs.Lists.{in_append_cases, in_map, found, in_flat_map, from_flat_map}
 
 -- Where a list of places succeeds, none of its places applies.
 pub place_passed : (places : List (Bool × AccessCode)) (place : Bool × AccessCode) → IsIn places place → list_all (λ p. not (is_success p.1)) places ≡ true → is_success (first_place places) ≡ true → place.0 ≡ false
@@ -68,6 +71,14 @@ cell_is k x n index a b c =
     let q : x.index ≡ index = eqb-true x.index index c in
     λ i. record { class_id = sym p i; name = sym b i; index = q i }
 
+-- a value that an attribute takes by its menu
+rule_menu : {A : Type 0} (kind : Kind) (value_of : A → Tree) (c : Choice A) (v : Argument) → has_valid_tag (rule_of_choice kind value_of c) v ≡ true → has_menu c ≡ true
+rule_menu kind value_of c v h = at (has_menu c) refl h
+  where
+    at : (b : Bool) → has_menu c ≡ b → has_valid_tag (cond b (Some (OneOf kind (map value_of (alternatives c)))) None) v ≡ true → has_menu c ≡ true
+    at true p g = p
+    at false p g = cc
+
 -- a value that a cell takes is for a settable cell
 rule_entry : (P : Plan) (n : LogicalName) (part : Part) (x : CellRef) (v : Argument) → (class_of part == x.class_id) ≡ true → n ≡ x.name →
     has_valid_tag (rule_in P part x.index) v ≡ true → (w : Tree) × IsIn (start_of n part) (x, w)
@@ -81,11 +92,16 @@ rule_entry P n (Register start default scaler_unit) x v a b h = at (x.index == 2
     at : (t : Bool) → (x.index == 2) ≡ t → has_valid_tag (cond t (Some (OfKind (kind_of start))) None) v ≡ true → (w : Tree) × IsIn (start_of n (Register start default scaler_unit)) (x, w)
     at true p g = (start, inl (ap (λ z. (z, start)) (cell_is 3 x n 2 a b p)))
     at false p g = cc
-rule_entry P n (ProfileGeneric captured period entries) x v a b h = at (x.index == 4) refl h
+rule_entry P n (ProfileGeneric captured period entries) x v a b h = at (x.index == 4) refl (x.index == 3) refl h
   where
-    at : (t : Bool) → (x.index == 4) ≡ t → has_valid_tag (cond t (Some (OfKind DoubleLongUnsigned)) None) v ≡ true → (w : Tree) × IsIn (start_of n (ProfileGeneric captured period entries)) (x, w)
-    at true p g = (counter period, inr (inl (ap (λ z. (z, counter period)) (cell_is 7 x n 4 a b p))))
-    at false p g = cc
+    at : (t : Bool) → (x.index == 4) ≡ t → (u : Bool) → (x.index == 3) ≡ u →
+        has_valid_tag (cond t (Some (OfKind DoubleLongUnsigned)) (cond u (rule_of_choice Array capture_objects_value captured) None)) v ≡ true →
+        (w : Tree) × IsIn (start_of n (ProfileGeneric captured period entries)) (x, w)
+    at true p u q g =
+        (counter period, subst (λ z. IsIn (start_of n (ProfileGeneric captured period entries)) (z, counter period)) (sym (cell_is 7 x n 4 a b p)) (in_period n captured period entries))
+    at false p true q g =
+        (capture_objects_value captured.configured, subst (λ z. IsIn (start_of n (ProfileGeneric captured period entries)) (z, capture_objects_value captured.configured)) (sym (cell_is 7 x n 3 a b q)) (in_menu n captured period entries (rule_menu Array capture_objects_value captured v g)))
+    at false p false q g = cc
 rule_entry P n (Clock first) x v a b h = at (x.index == 2) refl h
   where
     at : (t : Bool) → (x.index == 2) ≡ t → has_valid_tag (cond t (Some ClockTime) None) v ≡ true → (w : Tree) × IsIn (start_of n (Clock first)) (x, w)
@@ -97,11 +113,16 @@ rule_entry P n (RegisterMonitor monitored th actions) x v a b h = at (x.index ==
     at : (t : Bool) → (x.index == 2) ≡ t → has_valid_tag (cond t (Some (Thresholds (length actions) (kind_of (value (start_values P) monitored)))) None) v ≡ true → (w : Tree) × IsIn (start_of n (RegisterMonitor monitored th actions)) (x, w)
     at true p g = (th, inl (ap (λ z. (z, th)) (cell_is 21 x n 2 a b p)))
     at false p g = cc
-rule_entry P n (SingleActionSchedule script type times) x v a b h = at (x.index == 4) refl h
+rule_entry P n (SingleActionSchedule script type times) x v a b h = at (x.index == 4) refl (x.index == 2) refl h
   where
-    at : (t : Bool) → (x.index == 4) ≡ t → has_valid_tag (cond t (Some (ExecutionTimes type)) None) v ≡ true → (w : Tree) × IsIn (start_of n (SingleActionSchedule script type times)) (x, w)
-    at true p g = (times, inl (ap (λ z. (z, times)) (cell_is 22 x n 4 a b p)))
-    at false p g = cc
+    at : (t : Bool) → (x.index == 4) ≡ t → (u : Bool) → (x.index == 2) ≡ u →
+        has_valid_tag (cond t (Some (ExecutionTimes type)) (cond u (rule_of_choice Structure script_ref_value script) None)) v ≡ true →
+        (w : Tree) × IsIn (start_of n (SingleActionSchedule script type times)) (x, w)
+    at true p u q g =
+        (times, subst (λ z. IsIn (start_of n (SingleActionSchedule script type times)) (z, times)) (sym (cell_is 22 x n 4 a b p)) (in_times n script type times))
+    at false p true q g =
+        (script_ref_value script.configured, subst (λ z. IsIn (start_of n (SingleActionSchedule script type times)) (z, script_ref_value script.configured)) (sym (cell_is 22 x n 2 a b q)) (in_script n script type times (rule_menu Structure script_ref_value script v g)))
+    at false p false q g = cc
 
 -- a cell with a rule that a value's tag meets is a cell of the plan
 pub ruled-cell : (P : Plan) (x : CellRef) (v : Argument) → has_valid_tag (rule_of P x) v ≡ true → IsIn (cells P) x
@@ -156,11 +177,13 @@ pub when : {A : Type 0} (b : Bool) (f : List Effect) (x : CellRef) → (b ≡ tr
 when true f x h i = h refl i
 when false f x h i = absurd i
 
-pub in_given : (y : CellRef) (v : Argument) (x : CellRef) → IsIn (changed (given_value y v)) x → x ≡ y
+pub in_one_write : (y : CellRef) (v : Tree) (x : CellRef) → IsIn (changed (Put y v ∷ [])) x → IsIn (changed_by_write y) x
+in_one_write y v x i = elim (in_append_cases (changed_by_write y) [] x i) [ inl j ↦ j | inr none ↦ absurd none ]
+
+pub in_given : (y : CellRef) (v : Argument) (x : CellRef) → IsIn (changed (given_value y v)) x → IsIn (changed_by_write y) x
 in_given y Absent x i = absurd i
 in_given y Unreadable x i = absurd i
-in_given y (Given v) x (inl e) = e
-in_given y (Given v) x (inr e) = absurd e
+in_given y (Given v) x i = in_one_write y v x i
 
 -- A client's step changes only what a right of the client changes.
 pub client-changes : (P : Plan) (s : State) (step : Step) (c : ℕ) → client_of step ≡ Some c → (x : CellRef) → IsIn (changed (effects_of P s step)) x → MayChange P c x
@@ -168,10 +191,7 @@ client-changes P s (Get d y selection) c e x i = absurd i
 client-changes P s (Set d y selected v) c e x i =
     let same : d ≡ c = cc in
     when (is_success (set_answer P d y selected v)) (given_value (cell_of y) v) x (λ ok j.
-    inl (
-      subst (IsIn (cells P)) (sym (in_given (cell_of y) v x j)) (set-cell P d y selected v ok),
-      subst (λ z. may_set P c z ≡ true) (sym (in_given (cell_of y) v x j)) (subst (λ k. may_set P k (cell_of y) ≡ true) same (set_allowed P d y selected v ok)),
-    )) i
+    inl (cell_of y, set-cell P d y selected v ok, subst (λ k. may_set P k (cell_of y) ≡ true) same (set_allowed P d y selected v ok), in_given (cell_of y) v x j)) i
 client-changes P s (Act d y argument) c e x i =
     let same : d ≡ c = cc in
     when (is_success (act_answer P d y argument)) (method_effects P (method_of y) argument) x (λ ok j.

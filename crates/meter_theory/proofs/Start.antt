@@ -14,6 +14,7 @@ use Rattle.meter_theory.specs.Plan.{Plan, Object, Part, Data1, Register, Profile
 use Rattle.meter_theory.specs.Sound.{IsSound, IsSoundPart, fits_some}
 use Rattle.meter_theory.specs.States.{Holds, IsState}
 use Rattle.meter_theory.proofs.Lists.{in_flat_map, from_flat_map}
+use Rattle.meter_theory.proofs.Menus.{in_count, profile_entry, schedule_entry}
 use Rattle.meter_theory.proofs.Agreement.{not_both, one_named}
 use Rattle.meter_theory.proofs.Rights.{cell_of_object}
 use Rattle.meter_theory.proofs.Held.{held_cases, clock_found, value-first, inner_started}
@@ -47,18 +48,22 @@ start_name n (Data1 start) x v (inl e) = ap (λ z. z.0.name) e
 start_name n (Data1 start) x v (inr none) = absurd none
 start_name n (Register start default scaler_unit) x v (inl e) = ap (λ z. z.0.name) e
 start_name n (Register start default scaler_unit) x v (inr none) = absurd none
-start_name n (ProfileGeneric captured period entries) x v (inl e) = ap (λ z. z.0.name) e
-start_name n (ProfileGeneric captured period entries) x v (inr (inl e)) = ap (λ z. z.0.name) e
-start_name n (ProfileGeneric captured period entries) x v (inr (inr (inl e))) = ap (λ z. z.0.name) e
-start_name n (ProfileGeneric captured period entries) x v (inr (inr (inr none))) = absurd none
+start_name n (ProfileGeneric captured period entries) x v i =
+    elim (profile_entry n captured period entries (x, v) i) [
+      | inl e ↦ ap (λ z. z.0.name) e
+      | inr j ↦ elim j [
+        | inl e ↦ ap (λ z. z.0.name) e.1
+        | inr k ↦ elim k [ inl e ↦ ap (λ z. z.0.name) e | inr e ↦ ap (λ z. z.0.name) e ]
+      ]
+    ]
 start_name n (Clock start) x v (inl e) = ap (λ z. z.0.name) e
 start_name n (Clock start) x v (inr none) = absurd none
 start_name n (ScriptTable scripts) x v none = absurd none
 start_name n (RegisterMonitor monitored th actions) x v (inl e) = ap (λ z. z.0.name) e
 start_name n (RegisterMonitor monitored th actions) x v (inr (inl e)) = ap (λ z. z.0.name) e
 start_name n (RegisterMonitor monitored th actions) x v (inr (inr none)) = absurd none
-start_name n (SingleActionSchedule script type times) x v (inl e) = ap (λ z. z.0.name) e
-start_name n (SingleActionSchedule script type times) x v (inr none) = absurd none
+start_name n (SingleActionSchedule script type times) x v i =
+    elim (schedule_entry n script type times (x, v) i) [ inl e ↦ ap (λ z. z.0.name) e.1 | inr e ↦ ap (λ z. z.0.name) e ]
 
 -- the start value of a cell that stands once among its object's
 pub started : (P : Plan) → AreNamed P → (o : Object) → IsIn P.objects o → (x : CellRef) (v : Tree) → IsIn (start_of o.name o.part) (x, v) →
@@ -96,21 +101,29 @@ holds_start P sound o there (ProfileGeneric captured period entries) h =
         (λ w j. one w (subst (λ q. IsIn (start_of o.name q) (buffer o.name, w)) h j))
       where
         one : (w : Tree) → IsIn (start_of o.name (ProfileGeneric captured period entries)) (buffer o.name, w) → w ≡ array no_trees
-        one w (inl e) = ap (λ z. z.1) e
-        one w (inr (inl e)) = other_index _ _ e refl
-        one w (inr (inr (inl e))) = other_index _ _ e refl
-        one w (inr (inr (inr none))) = absurd none
+        one w j =
+            elim (profile_entry o.name captured period entries (buffer o.name, w) j) [
+              | inl e ↦ ap (λ z. z.1) e
+              | inr k ↦ elim k [
+                | inl e ↦ other_index _ _ e.1 refl
+                | inr m ↦ elim m [ inl e ↦ other_index _ _ e refl | inr e ↦ other_index _ _ e refl ]
+              ]
+            ]
 
     of_count : value (start P) (entries_in_use o.name) ≡ counter 0
     of_count = started P (one_named P sound) o there (entries_in_use o.name) (counter 0)
-        (subst (λ q. IsIn (start_of o.name q) (entries_in_use o.name, counter 0)) (sym h) (inr (inr (inl refl))))
+        (subst (λ q. IsIn (start_of o.name q) (entries_in_use o.name, counter 0)) (sym h) (in_count o.name captured period entries))
         (λ w j. one w (subst (λ q. IsIn (start_of o.name q) (entries_in_use o.name, w)) h j))
       where
         one : (w : Tree) → IsIn (start_of o.name (ProfileGeneric captured period entries)) (entries_in_use o.name, w) → w ≡ counter 0
-        one w (inl e) = other_index _ _ e refl
-        one w (inr (inl e)) = other_index _ _ e refl
-        one w (inr (inr (inl e))) = ap (λ z. z.1) e
-        one w (inr (inr (inr none))) = absurd none
+        one w j =
+            elim (profile_entry o.name captured period entries (entries_in_use o.name, w) j) [
+              | inl e ↦ other_index _ _ e refl
+              | inr k ↦ elim k [
+                | inl e ↦ other_index _ _ e.1 refl
+                | inr m ↦ elim m [ inl e ↦ other_index _ _ e refl | inr e ↦ ap (λ z. z.1) e ]
+              ]
+            ]
 holds_start P sound o there _ h = tt
 
 pub start-is-state : (P : Plan) → IsSound P → IsState P (start P)

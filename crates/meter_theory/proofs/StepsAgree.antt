@@ -1,7 +1,8 @@
 -- States that agree on a closed set of cells agree on it after each step, by the laws of the effects.
-use Rattle.std.proofs.Common.{◌≡◌, ◌⊎◌, Bool, true, false, cond, ◌&&◌, List, [], ◌∷◌, flat_map, refl, sym, ap, ap₂, subst, ◌∙◌, inl, inr, Option, Some, None, subst₂, ℤ, int_lt, int_le}
+use Rattle.std.proofs.Common.{◌++◌, ◌≡◌, ◌⊎◌, Bool, true, false, cond, ◌&&◌, List, [], ◌∷◌, flat_map, refl, sym, ap, ap₂, subst, ◌∙◌, inl, inr, Option, Some, None, subst₂, ℤ, int_lt, int_le}
 use Rattle.meter_theory.specs.Lists.{IsIn, for_some}
 use Rattle.cosem_data.specs.Tree.{Tree}
+use Rattle.meter_theory.specs.Menus.{alternatives, script_ref_value}
 use Rattle.meter_theory.specs.Value.{elements, count_of}
 use Rattle.meter_theory.specs.Times.{next_second, clock_moment, clock_value, is_capture_due, is_schedule_due}
 use Rattle.cosem_data.specs.Kinds.{number_of}
@@ -10,13 +11,15 @@ use Rattle.cosem_data.specs.declared.cell.CellRef.{CellRef}
 use Rattle.meter_theory.specs.State.{State, keys, value, put}
 use Rattle.meter_theory.specs.declared.refs.ScriptRef.{ScriptRef}
 use Rattle.meter_theory.specs.declared.refs.UpDown.{UpDown}
-use Rattle.meter_theory.specs.Plan.{Plan, Object, Part, ProfileGeneric, RegisterMonitor, SingleActionSchedule, buffer, capture_period, entries_in_use, thresholds, seen, execution_time, object_at, clock_object, clock_time, told_clock, clock_cell, clock}
-use Rattle.meter_theory.specs.Steps.{Effect, Put, Capture, effects, changed_by, changed, effects_of_script, due_scripts, due_at, Step, Get, Set, Act, Input, CaptureAt, Evaluate, ScheduleAt, Tick, ClockAt, present, captured_at, evaluated, scheduled_at, effects_of, next}
+use Rattle.meter_theory.specs.Plan.{Plan, Object, Part, ProfileGeneric, RegisterMonitor, SingleActionSchedule, buffer, capture_period, entries_in_use, thresholds, seen, executed_script, execution_time, object_at, clock_object, clock_time, told_clock, clock_cell, clock}
+use Rattle.meter_theory.specs.Steps.{Effect, Put, Capture, effects, changed_by, changed, effects_of_script, due_scripts, due_at, Step, Get, Set, Act, Input, CaptureAt, Evaluate, ScheduleAt, Tick, ClockAt, present, captured_at, evaluated, script_now, scheduled_at, effects_of, next}
 use Rattle.meter_theory.specs.declared.flow.Cause.{Cause}
-use Rattle.meter_theory.specs.declared.flow.Cause.TheVariants.{Monitored, Monitor, Period, Schedule, Clock}
-use Rattle.meter_theory.specs.Edges.{Agree, IsClosed, edge, IsEdge, EdgeIn, script_changes, scripts_named, monitor_changes}
+use Rattle.meter_theory.specs.declared.flow.Cause.TheVariants.{Monitored, Monitor, Menu, Period, Schedule, Clock}
+use Rattle.meter_theory.specs.Edges.{Agree, IsClosed, edge, IsEdge, EdgeIn, script_changes, scripts_named, monitor_changes, schedule_changes}
 use Rattle.meter_theory.specs.EffectLaws.{KeepsAgreementOn, EffectLaws}
+use Rattle.meter_theory.proofs.Writes.{clock-empties}
 use Rattle.meter_theory.proofs.Lists.{in_append_left, in_append_right, in_append_cases, in_flat_map, from_flat_map}
+use Rattle.meter_theory.proofs.Menus.{chosen-in, chosen-alike}
 use Rattle.meter_theory.proofs.Agreement.{object-found, effects-keys, effects-append, AreQuiet, quiet_branch, meets_or_not, effects-agree, effects-quiet, agree_or_quiet}
 
 -- an edge that the object of a name makes
@@ -99,13 +102,30 @@ module _ (P : Plan) (laws : EffectLaws P) (S : CellRef → Bool) (closed : IsClo
       Agree S (effects P s (scheduled_at P s n (present P s) part)) (effects P t (scheduled_at P t n (present P t) part))
   scheduled-agree n o is (SingleActionSchedule script type times) h =
       agree_or_quiet P laws S closed _ _ s t k agree (
-      elim (meets_or_not S (script_changes P script)) [
-        | inl m ↦ inl (ap₂ (λ v moment. cond (is_schedule_due (elements v) moment) (effects_of_script P script) [])
-            (agree (execution_time n) (closed.edges (edge Schedule (execution_time n) m.0)
-            (edge_at P n o is Schedule (execution_time n) m.0 (subst (λ p. EdgeIn P n p Schedule (execution_time n) m.0) (sym h) (refl, m.1))) m.2))
-            (same_present (clock_inside n o is m.0 (λ x told. subst (λ p. EdgeIn P n p Clock x m.0) (sym h) (told, m.1)) m.2)))
-        | inr quiet ↦ inr (quiet_branch S _ (effects_of_script P script) quiet, quiet_branch S _ (effects_of_script P script) quiet)
+      elim (meets_or_not S (schedule_changes P script)) [
+        | inl m ↦
+            let due = ap₂ (λ v moment. is_schedule_due (elements v) moment) (same_times m.0 m.1 m.2)
+            (same_present (clock_inside n o is m.0 (λ x told. subst (λ p. EdgeIn P n p Clock x m.0) (sym h) (told, m.1)) m.2)) in
+            inl (ap₂ (λ b r. cond b (effects_of_script P r) []) due (same_script m.0 m.1 m.2))
+        | inr quiet ↦ inr (
+          quiet_branch S _ (effects_of_script P (script_now s n script)) (quiet_now quiet s),
+          quiet_branch S _ (effects_of_script P (script_now t n script)) (quiet_now quiet t),
+        )
       ])
+    where
+      same_times : (x : CellRef) → IsIn (schedule_changes P script) x → S x ≡ true → value s (execution_time n) ≡ value t (execution_time n)
+      same_times x i e =
+          agree (execution_time n) (closed.edges (edge Schedule (execution_time n) x)
+          (edge_at P n o is Schedule (execution_time n) x (subst (λ p. EdgeIn P n p Schedule (execution_time n) x) (sym h) (refl, i))) e)
+
+      same_script : (x : CellRef) → IsIn (schedule_changes P script) x → S x ≡ true → script_now s n script ≡ script_now t n script
+      same_script x i e = chosen-alike script_ref_value script (value s (executed_script n)) (value t (executed_script n)) (λ menu.
+          agree (executed_script n) (closed.edges (edge Menu (executed_script n) x)
+          (edge_at P n o is Menu (executed_script n) x (subst (λ p. EdgeIn P n p Menu (executed_script n) x) (sym h) (menu, refl, i))) e))
+
+      quiet_now : ((x : CellRef) → IsIn (schedule_changes P script) x → S x ≡ false) → (u : State) → AreQuiet S (effects_of_script P (script_now u n script))
+      quiet_now quiet u x i =
+          quiet x (in_flat_map (script_changes P) (alternatives script) (script_now u n script) x (chosen-in script_ref_value script (value u (executed_script n))) i)
   scheduled-agree n o is _ h = agree
 
   evaluated-agree : (n : LogicalName) (o : Object) → object_at P n ≡ Some o → (part : Part) → o.part ≡ part →
@@ -186,7 +206,7 @@ module _ (P : Plan) (laws : EffectLaws P) (S : CellRef → Bool) (closed : IsClo
     where
       one_quiet : S (clock P) ≡ false → (v : Tree) → AreQuiet S (Put (clock P) v ∷ [])
       one_quiet h v x (inl e) = subst (λ z. S z ≡ false) (sym e) h
-      one_quiet h v x (inr none) = absurd none
+      one_quiet h v x (inr i) = absurd (subst (λ b. IsIn (cond b (buffer (clock P).name ∷ entries_in_use (clock P).name ∷ []) [] ++ []) x) (clock-empties P) i)
   step-agrees (ClockAt moment) = effects-agree P laws S closed (effects_of P s (ClockAt moment)) s t k agree
   step-agrees (Evaluate n) =
       elim (object_at P n) as (λ o. object_at P n ≡ o → Agree S (effects P s (for_some o (λ z. evaluated P s n z.part))) (effects P t (for_some o (λ z. evaluated P t n z.part)))) [

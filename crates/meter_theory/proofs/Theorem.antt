@@ -16,16 +16,18 @@ use Rattle.meter_theory.specs.Access.{is_success}
 use Rattle.meter_theory.specs.Rights.{cell_of, class_is, get_answer, set_answer, may_read, may_get, lists, readable_of_association}
 use Rattle.meter_theory.specs.Fixed.{fixed}
 use Rattle.meter_theory.specs.Replies.{Value, Code, is_step_of_client, attribute, selected, reply_to, run, replies, replies_of}
-use Rattle.meter_theory.specs.Steps.{Put, Step, Get, Set, Input, client_of, given_value, effects_of, next, is_fed, meets_some}
+use Rattle.meter_theory.specs.Steps.{Put, changed_by_write, Step, Get, Set, Input, client_of, given_value, effects_of, next, is_fed, meets_some}
 use Rattle.meter_theory.specs.Edges.{Agree, IsClosed}
 use Rattle.meter_theory.specs.Labels.{has, within, Labels, Labelling, labelling_of, may_influence, may_learn, MayChange, Admits}
 use Rattle.meter_theory.specs.Safety.{HasCells, is_step_of, Thinned, DifferHidden, Alike, outside, LookAlike, Influence, Secrecy}
 use Rattle.meter_theory.specs.Sound.{IsSound}
 use Rattle.meter_theory.proofs.Lists.{any_in, in_range}
 use Rattle.meter_theory.proofs.State.{value_missing, is_touched}
+use Rattle.meter_theory.proofs.Menus.{profile_entry, schedule_entry}
+use Rattle.meter_theory.proofs.Writes.{write-edge, write-cells}
 use Rattle.meter_theory.proofs.Agreement.{AreQuiet, next-keys, not_both}
 use Rattle.meter_theory.proofs.StepsAgree.{StepLaws}
-use Rattle.meter_theory.proofs.Rights.{client-changes, get_allowed, get_class, when, in_given}
+use Rattle.meter_theory.proofs.Rights.{client-changes, get_allowed, get_class, when, in_given, in_one_write}
 use Rattle.meter_theory.proofs.Held.{of_each_cell, cell_held, cell_apart, held_apart}
 use Rattle.meter_theory.proofs.Check.{edge_target, method_cells}
 use Rattle.meter_theory.specs.declared.limits.TheConstants as limits
@@ -121,36 +123,44 @@ start_index n (Data1 start) x v (inl e) = ap (λ z. z.0.index == 1) e
 start_index n (Data1 start) x v (inr none) = absurd none
 start_index n (Register start default scaler_unit) x v (inl e) = ap (λ z. z.0.index == 1) e
 start_index n (Register start default scaler_unit) x v (inr none) = absurd none
-start_index n (ProfileGeneric captured period entries) x v (inl e) = ap (λ z. z.0.index == 1) e
-start_index n (ProfileGeneric captured period entries) x v (inr (inl e)) = ap (λ z. z.0.index == 1) e
-start_index n (ProfileGeneric captured period entries) x v (inr (inr (inl e))) = ap (λ z. z.0.index == 1) e
-start_index n (ProfileGeneric captured period entries) x v (inr (inr (inr none))) = absurd none
+start_index n (ProfileGeneric captured period entries) x v i =
+    elim (profile_entry n captured period entries (x, v) i) [
+      | inl e ↦ ap (λ z. z.0.index == 1) e
+      | inr j ↦ elim j [
+        | inl e ↦ ap (λ z. z.0.index == 1) e.1
+        | inr k ↦ elim k [ inl e ↦ ap (λ z. z.0.index == 1) e | inr e ↦ ap (λ z. z.0.index == 1) e ]
+      ]
+    ]
 start_index n (Clock start) x v (inl e) = ap (λ z. z.0.index == 1) e
 start_index n (Clock start) x v (inr none) = absurd none
 start_index n (ScriptTable scripts) x v none = absurd none
 start_index n (RegisterMonitor monitored th actions) x v (inl e) = ap (λ z. z.0.index == 1) e
 start_index n (RegisterMonitor monitored th actions) x v (inr (inl e)) = ap (λ z. z.0.index == 1) e
 start_index n (RegisterMonitor monitored th actions) x v (inr (inr none)) = absurd none
-start_index n (SingleActionSchedule script type times) x v (inl e) = ap (λ z. z.0.index == 1) e
-start_index n (SingleActionSchedule script type times) x v (inr none) = absurd none
+start_index n (SingleActionSchedule script type times) x v i =
+    elim (schedule_entry n script type times (x, v) i) [ inl e ↦ ap (λ z. z.0.index == 1) e.1 | inr e ↦ ap (λ z. z.0.index == 1) e ]
 
 start_class : (n : LogicalName) (part : Part) (x : CellRef) (v : Tree) → IsIn (start_of n part) (x, v) → (15 == x.class_id) ≡ false
 start_class n (Data1 start) x v (inl e) = ap (λ z. 15 == z.0.class_id) e
 start_class n (Data1 start) x v (inr none) = absurd none
 start_class n (Register start default scaler_unit) x v (inl e) = ap (λ z. 15 == z.0.class_id) e
 start_class n (Register start default scaler_unit) x v (inr none) = absurd none
-start_class n (ProfileGeneric captured period entries) x v (inl e) = ap (λ z. 15 == z.0.class_id) e
-start_class n (ProfileGeneric captured period entries) x v (inr (inl e)) = ap (λ z. 15 == z.0.class_id) e
-start_class n (ProfileGeneric captured period entries) x v (inr (inr (inl e))) = ap (λ z. 15 == z.0.class_id) e
-start_class n (ProfileGeneric captured period entries) x v (inr (inr (inr none))) = absurd none
+start_class n (ProfileGeneric captured period entries) x v i =
+    elim (profile_entry n captured period entries (x, v) i) [
+      | inl e ↦ ap (λ z. 15 == z.0.class_id) e
+      | inr j ↦ elim j [
+        | inl e ↦ ap (λ z. 15 == z.0.class_id) e.1
+        | inr k ↦ elim k [ inl e ↦ ap (λ z. 15 == z.0.class_id) e | inr e ↦ ap (λ z. 15 == z.0.class_id) e ]
+      ]
+    ]
 start_class n (Clock start) x v (inl e) = ap (λ z. 15 == z.0.class_id) e
 start_class n (Clock start) x v (inr none) = absurd none
 start_class n (ScriptTable scripts) x v none = absurd none
 start_class n (RegisterMonitor monitored th actions) x v (inl e) = ap (λ z. 15 == z.0.class_id) e
 start_class n (RegisterMonitor monitored th actions) x v (inr (inl e)) = ap (λ z. 15 == z.0.class_id) e
 start_class n (RegisterMonitor monitored th actions) x v (inr (inr none)) = absurd none
-start_class n (SingleActionSchedule script type times) x v (inl e) = ap (λ z. 15 == z.0.class_id) e
-start_class n (SingleActionSchedule script type times) x v (inr none) = absurd none
+start_class n (SingleActionSchedule script type times) x v i =
+    elim (schedule_entry n script type times (x, v) i) [ inl e ↦ ap (λ z. 15 == z.0.class_id) e.1 | inr e ↦ ap (λ z. 15 == z.0.class_id) e ]
 
 cell_read : (P : Plan) (c : ℕ) (x : CellRef) → IsIn (cells P) x → class_is x.class_id (interface_at P x.name) ≡ true → may_read P c x ≡ true → may_get P c x ≡ true
 cell_read P c x i class may = at (same_name x.name association_name) class may
@@ -226,28 +236,41 @@ hidden-replies P steps Q S c closed reads hidden (step ∷ l) (step' ∷ l') s t
     equal_heads true p rest = ap₂ (λ r rs. r ∷ rs) (reply-same P S c reads s t agree step p) rest
     equal_heads false p rest = rest
 
+-- what a write of a hidden cell changes is hidden
+write_hidden : (P : Plan) (S : CellRef → Bool) → IsClosed P S → (y : CellRef) → IsIn (cells P) y → S y ≡ false → (x : CellRef) → IsIn (changed_by_write y) x → S x ≡ false
+write_hidden P S closed y there hidden x i =
+    elim (write-edge P y there x i) [
+      | inl e ↦ subst (λ z. S z ≡ false) (sym e) hidden
+      | inr is ↦ false_from_ne_true (S x) (λ h. not_both (S y) (closed.edges _ is h) hidden)
+    ]
+
 -- hidden steps touch nothing that c may learn
-pub are_hidden : (P : Plan) (Q : Labelling) (c : ℕ) (step step' : Step) → DifferHidden P Q c step step' → AreHidden P (may_learn Q c) c step step'
-are_hidden P Q c (Set d x selector v) (Set e y chosen w) h = record {
+pub are_hidden : (P : Plan) (Q : Labelling) (c : ℕ) → IsClosed P (may_learn Q c) → (step step' : Step) → DifferHidden P Q c step step' → AreHidden P (may_learn Q c) c step step'
+are_hidden P Q c closed (Set d x selector v) (Set e y chosen w) h = record {
   other = ne_eqb c d (λ q. h.1 (sym q));
   other' = ne_eqb c e (λ q. h.1 (h.0 ∙ sym q));
-  quiet = λ s z i. when (is_success (set_answer P d x selector v)) (given_value (cell_of x) v) z (λ ok j. subst (λ u. may_learn Q c u ≡ false) (sym (in_given (cell_of x) v z j)) h.5) i;
-  quiet' = λ s z i. when (is_success (set_answer P e y chosen w)) (given_value (cell_of y) w) z (λ ok j. subst (λ u. may_learn Q c u ≡ false) (ap cell_of h.2 ∙ sym (in_given (cell_of y) w z j)) h.5) i;
-}
-are_hidden P Q c (Input x v) (Input y w) h = record {
-  other = refl;
-  other' = refl;
-  quiet = λ s. input_quiet x v h.2;
-  quiet' = λ s. input_quiet y w (subst (λ u. may_learn Q c u ≡ false) h.0 h.2);
+  quiet = λ s z i. when (is_success (set_answer P d x selector v)) (given_value (cell_of x) v) z (λ ok j. hidden z (in_given (cell_of x) v z j)) i;
+  quiet' = λ s z i. when (is_success (set_answer P e y chosen w)) (given_value (cell_of y) w) z
+      (λ ok j. hidden z (subst (λ u. IsIn (changed_by_write u) z) (sym (ap cell_of h.2)) (in_given (cell_of y) w z j))) i;
 }
   where
-    input_quiet : (u : CellRef) (value : Tree) → may_learn Q c u ≡ false → AreQuiet (may_learn Q c) (cond (is_fed P u && meets_some (rule_of P u) value) (Put u value ∷ []) [])
-    input_quiet u value hidden z i = when (is_fed P u && meets_some (rule_of P u) value) (Put u value ∷ []) z (λ ok j. elim j [ inl e ↦ subst (λ q. may_learn Q c q ≡ false) (sym e) hidden | inr none ↦ absurd none ]) i
-are_hidden P Q c _ _ h = absurd h
+    hidden : (z : CellRef) → IsIn (changed_by_write (cell_of x)) z → may_learn Q c z ≡ false
+    hidden z i = write_hidden P (may_learn Q c) closed (cell_of x) h.4 h.5 z i
+are_hidden P Q c closed (Input x v) (Input y w) h = record {
+  other = refl;
+  other' = refl;
+  quiet = λ s. input_quiet x v h.1 h.2;
+  quiet' = λ s. input_quiet y w (subst (IsIn (cells P)) h.0 h.1) (subst (λ u. may_learn Q c u ≡ false) h.0 h.2);
+}
+  where
+    input_quiet : (u : CellRef) (given : Tree) → IsIn (cells P) u → may_learn Q c u ≡ false → AreQuiet (may_learn Q c) (cond (is_fed P u && meets_some (rule_of P u) given) (Put u given ∷ []) [])
+    input_quiet u given there hidden z i = when (is_fed P u && meets_some (rule_of P u) given) (Put u given ∷ []) z (λ ok j.
+        write_hidden P (may_learn Q c) closed u there hidden z (in_one_write u given z j)) i
+are_hidden P Q c closed _ _ h = absurd h
 
 -- what a client's right changes is cells of a sound plan
 changed_cell : (P : Plan) → IsSound P → (c : ℕ) (x : CellRef) → MayChange P c x → IsIn (cells P) x
-changed_cell P sound c x (inl h) = h.0
+changed_cell P sound c x (inl h) = write-cells P h.0 h.1 x h.3
 changed_cell P sound c x (inr h) = method_cells P sound h.0 x h.2
 
 module _ (P : Plan) (policy : Labelling) (labels : Labels) (sound : IsSound P) (a : Admits P policy labels) where
@@ -337,7 +360,7 @@ module _ (P : Plan) (policy : Labelling) (labels : Labels) (sound : IsSound P) (
   pub secrecy-labels : StepLaws P → Secrecy P Q
   secrecy-labels steps = record {
     same_replies = λ c s s' l l' is is' look alike.
-        hidden-replies P steps Q (may_learn Q c) c (learnable_closed c) (reads_learnable c) (are_hidden P Q c) l l' s s' (is ∙ sym is') look alike;
+        hidden-replies P steps Q (may_learn Q c) c (learnable_closed c) (reads_learnable c) (are_hidden P Q c (learnable_closed c)) l l' s s' (is ∙ sym is') look alike;
   }
 
   pub learn_more : (c : ℕ) (x : CellRef) → IsIn (held P) x → may_learn Q c x ≡ true → may_learn policy c x ≡ true

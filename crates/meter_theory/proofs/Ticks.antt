@@ -1,5 +1,5 @@
 -- A tick adds a second.
-use Rattle.std.proofs.Common.{◌≡◌, ◌≢◌, ◌≤◌, ◌<◌, ◌*◌, ◌+◌, ◌⊎◌, ℕ, Bool, true, false, cond, refl, sym, ap, subst, subst₂, ◌∙◌, arith, inl, inr, nat_lt, ltb-true, ℤ, pos}
+use Rattle.std.proofs.Common.{◌≡◌, ◌≢◌, ◌≤◌, ◌<◌, ◌*◌, ◌+◌, ◌⊎◌, ℕ, Bool, true, false, cond, refl, ap, ◌∙◌, arith, inl, inr, nat_lt, pos}
 use Rattle.std.proofs.lemmas.Bool.{ltb-false}
 use Rattle.jiff_core.specs.Calendar.{days_in_month, day_count, days_from_civil}
 use Rattle.std.specs.Prelude.{◌-ℤ◌}

@@ -47,7 +47,7 @@ unequal-replies P steps Q c closed reads l l' s t is it agree (same_step step {l
     equal_heads true p rest = ap₂ (λ r rs. r ∷ rs) (reply-same P (may_learn Q c) c reads s t agree step p) rest
     equal_heads false p rest = rest
 unequal-replies P steps Q c closed reads l l' s t is it agree (hidden_step step step' {l = m} {l' = m'} d a) =
-    let h = are_hidden P Q c step step' d in
+    let h = are_hidden P Q c closed step step' d in
     skip_first P c step m s h.other
     ∙ (unequal-replies P steps Q c closed reads m m' (next P s step) (next P t step') (next-keys P s step ∙ is) (next-keys P t step' ∙ it)
     (λ x i. steps.quiet (may_learn Q c) step s (h.quiet s) x i ∙ (agree x i ∙ sym (steps.quiet (may_learn Q c) step' t (h.quiet' t) x i))) a

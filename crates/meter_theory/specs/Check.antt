@@ -8,13 +8,18 @@ use Rattle.meter_theory.specs.Rights.{may_get, may_set}
 use Rattle.meter_theory.specs.declared.flow.Edge.{Edge}
 use Rattle.meter_theory.specs.declared.flow.Refusal.{Refusal}
 use Rattle.meter_theory.specs.declared.flow.Refusal.TheVariants.{NotLabelled, PastPolicy, Changer, Reader, InfluenceEscapes, LearnEscapes}
+use Rattle.meter_theory.specs.Steps.{changed_by_write}
 use Rattle.meter_theory.specs.Edges.{edges, among}
 use Rattle.meter_theory.specs.Labels.{Labels, Labelling, label_at, labelling_of, within, has, method_changes_of}
+
+-- the client may set a cell whose write changes x
+abbrev pub may_write : Plan → ℕ → CellRef → Bool
+may_write P c x = list_any (λ y. may_set P c y && among (changed_by_write y) x) (cells P)
 
 -- the client has a right that changes the cell
 abbrev pub may_change : Plan → ℕ → CellRef → Bool
 may_change P c x =
-    may_set P c x
+    may_write P c x
     || list_any (λ r. (r.client == c) && list_any (λ i. among (method_changes_of P (record { class_id = 0; name = r.object; index = i })) x) r.acts) P.rights
 
 -- each client with each cell, clients first

@@ -73,6 +73,10 @@ is_cell class index = list_any (λ row. not row.is_inner && is_of row class inde
 abbrev pub starts_at : LogicalName → Part → ℕ → Bool
 starts_at n part index = list_any (λ entry. not (entry.0.index == 0) && (index == entry.0.index)) (start_of n part)
 
+-- the attribute is a settable cell where its object has a menu
+abbrev pub is_choice : ℕ → ℕ → Bool
+is_choice class index = list_any (λ row. (class == row.class_id) && (index == row.index)) table.CHOICES
+
 -- a request or a script may set it
 abbrev pub is_settable : ℕ → ℕ → Bool
 is_settable class index = list_any (λ row. row.is_settable && is_of row class index) table.CELLS

@@ -5,27 +5,16 @@ use Rattle.cosem_data.specs.Tree.{Tree, null_data, boolean, octet_string, intege
 use Rattle.cosem_data.specs.Cells.{same_name, cell}
 use Rattle.cosem_data.specs.declared.name.LogicalName.{LogicalName}
 use Rattle.cosem_data.specs.declared.cell.CellRef.{CellRef}
+pub use Rattle.meter_theory.specs.Menus.{name_value, index_value, capture_object, capture_objects_value, script_ref_value}
 use Rattle.meter_theory.specs.Value.{array_of, structure_of, counter}
-use Rattle.meter_theory.specs.declared.refs.ScriptRef.{ScriptRef}
 use Rattle.meter_theory.specs.declared.refs.UpDown.{UpDown}
 use Rattle.meter_theory.specs.declared.refs.ScalerUnit.{ScalerUnit}
 use Rattle.meter_theory.specs.declared.refs.Interface.{Interface}
 use Rattle.meter_theory.specs.Plan.{Plan, Client, Action, Write, Invoke, Script, Part, Data1, Register, ProfileGeneric, Clock, ScriptTable, RegisterMonitor, SingleActionSchedule, Object, interface_of, association, association_name, object_at}
 use Rattle.meter_theory.specs.Rights.{may_set, may_act, may_read, has_right}
 
-abbrev pub name_value : LogicalName → Tree
-name_value n = octet_string n.0
-
--- a number as an attribute_index, attribute_id or method_id
-abbrev pub index_value : ℕ → Tree
-index_value index = integer (pos index)
-
 abbrev pub scaler_unit_value : ScalerUnit → Tree
 scaler_unit_value u = structure_of (integer u.scaler ∷ enumerated u.unit ∷ [])
-
--- capture_object_definition, data_index 0
-abbrev pub capture_object : CellRef → Tree
-capture_object x = structure_of (long_unsigned x.class_id ∷ name_value x.name ∷ index_value x.index ∷ long_unsigned 0 ∷ [])
 
 -- sort_method 1 is fifo
 abbrev pub fifo : Tree
@@ -50,10 +39,6 @@ script_value s = structure_of (long_unsigned s.id ∷ array_of (map action_value
 abbrev pub monitored_value : CellRef → Tree
 monitored_value x = structure_of (long_unsigned x.class_id ∷ name_value x.name ∷ index_value x.index ∷ [])
 
--- action_item, and executed_script
-abbrev pub script_ref_value : ScriptRef → Tree
-script_ref_value r = structure_of (name_value r.table ∷ long_unsigned r.script ∷ [])
-
 abbrev pub up_down_value : UpDown → Tree
 up_down_value a = structure_of (script_ref_value a.up ∷ script_ref_value a.down ∷ [])
 
@@ -66,7 +51,7 @@ unfoldable pub fixed_in : Part → ℕ → Tree
 fixed_in (Data1 start) index = null_data
 fixed_in (Register start default scaler_unit) index = cond (index == 3) (scaler_unit_value scaler_unit) null_data
 fixed_in (ProfileGeneric captured period entries) index =
-    cond (index == 3) (array_of (map capture_object captured))
+    cond (index == 3) (capture_objects_value captured.configured)
     (cond (index == 5) fifo
     (cond (index == 6) no_sort_object
     (cond (index == 8) (counter entries) null_data)))
@@ -84,7 +69,7 @@ fixed_in (ScriptTable scripts) index = cond (index == 2) (array_of (map script_v
 fixed_in (RegisterMonitor monitored thresholds actions) index =
     cond (index == 3) (monitored_value monitored) (cond (index == 4) (array_of (map up_down_value actions)) null_data)
 fixed_in (SingleActionSchedule script type times) index =
-    cond (index == 2) (script_ref_value script) (cond (index == 3) (enumerated type) null_data)
+    cond (index == 2) (script_ref_value script.configured) (cond (index == 3) (enumerated type) null_data)
 
 -- The current association of a client
 

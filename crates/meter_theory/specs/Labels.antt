@@ -11,7 +11,7 @@ use Rattle.cosem_data.specs.Cells.{same_cell}
 use Rattle.meter_theory.specs.Plan.{Plan, Object, Script, Part, ScriptTable, RegisterMonitor, object_at, cells, inner_clock}
 use Rattle.cosem_data.specs.declared.cell.MethodRef.{MethodRef}
 use Rattle.meter_theory.specs.Rights.{may_get, may_set, may_act}
-use Rattle.meter_theory.specs.Steps.{changed, actions_effects, plain_method, Effect}
+use Rattle.meter_theory.specs.Steps.{changed_by_write, changed, actions_effects, plain_method, Effect}
 use Rattle.meter_theory.specs.declared.flow.Edge.{Edge}
 use Rattle.meter_theory.specs.declared.flow.Label.{Label}
 use Rattle.meter_theory.specs.Edges.{IsEdge}
@@ -89,7 +89,9 @@ method_changes_of P m = for_some (object_at P m.name) (λ o. method_changes P m 
 
 -- The client has a right that changes the cell.
 abbrev pub MayChange : Plan → ℕ → CellRef → Type 0
-MayChange P c x = (IsIn (cells P) x × (may_set P c x ≡ true)) ⊎ ((m : MethodRef) × (may_act P c m ≡ true) × IsIn (method_changes_of P m) x)
+MayChange P c x =
+    ((y : CellRef) × IsIn (cells P) y × (may_set P c y ≡ true) × IsIn (changed_by_write y) x)
+    ⊎ ((m : MethodRef) × (may_act P c m ≡ true) × IsIn (method_changes_of P m) x)
 
 -- What a plan asks of labels: every cell has one, who has a right that changes a cell may influence it, who may read it may
 -- learn it, and no client is lost along an edge.

@@ -2,6 +2,7 @@ pub mod Lists
 pub mod Access
 pub mod Times
 pub mod ClientNames
+pub mod Menus
 pub mod Value
 pub mod Selection
 pub mod State

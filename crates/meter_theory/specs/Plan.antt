@@ -1,11 +1,12 @@
 -- A plan: the clients, the objects with what is fixed of each, and the rights of the clients.
-use Rattle.std.specs.Prelude.{ℕ, ◌==◌, Bool, cond, List, [], ◌∷◌, ◌++◌, Option, Some, None, find, flat_map, length, option_map, option_and_then}
+use Rattle.std.specs.Prelude.{◌≡◌, ℕ, ◌==◌, Bool, false, cond, List, [], ◌∷◌, ◌++◌, Option, Some, None, find, flat_map, length, map, option_map, option_and_then}
 use Rattle.std.specs.List.{list_any, position_from}
 use Rattle.std.specs.Str.{bytes_eq}
 use Rattle.cosem_data.specs.Tree.{Tree, null_data, array, no_trees}
 use Rattle.cosem_data.specs.Kinds.{kind_of}
 use Rattle.cosem_data.specs.Cells.{same_name, cell, same_cell}
-use Rattle.cosem_data.specs.declared.kind.Kind.TheVariants.{DoubleLongUnsigned}
+use Rattle.cosem_data.specs.declared.kind.Kind.{Kind}
+use Rattle.cosem_data.specs.declared.kind.Kind.TheVariants.{Array, Structure, DoubleLongUnsigned}
 use Rattle.cosem_data.specs.declared.name.LogicalName.{LogicalName}
 use Rattle.cosem_data.specs.declared.cell.CellRef.{CellRef}
 use Rattle.cosem_data.specs.declared.cell.MethodRef.{MethodRef}
@@ -13,9 +14,10 @@ use Rattle.meter_theory.specs.declared.refs.Interface.{Interface}
 use Rattle.meter_theory.specs.declared.refs.ScalerUnit.{ScalerUnit}
 use Rattle.meter_theory.specs.declared.refs.ScriptRef.{ScriptRef}
 use Rattle.meter_theory.specs.declared.refs.UpDown.{UpDown}
-use Rattle.meter_theory.specs.Lists.{for_some}
+use Rattle.meter_theory.specs.Lists.{IsIn, for_some}
+use Rattle.meter_theory.specs.Menus.{Choice, alternatives, has_menu, capture_objects_value, script_ref_value}
 use Rattle.meter_theory.specs.Times.{Moment, first_moment, clock_value}
-use Rattle.meter_theory.specs.Value.{counter, Rule, OfKind, Thresholds, ExecutionTimes, ClockTime}
+use Rattle.meter_theory.specs.Value.{counter, Rule, OfKind, Thresholds, ExecutionTimes, ClockTime, OneOf}
 use Rattle.meter_theory.specs.State.{State, value, keys}
 
 -- a client: its name, its service access point and its password
@@ -37,11 +39,11 @@ pub record Script : Type 0 where
 pub data Part : Type 0 where
   Data1 : (start : Tree) → Part
   Register : (start default : Tree) → ScalerUnit → Part
-  ProfileGeneric : (captured : List CellRef) → (period entries : ℕ) → Part
+  ProfileGeneric : (captured : Choice (List CellRef)) → (period entries : ℕ) → Part
   Clock : (start : Moment) → Part
   ScriptTable : List Script → Part
   RegisterMonitor : (monitored : CellRef) → (thresholds : Tree) → List UpDown → Part
-  SingleActionSchedule : ScriptRef → (type : ℕ) → (times : Tree) → Part
+  SingleActionSchedule : (script : Choice ScriptRef) → (type : ℕ) → (times : Tree) → Part
 
 -- an object; inputs from outside go to the value of one that is fed
 pub record Object : Type 0 where
@@ -116,6 +118,10 @@ register_value n = cell 3 n 2
 abbrev pub buffer : LogicalName → CellRef
 buffer n = cell 7 n 2
 
+-- a cell where the profile has a menu of them
+abbrev pub capture_objects : LogicalName → CellRef
+capture_objects n = cell 7 n 3
+
 abbrev pub capture_period : LogicalName → CellRef
 capture_period n = cell 7 n 4
 
@@ -132,19 +138,30 @@ thresholds n = cell 21 n 2
 abbrev pub seen : LogicalName → CellRef
 seen n = cell 21 n 0
 
+-- a cell where the schedule has a menu of scripts
+abbrev pub executed_script : LogicalName → CellRef
+executed_script n = cell 22 n 2
+
 abbrev pub execution_time : LogicalName → CellRef
 execution_time n = cell 22 n 4
+
+-- the cell of an attribute that has a menu, with its start value
+abbrev pub start_of_choice : {A : Type 0} → CellRef → (A → Tree) → Choice A → State
+start_of_choice x value_of c = cond (has_menu c) ((x, value_of c.configured) ∷ []) []
 
 -- the cells of an object, with their start values
 abbrev pub start_of : LogicalName → Part → State
 start_of n (Data1 start) = (data_value n, start) ∷ []
 start_of n (Register start default scaler_unit) = (register_value n, start) ∷ []
 start_of n (ProfileGeneric captured period entries) =
-    (buffer n, array no_trees) ∷ (capture_period n, counter period) ∷ (entries_in_use n, counter 0) ∷ []
+    (buffer n, array no_trees)
+    ∷ start_of_choice (capture_objects n) capture_objects_value captured
+    ++ (capture_period n, counter period) ∷ (entries_in_use n, counter 0) ∷ []
 start_of n (Clock first) = (clock_time n, clock_value first) ∷ []
 start_of n (ScriptTable scripts) = []
 start_of n (RegisterMonitor monitored th actions) = (thresholds n, th) ∷ (seen n, null_data) ∷ []
-start_of n (SingleActionSchedule script type times) = (execution_time n, times) ∷ []
+start_of n (SingleActionSchedule script type times) =
+    start_of_choice (executed_script n) script_ref_value script ++ (execution_time n, times) ∷ []
 
 -- the configured values, seen null-data, the buffers empty
 abbrev pub start_values : Plan → State
@@ -153,6 +170,16 @@ start_values P = flat_map (λ o. start_of o.name o.part) P.objects
 -- the cells of the plan, in plan order
 abbrev pub cells : Plan → List CellRef
 cells P = keys (start_values P)
+
+-- an object of the part has a menu
+abbrev pub part_has_menu : Part → Bool
+part_has_menu (ProfileGeneric captured period entries) = has_menu captured
+part_has_menu (SingleActionSchedule script type times) = has_menu script
+part_has_menu _ = false
+
+-- no object of the plan has one
+abbrev pub HasNoMenus : Plan → Type 0
+HasNoMenus P = (o : Object) → IsIn P.objects o → part_has_menu o.part ≡ false
 
 -- The clock
 
@@ -192,16 +219,23 @@ held P = keys (start P)
 abbrev pub is_cell : Plan → CellRef → Bool
 is_cell P x = list_any (same_cell x) (cells P)
 
+-- what an attribute with a menu may hold: a value of one of its alternatives
+abbrev pub rule_of_choice : {A : Type 0} → Kind → (A → Tree) → Choice A → Option Rule
+rule_of_choice kind value_of c = cond (has_menu c) (Some (OneOf kind (map value_of (alternatives c)))) None
+
 -- what a settable cell may hold; none for what isn't settable
 abbrev pub rule_in : Plan → Part → ℕ → Option Rule
 rule_in P (Data1 start) index = cond (index == 2) (Some (OfKind (kind_of start))) None
 rule_in P (Register start default scaler_unit) index = cond (index == 2) (Some (OfKind (kind_of start))) None
-rule_in P (ProfileGeneric captured period entries) index = cond (index == 4) (Some (OfKind DoubleLongUnsigned)) None
+rule_in P (ProfileGeneric captured period entries) index =
+    cond (index == 4) (Some (OfKind DoubleLongUnsigned))
+    (cond (index == 3) (rule_of_choice Array capture_objects_value captured) None)
 rule_in P (Clock first) index = cond (index == 2) (Some ClockTime) None
 rule_in P (ScriptTable scripts) index = None
 rule_in P (RegisterMonitor monitored th actions) index =
     cond (index == 2) (Some (Thresholds (length actions) (kind_of (value (start_values P) monitored)))) None
-rule_in P (SingleActionSchedule script type times) index = cond (index == 4) (Some (ExecutionTimes type)) None
+rule_in P (SingleActionSchedule script type times) index =
+    cond (index == 4) (Some (ExecutionTimes type)) (cond (index == 2) (rule_of_choice Structure script_ref_value script) None)
 
 abbrev pub rule_of : Plan → CellRef → Option Rule
 rule_of P x = option_and_then (λ o. cond (class_of o.part == x.class_id) (rule_in P o.part x.index) None) (object_at P x.name)

@@ -7,6 +7,7 @@ use Rattle.cosem_data.specs.TreeCode.{tree_code}
 use Rattle.cosem_data.specs.declared.name.LogicalName.{LogicalName}
 use Rattle.cosem_data.specs.declared.cell.CellRef.{CellRef}
 use Rattle.cosem_data.specs.declared.cell.MethodRef.{MethodRef}
+use Rattle.meter_theory.specs.Menus.{Choice}
 use Rattle.meter_theory.specs.Times.{Moment}
 use Rattle.meter_theory.specs.State.{State}
 use Rattle.meter_theory.specs.declared.refs.ScriptRef.{ScriptRef}
@@ -76,9 +77,13 @@ moment_code =
     (λ t. (t.year, (t.month, (t.day, (t.hour, (t.minute, t.second))))))
     (λ p. record { year = p.0; month = p.1.0; day = p.1.1.0; hour = p.1.1.1.0; minute = p.1.1.1.1.0; second = p.1.1.1.1.1 }) (λ _. refl)
 
+abbrev pub choice_code : {A : Type 0} → Coded A → Coded (Choice A)
+choice_code {A = A} code =
+    code_by (A × List A) (coded× code (coded_list code)) (λ c. (c.configured, c.menu)) (λ p. record { configured = p.0; menu = p.1 }) (λ _. refl)
+
 abbrev pub PartParts : Type 0
 PartParts =
-    Tree ⊎ ((Tree × (Tree × ScalerUnit)) ⊎ ((List CellRef × (ℕ × ℕ)) ⊎ (Moment ⊎ (List Script ⊎ ((CellRef × (Tree × List UpDown)) ⊎ (ScriptRef × (ℕ × Tree)))))))
+    Tree ⊎ ((Tree × (Tree × ScalerUnit)) ⊎ ((Choice (List CellRef) × (ℕ × ℕ)) ⊎ (Moment ⊎ (List Script ⊎ ((CellRef × (Tree × List UpDown)) ⊎ (Choice ScriptRef × (ℕ × Tree)))))))
 
 abbrev pub from_part : Part → PartParts
 from_part (Data1 start) = inl start
@@ -110,8 +115,8 @@ to_part-from (SingleActionSchedule script type times) = refl
 abbrev pub part_code : Coded Part
 part_code =
     code_by PartParts (coded⊎ tree_code (coded⊎ (coded× tree_code (coded× tree_code scaler_unit_code))
-    (coded⊎ (coded× (coded_list cell_code) (coded× coded_ℕ coded_ℕ)) (coded⊎ moment_code (coded⊎ (coded_list script_code)
-    (coded⊎ (coded× cell_code (coded× tree_code (coded_list up_down_code))) (coded× script_ref_code (coded× coded_ℕ tree_code)))))))) from_part to_part to_part-from
+    (coded⊎ (coded× (choice_code (coded_list cell_code)) (coded× coded_ℕ coded_ℕ)) (coded⊎ moment_code (coded⊎ (coded_list script_code)
+    (coded⊎ (coded× cell_code (coded× tree_code (coded_list up_down_code))) (coded× (choice_code script_ref_code) (coded× coded_ℕ tree_code)))))))) from_part to_part to_part-from
 
 abbrev pub object_code : Coded Object
 object_code =

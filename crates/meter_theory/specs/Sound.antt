@@ -11,12 +11,13 @@ use Rattle.meter_theory.specs.declared.limits.TheConstants as limits
 use Rattle.meter_theory.specs.declared.refs.ScriptRef.{ScriptRef}
 use Rattle.meter_theory.specs.Lists.{IsIn, AreDistinct, some_passes}
 use Rattle.meter_theory.specs.ClientNames.{may_be_named}
+use Rattle.meter_theory.specs.Menus.{alternatives}
 use Rattle.meter_theory.specs.Times.{IsMoment}
 use Rattle.meter_theory.specs.Value.{Rule, OfKind, meets, is_within_limits}
 use Rattle.meter_theory.specs.State.{value}
 use Rattle.meter_theory.specs.Plan.{Plan, Client, Object, Right, Script, Action, Write, Invoke, Part, Register, ProfileGeneric, Clock, ScriptTable, RegisterMonitor, SingleActionSchedule, association_name, class_of, interface_of, object_at, cells, start, start_values, rule_of, entries_in_use}
 use Rattle.meter_theory.specs.Rights.{knows_script}
-use Rattle.meter_theory.specs.Edges.{scripts_named}
+use Rattle.meter_theory.specs.Edges.{scripts_named, captured_by}
 use Rattle.meter_theory.specs.Steps.{scripts_of, Captures, captures_in}
 
 -- the cell may be written, and the value meets its rule
@@ -52,24 +53,29 @@ has_action_sizes (Invoke m parameter) = is_name m.name && is_within_limits param
 abbrev pub has_script_sizes : Script → Bool
 has_script_sizes s = nat_le (length s.actions) limits.ACTIONS && list_all has_action_sizes s.actions
 
+abbrev pub has_capture_sizes : List CellRef → Bool
+has_capture_sizes captured = nat_le (length captured) limits.CAPTURE_OBJECTS && list_all (λ x. is_name x.name) captured
+
 -- as many parts as the limits allow (own profile), and names of six bytes
 abbrev pub has_part_sizes : Part → Bool
 has_part_sizes (ProfileGeneric captured period entries) =
-    nat_le (length captured) limits.CAPTURE_OBJECTS && (list_all (λ x. is_name x.name) captured && (nat_le 1 entries && nat_le entries limits.PROFILE_ENTRIES))
+    nat_le (length captured.menu) limits.MENU
+    && (list_all has_capture_sizes (alternatives captured) && (nat_le 1 entries && nat_le entries limits.PROFILE_ENTRIES))
 has_part_sizes (ScriptTable scripts) = nat_le (length scripts) limits.SCRIPTS && list_all has_script_sizes scripts
 has_part_sizes (RegisterMonitor monitored th actions) =
     is_name monitored.name
     && (nat_le (length actions) limits.THRESHOLDS && list_all (λ a. is_name a.up.table && is_name a.down.table) actions)
-has_part_sizes (SingleActionSchedule script type times) = is_name script.table
+has_part_sizes (SingleActionSchedule script type times) =
+    nat_le (length script.menu) limits.MENU && list_all (λ r. is_name r.table) (alternatives script)
 has_part_sizes _ = true
 
 abbrev pub has_sizes : Object → Bool
 has_sizes o = is_name o.name && has_part_sizes o.part
 
--- the scripts that an object may have run: those of a monitor's actions, and that of a schedule
+-- the scripts that an object may have run: those of a monitor's actions, and the alternatives of a schedule
 abbrev pub scripts_run_by : Part → List ScriptRef
 scripts_run_by (RegisterMonitor monitored th actions) = scripts_named actions
-scripts_run_by (SingleActionSchedule script type times) = script ∷ []
+scripts_run_by (SingleActionSchedule script type times) = alternatives script
 scripts_run_by _ = []
 
 -- a script table of the plan has this script; each has the null script, 0
@@ -134,5 +140,5 @@ pub record IsSound (P : Plan) : Type 0 where
   pub references : (o : Object) → IsIn P.objects o → (r : ScriptRef) → IsIn (scripts_run_by o.part) r → has_script P r ≡ true
   -- profiles capture cells of the plan, and no buffer
   pub captures : (o : Object) → IsIn P.objects o → (c : Captures) → captures_in o.part ≡ Some c →
-      (x : CellRef) → IsIn c.captured x → IsIn (cells P) x × IsCapturable P x
+      (x : CellRef) → IsIn (captured_by c.captured) x → IsIn (cells P) x × IsCapturable P x
   pub parts : (o : Object) → IsIn P.objects o → IsSoundPart P o.part

@@ -9,7 +9,7 @@ use Rattle.cosem_data.specs.declared.cell.CellRef.{CellRef}
 use Rattle.meter_theory.specs.State.{State, keys, value}
 use Rattle.cosem_data.specs.declared.name.LogicalName.{LogicalName}
 use Rattle.meter_theory.specs.Plan.{Plan, Object, Part, ProfileGeneric, RegisterMonitor, start_values, held, clock, rule_of, buffer, entries_in_use, seen}
-use Rattle.meter_theory.specs.Steps.{Effect, Put, Capture, Clear}
+use Rattle.meter_theory.specs.Steps.{Effect, Put, Capture, Clear, captured_in}
 
 -- What stands in a captured cell: a value that meets the cell's rule, or a number of entries in use.
 abbrev pub IsCaptured : Plan → CellRef → Tree → Type 0
@@ -43,10 +43,10 @@ IsCount entries v = (count : ℕ) × (v ≡ counter count) × (count ≤ entries
 abbrev pub IsSeen : Plan → CellRef → Tree → Type 0
 IsSeen P monitored v = (v ≡ null_data) ⊎ (meets (OfKind (kind_of (value (start_values P) monitored))) v ≡ true)
 
--- What the cells of an object hold that no rule speaks of.
+-- What the cells of an object hold that no rule speaks of; the rows of a profile are of what it captures now.
 abbrev pub Holds : Plan → State → LogicalName → Part → Type 0
 Holds P s n (ProfileGeneric captured period entries) =
-    IsBuffer P captured entries (value s (buffer n)) × IsCount entries (value s (entries_in_use n))
+    IsBuffer P (captured_in s n captured) entries (value s (buffer n)) × IsCount entries (value s (entries_in_use n))
 Holds P s n (RegisterMonitor monitored th actions) = IsSeen P monitored (value s (seen n))
 Holds P s n _ = Unit {0}
 

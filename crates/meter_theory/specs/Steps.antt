@@ -6,19 +6,20 @@ use Rattle.cosem_data.specs.declared.name.LogicalName.{LogicalName}
 use Rattle.cosem_data.specs.declared.cell.CellRef.{CellRef}
 use Rattle.cosem_data.specs.declared.cell.MethodRef.{MethodRef}
 use Rattle.meter_theory.specs.Lists.{keep_last, for_some}
+use Rattle.meter_theory.specs.Menus.{Choice, chosen, capture_objects_value, script_ref_value}
 use Rattle.meter_theory.specs.Value.{array_of, structure_of, elements, counter, count_of, Rule, meets}
 use Rattle.meter_theory.specs.Times.{Moment, is_moment, next_second, clock_moment, clock_value, is_capture_due, is_schedule_due}
 use Rattle.meter_theory.specs.State.{State, value, put}
 use Rattle.meter_theory.specs.declared.refs.ScriptRef.{ScriptRef}
 use Rattle.meter_theory.specs.declared.refs.UpDown.{UpDown}
-use Rattle.meter_theory.specs.Plan.{Plan, Object, Part, Register, ProfileGeneric, ScriptTable, RegisterMonitor, SingleActionSchedule, Script, Action, Write, Invoke, class_of, object_at, rule_of, register_value, buffer, capture_period, entries_in_use, thresholds, seen, execution_time, clock_object, inner_clock, clock}
+use Rattle.meter_theory.specs.Plan.{Plan, Object, Part, Register, ProfileGeneric, ScriptTable, RegisterMonitor, SingleActionSchedule, Script, Action, Write, Invoke, class_of, object_at, rule_of, register_value, buffer, capture_objects, capture_period, entries_in_use, thresholds, seen, executed_script, execution_time, clock_object, inner_clock, clock}
 use Rattle.meter_theory.specs.Access.{is_success}
 use Rattle.meter_theory.specs.Rights.{Argument, Given, Descriptor, cell_of, method_of, Selection, set_answer, act_answer, script_number}
 
 -- Effects
 
 pub data Effect : Type 0 where
-  -- the value goes into the cell
+  -- the value goes into the cell; into a profile's capture_objects it goes as the buffer is emptied
   Put : CellRef → Tree → Effect
   -- a row of the captured values goes behind the buffer
   Capture : (profile : LogicalName) → Effect
@@ -27,7 +28,7 @@ pub data Effect : Type 0 where
 
 -- what a capture looks up in the plan
 pub record Captures : Type 0 where
-  pub captured : List CellRef
+  pub captured : Choice (List CellRef)
   pub entries : ℕ
 
 abbrev pub captures_in : Part → Option Captures
@@ -37,6 +38,10 @@ captures_in _ = None
 abbrev pub captures_of : Option Object → Option Captures
 captures_of None = None
 captures_of (Some o) = captures_in o.part
+
+-- the cells that a profile captures in s: the alternative that its capture_objects holds
+abbrev pub captured_in : State → LogicalName → Choice (List CellRef) → List CellRef
+captured_in s n captured = chosen capture_objects_value captured (value s (capture_objects n))
 
 -- the row that a capture in s takes
 abbrev pub row_of : State → List CellRef → Tree
@@ -54,7 +59,7 @@ in_use_after entries old = counter (min (count_of old + 1) entries)
 abbrev pub capture : State → LogicalName → Option Captures → State
 capture s n None = s
 capture s n (Some c) =
-    put (put s (buffer n) (buffer_after c.entries (value s (buffer n)) (row_of s c.captured)))
+    put (put s (buffer n) (buffer_after c.entries (value s (buffer n)) (row_of s (captured_in s n c.captured))))
     (entries_in_use n) (in_use_after c.entries (value s (entries_in_use n)))
 
 -- method reset of a profile
@@ -65,9 +70,18 @@ clear s n = put (put s (buffer n) (array no_trees)) (entries_in_use n) (counter 
 abbrev pub kept : CellRef → Tree → Tree
 kept x v = cond (x.class_id == 8) (clock_value (clock_moment v)) v
 
+-- a write of this cell empties a buffer: it is a profile's capture_objects, and the rows are of what was captured before
+-- (IEC 62056-6-2, Profile generic)
+abbrev pub empties : CellRef → Bool
+empties x = (x.class_id == 7) && (x.index == 3)
+
+-- the state after a write
+abbrev pub write : State → CellRef → Tree → State
+write s x v = put (cond (empties x) (clear s x.name) s) x (kept x v)
+
 -- the state after one effect
 abbrev pub effect : Plan → State → Effect → State
-effect P s (Put x v) = put s x (kept x v)
+effect P s (Put x v) = write s x v
 effect P s (Capture n) = capture s n (captures_of (object_at P n))
 effect P s (Clear n) = clear s n
 
@@ -76,9 +90,13 @@ abbrev pub effects : Plan → State → List Effect → State
 effects P s [] = s
 effects P s (e ∷ es) = effects P (effect P s e) es
 
+-- the cells that a write changes
+abbrev pub changed_by_write : CellRef → List CellRef
+changed_by_write x = x ∷ cond (empties x) (buffer x.name ∷ entries_in_use x.name ∷ []) []
+
 -- the cells that an effect changes, and those that a list of effects changes
 abbrev pub changed_by : Effect → List CellRef
-changed_by (Put x v) = x ∷ []
+changed_by (Put x v) = changed_by_write x
 changed_by (Capture n) = buffer n ∷ entries_in_use n ∷ []
 changed_by (Clear n) = buffer n ∷ entries_in_use n ∷ []
 
@@ -198,9 +216,13 @@ evaluated P s n (RegisterMonitor monitored th actions) =
     ++ Put (seen n) (value s monitored) ∷ []
 evaluated P s n _ = []
 
+-- the script that a schedule runs in s: the alternative that its executed_script holds
+abbrev pub script_now : State → LogicalName → Choice ScriptRef → ScriptRef
+script_now s n script = chosen script_ref_value script (value s (executed_script n))
+
 abbrev pub scheduled_at : Plan → State → LogicalName → Moment → Part → List Effect
 scheduled_at P s n t (SingleActionSchedule script type times) =
-    cond (is_schedule_due (elements (value s (execution_time n))) t) (effects_of_script P script) []
+    cond (is_schedule_due (elements (value s (execution_time n))) t) (effects_of_script P (script_now s n script)) []
 scheduled_at P s n t _ = []
 
 -- the clock goes on by a second

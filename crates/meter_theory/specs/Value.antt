@@ -1,8 +1,9 @@
 -- The parts of values that the definitions look at, and what may stand in a settable cell.
 use Rattle.std.specs.Prelude.{ℕ, ◌==◌, nat_le, Bool, true, ◌&&◌, List, [], length}
-use Rattle.std.specs.List.{list_all}
+use Rattle.std.specs.List.{list_all, list_any}
 use Rattle.cosem_data.specs.Tree.{Tree, array, structure, double_long_unsigned, trees, parts, depth}
 use Rattle.cosem_data.specs.Kinds.{kind_of, same_kind}
+use Rattle.cosem_data.specs.Equal.{same_tree}
 use Rattle.cosem_data.specs.declared.kind.Kind.{Kind}
 use Rattle.cosem_data.specs.declared.kind.Kind.TheVariants.{Array, OctetString}
 use Rattle.cosem_axdr.specs.Canonical.{canonical}
@@ -42,6 +43,9 @@ pub data Rule : Type 0 where
   ExecutionTimes : (type : ℕ) → Rule
   -- what a clock may be set to (time of a clock)
   ClockTime : Rule
+  -- one of these values, which are of this kind (capture_objects of a profile and executed_script of a single action
+  -- schedule that have a menu, own profile)
+  OneOf : Kind → (values : List Tree) → Rule
 
 -- the value has the tag that the rule asks for
 abbrev pub valid_tag : Rule → Tree → Bool
@@ -49,14 +53,20 @@ valid_tag (OfKind kind) v = same_kind (kind_of v) kind
 valid_tag (Thresholds number kind) v = same_kind (kind_of v) Array
 valid_tag (ExecutionTimes type) v = same_kind (kind_of v) Array
 valid_tag ClockTime v = same_kind (kind_of v) OctetString
+valid_tag (OneOf kind values) v = same_kind (kind_of v) kind
 
--- the parts are what the rule asks for
-abbrev pub valid_parts : Rule → Tree → Bool
-valid_parts (OfKind kind) v = true
-valid_parts (Thresholds number kind) v = (length (elements v) == number) && list_all (λ e. same_kind (kind_of e) kind) (elements v)
-valid_parts (ExecutionTimes type) v = are_execution_times type (elements v)
-valid_parts ClockTime v = is_clock_time v
+-- so many values of this kind
+abbrev pub are_thresholds : ℕ → Kind → List Tree → Bool
+are_thresholds number kind vs = (length vs == number) && list_all (λ v. same_kind (kind_of v) kind) vs
+
+-- what stands behind the tag is what the rule asks for
+abbrev pub valid_content : Rule → Tree → Bool
+valid_content (OfKind kind) v = true
+valid_content (Thresholds number kind) v = are_thresholds number kind (elements v)
+valid_content (ExecutionTimes type) v = are_execution_times type (elements v)
+valid_content ClockTime v = is_clock_time v
+valid_content (OneOf kind values) v = list_any (λ w. same_tree w v) values
 
 -- The value may be put into a cell with this rule.
 abbrev pub meets : Rule → Tree → Bool
-meets rule v = valid_tag rule v && (is_within_limits v && valid_parts rule v)
+meets rule v = valid_tag rule v && (is_within_limits v && valid_content rule v)

@@ -1,8 +1,8 @@
 //! The one table of the interface classes whose objects a meter may have, and of their attributes that can change. Whatever
 //! asks for a class by its number reads it here, and goes on with the [`Class`].
-ghost use Rattle.std.specs.Prelude.{◌≡◌, ℕ, true, Some, is_some};
+ghost use Rattle.std.specs.Prelude.{◌≡◌, ◌||◌, ◌&&◌, ℕ, true, Some, is_some};
 ghost use Rattle.cosem_data.specs.declared.name.LogicalName.{LogicalName};
-ghost use Rattle.meter_theory.specs.Plan.{Plan, Part, class_of, interface_of, rule_in};
+ghost use Rattle.meter_theory.specs.Plan.{Plan, Part, class_of, interface_of, part_has_menu, rule_in};
 ghost use Rattle.meter_theory.specs.Sound.{highest_method};
 ghost use Rattle.meter_theory.specs.Classes as spec;
 
@@ -49,6 +49,13 @@ pub struct CellRow {
     pub is_monitorable: bool,
     /// No request and no text names it.
     pub is_inner: bool,
+}
+
+/// An attribute that can be set, and so can change, where its object has a menu; nothing else may name it (own profile).
+#[derive(Clone, Copy, Debug, Drop)]
+pub struct ChoiceRow {
+    pub class_id: u16,
+    pub index: u8,
 }
 
 /// A row for each class, by their numbers.
@@ -204,6 +211,19 @@ pub const CELLS: [CellRow; 9] = [
     },
 ];
 
+/// A row for each attribute that is a cell where its object has a menu: capture_objects of a profile, and executed_script of a
+/// single action schedule.
+pub const CHOICES: [ChoiceRow; 2] = [
+    ChoiceRow {
+        class_id: 7,
+        index: 3,
+    },
+    ChoiceRow {
+        class_id: 22,
+        index: 2,
+    },
+];
+
 impl CellRow {
     /// Whether this is the row of the attribute.
     fn is_of(&self, class_id: u16, index: u8) -> bool
@@ -266,6 +286,15 @@ pub fn is_cell(class_id: u16, index: u8) -> bool
         .any(|row| !row.is_inner && row.is_of(class_id, index))
 }
 
+/// Whether the attribute can be set where its object has a menu.
+pub fn is_choice(class_id: u16, index: u8) -> bool
+    ensures { result ≡ spec.is_choice class_id index }
+{
+    CHOICES
+        .iter()
+        .any(|row| class_id == row.class_id && index == row.index)
+}
+
 /// Whether a request or a script may set the attribute.
 pub fn is_settable(class_id: u16, index: u8) -> bool
     ensures { result ≡ spec.is_settable class_id index }
@@ -312,7 +341,9 @@ pub fn parts_are_as_in_the_table()
     ensures methods { (part : Part) (index : ℕ) →
         spec.has_method (class_of part) index ≡ spec.is_up_to (highest_method part) index }
     ensures cells { (name : LogicalName) (part : Part) (index : ℕ) →
-        spec.is_cell (class_of part) index ≡ spec.starts_at name part index }
+        (spec.is_cell (class_of part) index || (part_has_menu part && spec.is_choice (class_of part) index))
+        ≡ spec.starts_at name part index }
     ensures settable { (P : Plan) (part : Part) (index : ℕ) →
-        spec.is_settable (class_of part) index ≡ is_some (rule_in P part index) }
+        (spec.is_settable (class_of part) index || (part_has_menu part && spec.is_choice (class_of part) index))
+        ≡ is_some (rule_in P part index) }
 {}

@@ -12,6 +12,9 @@ pub enum Cause {
     Monitor,
     /// A profile captures the source into its buffer.
     Captured,
+    /// The source holds one alternative of a menu: the cells that a profile captures, of which its buffer and its entries in use
+    /// are; or the script that a schedule runs, which changes the target.
+    Menu,
     /// A profile's capture period decides when its buffer and its entries in use change.
     Period,
     /// A schedule's execution time decides when the script runs that changes the target.

@@ -1,20 +1,26 @@
 //! Theorems about meters and plans: each function's clauses are its statement, and its body is empty.
-ghost use Rattle.std.specs.Prelude.{◌≡◌, ◌≢◌, ◌↔◌, ◌+◌, ℕ, Bool, List, true, false, None, Some};
+ghost use Rattle.std.specs.Prelude.{◌≡◌, ◌≢◌, ◌↔◌, ◌+◌, ◌∷◌, ◌++◌, [], ℕ, Bool, List, map, true, false, None, Some};
 ghost use Rattle.cosem_data.specs.Cells.{same_cell};
-ghost use Rattle.cosem_data.specs.Tree.{Tree};
+ghost use Rattle.cosem_data.specs.Tree.{Tree, array, no_trees};
 ghost use Rattle.cosem_data.specs.declared.cell.CellRef.{CellRef};
 ghost use Rattle.cosem_data.specs.declared.name.LogicalName.{LogicalName};
 ghost use Rattle.cosem_data.specs.declared.cell.MethodRef.{MethodRef};
 ghost use Rattle.cosem_axdr.specs.Canonical.{HasLengths};
 ghost use Rattle.meter_theory.specs.Lists.{IsIn, for_some};
 ghost use Rattle.meter_theory.specs.State.{State, keys, value, put};
+ghost use Rattle.meter_theory.specs.declared.refs.ScriptRef.{ScriptRef};
+ghost use Rattle.meter_theory.specs.declared.flow.Cause.TheVariants as causes;
+ghost use Rattle.meter_theory.specs.Menus.{Choice, has_menu};
+ghost use Rattle.meter_theory.specs.Value.{counter};
 ghost use Rattle.meter_theory.specs.Times.{Moment, IsMoment, last_moment, next_second, seconds_since_2000, clock_moment, clock_value};
-ghost use Rattle.meter_theory.specs.Plan.{Plan, Object, cells, start, object_at, clock_object};
-ghost use Rattle.meter_theory.specs.Steps.{Step, CaptureAt, ScheduleAt, ClockAt, captured_at, scheduled_at, effects_of, kept, next};
+ghost use Rattle.meter_theory.specs.Plan as plans;
+ghost use Rattle.meter_theory.specs.Plan.{Plan, Object, HasNoMenus, cells, start, object_at, clock_object};
+ghost use Rattle.cosem_data.specs.declared.name.LogicalName.{LogicalName};
+ghost use Rattle.meter_theory.specs.Steps.{Step, CaptureAt, ScheduleAt, ClockAt, captured_at, captured_in, script_now, scheduled_at, effects_of, kept, next, write, changed_by_write};
 ghost use Rattle.meter_theory.specs.Replies.{Value, reply_to, run};
 ghost use Rattle.meter_theory.specs.declared.flow.Edge.{Edge};
 ghost use Rattle.meter_theory.specs.declared.flow.Refusal.{Refusal};
-ghost use Rattle.meter_theory.specs.Edges.{IsEdge, edges, IsClosed};
+ghost use Rattle.meter_theory.specs.Edges.{IsEdge, edge, edges_in, edges_from_clock, in_plan_order, script_changes, edges, IsClosed};
 ghost use Rattle.meter_theory.specs.EffectLaws.{KeepsAgreementOn, EffectLaws};
 ghost use Rattle.meter_theory.specs.Labels.{Labels, Labelling, labelling_of, Admits, AreLeast, MayChange, method_changes_of};
 ghost use Rattle.meter_theory.specs.Sound.{IsSound};
@@ -115,4 +121,34 @@ pub fn ticks_add_a_second()
     ensures moment { (t : Moment) → IsMoment t → IsMoment (next_second t) }
     ensures second { (t : Moment) → IsMoment t → t ≢ last_moment → seconds_since_2000 (next_second t) ≡ seconds_since_2000 t + 1 }
     ensures last { next_second last_moment ≡ last_moment }
+{}
+
+/// Where there is no menu all is as if there were none at all: the attribute is no cell and takes no value, what it holds is
+/// what is configured, no edge has it as its source, and a write of a cell changes that cell alone.
+pub fn attributes_without_menus_are_fixed()
+    ensures captures { (s : State) (n : LogicalName) (c : Choice (List CellRef)) → has_menu c ≡ false →
+        captured_in s n c ≡ c.configured }
+    ensures runs { (s : State) (n : LogicalName) (c : Choice ScriptRef) → has_menu c ≡ false → script_now s n c ≡ c.configured }
+    ensures profile { (n : LogicalName) (c : Choice (List CellRef)) (period entries : ℕ) → has_menu c ≡ false →
+        plans.start_of n (plans.ProfileGeneric c period entries)
+        ≡ (plans.buffer n, array no_trees) ∷ (plans.capture_period n, counter period)
+        ∷ (plans.entries_in_use n, counter 0) ∷ [] }
+    ensures schedule { (n : LogicalName) (c : Choice ScriptRef) (type : ℕ) (times : Tree) → has_menu c ≡ false →
+        plans.start_of n (plans.SingleActionSchedule c type times) ≡ (plans.execution_time n, times) ∷ [] }
+    ensures objects_rule { (P : Plan) (c : Choice (List CellRef)) (period entries : ℕ) → has_menu c ≡ false →
+        plans.rule_in P (plans.ProfileGeneric c period entries) 3 ≡ None }
+    ensures script_rule { (P : Plan) (c : Choice ScriptRef) (type : ℕ) (times : Tree) → has_menu c ≡ false →
+        plans.rule_in P (plans.SingleActionSchedule c type times) 2 ≡ None }
+    ensures profile_edges { (P : Plan) (n : LogicalName) (c : Choice (List CellRef)) (period entries : ℕ) → has_menu c ≡ false →
+        edges_in P n (plans.ProfileGeneric c period entries)
+        ≡ map (λ x. edge causes.Captured x (plans.buffer n)) c.configured
+        ++ edge causes.Period (plans.capture_period n) (plans.buffer n)
+        ∷ edge causes.Period (plans.capture_period n) (plans.entries_in_use n)
+        ∷ edges_from_clock P (plans.buffer n ∷ plans.entries_in_use n ∷ []) }
+    ensures schedule_edges { (P : Plan) (n : LogicalName) (c : Choice ScriptRef) (type : ℕ) (times : Tree) → has_menu c ≡ false →
+        edges_in P n (plans.SingleActionSchedule c type times)
+        ≡ map (λ y. edge causes.Schedule (plans.execution_time n) y) (in_plan_order P (script_changes P c.configured))
+        ++ edges_from_clock P (in_plan_order P (script_changes P c.configured)) }
+    ensures writes { (P : Plan) → HasNoMenus P → (x : CellRef) → IsIn (cells P) x → (s : State) (v : Tree) →
+        (write s x v ≡ put s x (kept x v)) × (changed_by_write x ≡ x ∷ []) }
 {}

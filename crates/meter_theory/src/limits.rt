@@ -18,6 +18,9 @@ pub const VALUE_LEVELS: u8 = 14;
 /// The most attributes that a profile captures (Profile generic, capture_objects).
 pub const CAPTURE_OBJECTS: usize = 32;
 
+/// The most alternatives in the menu of a profile's capture_objects or a schedule's executed_script, beside the configured one.
+pub const MENU: usize = 8;
+
 /// The most entries that a profile keeps (Profile generic, profile_entries).
 pub const PROFILE_ENTRIES: u64 = 1000;
 

@@ -11,26 +11,29 @@ use Rattle.cosem_data.specs.Kinds.{kind_of}
 use Rattle.cosem_data.specs.Cells.{same_name, cell}
 use Rattle.cosem_data.specs.declared.name.LogicalName.{LogicalName}
 use Rattle.cosem_data.specs.declared.cell.CellRef.{CellRef}
-use Rattle.cosem_data.specs.declared.kind.Kind.TheVariants.{DoubleLongUnsigned}
+use Rattle.cosem_data.specs.declared.kind.Kind.TheVariants.{Array, Structure, DoubleLongUnsigned}
+use Rattle.meter_theory.specs.Menus.{alternatives, capture_objects_value}
 use Rattle.cosem_axdr.specs.Canonical.{canonical, shortest}
 use Rattle.meter_theory.specs.Lists.{IsIn}
 use Rattle.meter_theory.specs.declared.limits.TheConstants as limits
-use Rattle.meter_theory.specs.Value.{Rule, OfKind, Thresholds, ExecutionTimes, ClockTime, array_of, structure_of, elements, counter, valid_tag, valid_parts, is_within_limits, meets}
+use Rattle.meter_theory.specs.Value.{Rule, OfKind, Thresholds, ExecutionTimes, ClockTime, OneOf, array_of, structure_of, counter, valid_tag, valid_content, is_within_limits, meets}
 use Rattle.meter_theory.specs.Selection.{EntryDescriptor}
 use Rattle.meter_theory.specs.State.{State, value}
 use Rattle.meter_theory.specs.declared.refs.ScalerUnit.{ScalerUnit}
 use Rattle.meter_theory.specs.declared.refs.ScriptRef.{ScriptRef}
 use Rattle.meter_theory.specs.declared.refs.UpDown.{UpDown}
 use Rattle.meter_theory.specs.declared.refs.Interface.{Interface}
-use Rattle.meter_theory.specs.Plan.{Plan, Client, Object, Part, Data1, Register, ProfileGeneric, Clock, ScriptTable, RegisterMonitor, SingleActionSchedule, Script, Action, Write, Invoke, association, association_name, interface_of, interface_at, object_at, class_of, cells, start_values, start_of, is_cell, rule_in, rule_of, clock_time, data_value, register_value, buffer, capture_period, thresholds, seen, execution_time}
+use Rattle.meter_theory.specs.Plan.{Plan, Client, Object, Part, Data1, Register, ProfileGeneric, Clock, ScriptTable, RegisterMonitor, SingleActionSchedule, Script, Action, Write, Invoke, association, association_name, interface_of, interface_at, object_at, class_of, cells, start_values, start_of, is_cell, rule_in, rule_of, clock_time, data_value, register_value, buffer, capture_objects, capture_period, thresholds, seen, executed_script, execution_time}
 use Rattle.meter_theory.specs.Rights.{cell_of, Selection, class_is, descriptor_in, get_answer, has_right, may_read, may_act}
 use Rattle.meter_theory.specs.Fixed.{name_value, index_value, scaler_unit_value, capture_object, fifo, no_sort_object, action_value, script_value, monitored_value, script_ref_value, up_down_value, no_date_time, fixed_in, fixed_of, attribute_access, access_mode, method_access, access_selectors, access_rights, listed_object, objects_of, object_list, partners, application_context, mechanism_of, of_client, association_attribute, fixed}
 use Rattle.meter_theory.specs.Access.{is_success}
 use Rattle.meter_theory.specs.Replies.{Value, Code, attribute, selected_by, selected, reply_to}
-use Rattle.meter_theory.specs.Steps.{Step, Get}
-use Rattle.meter_theory.specs.Sound.{IsSound, is_name, has_action_sizes, has_script_sizes, has_part_sizes}
+use Rattle.meter_theory.specs.Steps.{Step, Get, captured_in}
+use Rattle.meter_theory.specs.Sound.{IsSound, is_name, has_action_sizes, has_script_sizes, has_capture_sizes, has_part_sizes}
 use Rattle.meter_theory.specs.States.{IsCaptured, AreCaptured, AreRows, IsBuffer, IsSeen, Holds, IsState}
 use Rattle.meter_theory.proofs.Lists.{from_map, from_filter, from_flat_map, none_found}
+use Rattle.meter_theory.proofs.Menus.{chosen-in, profile_entry, schedule_entry}
+use Rattle.meter_theory.proofs.Lengths.{profile_sizes, ruled_choice}
 use Rattle.meter_theory.proofs.Agreement.{object-found, one_named}
 use Rattle.meter_theory.proofs.Rights.{get_class}
 use Rattle.meter_theory.proofs.Held.{cell_held}
@@ -108,7 +111,7 @@ limited_small v h =
 
 meeting_small : (rule : Rule) (v : Tree) → meets rule v ≡ true → IsSmall v
 meeting_small rule v h =
-    limited_small v (and_parts (is_within_limits v) (valid_parts rule v) (and_parts (valid_tag rule v) (is_within_limits v && valid_parts rule v) h).1).0
+    limited_small v (and_parts (is_within_limits v) (valid_content rule v) (and_parts (valid_tag rule v) (is_within_limits v && valid_content rule v) h).1).0
 
 -- at most five small values
 brief : (ts : List Tree) → length ts ≤ 5 → AreWithin 1024 ts → IsBrief (structure_of ts)
@@ -172,17 +175,20 @@ up_down_within a h =
     structure_within 2 5126 (script_ref_value a.up ∷ script_ref_value a.down ∷ []) (omega arith)
     (script_ref_brief a.up both.0, (script_ref_brief a.down both.1, tt))
 
+captures_within : (xs : List CellRef) → has_capture_sizes xs ≡ true → IsWithin 164038 (capture_objects_value xs)
+captures_within xs h =
+    let both = and_parts (nat_le (length xs) limits.CAPTURE_OBJECTS) (list_all (λ x. is_name x.name) xs) h in
+    map_within 32 5126 capture_object xs (leb-true (length xs) limits.CAPTURE_OBJECTS both.0) (λ x i. capture_brief x (all_at (λ z. is_name z.name) xs x both.1 i))
+
 part_reply : (part : Part) → has_part_sizes part ≡ true → (index : ℕ) → IsReply (fixed_in part index)
 unfolding fixed_in
 part_reply (Data1 start) h index = small_reply null_data null_small
 part_reply (Register start default scaler_unit) h index =
     either longest (index == 3) (scaler_unit_value scaler_unit) null_data (brief_reply (scaler_unit_value scaler_unit) (scaler_unit_brief scaler_unit)) (small_reply null_data null_small)
 part_reply (ProfileGeneric captured period entries) h index =
-    let a = and_parts (nat_le (length captured) limits.CAPTURE_OBJECTS) (list_all (λ x. is_name x.name) captured && (nat_le 1 entries && nat_le entries limits.PROFILE_ENTRIES)) h in
-    let b = and_parts (list_all (λ x. is_name x.name) captured) (nat_le 1 entries && nat_le entries limits.PROFILE_ENTRIES) a.1 in
-    either longest (index == 3) (array_of (map capture_object captured)) _
-    (wider 164038 longest (array_of (map capture_object captured)) (omega arith)
-    (map_within 32 5126 capture_object captured (leb-true (length captured) limits.CAPTURE_OBJECTS a.0) (λ x i. capture_brief x (all_at (λ z. is_name z.name) captured x b.0 i))))
+    either longest (index == 3) (capture_objects_value captured.configured) _
+    (wider 164038 longest (capture_objects_value captured.configured) (omega arith)
+    (captures_within captured.configured ((profile_sizes captured period entries h).0 captured.configured (inl refl))))
     (either longest (index == 5) fifo _ (small_reply fifo (enumerated_small 1))
     (either longest (index == 6) no_sort_object _ (brief_reply no_sort_object unsorted_brief)
     (either longest (index == 8) (counter entries) null_data (small_reply (counter entries) (counter_small entries)) (small_reply null_data null_small))))
@@ -209,7 +215,9 @@ part_reply (RegisterMonitor monitored th actions) h index =
     (map_within 16 10258 up_down_value actions (leb-true (length actions) limits.THRESHOLDS b.0) (λ u i. up_down_within u (all_at (λ z. is_name z.up.table && is_name z.down.table) actions u b.1 i))))
     (small_reply null_data null_small))
 part_reply (SingleActionSchedule script type times) h index =
-    either longest (index == 2) (script_ref_value script) _ (brief_reply (script_ref_value script) (script_ref_brief script h))
+    let a = and_parts (nat_le (length script.menu) limits.MENU) (list_all (λ r. is_name r.table) (alternatives script)) h in
+    either longest (index == 2) (script_ref_value script.configured) _
+    (brief_reply (script_ref_value script.configured) (script_ref_brief script.configured (all_at (λ r. is_name r.table) (alternatives script) script.configured a.1 (inl refl))))
     (either longest (index == 3) (enumerated type) null_data (small_reply (enumerated type) (enumerated_small type)) (small_reply null_data null_small))
 
 -- The association
@@ -382,18 +390,32 @@ cell_reply P sound s k x i =
         of_part (Data1 start) h (inr none) = absurd none
         of_part (Register start default scaler_unit) h (inl e) = ruled (register_value o.name) (OfKind (kind_of start)) (ap (λ z. z.0) e) (rule_at o (Register start default scaler_unit) h is 2)
         of_part (Register start default scaler_unit) h (inr none) = absurd none
-        of_part (ProfileGeneric captured period entries) h (inl e) =
-            let a = and_parts (nat_le (length captured) limits.CAPTURE_OBJECTS) (list_all (λ z. is_name z.name) captured && (nat_le 1 entries && nat_le entries limits.PROFILE_ENTRIES)) (sizes (ProfileGeneric captured period entries) h) in
-            let b = and_parts (list_all (λ z. is_name z.name) captured) (nat_le 1 entries && nat_le entries limits.PROFILE_ENTRIES) a.1 in
-            let d = and_parts (nat_le 1 entries) (nat_le entries limits.PROFILE_ENTRIES) b.1 in
-            let held : Holds P s o.name (ProfileGeneric captured period entries) = subst (Holds P s o.name) h (k.inner o there) in
-            subst (λ z. IsReply (value s z)) (sym (ap (λ z. z.0) e))
-            (buffer_reply P captured entries (value s (buffer o.name)) (leb-true (length captured) limits.CAPTURE_OBJECTS a.0) (leb-true entries limits.PROFILE_ENTRIES d.1) held.0)
-        of_part (ProfileGeneric captured period entries) h (inr (inl e)) = ruled (capture_period o.name) (OfKind DoubleLongUnsigned) (ap (λ z. z.0) e) (rule_at o (ProfileGeneric captured period entries) h is 4)
-        of_part (ProfileGeneric captured period entries) h (inr (inr (inl e))) =
-            let held : Holds P s o.name (ProfileGeneric captured period entries) = subst (Holds P s o.name) h (k.inner o there) in
-            subst (λ z. IsReply (value s z)) (sym (ap (λ z. z.0) e)) (subst IsReply (sym held.1.1) (small_reply (counter held.1.0) (counter_small held.1.0)))
-        of_part (ProfileGeneric captured period entries) h (inr (inr (inr none))) = absurd none
+        of_part (ProfileGeneric captured period entries) h i =
+            elim (profile_entry o.name captured period entries (x, v) i) [
+              | inl e ↦ subst (λ z. IsReply (value s z)) (sym (ap (λ z. z.0) e))
+                  (buffer_reply P (captured_in s o.name captured) entries (value s (buffer o.name)) few fitting.1 held.0)
+              | inr a ↦ elim a [
+                | inl e ↦ ruled (capture_objects o.name) (OneOf Array (map capture_objects_value (alternatives captured))) (ap (λ z. z.0) e.1)
+                    (rule_at o (ProfileGeneric captured period entries) h is 3 ∙ ruled_choice Array capture_objects_value captured e.0)
+                | inr b ↦ elim b [
+                  | inl e ↦ ruled (capture_period o.name) (OfKind DoubleLongUnsigned) (ap (λ z. z.0) e) (rule_at o (ProfileGeneric captured period entries) h is 4)
+                  | inr e ↦ subst (λ z. IsReply (value s z)) (sym (ap (λ z. z.0) e)) (subst IsReply (sym held.1.1) (small_reply (counter held.1.0) (counter_small held.1.0)))
+                ]
+              ]
+            ]
+          where
+            held : Holds P s o.name (ProfileGeneric captured period entries)
+            held = subst (Holds P s o.name) h (k.inner o there)
+
+            fitting : ((xs : List CellRef) → IsIn (alternatives captured) xs → has_capture_sizes xs ≡ true) × (entries ≤ limits.PROFILE_ENTRIES)
+            fitting = profile_sizes captured period entries (sizes (ProfileGeneric captured period entries) h)
+
+            few : length (captured_in s o.name captured) ≤ limits.CAPTURE_OBJECTS
+            few =
+                let now = captured_in s o.name captured in
+                leb-true (length now) limits.CAPTURE_OBJECTS
+                (and_parts (nat_le (length now) limits.CAPTURE_OBJECTS) (list_all (λ z. is_name z.name) now)
+                (fitting.0 now (chosen-in capture_objects_value captured (value s (capture_objects o.name))))).0
         of_part (Clock first) h (inl e) = ruled (clock_time o.name) ClockTime (ap (λ z. z.0) e) (rule_at o (Clock first) h is 2)
         of_part (Clock first) h (inr none) = absurd none
         of_part (ScriptTable scripts) h none = absurd none
@@ -406,8 +428,12 @@ cell_reply P sound s k x i =
               | inr fits ↦ small_reply (value s (seen o.name)) (meeting_small (OfKind (kind_of (value (start_values P) monitored))) (value s (seen o.name)) fits)
             ])
         of_part (RegisterMonitor monitored th actions) h (inr (inr none)) = absurd none
-        of_part (SingleActionSchedule script type times) h (inl e) = ruled (execution_time o.name) (ExecutionTimes type) (ap (λ z. z.0) e) (rule_at o (SingleActionSchedule script type times) h is 4)
-        of_part (SingleActionSchedule script type times) h (inr none) = absurd none
+        of_part (SingleActionSchedule script type times) h i =
+            elim (schedule_entry o.name script type times (x, v) i) [
+              | inl e ↦ ruled (executed_script o.name) (OneOf Structure (map script_ref_value (alternatives script))) (ap (λ z. z.0) e.1)
+                  (rule_at o (SingleActionSchedule script type times) h is 2 ∙ ruled_choice Structure script_ref_value script e.0)
+              | inr e ↦ ruled (execution_time o.name) (ExecutionTimes type) (ap (λ z. z.0) e) (rule_at o (SingleActionSchedule script type times) h is 4)
+            ]
 
 -- Replies
 
