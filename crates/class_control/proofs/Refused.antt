@@ -1,5 +1,5 @@
 -- What a write answers where its value was judged.
-use Rattle.std.proofs.Common.{◌≡◌, Bool, true, false, Some, None, Ok, Err, refl}
+use Rattle.std.proofs.Common.{◌≡◌, ℕ, Bool, true, false, Some, None, Ok, Err, refl, sym, subst}
 use Rattle.std.specs.Prelude.{if◌then◌else◌, Option}
 use Rattle.cosem_data.specs.Tree.{Tree}
 use Rattle.meter_theory.specs.Value.{Rule, valid_tag, meets}
@@ -41,3 +41,12 @@ judged_without_memory rule v e h = at (valid_tag rule v) (meets rule v) e h
     at true true e h m = cc
     at true false e h m = cc
     at false fits e h m = cc
+
+-- The same where the index tells the rule
+
+module _ (settable named : ℕ → Bool) (rule : ℕ → Rule) (v : Tree) (index k : ℕ) (is : index ≡ k) (at_k : settable k ≡ true) where
+  pub accepted_at : judged (rule k) v ≡ None → write_fault (settable index) (named index) (judged (rule index) v) ≡ None
+  accepted_at none = subst (λ (i : ℕ). write_fault (settable i) (named i) (judged (rule i) v) ≡ None) (sym is) (accepted_as_judged (rule k) v (settable k) (named k) at_k none)
+
+  pub refused_at : (e : ClassFault) → Err e ≡ answer_of (judged (rule k) v) → FaultAs e (write_fault (settable index) (named index) (judged (rule index) v))
+  refused_at e h = subst (λ (i : ℕ). FaultAs e (write_fault (settable i) (named i) (judged (rule i) v))) (sym is) (refused_as_judged (rule k) v e (settable k) (named k) at_k h)

@@ -11,3 +11,4 @@ pub mod DueScript
 pub mod ScheduleClass
 pub mod ScheduleLaws
 pub mod MonitorChanges
+pub mod ScheduleChanges

@@ -1,6 +1,8 @@
 -- What the fixed parts of the code stand for.
 use Rattle.std.specs.Prelude.{map}
 use Rattle.cosem_data.specs.View.{tree}
+use Rattle.meter_theory.specs.declared.refs.ScriptRef.{ScriptRef}
+use Rattle.meter_theory.specs.Menus.{Choice}
 use Rattle.meter_theory.specs.Plan as theory
 use Rattle.class_control.specs.ScriptView.{script_of}
 use Rattle.class_control.specs.declared.parts.ClockPart.{ClockPart}
@@ -20,6 +22,10 @@ script_table_part_of part = theory.ScriptTable (map script_of part.scripts.items
 abbrev pub monitor_part_of : MonitorPart → theory.Part
 monitor_part_of part = theory.RegisterMonitor part.monitored_value (tree part.start) part.actions.items
 
--- the script of a schedule, its type and its times at the start: IEC 62056-6-2, Single action schedule
+-- the scripts that a schedule may run: IEC 62056-6-2, Single action schedule, executed_script; the menu is own profile
+abbrev pub scripts_of_part : SchedulePart → Choice ScriptRef
+scripts_of_part part = record { configured = part.executed_script; menu = part.menu.items }
+
+-- the scripts of a schedule, its type and its times at the start: IEC 62056-6-2, Single action schedule
 abbrev pub schedule_part_of : SchedulePart → theory.Part
-schedule_part_of part = theory.SingleActionSchedule part.executed_script part.execution_type (tree part.start)
+schedule_part_of part = theory.SingleActionSchedule (scripts_of_part part) part.execution_type (tree part.start)

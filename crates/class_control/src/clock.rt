@@ -1,4 +1,4 @@
-ghost use Rattle.std.specs.Prelude.{◌≡◌, ℕ, true, false, ⊤, length, IfOk, IfSome, Some};
+ghost use Rattle.std.specs.Prelude.{◌≡◌, ℕ, is_some, true, false, ⊤, length, IfOk, IfSome, Some};
 ghost use Rattle.cosem_data.specs.View.{tree};
 ghost use Rattle.meter_theory.specs.Times as theory;
 ghost use Rattle.meter_theory.specs.Times.{clock_bytes, clock_moment, clock_value, octets_of};
@@ -44,6 +44,20 @@ impl Clock {
 
     /// The index of the time.
     pub const TIME: u8 = 2;
+
+    /// Whether there is a cell at this index: the time.
+    pub fn has(&self, index: u8) -> bool
+        ensures { result ≡ is_some (clock_cells (clock_value self.now.time) index) }
+    {
+        index == Clock::TIME
+    }
+
+    /// The moment in its cell.
+    pub fn held(&self) -> Moment
+        ensures { result ≡ self.now.time }
+    {
+        self.time
+    }
 
     /// Puts a time that may stand there. The previous moment is returned. It takes no memory.
     pub fn put(&mut self, lent: Lent<ClockPart>, index: u8, given: Data) -> Moment

@@ -4,6 +4,7 @@ ghost use Rattle.std.specs.List.{list_all};
 ghost use Rattle.cosem_data.specs.View.{tree};
 ghost use Rattle.cosem_data.specs.Kinds.{kind_of, same_kind};
 ghost use Rattle.meter_theory.specs.Value.{ExecutionTimes, Thresholds, elements};
+ghost use Rattle.meter_theory.specs.Value as rules;
 ghost use Rattle.cosem_class.specs.Judged.{judged, answer_of};
 
 use crate::times::are_execution_times;
@@ -31,7 +32,7 @@ fn are_of_kind(kind: Kind, values: &[Data]) -> bool
 
 /// Whether these are so many values of this kind.
 fn are_thresholds(number: usize, kind: Kind, values: &[Data]) -> bool
-    ensures { result ≡ ((length values.now == number) && list_all (λ v. same_kind (kind_of v) kind) (map tree values.now)) }
+    ensures { result ≡ rules.are_thresholds number kind (map tree values.now) }
 {
     values.len() == number && are_of_kind(kind, values)
 }

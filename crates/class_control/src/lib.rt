@@ -7,6 +7,7 @@ pub mod clock;
 mod due;
 pub mod judge;
 pub mod matching;
+pub mod menus;
 pub mod monitor;
 pub mod parts;
 mod references;

@@ -1,4 +1,4 @@
-ghost use Rattle.std.specs.Prelude.{◌≡◌, ℕ, true, false, ⊤, [], length, IfOk};
+ghost use Rattle.std.specs.Prelude.{◌≡◌, ℕ, is_some, true, false, ⊤, [], length, IfOk, Some};
 ghost use Rattle.cosem_data.specs.Tree.{null_data};
 ghost use Rattle.cosem_data.specs.View.{tree};
 ghost use Rattle.meter_theory.specs.Value.{Thresholds, elements, meets};
@@ -97,6 +97,24 @@ impl Monitor {
             thresholds: self.thresholds.try_clone(alloc)?,
             seen: self.seen.try_clone(alloc)?,
         })
+    }
+
+    /// Whether there is a cell at this index: the thresholds, and what was seen.
+    pub fn has(&self, index: u8) -> bool
+        ensures { result ≡ is_some (monitor_cells (tree self.now.seen) (tree self.now.thresholds) index) }
+    {
+        matches!(index, Monitor::SEEN | Monitor::THRESHOLDS)
+    }
+
+    /// The value in the cell at this index.
+    pub fn held(&self, index: u8) -> &Data
+        requires { is_some (monitor_cells (tree self.now.seen) (tree self.now.thresholds) index) ≡ true }
+        ensures { monitor_cells (tree self.now.seen) (tree self.now.thresholds) index ≡ Some (tree result.now) }
+    {
+        match index {
+            Monitor::SEEN => &self.seen,
+            _ => &self.thresholds,
+        }
     }
 
     /// Puts thresholds that fit the actions and the monitored kind. The previous ones are returned. It takes no memory.

@@ -6,14 +6,16 @@ ghost use Rattle.cosem_class.specs.Judged.{rule_answer};
 
 use crate::clock::{Clock, judge_time};
 use crate::judge::{judge_thresholds, judge_times};
+use crate::menus::{has_script, is_executed_script};
 use crate::monitor::Monitor;
-use crate::references::{push_scripts, push_tables};
+use crate::references::{push_named_tables, push_scripts, push_tables};
 use crate::schedule::Schedule;
 use crate::script::Script;
 use crate::script_table::ScriptTable;
 use crate::shapes::{actions_data, monitored_data, no_date_time, script_ref_data, scripts_data};
 use civil_moment::moment::Moment;
-use cosem_class::judge::coded;
+use cosem_class::class::ClassFault;
+use cosem_class::judge::{coded, keeps_limits};
 use cosem_class::part::ClassPart;
 use cosem_data::cell::CellRef;
 use cosem_data::data::Data;
@@ -54,8 +56,10 @@ pub struct MonitorPart {
 /// What a plan fixes of a single action schedule, and the start of its times (IEC 62056-6-2, Single action schedule).
 #[derive(Drop)]
 pub struct SchedulePart {
-    /// Attribute 2, executed_script.
+    /// Attribute 2, executed_script, at the start.
     pub executed_script: ScriptRef,
+    /// The other scripts that executed_script may be set to; where there are none, it is fixed (own profile).
+    pub menu: Vec<ScriptRef>,
     /// Attribute 3, type, from 1 to 5.
     pub execution_type: u8,
     /// The start of attribute 4, execution_time.
@@ -71,8 +75,11 @@ static SCRIPT_TABLE_CELLS: [u8; 0] = [];
 /// The indexes of the cells of a register monitor.
 static MONITOR_CELLS: [u8; 2] = [Monitor::THRESHOLDS, Monitor::SEEN];
 
-/// The indexes of the cells of a schedule.
+/// The indexes of the cells of a schedule whose script is fixed.
 static SCHEDULE_CELLS: [u8; 1] = [Schedule::EXECUTION_TIME];
+
+/// The same where its script can be set.
+static SCHEDULE_CELLS_WITH_MENU: [u8; 2] = [Schedule::EXECUTED_SCRIPT, Schedule::EXECUTION_TIME];
 
 impl ClassPart for ClockPart {
     ghost use Rattle.class_control.specs.PartView.{clock_part_of};
@@ -208,11 +215,16 @@ impl ClassPart for SchedulePart {
     }
 
     fn cells(&self) -> &'static [u8] {
-        &SCHEDULE_CELLS
+        if self.has_menu() {
+            &SCHEDULE_CELLS_WITH_MENU
+        } else {
+            &SCHEDULE_CELLS
+        }
     }
 
     fn start_kind(&self, index: u8) -> Kind {
         match index {
+            Schedule::EXECUTED_SCRIPT if self.has_menu() => Kind::Structure,
             Schedule::EXECUTION_TIME => self.start.kind(),
             _ => Kind::NullData,
         }
@@ -230,6 +242,7 @@ impl ClassPart for SchedulePart {
 
     fn judge(&self, _monitored: Kind, index: u8, value: &Data) -> Result<(), AccessCode> {
         match index {
+            Schedule::EXECUTED_SCRIPT if self.has_menu() => self.script_answer(value),
             Schedule::EXECUTION_TIME => times_answer(self.execution_type, value),
             _ => Err(AccessCode::TypeUnmatched),
         }
@@ -237,7 +250,71 @@ impl ClassPart for SchedulePart {
 
     fn push_references(&self, names: &mut Vec<LogicalName>) -> Result<(), Memory> {
         names.push(self.executed_script.table)?;
+        push_named_tables(&self.menu, names)
+    }
+}
+
+impl SchedulePart {
+    ghost use Rattle.std.specs.Prelude.{◌≡◌, IfOk, cond, map, option_map, None, Some};
+    ghost use Rattle.std.specs.List.{list_any};
+    ghost use Rattle.cosem_data.specs.View.{tree};
+    ghost use Rattle.cosem_data.specs.Equal.{same_tree};
+    ghost use Rattle.cosem_data.specs.declared.kind.Kind.TheVariants.{Structure};
+    ghost use Rattle.meter_theory.specs.Menus.{alternatives, has_menu, script_ref_value};
+    ghost use Rattle.meter_theory.specs.Value.{OneOf};
+    ghost use Rattle.cosem_class.specs.Judged.{judged, answer_of, rule_answer};
+    ghost use Rattle.class_control.specs.PartView.{scripts_of_part};
+
+    /// Whether attribute 2, executed_script, can be set.
+    pub fn has_menu(&self) -> bool
+        ensures { result ≡ has_menu (scripts_of_part self.now) }
+    {
+        !self.menu.is_empty()
+    }
+
+    /// The start of attribute 2, executed_script, where it can be set.
+    pub fn start_script(&self, alloc: Global) -> Result<Option<Data>, Memory>
+        ensures { IfOk result (λ value. option_map tree value
+            ≡ cond (has_menu (scripts_of_part self.now)) (Some (script_ref_value self.now.executed_script)) None) }
+    {
+        if self.has_menu() {
+            Ok(Some(script_ref_data(alloc, self.executed_script)?))
+        } else {
+            Ok(None)
+        }
+    }
+
+    /// Whether attribute 2, executed_script, may be set to a value: to one of its menu, or back to what it was at the start (own
+    /// profile). Another tag than that of a structure is `Kind`, anything else `Rule`.
+    pub fn judge_script(&self, value: &Data) -> Result<(), ClassFault>
+        ensures { result
+            ≡ answer_of (judged (OneOf Structure (map script_ref_value (alternatives (scripts_of_part self.now))))
+            (tree value.now)) }
+    {
+        if value.kind() != Kind::Structure {
+            return Err(ClassFault::Kind);
+        }
+        if !keeps_limits(value) || !self.offers(value) {
+            return Err(ClassFault::Rule);
+        }
         Ok(())
+    }
+
+    /// The same as `judge_script`, with the code of the fault.
+    fn script_answer(&self, value: &Data) -> Result<(), AccessCode>
+        ensures { result
+            ≡ rule_answer (Some (OneOf Structure (map script_ref_value (alternatives (scripts_of_part self.now)))))
+            (tree value.now) }
+    {
+        coded(self.judge_script(value))
+    }
+
+    /// Whether the value is the executed_script of one of the alternatives.
+    fn offers(&self, value: &Data) -> bool
+        ensures { result
+            ≡ list_any (λ w. same_tree w (tree value.now)) (map script_ref_value (alternatives (scripts_of_part self.now))) }
+    {
+        is_executed_script(value, self.executed_script) || has_script(&self.menu, value)
     }
 }
 

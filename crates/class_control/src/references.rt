@@ -9,7 +9,7 @@ use crate::action::Action;
 use crate::script::Script;
 use cosem_data::memory::Memory;
 use cosem_data::name::LogicalName;
-use meter_theory::refs::UpDown;
+use meter_theory::refs::{ScriptRef, UpDown};
 
 /// Adds the targets of scripts.
 pub(crate) fn push_scripts(scripts: &[Script], names: &mut Vec<LogicalName>) -> Result<(), Memory>
@@ -48,6 +48,19 @@ pub(crate) fn push_tables(actions: &[UpDown], names: &mut Vec<LogicalName>) -> R
     for action in actions {
         names.push(action.up.table)?;
         names.push(action.down.table)?;
+    }
+    Ok(())
+}
+
+/// Adds the script tables of scripts.
+pub(crate) fn push_named_tables(
+    scripts: &[ScriptRef],
+    names: &mut Vec<LogicalName>,
+) -> Result<(), Memory>
+    ensures { OnOk result (names.new.items ≡ names.old.items ++ map (λ r. r.table) scripts.now) }
+{
+    for script in scripts {
+        names.push(script.table)?;
     }
     Ok(())
 }

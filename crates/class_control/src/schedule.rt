@@ -1,9 +1,12 @@
-ghost use Rattle.std.specs.Prelude.{◌≡◌, ℕ, true, false, ⊤, IfOk};
+ghost use Rattle.std.specs.Prelude.{◌≡◌, ◌==◌, ℕ, cond, is_some, option_map, true, false, ⊤, None, Some, IfOk};
 ghost use Rattle.cosem_data.specs.View.{tree};
 ghost use Rattle.meter_theory.specs.Times.{is_schedule_due};
-ghost use Rattle.meter_theory.specs.Value.{ExecutionTimes, elements, meets};
+ghost use Rattle.meter_theory.specs.Menus.{has_menu, script_ref_value};
+ghost use Rattle.meter_theory.specs.Value.{elements, meets};
 ghost use Rattle.cosem_class.specs.CellSets.{has};
-ghost use Rattle.class_control.specs.ScheduleClass.{ScheduleFixed, schedule_cells, schedule_reading, schedule_refusal, schedule_new_value, schedule_touched, ScheduleMeetsRule};
+ghost use Rattle.cosem_class.specs.Objects.{tree_or_null};
+ghost use Rattle.class_control.specs.ScheduleClass.{ScheduleFixed, is_settable, schedule_cells, schedule_fixed, schedule_held, schedule_reading, schedule_refusal, schedule_rule, schedule_new_value, schedule_touched, ScheduleMeetsRule};
+ghost use Rattle.class_control.specs.ScheduleChanges.{index_changed, script_before, times_before};
 ghost use Rattle.class_control.specs.ScheduleLaws.{schedule_depends_only_on_sources, schedule_writes_its_value, schedule_keeps_rules};
 
 use crate::judge::judge_times;
@@ -14,21 +17,35 @@ use civil_moment::moment::Moment;
 use cosem_class::cell_set::CellSet;
 use cosem_class::class::{ClassFault, InterfaceClass, Lent, Op, Row};
 use cosem_class::generic::put_into;
+use cosem_class::shapes::{copy_if, copy_or_null};
 use cosem_data::data::Data;
 use cosem_data::memory::Memory;
 use meter_theory::refs::Interface;
 use std::alloc::Global;
 use std::mem;
 
-/// The cells of an object of class 22, Single action schedule: the times at which a script is run (IEC 62056-6-2, Single
-/// action schedule, version 0).
+/// The cells of an object of class 22, Single action schedule: which script is run, and the times at which it is (IEC
+/// 62056-6-2, Single action schedule, version 0).
 #[derive(Drop)]
 pub struct Schedule {
-    /// Attribute 4, execution_time, the one cell: an array of times and dates that fits the type of the part.
+    /// Attribute 2, executed_script, where it can be set: which script is run now. None where it is fixed.
+    pub executed_script: Option<Data>,
+    /// Attribute 4, execution_time: an array of times and dates that fits the type of the part.
     pub times: Data,
 }
 
+/// What an operation changed of a single action schedule.
+#[derive(Drop)]
+pub enum ScheduleChange {
+    /// The script that it ran before.
+    Script(Data),
+    /// The times before.
+    Times(Data),
+}
+
 impl Schedule {
+    ghost use Rattle.class_control.specs.PartView.{scripts_of_part};
+
     /// Class 22, Single action schedule, version 0, with four attributes and no method (IEC 62056-6-2).
     pub const INTERFACE: Interface = Interface {
         class_id: 22,
@@ -46,39 +63,83 @@ impl Schedule {
     /// The index of the times.
     pub const EXECUTION_TIME: u8 = 4;
 
-    /// An object with the start value.
+    /// An object with the start values.
     pub fn start(alloc: Global, part: &SchedulePart) -> Result<Schedule, Memory>
-        ensures { IfOk result (λ object. tree object.times ≡ tree part.now.start) }
+        ensures script { IfOk result (λ object. option_map tree object.executed_script
+            ≡ cond (has_menu (scripts_of_part part.now)) (Some (script_ref_value part.now.executed_script)) None) }
+        ensures times { IfOk result (λ object. tree object.times ≡ tree part.now.start) }
     {
         Ok(Schedule {
+            executed_script: part.start_script(alloc)?,
             times: part.start.try_clone(alloc)?,
         })
     }
 
     /// A copy.
     pub fn try_clone(&self, alloc: Global) -> Result<Schedule, Memory>
-        ensures { IfOk result (λ copy. tree copy.times ≡ tree self.now.times) }
+        ensures { IfOk result (λ copy. copy ≡ self.now) }
     {
         Ok(Schedule {
+            executed_script: copy_if(alloc, &self.executed_script)?,
             times: self.times.try_clone(alloc)?,
         })
     }
 
-    /// Puts times that fit the type. The previous one is returned. It takes no memory.
-    pub fn put(&mut self, lent: Lent<SchedulePart>, index: u8, given: Data) -> Data
-        requires index { index ≡ 4 }
-        requires fits { meets (ExecutionTimes lent.part.now.execution_type) (tree given) ≡ true }
-        ensures value { tree self.new.times ≡ tree given }
-        ensures previous { tree result ≡ tree self.old.times }
+    /// Whether there is a cell at this index: the script where it can be set, and the times.
+    pub fn has(&self, index: u8) -> bool
+        ensures { result ≡ is_some (schedule_held (option_map tree self.now.executed_script) (tree self.now.times) index) }
     {
-        put_into(self, lent, index, given)
+        match index {
+            Schedule::EXECUTED_SCRIPT => self.executed_script.is_some(),
+            Schedule::EXECUTION_TIME => true,
+            _ => false,
+        }
     }
 
-    /// Puts the previous times back.
-    pub fn undo(&mut self, held: Data)
-        ensures { tree self.new.times ≡ tree held }
+    /// The value in the cell at this index.
+    pub fn held(&self, index: u8) -> &Data
+        requires { is_some (schedule_held (option_map tree self.now.executed_script) (tree self.now.times) index) ≡ true }
+        ensures { schedule_held (option_map tree self.now.executed_script) (tree self.now.times) index ≡ Some (tree result.now) }
     {
-        self.times = held;
+        match (index, &self.executed_script) {
+            (Schedule::EXECUTED_SCRIPT, Some(script)) => script,
+            _ => &self.times,
+        }
+    }
+
+    /// Puts a script of the menu, or times that fit the type. What is returned takes it back. It takes no memory.
+    pub fn put(&mut self, lent: Lent<SchedulePart>, index: u8, given: Data) -> ScheduleChange
+        requires held { is_some (schedule_held (option_map tree self.old.executed_script) (tree self.old.times) index) ≡ true }
+        requires settable { is_settable (schedule_fixed lent.name lent.part.now) index ≡ true }
+        requires fits { meets (schedule_rule (schedule_fixed lent.name lent.part.now) index) (tree given) ≡ true }
+        ensures script { option_map tree self.new.executed_script
+            ≡ cond (index == 2) (Some (tree given)) (option_map tree self.old.executed_script) }
+        ensures times { tree self.new.times ≡ cond (index == 2) (tree self.old.times) (tree given) }
+        ensures index { index_changed result ≡ index }
+        ensures script_before { script_before result (option_map tree self.new.executed_script)
+            ≡ option_map tree self.old.executed_script }
+        ensures times_before { times_before result (tree self.new.times) ≡ tree self.old.times }
+    {
+        if index == Schedule::EXECUTED_SCRIPT {
+            return ScheduleChange::Script(put_into(self, lent, index, given));
+        }
+        // The class shows a script that is fixed as null-data, so it doesn't say that a write of the times leaves none.
+        let script = self.executed_script.take();
+        let previous = put_into(self, lent, index, given);
+        self.executed_script = script;
+        ScheduleChange::Times(previous)
+    }
+
+    /// Puts back what was there before.
+    pub fn undo(&mut self, change: ScheduleChange)
+        ensures script { option_map tree self.new.executed_script
+            ≡ script_before change (option_map tree self.old.executed_script) }
+        ensures times { tree self.new.times ≡ times_before change (tree self.old.times) }
+    {
+        match change {
+            ScheduleChange::Script(held) => self.executed_script = Some(held),
+            ScheduleChange::Times(held) => self.times = held,
+        }
     }
 
     /// Whether the script is to be run at the moment: some element of execution_time names it (IEC 62056-6-2, Single action
@@ -101,9 +162,9 @@ impl<'a> InterfaceClass<Lent<'a, SchedulePart>> for Schedule {
 
     ghost Fixed = { ScheduleFixed };
 
-    ghost fixed = { λ _ lent. record { name = lent.name; script = lent.part.now.executed_script; type = lent.part.now.execution_type } };
+    ghost fixed = { λ _ lent. schedule_fixed lent.name lent.part.now };
 
-    ghost cells = { λ s. schedule_cells (tree s.times) };
+    ghost cells = { λ s. schedule_cells (tree_or_null s.executed_script) (tree s.times) };
 
     ghost reading = { schedule_reading };
 
@@ -132,6 +193,9 @@ impl<'a> InterfaceClass<Lent<'a, SchedulePart>> for Schedule {
     fn read(&self, alloc: Global, lent: Lent<SchedulePart>, index: u8) -> Result<Data, ClassFault> {
         match index {
             1 => Ok(lent.name.as_octets(alloc)?),
+            Schedule::EXECUTED_SCRIPT if lent.part.has_menu() => {
+                Ok(copy_or_null(alloc, &self.executed_script)?)
+            }
             Schedule::EXECUTED_SCRIPT => Ok(script_ref_data(alloc, lent.part.executed_script)?),
             Schedule::TYPE => Ok(Data::Enumerated(lent.part.execution_type)),
             Schedule::EXECUTION_TIME => Ok(self.times.try_clone(alloc)?),
@@ -149,6 +213,11 @@ impl<'a> InterfaceClass<Lent<'a, SchedulePart>> for Schedule {
             Schedule::EXECUTION_TIME => {
                 judge_times(lent.part.execution_type, &value)?;
                 Ok(mem::replace(&mut self.times, value))
+            }
+            Schedule::EXECUTED_SCRIPT if lent.part.has_menu() => {
+                lent.part.judge_script(&value)?;
+                let previous = mem::replace(&mut self.executed_script, Some(value));
+                Ok(previous.unwrap_or(Data::NullData))
             }
             1 | Schedule::EXECUTED_SCRIPT | Schedule::TYPE => Err(ClassFault::NotSettable),
             _ => Err(ClassFault::NoIndex),
@@ -170,6 +239,9 @@ impl<'a> InterfaceClass<Lent<'a, SchedulePart>> for Schedule {
         ensures { (i : ℕ) → has result i ≡ schedule_touched op i }
     {
         match op {
+            Op::Write(Schedule::EXECUTED_SCRIPT) => CellSet::empty().with(
+                Schedule::EXECUTED_SCRIPT,
+            ),
             Op::Write(Schedule::EXECUTION_TIME) => CellSet::empty().with(Schedule::EXECUTION_TIME),
             _ => CellSet::empty(),
         }

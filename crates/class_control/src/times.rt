@@ -22,7 +22,7 @@ pub(crate) const LAST_DAY: u8 = 0xFE;
 pub(crate) const SECOND_LAST_DAY: u8 = 0xFD;
 
 /// The parts of a structure, none of any other value.
-fn parts_of(value: &Data) -> &[Data]
+pub(crate) fn parts_of(value: &Data) -> &[Data]
     ensures { map tree result.now ≡ theory.parts_of (tree value.now) }
 {
     match value {

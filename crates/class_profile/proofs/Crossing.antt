@@ -24,4 +24,4 @@ pub profile_part_crosses : Crosses profile_parts.the_row
 profile_part_crosses = search (cell_crosses, crosses) depth 30
 
 pub profile_crosses : Crosses profiles.the_row
-profile_crosses = search (rows_crosses, crosses) depth 30
+profile_crosses = search (rows_crosses, data_crosses, crosses) depth 30

@@ -3,4 +3,5 @@ mod Rings
 mod Places
 mod Selected
 mod Written
+pub mod Objects
 pub mod Crossing

@@ -4,6 +4,8 @@ use Rattle.std.proofs.lemmas.Bool.{eqb-true, eqb-false, leb-true, and_parts}
 use Rattle.std.proofs.Math.Seq.{take-append_seam}
 use Rattle.cosem_data.specs.Tree.{Tree, array, parts}
 use Rattle.cosem_data.specs.TreeCode.{parts-trees, trees-parts}
+use Rattle.cosem_data.specs.declared.cell.CellRef.{CellRef}
+use Rattle.meter_theory.specs.Menus.{Choice}
 use Rattle.meter_theory.specs.Lists.{keep_last}
 use Rattle.meter_theory.specs.Value.{elements, array_of}
 use Rattle.meter_theory.specs.Steps.{buffer_after}
@@ -65,7 +67,7 @@ rows_taken_back entries rows new row gone one fits after is =
     ∙ ap (rows_before (if length rows == entries then slice_get rows 0 else None)) kept
     ∙ back_of_rows (length rows == entries) entries rows row refl one fits
 
-pub taken_back : (columns entries : ℕ) (buffer row : Tree) → 1 ≤ entries → is_buffer columns entries buffer ≡ true → buffer_before (dropped entries buffer) (buffer_after entries buffer row) ≡ buffer
+pub taken_back : (columns : Choice (List CellRef)) (entries : ℕ) (buffer row : Tree) → 1 ≤ entries → is_buffer columns entries buffer ≡ true → buffer_before (dropped entries buffer) (buffer_after entries buffer row) ≡ buffer
 taken_back columns entries (array rows) row one is =
     let fits = leb-true (length (parts rows)) entries (and_parts _ _ is).0 in
     ap (λ kept. array_of (rows_before (dropped entries (array rows)) kept)) (parts-trees (keep_last entries (parts rows ++ row ∷ [])))

@@ -1,5 +1,7 @@
 pub mod EntriesView
 pub mod Fifo
+pub mod HeldView
+pub mod PartView
 pub mod ProfileClass
 pub mod ProfileLaws
 pub mod ProfileStates

@@ -4,7 +4,9 @@
 
 pub mod due;
 pub mod entries;
+pub mod held;
 pub mod laws;
+pub mod menus;
 pub mod profile;
 pub mod rows;
 pub mod selection;

@@ -2,7 +2,7 @@
 use Rattle.std.specs.Prelude.{◌≡◌, Bool, true, false, ◌&&◌, Option, Some, None, Result, Ok, Err, if◌then◌else◌}
 use Rattle.std.proofs.Common.{refl}
 use Rattle.cosem_data.specs.Tree.{Tree}
-use Rattle.meter_theory.specs.Value.{Rule, valid_tag, valid_parts, is_within_limits, meets}
+use Rattle.meter_theory.specs.Value.{Rule, valid_tag, valid_content, is_within_limits, meets}
 use Rattle.cosem_class.specs.declared.class.ClassFault.{ClassFault}
 use Rattle.cosem_class.specs.declared.class.ClassFault.TheVariants as faults
 use Rattle.meter_theory.specs.declared.access.AccessCode.{AccessCode}
@@ -30,7 +30,7 @@ meets_of_judged rule value h = at (valid_tag rule value) (meets rule value) h
 
 -- and the other way round
 pub judged_of_meets : (rule : Rule) (value : Tree) → meets rule value ≡ true → judged rule value ≡ None
-judged_of_meets rule value h = at (valid_tag rule value) (is_within_limits value && valid_parts rule value) h
+judged_of_meets rule value h = at (valid_tag rule value) (is_within_limits value && valid_content rule value) h
   where
     at : (tag rest : Bool) → (tag && rest) ≡ true → (if tag then (if tag && rest then None else Some faults.Rule) else Some faults.Kind) ≡ None
     at true true e = refl

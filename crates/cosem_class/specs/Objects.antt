@@ -1,7 +1,7 @@
 -- Objects of interface classes: cells beside a fixed part, and the laws of a class.
 use Rattle.std.proofs.Common.{ap}
 use Rattle.std.specs.Prelude.{◌≡◌, ℕ, List, [], Option, Result, Ok, Err, Some, None, Bool, true, false, ◌==◌, ◌&&◌, if◌then◌else◌, IsOk}
-use Rattle.cosem_data.specs.Tree.{Tree}
+use Rattle.cosem_data.specs.Tree.{Tree, null_data}
 use Rattle.cosem_data.specs.View.{tree}
 use Rattle.cosem_data.specs.declared.data.Data.{Data}
 use Rattle.cosem_class.specs.declared.class.Op.{Op}
@@ -104,6 +104,11 @@ KeepsAgreement {Fixed} touched own_sources row_cells new_value =
     HasSources (touched op) (own_sources op) set → AgreeOnRow (touched op) (row_cells op) set row other_row →
     AgreeOn set cells others →
     AgreeOn set (cells_after (touched op) (new_value fixed op argument row) cells) (cells_after (touched op) (new_value fixed op argument other_row) others)
+
+-- the value in a cell that an object may lack, as an attribute that a plan may fix; null-data where it lacks it
+abbrev pub tree_or_null : Option Data → Tree
+tree_or_null (Some value) = tree value
+tree_or_null None = null_data
 
 -- Words for classes with one cell
 

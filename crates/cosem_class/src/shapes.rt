@@ -2,6 +2,7 @@ ghost use Rattle.std.specs.Prelude.{◌≡◌, map, IfOk};
 ghost use Rattle.cosem_data.specs.View.{tree};
 ghost use Rattle.meter_theory.specs.Value.{structure_of, array_of};
 ghost use Rattle.meter_theory.specs.Fixed.{scaler_unit_value};
+ghost use Rattle.cosem_class.specs.Objects.{tree_or_null};
 
 use cosem_data::data::{Data, Items};
 use cosem_data::memory::Memory;
@@ -33,4 +34,24 @@ pub fn scaler_unit_data(alloc: Global, scaler_unit: ScalerUnit) -> Result<Data, 
             Data::Enumerated(scaler_unit.unit),
         ],
     )
+}
+
+/// A copy of the value in a cell that an object may lack.
+pub fn copy_if(alloc: Global, value: &Option<Data>) -> Result<Option<Data>, Memory>
+    ensures { IfOk result (λ copy. copy ≡ value.now) }
+{
+    match value {
+        Some(value) => Ok(Some(value.try_clone(alloc)?)),
+        None => Ok(None),
+    }
+}
+
+/// A copy of the value in a cell that an object may lack; null-data where it lacks it.
+pub fn copy_or_null(alloc: Global, value: &Option<Data>) -> Result<Data, Memory>
+    ensures { IfOk result (λ copy. tree copy ≡ tree_or_null value.now) }
+{
+    match value {
+        Some(value) => value.try_clone(alloc),
+        None => Ok(Data::NullData),
+    }
 }
