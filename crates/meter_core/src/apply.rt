@@ -3,9 +3,8 @@ ghost use Rattle.std.specs.Prelude.{◌≡◌, true, false, [], None, OnOk, OnEr
 ghost use Rattle.cosem_data.specs.View.{tree};
 ghost use Rattle.cosem_data.specs.declared.cell.CellRef.{CellRef};
 ghost use Rattle.meter_theory.specs.Steps as steps;
-ghost use Rattle.meter_theory.specs.Steps.{client_of, kept, next};
+ghost use Rattle.meter_theory.specs.Steps.{client_of, next};
 ghost use Rattle.meter_theory.specs.Replies.{reply_to};
-ghost use Rattle.meter_theory.specs.State as state;
 ghost use Rattle.meter_theory.specs.States.{IsState, MayStand};
 ghost use Rattle.meter_effects.specs.Adds.{StandsFor};
 ghost use Rattle.meter_core.specs.Memory.{needs_no_memory};
@@ -121,7 +120,7 @@ fn set(
 fn put(alloc: Global, plan: &Plan, meter: &mut Meter, cell: CellRef, given: Data)
     requires of_plan { IsState plan.now meter.old }
     requires fits { MayStand plan.now cell (tree given) }
-    ensures { meter.new ≡ state.put meter.old cell (kept cell (tree given)) }
+    ensures { meter.new ≡ steps.write meter.old cell (tree given) }
 {
     let _undo = meter.take(alloc, plan, Effect::Put(cell, given)).unwrap();
 }

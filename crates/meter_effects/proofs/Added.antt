@@ -20,12 +20,13 @@ use Rattle.meter_theory.proofs.Held.{cell_held}
 use Rattle.meter_theory.proofs.Rights.{ruled-cell}
 use Rattle.meter_theory.specs.declared.access.AccessCode.{AccessCode}
 use Rattle.meter_theory.specs.declared.access.AccessCode.TheVariants as codes
-use Rattle.meter_theory.specs.Plan.{Plan, Object, Script, Part, Data1, Register, ProfileGeneric, Clock, ScriptTable, RegisterMonitor, SingleActionSchedule, class_of, object_at, rule_in, rule_of, register_value, capture_period, start_values, thresholds, seen}
+use Rattle.meter_theory.specs.Plan.{Plan, Object, Script, Part, Data1, Register, ProfileGeneric, Clock, ScriptTable, RegisterMonitor, SingleActionSchedule, class_of, object_at, rule_in, rule_of, register_value, capture_period, start_values, thresholds, seen, execution_time}
 use Rattle.meter_theory.specs.Sound.{IsSound, IsSoundPart}
 use Rattle.meter_theory.specs.State.{State, keys, value}
 use Rattle.meter_theory.specs.States.{IsState, IsRemembered, Fits, MayStand}
-use Rattle.meter_theory.specs.Times.{Moment, is_capture_due}
-use Rattle.meter_theory.specs.Value.{Rule, OfKind, Thresholds, meets, valid_tag, valid_parts, is_within_limits, elements, count_of}
+use Rattle.meter_theory.specs.Times.{Moment, is_capture_due, is_schedule_due}
+use Rattle.meter_theory.specs.Menus.{Choice}
+use Rattle.meter_theory.specs.Value.{Rule, OfKind, Thresholds, meets, valid_tag, valid_content, is_within_limits, elements, count_of}
 use Rattle.meter_theory.specs.Steps as theory
 use Rattle.meter_theory.specs.Steps.{Captures, captures_in, captures_of, meets_some}
 use Rattle.meter_theory.proofs.Agreement.{object-found}
@@ -127,7 +128,7 @@ register_added P o cell d first default scaler_unit method before after sound is
     may : MayStand P cell (tree d)
     may = subst (λ x. MayStand P x (tree d)) (sym celled) (subst (MayStand P (register_value o.name)) (sym same) (default_may_stand P o first default scaler_unit sound is part))
 
-pub reset_added : (P : Plan) (o : Object) (n : LogicalName) (captured : List CellRef) (period entries method : ℕ) (before after : List Effect) → n ≡ o.name →
+pub reset_added : (P : Plan) (o : Object) (n : LogicalName) (captured : Choice (List CellRef)) (period entries method : ℕ) (before after : List Effect) → n ≡ o.name →
     o.part ≡ ProfileGeneric captured period entries → (method == 1) ≡ true → IsAdded (effects.Clear n) before after → Adds P (theory.plain_method o.name o.part method) before after
 reset_added P o n captured period entries method before after named part one added =
     adds-is P _ _ before after
@@ -135,7 +136,7 @@ reset_added P o n captured period entries method before after named part one add
     ∙ (sym (cond-true (method == 1) (theory.Clear o.name ∷ []) (theory.Capture o.name ∷ []) one) ∙ sym (ap (λ p. theory.plain_method o.name p method) part)))
     (added P tt)
 
-pub capture_added : (P : Plan) (o : Object) (n : LogicalName) (captured : List CellRef) (period entries method : ℕ) (before after : List Effect) → object_at P o.name ≡ Some o → n ≡ o.name →
+pub capture_added : (P : Plan) (o : Object) (n : LogicalName) (captured : Choice (List CellRef)) (period entries method : ℕ) (before after : List Effect) → object_at P o.name ≡ Some o → n ≡ o.name →
     o.part ≡ ProfileGeneric captured period entries → (method == 1) ≡ false → IsAdded (effects.Capture n) before after → Adds P (theory.plain_method o.name o.part method) before after
 capture_added P o n captured period entries method before after is named part other added =
     adds-is P _ _ before after
@@ -197,6 +198,16 @@ capture_meant P s n t c present is due = at (object_at P n) is ∙ ap (λ u. for
     at None e = cc
     at (Some o) e = in_part o.part e
 
+-- the script of a schedule whose time has come
+pub schedule_meant : (P : Plan) (s : State) (n : LogicalName) (t : Moment) (o : Object) (script : Choice ScriptRef) (type : ℕ) (times : Tree) → t ≡ theory.present P s → Some o ≡ object_at P n →
+    o.part ≡ SingleActionSchedule script type times → is_schedule_due (elements (value s (execution_time n))) t ≡ true →
+    theory.effects_of_script P (theory.script_now s n script) ≡ theory.effects_of P s (theory.ScheduleAt n)
+schedule_meant P s n t o script type times present is part due =
+    sym (cond-true (is_schedule_due (elements (value s (execution_time n))) t) (theory.effects_of_script P (theory.script_now s n script)) [] due)
+    ∙ sym (ap (theory.scheduled_at P s n t) part)
+    ∙ ap (λ f. for_some f (λ z. theory.scheduled_at P s n t z.part)) is
+    ∙ ap (λ u. for_some (object_at P n) (λ z. theory.scheduled_at P s n u z.part)) present
+
 -- what an evaluation means
 pub evaluation_meant : (P : Plan) (s : State) (n : LogicalName) (o : Object) (monitored : CellRef) (th : Tree) (actions : List UpDown) → Some o ≡ object_at P n → o.part ≡ RegisterMonitor monitored th actions →
     flat_map (theory.effects_of_script P) (theory.due_scripts actions (elements (value s (thresholds n))) (value s (seen n)) (value s monitored)) ++ theory.Put (seen n) (value s monitored) ∷ []
@@ -236,7 +247,7 @@ remember_may P n o monitored th actions v is part fits =
 -- a rule that a value passes
 pub passes-meets : (r : Option Rule) (v : Tree) → is_ok (rule_answer r v) ≡ meets_some r v
 passes-meets None v = refl
-passes-meets (Some rule) v = at (valid_tag rule v) (is_within_limits v && valid_parts rule v)
+passes-meets (Some rule) v = at (valid_tag rule v) (is_within_limits v && valid_content rule v)
   where
     at : (tag rest : Bool) → is_ok {T = Unit {0}} {E = AccessCode} (if tag then (if (tag && rest) then Ok tt else Err codes.OtherReason) else Err codes.TypeUnmatched) ≡ (tag && rest)
     at true true = refl

@@ -1,5 +1,5 @@
 -- An operation over states that agree.
-use Rattle.std.proofs.Common.{◌≡◌, ◌⊎◌, ℕ, Bool, true, false, List, map, Option, Some, None, refl, sym, ap, ap₂, subst, ◌∙◌, inl, inr}
+use Rattle.std.proofs.Common.{◌≡◌, ◌⊎◌, ℕ, Bool, true, false, List, Option, Some, None, refl, sym, ap, ap₂, subst, ◌∙◌, inl, inr}
 use Rattle.std.specs.Prelude.{if◌then◌else◌}
 use Rattle.std.proofs.lemmas.Bool.{false≢true}
 use Rattle.cosem_data.specs.Tree.{Tree}
@@ -11,7 +11,7 @@ use Rattle.meter_theory.specs.Lists.{IsIn}
 use Rattle.meter_theory.specs.State.{State, keys, value}
 use Rattle.meter_theory.specs.Edges.{Agree, among}
 use Rattle.meter_theory.proofs.Lists.{in_any}
-use Rattle.meter_theory.proofs.State.{value_missing, is_touched, same_row}
+use Rattle.meter_theory.proofs.State.{value_missing, is_touched}
 use Rattle.cosem_class.specs.Objects.{Cells, cells_after, HasSources, AgreeOn, AgreeOnRow}
 use Rattle.meter_effects.specs.Operations.{cells_in, IsOperation, HasAllSources}
 
@@ -39,9 +39,9 @@ some_same : {a b : Tree} → Some a ≡ Some b → a ≡ b
 some_same e = cc
 
 -- An operation leaves what it does not touch.
-pub operation-leaves : (class_id : ℕ) (name : LogicalName) (touched : ℕ → Bool) (new_value : List Tree → Cells → ℕ → Option Tree) (captured : List CellRef) (change : State → State) →
-    IsOperation class_id name touched new_value captured change → (s : State) (x : CellRef) → (x ≡ cell class_id name x.index → touched x.index ≡ false) → value (change s) x ≡ value s x
-operation-leaves class_id name touched new_value captured change is s x untouched =
+pub operation-leaves : (class_id : ℕ) (name : LogicalName) (touched : ℕ → Bool) (new_value : List Tree → Cells → ℕ → Option Tree) (row : State → List Tree) (change : State → State) →
+    IsOperation class_id name touched new_value row change → (s : State) (x : CellRef) → (x ≡ cell class_id name x.index → touched x.index ≡ false) → value (change s) x ≡ value s x
+operation-leaves class_id name touched new_value row change is s x untouched =
     elim (is_own class_id name x) [
       | inl e ↦ subst (λ z. value (change s) z ≡ value s z) (sym e) (own_left (cell class_id name x.index) refl (untouched e))
       | inr other ↦ is.other_cells s x other
@@ -58,21 +58,21 @@ operation-leaves class_id name touched new_value captured change is s x untouche
         held_left key none =
             some_same (sym (cells_in-there (change s) class_id name x.index (subst (λ ks. IsIn ks (cell class_id name x.index)) (sym (is.same_cells s)) key))
             ∙ (is.own_cells s x.index key
-            ∙ (ap (λ b. if b then new_value (map (value s) captured) (cells_in s class_id name) x.index else cells_in s class_id name x.index) none
+            ∙ (ap (λ b. if b then new_value (row s) (cells_in s class_id name) x.index else cells_in s class_id name x.index) none
             ∙ cells_in-there s class_id name x.index key)))
 
 module _ (class_id : ℕ) (name : LogicalName) (touched : ℕ → Bool) (own_sources : ℕ → ℕ → Bool) (row_cells : ℕ → Bool) (new_value : List Tree → Cells → ℕ → Option Tree)
-    (keeps : (row other_row : List Tree) (cells others : Cells) (set : ℕ → Bool) → HasSources touched own_sources set → AgreeOnRow touched row_cells set row other_row → AgreeOn set cells others →
-    AgreeOn set (cells_after touched (new_value row) cells) (cells_after touched (new_value other_row) others))
-    (captured : List CellRef) (change : State → State) (set : CellRef → Bool)
-    (is : IsOperation class_id name touched new_value captured change) (has : HasAllSources class_id name touched own_sources row_cells captured set)
+    (keeps : (taken other_row : List Tree) (cells others : Cells) (set : ℕ → Bool) → HasSources touched own_sources set → AgreeOnRow touched row_cells set taken other_row → AgreeOn set cells others →
+    AgreeOn set (cells_after touched (new_value taken) cells) (cells_after touched (new_value other_row) others))
+    (row : State → List Tree) (change : State → State) (set : CellRef → Bool)
+    (is : IsOperation class_id name touched new_value row change) (has : HasAllSources class_id name touched own_sources row_cells row set)
     (s t : State) (same : keys s ≡ keys t) (agree : Agree set s t) where
   abbrev own : ℕ → CellRef
   own i = cell class_id name i
 
   -- one row, where a touched cell of the set takes it
-  rows_agree : AgreeOnRow touched row_cells (λ i. set (own i)) (map (value s) captured) (map (value t) captured)
-  rows_agree i there inside takes = same_row captured s t (λ y m. agree y (has.row i there takes inside y m))
+  rows_agree : AgreeOnRow touched row_cells (λ i. set (own i)) (row s) (row t)
+  rows_agree i there inside takes = has.one_row i there takes inside s t agree
 
   -- a cell of the object that the states have
   held_agrees : (i : ℕ) → IsIn (keys s) (own i) → set (own i) ≡ true → value (change s) (own i) ≡ value (change t) (own i)
@@ -81,7 +81,7 @@ module _ (class_id : ℕ) (name : LogicalName) (touched : ℕ → Bool) (own_sou
       let in_s : cells_in (change s) class_id name i ≡ Some (value (change s) (own i)) = cells_in-there (change s) class_id name i (subst (λ ks. IsIn ks (own i)) (sym (is.same_cells s)) key) in
       let in_t : cells_in (change t) class_id name i ≡ Some (value (change t) (own i)) = cells_in-there (change t) class_id name i (subst (λ ks. IsIn ks (own i)) (sym (is.same_cells t)) key_t) in
       let both = is.own_cells s i key
-      ∙ (keeps (map (value s) captured) (map (value t) captured) (cells_in s class_id name) (cells_in t class_id name) (λ j. set (own j)) has.own rows_agree
+      ∙ (keeps (row s) (row t) (cells_in s class_id name) (cells_in t class_id name) (λ j. set (own j)) has.own rows_agree
       (cells_in-agree s t class_id name set same agree) i inside
       ∙ sym (is.own_cells t i key_t)) in
       some_same (sym in_s ∙ (both ∙ in_t))

@@ -9,11 +9,11 @@ use Rattle.cosem_data.specs.declared.name.LogicalName.{LogicalName}
 use Rattle.cosem_data.proofs.Same.{same_cell-true}
 use Rattle.meter_theory.specs.Lists.{IsIn}
 use Rattle.meter_theory.specs.State.{State, keys, value, put}
-use Rattle.meter_theory.specs.Plan.{buffer, entries_in_use}
-use Rattle.meter_theory.specs.Steps.{capture, clear, row_of, buffer_after, in_use_after}
-use Rattle.meter_theory.specs.Value.{counter}
+use Rattle.meter_theory.specs.Plan.{buffer, capture_objects, entries_in_use}
+use Rattle.meter_theory.specs.Steps.{captured_in, capture, clear, write, buffer_after, in_use_after}
+use Rattle.meter_theory.specs.Value.{counter, structure_of}
 use Rattle.meter_theory.proofs.State.{keys-put, value-put_other, value-put_there}
-use Rattle.cosem_class.specs.declared.class.Op.TheVariants.{Invoke}
+use Rattle.cosem_class.specs.declared.class.Op.TheVariants.{Write, Invoke}
 use Rattle.cosem_class.specs.Objects.{Cells, cells_after, put_at}
 use Rattle.class_profile.specs.ProfileClass.{ProfileFixed, profile_touched, profile_new_value}
 use Rattle.meter_effects.specs.Operations.{cells_in, IsOperation}
@@ -45,10 +45,10 @@ module _ (class_id : ℕ) (name : LogicalName) (index : ℕ) (v : Tree) where
       (false_from_ne_true (same_cell (cell class_id name index) x) (λ same. other (subst (λ z. z ≡ cell class_id name z.index) (same_cell-true (cell class_id name index) x same) refl)))
 
   -- A put is an operation that leaves one value, whatever the row.
-  pub put-is_operation : (touched : ℕ → Bool) (new_value : List Tree → Cells → ℕ → Option Tree) (captured : List CellRef) →
-      ((s : State) (cells : Cells) (i : ℕ) → cells_after touched (new_value (map (value s) captured)) cells i ≡ put_at index v cells i) →
-      IsOperation class_id name touched new_value captured (λ s. put s (cell class_id name index) v)
-  put-is_operation touched new_value captured leaves = record {
+  pub put-is_operation : (touched : ℕ → Bool) (new_value : List Tree → Cells → ℕ → Option Tree) (row : State → List Tree) →
+      ((s : State) (cells : Cells) (i : ℕ) → cells_after touched (new_value (row s)) cells i ≡ put_at index v cells i) →
+      IsOperation class_id name touched new_value row (λ s. put s (cell class_id name index) v)
+  put-is_operation touched new_value row leaves = record {
     same_cells = λ s. keys-put s (cell class_id name index) v;
     own_cells = λ s i key. cells_in-put s i key ∙ sym (leaves s (cells_in s class_id name) i);
     other_cells = put-elsewhere;
@@ -106,10 +106,41 @@ reset_of_two true false rows in_use rest apart = refl
 reset_of_two false true rows in_use rest apart = refl
 reset_of_two false false rows in_use rest apart = refl
 
+three_or_two : (three two seven : Bool) (v rows in_use : Tree) (rest : Option Tree) → (two ≡ true → seven ≡ true → ⊥) →
+    (if three then Some v else if seven then Some in_use else if two then Some rows else rest)
+    ≡ (if three || (two || seven) then (if three then Some v else Some (if two then rows else in_use)) else rest)
+three_or_two true two seven v rows in_use rest apart = refl
+three_or_two false two seven v rows in_use rest apart = reset_of_two two seven rows in_use rest apart
+
+module _ (fixed : ProfileFixed) (name : LogicalName) (row : State → List Tree) where
+  -- A clear is method 1 of a profile.
+  pub clear-is_operation : (argument : Tree) →
+      IsOperation 7 name (profile_touched (Invoke 1)) (profile_new_value fixed (Invoke 1) argument) row (λ s. clear s name)
+  clear-is_operation argument = record {
+    same_cells = two_keys name (array no_trees) (counter 0);
+    own_cells = λ s i key. two_puts name (array no_trees) (counter 0) s i key ∙ reset_of_two (i == 2) (i == 7) (array no_trees) (counter 0) _ (not_both i);
+    other_cells = two_elsewhere name (array no_trees) (counter 0);
+  }
+
+  -- A write of capture_objects is that of attribute 3 of a profile: it puts its value, and leaves beside it what a reset leaves.
+  pub choice-is_operation : (v : Tree) →
+      IsOperation 7 name (profile_touched (Write 3)) (profile_new_value fixed (Write 3) v) row (λ s. write s (capture_objects name) v)
+  choice-is_operation v = record {
+    same_cells = λ s. keys-put (clear s name) (capture_objects name) v ∙ two_keys name (array no_trees) (counter 0) s;
+    own_cells = λ s i key.
+        cells_in-put 7 name 3 v (clear s name) i (subst (λ ks. IsIn ks (cell 7 name i)) (sym (two_keys name (array no_trees) (counter 0) s)) key)
+        ∙ ap (λ c. if i == 3 then Some v else c) (two_puts name (array no_trees) (counter 0) s i key)
+        ∙ three_or_two (i == 3) (i == 2) (i == 7) v (array no_trees) (counter 0) _ (not_both i);
+    other_cells = λ s x other. put-elsewhere 7 name 3 v (clear s name) x other ∙ two_elsewhere name (array no_trees) (counter 0) s x other;
+  }
+
 module _ (fixed : ProfileFixed) (name : LogicalName) where
-  -- what a capture leaves
+  -- what a capture takes and leaves
+  abbrev taken : State → List Tree
+  taken s = map (value s) (captured_in s name fixed.captured)
+
   abbrev rows_after : State → Tree
-  rows_after s = buffer_after fixed.entries (value s (buffer name)) (row_of s fixed.captured)
+  rows_after s = buffer_after fixed.entries (value s (buffer name)) (structure_of (taken s))
 
   abbrev number_after : State → Tree
   number_after s = in_use_after fixed.entries (value s (entries_in_use name))
@@ -117,24 +148,15 @@ module _ (fixed : ProfileFixed) (name : LogicalName) where
   there : (s : State) (i j : ℕ) → IsIn (keys s) (cell 7 name i) → (i == j) ≡ true → cells_in s 7 name j ≡ Some (value s (cell 7 name j))
   there s i j key is = cells_in-there s 7 name j (subst (λ k. IsIn (keys s) (cell 7 name k)) (eqb-true i j is) key)
 
-  -- A capture is method 2 of a profile, over the row of the captured cells.
+  -- A capture is method 2 of a profile, over the row of the cells that it captures then.
   pub capture-is_operation : (argument : Tree) →
-      IsOperation 7 name (profile_touched (Invoke 2)) (profile_new_value fixed (Invoke 2) argument) fixed.captured (λ s. capture s name (Some (record { captured = fixed.captured; entries = fixed.entries })))
+      IsOperation 7 name (profile_touched (Invoke 2)) (profile_new_value fixed (Invoke 2) argument) taken (λ s. capture s name (Some (record { captured = fixed.captured; entries = fixed.entries })))
   capture-is_operation argument = record {
     same_cells = λ s. two_keys name (rows_after s) (number_after s) s;
     own_cells = λ s i key.
         two_puts name (rows_after s) (number_after s) s i key
         ∙ one_of_two (i == 2) (i == 7) (rows_after s) (number_after s) _ _ _ (not_both i)
-        (λ is. ap (option_map (λ old. buffer_after fixed.entries old (row_of s fixed.captured))) (there s i 2 key is))
+        (λ is. ap (option_map (λ old. buffer_after fixed.entries old (structure_of (taken s)))) (there s i 2 key is))
         (λ is. ap (option_map (in_use_after fixed.entries)) (there s i 7 key is));
     other_cells = λ s. two_elsewhere name (rows_after s) (number_after s) s;
-  }
-
-  -- A clear is method 1 of a profile.
-  pub clear-is_operation : (argument : Tree) →
-      IsOperation 7 name (profile_touched (Invoke 1)) (profile_new_value fixed (Invoke 1) argument) fixed.captured (λ s. clear s name)
-  clear-is_operation argument = record {
-    same_cells = two_keys name (array no_trees) (counter 0);
-    own_cells = λ s i key. two_puts name (array no_trees) (counter 0) s i key ∙ reset_of_two (i == 2) (i == 7) (array no_trees) (counter 0) _ (not_both i);
-    other_cells = two_elsewhere name (array no_trees) (counter 0);
   }

@@ -1,12 +1,12 @@
 -- The operations of a plan's objects, as their classes define them.
-use Rattle.std.specs.Prelude.{◌≡◌, ℕ, Bool, List, [], Option, None}
+use Rattle.std.specs.Prelude.{◌≡◌, ℕ, Bool, List, [], map, Option, None}
 use Rattle.cosem_data.specs.Tree.{Tree}
 use Rattle.cosem_data.specs.Kinds.{kind_of}
-use Rattle.cosem_data.specs.declared.cell.CellRef.{CellRef}
 use Rattle.cosem_data.specs.declared.name.LogicalName.{LogicalName}
 use Rattle.meter_theory.specs.Lists.{IsIn}
 use Rattle.meter_theory.specs.State.{State, value}
 use Rattle.meter_theory.specs.Plan.{Plan, Object, Part, Data1, Register, ProfileGeneric, Clock, ScriptTable, RegisterMonitor, SingleActionSchedule, class_of, start_values}
+use Rattle.meter_theory.specs.Steps.{captured_in}
 use Rattle.cosem_class.specs.declared.class.Op.{Op}
 use Rattle.cosem_class.specs.declared.class.ClassFault.{ClassFault}
 use Rattle.cosem_class.specs.Objects.{Cells}
@@ -54,15 +54,15 @@ operations_in P name (SingleActionSchedule script type times) =
 abbrev pub operations_of : Plan → Object → ObjectOperations
 operations_of P o = operations_in P o.name o.part
 
--- the cells that a profile captures: IEC 62056-6-2, Profile generic, capture_objects
-abbrev pub captured_in : Part → List CellRef
-captured_in (ProfileGeneric captured period entries) = captured
-captured_in _ = []
+-- the row that a profile takes in a state, of the cells that it captures then: IEC 62056-6-2, Profile generic, capture_objects
+abbrev pub row_in : LogicalName → Part → State → List Tree
+row_in name (ProfileGeneric captured period entries) s = map (value s) (captured_in s name captured)
+row_in name _ s = []
 
 -- A change of the state is this operation of the plan's object, by the object's class.
 abbrev pub IsOperationOf : Plan → Object → Op → Tree → (State → State) → Type 0
 IsOperationOf P o op argument change =
-    IsOperation (class_of o.part) o.name ((operations_of P o).touched op) ((operations_of P o).new_value op argument) (captured_in o.part) change
+    IsOperation (class_of o.part) o.name ((operations_of P o).touched op) ((operations_of P o).new_value op argument) (row_in o.name o.part) change
 
 -- A change of the state is this operation of an object of the plan, which the object's class does not refuse.
 pub record IsAcceptedOperation (P : Plan) (op : Op) (argument : Tree) (change : State → State) : Type 0 where

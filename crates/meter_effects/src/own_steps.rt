@@ -1,6 +1,6 @@
 //! The effects of the steps that a meter takes by itself: inputs, captures, evaluations and schedules. All guards are judged
 //! in the state before the step (own profile).
-ghost use Rattle.std.specs.Prelude.{◌≡◌, ◌&&◌, [], flat_map, IfOk, OnOk, IsOk};
+ghost use Rattle.std.specs.Prelude.{◌≡◌, ◌&&◌, [], flat_map, option_map, Some, IfOk, OnOk, IsOk};
 ghost use Rattle.cosem_data.specs.View.{tree};
 ghost use Rattle.meter_theory.specs.Plan as plans;
 ghost use Rattle.meter_theory.specs.Plan.{rule_of};
@@ -9,12 +9,14 @@ ghost use Rattle.meter_theory.specs.States.{IsState};
 ghost use Rattle.meter_theory.specs.Steps as theory;
 ghost use Rattle.meter_theory.specs.Times.{is_capture_due, is_schedule_due};
 ghost use Rattle.meter_theory.specs.Value.{count_of, elements};
+ghost use Rattle.class_control.specs.PartView.{schedule_part_of, scripts_of_part};
 ghost use Rattle.meter_effects.specs.Adds.{Adds, StandsFor};
 
 use crate::scripts::{push_effect, push_script};
 use civil_moment::moment::Moment;
 use class_control::matching::is_due as is_schedule_due;
 use class_control::monitor::Monitor;
+use class_control::parts::SchedulePart;
 use class_profile::due::is_due as is_capture_due;
 use cosem_data::cell::CellRef;
 use cosem_data::data::Data;
@@ -132,11 +134,27 @@ pub fn schedule_effects(
     if !is_time(meter, &instance, moment) {
         return Ok(effects);
     }
-    let Some(table) = instance.referred(0) else {
-        unreachable!();
-    };
-    push_script(alloc, &table, part.executed_script.script, &mut effects)?;
+    push_present(alloc, meter, &instance, part, &mut effects)?;
     Ok(effects)
+}
+
+/// Adds the effects of the script that a schedule runs now.
+fn push_present(
+    alloc: Global,
+    meter: &Meter,
+    schedule: &Instance<'_>,
+    part: &SchedulePart,
+    effects: &mut Vec<Effect>,
+) -> Result<(), Memory>
+    requires of_plan { IsState schedule.now.plan meter.now }
+    requires part { option_map (λ o. o.part) (plans.object_at schedule.now.plan schedule.now.name) ≡ Some (schedule_part_of part.now) }
+    ensures ok { OnOk result (Adds schedule.now.plan (theory.effects_of_script schedule.now.plan
+        (theory.script_now meter.now schedule.now.name (scripts_of_part part.now))) effects.old.items effects.new.items) }
+    ensures none { theory.effects_of_script schedule.now.plan
+        (theory.script_now meter.now schedule.now.name (scripts_of_part part.now)) ≡ [] → IsOk result }
+{
+    let present = meter.script_now(schedule, part);
+    push_script(alloc, &present.table, present.script, effects)
 }
 
 /// Whether the moment is one of the execution_time of a schedule.

@@ -4,18 +4,22 @@ use Rattle.std.specs.Prelude.{option_map, slice_get}
 use Rattle.std.specs.List.{position_from}
 use Rattle.std.proofs.lemmas.Bool.{cond-false, false_from_ne_true}
 use Rattle.cosem_data.specs.Cells.{same_name}
+use Rattle.cosem_data.specs.View.{tree}
+use Rattle.cosem_data.specs.Tree.{Tree, array, no_trees}
 use Rattle.cosem_data.specs.declared.name.LogicalName.{LogicalName}
 use Rattle.cosem_data.specs.declared.cell.CellRef.{CellRef}
 use Rattle.cosem_data.proofs.Same.{same_name-true, same_name-from}
 use Rattle.meter_theory.specs.Lists.{IsIn, AreDistinct, some_passes}
-use Rattle.meter_theory.specs.Plan.{Object, Part, Data1, ScriptTable, class_of, start_of, data_value}
+use Rattle.meter_theory.specs.Value.{array_of, counter}
+use Rattle.meter_theory.specs.Menus.{has_menu, capture_objects_value, script_ref_value}
+use Rattle.meter_theory.specs.Plan.{Object, Part, Data1, ProfileGeneric, ScriptTable, SingleActionSchedule, class_of, start_of, data_value, buffer, capture_objects, capture_period, entries_in_use, executed_script, execution_time}
 use Rattle.meter_theory.specs.State.{State, keys}
 use Rattle.meter_theory.proofs.Lists.{from_filter, from_map, in_map, none_found}
 use Rattle.object_model.specs.declared.stored.Cells.{Cells}
 use Rattle.object_model.specs.declared.stored.Cells.TheVariants as cells
 use Rattle.object_model.specs.declared.stored.Stored.{Stored}
 use Rattle.object_model.specs.declared.place.Place.{Place}
-use Rattle.object_model.specs.Stored.{pairs_of, stored_pairs, stores}
+use Rattle.object_model.specs.Stored.{pair_if, pairs_of, stored_pairs, stores}
 use Rattle.object_model.specs.Tables.{has_cells, with_cells, place_of}
 use Rattle.object_model.proofs.Positions.{first, first-none, in-at}
 use Rattle.object_model.proofs.Stores.{stored-name}
@@ -34,15 +38,56 @@ no-cells n p h = cc
 
 some-stored : (n : LogicalName) (c : Cells) (s : State) → keys (pairs_of n c ++ s) ≡ [] → ⊥
 some-stored n (cells.Data object) s e = cc
+some-stored n (cells.SingleActionSchedule object) s e = at (option_map tree object.executed_script) e
+  where
+    at : (o : Option Tree) → keys ((pair_if (executed_script n) o ++ (execution_time n, tree object.times) ∷ []) ++ s) ≡ [] → ⊥
+    at None g = cc
+    at (Some v) g = cc
 some-stored n c s e = cc
 
 some-planned : (n : LogicalName) (p : Part) (t : State) → not (class_of p == 9) ≡ true → [] ≡ keys (start_of n p ++ t) → ⊥
 some-planned n (ScriptTable scripts) t h e = cc
+some-planned n (SingleActionSchedule script type times) t h e = at (has_menu script) e
+  where
+    at : (b : Bool) → [] ≡ keys ((cond b ((executed_script n, script_ref_value script.configured) ∷ []) [] ++ (execution_time n, times) ∷ []) ++ t) → ⊥
+    at true g = cc
+    at false g = cc
 some-planned n p t h e = cc
 
 same-front : (n m : LogicalName) (c : Cells) (p : Part) (s t : State) → not (class_of p == 9) ≡ true → keys (pairs_of n c ++ s) ≡ keys (start_of m p ++ t) → (n ≡ m) × (keys s ≡ keys t)
 same-front n m (cells.Data object) (Data1 start) s t h e = (ap (λ ks. (get_or ks 0 (data_value n)).name) e, cc)
 same-front n m c (ScriptTable scripts) s t h e = (cc, cc)
+same-front n m (cells.ProfileGeneric object) (ProfileGeneric captured period entries) s t h e = (ap (λ ks. (get_or ks 0 (data_value n)).name) e, at (option_map tree object.capture_objects) (has_menu captured) e)
+  where
+    at : (o : Option Tree) (b : Bool) →
+        keys (((buffer n, array_of object.buffer) ∷ pair_if (capture_objects n) o ++ (capture_period n, counter object.capture_period) ∷ (entries_in_use n, counter object.entries_in_use) ∷ []) ++ s)
+        ≡ keys (((buffer m, array no_trees) ∷ cond b ((capture_objects m, capture_objects_value captured.configured) ∷ []) []
+        ++ (capture_period m, counter period) ∷ (entries_in_use m, counter 0) ∷ []) ++ t) →
+        keys s ≡ keys t
+    at None false g = cc
+    at (Some v) true g = cc
+    at None true g = let index = ap (λ ks. (get_or ks 1 (data_value n)).index == 4) g in cc
+    at (Some v) false g = let index = ap (λ ks. (get_or ks 1 (data_value n)).index == 4) g in cc
+same-front n m (cells.SingleActionSchedule object) (SingleActionSchedule script type times) s t h e = at (option_map tree object.executed_script) (has_menu script) e
+  where
+    at : (o : Option Tree) (b : Bool) →
+        keys ((pair_if (executed_script n) o ++ (execution_time n, tree object.times) ∷ []) ++ s)
+        ≡ keys ((cond b ((executed_script m, script_ref_value script.configured) ∷ []) [] ++ (execution_time m, times) ∷ []) ++ t) →
+        (n ≡ m) × (keys s ≡ keys t)
+    at None false g = (ap (λ ks. (get_or ks 0 (data_value n)).name) g, cc)
+    at (Some v) true g = (ap (λ ks. (get_or ks 0 (data_value n)).name) g, cc)
+    at None true g = (ap (λ ks. (get_or ks 0 (data_value n)).name) g, let index = ap (λ ks. (get_or ks 0 (data_value n)).index == 4) g in cc)
+    at (Some v) false g = (ap (λ ks. (get_or ks 0 (data_value n)).name) g, let index = ap (λ ks. (get_or ks 0 (data_value n)).index == 4) g in cc)
+same-front n m (cells.SingleActionSchedule object) p s t h e = absurd (at (option_map tree object.executed_script) e)
+  where
+    at : (o : Option Tree) → keys ((pair_if (executed_script n) o ++ (execution_time n, tree object.times) ∷ []) ++ s) ≡ keys (start_of m p ++ t) → ⊥
+    at None g = let class = ap (λ ks. (get_or ks 0 (data_value n)).class_id == 22) g in cc
+    at (Some v) g = let class = ap (λ ks. (get_or ks 0 (data_value n)).class_id == 22) g in cc
+same-front n m c (SingleActionSchedule script type times) s t h e = absurd (at (has_menu script) e)
+  where
+    at : (b : Bool) → keys (pairs_of n c ++ s) ≡ keys ((cond b ((executed_script m, script_ref_value script.configured) ∷ []) [] ++ (execution_time m, times) ∷ []) ++ t) → ⊥
+    at true g = let class = ap (λ ks. (get_or ks 0 (data_value n)).class_id == 22) g in cc
+    at false g = let class = ap (λ ks. (get_or ks 0 (data_value n)).class_id == 22) g in cc
 same-front n m c p s t h e = (ap (λ ks. (get_or ks 0 (data_value n)).name) e, let class = ap (λ ks. (get_or ks 0 (data_value n)).class_id == class_of p) e in cc)
 
 -- a meter with the cells of a plan has the objects that have cells, one after another

@@ -34,8 +34,8 @@ pub placed : (x : CellRef) (c : ℕ) (n : LogicalName) (indexes : List ℕ) (cel
 placed x c n indexes cells place are own is =
     is ∙ sym (ap (λ b. cond b (position_from (λ i. x.index == i) 0 indexes) None) own) ∙ sym (place-of_index x c n 0 indexes) ∙ ap (position_from (same_cell x) 0) are
 
--- an object has three cells at most, and so many indexes
-pub few-indexes : (p : Part) (indexes : List ℕ) → ((n : LogicalName) → map (cell (class_of p) n) indexes ≡ keys (start_of n p)) → length indexes ≤ 3
+-- an object has four cells at most, and so many indexes
+pub few-indexes : (p : Part) (indexes : List ℕ) → ((n : LogicalName) → map (cell (class_of p) n) indexes ≡ keys (start_of n p)) → length indexes ≤ 4
 few-indexes p indexes are =
     let n : LogicalName = record { 0 = [] } in
     let same : length indexes ≡ length (start_of n p) = sym (length-map indexes (cell (class_of p) n)) ∙ ap length (are n) ∙ length-map (start_of n p) (λ e. e.0) in

@@ -1,6 +1,6 @@
 -- The cells of a plan, object by object.
 use Rattle.std.proofs.Math.ListN.{length-map}
-use Rattle.std.proofs.Common.{◌≡◌, ◌≤◌, ◌^◌, refl, ap, sym, ◌∙◌, inl, inr, arith, ℕ, ◌+◌, ◌<◌, length, map, Bool, true, false, ◌||◌, cond, find, Option, Some, None, is_some, List, [], ◌∷◌, ◌++◌, flat_map}
+use Rattle.std.proofs.Common.{◌≡◌, ◌⊎◌, ◌≤◌, ◌^◌, refl, ap, sym, ◌∙◌, inl, inr, arith, ℕ, ◌+◌, ◌<◌, length, map, Bool, true, false, ◌||◌, cond, find, Option, Some, None, is_some, List, [], ◌∷◌, ◌++◌, flat_map}
 use Rattle.std.proofs.lemmas.Bool.{or_parts, cond-true, cond-false, false≢true}
 use Rattle.std.specs.List.{list_any, position_from}
 use Rattle.cosem_data.specs.Cells.{same_cell, same_name, cell}
@@ -9,11 +9,15 @@ use Rattle.cosem_data.specs.Tree.{null_data}
 use Rattle.cosem_data.proofs.Same.{same_cell-true, same_cell-refl, same_name-from}
 use Rattle.cosem_data.specs.declared.cell.CellRef.{CellRef}
 use Rattle.meter_theory.specs.State.{State, keys, value}
-use Rattle.meter_theory.specs.Plan.{Plan, Object, Part, Data1, Register, ProfileGeneric, Clock, ScriptTable, RegisterMonitor, SingleActionSchedule, start_values, start_of, is_cell, object_at, buffer, capture_period, entries_in_use, thresholds, seen}
+use Rattle.meter_theory.specs.Plan.{Plan, Object, Part, Data1, Register, ProfileGeneric, Clock, ScriptTable, RegisterMonitor, SingleActionSchedule, start_values, start_of, is_cell, object_at, buffer, capture_objects, capture_period, entries_in_use, thresholds, seen}
 use Rattle.meter_theory.specs.Lists.{IsIn}
 use Rattle.meter_theory.specs.Sound.{IsSound}
 use Rattle.meter_theory.specs.declared.limits.TheConstants.{OBJECTS}
-use Rattle.meter_theory.proofs.Lists.{none_found}
+use Rattle.cosem_data.specs.Tree.{Tree, array, no_trees}
+use Rattle.meter_theory.specs.Menus.{has_menu, capture_objects_value}
+use Rattle.meter_theory.specs.Value.{counter}
+use Rattle.meter_theory.proofs.Menus.{profile_entry, schedule_entry}
+use Rattle.meter_theory.proofs.Lists.{none_found, any_in, from_map}
 use Rattle.meter_theory.proofs.Agreement.{object-found, one_named}
 
 -- the sides of the test of cells may be exchanged
@@ -112,12 +116,16 @@ one x class n index h = at (same_cell x (cell class n index)) refl h
 pub keys-named : (x : CellRef) (n : LogicalName) (p : Part) → list_any (same_cell x) (keys (start_of n p)) ≡ true → x.name ≡ n
 keys-named x n (Data1 start) h = one x 1 n 2 h
 keys-named x n (Register start default scaler_unit) h = one x 3 n 2 h
-keys-named x n (ProfileGeneric captured period entries) h = three (same_cell x (buffer n)) refl (same_cell x (capture_period n)) refl h
+keys-named x n (ProfileGeneric captured period entries) h =
+    let i = any_in (same_cell x) (keys (start_of n (ProfileGeneric captured period entries))) h in
+    let e = from_map (λ z. z.0) (start_of n (ProfileGeneric captured period entries)) i.0 i.1 in
+    ap (λ y. y.name) (same_cell-true x i.0 i.2) ∙ ap (λ y. y.name) e.2 ∙ named e.0 (profile_entry n captured period entries e.0 e.1)
   where
-    three : (a : Bool) → same_cell x (buffer n) ≡ a → (b : Bool) → same_cell x (capture_period n) ≡ b → (a || (b || (same_cell x (entries_in_use n) || false))) ≡ true → x.name ≡ n
-    three true e b f g = ap (λ y. y.name) (same_cell-true x (buffer n) e)
-    three false e true f g = ap (λ y. y.name) (same_cell-true x (capture_period n) f)
-    three false e false f g = one x 7 n 7 g
+    named : (e : CellRef × Tree) → (e ≡ (buffer n, array no_trees)) ⊎ (((has_menu captured ≡ true) × (e ≡ (capture_objects n, capture_objects_value captured.configured))) ⊎ ((e ≡ (capture_period n, counter period)) ⊎ (e ≡ (entries_in_use n, counter 0)))) → e.0.name ≡ n
+    named e (inl is) = ap (λ z. z.0.name) is
+    named e (inr (inl is)) = ap (λ z. z.0.name) is.1
+    named e (inr (inr (inl is))) = ap (λ z. z.0.name) is
+    named e (inr (inr (inr is))) = ap (λ z. z.0.name) is
 keys-named x n (Clock first) h = one x 8 n 2 h
 keys-named x n (ScriptTable scripts) h = cc
 keys-named x n (RegisterMonitor monitored th actions) h = two (same_cell x (thresholds n)) refl h
@@ -125,7 +133,11 @@ keys-named x n (RegisterMonitor monitored th actions) h = two (same_cell x (thre
     two : (a : Bool) → same_cell x (thresholds n) ≡ a → (a || (same_cell x (seen n) || false)) ≡ true → x.name ≡ n
     two true e g = ap (λ y. y.name) (same_cell-true x (thresholds n) e)
     two false e g = one x 21 n 0 g
-keys-named x n (SingleActionSchedule script type times) h = one x 22 n 4 h
+keys-named x n (SingleActionSchedule script type times) h =
+    let i = any_in (same_cell x) (keys (start_of n (SingleActionSchedule script type times))) h in
+    let e = from_map (λ z. z.0) (start_of n (SingleActionSchedule script type times)) i.0 i.1 in
+    ap (λ y. y.name) (same_cell-true x i.0 i.2) ∙ ap (λ y. y.name) e.2
+    ∙ elim (schedule_entry n script type times e.0 e.1) [ inl is ↦ ap (λ z. z.0.name) is.1 | inr is ↦ ap (λ z. z.0.name) is ]
 
 first-only : {A : Type 0} (test : A → Bool) (os : List A) (o : A) → IsIn os o → ((p : A) → IsIn os p → test p ≡ true → p ≡ o) → test o ≡ true → find test os ≡ Some o
 first-only test [] o i only h = absurd i

@@ -1,6 +1,6 @@
 -- A change of one stored object as a change of the meter.
-use Rattle.std.proofs.Common.{◌≡◌, ◌+◌, ◌<◌, ℕ, zero, suc, refl, ap, ap₂, sym, subst, ◌∙◌, arith, Bool, true, false, ◌||◌, ◌&&◌, cond, Some, None, List, [], ◌∷◌, ◌++◌, flat_map, length, get_or, set, append_assoc}
-use Rattle.std.specs.Prelude.{option_map, Result, Ok, Err, OnErr}
+use Rattle.std.proofs.Common.{◌≡◌, ◌+◌, Option, ◌<◌, ℕ, zero, suc, refl, ap, ap₂, sym, subst, ◌∙◌, arith, Bool, true, false, ◌||◌, ◌&&◌, cond, Some, None, List, [], ◌∷◌, ◌++◌, flat_map, length, get_or, set, append_assoc}
+use Rattle.std.specs.Prelude.{option_map}
 use Rattle.std.proofs.lemmas.Bool.{cond-false, or_parts}
 use Rattle.std.specs.List.{list_any, position_from}
 use Rattle.cosem_data.specs.Tree.{Tree, array, no_trees}
@@ -10,7 +10,7 @@ use Rattle.cosem_data.specs.declared.name.LogicalName.{LogicalName}
 use Rattle.cosem_data.specs.declared.cell.CellRef.{CellRef}
 use Rattle.meter_theory.specs.Times.{clock_value}
 use Rattle.meter_theory.specs.State.{State, keys, value, put}
-use Rattle.meter_theory.specs.Plan.{buffer, entries_in_use}
+use Rattle.meter_theory.specs.Plan.{buffer, capture_objects, capture_period, entries_in_use, executed_script, execution_time}
 use Rattle.meter_theory.specs.Steps.{clear}
 use Rattle.meter_theory.specs.Value.{array_of, counter, elements}
 use Rattle.meter_theory.proofs.State.{keys-put}
@@ -21,8 +21,9 @@ use Rattle.object_model.specs.declared.stored.Stored.{Stored}
 use Rattle.object_model.specs.declared.undo.Change.{Change}
 use Rattle.object_model.specs.declared.undo.Change.TheVariants as changes
 use Rattle.class_control.specs.declared.monitor.MonitorChange.TheVariants as monitors
+use Rattle.class_control.specs.declared.schedule.ScheduleChange.TheVariants as schedules
 use Rattle.class_profile.specs.declared.profile.ProfileChange.TheVariants as profiles
-use Rattle.object_model.specs.Stored.{pairs_of, stored_pairs, stores}
+use Rattle.object_model.specs.Stored.{pair_if, pairs_of, stored_pairs, stores}
 use Rattle.object_model.specs.Undone.{change_undone, cell_changed}
 use Rattle.object_model.proofs.ByObject.{value-first, value-second}
 use Rattle.object_model.proofs.Stores.{nowhere-put, put-first, put-second, stored-name}
@@ -104,8 +105,27 @@ count-with_rows n m = at m.cells
     both true = refl
     both false = refl
 
+    both-of-four : (b : Bool) → ((b && false) || ((b && false) || ((b && false) || ((b && true) || false)))) ≡ ((b && true) || ((b && false) || ((b && false) || ((b && false) || false))))
+    both-of-four true = refl
+    both-of-four false = refl
+
     at : (c : Cells) → list_any (same_cell (entries_in_use n)) (keys (pairs_of m.name c)) ≡ list_any (same_cell (buffer n)) (keys (pairs_of m.name c))
-    at (cells.ProfileGeneric object) = both (same_name n m.name)
+    at (cells.ProfileGeneric object) = by (option_map tree object.capture_objects)
+      where
+        pairs : Option Tree → State
+        pairs o = (buffer m.name, array_of object.buffer) ∷ pair_if (capture_objects m.name) o ++ (capture_period m.name, counter object.capture_period) ∷ (entries_in_use m.name, counter object.entries_in_use) ∷ []
+
+        by : (o : Option Tree) → list_any (same_cell (entries_in_use n)) (keys (pairs o)) ≡ list_any (same_cell (buffer n)) (keys (pairs o))
+        by None = both (same_name n m.name)
+        by (Some objects) = both-of-four (same_name n m.name)
+    at (cells.SingleActionSchedule object) = by (option_map tree object.executed_script)
+      where
+        pairs : Option Tree → State
+        pairs o = pair_if (executed_script m.name) o ++ (execution_time m.name, tree object.times) ∷ []
+
+        by : (o : Option Tree) → list_any (same_cell (entries_in_use n)) (keys (pairs o)) ≡ list_any (same_cell (buffer n)) (keys (pairs o))
+        by None = refl
+        by (Some script) = refl
     at c = refl
 
 -- A change of the object as one of the whole
@@ -137,6 +157,7 @@ undone-between : (n : LogicalName) (change : Change) (a t b : State) → has (ce
 undone-between n (changes.Data held) a t b lacks there count = put-between a t b _ (tree held) lacks there
 undone-between n (changes.Register held) a t b lacks there count = put-between a t b _ (tree held) lacks there
 undone-between n (changes.ProfileGeneric (profiles.Period held)) a t b lacks there count = put-between a t b _ (counter held) lacks there
+undone-between n (changes.ProfileGeneric (profiles.Objects held)) a t b lacks there count = put-between a t b _ (tree held) lacks there
 undone-between n (changes.Clock held) a t b lacks there count = put-between a t b _ (clock_value held) lacks there
 undone-between n (changes.ProfileGeneric (profiles.Captured c)) a t b lacks there count =
     both-between a t b n (λ v. array_of (rows_before (option_map tree c.dropped) (elements v))) (λ w. counter c.entries_in_use) lacks (count refl).0 there (count refl).1
@@ -144,7 +165,8 @@ undone-between n (changes.ProfileGeneric (profiles.Cleared c)) a t b lacks there
     both-between a t b n (λ v. array_of c.buffer) (λ w. counter c.entries_in_use) lacks (count refl).0 there (count refl).1
 undone-between n (changes.RegisterMonitor (monitors.Thresholds held)) a t b lacks there count = put-between a t b _ (tree held) lacks there
 undone-between n (changes.RegisterMonitor (monitors.Seen held)) a t b lacks there count = put-between a t b _ (tree held) lacks there
-undone-between n (changes.SingleActionSchedule held) a t b lacks there count = put-between a t b _ (tree held) lacks there
+undone-between n (changes.SingleActionSchedule (schedules.Script held)) a t b lacks there count = put-between a t b _ (tree held) lacks there
+undone-between n (changes.SingleActionSchedule (schedules.Times held)) a t b lacks there count = put-between a t b _ (tree held) lacks there
 
 -- what takes a change of the object back takes back that of the whole
 pub undone-in : (ms : List Stored) (x : CellRef) (k : ℕ) (d m : Stored) (n : LogicalName) (change : Change) → Split ms x k d → cell_changed n change ≡ x → keys (stored_pairs m) ≡ keys (stored_pairs (get_or ms k d)) →
@@ -180,24 +202,36 @@ same-name ms x k d s is = sym (stored-name x d (ap (stores x) is ∙ s.here))
 pub keys-both : (t : State) (x y : CellRef) (v w : Tree) → keys (put (put t x v) y w) ≡ keys t
 keys-both t x y v w = keys-put (put t x v) y w ∙ keys-put t x v
 
+-- and so does taking a change back
+pub keys-undone : (n : LogicalName) (change : Change) (s : State) → keys (change_undone n change s) ≡ keys s
+keys-undone n (changes.Data held) s = keys-put s _ (tree held)
+keys-undone n (changes.Register held) s = keys-put s _ (tree held)
+keys-undone n (changes.ProfileGeneric (profiles.Period held)) s = keys-put s _ (counter held)
+keys-undone n (changes.ProfileGeneric (profiles.Objects held)) s = keys-put s _ (tree held)
+keys-undone n (changes.ProfileGeneric (profiles.Captured c)) s = keys-both s (buffer n) (entries_in_use n) _ _
+keys-undone n (changes.ProfileGeneric (profiles.Cleared c)) s = keys-both s (buffer n) (entries_in_use n) _ _
+keys-undone n (changes.Clock held) s = keys-put s _ (clock_value held)
+keys-undone n (changes.RegisterMonitor (monitors.Thresholds held)) s = keys-put s _ (tree held)
+keys-undone n (changes.RegisterMonitor (monitors.Seen held)) s = keys-put s _ (tree held)
+keys-undone n (changes.SingleActionSchedule (schedules.Script held)) s = keys-put s _ (tree held)
+keys-undone n (changes.SingleActionSchedule (schedules.Times held)) s = keys-put s _ (tree held)
+
 -- the object as it was leaves the whole as it was
 pub same-in : (ms : List Stored) (x : CellRef) (k : ℕ) (d m : Stored) → Split ms x k d → stored_pairs m ≡ stored_pairs (get_or ms k d) → flat_map stored_pairs (set ms k m) ≡ flat_map stored_pairs ms
 same-in ms x k d m s is = s.written m ∙ ap (λ t. s.before ++ (t ++ s.behind)) is ∙ sym s.whole
-
-pub on_err : {A E : Type 0} (r : Result A E) {Q : Type 0} → Q → OnErr r Q
-on_err (Ok x) q = tt
-on_err (Err e) q = q
 
 pub changed-name : (n : LogicalName) (change : Change) → (cell_changed n change).name ≡ n
 changed-name n (changes.Data held) = refl
 changed-name n (changes.Register held) = refl
 changed-name n (changes.ProfileGeneric (profiles.Period held)) = refl
+changed-name n (changes.ProfileGeneric (profiles.Objects held)) = refl
 changed-name n (changes.ProfileGeneric (profiles.Captured c)) = refl
 changed-name n (changes.ProfileGeneric (profiles.Cleared c)) = refl
 changed-name n (changes.Clock held) = refl
 changed-name n (changes.RegisterMonitor (monitors.Thresholds held)) = refl
 changed-name n (changes.RegisterMonitor (monitors.Seen held)) = refl
-changed-name n (changes.SingleActionSchedule held) = refl
+changed-name n (changes.SingleActionSchedule (schedules.Script held)) = refl
+changed-name n (changes.SingleActionSchedule (schedules.Times held)) = refl
 
 -- a cell that nothing stores can't be put into
 pub absent : (ms : List Stored) (x : CellRef) (v : Tree) → position_from (stores x) 0 ms ≡ None → put (flat_map stored_pairs ms) x v ≡ flat_map stored_pairs ms
@@ -218,6 +252,7 @@ pub undone-nowhere : (ms : List Stored) (n : LogicalName) (change : Change) → 
 undone-nowhere ms n (changes.Data held) e = absent ms _ (tree held) e
 undone-nowhere ms n (changes.Register held) e = absent ms _ (tree held) e
 undone-nowhere ms n (changes.ProfileGeneric (profiles.Period held)) e = absent ms _ (counter held) e
+undone-nowhere ms n (changes.ProfileGeneric (profiles.Objects held)) e = absent ms _ (tree held) e
 undone-nowhere ms n (changes.Clock held) e = absent ms _ (clock_value held) e
 undone-nowhere ms n (changes.ProfileGeneric (profiles.Captured c)) e =
     ap (λ s. put s (entries_in_use n) (counter c.entries_in_use)) (absent ms (buffer n) _ e) ∙ absent ms (entries_in_use n) (counter c.entries_in_use) (count-nowhere ms n 0 e)
@@ -225,7 +260,8 @@ undone-nowhere ms n (changes.ProfileGeneric (profiles.Cleared c)) e =
     ap (λ s. put s (entries_in_use n) (counter c.entries_in_use)) (absent ms (buffer n) _ e) ∙ absent ms (entries_in_use n) (counter c.entries_in_use) (count-nowhere ms n 0 e)
 undone-nowhere ms n (changes.RegisterMonitor (monitors.Thresholds held)) e = absent ms _ (tree held) e
 undone-nowhere ms n (changes.RegisterMonitor (monitors.Seen held)) e = absent ms _ (tree held) e
-undone-nowhere ms n (changes.SingleActionSchedule held) e = absent ms _ (tree held) e
+undone-nowhere ms n (changes.SingleActionSchedule (schedules.Script held)) e = absent ms _ (tree held) e
+undone-nowhere ms n (changes.SingleActionSchedule (schedules.Times held)) e = absent ms _ (tree held) e
 
 pub clear-nowhere : (ms : List Stored) (n : LogicalName) → position_from (stores (buffer n)) 0 ms ≡ None → clear (flat_map stored_pairs ms) n ≡ flat_map stored_pairs ms
 clear-nowhere ms n e = ap (λ s. put s (entries_in_use n) (counter 0)) (absent ms (buffer n) (array no_trees) e) ∙ absent ms (entries_in_use n) (counter 0) (count-nowhere ms n 0 e)

@@ -13,8 +13,8 @@ use Rattle.meter_theory.specs.Lists.{IsIn}
 use Rattle.meter_theory.specs.Times.{Moment, IsMoment, is_moment, next_second, clock_moment, clock_value}
 use Rattle.meter_theory.specs.Value.{array_of, counter, elements, structure_of}
 use Rattle.meter_theory.specs.State.{State, keys, value, put}
-use Rattle.meter_theory.specs.Plan.{Plan, Object, clock_object, inner_clock, inner_start, start_of, clock_cell, cells, held, buffer, entries_in_use, clock_time}
-use Rattle.meter_theory.specs.Steps.{clear, buffer_after, in_use_after, Put, effects, kept, present, ticked, clock_set}
+use Rattle.meter_theory.specs.Plan.{Plan, Object, clock_object, inner_clock, inner_start, start_of, clock_cell, cells, held, data_value, register_value, buffer, capture_objects, capture_period, entries_in_use, clock_time, thresholds, seen, executed_script, execution_time}
+use Rattle.meter_theory.specs.Steps.{clear, buffer_after, in_use_after, Put, effects, kept, write, present, ticked, clock_set}
 use Rattle.meter_theory.proofs.Rights.{cell_of_object}
 use Rattle.meter_theory.proofs.Held.{keys-append, held-is, cell_apart, clock_found}
 use Rattle.meter_theory.proofs.Clock.{clock_moment-value, kept-value, true-moment}
@@ -25,8 +25,9 @@ use Rattle.object_model.specs.declared.stored.Stored.{Stored}
 use Rattle.object_model.specs.declared.undo.Change.{Change}
 use Rattle.object_model.specs.declared.undo.Change.TheVariants as changes
 use Rattle.class_control.specs.declared.monitor.MonitorChange.TheVariants as monitors
+use Rattle.class_control.specs.declared.schedule.ScheduleChange.TheVariants as schedules
 use Rattle.class_profile.specs.declared.profile.ProfileChange.TheVariants as profiles
-use Rattle.object_model.specs.Stored.{pairs_of, stored_pairs, inner_pairs, captured}
+use Rattle.object_model.specs.Stored.{pair_if, pairs_of, stored_pairs, inner_pairs, captured}
 use Rattle.object_model.specs.Undone.{change_undone}
 use Rattle.object_model.proofs.ByObject.{value-second}
 use Rattle.object_model.proofs.Stores.{put-second}
@@ -78,12 +79,14 @@ pub inner_undone : (s : State) (i : Option Moment) (n : LogicalName) (change : C
 inner_undone s i n (changes.Data held) = inner_put s i _ (tree held) refl
 inner_undone s i n (changes.Register held) = inner_put s i _ (tree held) refl
 inner_undone s i n (changes.ProfileGeneric (profiles.Period held)) = inner_put s i _ (counter held) refl
+inner_undone s i n (changes.ProfileGeneric (profiles.Objects held)) = inner_put s i _ (tree held) refl
 inner_undone s i n (changes.Clock held) = inner_put s i _ (clock_value held) (clock-apart n)
 inner_undone s i n (changes.ProfileGeneric (profiles.Captured c)) = inner_both s i n (λ v. array_of (rows_before (option_map tree c.dropped) (elements v))) (λ w. counter c.entries_in_use)
 inner_undone s i n (changes.ProfileGeneric (profiles.Cleared c)) = inner_both s i n (λ v. array_of c.buffer) (λ w. counter c.entries_in_use)
 inner_undone s i n (changes.RegisterMonitor (monitors.Thresholds held)) = inner_put s i _ (tree held) refl
 inner_undone s i n (changes.RegisterMonitor (monitors.Seen held)) = inner_put s i _ (tree held) refl
-inner_undone s i n (changes.SingleActionSchedule held) = inner_put s i _ (tree held) refl
+inner_undone s i n (changes.SingleActionSchedule (schedules.Script held)) = inner_put s i _ (tree held) refl
+inner_undone s i n (changes.SingleActionSchedule (schedules.Times held)) = inner_put s i _ (tree held) refl
 
 -- The keys
 
@@ -91,22 +94,32 @@ inner_undone s i n (changes.SingleActionSchedule held) = inner_put s i _ (tree h
 abbrev AreApart : List CellRef → Type 0
 AreApart xs = (x : CellRef) → IsIn xs x → same_cell inner_clock x ≡ false
 
+apart-nil : AreApart []
+apart-nil x none = absurd none
+
+apart-cons : (y : CellRef) (ys : List CellRef) → same_cell inner_clock y ≡ false → AreApart ys → AreApart (y ∷ ys)
+apart-cons y ys h k x (inl e) = ap (same_cell inner_clock) e ∙ h
+apart-cons y ys h k x (inr i) = k x i
+
 pairs-apart : (n : LogicalName) (c : Cells) → AreApart (keys (pairs_of n c))
-pairs-apart n (cells_of.Data object) x (inl e) = ap (same_cell inner_clock) e
-pairs-apart n (cells_of.Data object) x (inr none) = absurd none
-pairs-apart n (cells_of.Register object) x (inl e) = ap (same_cell inner_clock) e
-pairs-apart n (cells_of.Register object) x (inr none) = absurd none
-pairs-apart n (cells_of.ProfileGeneric object) x (inl e) = ap (same_cell inner_clock) e
-pairs-apart n (cells_of.ProfileGeneric object) x (inr (inl e)) = ap (same_cell inner_clock) e
-pairs-apart n (cells_of.ProfileGeneric object) x (inr (inr (inl e))) = ap (same_cell inner_clock) e
-pairs-apart n (cells_of.ProfileGeneric object) x (inr (inr (inr none))) = absurd none
-pairs-apart n (cells_of.Clock object) x (inl e) = ap (same_cell inner_clock) e ∙ clock-apart n
-pairs-apart n (cells_of.Clock object) x (inr none) = absurd none
-pairs-apart n (cells_of.RegisterMonitor object) x (inl e) = ap (same_cell inner_clock) e
-pairs-apart n (cells_of.RegisterMonitor object) x (inr (inl e)) = ap (same_cell inner_clock) e
-pairs-apart n (cells_of.RegisterMonitor object) x (inr (inr none)) = absurd none
-pairs-apart n (cells_of.SingleActionSchedule object) x (inl e) = ap (same_cell inner_clock) e
-pairs-apart n (cells_of.SingleActionSchedule object) x (inr none) = absurd none
+pairs-apart n (cells_of.Data object) = apart-cons (data_value n) [] refl apart-nil
+pairs-apart n (cells_of.Register object) = apart-cons (register_value n) [] refl apart-nil
+pairs-apart n (cells_of.ProfileGeneric object) = at (option_map tree object.capture_objects)
+  where
+    behind : AreApart (capture_period n ∷ entries_in_use n ∷ [])
+    behind = apart-cons (capture_period n) (entries_in_use n ∷ []) refl (apart-cons (entries_in_use n) [] refl apart-nil)
+
+    at : (o : Option Tree) →
+        AreApart (keys ((buffer n, array_of object.buffer) ∷ pair_if (capture_objects n) o ++ (capture_period n, counter object.capture_period) ∷ (entries_in_use n, counter object.entries_in_use) ∷ []))
+    at None = apart-cons (buffer n) (capture_period n ∷ entries_in_use n ∷ []) refl behind
+    at (Some v) = apart-cons (buffer n) (capture_objects n ∷ capture_period n ∷ entries_in_use n ∷ []) refl (apart-cons (capture_objects n) (capture_period n ∷ entries_in_use n ∷ []) refl behind)
+pairs-apart n (cells_of.Clock object) = apart-cons (clock_time n) [] (clock-apart n) apart-nil
+pairs-apart n (cells_of.RegisterMonitor object) = apart-cons (thresholds n) (seen n ∷ []) refl (apart-cons (seen n) [] refl apart-nil)
+pairs-apart n (cells_of.SingleActionSchedule object) = at (option_map tree object.executed_script)
+  where
+    at : (o : Option Tree) → AreApart (keys (pair_if (executed_script n) o ++ (execution_time n, tree object.times) ∷ []))
+    at None = apart-cons (execution_time n) [] refl apart-nil
+    at (Some v) = apart-cons (executed_script n) (execution_time n ∷ []) refl (apart-cons (execution_time n) [] refl apart-nil)
 
 apart-append : (xs ys : List CellRef) → AreApart xs → AreApart ys → AreApart (xs ++ ys)
 apart-append [] ys h k y i = k y i
@@ -174,6 +187,10 @@ pub if_ok-more : {X E : Type 0} {P Q : X → Type 0} (r : Result X E) → IfOk r
 if_ok-more (Ok x) p f = f x p
 if_ok-more (Err e) p f = p
 
+pub all_ok : {X E C : Type 0} {A B Q : X → Type 0} (r : Result X E) → OnOk r C → IfOk r A → IfOk r B → ((x : X) → C → A x → B x → Q x) → IfOk r Q
+all_ok (Ok x) p a b f = f x p a b
+all_ok (Err e) p a b f = a
+
 pub on_err-more : {X E P Q : Type 0} (r : Result X E) → OnErr r P → (P → Q) → OnErr r Q
 on_err-more (Ok x) p f = p
 on_err-more (Err e) p f = f p
@@ -238,7 +255,7 @@ module _ (P : Plan) (s : State) (ms : List Stored) (i : Option Moment) (view : f
   inner_ticked t is =
       inner_turned t (next_second t) is
       ∙ ap (λ u. put s inner_clock (kept inner_clock (clock_value (next_second u)))) (inner_present t is)
-      ∙ ap (λ o. put s (clock_cell o) (kept (clock_cell o) (clock_value (next_second (present P s))))) (sym (no_clock t is))
+      ∙ ap (λ o. write s (clock_cell o) (clock_value (next_second (present P s)))) (sym (no_clock t is))
 
   pub inner_set : (t u : Moment) → i ≡ Some t → IsMoment u → flat_map stored_pairs ms ++ inner_pairs (Some u) ≡ effects P s (clock_set (clock_object P) u)
   inner_set t u is moment =
@@ -272,4 +289,4 @@ module _ (P : Plan) (s : State) (ms : List Stored) (i : Option Moment) (view : f
       (inner_put (flat_map stored_pairs ms) i (clock_time o.name) _ (clock-apart o.name)) view done
       ∙ ap (λ t. put s (clock_time o.name) (clock_value (next_second t))) (told_present o is)
       ∙ ap (put s (clock_time o.name)) (sym (kept-value (clock_time o.name) (next_second (present P s))))
-      ∙ ap (λ c. put s (clock_cell c) (kept (clock_cell c) (clock_value (next_second (present P s))))) (sym is)
+      ∙ ap (λ c. write s (clock_cell c) (clock_value (next_second (present P s)))) (sym is)

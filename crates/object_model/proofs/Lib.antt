@@ -15,3 +15,4 @@ mod Aligned
 mod Changed
 mod Kept
 pub mod Inner
+mod Columns

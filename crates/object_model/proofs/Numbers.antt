@@ -7,11 +7,14 @@ use Rattle.std.proofs.lemmas.List.{map-append, length-map}
 use Rattle.std.proofs.lemmas.List.Folds.{length-flat_map-take}
 use Rattle.std.proofs.lemmas.Option.{get_or_from_slice_get}
 use Rattle.cosem_data.specs.Cells.{same_cell, same_name}
+use Rattle.cosem_data.specs.Tree.{Tree, array, no_trees}
 use Rattle.cosem_data.specs.declared.name.LogicalName.{LogicalName}
 use Rattle.cosem_data.specs.declared.cell.CellRef.{CellRef}
 use Rattle.cosem_data.proofs.Same.{same_cell-true, same_cell-refl, same_name-true}
 use Rattle.meter_theory.specs.Lists.{IsIn, AreDistinct}
-use Rattle.meter_theory.specs.Plan.{Plan, Object, Part, Data1, Register, ProfileGeneric, Clock, ScriptTable, RegisterMonitor, SingleActionSchedule, start_of, cells, object_at}
+use Rattle.meter_theory.specs.Value.{counter}
+use Rattle.meter_theory.specs.Menus.{Choice, has_menu, capture_objects_value, script_ref_value}
+use Rattle.meter_theory.specs.Plan.{Plan, Object, Part, Data1, Register, ProfileGeneric, Clock, ScriptTable, RegisterMonitor, SingleActionSchedule, start_of, start_of_choice, cells, object_at, buffer, capture_objects, capture_period, entries_in_use, executed_script, execution_time}
 use Rattle.meter_theory.specs.Sound.{IsSound}
 use Rattle.meter_theory.specs.State.{State, keys}
 use Rattle.meter_theory.specs.declared.limits.TheConstants.{OBJECTS}
@@ -118,24 +121,41 @@ unplaced P x none = nowhere (same_cell x) (cells P) 0 (cell-none P x none)
 
 -- How many cells there are
 
-pub few-own : (n : LogicalName) (p : Part) → length (start_of n p) ≤ 3
+few-choice : {A : Type 0} (x : CellRef) (value_of : A → Tree) (c : Choice A) → length (start_of_choice x value_of c) ≤ 1
+few-choice x value_of c = at (has_menu c)
+  where
+    at : (b : Bool) → length {A = CellRef × Tree} (cond b ((x, value_of c.configured) ∷ []) []) ≤ 1
+    at true = omega arith
+    at false = omega arith
+
+pub few-own : (n : LogicalName) (p : Part) → length (start_of n p) ≤ 4
 few-own n (Data1 start) = omega arith
 few-own n (Register start default scaler_unit) = omega arith
-few-own n (ProfileGeneric captured period entries) = omega arith
+few-own n (ProfileGeneric captured period entries) =
+    omega (
+      arith,
+      few-choice (capture_objects n) capture_objects_value captured,
+      length-append (start_of_choice (capture_objects n) capture_objects_value captured) ((capture_period n, counter period) ∷ (entries_in_use n, counter 0) ∷ []),
+    )
 few-own n (Clock first) = omega arith
 few-own n (ScriptTable scripts) = omega arith
 few-own n (RegisterMonitor monitored th actions) = omega arith
-few-own n (SingleActionSchedule script type times) = omega arith
+few-own n (SingleActionSchedule script type times) =
+    omega (
+      arith,
+      few-choice (executed_script n) script_ref_value script,
+      length-append (start_of_choice (executed_script n) script_ref_value script) ((execution_time n, times) ∷ []),
+    )
 
-few-all : (os : List Object) → length (all os) ≤ 3 * length os
+few-all : (os : List Object) → length (all os) ≤ 4 * length os
 few-all [] = omega arith
 few-all (o ∷ os) = omega (arith, length-append (start_of o.name o.part) (all os), few-own o.name o.part, few-all os)
 
-pub few-cells : (os : List Object) → length (keys (all os)) ≤ 3 * length os
+pub few-cells : (os : List Object) → length (keys (all os)) ≤ 4 * length os
 few-cells os = omega (arith, length-map (all os) (λ e. e.0), few-all os)
 
 -- those of an object and of those before it are among them
-pub few-before : (os : List Object) (k : ℕ) (d : Object) → k < length os → (place_of os k).first_cell + length (own (get_or os k d)) ≤ 3 * length os
+pub few-before : (os : List Object) (k : ℕ) (d : Object) → k < length os → (place_of os k).first_cell + length (own (get_or os k d)) ≤ 4 * length os
 few-before os k d h =
     let whole = length-flat_map-take (λ o. start_of o.name o.part) os k d h in
     omega (arith, whole, few-all os, length-map (all (take k os)) (λ e. e.0), length-map (start_of (get_or os k d).name (get_or os k d).part) (λ e. e.0))
@@ -145,7 +165,7 @@ few-before os k d h =
 -- an object of a plan, and its place
 pub record IsPlaced (P : Plan) (x : CellRef) (o : Object) (place : Place) : Type 0 where
   pub number : position_from (same_cell x) 0 (cells P) ≡ option_map (λ j. place.first_cell + j) (position_from (same_cell x) 0 (own o))
-  pub few : place.first_cell + length (own o) ≤ 3 * OBJECTS
+  pub few : place.first_cell + length (own o) ≤ 4 * OBJECTS
 
 pub is-placed : (P : Plan) (x : CellRef) (o : Object) (place : Place) → IsSound P → Some o ≡ object_at P x.name →
     Some place ≡ option_map (place_of P.objects) (position_from (λ o. same_name o.name x.name) 0 P.objects) → IsPlaced P x o place
@@ -187,25 +207,54 @@ own-distinct : (n : LogicalName) (p : Part) → AreDistinct (keys (start_of n p)
 own-distinct n (Data1 start) = ((λ i. i), tt)
 own-distinct n (Register start default scaler_unit) = ((λ i. i), tt)
 own-distinct n (Clock first) = ((λ i. i), tt)
-own-distinct n (ProfileGeneric captured period entries) = (
-  (λ i. elim i [ inl e ↦ index (ap (λ z. z.index) e) | inr j ↦ elim j [ inl e ↦ index-2 (ap (λ z. z.index) e) | inr m ↦ m ] ]),
-  ((λ i. elim i [ inl e ↦ index-3 (ap (λ z. z.index) e) | inr j ↦ j ]), ((λ i. i), tt)),
-)
+own-distinct n (ProfileGeneric captured period entries) = at (has_menu captured)
   where
-    index : ◌≡◌ {A = ℕ} 2 4 → ⊥
-    index e = omega (arith, e)
+    index-23 : ◌≡◌ {A = ℕ} 2 3 → ⊥
+    index-23 e = omega (arith, e)
 
-    index-2 : ◌≡◌ {A = ℕ} 2 7 → ⊥
-    index-2 e = omega (arith, e)
+    index-24 : ◌≡◌ {A = ℕ} 2 4 → ⊥
+    index-24 e = omega (arith, e)
 
-    index-3 : ◌≡◌ {A = ℕ} 4 7 → ⊥
-    index-3 e = omega (arith, e)
+    index-27 : ◌≡◌ {A = ℕ} 2 7 → ⊥
+    index-27 e = omega (arith, e)
+
+    index-34 : ◌≡◌ {A = ℕ} 3 4 → ⊥
+    index-34 e = omega (arith, e)
+
+    index-37 : ◌≡◌ {A = ℕ} 3 7 → ⊥
+    index-37 e = omega (arith, e)
+
+    index-47 : ◌≡◌ {A = ℕ} 4 7 → ⊥
+    index-47 e = omega (arith, e)
+
+    last : AreDistinct (capture_period n ∷ entries_in_use n ∷ [])
+    last = ((λ i. elim i [ inl e ↦ index-47 (ap (λ z. z.index) e) | inr j ↦ j ]), ((λ i. i), tt))
+
+    at : (b : Bool) →
+        AreDistinct (keys ((buffer n, array no_trees) ∷ cond b ((capture_objects n, capture_objects_value captured.configured) ∷ []) []
+        ++ (capture_period n, counter period) ∷ (entries_in_use n, counter 0) ∷ []))
+    at true = (
+      (λ i. elim i [
+        | inl e ↦ index-23 (ap (λ z. z.index) e)
+        | inr j ↦
+            elim j [ inl e ↦ index-24 (ap (λ z. z.index) e) | inr k ↦ elim k [ inl e ↦ index-27 (ap (λ z. z.index) e) | inr m ↦ m ] ]
+      ]),
+      ((λ i. elim i [ inl e ↦ index-34 (ap (λ z. z.index) e) | inr j ↦ elim j [ inl e ↦ index-37 (ap (λ z. z.index) e) | inr m ↦ m ] ]), last),
+    )
+    at false = ((λ i. elim i [ inl e ↦ index-24 (ap (λ z. z.index) e) | inr j ↦ elim j [ inl e ↦ index-27 (ap (λ z. z.index) e) | inr m ↦ m ] ]), last)
 own-distinct n (ScriptTable scripts) = tt
 own-distinct n (RegisterMonitor monitored th actions) = ((λ i. elim i [ inl e ↦ index (ap (λ z. z.index) e) | inr j ↦ j ]), ((λ i. i), tt))
   where
     index : ◌≡◌ {A = ℕ} 2 0 → ⊥
     index e = omega (arith, e)
-own-distinct n (SingleActionSchedule script type times) = ((λ i. i), tt)
+own-distinct n (SingleActionSchedule script type times) = at (has_menu script)
+  where
+    index : ◌≡◌ {A = ℕ} 2 4 → ⊥
+    index e = omega (arith, e)
+
+    at : (b : Bool) → AreDistinct (keys (cond b ((executed_script n, script_ref_value script.configured) ∷ []) [] ++ (execution_time n, times) ∷ []))
+    at true = ((λ i. elim i [ inl e ↦ index (ap (λ z. z.index) e) | inr j ↦ j ]), ((λ i. i), tt))
+    at false = ((λ i. i), tt)
 
 all-distinct : (os : List Object) → AreDistinct (names_of os) → AreDistinct (keys (all os))
 all-distinct [] d = tt
@@ -234,5 +283,5 @@ pub cells-apart : (P : Plan) → IsSound P → (i j : ℕ) (x y : CellRef) → s
 cells-apart P sound i j x y h g same =
     one-place (cells P) (all-distinct P.objects sound.names) i j y (h ∙ ap Some (same_cell-true x y same)) g
 
-pub cells-few : (P : Plan) → IsSound P → length (cells P) ≤ 3 * OBJECTS
+pub cells-few : (P : Plan) → IsSound P → length (cells P) ≤ 4 * OBJECTS
 cells-few P sound = omega (arith, few-cells P.objects, sound.few_objects)

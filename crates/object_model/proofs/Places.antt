@@ -5,8 +5,12 @@ use Rattle.std.proofs.lemmas.List.{take_more, length-map, get_or_append_left}
 use Rattle.std.proofs.lemmas.Grind.{flat_map-append}
 use Rattle.std.proofs.lemmas.Bool.{cases_lt}
 use Rattle.std.proofs.lemmas.List.Filters.{length-filter_more}
+use Rattle.cosem_data.specs.Tree.{Tree, array, no_trees}
 use Rattle.cosem_data.specs.declared.name.LogicalName.{LogicalName}
-use Rattle.meter_theory.specs.Plan.{Object, Part, ScriptTable, class_of, start_of}
+use Rattle.cosem_data.specs.declared.cell.CellRef.{CellRef}
+use Rattle.meter_theory.specs.Value.{counter}
+use Rattle.meter_theory.specs.Menus.{has_menu, capture_objects_value, script_ref_value}
+use Rattle.meter_theory.specs.Plan.{Object, Part, Data1, Register, ProfileGeneric, Clock, ScriptTable, RegisterMonitor, SingleActionSchedule, class_of, start_of, buffer, capture_objects, capture_period, entries_in_use, executed_script, execution_time}
 use Rattle.object_model.specs.Tables.{has_cells, with_cells, place_of}
 use Rattle.object_model.specs.declared.place.Place.{Place}
 
@@ -17,12 +21,28 @@ pub record ArePlaced (objects : List Object) (places : List Place) (next : Place
   pub owner : next.owner ≡ (place_of objects number).owner
   pub first_cell : next.first_cell ≡ (place_of objects number).first_cell
   pub few : next.owner ≤ number
-  pub cells : next.first_cell ≤ number * 3
+  pub cells : next.first_cell ≤ number * 4
 
 -- an object has cells where their number is not 0
 counted : (n : LogicalName) (p : Part) → ◌≡◌ {A = ℕ} (cond (not (class_of p == 9)) 1 0) (cond (length (start_of n p) == 0) 0 1)
+counted n (Data1 start) = refl
+counted n (Register start default scaler_unit) = refl
+counted n (ProfileGeneric captured period entries) = at (has_menu captured)
+  where
+    at : (b : Bool) →
+        ◌≡◌ {A = ℕ} 1
+        (cond (length {A = CellRef × Tree} ((buffer n, array no_trees) ∷ cond b ((capture_objects n, capture_objects_value captured.configured) ∷ []) []
+        ++ (capture_period n, counter period) ∷ (entries_in_use n, counter 0) ∷ []) == 0) 0 1)
+    at true = refl
+    at false = refl
+counted n (Clock first) = refl
 counted n (ScriptTable scripts) = refl
-counted n p = refl
+counted n (RegisterMonitor monitored th actions) = refl
+counted n (SingleActionSchedule script type times) = at (has_menu script)
+  where
+    at : (b : Bool) → ◌≡◌ {A = ℕ} 1 (cond (length {A = CellRef × Tree} (cond b ((executed_script n, script_ref_value script.configured) ∷ []) [] ++ (execution_time n, times) ∷ []) == 0) 0 1)
+    at true = refl
+    at false = refl
 
 pub owner-more : (os : List Object) (i cells : ℕ) (d : Object) → i < length os → cells ≡ length (start_of (get_or os i d).name (get_or os i d).part) →
     (place_of os (i + 1)).owner ≡ (place_of os i).owner + cond (cells == 0) 0 1
@@ -51,7 +71,7 @@ same_place a b o f = ap₂ (λ x y. record { owner = x; first_cell = y }) o f
 
 -- one object more
 pub placed-more : (os : List Object) (places after : List Place) (next later : Place) (i cells : ℕ) (d : Object) → i < length os → d ≡ get_or os i d →
-    ArePlaced os places next i → after ≡ places ++ next ∷ [] → ((n : LogicalName) → cells ≡ length (start_of n d.part)) → cells ≤ 3 →
+    ArePlaced os places next i → after ≡ places ++ next ∷ [] → ((n : LogicalName) → cells ≡ length (start_of n d.part)) → cells ≤ 4 →
     later.owner ≡ next.owner + cond (cells == 0) 0 1 → later.first_cell ≡ next.first_cell + cells → ArePlaced os after later (i + 1)
 placed-more os places after next later i cells d h is so_far items number few owner first = record {
   size = ap length items ∙ length-append places (next ∷ []) ∙ ap (λ n. n + 1) so_far.size;

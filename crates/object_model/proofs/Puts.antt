@@ -6,7 +6,7 @@ use Rattle.std.proofs.lemmas.Bool.{and_parts}
 use Rattle.cosem_data.specs.Tree.{Tree}
 use Rattle.cosem_data.specs.declared.cell.CellRef.{CellRef}
 use Rattle.meter_theory.specs.Lists.{IsIn}
-use Rattle.meter_theory.specs.Value.{valid_tag, valid_parts, is_within_limits}
+use Rattle.meter_theory.specs.Value.{valid_tag, valid_content, is_within_limits}
 use Rattle.meter_theory.specs.State.{State}
 use Rattle.meter_theory.specs.Plan as theory
 use Rattle.meter_theory.specs.Plan.{object_at, class_of, rule_in, rule_of, cells}
@@ -17,7 +17,7 @@ use Rattle.meter_theory.proofs.Rights.{ruled-cell}
 -- a value that may stand in a cell is put into a cell of the state
 pub put-is-there : (P : theory.Plan) (s : State) (x : CellRef) (v : Tree) → IsState P s → MayStand P x v → IsIn (cells P) x
 put-is-there P s x v k may =
-    (ruled-cell P x (Given v) (subst (λ r. has_valid_tag r (Given v) ≡ true) (sym may.1) (and_parts (valid_tag may.0 v) (is_within_limits v && valid_parts may.0 v) may.2).0))
+    (ruled-cell P x (Given v) (subst (λ r. has_valid_tag r (Given v) ≡ true) (sym may.1) (and_parts (valid_tag may.0 v) (is_within_limits v && valid_content may.0 v) may.2).0))
 
 -- a place that is found lies in the list
 pub position-within : {A : Type 0} (test : A → Bool) (i : ℕ) (xs : List A) (k : ℕ) → Some k ≡ position_from test i xs → k < i + length xs

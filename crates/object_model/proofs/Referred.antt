@@ -1,20 +1,21 @@
 -- That to which the objects of a sound plan refer.
-use Rattle.std.proofs.Common.{◌≡◌, ◌<◌, ◌∙◌, length, get_or, ℕ, Bool, true, refl, sym, ap, ap₂, subst, inl, inr, map, List, Option, Some, None}
+use Rattle.std.proofs.Common.{◌≡◌, ◌∙◌, ℕ, Bool, true, refl, sym, ap, ap₂, subst, inl, inr, map, List, Option, Some, None}
 use Rattle.std.specs.List.{position_from}
 use Rattle.std.specs.Prelude.{option_map, option_and_then, slice_get}
 use Rattle.std.proofs.lemmas.Bool.{false≢true}
 use Rattle.std.proofs.lemmas.Option.{slice_get-map}
-use Rattle.cosem_data.proofs.Same.{same_cell-refl, same_name-true}
+use Rattle.cosem_data.proofs.Same.{same_cell-refl}
 use Rattle.cosem_data.specs.Cells.{cell, same_cell, same_name}
 use Rattle.cosem_data.specs.Kinds.{kind_of}
 use Rattle.cosem_data.specs.declared.cell.CellRef.{CellRef}
 use Rattle.cosem_data.specs.declared.name.LogicalName.{LogicalName}
-use Rattle.meter_theory.specs.Edges.{scripts_named}
+use Rattle.meter_theory.specs.Edges.{captured_by, scripts_named}
 use Rattle.meter_theory.specs.Lists.{IsIn, for_some, some_passes}
 use Rattle.meter_theory.specs.Plan.{Plan, Object, Action, Script, Write, Invoke, Part, Data1, Register, ProfileGeneric, Clock, ScriptTable, RegisterMonitor, SingleActionSchedule, cells, object_at, start_values}
 use Rattle.meter_theory.specs.State.{value}
 use Rattle.meter_theory.specs.Sound.{IsSound, IsSoundPart, scripts_run_by}
 use Rattle.meter_theory.specs.Steps.{scripts_of, captures_in}
+use Rattle.meter_theory.specs.Menus.{alternatives}
 use Rattle.meter_theory.proofs.Lists.{from_map, from_flat_map, in_any}
 use Rattle.object_model.specs.Grants.{place_in}
 use Rattle.object_model.specs.InstanceView.{AtName}
@@ -45,7 +46,7 @@ reference-held : (P : Plan) → IsSound P → (o : Object) → IsIn P.objects o 
 reference-held P sound o there n (Data1 start) is i = absurd i
 reference-held P sound o there n (Register start default scaler_unit) is i = absurd i
 reference-held P sound o there n (ProfileGeneric captured period entries) is i =
-    let x = from_map (λ x. x.name) captured n i in
+    let x = from_map (λ x. x.name) (captured_by captured) n i in
     subst (IsHeld P) (sym x.2) (cell-held P x.0 (sound.captures o there _ (ap captures_in is) x.0 x.1).0)
 reference-held P sound o there n (Clock first) is i = absurd i
 reference-held P sound o there n (ScriptTable scripts) is i =
@@ -61,9 +62,9 @@ reference-held P sound o there n (RegisterMonitor monitored thresholds actions) 
 reference-held P sound o there n (RegisterMonitor monitored thresholds actions) is (inr i) =
     let r = from_map (λ r. r.table) (scripts_named actions) n i in
     subst (IsHeld P) (sym r.2) (passing-held P _ r.0.table (sound.references o there r.0 (subst (λ p. IsIn (scripts_run_by p) r.0) (sym is) r.1)))
-reference-held P sound o there n (SingleActionSchedule script type times) is (inl same) =
-    subst (IsHeld P) (sym same) (passing-held P _ script.table (sound.references o there script (subst (λ p. IsIn (scripts_run_by p) script) (sym is) (inl refl))))
-reference-held P sound o there n (SingleActionSchedule script type times) is (inr none) = absurd none
+reference-held P sound o there n (SingleActionSchedule script type times) is i =
+    let r = from_map (λ r. r.table) (alternatives script) n i in
+    subst (IsHeld P) (sym r.2) (passing-held P _ r.0.table (sound.references o there r.0 (subst (λ p. IsIn (scripts_run_by p) r.0) (sym is) r.1)))
 
 -- each reference of a sound plan has a number
 pub reference-placed : (P : Plan) → IsSound P → (o : Object) → IsIn P.objects o → (n : LogicalName) → IsIn (references o.part) n → (k : ℕ) × (place_in (map (λ o. o.name) P.objects) n ≡ Some k)
@@ -123,8 +124,6 @@ pub record IsReference (P : Plan) (n : LogicalName) (place k : ℕ) : Type 0 whe
   pub name : LogicalName
   pub there : slice_get (references_at P n) place ≡ Some name
   pub number : Some k ≡ position_from (λ o. same_name o.name name) 0 P.objects
-  pub within : k < length P.objects
-  pub named : (d : Object) → (get_or P.objects k d).name ≡ name
 
 pub is_reference : (P : Plan) (n : LogicalName) (number place k : ℕ) → Some number ≡ position_from (λ o. same_name o.name n) 0 P.objects →
     Some (Some k) ≡ option_map (λ m. position_from (λ o. same_name o.name m) 0 P.objects) (option_and_then (λ o. slice_get (references o.part) place) (slice_get P.objects number)) →
@@ -135,8 +134,7 @@ is_reference P n number place k from h = at (option_and_then (λ o. slice_get (r
     at None is g = cc
     at (Some m) is g =
         let number : Some k ≡ position_from (λ o. same_name o.name m) 0 P.objects = cc in
-        let at = first (λ o. same_name o.name m) P.objects k (sym number) in
-        record { name = m; there = is; number = number; within = at.within; named = λ d. same_name-true (get_or P.objects k d).name m (at.passes d) }
+        record { name = m; there = is; number = number }
 
 -- what a register monitor refers to first is what it watches
 pub watched : (P : Plan) (n : LogicalName) (part : Part) (m : CellRef) (source : AtName) → option_map (λ o. o.part) (object_at P n) ≡ Some part → Some m ≡ monitored_in part →

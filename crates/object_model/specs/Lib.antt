@@ -8,4 +8,5 @@ pub mod Grants
 pub mod Tables
 pub mod InstanceView
 pub mod Stored
+pub mod Present
 pub mod Undone

@@ -8,6 +8,7 @@ use Rattle.meter_theory.specs.State.{value}
 use Rattle.meter_theory.specs.Plan as theory
 use Rattle.meter_theory.specs.Plan.{start_values}
 use Rattle.cosem_class.specs.Parts.{data_part_of, register_part_of}
+use Rattle.class_profile.specs.PartView.{profile_part_of}
 use Rattle.class_control.specs.PartView.{clock_part_of, script_table_part_of, monitor_part_of, schedule_part_of}
 use Rattle.object_model.specs.declared.part.Part.{Part}
 use Rattle.object_model.specs.declared.part.Part.TheVariants as parts
@@ -16,7 +17,7 @@ use Rattle.object_model.specs.declared.part.Part.TheVariants as parts
 abbrev pub part_of : Part → theory.Part
 part_of (parts.Data part) = data_part_of part
 part_of (parts.Register part) = register_part_of part
-part_of (parts.ProfileGeneric part) = theory.ProfileGeneric part.captured.items part.capture_period part.profile_entries
+part_of (parts.ProfileGeneric part) = profile_part_of part
 part_of (parts.Clock part) = clock_part_of part
 part_of (parts.ScriptTable part) = script_table_part_of part
 part_of (parts.RegisterMonitor part) = monitor_part_of part

@@ -35,6 +35,10 @@ pub record ArePlaces (objects : List Object) (places : List Place) : Type 0 wher
 abbrev pub references_at : Plan → LogicalName → List LogicalName
 references_at P n = for_some (object_at P n) (λ o. references o.part)
 
+-- numbers of these names, each that of the first object with its name: own profile
+abbrev pub AreNumbers : Plan → List LogicalName → List ℕ → Type 0
+AreNumbers P names numbers = map Some numbers ≡ map (place_in (map (λ o. o.name) P.objects)) names
+
 -- for each object the numbers of those to which it refers: own profile
 abbrev pub AreReferences : List LogicalName → List Object → List (List ℕ) → Type 0
 AreReferences names objects numbers = map (map Some) numbers ≡ map (λ o. map (place_in names) (references o.part)) objects

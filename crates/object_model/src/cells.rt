@@ -61,6 +61,28 @@ pub fn clock_time(clock: LogicalName) -> CellRef
     cell(Clock::INTERFACE.class_id, clock, Clock::TIME)
 }
 
+/// Attribute 3 of a profile, capture_objects, a cell where there is a menu of them.
+pub fn capture_objects(profile: LogicalName) -> CellRef
+    ensures { result ≡ theory.capture_objects profile }
+{
+    cell(
+        Profile::INTERFACE.class_id,
+        profile,
+        Profile::CAPTURE_OBJECTS,
+    )
+}
+
+/// Attribute 2 of a single action schedule, executed_script, a cell where there is a menu of scripts.
+pub fn executed_script(schedule: LogicalName) -> CellRef
+    ensures { result ≡ theory.executed_script schedule }
+{
+    cell(
+        Schedule::INTERFACE.class_id,
+        schedule,
+        Schedule::EXECUTED_SCRIPT,
+    )
+}
+
 /// Attribute 2 of a register monitor, thresholds.
 pub fn thresholds(monitor: LogicalName) -> CellRef
     ensures { result ≡ theory.thresholds monitor }

@@ -4,15 +4,17 @@ ghost use Rattle.cosem_data.specs.View.{tree};
 ghost use Rattle.std.specs.List.{position_from};
 ghost use Rattle.cosem_data.specs.Cells.{cell, same_cell, same_name};
 ghost use Rattle.cosem_data.specs.Kinds.{kind_of};
+ghost use Rattle.cosem_data.specs.declared.name.LogicalName.{LogicalName as NameValue};
 ghost use Rattle.cosem_class.specs.Judged.{rule_answer};
 ghost use Rattle.meter_theory.specs.Fixed.{fixed_of};
 ghost use Rattle.meter_theory.specs.Plan.{cells, interface_at, is_cell, object_at, rule_of, start_values};
 ghost use Rattle.meter_theory.specs.Rights.{has_right, in_view, lists, may_read};
 ghost use Rattle.meter_theory.specs.State.{value};
 ghost use Rattle.meter_theory.specs.Steps.{captures_of};
+ghost use Rattle.class_profile.specs.PartView.{captures_of_part};
 ghost use Rattle.object_model.specs.Grants.{listed};
 ghost use Rattle.object_model.specs.PartView.{part_of, monitored_kind};
-ghost use Rattle.object_model.specs.Tables.{place_of, references_at};
+ghost use Rattle.object_model.specs.Tables.{AreNumbers, place_of, references_at};
 
 use crate::grants::is_granted;
 use crate::object::Object;
@@ -93,7 +95,7 @@ impl<'a> Instance<'a> {
 
     /// What the plan fixes of the profile with this name, or None where it has none.
     pub fn profile(&self) -> Option<&'a ProfilePart>
-        ensures { option_map (λ part. record { captured = part.now.captured.items; entries = part.now.profile_entries }) result
+        ensures { option_map (λ part. record { captured = captures_of_part part.now; entries = part.now.profile_entries }) result
             ≡ captures_of (object_at self.now.plan self.now.name) }
     {
         match self.object()?.part() {
@@ -113,18 +115,36 @@ impl<'a> Instance<'a> {
     }
 
     /// What the plan has at the name to which the object refers at this place, counted from 0, or None past the last: a
-    /// profile to its captured cells, a script table to the targets of its scripts' actions, a register monitor to its
-    /// monitored value and then to the scripts of its actions, a schedule to its script. It takes no search.
+    /// profile to the cells that it may capture, a script table to the targets of its scripts' actions, a register monitor to its
+    /// monitored value and then to the scripts of its actions, a schedule to the scripts that it may run. It takes no search.
     pub fn referred(&self, place: usize) -> Option<Instance<'a>>
         ensures { result ≡ option_map (λ name. record { plan = self.now.plan; name = name }) (slice_get (references_at self.now.plan self.now.name) place) }
     {
         let number = self.plan.reference(self.number?, place)?;
-        let name = self.plan.objects()[usize::from(number)].name();
-        Some(Instance {
-            plan: self.plan,
-            name,
+        Some(Instance::numbered(self.plan, number))
+    }
+
+    /// The numbers of all to which the object here refers, in its order; none where the plan has no object with this name.
+    pub(crate) fn references(&self) -> &'a [u16]
+        ensures { AreNumbers self.now.plan (references_at self.now.plan self.now.name) result.now }
+    {
+        match self.number {
+            Some(number) => self.plan.references(number),
+            None => &[],
+        }
+    }
+
+    /// What a plan has under this number, the first with its name.
+    pub(crate) fn numbered(plan: &'a Plan, number: u16) -> Self
+        requires { (name : NameValue) × (position_from (λ o. same_name o.name name) 0 plan.now.objects ≡ Some number) }
+        ensures { (name : NameValue) → position_from (λ o. same_name o.name name) 0 plan.now.objects ≡ Some number →
+            result ≡ record { plan = plan.now; name = name } }
+    {
+        Instance {
+            plan,
+            name: plan.objects()[usize::from(number)].name(),
             number: Some(number),
-        })
+        }
     }
 
     /// The kind of the value that the register monitor here watches, which is kept; that of null-data for any other object.

@@ -6,9 +6,9 @@ ghost use Rattle.meter_theory.specs.Plan.{Plan, cells};
 ghost use Rattle.meter_theory.specs.Sound.{IsSound};
 ghost use Rattle.meter_theory.specs.declared.limits.TheConstants.{OBJECTS};
 
-/// Each cell of a sound plan stands once in plan order, and there are three at most an object.
+/// Each cell of a sound plan stands once in plan order, and there are four at most an object.
 pub fn cells_are_apart()
     ensures apart { (P : Plan) → IsSound P → (i j : ℕ) (x y : CellRef) → slice_get (cells P) i ≡ Some x →
         slice_get (cells P) j ≡ Some y → same_cell x y ≡ true → i ≡ j }
-    ensures few { (P : Plan) → IsSound P → length (cells P) ≤ 3 * OBJECTS }
+    ensures few { (P : Plan) → IsSound P → length (cells P) ≤ 4 * OBJECTS }
 {}

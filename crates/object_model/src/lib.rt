@@ -10,6 +10,7 @@ pub mod held;
 mod index;
 pub mod instance;
 pub mod laws;
+pub mod menus;
 pub mod meter;
 pub mod object;
 pub mod part;

@@ -1,37 +1,46 @@
 //! A meter: a value for each cell of its plan.
-ghost use Rattle.std.specs.Prelude.{◌≡◌, ◌++◌, cond, flat_map, is_some, length, map, slice_get, true, false, None, Some, IfOk, IfSome, IfNone, IsOk, OnOk, OnErr};
+ghost use Rattle.std.specs.Prelude.{◌≡◌, ◌⊎◌, ◌++◌, cond, flat_map, is_some, map, option_map, slice_get, true, false, None, Some, IfOk, IfSome, IfNone, IsOk, OnOk, OnErr};
 ghost use Rattle.std.specs.List.{position_from};
 ghost use Rattle.cosem_data.specs.View.{tree};
 ghost use Rattle.cosem_data.specs.Tree.{null_data};
 ghost use Rattle.cosem_data.specs.declared.name.LogicalName.{LogicalName as NameValue};
-ghost use Rattle.meter_theory.specs.Lists.{some_passes};
+ghost use Rattle.meter_theory.specs.Lists.{IsIn, some_passes};
 ghost use Rattle.meter_theory.specs.Plan as plans;
 ghost use Rattle.meter_theory.specs.Plan.{cells, class_of, clock_object, held, is_cell, object_at};
 ghost use Rattle.meter_theory.specs.State as state;
 ghost use Rattle.meter_theory.specs.State.{keys, value};
 ghost use Rattle.meter_theory.specs.States.{IsState, MayStand, Fits};
 ghost use Rattle.meter_theory.specs.Steps as theory;
-ghost use Rattle.meter_theory.specs.Steps.{captures_of, clock_set, effects, kept, present, ticked};
+ghost use Rattle.meter_theory.specs.Steps.{captured_in, captures_of, clock_set, effects, kept, present, script_now, ticked};
 ghost use Rattle.meter_theory.specs.Times.{clock_moment, clock_value, next_second};
 ghost use Rattle.meter_theory.specs.Value.{Rule, meets};
 ghost use Rattle.class_profile.specs.ProfileClass.{is_buffer};
+ghost use Rattle.class_profile.specs.PartView.{captures_of_part};
+ghost use Rattle.class_profile.specs.declared.profile.ProfileChange.TheVariants as profiles;
+ghost use Rattle.class_control.specs.PartView.{schedule_part_of, scripts_of_part};
 ghost use Rattle.object_model.specs.EffectView.{effect_of, IsProfile, MayTake};
 ghost use Rattle.cosem_class.specs.Parts.{rule_watching};
 ghost use Rattle.object_model.specs.PartView.{part_of};
-ghost use Rattle.object_model.specs.Stored.{captured, held_tree, inner_pairs, is_rows, stored_pairs, stores};
-ghost use Rattle.object_model.specs.Tables.{references_at};
-ghost use Rattle.object_model.specs.Undone.{changed_cell, undone};
+ghost use Rattle.object_model.specs.Stored.{captured, held_tree, inner_pairs, is_rows, is_value, stored_pairs, stores};
+ghost use Rattle.object_model.specs.Present.{IsPlaced};
+ghost use Rattle.object_model.specs.Tables.{AreNumbers};
+ghost use Rattle.object_model.specs.Undone.{cell_changed, change_undone, profile_undone, undone};
 
-use crate::cells::{buffer, clock_time, is_named, seen};
+use crate::cells::{buffer, capture_objects, clock_time, executed_script, is_named, seen};
 use crate::effect::Effect;
 use crate::held::Held;
 use crate::instance::Instance;
+use crate::menus::{
+    Columns, PlacedScript, PresentScript, chosen_columns, chosen_script, configured_columns,
+    configured_script,
+};
 use crate::part::Part;
 use crate::plan::Plan;
 use crate::stored::Stored;
 use crate::undo::{Change, Undo};
 use civil_moment::moment::Moment;
-use class_profile::profile::{Cleared, ProfileChange, ProfilePart};
+use class_control::parts::SchedulePart;
+use class_profile::profile::{Cleared, Profile, ProfileChange, ProfilePart};
 use class_profile::rows::Rows;
 use cosem_class::class::Row;
 use cosem_data::cell::CellRef;
@@ -108,6 +117,8 @@ impl Meter {
         ensures found { IfSome result (λ held. held_tree held ≡ value self.now cell.now) }
         ensures rows { IfSome result (λ held. is_rows held ≡ true → cell.now.class_id ≡ 7) }
         ensures buffer { IfSome result (λ held. cell.now.class_id ≡ 7 → cell.now.index ≡ 2 → is_rows held ≡ true) }
+        ensures objects { IfSome result (λ held. cell.now.class_id ≡ 7 → cell.now.index ≡ 3 → is_value held ≡ true) }
+        ensures schedule { IfSome result (λ held. cell.now.class_id ≡ 22 → is_value held ≡ true) }
         ensures none { IfNone result (value self.now cell.now ≡ null_data) }
     {
         is_named(cell);
@@ -141,18 +152,55 @@ impl Meter {
         requires { keys self.old ≡ held plan.now }
         ensures { self.new ≡ undone undo self.old }
     {
-        let cell = undo.cell();
-        if let Some(place) = place_of(&plan.instance(&undo.name), &self.objects, &cell) {
-            restore_in(&mut self.objects, place, undo);
+        let Undo {
+            name,
+            change,
+            emptied,
+        } = undo;
+        self.take_back(plan, name, change);
+        if let Some(cleared) = emptied {
+            let cleared = Change::ProfileGeneric(ProfileChange::Cleared(cleared));
+            self.take_back(plan, name, cleared);
         }
     }
 
-    /// Puts a value that may stand in a settable cell, by the class of its object.
+    /// Takes a change of the object with this name back. Where nothing has the cell, nothing changes.
+    fn take_back(&mut self, plan: &Plan, name: LogicalName, change: Change)
+        requires { keys self.old ≡ held plan.now }
+        ensures { self.new ≡ change_undone name change self.old }
+    {
+        let cell = change.cell(name);
+        if let Some(place) = place_of(&plan.instance(&name), &self.objects, &cell) {
+            restore_in(&mut self.objects, place, name, change);
+        }
+    }
+
+    /// Puts a value that may stand in a settable cell, by the class of its object. Capture_objects of a profile are put as the
+    /// profile is emptied.
     fn put(&mut self, plan: &Plan, cell: &CellRef, given: Data) -> Undo
         requires of_plan { IsState plan.now self.old }
         requires fits { MayStand plan.now cell.now (tree given) }
-        ensures put { self.new ≡ state.put self.old cell.now (kept cell.now (tree given)) }
+        ensures put { self.new ≡ theory.write self.old cell.now (tree given) }
         ensures before { undone result self.new ≡ self.old }
+    {
+        if cell.class_id == Profile::INTERFACE.class_id && cell.index == Profile::CAPTURE_OBJECTS {
+            return self.choose(plan, cell.name, given);
+        }
+        let change = self.put_value(plan, cell, given);
+        Undo {
+            name: cell.name,
+            change,
+            emptied: None,
+        }
+    }
+
+    /// Puts a value that may stand in a cell, the same where a write of it empties nothing.
+    fn put_value(&mut self, plan: &Plan, cell: &CellRef, given: Data) -> Change
+        requires of_plan { IsState plan.now self.old }
+        requires fits { MayStand plan.now cell.now (tree given) }
+        requires other { theory.empties cell.now ≡ false }
+        ensures put { self.new ≡ state.put self.old cell.now (kept cell.now (tree given)) }
+        ensures before { change_undone cell.now.name result self.new ≡ self.old }
     {
         plan.known();
         let instance = plan.instance(&cell.name);
@@ -167,6 +215,37 @@ impl Meter {
         write_in(&mut self.objects, place, part, monitored, cell, given)
     }
 
+    /// Puts which cells a profile captures from now on: it is emptied, and then the value is put (IEC 62056-6-2, Profile
+    /// generic, capture_objects). It takes no memory, so both are done.
+    fn choose(&mut self, plan: &Plan, profile: LogicalName, objects: Data) -> Undo
+        requires of_plan { keys self.old ≡ held plan.now }
+        requires there { IsIn (cells plan.now) (plans.capture_objects profile) }
+        ensures put { self.new ≡ theory.write self.old (plans.capture_objects profile) (tree objects) }
+        ensures before { undone result self.new ≡ self.old }
+    {
+        let emptied = self.empty(plan, profile);
+        let change = self.put_objects(plan, profile, objects);
+        Undo {
+            name: profile,
+            change,
+            emptied: Some(emptied),
+        }
+    }
+
+    /// Puts which cells a profile captures from now on, and nothing else.
+    fn put_objects(&mut self, plan: &Plan, profile: LogicalName, objects: Data) -> Change
+        requires of_plan { keys self.old ≡ held plan.now }
+        requires there { IsIn (cells plan.now) (plans.capture_objects profile) }
+        ensures put { self.new ≡ state.put self.old (plans.capture_objects profile) (tree objects) }
+        ensures before { change_undone profile result self.new ≡ self.old }
+    {
+        let cell = capture_objects(profile);
+        let Some(place) = place_of(&plan.instance(&profile), &self.objects, &cell) else {
+            unreachable!();
+        };
+        put_objects_in(&mut self.objects, place, profile, objects)
+    }
+
     /// A register monitor remembers what it watches.
     fn remember(&mut self, plan: &Plan, monitor: LogicalName, now: Data) -> Undo
         requires of_plan { IsState plan.now self.old }
@@ -178,10 +257,15 @@ impl Meter {
         let Some(place) = place_of(&plan.instance(&monitor), &self.objects, &cell) else {
             unreachable!();
         };
-        remember_in(&mut self.objects, place, monitor, now)
+        let change = remember_in(&mut self.objects, place, monitor, now);
+        Undo {
+            name: monitor,
+            change,
+            emptied: None,
+        }
     }
 
-    /// A profile captures a row of the values of its captured cells (IEC 62056-6-2, Profile generic, capture).
+    /// A profile captures a row of the values of the cells that it captures now (IEC 62056-6-2, Profile generic, capture).
     fn capture(&mut self, alloc: Global, plan: &Plan, profile: LogicalName) -> Result<Undo, Memory>
         requires of_plan { IsState plan.now self.old }
         requires fits { IsProfile plan.now profile }
@@ -193,32 +277,102 @@ impl Meter {
         let Some(part) = instance.profile() else {
             unreachable!();
         };
-        let row = self.captured_values(alloc, &instance, &part.captured)?;
         let Some(place) = place_of(&instance, &self.objects, &buffer(profile)) else {
             unreachable!();
         };
-        capture_in(alloc, &mut self.objects, place, profile, part, row)
+        let columns = self.columns(&instance, part);
+        let row = self.captured_values(alloc, plan, columns.cells, columns.numbers)?;
+        let change = capture_in(alloc, &mut self.objects, place, profile, part, row)?;
+        Ok(Undo {
+            name: profile,
+            change,
+            emptied: None,
+        })
     }
 
-    /// A copy of the value of each captured cell of a profile, in order.
+    /// The cells that a profile captures now: those of the alternative that its capture_objects holds.
+    fn columns<'a>(&self, profile: &Instance<'a>, part: &'a ProfilePart) -> Columns<'a>
+        requires of_plan { IsState profile.now.plan self.now }
+        requires part { captures_of (object_at profile.now.plan profile.now.name)
+            ≡ Some (record { captured = captures_of_part part.now; entries = part.now.profile_entries }) }
+        ensures cells { result.cells.now ≡ captured_in self.now profile.now.name (captures_of_part part.now) }
+        ensures numbers { AreNumbers profile.now.plan (map (λ x. x.name) result.cells.now) result.numbers.now }
+    {
+        if !part.has_menu() {
+            return configured_columns(profile, part);
+        }
+        let objects = self.choice(profile, &capture_objects(profile.name()));
+        chosen_columns(profile, part, objects)
+    }
+
+    /// The value of an attribute that has a menu, capture_objects of a profile or executed_script of a schedule, where it stands.
+    fn choice(&self, instance: &Instance<'_>, cell: &CellRef) -> &Data
+        requires of_plan { IsState instance.now.plan self.now }
+        requires named { cell.now.name ≡ instance.now.name }
+        requires there { is_cell instance.now.plan cell.now ≡ true }
+        requires attribute { ((cell.now.class_id ≡ 7) × (cell.now.index ≡ 3)) ⊎ (cell.now.class_id ≡ 22) }
+        ensures { tree result.now ≡ value self.now cell.now }
+    {
+        let Some(held) = self.held(instance, cell) else {
+            unreachable!();
+        };
+        let Some(value) = held.value() else {
+            unreachable!();
+        };
+        value
+    }
+
+    /// A copy of the value of each of these cells, in order, which are of the objects with these numbers.
     fn captured_values(
         &self,
         alloc: Global,
-        profile: &Instance<'_>,
-        captured: &[CellRef],
+        plan: &Plan,
+        cells: &[CellRef],
+        numbers: &[u16],
     ) -> Result<Row, Memory>
-        requires of_plan { IsState profile.now.plan self.now }
-        requires referred { references_at profile.now.plan profile.now.name ≡ map (λ x. x.name) captured.now }
-        ensures { IfOk result (λ row. row ≡ map (value self.now) captured.now) }
+        requires of_plan { IsState plan.now self.now }
+        requires numbers { AreNumbers plan.now (map (λ x. x.name) cells.now) numbers.now }
+        ensures { IfOk result (λ row. row ≡ map (value self.now) cells.now) }
     {
-        let mut values = Vec::with_capacity(alloc, captured.len())?;
-        for (place, cell) in captured.iter().enumerate() {
-            let Some(column) = profile.referred(place) else {
-                unreachable!();
-            };
+        let mut values = Vec::with_capacity(alloc, cells.len())?;
+        for (place, cell) in cells.iter().enumerate() {
+            let column = Instance::numbered(plan, numbers[place]);
             values.push(self.value_at(alloc, &column, cell)?)?;
         }
         Ok(Items::new(values))
+    }
+
+    /// The script that a schedule runs now, that which its executed_script holds (IEC 62056-6-2, Single action schedule).
+    pub fn script_now<'a>(&self, schedule: &Instance<'a>, part: &SchedulePart) -> PresentScript<'a>
+        requires of_plan { IsState schedule.now.plan self.now }
+        requires part { option_map (λ o. o.part) (object_at schedule.now.plan schedule.now.name)
+            ≡ Some (schedule_part_of part.now) }
+        ensures table { result.table
+            ≡ record { plan = schedule.now.plan; name = (script_now self.now schedule.now.name (scripts_of_part part.now)).table } }
+        ensures script { result.script ≡ (script_now self.now schedule.now.name (scripts_of_part part.now)).script }
+    {
+        let present = self.placed_script(schedule, part);
+        let Some(table) = schedule.referred(present.place) else {
+            unreachable!();
+        };
+        PresentScript {
+            table,
+            script: present.script,
+        }
+    }
+
+    /// The same, by where its table stands among those to which the schedule refers.
+    fn placed_script(&self, schedule: &Instance<'_>, part: &SchedulePart) -> PlacedScript
+        requires of_plan { IsState schedule.now.plan self.now }
+        requires part { option_map (λ o. o.part) (object_at schedule.now.plan schedule.now.name)
+            ≡ Some (schedule_part_of part.now) }
+        ensures { IsPlaced (scripts_of_part part.now) (script_now self.now schedule.now.name (scripts_of_part part.now)) result }
+    {
+        if !part.has_menu() {
+            return configured_script(part);
+        }
+        let script = self.choice(schedule, &executed_script(schedule.name()));
+        chosen_script(part, script)
     }
 
     /// Empties a profile (IEC 62056-6-2, Profile generic, reset). Where the plan has none, nothing changes.
@@ -227,14 +381,25 @@ impl Meter {
         ensures cleared { self.new ≡ theory.clear self.old profile }
         ensures before { undone result self.new ≡ self.old }
     {
+        let cleared = self.empty(plan, profile);
+        Undo {
+            name: profile,
+            change: Change::ProfileGeneric(ProfileChange::Cleared(cleared)),
+            emptied: None,
+        }
+    }
+
+    /// The same, with what was there before.
+    fn empty(&mut self, plan: &Plan, profile: LogicalName) -> Cleared
+        requires { keys self.old ≡ held plan.now }
+        ensures cleared { self.new ≡ theory.clear self.old profile }
+        ensures before { profile_undone profile (profiles.Cleared result) self.new ≡ self.old }
+    {
         match place_of(&plan.instance(&profile), &self.objects, &buffer(profile)) {
             Some(place) => clear_in(&mut self.objects, place, profile),
-            None => Undo {
-                name: profile,
-                change: Change::ProfileGeneric(ProfileChange::Cleared(Cleared {
-                    buffer: Rows::none(),
-                    entries_in_use: 0,
-                })),
+            None => Cleared {
+                buffer: Rows::none(),
+                entries_in_use: 0,
             },
         }
     }
@@ -348,31 +513,43 @@ fn write_in(
     monitored: Kind,
     cell: &CellRef,
     given: Data,
-) -> Undo
+) -> Change
     requires place { position_from (stores cell.now) 0 objects.old.items ≡ Some place }
     requires class { class_of (part_of part.now) ≡ cell.now.class_id }
+    requires other { theory.empties cell.now ≡ false }
     requires fits { (rule : Rule) × (rule_watching monitored (part_of part.now) cell.now.index ≡ Some rule)
         × (meets rule (tree given) ≡ true) }
     ensures put { flat_map stored_pairs objects.new.items
         ≡ state.put (flat_map stored_pairs objects.old.items) cell.now (kept cell.now (tree given)) }
-    ensures before { undone result (flat_map stored_pairs objects.new.items) ≡ flat_map stored_pairs objects.old.items }
+    ensures before { change_undone cell.now.name result (flat_map stored_pairs objects.new.items)
+        ≡ flat_map stored_pairs objects.old.items }
 {
-    let change = objects[place].write(part, monitored, cell.index, given);
-    Undo {
-        name: cell.name,
-        change,
-    }
+    objects[place].write(part, monitored, cell.index, given)
+}
+
+/// The profile at this place captures other cells from now on.
+fn put_objects_in(
+    objects: &mut Vec<Stored>,
+    place: usize,
+    name: LogicalName,
+    captured: Data,
+) -> Change
+    requires place { position_from (stores (plans.capture_objects name)) 0 objects.old.items ≡ Some place }
+    ensures put { flat_map stored_pairs objects.new.items
+        ≡ state.put (flat_map stored_pairs objects.old.items) (plans.capture_objects name) (tree captured) }
+    ensures before { change_undone name result (flat_map stored_pairs objects.new.items) ≡ flat_map stored_pairs objects.old.items }
+{
+    objects[place].put_objects(captured)
 }
 
 /// The register monitor at this place remembers a value.
-fn remember_in(objects: &mut Vec<Stored>, place: usize, name: LogicalName, now: Data) -> Undo
+fn remember_in(objects: &mut Vec<Stored>, place: usize, name: LogicalName, now: Data) -> Change
     requires place { position_from (stores (plans.seen name)) 0 objects.old.items ≡ Some place }
     ensures put { flat_map stored_pairs objects.new.items
         ≡ state.put (flat_map stored_pairs objects.old.items) (plans.seen name) (tree now) }
-    ensures before { undone result (flat_map stored_pairs objects.new.items) ≡ flat_map stored_pairs objects.old.items }
+    ensures before { change_undone name result (flat_map stored_pairs objects.new.items) ≡ flat_map stored_pairs objects.old.items }
 {
-    let change = objects[place].remember(now);
-    Undo { name, change }
+    objects[place].remember(now)
 }
 
 /// The profile at this place captures a row.
@@ -383,27 +560,27 @@ fn capture_in(
     name: LogicalName,
     part: &ProfilePart,
     row: Row,
-) -> Result<Undo, Memory>
+) -> Result<Change, Memory>
     requires place { position_from (stores (plans.buffer name)) 0 objects.old.items ≡ Some place }
-    requires rows { is_buffer (length part.now.captured.items) part.now.profile_entries (value (flat_map stored_pairs objects.old.items) (plans.buffer name)) ≡ true }
+    requires rows { is_buffer (captures_of_part part.now) part.now.profile_entries
+        (value (flat_map stored_pairs objects.old.items) (plans.buffer name)) ≡ true }
     ensures ok { OnOk result (flat_map stored_pairs objects.new.items
         ≡ captured name part.now.profile_entries row (flat_map stored_pairs objects.old.items)) }
-    ensures before { IfOk result (λ undo. undone undo (flat_map stored_pairs objects.new.items)
+    ensures before { IfOk result (λ change. change_undone name change (flat_map stored_pairs objects.new.items)
         ≡ flat_map stored_pairs objects.old.items) }
     ensures err { OnErr result (flat_map stored_pairs objects.new.items ≡ flat_map stored_pairs objects.old.items) }
 {
-    let change = objects[place].capture(alloc, part, row)?;
-    Ok(Undo { name, change })
+    objects[place].capture(alloc, part, row)
 }
 
 /// The profile at this place is emptied.
-fn clear_in(objects: &mut Vec<Stored>, place: usize, name: LogicalName) -> Undo
+fn clear_in(objects: &mut Vec<Stored>, place: usize, name: LogicalName) -> Cleared
     requires place { position_from (stores (plans.buffer name)) 0 objects.old.items ≡ Some place }
     ensures cleared { flat_map stored_pairs objects.new.items ≡ theory.clear (flat_map stored_pairs objects.old.items) name }
-    ensures before { undone result (flat_map stored_pairs objects.new.items) ≡ flat_map stored_pairs objects.old.items }
+    ensures before { profile_undone name (profiles.Cleared result) (flat_map stored_pairs objects.new.items)
+        ≡ flat_map stored_pairs objects.old.items }
 {
-    let change = objects[place].clear();
-    Undo { name, change }
+    objects[place].clear()
 }
 
 /// The clock at this place goes on by a second.
@@ -416,11 +593,11 @@ fn tick_in(objects: &mut Vec<Stored>, place: usize, name: LogicalName)
 }
 
 /// Takes a change of the object at this place back.
-fn restore_in(objects: &mut Vec<Stored>, place: usize, undo: Undo)
-    requires place { position_from (stores (changed_cell undo)) 0 objects.old.items ≡ Some place }
-    ensures { flat_map stored_pairs objects.new.items ≡ undone undo (flat_map stored_pairs objects.old.items) }
+fn restore_in(objects: &mut Vec<Stored>, place: usize, name: LogicalName, change: Change)
+    requires place { position_from (stores (cell_changed name change)) 0 objects.old.items ≡ Some place }
+    ensures { flat_map stored_pairs objects.new.items ≡ change_undone name change (flat_map stored_pairs objects.old.items) }
 {
-    objects[place].restore(undo.change);
+    objects[place].restore(change);
 }
 
 fn copy_of(alloc: Global, objects: &[Stored]) -> Result<Vec<Stored>, Memory>

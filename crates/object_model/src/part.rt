@@ -104,7 +104,7 @@ impl Part {
     /// How many cells an object with this part has, what a register monitor has seen among them.
     pub(crate) fn number_of_cells(&self) -> u16
         ensures number { (name : LogicalNameValue) → result ≡ length (start_of name (part_of self.now)) }
-        ensures few { result ≤ 3 }
+        ensures few { result ≤ 4 }
     {
         self.cells().len() as u16
     }

@@ -1,4 +1,4 @@
-ghost use Rattle.std.specs.Prelude.{◌≡◌, ◌==◌, ◌<◌, ◌≤◌, ◌+◌, ◌^◌, ℕ, find, length, option_map, option_and_then, map, flat_map, IfOk, Some, slice_get};
+ghost use Rattle.std.specs.Prelude.{◌≡◌, ◌==◌, ◌<◌, ◌≤◌, ◌+◌, ◌^◌, ℕ, find, length, option_map, option_and_then, map, flat_map, IfOk, IfSome, Some, slice_get};
 ghost use Rattle.std.specs.List.{position_from};
 ghost use Rattle.std.specs.Str.{bytes_eq};
 ghost use Rattle.cosem_data.specs.Cells.{same_cell, same_name};
@@ -11,7 +11,7 @@ ghost use Rattle.object_model.specs.Grants.{AreMasksOf};
 ghost use Rattle.object_model.specs.PlanView.{plan_of};
 ghost use Rattle.object_model.specs.Stored.{stored_pairs};
 ghost use Rattle.cosem_class.specs.Parts.{references};
-ghost use Rattle.object_model.specs.Tables.{place_of};
+ghost use Rattle.object_model.specs.Tables.{AreNumbers, place_of};
 
 use crate::client::Client;
 use crate::grants::Grants;
@@ -220,6 +220,14 @@ impl Plan {
             ≡ option_map (λ name. position_from (λ o. same_name o.name name) 0 self.now.objects) (option_and_then (λ o. slice_get (references o.part) place) (slice_get self.now.objects object)) }
     {
         self.references.at(object, place)
+    }
+
+    /// The numbers of all to which the object with this number refers.
+    pub(crate) fn references(&self, object: u16) -> &[u16]
+        requires { object < length self.now.objects }
+        ensures { IfSome (slice_get self.now.objects object) (λ o. AreNumbers self.now (references o.part) result.now) }
+    {
+        self.references.of(object)
     }
 
     /// The objects, in plan order.

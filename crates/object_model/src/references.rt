@@ -1,5 +1,5 @@
 //! The objects to which parts refer, by their numbers: what a part names is looked for once, when its plan is made.
-ghost use Rattle.std.specs.Prelude.{◌≡◌, ℕ, map, option_and_then, slice_get, Some, IfOk};
+ghost use Rattle.std.specs.Prelude.{◌≡◌, ◌<◌, ℕ, length, map, option_and_then, slice_get, Some, IfOk};
 ghost use Rattle.cosem_data.specs.declared.name.LogicalName.{LogicalName as NameValue};
 ghost use Rattle.meter_theory.specs.Lists.{IsIn};
 ghost use Rattle.meter_theory.specs.Plan as theory;
@@ -54,6 +54,14 @@ impl References {
         ensures { result ≡ option_and_then (λ numbers. slice_get numbers place) (slice_get self.now object) }
     {
         self.numbers.get(usize::from(object))?.get(place).copied()
+    }
+
+    /// The numbers of all to which the object with this number refers.
+    pub(crate) fn of(&self, object: u16) -> &[u16]
+        requires { object < length self.now }
+        ensures { slice_get self.now object ≡ Some result.now }
+    {
+        &self.numbers[usize::from(object)]
     }
 }
 

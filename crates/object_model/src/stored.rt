@@ -1,23 +1,21 @@
 //! The objects of a meter: of each the cells of its class. The plan lends its part to each operation.
-ghost use Rattle.std.specs.Prelude.{◌≡◌, ◌++◌, length, true, Some, IfOk, IsOk, OnOk, OnErr};
+ghost use Rattle.std.specs.Prelude.{◌≡◌, ◌==◌, ◌&&◌, length, true, false, Some, IfOk, IsOk, OnOk, OnErr};
 ghost use Rattle.cosem_data.specs.View.{tree};
-ghost use Rattle.cosem_data.specs.Cells.{cell};
+ghost use Rattle.cosem_data.specs.Cells.{cell, same_name};
 ghost use Rattle.meter_theory.specs.Plan as theory;
 ghost use Rattle.meter_theory.specs.Plan.{class_of, start_of};
-ghost use Rattle.meter_theory.specs.State.{keys, put, value};
-ghost use Rattle.meter_theory.specs.Steps.{clear, kept};
+ghost use Rattle.meter_theory.specs.State.{put, value};
+ghost use Rattle.meter_theory.specs.Steps.{clear, empties, kept};
 ghost use Rattle.meter_theory.specs.Times.{clock_moment, clock_value, next_second};
 ghost use Rattle.meter_theory.specs.Value.{Rule, elements, meets};
 ghost use Rattle.class_profile.specs.ProfileClass.{is_buffer};
 ghost use Rattle.cosem_class.specs.Parts.{rule_watching};
+ghost use Rattle.class_profile.specs.PartView.{captures_of_part};
 ghost use Rattle.object_model.specs.PartView.{part_of};
-ghost use Rattle.object_model.specs.Stored.{captured, held_tree, is_rows, pairs_if, stored_pairs, stores};
-ghost use Rattle.object_model.specs.Undone.{cell_changed, change_undone};
+ghost use Rattle.object_model.specs.Stored.{captured, class_stored, has_index, held_tree, is_rows, is_value, pairs_if, stored_pairs, stores};
+ghost use Rattle.class_profile.specs.declared.profile.ProfileChange.TheVariants as profiles;
+ghost use Rattle.object_model.specs.Undone.{cell_changed, change_undone, profile_undone};
 
-use crate::cells::{
-    buffer, capture_period, clock_time, data_value, entries_in_use, execution_time, register_value,
-    seen, thresholds,
-};
 use crate::held::Held;
 use crate::object::Object;
 use crate::part::Part;
@@ -26,7 +24,7 @@ use civil_moment::moment::Moment;
 use class_control::clock::Clock;
 use class_control::monitor::{Monitor, MonitorChange, Watch};
 use class_control::schedule::Schedule;
-use class_profile::profile::{Profile, ProfileChange, ProfilePart};
+use class_profile::profile::{Cleared, Profile, ProfileChange, ProfilePart};
 use cosem_class::class::{Lent, Row};
 use cosem_class::data1::Data1;
 use cosem_class::register::Register;
@@ -101,18 +99,41 @@ impl Stored {
     pub(crate) fn has(&self, cell: &CellRef) -> bool
         ensures { result ≡ stores cell.now self.now }
     {
-        let name = self.name;
+        self.is_attribute(cell) && self.has_index(cell.index)
+    }
+
+    /// Whether the cell is named as one of the object.
+    fn is_attribute(&self, cell: &CellRef) -> bool
+        ensures { result ≡ ((cell.now.class_id == class_stored self.now.cells) && same_name cell.now.name self.now.name) }
+    {
+        cell.class_id == self.class_id() && cell.name == self.name
+    }
+
+    /// The class_id of its interface class (IEC 62056-6-2).
+    fn class_id(&self) -> u16
+        ensures { result ≡ class_stored self.now.cells }
+    {
         match &self.cells {
-            Cells::Data(_) => *cell == data_value(name),
-            Cells::Register(_) => *cell == register_value(name),
-            Cells::ProfileGeneric(_) => {
-                *cell == buffer(name)
-                    || *cell == capture_period(name)
-                    || *cell == entries_in_use(name)
-            }
-            Cells::Clock(_) => *cell == clock_time(name),
-            Cells::RegisterMonitor(_) => { *cell == thresholds(name) || *cell == seen(name) }
-            Cells::SingleActionSchedule(_) => *cell == execution_time(name),
+            Cells::Data(_) => Data1::INTERFACE.class_id,
+            Cells::Register(_) => Register::INTERFACE.class_id,
+            Cells::ProfileGeneric(_) => Profile::INTERFACE.class_id,
+            Cells::Clock(_) => Clock::INTERFACE.class_id,
+            Cells::RegisterMonitor(_) => Monitor::INTERFACE.class_id,
+            Cells::SingleActionSchedule(_) => Schedule::INTERFACE.class_id,
+        }
+    }
+
+    /// Whether it has a cell at this index, by its class.
+    fn has_index(&self, index: u8) -> bool
+        ensures { result ≡ has_index self.now.cells index }
+    {
+        match &self.cells {
+            Cells::Data(_) => index == Data1::VALUE,
+            Cells::Register(_) => index == Register::VALUE,
+            Cells::ProfileGeneric(object) => object.has(index),
+            Cells::Clock(object) => object.has(index),
+            Cells::RegisterMonitor(object) => object.has(index),
+            Cells::SingleActionSchedule(object) => object.has(index),
         }
     }
 
@@ -122,30 +143,27 @@ impl Stored {
         ensures value { held_tree result ≡ value (stored_pairs self.now) cell.now }
         ensures rows { is_rows result ≡ true → cell.now.class_id ≡ 7 }
         ensures buffer { cell.now.class_id ≡ 7 → cell.now.index ≡ 2 → is_rows result ≡ true }
+        ensures objects { cell.now.class_id ≡ 7 → cell.now.index ≡ 3 → is_value result ≡ true }
+        ensures schedule { cell.now.class_id ≡ 22 → is_value result ≡ true }
     {
         match &self.cells {
             Cells::Data(object) => Held::Value(&object.value),
             Cells::Register(object) => Held::Value(&object.value),
-            Cells::ProfileGeneric(object) => match cell.index {
-                Profile::BUFFER => Held::Rows(&object.buffer),
-                Profile::CAPTURE_PERIOD => Held::Number(object.capture_period),
-                _ => Held::Number(object.entries_in_use),
-            },
-            Cells::Clock(object) => Held::Time(object.time),
-            Cells::RegisterMonitor(object) => match cell.index {
-                Monitor::THRESHOLDS => Held::Value(&object.thresholds),
-                _ => Held::Value(&object.seen),
-            },
-            Cells::SingleActionSchedule(object) => Held::Value(&object.times),
+            Cells::ProfileGeneric(object) => Held::from(object.held(cell.index)),
+            Cells::Clock(object) => Held::Time(object.held()),
+            Cells::RegisterMonitor(object) => Held::Value(object.held(cell.index)),
+            Cells::SingleActionSchedule(object) => Held::Value(object.held(cell.index)),
         }
     }
 
     /// Writes a value that may stand in the cell at this index, by the object's class, to which the plan lends this part
-    /// and the kind that a register monitor watches.
+    /// and the kind that a register monitor watches. A profile's capture_objects are put by
+    /// `put_objects`.
     pub(crate) fn write(&mut self, part: &Part, monitored: Kind, index: u8, given: Data) -> Change
         requires fits { (rule : Rule) × (rule_watching monitored (part_of part.now) index ≡ Some rule)
             × (meets rule (tree given) ≡ true) }
         requires stored { stores (cell (class_of (part_of part.now)) self.old.name index) self.old ≡ true }
+        requires other { empties (cell (class_of (part_of part.now)) self.old.name index) ≡ false }
         ensures name { self.new.name ≡ self.old.name }
         ensures put { stored_pairs self.new
             ≡ put (stored_pairs self.old) (cell (class_of (part_of part.now)) self.old.name index) (kept (cell (class_of (part_of part.now)) self.old.name index) (tree given)) }
@@ -209,6 +227,22 @@ impl Stored {
         }
     }
 
+    /// Puts which cells a profile captures from now on, and nothing else: the meter empties it before.
+    pub(crate) fn put_objects(&mut self, objects: Data) -> Change
+        requires { stores (theory.capture_objects self.old.name) self.old ≡ true }
+        ensures name { self.new.name ≡ self.old.name }
+        ensures put { stored_pairs self.new ≡ put (stored_pairs self.old) (theory.capture_objects self.old.name) (tree objects) }
+        ensures cell { cell_changed self.old.name result ≡ theory.capture_objects self.old.name }
+        ensures before { change_undone self.old.name result (stored_pairs self.new) ≡ stored_pairs self.old }
+    {
+        match &mut self.cells {
+            Cells::ProfileGeneric(object) => {
+                Change::ProfileGeneric(ProfileChange::Objects(object.put_objects(objects)))
+            }
+            _ => unreachable!(),
+        }
+    }
+
     /// What a register monitor saw last.
     pub(crate) fn remember(&mut self, now: Data) -> Change
         requires { stores (theory.seen self.old.name) self.old ≡ true }
@@ -234,7 +268,8 @@ impl Stored {
         row: Row,
     ) -> Result<Change, Memory>
         requires stored { stores (theory.buffer self.old.name) self.old ≡ true }
-        requires rows { is_buffer (length part.now.captured.items) part.now.profile_entries (value (stored_pairs self.old) (theory.buffer self.old.name)) ≡ true }
+        requires rows { is_buffer (captures_of_part part.now) part.now.profile_entries
+            (value (stored_pairs self.old) (theory.buffer self.old.name)) ≡ true }
         ensures name { self.new.name ≡ self.old.name }
         ensures ok { OnOk result (stored_pairs self.new
             ≡ captured self.old.name part.now.profile_entries row (stored_pairs self.old)) }
@@ -255,17 +290,14 @@ impl Stored {
     }
 
     /// Empties a profile.
-    pub(crate) fn clear(&mut self) -> Change
+    pub(crate) fn clear(&mut self) -> Cleared
         requires { stores (theory.buffer self.old.name) self.old ≡ true }
         ensures name { self.new.name ≡ self.old.name }
         ensures pairs { stored_pairs self.new ≡ clear (stored_pairs self.old) self.old.name }
-        ensures cell { cell_changed self.old.name result ≡ theory.buffer self.old.name }
-        ensures before { change_undone self.old.name result (stored_pairs self.new) ≡ stored_pairs self.old }
+        ensures before { profile_undone self.old.name (profiles.Cleared result) (stored_pairs self.new) ≡ stored_pairs self.old }
     {
         match &mut self.cells {
-            Cells::ProfileGeneric(object) => {
-                Change::ProfileGeneric(ProfileChange::Cleared(object.clear()))
-            }
+            Cells::ProfileGeneric(object) => object.clear(),
             _ => unreachable!(),
         }
     }

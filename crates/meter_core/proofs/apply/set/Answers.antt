@@ -1,10 +1,9 @@
 use Rattle.std.specs.Prelude.{◌≡◌, Ok}
 use Rattle.std.proofs.Common.{sym, subst, ap, ◌∙◌}
 use Rattle.cosem_data.specs.View.{tree}
-use Rattle.meter_theory.specs.State.{put}
 use Rattle.meter_theory.specs.States.{IsState, MayStand}
 use Rattle.meter_theory.specs.Rights.{set_answer, cell_of}
-use Rattle.meter_theory.specs.Steps.{Set, effects, given_value, kept}
+use Rattle.meter_theory.specs.Steps.{Set, effects, given_value, write}
 use Rattle.meter_theory.proofs.KeepSteps.{step-keeps}
 use Rattle.association_views.specs.Permits.{permitted}
 use Rattle.object_model.specs.ArgumentView.{argument_of}
@@ -36,8 +35,8 @@ pub returns-clause-ok : goal.returns-clause-ok
 returns-clause-ok c =
     (elim c.match-value.branch [
       | in-Value+in_ok-given w ↦ w.meter-is ∙ (w.put.ensures
-          ∙ (ap (λ x. put c.args.meter.now x (kept x (tree w.in_ok-given.given))) w.attribute.ensures
-          ∙ (ap (λ v. put c.args.meter.now (cell_of c.args.attribute.now) (kept (cell_of c.args.attribute.now) (tree v))) w.in_ok-given.ensures
+          ∙ (ap (λ x. write c.args.meter.now x (tree w.in_ok-given.given)) w.attribute.ensures
+          ∙ (ap (λ v. write c.args.meter.now (cell_of c.args.attribute.now) (tree v)) w.in_ok-given.ensures
           ∙ ap (λ v. effects c.args.plan.now c.args.meter.now (given_value (cell_of c.args.attribute.now) (argument_of v))) (sym w.in-Value.is))))
       | in_default-value w ↦ w.meter-is ∙ nothing_given c.args.plan.now c.args.meter.now (cell_of c.args.attribute.now) c.args.value.now w.in_default-value.not-Value
     ])

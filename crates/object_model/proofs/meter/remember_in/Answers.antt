@@ -12,8 +12,8 @@ use Rattle.object_model.proofs.meter.remember_in.Goals as goal
 pub index_mut-requires : goal.index_mut-requires
 index_mut-requires c = let at = first (stores (seen c.args.name)) c.args.objects.now.items c.args.place c.requires.place in omega (arith, at.within)
 
-pub remember-change-requires : goal.remember-change-requires
-remember-change-requires c =
+pub remember-requires : goal.remember-requires
+remember-requires c =
     let s = split c.args.objects.now.items (seen c.args.name) c.args.place c.index_mut.result.now c.requires.place in
     let name = same-name c.args.objects.now.items (seen c.args.name) c.args.place c.index_mut.result.now s c.index_mut.ensures.value in
     ap (λ n. stores (seen n) c.index_mut.result.now) name ∙ ap (stores (seen c.args.name)) c.index_mut.ensures.value ∙ s.here
@@ -22,14 +22,14 @@ pub returns-clause-put : goal.returns-clause-put
 returns-clause-put c =
     let s = split c.args.objects.now.items (seen c.args.name) c.args.place c.index_mut.result.now c.requires.place in
     let name = same-name c.args.objects.now.items (seen c.args.name) c.args.place c.index_mut.result.now s c.index_mut.ensures.value in
-    put-in c.args.objects.now.items (seen c.args.name) c.args.place c.index_mut.result.now c.remember-change.new.self (tree c.args.now) s
-    (c.remember-change.ensures.put ∙ ap₂ (λ m n. put (stored_pairs m) (seen n) (tree c.args.now)) c.index_mut.ensures.value name)
+    put-in c.args.objects.now.items (seen c.args.name) c.args.place c.index_mut.result.now c.remember.new.self (tree c.args.now) s
+    (c.remember.ensures.put ∙ ap₂ (λ m n. put (stored_pairs m) (seen n) (tree c.args.now)) c.index_mut.ensures.value name)
 
 pub returns-clause-before : goal.returns-clause-before
 returns-clause-before c =
     let s = split c.args.objects.now.items (seen c.args.name) c.args.place c.index_mut.result.now c.requires.place in
     let name = same-name c.args.objects.now.items (seen c.args.name) c.args.place c.index_mut.result.now s c.index_mut.ensures.value in
-    undone-in c.args.objects.now.items (seen c.args.name) c.args.place c.index_mut.result.now c.remember-change.new.self c.args.name c.remember-change.result s
-    (ap (λ n. cell_changed n c.remember-change.result) (sym name) ∙ c.remember-change.ensures.cell ∙ ap seen name)
-    (ap keys c.remember-change.ensures.put ∙ keys-put (stored_pairs c.index_mut.result.now) (seen c.index_mut.result.now.name) (tree c.args.now) ∙ ap (λ m. keys (stored_pairs m)) c.index_mut.ensures.value)
-    (ap (λ n. change_undone n c.remember-change.result (stored_pairs c.remember-change.new.self)) (sym name) ∙ c.remember-change.ensures.before ∙ ap stored_pairs c.index_mut.ensures.value)
+    undone-in c.args.objects.now.items (seen c.args.name) c.args.place c.index_mut.result.now c.remember.new.self c.args.name c.remember.result s
+    (ap (λ n. cell_changed n c.remember.result) (sym name) ∙ c.remember.ensures.cell ∙ ap seen name)
+    (ap keys c.remember.ensures.put ∙ keys-put (stored_pairs c.index_mut.result.now) (seen c.index_mut.result.now.name) (tree c.args.now) ∙ ap (λ m. keys (stored_pairs m)) c.index_mut.ensures.value)
+    (ap (λ n. change_undone n c.remember.result (stored_pairs c.remember.new.self)) (sym name) ∙ c.remember.ensures.before ∙ ap stored_pairs c.index_mut.ensures.value)

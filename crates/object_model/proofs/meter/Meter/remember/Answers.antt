@@ -23,12 +23,12 @@ place_of-requires-clause-of_plan c =
 
 pub returns-clause-put : goal.returns-clause-put
 returns-clause-put c =
-    around c.args.self.now (flat_map stored_pairs c.self.inside.objects.items) (flat_map stored_pairs c.remember_in.new.objects.items) c.self.inside.inner_clock
+    around c.args.self.now (flat_map stored_pairs c.self.inside.objects.items) (flat_map stored_pairs c.remember_in-change.new.objects.items) c.self.inside.inner_clock
     (λ t. put t (seen c.args.monitor) (tree c.args.now))
     (inner_put (flat_map stored_pairs c.self.inside.objects.items) c.self.inside.inner_clock (seen c.args.monitor) (tree c.args.now) refl)
-    c.self.view_is c.remember_in.ensures.put
+    c.self.view_is c.remember_in-change.ensures.put
 
 pub returns-clause-before : goal.returns-clause-before
 returns-clause-before c =
-    back-around c.args.self.now (flat_map stored_pairs c.self.inside.objects.items) (flat_map stored_pairs c.remember_in.new.objects.items) c.self.inside.inner_clock
-    c.remember_in.result.name c.remember_in.result.change c.self.view_is c.remember_in.ensures.before
+    back-around c.args.self.now (flat_map stored_pairs c.self.inside.objects.items) (flat_map stored_pairs c.remember_in-change.new.objects.items) c.self.inside.inner_clock
+    c.args.monitor c.remember_in-change.result c.self.view_is c.remember_in-change.ensures.before

@@ -1,27 +1,7 @@
-use Rattle.std.proofs.Common.{◌≡◌, ◌∙◌, ◌++◌, ap, ap₂, sym, None, flat_map}
-use Rattle.std.specs.List.{position_from}
-use Rattle.object_model.specs.Stored.{inner_pairs, stored_pairs, stores}
-use Rattle.object_model.specs.Undone.{undone, changed_cell}
-use Rattle.object_model.proofs.Changed.{undone-nowhere}
-use Rattle.object_model.proofs.Inner.{inner_undone, objects-of, around}
+use Rattle.std.proofs.Common.{◌∙◌, ap}
+use Rattle.meter_theory.specs.State.{keys}
+use Rattle.object_model.proofs.Changed.{keys-undone}
 use Rattle.object_model.proofs.meter.Meter.undo.Goals as goal
 
-pub returns-in_default : goal.returns-in_default
-returns-in_default c =
-    let none : position_from (stores (changed_cell c.args.undo)) 0 c.self.inside.objects.items ≡ None =
-    ap₂ (λ x ms. position_from (stores x) 0 ms) (sym c.cell-cell.ensures) (sym c.deref.ensures.value) ∙ sym c.place_of.ensures ∙ c.in_default.is in
-    sym (ap (undone c.args.undo) (sym c.self.view_is)
-    ∙ inner_undone (flat_map stored_pairs c.self.inside.objects.items) c.self.inside.inner_clock c.args.undo.name c.args.undo.change
-    ∙ ap (λ s. s ++ inner_pairs c.self.inside.inner_clock) (undone-nowhere c.self.inside.objects.items c.args.undo.name c.args.undo.change none)
-    ∙ c.self.view_is)
-
-pub place_of-requires-clause-of_plan : goal.place_of-requires-clause-of_plan
-place_of-requires-clause-of_plan c =
-    objects-of c.args.plan.now c.args.self.now c.self.inside.objects.items c.self.inside.inner_clock c.deref.result.now c.instance.result.plan c.self.view_is c.requires
-    c.deref.ensures.value (ap (λ i. i.plan) c.instance.ensures)
-
-pub returns-in-Some : goal.returns-in-Some
-returns-in-Some c =
-    around c.args.self.now (flat_map stored_pairs c.self.inside.objects.items) (flat_map stored_pairs c.restore_in.new.objects.items) c.self.inside.inner_clock
-    (undone c.args.undo) (inner_undone (flat_map stored_pairs c.self.inside.objects.items) c.self.inside.inner_clock c.args.undo.name c.args.undo.change)
-    c.self.view_is c.restore_in.ensures
+pub take_back-requires-in-Some : goal.take_back-requires-in-Some
+take_back-requires-in-Some c = ap keys c.take_back.ensures ∙ keys-undone c.args.undo.name c.args.undo.change c.args.self.now ∙ c.requires

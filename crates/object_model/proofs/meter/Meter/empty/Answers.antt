@@ -4,10 +4,12 @@ use Rattle.meter_theory.specs.Plan.{buffer, entries_in_use}
 use Rattle.meter_theory.specs.State.{put}
 use Rattle.meter_theory.specs.Steps as theory
 use Rattle.meter_theory.specs.Value.{array_of, counter}
+use Rattle.class_profile.specs.declared.profile.ProfileChange.TheVariants as profiles
+use Rattle.object_model.specs.declared.undo.Change.TheVariants as changes
 use Rattle.object_model.specs.Stored.{inner_pairs, stored_pairs, stores}
 use Rattle.object_model.proofs.Changed.{clear-nowhere}
 use Rattle.object_model.proofs.Inner.{inner_clear, objects-of, around, back-around}
-use Rattle.object_model.proofs.meter.Meter.clear.Goals as goal
+use Rattle.object_model.proofs.meter.Meter.empty.Goals as goal
 
 pub returns-in-None-clause-cleared : goal.returns-in-None-clause-cleared
 returns-in-None-clause-cleared c =
@@ -25,7 +27,7 @@ returns-in-None-clause-before c =
 
 pub place_of-requires-clause-of_plan : goal.place_of-requires-clause-of_plan
 place_of-requires-clause-of_plan c =
-    objects-of c.args.plan.now c.args.self.now c.self.inside.objects.items c.self.inside.inner_clock c.deref.result.now c.instance.result.plan c.self.view_is c.requires.cells
+    objects-of c.args.plan.now c.args.self.now c.self.inside.objects.items c.self.inside.inner_clock c.deref.result.now c.instance.result.plan c.self.view_is c.requires
     c.deref.ensures.value (ap (λ i. i.plan) c.instance.ensures)
 
 pub returns-in-Some-clause-cleared : goal.returns-in-Some-clause-cleared
@@ -38,4 +40,4 @@ returns-in-Some-clause-cleared c =
 pub returns-in-Some-clause-before : goal.returns-in-Some-clause-before
 returns-in-Some-clause-before c =
     back-around c.args.self.now (flat_map stored_pairs c.self.inside.objects.items) (flat_map stored_pairs c.clear_in.new.objects.items) c.self.inside.inner_clock
-    c.clear_in.result.name c.clear_in.result.change c.self.view_is c.clear_in.ensures.before
+    c.args.profile (changes.ProfileGeneric (profiles.Cleared c.clear_in.result)) c.self.view_is c.clear_in.ensures.before
