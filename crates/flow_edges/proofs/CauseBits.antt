@@ -13,6 +13,7 @@ same_number-same : (a b : Cause) → cause_number a ≡ cause_number b → same_
 same_number-same causes.Monitored causes.Monitored e = refl
 same_number-same causes.Monitor causes.Monitor e = refl
 same_number-same causes.Captured causes.Captured e = refl
+same_number-same causes.Menu causes.Menu e = refl
 same_number-same causes.Period causes.Period e = refl
 same_number-same causes.Schedule causes.Schedule e = refl
 same_number-same causes.Clock causes.Clock e = refl
@@ -22,6 +23,7 @@ same-same_number : (a b : Cause) → same_cause a b ≡ true → cause_number a 
 same-same_number causes.Monitored causes.Monitored e = refl
 same-same_number causes.Monitor causes.Monitor e = refl
 same-same_number causes.Captured causes.Captured e = refl
+same-same_number causes.Menu causes.Menu e = refl
 same-same_number causes.Period causes.Period e = refl
 same-same_number causes.Schedule causes.Schedule e = refl
 same-same_number causes.Clock causes.Clock e = refl
@@ -31,6 +33,7 @@ cause_below : (c : Cause) → cause_number c < 8
 cause_below causes.Monitored = omega arith
 cause_below causes.Monitor = omega arith
 cause_below causes.Captured = omega arith
+cause_below causes.Menu = omega arith
 cause_below causes.Period = omega arith
 cause_below causes.Schedule = omega arith
 cause_below causes.Clock = omega arith

@@ -1,15 +1,17 @@
 -- The edges that each kind of object adds.
-use Rattle.std.specs.Prelude.{◌≡◌, ℕ, List, [], ◌∷◌, ◌++◌, map, flat_map, filter, Option, Some, None, option_map}
+use Rattle.std.specs.Prelude.{◌≡◌, ℕ, true, false, List, [], ◌∷◌, ◌++◌, map, flat_map, filter, Option, Some, None, option_map}
 use Rattle.std.proofs.Common.{refl, sym, ap, ap₂, subst, ◌∙◌}
-use Rattle.std.proofs.lemmas.List.{append_assoc, append-nil}
+use Rattle.std.proofs.lemmas.Bool.{cond-true, cond-false}
+use Rattle.std.proofs.lemmas.List.{append-nil, map-append}
 use Rattle.cosem_data.specs.Tree.{Tree}
 use Rattle.cosem_data.specs.declared.cell.CellRef.{CellRef}
 use Rattle.cosem_data.specs.declared.name.LogicalName.{LogicalName}
 use Rattle.meter_theory.specs.Lists.{for_some}
-use Rattle.meter_theory.specs.Edges.{among, edge, edges_from_clock, edges_in, monitor_changes, script_changes}
-use Rattle.meter_theory.specs.Plan.{Plan, Object, ProfileGeneric, RegisterMonitor, SingleActionSchedule, buffer, capture_period, cells, clock_object, clock_time, entries_in_use, execution_time, seen, thresholds}
+use Rattle.meter_theory.specs.Edges.{among, captured_by, edge, edges_from_clock, edges_in, menu_edges, monitor_changes, schedule_changes}
+use Rattle.meter_theory.specs.Menus.{Choice, has_menu}
+use Rattle.meter_theory.specs.Plan.{Plan, Object, ProfileGeneric, RegisterMonitor, SingleActionSchedule, buffer, capture_objects, capture_period, cells, clock_object, clock_time, entries_in_use, executed_script, execution_time, seen, thresholds}
 use Rattle.meter_theory.specs.declared.flow.Cause.{Cause}
-use Rattle.meter_theory.specs.declared.flow.Cause.TheVariants.{Captured, Clock, Monitor, Monitored, Period, Schedule}
+use Rattle.meter_theory.specs.declared.flow.Cause.TheVariants.{Captured, Clock, Menu, Monitor, Monitored, Period, Schedule}
 use Rattle.meter_theory.specs.declared.flow.Edge.{Edge}
 use Rattle.meter_theory.specs.declared.refs.ScriptRef.{ScriptRef}
 use Rattle.meter_theory.specs.declared.refs.UpDown.{UpDown}
@@ -49,15 +51,38 @@ clock-edges P n targets = at (clock_object P)
 pub gathered-none : (a : CellEdges) (es : List Edge) → es ≡ [] → IsGathered a a es
 gathered-none a es none = subst (IsGathered a a) (sym none) (record { cells = refl; edges = refl })
 
+-- without a menu there are none from its cell
+pub no-menu-edges : {A : Type 0} (c : Choice A) (x : CellRef) (targets : List CellRef) → has_menu c ≡ false → menu_edges c x targets ≡ []
+no-menu-edges c x targets without = cond-false (has_menu c) (map (λ y. edge Menu x y) targets) [] without
+
+-- and with one there is one to each target
+menu-edges : {A : Type 0} (c : Choice A) (x : CellRef) (targets : List CellRef) → has_menu c ≡ true → menu_edges c x targets ≡ map (λ y. edge Menu x y) targets
+menu-edges c x targets with_menu = cond-true (has_menu c) (map (λ y. edge Menu x y) targets) [] with_menu
+
+-- edges from one cell to two
+two-added : (cause : Cause) (x y z : CellRef) (a b d : CellEdges) (source first second : ℕ) → cell_at a.cells source ≡ x → cell_at a.cells first ≡ y → cell_at a.cells second ≡ z →
+    b ≡ with_edge a (edge_at a.cells (link cause source first)) → d ≡ with_edge b (edge_at b.cells (link cause source second)) →
+    IsGathered a d (edge cause x y ∷ edge cause x z ∷ [])
+two-added cause x y z a b d source first second s f t begun last =
+    gathered-is a d _ _
+    (ap₂ (λ u v. edge cause u v ∷ edge cause u (cell_at a.cells second) ∷ []) s f ∙ ap (λ v. edge cause x y ∷ edge cause x v ∷ []) t)
+    (gathered_add a b d _ (link cause source second) (gathered_one a b (edge_at a.cells (link cause source first)) begun) last)
+
 -- the clock's edges to two cells
 pub both-added : (P : Plan) (n : LogicalName) (a b d : CellEdges) (clock rows in_use : ℕ) → Some n ≡ option_map (λ o. o.name) (clock_object P) → cell_at a.cells clock ≡ clock_time n →
     b ≡ with_edge a (edge_at a.cells (link Clock clock rows)) → d ≡ with_edge b (edge_at b.cells (link Clock clock in_use)) →
     IsGathered a d (edges_from_clock P (cell_at a.cells rows ∷ cell_at a.cells in_use ∷ []))
 both-added P n a b d clock rows in_use named there first last =
-    gathered-is a d _ _
-    (ap (λ x. edge Clock x (cell_at a.cells rows) ∷ edge Clock x (cell_at a.cells in_use) ∷ []) there
-    ∙ sym (clock-edges P n (cell_at a.cells rows ∷ cell_at a.cells in_use ∷ []) named))
-    (gathered_add a b d _ (link Clock clock in_use) (gathered_one a b (edge_at a.cells (link Clock clock rows)) first) last)
+    gathered-is a d _ _ (sym (clock-edges P n (cell_at a.cells rows ∷ cell_at a.cells in_use ∷ []) named))
+    (two-added Clock (clock_time n) _ _ a b d clock rows in_use there refl refl first last)
+
+-- a menu's edges to two cells
+pub menu-added : {A : Type 0} (c : Choice A) (x : CellRef) (a b d : CellEdges) (source first second : ℕ) → has_menu c ≡ true → cell_at a.cells source ≡ x →
+    b ≡ with_edge a (edge_at a.cells (link Menu source first)) → d ≡ with_edge b (edge_at b.cells (link Menu source second)) →
+    IsGathered a d (menu_edges c x (cell_at a.cells first ∷ cell_at a.cells second ∷ []))
+menu-added c x a b d source first second with_menu there begun last =
+    gathered-is a d _ _ (sym (menu-edges c x (cell_at a.cells first ∷ cell_at a.cells second ∷ []) with_menu))
+    (two-added Menu x _ _ a b d source first second there refl refl begun last)
 
 one-each : (cause : Cause) (x : CellRef) (ys : List CellRef) → flat_map (λ y. edge cause x y ∷ []) ys ≡ map (λ y. edge cause x y) ys
 one-each cause x [] = refl
@@ -72,41 +97,69 @@ each-added P n targets a b clock named there =
     ∙ ap (λ x. map (λ y. edge Clock x y) targets) there
     ∙ sym (clock-edges P n targets named))
 
-pub profile-added : (P : Plan) (n : LogicalName) (captured : List CellRef) (period_start entries : ℕ) (a b d e f : CellEdges) (rows period in_use : ℕ) →
-    cell_at a.cells rows ≡ buffer n → cell_at a.cells period ≡ capture_period n → cell_at a.cells in_use ≡ entries_in_use n →
+-- a menu's edges to those that pass a test
+pub menu-each-added : {A : Type 0} (c : Choice A) (x : CellRef) (targets : List CellRef) (a b : CellEdges) (source : ℕ) → has_menu c ≡ true → cell_at a.cells source ≡ x →
+    IsGathered a b (to_each Menu a.cells (source ∷ []) targets) → IsGathered a b (menu_edges c x targets)
+menu-each-added c x targets a b source with_menu there =
+    gathered-is a b _ _
+    (one-each Menu (cell_at a.cells source) targets
+    ∙ ap (λ z. map (λ y. edge Menu z y) targets) there
+    ∙ sym (menu-edges c x targets with_menu))
+
+-- what is captured by each alternative of a list
+pub flat-items : {A B : Type 0} (f : A → List B) (xs : List A) → flat_map (λ ys. ys) (map f xs) ≡ flat_map f xs
+flat-items f [] = refl
+flat-items f (x ∷ xs) = ap (λ ys. f x ++ ys) (flat-items f xs)
+
+-- edges from what is captured at the start, and from what may be captured by a menu
+pub alternatives-added : {A : Type 0} (items : A → List CellRef) (captured : List CellRef) (menu : List A) (a b d : CellEdges) (rows : ℕ) →
     IsGathered a b (map (λ x. edge Captured x (cell_at a.cells rows)) captured) →
-    d ≡ with_edge b (edge_at b.cells (link Period period rows)) → e ≡ with_edge d (edge_at d.cells (link Period period in_use)) →
+    IsGathered b d (map (λ x. edge Captured x (cell_at b.cells rows)) (flat_map items menu)) →
+    IsGathered a d (map (λ x. edge Captured x (cell_at a.cells rows)) (captured_by (record { configured = captured; menu = map items menu })))
+alternatives-added items captured menu a b d rows first rest =
+    gathered-is a d _ _
+    (sym (map-append (λ x. edge Captured x (cell_at a.cells rows)) captured (flat_map items menu))
+    ∙ ap (λ xs. map (λ x. edge Captured x (cell_at a.cells rows)) (captured ++ xs)) (sym (flat-items items menu)))
+    (gathered_join a b d _ _ first
+    (gathered-is b d _ _ (ap (λ cs. map (λ x. edge Captured x (cell_at cs rows)) (flat_map items menu)) first.cells) rest))
+
+pub profile-added : (P : Plan) (n : LogicalName) (captured : Choice (List CellRef)) (period_start entries : ℕ) (a b m d e f : CellEdges) (rows period in_use : ℕ) →
+    cell_at a.cells rows ≡ buffer n → cell_at a.cells period ≡ capture_period n → cell_at a.cells in_use ≡ entries_in_use n →
+    IsGathered a b (map (λ x. edge Captured x (cell_at a.cells rows)) (captured_by captured)) →
+    IsGathered b m (menu_edges captured (capture_objects n) (cell_at b.cells rows ∷ cell_at b.cells in_use ∷ [])) →
+    d ≡ with_edge m (edge_at m.cells (link Period period rows)) → e ≡ with_edge d (edge_at d.cells (link Period period in_use)) →
     IsGathered e f (edges_from_clock P (cell_at e.cells rows ∷ cell_at e.cells in_use ∷ [])) →
     IsGathered a f (edges_in P n (ProfileGeneric captured period_start entries))
-profile-added P n captured period_start entries a b d e f rows period in_use r p u first next last clock =
-    let three : IsGathered a e (map (λ x. edge Captured x (buffer n)) captured ++ edge Period (capture_period n) (buffer n) ∷ edge Period (capture_period n) (entries_in_use n) ∷ []) =
-    gathered-is a e _ _
-    (append_assoc (map (λ x. edge Captured x (cell_at a.cells rows)) captured) (edge Period (cell_at a.cells period) (cell_at a.cells rows) ∷ [])
-    (edge Period (cell_at a.cells period) (cell_at a.cells in_use) ∷ [])
-    ∙ ap₂ (λ x y. map (λ z. edge Captured z x) captured ++ edge Period y x ∷ edge Period y (cell_at a.cells in_use) ∷ []) r p
-    ∙ ap (λ x. map (λ z. edge Captured z (buffer n)) captured ++ edge Period (capture_period n) (buffer n) ∷ edge Period (capture_period n) x ∷ []) u)
-    (gathered_add a d e _ (link Period period in_use) (gathered_add a b d _ (link Period period rows) first next) last) in
-    let to : IsGathered e f (edges_from_clock P (buffer n ∷ entries_in_use n ∷ [])) =
-    gathered-is e f _ _
-    (ap (λ cs. edges_from_clock P (cell_at cs rows ∷ cell_at cs in_use ∷ [])) three.cells
-    ∙ ap₂ (λ x y. edges_from_clock P (x ∷ y ∷ [])) r u)
-    clock in
-    gathered-is a f _ _
-    (append_assoc (map (λ x. edge Captured x (buffer n)) captured) (edge Period (capture_period n) (buffer n) ∷ edge Period (capture_period n) (entries_in_use n) ∷ [])
-    (edges_from_clock P (buffer n ∷ entries_in_use n ∷ [])))
-    (gathered_join a e f _ _ three to)
+profile-added P n captured period_start entries a b m d e f rows period in_use r p u each menu first last clock =
+    let both : List CellRef = buffer n ∷ entries_in_use n ∷ [] in
+    let captures : IsGathered a b (map (λ x. edge Captured x (buffer n)) (captured_by captured)) =
+    gathered-is a b _ _ (ap (λ y. map (λ x. edge Captured x y) (captured_by captured)) r) each in
+    let choices : IsGathered b m (menu_edges captured (capture_objects n) both) =
+    gathered-is b m _ _ (ap₂ (λ x y. menu_edges captured (capture_objects n) (x ∷ y ∷ [])) (at rows captures.cells r) (at in_use captures.cells u)) menu in
+    let same : m.cells ≡ a.cells = choices.cells ∙ captures.cells in
+    let periods : IsGathered m e (edge Period (capture_period n) (buffer n) ∷ edge Period (capture_period n) (entries_in_use n) ∷ []) =
+    two-added Period (capture_period n) (buffer n) (entries_in_use n) m d e period rows in_use (at period same p) (at rows same r) (at in_use same u) first last in
+    let to : IsGathered e f (edges_from_clock P both) =
+    gathered-is e f _ _ (ap₂ (λ x y. edges_from_clock P (x ∷ y ∷ [])) (at rows (periods.cells ∙ same) r) (at in_use (periods.cells ∙ same) u)) clock in
+    gathered_join a b f _ _ captures (gathered_join b m f _ _ choices (gathered_join m e f _ _ periods to))
+  where
+    at : {x : CellRef} {cs : List CellRef} (k : ℕ) → cs ≡ a.cells → cell_at a.cells k ≡ x → cell_at cs k ≡ x
+    at k same is = ap (λ z. cell_at z k) same ∙ is
 
-pub schedule-added : (P : Plan) (n : LogicalName) (script : ScriptRef) (type : ℕ) (start : Tree) (a b d : CellEdges) (times : ℕ) → a.cells ≡ cells P → cell_at a.cells times ≡ execution_time n →
-    IsGathered a b (to_each Schedule a.cells (times ∷ []) (filter (among (script_changes P script)) a.cells)) →
-    IsGathered b d (edges_from_clock P (filter (among (script_changes P script)) b.cells)) →
+pub schedule-added : (P : Plan) (n : LogicalName) (script : Choice ScriptRef) (type : ℕ) (start : Tree) (a b m d : CellEdges) (times : ℕ) → a.cells ≡ cells P → cell_at a.cells times ≡ execution_time n →
+    IsGathered a b (to_each Schedule a.cells (times ∷ []) (filter (among (schedule_changes P script)) a.cells)) →
+    IsGathered b m (menu_edges script (executed_script n) (filter (among (schedule_changes P script)) b.cells)) →
+    IsGathered m d (edges_from_clock P (filter (among (schedule_changes P script)) m.cells)) →
     IsGathered a d (edges_in P n (SingleActionSchedule script type start))
-schedule-added P n script type start a b d times are t from_times from_clock =
+schedule-added P n script type start a b m d times are t from_times from_menu from_clock =
+    let targets = filter (among (schedule_changes P script)) in
     gathered_join a b d _ _
     (gathered-is a b _ _
-    (one-each Schedule (cell_at a.cells times) (filter (among (script_changes P script)) a.cells)
-    ∙ ap₂ (λ x cs. map (λ y. edge Schedule x y) (filter (among (script_changes P script)) cs)) t are)
+    (one-each Schedule (cell_at a.cells times) (targets a.cells) ∙ ap₂ (λ x cs. map (λ y. edge Schedule x y) (targets cs)) t are)
     from_times)
-    (gathered-is b d _ _ (ap (λ cs. edges_from_clock P (filter (among (script_changes P script)) cs)) (from_times.cells ∙ are)) from_clock)
+    (gathered_join b m d _ _
+    (gathered-is b m _ _ (ap (λ cs. menu_edges script (executed_script n) (targets cs)) (from_times.cells ∙ are)) from_menu)
+    (gathered-is m d _ _ (ap (λ cs. edges_from_clock P (targets cs)) (from_menu.cells ∙ (from_times.cells ∙ are))) from_clock))
 
 pub monitor-added : (P : Plan) (n : LogicalName) (watched : CellRef) (start : Tree) (actions : List UpDown) (a b d : CellEdges) (monitored limits last : ℕ) → a.cells ≡ cells P →
     cell_at a.cells monitored ≡ watched → cell_at a.cells limits ≡ thresholds n → cell_at a.cells last ≡ seen n →

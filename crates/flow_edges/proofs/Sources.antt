@@ -9,6 +9,8 @@ use Rattle.cosem_data.specs.declared.cell.CellRef.{CellRef}
 use Rattle.cosem_data.proofs.Same.{same_cell-true, same_cell-refl}
 use Rattle.meter_theory.specs.declared.refs.UpDown.{UpDown}
 use Rattle.meter_theory.specs.Lists.{IsIn}
+use Rattle.meter_theory.specs.Edges.{captured_by}
+use Rattle.meter_theory.specs.Menus.{Choice}
 use Rattle.meter_theory.specs.Plan.{Plan, Part, Clock, ProfileGeneric, RegisterMonitor, cells, clock_object, clock_time, start_of, start_values}
 use Rattle.meter_theory.specs.Sound.{IsSound, IsSoundPart}
 use Rattle.meter_theory.specs.State.{keys}
@@ -43,9 +45,13 @@ own-cell P n part x h i =
     let there : IsIn (start_of h.0.name h.0.part) e.0 = subst (λ m. IsIn (start_of m h.0.part) e.0) (sym h.2) (subst (λ p. IsIn (start_of n p) e.0) (sym h.3) e.1) in
     subst (IsIn (cells P)) (sym e.2) (in_map (λ e. e.0) (start_values P) e.0 (in_flat_map (λ o. start_of o.name o.part) P.objects h.0 e.0 h.1 there))
 
--- so are those that a profile captures
-pub captured-cell : (P : Plan) (n : LogicalName) (captured : List CellRef) (period entries : ℕ) → IsSound P → HasPart P n (ProfileGeneric captured period entries) →
-    (x : CellRef) → IsIn captured x → IsIn (cells P) x
+-- with which it starts
+pub own-start : (P : Plan) (n : LogicalName) (part : Part) (x : CellRef) (v : Tree) → HasPart P n part → IsIn (start_of n part) (x, v) → IsIn (cells P) x
+own-start P n part x v h i = own-cell P n part x h (in_map (λ e. e.0) (start_of n part) (x, v) i)
+
+-- so are those that a profile may capture
+pub captured-cell : (P : Plan) (n : LogicalName) (captured : Choice (List CellRef)) (period entries : ℕ) → IsSound P → HasPart P n (ProfileGeneric captured period entries) →
+    (x : CellRef) → IsIn (captured_by captured) x → IsIn (cells P) x
 captured-cell P n captured period entries sound h x i = (sound.captures h.0 h.1 (record { captured = captured; entries = entries }) (ap captures_in h.3) x i).0
 
 -- and the clock

@@ -31,10 +31,10 @@ edge_at cells l = edge l.cause (cell_at cells l.source) (cell_at cells l.target)
 abbrev pub place_of : ℕ → Link → ℕ
 place_of n l = l.source * n + l.target
 
--- no cell stands twice, and there are three at most an object: own profile
+-- no cell stands twice, and there are four at most an object: own profile
 pub record AreCells (cells : List CellRef) : Type 0 where
   pub apart : (i j : ℕ) → i < length cells → j < length cells → same_cell (cell_at cells i) (cell_at cells j) ≡ true → i ≡ j
-  pub few : length cells ≤ 3 * OBJECTS
+  pub few : length cells ≤ 4 * OBJECTS
 
 -- both ends are numbers of cells: own profile
 abbrev pub IsLink : List CellRef → Link → Type 0

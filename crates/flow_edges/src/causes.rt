@@ -45,8 +45,9 @@ fn number_of(cause: Cause) -> u8
         Cause::Monitored => 0,
         Cause::Monitor => 1,
         Cause::Captured => 2,
-        Cause::Period => 3,
-        Cause::Schedule => 4,
-        Cause::Clock => 5,
+        Cause::Menu => 3,
+        Cause::Period => 4,
+        Cause::Schedule => 5,
+        Cause::Clock => 6,
     }
 }

@@ -1,14 +1,19 @@
 //! The cells that scripts and methods change (IEC 62056-6-2, Register, Profile generic, Script table).
 ghost use Rattle.std.specs.Prelude.{◌≡◌, ◌==◌, ◌++◌, ◌∷◌, [], map, flat_map, find, option_map, option_and_then, OnOk};
-ghost use Rattle.meter_theory.specs.Edges.{script_changes, monitor_changes};
+ghost use Rattle.meter_theory.specs.Edges.{script_changes, monitor_changes, schedule_changes};
 ghost use Rattle.meter_theory.specs.Labels.{all_scripts, method_changes_of};
 ghost use Rattle.meter_theory.specs.Plan.{object_at};
-ghost use Rattle.meter_theory.specs.Steps.{changed, actions_effects, action_effects, plain_method, scripts_of};
+ghost use Rattle.meter_theory.specs.Plan as plans;
+ghost use Rattle.meter_theory.specs.Steps.{changed, changed_by_write, actions_effects, action_effects, plain_method, scripts_of};
+ghost use Rattle.meter_theory.specs.Steps as theory;
 ghost use Rattle.class_control.specs.ActionView.{action_of};
+ghost use Rattle.class_control.specs.PartView.{scripts_of_part};
 ghost use Rattle.class_control.specs.ScriptView.{script_of};
 
 use class_control::action::Action;
+use class_control::parts::SchedulePart;
 use class_control::script::Script;
+use class_profile::profile::Profile;
 use cosem_data::cell::{CellRef, MethodRef};
 use cosem_data::memory::Memory;
 use cosem_data::name::LogicalName;
@@ -58,8 +63,34 @@ fn push_both(plan: &Plan, action: UpDown, cells: &mut Vec<CellRef>) -> Result<()
     push_script_changes(plan, action.down, cells)
 }
 
+/// Adds the cells that the scripts change which a schedule may run, alternative by alternative.
+pub(crate) fn push_schedule_changes(
+    plan: &Plan,
+    part: &SchedulePart,
+    cells: &mut Vec<CellRef>,
+) -> Result<(), Memory>
+    ensures { OnOk result (cells.new.items ≡ cells.old.items ++ schedule_changes plan.now (scripts_of_part part.now)) }
+{
+    push_script_changes(plan, part.executed_script, cells)?;
+    push_changes_of_all(plan, &part.menu, cells)
+}
+
+/// Adds the cells that each of these scripts changes.
+fn push_changes_of_all(
+    plan: &Plan,
+    scripts: &[ScriptRef],
+    cells: &mut Vec<CellRef>,
+) -> Result<(), Memory>
+    ensures { OnOk result (cells.new.items ≡ cells.old.items ++ flat_map (script_changes plan.now) scripts.now) }
+{
+    for script in scripts {
+        push_script_changes(plan, *script, cells)?;
+    }
+    Ok(())
+}
+
 /// Adds the cells that a script changes; the null script and one that the table lacks change none.
-pub(crate) fn push_script_changes(
+fn push_script_changes(
     plan: &Plan,
     script: ScriptRef,
     cells: &mut Vec<CellRef>,
@@ -115,15 +146,39 @@ fn push_action(plan: &Plan, action: &Action, cells: &mut Vec<CellRef>) -> Result
     ensures { OnOk result (cells.new.items ≡ cells.old.items ++ changed (action_effects plan.now (action_of action.now))) }
 {
     match action {
-        Action::Write { cell, .. } => {
-            cells.push(*cell)?;
-            Ok(())
-        }
+        Action::Write { cell, .. } => push_written(*cell, cells),
         Action::Invoke { method, .. } => match plan.object_at(&method.name) {
             Some(object) => push_plain_method(method.name, object, method.index, cells),
             None => Ok(()),
         },
     }
+}
+
+/// Adds the cells that a write changes: its cell, and those that it empties.
+fn push_written(cell: CellRef, cells: &mut Vec<CellRef>) -> Result<(), Memory>
+    ensures { OnOk result (cells.new.items ≡ cells.old.items ++ changed_by_write cell) }
+{
+    cells.push(cell)?;
+    if !empties(&cell) {
+        return Ok(());
+    }
+    push_entries(cell.name, cells)
+}
+
+/// Whether a write of this cell empties its profile: it is capture_objects (IEC 62056-6-2, Profile generic).
+pub fn empties(cell: &CellRef) -> bool
+    ensures { result ≡ theory.empties cell.now }
+{
+    cell.class_id == Profile::INTERFACE.class_id && cell.index == Profile::CAPTURE_OBJECTS
+}
+
+/// Adds the buffer of a profile and its entries in use.
+fn push_entries(profile: LogicalName, cells: &mut Vec<CellRef>) -> Result<(), Memory>
+    ensures { OnOk result (cells.new.items ≡ cells.old.items ++ plans.buffer profile ∷ plans.entries_in_use profile ∷ []) }
+{
+    cells.push(buffer(profile))?;
+    cells.push(entries_in_use(profile))?;
+    Ok(())
 }
 
 /// Adds the cells that reset or capture of the object with this name changes, if it has such a method.
@@ -140,11 +195,7 @@ fn push_plain_method(
             cells.push(register_value(name))?;
             Ok(())
         }
-        Part::ProfileGeneric(_) => {
-            cells.push(buffer(name))?;
-            cells.push(entries_in_use(name))?;
-            Ok(())
-        }
+        Part::ProfileGeneric(_) => push_entries(name, cells),
         _ => Ok(()),
     }
 }

@@ -1,16 +1,16 @@
 //! The edges of a plan.
 ghost use Rattle.std.specs.Prelude.{◌≡◌, ◌<◌, ◌∷◌, ◌++◌, [], ℕ, Bool, List, IfOk, OnOk, length, map, filter, flat_map};
-ghost use Rattle.class_control.specs.PartView.{monitor_part_of, schedule_part_of};
+ghost use Rattle.class_control.specs.PartView.{monitor_part_of, schedule_part_of, scripts_of_part};
+ghost use Rattle.class_profile.specs.PartView.{captures_of_part, profile_part_of};
 ghost use Rattle.cosem_data.specs.declared.cell.CellRef.{CellRef as CellValue};
 ghost use Rattle.meter_theory.specs.Lists.{IsIn};
 ghost use Rattle.meter_theory.specs.Plan as plans;
 ghost use Rattle.meter_theory.specs.Edges as theory;
-ghost use Rattle.meter_theory.specs.declared.flow.Cause.TheVariants as causes;
-ghost use Rattle.flow_edges.specs.Gather.{IsGathered};
-ghost use Rattle.flow_edges.specs.Sources.{HasPart};
+ghost use Rattle.flow_edges.specs.Gather.{IsGathered, both_at, captures_into};
+ghost use Rattle.flow_edges.specs.Sources.{AreOfPlan, HasPart};
 ghost use Rattle.flow_edges.specs.Table.{cell_at};
 
-use crate::changes::{push_monitor_changes, push_script_changes};
+use crate::changes::{push_monitor_changes, push_schedule_changes};
 use crate::table::EdgeTable;
 use class_control::parts::{MonitorPart, SchedulePart};
 use class_profile::profile::ProfilePart;
@@ -19,7 +19,8 @@ use cosem_data::memory::Memory;
 use cosem_data::name::LogicalName;
 use meter_theory::flow::{Cause, Edge};
 use object_model::cells::{
-    buffer, capture_period, clock_time, entries_in_use, execution_time, seen, thresholds,
+    buffer, capture_objects, capture_period, clock_time, entries_in_use, executed_script,
+    execution_time, seen, thresholds,
 };
 use object_model::object::Object;
 use object_model::part::Part;
@@ -65,7 +66,8 @@ fn add_object(
     }
 }
 
-/// Adds the edges that a profile makes: from what it captures to its buffer, from its capture period, and from the clock.
+/// Adds the edges that a profile makes: to its buffer from what it may capture, and to its buffer and its entries in use from
+/// its menu, from its capture period, and from the clock.
 fn add_profile(
     plan: &Plan,
     name: LogicalName,
@@ -73,17 +75,64 @@ fn add_profile(
     table: &mut EdgeTable,
 ) -> Result<(), Memory>
     requires cells { table.old.cells ≡ plans.cells plan.now }
-    requires part { HasPart plan.now name (plans.ProfileGeneric part.now.captured.items part.now.capture_period part.now.profile_entries) }
-    ensures { OnOk result (IsGathered table.old table.new (theory.edges_in plan.now name (plans.ProfileGeneric part.now.captured.items part.now.capture_period part.now.profile_entries))) }
+    requires part { HasPart plan.now name (profile_part_of part.now) }
+    ensures { OnOk result (IsGathered table.old table.new (theory.edges_in plan.now name (profile_part_of part.now))) }
 {
     plan.known();
     let rows = number_of(plan, &buffer(name));
     let period = number_of(plan, &capture_period(name));
     let in_use = number_of(plan, &entries_in_use(name));
-    add_captured(plan, &part.captured, rows, table)?;
+    add_alternatives(plan, part, rows, table)?;
+    add_menu_to_both(plan, name, part, rows, in_use, table)?;
     table.add(Cause::Period, period, rows)?;
     table.add(Cause::Period, period, in_use)?;
     add_clock_to_both(plan, rows, in_use, table)
+}
+
+/// Adds the edges from the capture_objects of a profile to two cells. Without a menu there are none.
+fn add_menu_to_both(
+    plan: &Plan,
+    name: LogicalName,
+    part: &ProfilePart,
+    first: usize,
+    second: usize,
+    table: &mut EdgeTable,
+) -> Result<(), Memory>
+    requires cells { table.old.cells ≡ plans.cells plan.now }
+    requires part { HasPart plan.now name (profile_part_of part.now) }
+    requires first { first < length table.old.cells }
+    requires second { second < length table.old.cells }
+    ensures { OnOk result (IsGathered table.old table.new
+        (theory.menu_edges (captures_of_part part.now) (plans.capture_objects name) (both_at table.old.cells first second))) }
+{
+    if !part.has_menu() {
+        return Ok(());
+    }
+    let objects = number_of(plan, &capture_objects(name));
+    table.add(Cause::Menu, objects, first)?;
+    table.add(Cause::Menu, objects, second)
+}
+
+/// Adds the edges from the executed_script of a schedule to each target. Without a menu there are none.
+fn add_menu_to_each(
+    plan: &Plan,
+    name: LogicalName,
+    part: &SchedulePart,
+    targets: &[bool],
+    table: &mut EdgeTable,
+) -> Result<(), Memory>
+    requires cells { table.old.cells ≡ plans.cells plan.now }
+    requires part { HasPart plan.now name (schedule_part_of part.now) }
+    requires targets { length targets.now ≡ length table.old.cells }
+    ensures { (p : CellValue → Bool) → targets.now ≡ map p table.old.cells →
+        OnOk result (IsGathered table.old table.new
+        (theory.menu_edges (scripts_of_part part.now) (plans.executed_script name) (filter p table.old.cells))) }
+{
+    if !part.has_menu() {
+        return Ok(());
+    }
+    let script = number_of(plan, &executed_script(name));
+    add_all(Cause::Menu, &[script], targets, table)
 }
 
 /// Adds the edges from the clock of the plan to two cells. Without a clock there are none.
@@ -96,7 +145,8 @@ fn add_clock_to_both(
     requires cells { table.old.cells ≡ plans.cells plan.now }
     requires first { first < length table.old.cells }
     requires second { second < length table.old.cells }
-    ensures { OnOk result (IsGathered table.old table.new (theory.edges_from_clock plan.now (cell_at table.old.cells first ∷ cell_at table.old.cells second ∷ []))) }
+    ensures { OnOk result (IsGathered table.old table.new
+        (theory.edges_from_clock plan.now (both_at table.old.cells first second))) }
 {
     let Some(name) = plan.clock() else {
         return Ok(());
@@ -120,6 +170,42 @@ fn add_clock_to_each(plan: &Plan, targets: &[bool], table: &mut EdgeTable) -> Re
     add_all(Cause::Clock, &[clock], targets, table)
 }
 
+/// Adds an edge from each cell that a profile may capture to the buffer with this number, alternative by alternative.
+fn add_alternatives(
+    plan: &Plan,
+    part: &ProfilePart,
+    buffer: usize,
+    table: &mut EdgeTable,
+) -> Result<(), Memory>
+    requires cells { table.old.cells ≡ plans.cells plan.now }
+    requires captured { AreOfPlan plan.now (theory.captured_by (captures_of_part part.now)) }
+    requires buffer { buffer < length table.old.cells }
+    ensures { OnOk result (IsGathered table.old table.new
+        (captures_into (cell_at table.old.cells buffer) (theory.captured_by (captures_of_part part.now)))) }
+{
+    add_captured(plan, &part.captured, buffer, table)?;
+    add_menu_captures(plan, &part.menu, buffer, table)
+}
+
+/// Adds an edge from each cell of the alternatives of a menu to the buffer with this number.
+fn add_menu_captures(
+    plan: &Plan,
+    menu: &[Vec<CellRef>],
+    buffer: usize,
+    table: &mut EdgeTable,
+) -> Result<(), Memory>
+    requires cells { table.old.cells ≡ plans.cells plan.now }
+    requires captured { AreOfPlan plan.now (flat_map (λ xs. xs.items) menu.now) }
+    requires buffer { buffer < length table.old.cells }
+    ensures { OnOk result (IsGathered table.old table.new
+        (captures_into (cell_at table.old.cells buffer) (flat_map (λ xs. xs.items) menu.now))) }
+{
+    for captured in menu {
+        add_captured(plan, captured, buffer, table)?;
+    }
+    Ok(())
+}
+
 /// Adds an edge from each captured cell to the buffer with this number.
 fn add_captured(
     plan: &Plan,
@@ -128,9 +214,9 @@ fn add_captured(
     table: &mut EdgeTable,
 ) -> Result<(), Memory>
     requires cells { table.old.cells ≡ plans.cells plan.now }
-    requires captured { (x : CellValue) → IsIn captured.now x → IsIn (plans.cells plan.now) x }
+    requires captured { AreOfPlan plan.now captured.now }
     requires buffer { buffer < length table.old.cells }
-    ensures { OnOk result (IsGathered table.old table.new (map (λ x. theory.edge causes.Captured x (cell_at table.old.cells buffer)) captured.now)) }
+    ensures { OnOk result (IsGathered table.old table.new (captures_into (cell_at table.old.cells buffer) captured.now)) }
 {
     for source in captured {
         let source = number_of(plan, source);
@@ -139,7 +225,8 @@ fn add_captured(
     Ok(())
 }
 
-/// Adds the edges that a schedule makes: from its execution time and from the clock to each cell that its script changes.
+/// Adds the edges that a schedule makes: from its execution time, from its menu and from the clock to each cell that a script
+/// changes which it may run.
 fn add_schedule(
     alloc: Global,
     plan: &Plan,
@@ -154,9 +241,10 @@ fn add_schedule(
     plan.known();
     let times = number_of(plan, &execution_time(name));
     let mut changed = Vec::new(alloc);
-    push_script_changes(plan, part.executed_script, &mut changed)?;
+    push_schedule_changes(plan, part, &mut changed)?;
     let targets = marks_of(alloc, plan, table.cells().len(), &changed)?;
     add_all(Cause::Schedule, &[times], &targets, table)?;
+    add_menu_to_each(plan, name, part, &targets, table)?;
     add_clock_to_each(plan, &targets, table)
 }
 

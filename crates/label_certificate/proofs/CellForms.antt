@@ -10,6 +10,7 @@ use Rattle.meter_theory.specs.Lists.{IsIn}
 use Rattle.meter_theory.specs.Plan.{Plan, Part, Data1, Register, ProfileGeneric, Clock, ScriptTable, RegisterMonitor, SingleActionSchedule, start_values, start_of, cells}
 use Rattle.meter_theory.specs.Sound.{IsSound, is_name, has_part_sizes}
 use Rattle.meter_theory.proofs.Lists.{from_map, from_flat_map}
+use Rattle.meter_theory.proofs.Menus.{profile_entry, schedule_entry}
 use Rattle.object_model.proofs.Positions.{first, in-at}
 use Rattle.label_certificate.specs.LabelText.{cell_place}
 
@@ -27,18 +28,28 @@ start_cell n (Data1 first) x v (inl e) = started n x v _ 1 2 (omega arith) (omeg
 start_cell n (Data1 first) x v (inr none) = absurd none
 start_cell n (Register first default scaler_unit) x v (inl e) = started n x v _ 3 2 (omega arith) (omega arith) e
 start_cell n (Register first default scaler_unit) x v (inr none) = absurd none
-start_cell n (ProfileGeneric captured period entries) x v (inl e) = started n x v _ 7 2 (omega arith) (omega arith) e
-start_cell n (ProfileGeneric captured period entries) x v (inr (inl e)) = started n x v _ 7 4 (omega arith) (omega arith) e
-start_cell n (ProfileGeneric captured period entries) x v (inr (inr (inl e))) = started n x v _ 7 7 (omega arith) (omega arith) e
-start_cell n (ProfileGeneric captured period entries) x v (inr (inr (inr none))) = absurd none
+start_cell n (ProfileGeneric captured period entries) x v i =
+    elim (profile_entry n captured period entries (x, v) i) [
+      | inl e ↦ started n x v _ 7 2 (omega arith) (omega arith) e
+      | inr j ↦ elim j [
+        | inl e ↦ started n x v _ 7 3 (omega arith) (omega arith) e.1
+        | inr k ↦ elim k [
+          | inl e ↦ started n x v _ 7 4 (omega arith) (omega arith) e
+          | inr e ↦ started n x v _ 7 7 (omega arith) (omega arith) e
+        ]
+      ]
+    ]
 start_cell n (Clock first) x v (inl e) = started n x v _ 8 2 (omega arith) (omega arith) e
 start_cell n (Clock first) x v (inr none) = absurd none
 start_cell n (ScriptTable scripts) x v none = absurd none
 start_cell n (RegisterMonitor monitored th actions) x v (inl e) = started n x v _ 21 2 (omega arith) (omega arith) e
 start_cell n (RegisterMonitor monitored th actions) x v (inr (inl e)) = started n x v _ 21 0 (omega arith) (omega arith) e
 start_cell n (RegisterMonitor monitored th actions) x v (inr (inr none)) = absurd none
-start_cell n (SingleActionSchedule script type times) x v (inl e) = started n x v _ 22 4 (omega arith) (omega arith) e
-start_cell n (SingleActionSchedule script type times) x v (inr none) = absurd none
+start_cell n (SingleActionSchedule script type times) x v i =
+    elim (schedule_entry n script type times (x, v) i) [
+      | inl e ↦ started n x v _ 22 2 (omega arith) (omega arith) e.1
+      | inr e ↦ started n x v _ 22 4 (omega arith) (omega arith) e
+    ]
 
 -- a cell of a sound plan
 pub record IsPlanCell (x : CellRef) : Type 0 where

@@ -19,6 +19,7 @@ use Rattle.meter_theory.specs.declared.flow.Label.{Label}
 use Rattle.meter_theory.proofs.Check.{edge-listed, listed-edge, method_cells}
 use Rattle.meter_theory.proofs.Lists.{from_map, in_map}
 use Rattle.meter_theory.proofs.Theorem.{within_from, within_has}
+use Rattle.meter_theory.proofs.Writes.{write-cells}
 use Rattle.flow_edges.specs.declared.table.Link.{Link}
 use Rattle.flow_edges.specs.Table.{AreCells, AreWithin, IsLink, cell_at, edge_at}
 use Rattle.label_certificate.specs.Closing.{Below, IsClosedBy, set_at}
@@ -110,7 +111,7 @@ module _ (P : Plan) (sound : IsSound P) (are : AreCells (cells P)) (links : List
   edge_of k there = listed-edge P sound (edge_at (cells P) k) (subst (λ es. IsIn es (edge_at (cells P) k)) linked (in_map (edge_at (cells P)) links k there))
 
   changed_cell : (c : ℕ) (x : CellRef) → MayChange P c x → IsIn (cells P) x
-  changed_cell c x (inl h) = h.0
+  changed_cell c x (inl h) = write-cells P h.0 h.1 x h.3
   changed_cell c x (inr h) = method_cells P sound h.0 x h.2
 
   covers : Covers P labels

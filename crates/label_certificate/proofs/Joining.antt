@@ -1,9 +1,9 @@
 -- The clients that rights let influence cells, method by method.
-use Rattle.std.specs.Prelude.{◌≡◌, ◌≢◌, ℕ, zero, suc, ◌+◌, ◌<◌, ◌≤◌, ◌==◌, nat_lt, nat_le, Bool, true, false, ◌&&◌, ◌||◌, ◌⊎◌, List, [], ◌∷◌, ◌++◌, map, flat_map, length, set, Option, Some, None}
+use Rattle.std.specs.Prelude.{◌≡◌, ◌≢◌, ℕ, zero, suc, ◌+◌, ◌<◌, ◌≤◌, ◌==◌, nat_lt, nat_le, Bool, true, false, ◌&&◌, ◌||◌, cond, ◌⊎◌, List, [], ◌∷◌, ◌++◌, map, flat_map, take, length, get_or, set, Option, Some, None}
 use Rattle.std.specs.List.{position_from, range_with_len}
 use Rattle.std.proofs.Common.{refl, sym, ap, ap₂, subst, ◌∙◌, arith, inl, inr, leb-true, eqb-true}
 use Rattle.std.proofs.lemmas.Bool.{ltb-false, and_parts, and_from, or_cases, or_left, or_right}
-use Rattle.std.proofs.lemmas.List.{length-set, get_or-set_same, get_or-set_other, get_or_append_left}
+use Rattle.std.proofs.lemmas.List.{length-set, get_or-set_same, get_or-set_other, get_or_append_left, take_more}
 use Rattle.std.proofs.Math.Seq.{get_or-append_seam}
 use Rattle.std.proofs.lemmas.List.Folds.{list_any-append}
 use Rattle.std.proofs.lemmas.List.FromFn.{map-range_with_len_more}
@@ -15,9 +15,10 @@ use Rattle.cosem_data.proofs.Same.{same_cell-true, same_cell-refl, same_name-tru
 use Rattle.meter_theory.specs.Lists.{IsIn, some_passes}
 use Rattle.meter_theory.specs.Edges.{among}
 use Rattle.meter_theory.specs.Labels.{MayChange, has, method_changes_of}
-use Rattle.meter_theory.specs.Plan.{Plan, Object, Part, Data1, Right, cells, interface_of, object_at}
+use Rattle.meter_theory.specs.Plan.{Plan, Object, Part, Data1, Right, buffer, cells, entries_in_use, interface_of, object_at}
 use Rattle.meter_theory.specs.Rights.{has_right, lists, may_act, may_get, may_set}
 use Rattle.meter_theory.specs.Sound.{IsSound, are_indexes, highest_method}
+use Rattle.meter_theory.specs.Steps.{empties}
 use Rattle.meter_theory.specs.declared.flow.Label.{Label}
 use Rattle.meter_theory.specs.declared.limits.TheConstants.{CLIENTS}
 use Rattle.cosem_data.specs.declared.name.LogicalName.{LogicalName}
@@ -28,7 +29,7 @@ use Rattle.meter_theory.proofs.Lists.{any_in, in_any, in_flat_map, in_map, in_ra
 use Rattle.meter_theory.proofs.Theorem.{all_at}
 use Rattle.flow_edges.specs.Table.{cell_at, AreCells}
 use Rattle.flow_edges.proofs.Sources.{numbered, unnumbered}
-use Rattle.label_certificate.specs.Granted.{AreGranted, AreOwn, AreJoined, by_clients, label_in, may_call_for, methods_of}
+use Rattle.label_certificate.specs.Granted.{AreGranted, AreOwn, AreJoined, by_clients, emptied_by, label_in, may_call_for, may_empty, methods_of}
 
 -- the labels of the first cells have the clients that may set, and those that may read them
 abbrev pub IsOwnTo : Plan → ℕ → List Label → Type 0
@@ -208,37 +209,80 @@ calls-found P sound c x m may changes =
     (subst (λ n. may_act P c (record { class_id = (interface_of o.0.part).class_id; name = n; index = m.index }) ≡ true) (sym o.2) may)
     (subst (λ n. among (method_changes_of P (record { class_id = (interface_of o.0.part).class_id; name = n; index = m.index })) x ≡ true) (sym o.2) (in_among (method_changes_of P m) x changes)))
 
-pub all-granted : (P : Plan) (own labels : List Label) → IsSound P → AreOwn P own → AreJoined P (may_call_for P (flat_map methods_of P.objects)) own labels → AreGranted P labels
-all-granted P own labels sound first joined = record {
+-- one more cell that may be set
+pub emptied-more : (P : Plan) (xs : List CellRef) (k : ℕ) (x : CellRef) (old now new : List Label) → k < length xs → x ≡ get_or xs k x →
+    AreJoined P (may_empty P (take k xs)) old now → AreJoined P (may_empty P (x ∷ [])) now new → AreJoined P (may_empty P (take (k + 1) xs)) old new
+emptied-more P xs k x old now new less is first next =
+    joined-both P (may_empty P (take k xs)) (may_empty P (x ∷ [])) (may_empty P (take (k + 1) xs)) old now new
+    (λ c y. ap (λ zs. may_empty P zs c y) (take_more xs k x less ∙ ap (λ z. take k xs ++ z ∷ []) (sym is))
+    ∙ list_any-append (λ z. may_set P c z && among (emptied_by z) y) (take k xs) (x ∷ []))
+    first next
+
+-- a cell whose write empties nothing
+pub empties-nothing : (P : Plan) (y : CellRef) → empties y ≡ false → (c : ℕ) (x : CellRef) → may_empty P (y ∷ []) c x ≡ false
+empties-nothing P y none c x =
+    ap (λ b. (may_set P c y && among (cond b (buffer y.name ∷ entries_in_use y.name ∷ []) []) x) || false) none ∙ at (may_set P c y)
+  where
+    at : (b : Bool) → ((b && false) || false) ≡ false
+    at true = refl
+    at false = refl
+
+-- and one whose write empties a profile
+pub empties-both : (P : Plan) (y : CellRef) (clients : ClientSet) → empties y ≡ true → ((c : ℕ) → has clients c ≡ may_set P c y) →
+    (c : ℕ) (x : CellRef) → may_empty P (y ∷ []) c x ≡ by_clients clients (buffer y.name ∷ entries_in_use y.name ∷ []) c x
+empties-both P y clients all asked c x =
+    sym (or-none (may_set P c y && among (emptied_by y) x))
+    ∙ (ap (λ b. may_set P c y && among (cond b (buffer y.name ∷ entries_in_use y.name ∷ []) []) x) all
+    ∙ ap (λ b. b && among (buffer y.name ∷ entries_in_use y.name ∷ []) x) (sym (asked c)))
+
+pub all-granted : (P : Plan) (own written labels : List Label) → IsSound P → AreOwn P own → AreJoined P (may_empty P (cells P)) own written →
+    AreJoined P (may_call_for P (flat_map methods_of P.objects)) written labels → AreGranted P labels
+all-granted P own written labels sound first emptied called = record {
   size = joined.size ∙ first.size;
   each = λ i h. record {
-    influence = λ c. (
-      λ e. given i h c (joined.influence i h c ∙ ap (λ b. b || may_call_for P (flat_map methods_of P.objects) c (cell_at (cells P) i)) (first.influence i h c)) e,
-      λ may. (joined.influence i h c ∙ ap (λ b. b || may_call_for P (flat_map methods_of P.objects) c (cell_at (cells P) i)) (first.influence i h c)) ∙ may_from c (cell_at (cells P) i) may,
+    influence = λ c. let x = cell_at (cells P) i in let is = joined.influence i h c ∙ ap (λ b. b || more c x) (first.influence i h c) in (
+      λ e. given c x (item_at (cells P) i h) (sym is ∙ e),
+      λ may. is ∙ may_from c x may,
     );
     learn = λ c. ap (λ z. has z c) (joined.learn i) ∙ first.learn i h c;
   };
 }
   where
-    may_from : (c : ℕ) (x : CellRef) → MayChange P c x → (may_set P c x || may_call_for P (flat_map methods_of P.objects) c x) ≡ true
-    may_from c x (inl h) = or_left (may_set P c x) (may_call_for P (flat_map methods_of P.objects) c x) h.1
-    may_from c x (inr h) = or_right (may_set P c x) (may_call_for P (flat_map methods_of P.objects) c x) (calls-found P sound c x h.0 h.1 h.2)
+    more : ℕ → CellRef → Bool
+    more c x = may_empty P (cells P) c x || may_call_for P (flat_map methods_of P.objects) c x
+
+    joined : AreJoined P more own labels
+    joined = joined-both P (may_empty P (cells P)) (may_call_for P (flat_map methods_of P.objects)) more own written labels (λ c x. refl) emptied called
+
+    may_from : (c : ℕ) (x : CellRef) → MayChange P c x → (may_set P c x || more c x) ≡ true
+    may_from c x (inl (y, there, sets, inl same)) = or_left (may_set P c x) (more c x) (subst (λ z. may_set P c z ≡ true) (sym same) sets)
+    may_from c x (inl (y, there, sets, inr changes)) =
+        or_right (may_set P c x) (more c x)
+        (or_left (may_empty P (cells P) c x) (may_call_for P (flat_map methods_of P.objects) c x)
+        (in_any (λ z. may_set P c z && among (emptied_by z) x) (cells P) y there (and_from (may_set P c y) (among (emptied_by y) x) sets (in_among (emptied_by y) x changes))))
+    may_from c x (inr h) =
+        or_right (may_set P c x) (more c x)
+        (or_right (may_empty P (cells P) c x) (may_call_for P (flat_map methods_of P.objects) c x) (calls-found P sound c x h.0 h.1 h.2))
 
     item_at : (xs : List CellRef) (i : ℕ) → i < length xs → IsIn xs (cell_at xs i)
     item_at [] i h = absurd (omega arith)
     item_at (x ∷ xs) zero h = inl refl
     item_at (x ∷ xs) (suc i) h = inr (item_at xs i (omega arith))
 
-    given : (i : ℕ) → i < length (cells P) → (c : ℕ) →
-        has (label_in labels i).influence c ≡ (may_set P c (cell_at (cells P) i) || may_call_for P (flat_map methods_of P.objects) c (cell_at (cells P) i)) →
-        has (label_in labels i).influence c ≡ true → MayChange P c (cell_at (cells P) i)
-    given i h c is e =
-        elim (or_cases (may_set P c (cell_at (cells P) i)) (may_call_for P (flat_map methods_of P.objects) c (cell_at (cells P) i)) (sym is ∙ e)) [
-          | inl s ↦ inl (item_at (cells P) i h, s)
-          | inr s ↦
-              let m = any_in (λ m. may_act P c m && among (method_changes_of P m) (cell_at (cells P) i)) (flat_map methods_of P.objects) s in
-              let p = and_parts (may_act P c m.0) (among (method_changes_of P m.0) (cell_at (cells P) i)) m.2 in
-              inr (m.0, p.0, among_in (method_changes_of P m.0) (cell_at (cells P) i) p.1)
+    given : (c : ℕ) (x : CellRef) → IsIn (cells P) x → (may_set P c x || more c x) ≡ true → MayChange P c x
+    given c x there e =
+        elim (or_cases (may_set P c x) (more c x) e) [
+          | inl s ↦ inl (x, there, s, inl refl)
+          | inr s ↦ elim (or_cases (may_empty P (cells P) c x) (may_call_for P (flat_map methods_of P.objects) c x) s) [
+            | inl w ↦
+                let y = any_in (λ z. may_set P c z && among (emptied_by z) x) (cells P) w in
+                let p = and_parts (may_set P c y.0) (among (emptied_by y.0) x) y.2 in
+                inl (y.0, y.1, p.0, inr (among_in (emptied_by y.0) x p.1))
+            | inr w ↦
+                let m = any_in (λ m. may_act P c m && among (method_changes_of P m) x) (flat_map methods_of P.objects) w in
+                let p = and_parts (may_act P c m.0) (among (method_changes_of P m.0) x) m.2 in
+                inr (m.0, p.0, among_in (method_changes_of P m.0) x p.1)
+          ]
         ]
 
 -- all clients that there are were asked

@@ -4,7 +4,7 @@ use Rattle.std.proofs.Common.{refl, sym, ap, subst, ◌∙◌, append_assoc, ari
 use Rattle.std.proofs.lemmas.List.{length-append}
 use Rattle.cosem_data.specs.Cells.{same_cell}
 use Rattle.cosem_data.specs.declared.cell.CellRef.{CellRef}
-use Rattle.cosem_data.proofs.Same.{same_cell-true, same_cell-refl}
+use Rattle.cosem_data.proofs.Same.{same_cell-refl}
 use Rattle.meter_theory.specs.Labels.{Labels}
 use Rattle.meter_theory.specs.Plan.{Plan, cells}
 use Rattle.meter_theory.specs.Sound.{IsSound}

@@ -1,5 +1,5 @@
 -- What the rights of a plan ask of the labels of its cells.
-use Rattle.std.specs.Prelude.{◌≡◌, ◌↔◌, ◌<◌, ℕ, Bool, true, ◌&&◌, ◌||◌, List, length, map, get_or}
+use Rattle.std.specs.Prelude.{◌≡◌, ◌↔◌, ◌<◌, ℕ, Bool, true, ◌&&◌, ◌||◌, cond, List, [], ◌∷◌, length, map, get_or}
 use Rattle.std.specs.List.{list_any, range_with_len}
 use Rattle.cosem_data.specs.declared.cell.CellRef.{CellRef}
 use Rattle.cosem_data.specs.declared.cell.MethodRef.{MethodRef}
@@ -7,8 +7,9 @@ use Rattle.cosem_data.specs.declared.clients.ClientSet.{ClientSet}
 use Rattle.meter_theory.specs.declared.flow.Label.{Label}
 use Rattle.meter_theory.specs.Edges.{among}
 use Rattle.meter_theory.specs.Labels.{MayChange, has, method_changes_of, nobody}
-use Rattle.meter_theory.specs.Plan.{Plan, Object, cells, interface_of}
+use Rattle.meter_theory.specs.Plan.{Plan, Object, buffer, cells, entries_in_use, interface_of}
 use Rattle.meter_theory.specs.Rights.{may_act, may_get, may_set}
+use Rattle.meter_theory.specs.Steps.{empties}
 use Rattle.flow_edges.specs.Table.{cell_at}
 
 -- the label of a cell has each client with a right that changes it, each that may read it, and no other: own profile
@@ -25,7 +26,15 @@ pub record AreGranted (P : Plan) (labels : List Label) : Type 0 where
   pub size : length labels ≡ length (cells P)
   pub each : (i : ℕ) → i < length (cells P) → IsGranted P (cell_at (cells P) i) (label_in labels i)
 
--- Method by method
+-- Cell by cell, and method by method
+
+-- what a write of this cell changes beside it: the rows of a profile whose capture_objects it is (IEC 62056-6-2, Profile generic)
+abbrev pub emptied_by : CellRef → List CellRef
+emptied_by x = cond (empties x) (buffer x.name ∷ entries_in_use x.name ∷ []) []
+
+-- the client may set one of these cells, and this empties x: own profile
+abbrev pub may_empty : Plan → List CellRef → ℕ → CellRef → Bool
+may_empty P xs c x = list_any (λ y. may_set P c y && among (emptied_by y) x) xs
 
 -- the methods of an object, from 1 (IEC 62056-6-2, interface classes)
 abbrev pub methods_of : Object → List MethodRef

@@ -1,17 +1,18 @@
 //! What the rights of a plan ask of the labels of its cells.
-ghost use Rattle.std.specs.Prelude.{◌≡◌, ℕ, length, IfOk, OnOk};
+ghost use Rattle.std.specs.Prelude.{◌≡◌, ℕ, ◌∷◌, [], length, IfOk, OnOk};
 ghost use Rattle.cosem_data.specs.Cells.{cell};
 ghost use Rattle.meter_theory.specs.Plan as theory;
 ghost use Rattle.meter_theory.specs.Labels.{has, method_changes_of};
 ghost use Rattle.meter_theory.specs.Rights.{may_act, may_get, may_set};
-ghost use Rattle.label_certificate.specs.Granted.{AreGranted, AreJoined, AreOwn, by_clients, may_call_for, methods_of};
+ghost use Rattle.label_certificate.specs.Granted.{AreGranted, AreJoined, AreOwn, by_clients, may_call_for, may_empty, methods_of};
 
 use cosem_data::cell::{CellRef, MethodRef};
 use cosem_data::clients::ClientSet;
 use cosem_data::memory::Memory;
-use flow_edges::changes::push_method_changes;
+use flow_edges::changes::{empties, push_method_changes};
 use meter_theory::flow::Label;
 use meter_theory::limits::CLIENTS;
+use object_model::cells::{buffer, entries_in_use};
 use object_model::instance::Instance;
 use object_model::object::Object;
 use object_model::plan::Plan;
@@ -36,6 +37,7 @@ pub(crate) fn granted_to_cells(
 {
     plan.known();
     let mut labels = own_labels(alloc, plan, cells)?;
+    join_writes(plan, cells, &mut labels);
     for object in plan.objects() {
         join_methods(alloc, plan, object, &mut labels)?;
     }
@@ -92,6 +94,33 @@ fn readers(instance: &Instance<'_>, index: u8) -> ClientSet
         }
     }
     clients
+}
+
+/// Lets the clients that may set a cell influence those that this empties.
+fn join_writes(plan: &Plan, cells: &[CellRef], labels: &mut [Label])
+    requires { length labels.old ≡ length (theory.cells plan.now) }
+    ensures { AreJoined plan.now (may_empty plan.now cells.now) labels.old labels.new }
+{
+    for cell in cells {
+        join_write(plan, cell, labels);
+    }
+}
+
+/// Lets the clients that may set one cell influence those that this empties. Most cells empty none.
+fn join_write(plan: &Plan, cell: &CellRef, labels: &mut [Label])
+    requires { length labels.old ≡ length (theory.cells plan.now) }
+    ensures { AreJoined plan.now (may_empty plan.now (cell.now ∷ [])) labels.old labels.new }
+{
+    if !empties(cell) {
+        return;
+    }
+    let clients = setters(&plan.instance(&cell.name), cell.index);
+    join(
+        plan,
+        &[buffer(cell.name), entries_in_use(cell.name)],
+        clients,
+        labels,
+    );
 }
 
 /// Lets the clients that may call a method of the object influence the cells that it changes.

@@ -1,10 +1,10 @@
-use Rattle.std.proofs.Common.{◌≡◌, ◌∙◌, [], ◌∷◌, ap, sym, subst, Some}
-use Rattle.std.specs.Prelude.{option_map, filter}
+use Rattle.std.proofs.Common.{◌∙◌, ap, sym, subst}
+use Rattle.std.specs.Prelude.{filter}
 use Rattle.std.proofs.lemmas.Result.{on_ok_weaker}
 use Rattle.meter_theory.specs.Lists.{IsIn}
-use Rattle.meter_theory.specs.Plan.{cells, clock_object}
+use Rattle.meter_theory.specs.Plan.{cells}
 use Rattle.flow_edges.specs.Table.{cell_at}
-use Rattle.flow_edges.proofs.Objects.{each-added, gathered-none, no-clock-edges}
+use Rattle.flow_edges.proofs.Objects.{each-added}
 use Rattle.flow_edges.proofs.Sources.{clock-cell}
 use Rattle.flow_edges.proofs.edges.add_clock_to_each.Goals as goal
 

@@ -3,7 +3,7 @@ use Rattle.meter_theory.specs.Labels.{AreLeast}
 use Rattle.meter_theory.specs.Plan.{cells}
 use Rattle.flow_edges.specs.Table.{AreCells, AreWithin, edge_at}
 use Rattle.label_certificate.specs.Least.{AreClosed, against, along, labels_of_sets}
-use Rattle.label_certificate.proofs.Closed.{are-least, if-ok-then, labels-cells, links-within, sizes}
+use Rattle.label_certificate.proofs.Closed.{are-least, labels-cells, links-within, sizes}
 use Rattle.label_certificate.proofs.Listed.{listed_in_order}
 use Rattle.label_certificate.proofs.least.make_labels.Goals as goal
 use Rattle.label_certificate.proofs.least.make_labels.Goals.{In_ok-entries}

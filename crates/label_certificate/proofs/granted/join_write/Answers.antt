@@ -1,0 +1,23 @@
+use Rattle.std.proofs.Common.{◌≡◌, ◌∙◌, ◌∷◌, [], sym, ap₂, subst}
+use Rattle.cosem_data.specs.Cells.{cell}
+use Rattle.meter_theory.specs.Labels.{has}
+use Rattle.meter_theory.specs.Plan.{buffer, entries_in_use}
+use Rattle.meter_theory.specs.Rights.{may_set}
+use Rattle.label_certificate.specs.Granted.{AreJoined, by_clients, may_empty}
+use Rattle.label_certificate.proofs.Joining.{empties-both, empties-nothing, joined-nothing, joined-same}
+use Rattle.label_certificate.proofs.granted.join_write.Goals as goal
+
+pub returns-then-not-empties : goal.returns-then-not-empties
+returns-then-not-empties c =
+    joined-nothing c.args.plan.now (may_empty c.args.plan.now (c.args.cell.now ∷ [])) c.args.labels.now
+    (empties-nothing c.args.plan.now c.args.cell.now (sym c.empties.ensures ∙ c.if-not-empties.true))
+
+pub returns : goal.returns
+returns c =
+    let P = c.args.plan.now in
+    let y = c.args.cell.now in
+    joined-same P (by_clients c.setters-clients.result (buffer y.name ∷ entries_in_use y.name ∷ [])) (may_empty P (y ∷ [])) c.args.labels.now c.join.new.labels
+    (empties-both P y c.setters-clients.result (sym c.empties.ensures ∙ c.if-not-empties.false)
+    (λ d. subst (λ i. has c.setters-clients.result d ≡ may_set i.plan d (cell 0 i.name y.index)) c.instance.ensures (c.setters-clients.ensures 0 d)))
+    (subst (λ ys. AreJoined P (by_clients c.setters-clients.result ys) c.args.labels.now c.join.new.labels)
+    (ap₂ (λ a b. a ∷ b ∷ []) c.buffer.ensures c.entries_in_use.ensures) c.join.ensures)
