@@ -2,7 +2,7 @@
 use Rattle.std.specs.Prelude.{Result, ⊤}
 use Rattle.config_text.specs.Fault.{Fault, ◌>>=◌}
 use Rattle.config_text.specs.Parts.{ConfigText}
-use Rattle.config_rules.specs.Passes.{forms, new_objects, known_classes, known_clients, new_clients, known_references, known_indexes, valid_values, settable_rights, equal_counts, new_scripts, no_executes, within_limits, new_labels, fed_values, valid_times, valid_sorting, new_clocks}
+use Rattle.config_rules.specs.Passes.{forms, new_objects, known_classes, known_clients, new_clients, known_references, known_indexes, valid_values, settable_rights, equal_counts, new_scripts, no_executes, within_limits, new_labels, fed_values, valid_times, valid_sorting, new_clocks, new_alternatives}
 
 -- the passes over names and indexes, one code after another (own profile)
 unfoldable pub judged_names : ConfigText → Result ⊤ Fault
@@ -28,7 +28,8 @@ judged_rest c = do
   inputs ← fed_values c  -- C18
   times ← valid_times c  -- C19
   sorting ← valid_sorting c  -- C20
-  new_clocks c  -- C21
+  clocks ← new_clocks c  -- C21
+  new_alternatives c  -- C22
 
 -- one half, and then the other
 abbrev pub both_halves : ConfigText → Result ⊤ Fault

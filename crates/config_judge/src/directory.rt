@@ -8,10 +8,13 @@ ghost use Rattle.std.specs.Ordering.{nat_cmp};
 ghost use Rattle.std.specs.Str.{bytes_eq};
 ghost use Rattle.config_text.specs.declared.fault.ConfigFault.TheVariants.{Memory};
 ghost use Rattle.config_rules.specs.Names as spec;
+ghost use Rattle.meter_theory.specs.Classes as classes;
 
+use crate::menus::has_menu;
 use crate::places::first_places;
 use config_text::fault::ConfigFault;
 use config_text::parts::{ConfigParts, ObjectParts};
+use meter_theory::classes::{is_cell, is_choice, is_settable};
 use std::alloc::Global;
 use std::collections::BTreeMap;
 
@@ -86,6 +89,32 @@ impl<'a> Directory<'a> {
             Some(object) => object.class_id,
             None => 0,
         }
+    }
+
+    /// Whether the object with this logical name has a menu.
+    pub(crate) fn has_menu(&self, name: &str) -> bool
+        ensures { result ≡ spec.menu_key_of (spec.object_named self.now.config.now name.now) }
+    {
+        match self.object(name) {
+            Some(object) => has_menu(&object.body),
+            None => false,
+        }
+    }
+
+    /// Whether a request or a script may set the attribute of the object with this logical name.
+    pub(crate) fn is_settable(&self, name: &str, index: u8) -> bool
+        ensures { result ≡ spec.passes_or_chosen self.now.config.now classes.is_settable name.now index }
+    {
+        let class = self.class(name);
+        is_settable(class, index) || self.has_menu(name) && is_choice(class, index)
+    }
+
+    /// Whether the attribute of the object with this logical name can change.
+    pub(crate) fn is_cell(&self, name: &str, index: u8) -> bool
+        ensures { result ≡ spec.passes_or_chosen self.now.config.now classes.is_cell name.now index }
+    {
+        let class = self.class(name);
+        is_cell(class, index) || self.has_menu(name) && is_choice(class, index)
     }
 
     /// The place of the first client with this name.

@@ -10,7 +10,7 @@ ghost use Rattle.config_rules.specs.Walks as walks;
 
 use crate::directory::Directory;
 use crate::judged::fault_if;
-use crate::reference_walk::each_action;
+use crate::reference_walk::{each_action, each_capture};
 use crate::walk::{Judge, each, each_below};
 use config_text::fault::{Code, ConfigFault};
 use config_text::parts::{
@@ -18,9 +18,7 @@ use config_text::parts::{
 };
 use config_text::place::Place;
 use config_text::service::Service;
-use meter_theory::classes::{
-    has_attribute, has_method, is_capturable, is_monitorable, is_settable,
-};
+use meter_theory::classes::{has_attribute, has_method, is_capturable, is_monitorable};
 use std::alloc::Global;
 
 /// Judges the index of an attribute that is captured.
@@ -53,10 +51,10 @@ fn monitored(
 fn is_usable(directory: &Directory<'_>, service: Service, target: &TargetParts) -> bool
     ensures { result ≡ is_usable directory.now.config.now service target.now }
 {
-    let class = directory.class(target.object.as_str());
+    let name = target.object.as_str();
     match service {
-        Service::Write => is_settable(class, target.index),
-        Service::Invoke => has_method(class, target.index),
+        Service::Write => directory.is_settable(name, target.index),
+        Service::Invoke => has_method(directory.class(name), target.index),
     }
 }
 
@@ -108,13 +106,8 @@ fn usable_indexes(
     ensures { Gives (λ u. u) result (spec.usable_indexes directory.now.config.now at.now (body_text body.now)) }
 {
     match body {
-        BodyParts::ProfileGeneric { capture, .. } => {
-            each_below(
-                &UsableCapture { directory },
-                at,
-                ".capture",
-                capture.as_slice(),
-            )
+        BodyParts::ProfileGeneric { capture, menu, .. } => {
+            each_capture(&UsableCapture { directory }, at, capture.as_slice(), menu)
         }
         BodyParts::ScriptTable { scripts } => {
             each_action(&UsableAction { directory }, at, scripts.as_slice())

@@ -12,10 +12,10 @@ use crate::walk::{JudgeNew, each_new};
 use config_text::fault::{Code, ConfigFault};
 use config_text::parts::{LabelParts, TargetParts};
 use config_text::place::Place;
-use meter_theory::classes::is_cell;
 use std::alloc::Global;
 
-fn same_target(one: &TargetParts, other: &TargetParts) -> bool
+/// Whether two targets are one.
+pub(crate) fn same_target(one: &TargetParts, other: &TargetParts) -> bool
     ensures { result ≡ passes.same_target one.now other.now }
 {
     one.object.as_str() == other.object.as_str() && one.index == other.index
@@ -30,12 +30,13 @@ fn has_label(labels: &[LabelParts], target: &TargetParts) -> bool
         .any(|label| same_target(&label.target, target))
 }
 
-/// Whether a target is no cell, or one of the labels is of it.
-fn is_wrong(directory: &Directory<'_>, earlier: &[LabelParts], target: &TargetParts) -> bool
-    ensures { result ≡ (not (names.target_is directory.now.config.now classes.is_cell target.now) || list_any (λ e. passes.same_target e.target target.now) earlier.now) }
+/// Whether the target of a label is no cell, or one of the labels before is of it.
+fn is_wrong(directory: &Directory<'_>, earlier: &[LabelParts], label: &LabelParts) -> bool
+    ensures { result ≡ (not (names.passes_or_chosen directory.now.config.now classes.is_cell label.now.target.object label.now.target.index)
+        || list_any (λ e. passes.same_target e.target label.now.target) earlier.now) }
 {
-    let class = directory.class(target.object.as_str());
-    !is_cell(class, target.index) || has_label(earlier, target)
+    let cell = directory.is_cell(label.target.object.as_str(), label.target.index);
+    !cell || has_label(earlier, &label.target)
 }
 
 /// The target of a label.
@@ -57,7 +58,7 @@ impl<'d, 'c> JudgeNew for NewLabel<'d, 'c> {
         at: &Place<'_>,
         label: &LabelParts,
     ) -> Result<(), ConfigFault> {
-        let wrong = is_wrong(self.directory, earlier, &label.target);
+        let wrong = is_wrong(self.directory, earlier, label);
         fault_if(Code::Label, at, ".index", wrong)
     }
 }

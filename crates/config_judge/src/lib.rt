@@ -1,5 +1,5 @@
 //! Whether what the tables of a configuration say is right (own profile): names and indexes, values, rights, labels and sizes,
-//! the codes C4 to C21, each looked for in the whole configuration before the next; and what its names lead to.
+//! the codes C4 to C22, each looked for in the whole configuration before the next; and what its names lead to.
 #![tactic(auto)]
 
 pub mod arrays;
@@ -16,6 +16,7 @@ mod kinds;
 mod labels;
 pub mod laws;
 mod limits;
+mod menus;
 mod objects;
 mod passes;
 mod places;
@@ -24,6 +25,7 @@ mod references;
 mod rights;
 mod scripts;
 mod sorting;
+pub mod targets;
 mod times;
 mod value;
 mod values;

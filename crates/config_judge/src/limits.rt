@@ -1,5 +1,6 @@
 //! C16: more than a limit allows.
-ghost use Rattle.std.specs.Prelude.{◌≡◌, ◌++◌, ◌||◌, IfOk, Some, codes, length, map, nat_lt, not, option_map, string_bytes};
+ghost use Rattle.std.specs.Prelude.{◌≡◌, ◌++◌, ◌||◌, [], IfOk, Some, codes, length, map, nat_lt, not, option_map, string_bytes};
+ghost use Rattle.std.specs.Option.{unwrap_or};
 ghost use Rattle.meter_theory.specs.Value.{is_within_limits};
 ghost use Rattle.config_text.specs.BodyView.{body_text};
 ghost use Rattle.config_text.specs.Fault.{Gives};
@@ -13,17 +14,19 @@ ghost use Rattle.config_judge.specs.Lines.{followed_by};
 
 use crate::arrays::{times_of, values_of};
 use crate::judged::fault_if;
+use crate::menus::menu_in;
 use crate::walk::{Judge, each, each_below};
 use config_text::fault::{Code, ConfigFault};
 use config_text::parts::{
-    ActionParts, BodyParts, CaptureParts, ConfigParts, ObjectParts, ScriptParts, UpDownParts,
+    ActionParts, AlternativeParts, BodyParts, CaptureParts, ConfigParts, ObjectParts, ScriptParts,
+    ScriptRefParts, UpDownParts,
 };
 use config_text::place::Place;
 use cosem_class::judge::keeps_limits;
 use cosem_data::data::{Data, Items};
 use cosem_data::memory::Memory;
 use meter_theory::limits::{
-    ACTIONS, CAPTURE_OBJECTS, CLIENTS, EXECUTION_TIMES, OBJECTS, PROFILE_ENTRIES, SCRIPTS,
+    ACTIONS, CAPTURE_OBJECTS, CLIENTS, EXECUTION_TIMES, MENU, OBJECTS, PROFILE_ENTRIES, SCRIPTS,
     THRESHOLDS,
 };
 use std::alloc::Global;
@@ -108,17 +111,63 @@ fn register_limits(at: &Place<'_>, value: &str, default: &str) -> Result<(), Con
     small_value(at, ".default", default)
 }
 
-/// The number of captures, and of entries.
+/// The number of alternatives of a menu, if it is there.
+fn menu_size<T: Drop>(at: &Place<'_>, key: &str, menu: &Option<Vec<T>>) -> Result<(), ConfigFault>
+    ensures { Gives (λ u. u) result (passes.menu_size (at.now ++ key.now) (option_map (λ v. v.items) menu.now)) }
+{
+    match menu {
+        Some(alternatives) => {
+            let number = alternatives.len();
+            fault_if(Code::Limit, at, key, number < 1 || MENU < number)
+        }
+        None => Ok(()),
+    }
+}
+
+/// The number of attributes of an alternative.
+#[derive(Drop)]
+struct FewCaptures;
+
+impl Judge for FewCaptures {
+    ghost use Rattle.meter_theory.specs.declared.limits.TheConstants.{CAPTURE_OBJECTS};
+    ghost use Rattle.config_rules.specs.Passes.{at_most};
+
+    type Part = AlternativeParts;
+
+    ghost judges = { λ _. at_most CAPTURE_OBJECTS };
+
+    fn judge(&self, at: &Place<'_>, alternative: &AlternativeParts) -> Result<(), ConfigFault> {
+        at_most(at, "", CAPTURE_OBJECTS, alternative.captures.len())
+    }
+}
+
+/// The numbers of alternatives, and of attributes that each captures.
+fn capture_menu_limits(
+    at: &Place<'_>,
+    menu: &Option<Vec<AlternativeParts>>,
+) -> Result<(), ConfigFault>
+    ensures { Gives (λ u. u) result (followed_by (passes.menu_size (at.now ++ codes ".capture_menu") (option_map (λ v. v.items) menu.now))
+        (walks.each (passes.at_most CAPTURE_OBJECTS) (at.now ++ codes ".capture_menu") (unwrap_or (option_map (λ v. v.items) menu.now) []))) }
+{
+    menu_size(at, ".capture_menu", menu)?;
+    each_below(&FewCaptures, at, ".capture_menu", menu_in(menu))
+}
+
+/// The numbers of captures, of entries, and those of the menu.
 fn profile_limits(
     at: &Place<'_>,
     captures: &[CaptureParts],
     entries: u64,
+    menu: &Option<Vec<AlternativeParts>>,
 ) -> Result<(), ConfigFault>
     ensures { Gives (λ u. u) result (followed_by (faults.fault_if Limit (at.now ++ codes ".capture") (nat_lt CAPTURE_OBJECTS (length captures.now)))
-        (faults.fault_if Limit (at.now ++ codes ".entries") (nat_lt PROFILE_ENTRIES entries))) }
+        (followed_by (faults.fault_if Limit (at.now ++ codes ".entries") (nat_lt PROFILE_ENTRIES entries))
+        (followed_by (passes.menu_size (at.now ++ codes ".capture_menu") (option_map (λ v. v.items) menu.now))
+        (walks.each (passes.at_most CAPTURE_OBJECTS) (at.now ++ codes ".capture_menu") (unwrap_or (option_map (λ v. v.items) menu.now) []))))) }
 {
     at_most(at, ".capture", CAPTURE_OBJECTS, captures.len())?;
-    fault_if(Code::Limit, at, ".entries", PROFILE_ENTRIES < entries)
+    fault_if(Code::Limit, at, ".entries", PROFILE_ENTRIES < entries)?;
+    capture_menu_limits(at, menu)
 }
 
 /// The sizes of a script table.
@@ -180,6 +229,20 @@ fn time_limits(at: &Place<'_>, texts: &[String]) -> Result<(), ConfigFault>
     fault_if(Code::Limit, at, ".times", many || !small)
 }
 
+/// The sizes of a schedule.
+fn schedule_limits(
+    at: &Place<'_>,
+    times: &[String],
+    menu: &Option<Vec<ScriptRefParts>>,
+) -> Result<(), ConfigFault>
+    ensures { Gives (λ u. u) result (followed_by (faults.fault_if Limit (at.now ++ codes ".times")
+        (nat_lt EXECUTION_TIMES (length (map string_bytes times.now)) || not (is_within_limits (times_value (map string_bytes times.now)))))
+        (passes.menu_size (at.now ++ codes ".script_menu") (option_map (λ v. v.items) menu.now))) }
+{
+    time_limits(at, times)?;
+    menu_size(at, ".script_menu", menu)
+}
+
 /// The sizes in an object's body.
 #[tactic(auto, unfolding(config_rules::specs::Passes::limits_in))]
 fn limits_in(at: &Place<'_>, body: &BodyParts) -> Result<(), ConfigFault>
@@ -193,15 +256,18 @@ fn limits_in(at: &Place<'_>, body: &BodyParts) -> Result<(), ConfigFault>
         BodyParts::ProfileGeneric {
             capture,
             entries,
+            menu,
             ..
-        } => profile_limits(at, capture.as_slice(), *entries),
+        } => profile_limits(at, capture.as_slice(), *entries, menu),
         BodyParts::ScriptTable { scripts } => { script_table_limits(at, scripts.as_slice()) }
         BodyParts::RegisterMonitor {
             thresholds,
             actions,
             ..
         } => monitor_limits(at, thresholds.as_slice(), actions.as_slice()),
-        BodyParts::SingleActionSchedule { times, .. } => time_limits(at, times.as_slice()),
+        BodyParts::SingleActionSchedule { times, menu, .. } => {
+            schedule_limits(at, times.as_slice(), menu)
+        }
         BodyParts::Clock { .. } | BodyParts::Unknown => Ok(()),
     }
 }

@@ -14,6 +14,7 @@ use crate::indexes::known_indexes;
 use crate::labels::new_labels;
 use crate::laws::names_are_judged_first;
 use crate::limits::within_limits;
+use crate::menus::new_alternatives;
 use crate::objects::{known_classes, new_objects};
 use crate::references::known_references;
 use crate::rights::settable_rights;
@@ -50,7 +51,7 @@ fn judge_names(alloc: Global, directory: &Directory<'_>) -> Result<(), ConfigFau
     known_indexes(alloc, directory)
 }
 
-/// Judges values, rights, labels and sizes: the codes C11 to C21, one after another.
+/// Judges values, rights, labels and sizes: the codes C11 to C22, one after another.
 ///
 /// # Errors
 /// The least of the codes that is met, at the first place where it is.
@@ -69,13 +70,14 @@ fn judge_values(alloc: Global, directory: &Directory<'_>) -> Result<(), ConfigFa
     fed_values(alloc, config)?;
     valid_times(alloc, config)?;
     valid_sorting(alloc, config)?;
-    new_clocks(alloc, config)
+    new_clocks(alloc, config)?;
+    new_alternatives(alloc, config)
 }
 
 /// Judges what the tables of a configuration say.
 ///
 /// # Errors
-/// The least of the codes C4 to C21 that is met, at the first place where it is; C0 where memory was refused, at any time.
+/// The least of the codes C4 to C22 that is met, at the first place where it is; C0 where memory was refused, at any time.
 pub fn judge(alloc: Global, directory: &Directory<'_>) -> Result<(), ConfigFault>
     ensures { Gives (λ u. u) result (judged directory.now.config.now) }
 {

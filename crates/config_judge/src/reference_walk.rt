@@ -1,14 +1,17 @@
 //! What an object refers to: the objects of targets, and scripts.
 
-ghost use Rattle.std.specs.Prelude.{◌++◌, codes};
+ghost use Rattle.std.specs.Prelude.{◌++◌, [], codes, option_map};
+ghost use Rattle.std.specs.Option.{unwrap_or};
 ghost use Rattle.config_text.specs.BodyView.{body_text};
 ghost use Rattle.config_text.specs.Fault.{Gives};
 ghost use Rattle.config_rules.specs.Walks as spec;
 
-use crate::walk::{Judge, each_below};
+use crate::menus::menu_in;
+use crate::walk::{Judge, each, each_below};
 use config_text::fault::ConfigFault;
 use config_text::parts::{
-    ActionParts, BodyParts, CaptureParts, ScriptParts, ScriptRefParts, TargetParts, UpDownParts,
+    ActionParts, AlternativeParts, BodyParts, CaptureParts, ScriptParts, ScriptRefParts,
+    TargetParts, UpDownParts,
 };
 use config_text::place::Place;
 
@@ -42,6 +45,53 @@ pub(crate) fn each_action<J: Judge<Part = ActionParts>>(
     ensures { Gives (λ u. u) result (spec.each_action (J.judges judge.now) at.now scripts.now) }
 {
     each_below(&ScriptActions { judge }, at, ".script", scripts)
+}
+
+/// The captured attributes of an alternative, each judged.
+#[derive(Drop)]
+struct Alternative<'a, J> {
+    judge: &'a J,
+}
+
+impl<'a, J: Judge<Part = CaptureParts>> Judge for Alternative<'a, J> {
+    ghost use Rattle.config_rules.specs.Walks.{each};
+
+    type Part = AlternativeParts;
+
+    ghost judges = { λ all. each (J.judges all.judge.now) };
+
+    fn judge(&self, at: &Place<'_>, alternative: &AlternativeParts) -> Result<(), ConfigFault> {
+        each(self.judge, at, alternative.captures.as_slice())
+    }
+}
+
+/// Judges each attribute that a profile captures, at the start and by each alternative.
+///
+/// # Errors
+/// The fault of the first attribute that has one.
+pub(crate) fn each_capture<J: Judge<Part = CaptureParts>>(
+    judge: &J,
+    at: &Place<'_>,
+    capture: &[CaptureParts],
+    menu: &Option<Vec<AlternativeParts>>,
+) -> Result<(), ConfigFault>
+    ensures { Gives (λ u. u) result (spec.each_capture (J.judges judge.now) at.now
+        (record { start = capture.now; menu = option_map (λ v. v.items) menu.now })) }
+{
+    each_below(judge, at, ".capture", capture)?;
+    each_alternative(judge, at, menu)
+}
+
+/// Judges each attribute of each alternative of a profile's menu.
+pub(crate) fn each_alternative<J: Judge<Part = CaptureParts>>(
+    judge: &J,
+    at: &Place<'_>,
+    menu: &Option<Vec<AlternativeParts>>,
+) -> Result<(), ConfigFault>
+    ensures { Gives (λ u. u) result (spec.each (spec.each (J.judges judge.now)) (at.now ++ codes ".capture_menu")
+        (unwrap_or (option_map (λ v. v.items) menu.now) [])) }
+{
+    each_below(&Alternative { judge }, at, ".capture_menu", menu_in(menu))
 }
 
 /// What is judged of an object's references.
@@ -122,6 +172,48 @@ impl<'a, J: JudgeReferences> Judge for ThresholdScripts<'a, J> {
     }
 }
 
+/// The scripts of a menu, each judged.
+#[derive(Drop)]
+struct Runs<'a, J> {
+    judge: &'a J,
+}
+
+impl<'a, J: JudgeReferences> Judge for Runs<'a, J> {
+    type Part = ScriptRefParts;
+
+    ghost judges = { λ all. J.scripts all.judge.now };
+
+    fn judge(&self, at: &Place<'_>, script: &ScriptRefParts) -> Result<(), ConfigFault> {
+        self.judge.judge_script(at, script)
+    }
+}
+
+/// Judges the script of a schedule, at the start and by each alternative.
+fn each_run<J: JudgeReferences>(
+    judge: &J,
+    at: &Place<'_>,
+    script: &ScriptRefParts,
+    menu: &Option<Vec<ScriptRefParts>>,
+) -> Result<(), ConfigFault>
+    ensures { Gives (λ u. u) result (spec.each_run (J.scripts judge.now) at.now
+        (record { start = script.now; menu = option_map (λ v. v.items) menu.now })) }
+{
+    judge.judge_script(&at.below(".script"), script)?;
+    each_of_menu(judge, at, menu)
+}
+
+/// Judges each script of a schedule's menu.
+fn each_of_menu<J: JudgeReferences>(
+    judge: &J,
+    at: &Place<'_>,
+    menu: &Option<Vec<ScriptRefParts>>,
+) -> Result<(), ConfigFault>
+    ensures { Gives (λ u. u) result (spec.each (J.scripts judge.now) (at.now ++ codes ".script_menu")
+        (unwrap_or (option_map (λ v. v.items) menu.now) [])) }
+{
+    each_below(&Runs { judge }, at, ".script_menu", menu_in(menu))
+}
+
 /// Judges whatever an object refers to.
 ///
 /// # Errors
@@ -135,8 +227,8 @@ pub(crate) fn references<J: JudgeReferences>(
     ensures { Gives (λ u. u) result (spec.references (J.targets judge.now) (J.scripts judge.now) at.now (body_text body.now)) }
 {
     match body {
-        BodyParts::ProfileGeneric { capture, .. } => {
-            each_below(&Captures { judge }, at, ".capture", capture.as_slice())
+        BodyParts::ProfileGeneric { capture, menu, .. } => {
+            each_capture(&Captures { judge }, at, capture.as_slice(), menu)
         }
         BodyParts::ScriptTable { scripts } => {
             each_action(&ActionTargets { judge }, at, scripts.as_slice())
@@ -154,8 +246,8 @@ pub(crate) fn references<J: JudgeReferences>(
                 actions.as_slice(),
             )
         }
-        BodyParts::SingleActionSchedule { script, .. } => {
-            judge.judge_script(&at.below(".script"), script)
+        BodyParts::SingleActionSchedule { script, menu, .. } => {
+            each_run(judge, at, script, menu)
         }
         BodyParts::Data { .. }
         | BodyParts::Register { .. }

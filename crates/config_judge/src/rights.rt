@@ -8,27 +8,30 @@ use crate::walk::{Judge, each, each_below};
 use config_text::fault::{Code, ConfigFault};
 use config_text::parts::RightParts;
 use config_text::place::Place;
-use meter_theory::classes::is_settable;
+use meter_theory::classes::{is_choice, is_settable};
 use std::alloc::Global;
 
-/// Attributes of a class that can be set.
+/// Attributes that can be set, of an object of this class, with a menu or without.
 #[derive(Drop)]
 struct SettableOf {
     class: u16,
+    has_menu: bool,
 }
 
 impl Judge for SettableOf {
-    ghost use Rattle.std.specs.Prelude.{not};
+    ghost use Rattle.std.specs.Prelude.{not, ◌||◌, ◌&&◌};
     ghost use Rattle.config_text.specs.Fault.{fault_if};
     ghost use Rattle.config_text.specs.declared.fault.Code.TheVariants.{NotSettable};
-    ghost use Rattle.meter_theory.specs.Classes.{is_settable};
+    ghost use Rattle.meter_theory.specs.Classes as classes;
 
     type Part = u8;
 
-    ghost judges = { λ all at index. fault_if NotSettable at (not (is_settable all.class index)) };
+    ghost judges = { λ all at index. fault_if NotSettable at
+        (not (classes.is_settable all.class index || (all.has_menu && classes.is_choice all.class index))) };
 
     fn judge(&self, at: &Place<'_>, index: &u8) -> Result<(), ConfigFault> {
-        let settable = is_settable(self.class, *index);
+        let settable = is_settable(self.class, *index)
+            || self.has_menu && is_choice(self.class, *index);
         fault_if(Code::NotSettable, at, "", !settable)
     }
 }
@@ -44,16 +47,25 @@ impl<'d, 'c> Judge for SettableRights<'d, 'c> {
     ghost use Rattle.config_text.specs.Fault.{fault_if};
     ghost use Rattle.config_text.specs.declared.fault.Code.TheVariants.{NotSettable};
     ghost use Rattle.meter_theory.specs.Classes.{is_settable};
-    ghost use Rattle.config_rules.specs.Names.{class_named};
+    ghost use Rattle.config_rules.specs.Names.{passes_or_chosen};
     ghost use Rattle.config_rules.specs.Walks as walks;
 
     type Part = RightParts;
 
-    ghost judges = { λ all at r. walks.each (λ at index. fault_if NotSettable at (not (is_settable (class_named all.directory.now.config.now r.object) index))) (at ++ codes ".set") r.sets };
+    ghost judges = { λ all at r. walks.each
+        (λ at index. fault_if NotSettable at (not (passes_or_chosen all.directory.now.config.now is_settable r.object index)))
+        (at ++ codes ".set") r.sets };
 
     fn judge(&self, at: &Place<'_>, right: &RightParts) -> Result<(), ConfigFault> {
-        let class = self.directory.class(right.object.as_str());
-        each_below(&SettableOf { class }, at, ".set", right.sets.as_slice())
+        let object = right.object.as_str();
+        let class = self.directory.class(object);
+        let has_menu = self.directory.has_menu(object);
+        each_below(
+            &SettableOf { class, has_menu },
+            at,
+            ".set",
+            right.sets.as_slice(),
+        )
     }
 }
 

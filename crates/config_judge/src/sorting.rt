@@ -8,6 +8,7 @@ ghost use Rattle.config_rules.specs.Passes as passes;
 ghost use Rattle.config_rules.specs.Walks as walks;
 
 use crate::judged::fault_if;
+use crate::reference_walk::each_alternative;
 use crate::walk::{Judge, each, each_below};
 use config_text::fault::{Code, ConfigFault};
 use config_text::parts::{BodyParts, CaptureParts, ConfigParts, ObjectParts};
@@ -29,14 +30,11 @@ fn is_other(only: i64, given: Option<i64>) -> bool
 struct WholeCapture;
 
 impl Judge for WholeCapture {
-    ghost use Rattle.std.specs.Prelude.{◌++◌, codes, pos};
-    ghost use Rattle.config_text.specs.Fault.{fault_if};
-    ghost use Rattle.config_text.specs.declared.fault.Code.TheVariants.{Sorting};
-    ghost use Rattle.config_rules.specs.Passes.{is_other};
+    ghost use Rattle.config_rules.specs.Passes.{whole_attribute};
 
     type Part = CaptureParts;
 
-    ghost judges = { λ _ at x. fault_if Sorting (at ++ codes ".data_index") (is_other (pos 0) x.data_index) };
+    ghost judges = { λ _. whole_attribute };
 
     fn judge(&self, at: &Place<'_>, capture: &CaptureParts) -> Result<(), ConfigFault> {
         let other = is_other(0, capture.data_index);
@@ -46,7 +44,7 @@ impl Judge for WholeCapture {
 
 /// Judges the parts that are captured.
 fn whole_captures(at: &Place<'_>, captures: &[CaptureParts]) -> Result<(), ConfigFault>
-    ensures { Gives (λ u. u) result (walks.each (λ at x. faults.fault_if Sorting (at ++ codes ".data_index") (passes.is_other (pos 0) x.data_index)) (at.now ++ codes ".capture") captures.now) }
+    ensures { Gives (λ u. u) result (walks.each passes.whole_attribute (at.now ++ codes ".capture") captures.now) }
 {
     each_below(&WholeCapture, at, ".capture", captures)
 }
@@ -59,11 +57,13 @@ fn valid_sorting_in(at: &Place<'_>, body: &BodyParts) -> Result<(), ConfigFault>
         BodyParts::ProfileGeneric {
             capture,
             sort_method,
+            menu,
             ..
         } => {
             whole_captures(at, capture.as_slice())?;
             let other = is_other(1, *sort_method);
-            fault_if(Code::Sorting, at, ".sort_method", other)
+            fault_if(Code::Sorting, at, ".sort_method", other)?;
+            each_alternative(&WholeCapture, at, menu)
         }
         _ => Ok(()),
     }

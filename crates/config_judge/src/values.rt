@@ -1,9 +1,11 @@
 //! C11: values that aren't hex, aren't one Data, or aren't of their kind, and times of clocks that are no moments.
-ghost use Rattle.std.specs.Prelude.{◌≡◌, ◌==◌, ◌&&◌, ◌++◌, IfOk, codes, length, map, not, is_some, string_bytes};
-ghost use Rattle.std.specs.List.{list_all};
+ghost use Rattle.std.specs.Prelude.{◌≡◌, ◌==◌, ◌&&◌, ◌++◌, IfOk, codes, length, map, not, is_some, option_map, string_bytes};
+ghost use Rattle.std.specs.List.{list_all, list_any};
 ghost use Rattle.cosem_data.specs.View.{tree};
+ghost use Rattle.cosem_data.specs.Equal.{same_tree};
 ghost use Rattle.cosem_data.specs.Kinds.{kind_of, same_kind};
 ghost use Rattle.cosem_data.specs.declared.kind.Kind.TheVariants.{Array};
+ghost use Rattle.meter_theory.specs.Menus.{alternatives, capture_objects_value, script_ref_value};
 ghost use Rattle.meter_theory.specs.Value.{ClockTime, elements, meets};
 ghost use Rattle.meter_theory.specs.Times.{are_execution_times};
 ghost use Rattle.civil_moment.specs.MomentText.{moment_in};
@@ -15,20 +17,30 @@ ghost use Rattle.config_text.specs.declared.fault.Code.TheVariants.{Value};
 ghost use Rattle.config_rules.specs.Names.{object_named};
 ghost use Rattle.config_rules.specs.Passes as passes;
 ghost use Rattle.config_rules.specs.Values as spec;
+ghost use Rattle.config_rules.specs.PlanOf as plan;
 ghost use Rattle.config_rules.specs.Walks as walks;
+ghost use Rattle.config_rules.specs.Written as written;
+ghost use Rattle.config_rules.specs.Written.{is_one_of};
 ghost use Rattle.config_judge.specs.Lines.{followed_by};
 
 use crate::directory::Directory;
 use crate::judged::fault_if;
 use crate::kinds::{Kinds, has_kind, is_number, is_of_kind, may_be_number};
+use crate::menus::menu_in;
 use crate::reference_walk::each_action;
+use crate::targets::{cells_named, script_named};
 use crate::value::{is_moment_text, is_time_text, is_value, kind_in};
 use crate::walk::{Judge, JudgeText, each, each_text_below};
 use class_control::clock::judge_time;
 use class_control::judge::elements_of;
+use class_control::menus::is_executed_script;
 use class_control::times::are_execution_times;
+use class_profile::menus::is_capture_objects;
 use config_text::fault::{Code, ConfigFault};
-use config_text::parts::{ActionParts, BodyParts, ObjectParts, TargetParts, UpDownParts};
+use config_text::parts::{
+    ActionParts, AlternativeParts, BodyParts, CaptureParts, ObjectParts, ScriptRefParts,
+    TargetParts, UpDownParts,
+};
 use config_text::place::Place;
 use config_text::service::Service;
 use cosem_data::data::Data;
@@ -88,35 +100,122 @@ fn may_be_clock_time(value: &Data) -> bool
     judge_time(value).is_ok()
 }
 
-/// Whether a value may stand in the settable cell of an object with this body, which starts with a value of its own of this
-/// kind, the limits left aside.
-fn may_stand(kinds: &Kinds<'_, '_>, own: Option<Kind>, body: &BodyParts, value: &Data) -> bool
+/// Whether a value is the capture_objects of a profile that captures these attributes.
+fn is_capture_of(
+    alloc: Global,
+    directory: &Directory<'_>,
+    captures: &[CaptureParts],
+    value: &Data,
+) -> Result<bool, Memory>
+    ensures { IfOk result (λ is. is
+        ≡ same_tree (capture_objects_value (plan.cells_named directory.now.config.now captures.now)) (tree value.now)) }
+{
+    let cells = cells_named(alloc, directory, captures)?;
+    Ok(is_capture_objects(value, &cells))
+}
+
+/// Whether a value is the capture_objects of an alternative.
+fn is_of_alternative(
+    alloc: Global,
+    directory: &Directory<'_>,
+    menu: &[AlternativeParts],
+    value: &Data,
+) -> Result<bool, Memory>
+    ensures { IfOk result (λ is. is
+        ≡ list_any (λ a. same_tree (capture_objects_value (plan.cells_named directory.now.config.now a)) (tree value.now)) menu.now) }
+{
+    for alternative in menu {
+        if is_capture_of(alloc, directory, &alternative.captures, value)? {
+            return Ok(true);
+        }
+    }
+    Ok(false)
+}
+
+/// Whether a value may be the capture_objects of a profile.
+fn may_be_objects(
+    alloc: Global,
+    directory: &Directory<'_>,
+    capture: &[CaptureParts],
+    menu: &Option<Vec<AlternativeParts>>,
+    value: &Data,
+) -> Result<bool, Memory>
+    ensures { IfOk result (λ may. may ≡ is_one_of (map capture_objects_value (alternatives (plan.captures_of directory.now.config.now
+        (record { start = capture.now; menu = option_map (λ v. v.items) menu.now })))) (tree value.now)) }
+{
+    if is_capture_of(alloc, directory, capture, value)? {
+        return Ok(true);
+    }
+    is_of_alternative(alloc, directory, menu_in(menu), value)
+}
+
+/// Whether a value may be the executed_script of a schedule.
+fn may_be_script(script: &ScriptRefParts, menu: &Option<Vec<ScriptRefParts>>, value: &Data) -> bool
+    ensures { result ≡ is_one_of (map script_ref_value (alternatives (plan.scripts_of
+        (record { start = script.now; menu = option_map (λ v. v.items) menu.now })))) (tree value.now) }
+{
+    is_executed_script(value, script_named(script)) || is_of_menu(menu_in(menu), value)
+}
+
+/// Whether a value is the executed_script of a menu.
+fn is_of_menu(menu: &[ScriptRefParts], value: &Data) -> bool
+    ensures { result ≡ list_any (λ r. same_tree (script_ref_value (plan.script_named r)) (tree value.now)) menu.now }
+{
+    menu.iter()
+        .any(|script| is_executed_script(value, script_named(script)))
+}
+
+/// Whether a value may stand in the settable cell with this index of an object with this body, which starts with a value of its
+/// own of this kind, the limits left aside.
+fn may_stand(
+    alloc: Global,
+    kinds: &Kinds<'_, '_>,
+    own: Option<Kind>,
+    body: &BodyParts,
+    index: u8,
+    value: &Data,
+) -> Result<bool, Memory>
     requires { own ≡ spec.start_kind_in (body_text body.now) }
-    ensures { result ≡ spec.may_stand kinds.now.directory.now.config.now (body_text body.now) (tree value.now) }
+    ensures { IfOk result (λ may. may
+        ≡ written.may_stand kinds.now.directory.now.config.now (body_text body.now) index (tree value.now)) }
 {
     match body {
-        BodyParts::Data { .. } | BodyParts::Register { .. } => has_kind(own, value),
-        BodyParts::ProfileGeneric { .. } => value.kind() == Kind::DoubleLongUnsigned,
-        BodyParts::Clock { .. } => may_be_clock_time(value),
+        BodyParts::Data { .. } | BodyParts::Register { .. } => Ok(has_kind(own, value)),
+        BodyParts::ProfileGeneric { capture, menu, .. } if index == 3 => {
+            may_be_objects(alloc, kinds.directory, capture.as_slice(), menu, value)
+        }
+        BodyParts::ProfileGeneric { .. } => Ok(value.kind() == Kind::DoubleLongUnsigned),
+        BodyParts::Clock { .. } => Ok(may_be_clock_time(value)),
         BodyParts::RegisterMonitor {
             monitored,
             actions,
             ..
-        } => may_be_of_monitor(kinds, monitored, actions.as_slice(), value),
-        BodyParts::SingleActionSchedule { kind, .. } => may_be_times(*kind, value),
-        BodyParts::ScriptTable { .. } | BodyParts::Unknown => true,
+        } => Ok(may_be_of_monitor(kinds, monitored, actions.as_slice(), value)),
+        BodyParts::SingleActionSchedule { script, menu, .. } if index == 2 => {
+            Ok(may_be_script(script, menu, value))
+        }
+        BodyParts::SingleActionSchedule { kind, .. } => Ok(may_be_times(*kind, value)),
+        BodyParts::ScriptTable { .. } | BodyParts::Unknown => Ok(true),
     }
 }
 
 /// Whether a value may stand in what is named, the limits left aside.
-fn may_stand_at(kinds: &Kinds<'_, '_>, target: &TargetParts, value: &Data) -> bool
-    ensures { result ≡ spec.may_stand_at kinds.now.directory.now.config.now
-        (object_named kinds.now.directory.now.config.now target.now.object) (tree value.now) }
+fn may_stand_at(
+    alloc: Global,
+    kinds: &Kinds<'_, '_>,
+    target: &TargetParts,
+    value: &Data,
+) -> Result<bool, Memory>
+    ensures { IfOk result (λ may. may ≡ written.may_stand_at kinds.now.directory.now.config.now
+        (object_named kinds.now.directory.now.config.now target.now.object) target.now.index (tree value.now)) }
 {
     let name = target.object.as_str();
     match kinds.directory.object(name) {
-        Some(object) => may_stand(kinds, kinds.named(name), &object.body, value),
-        None => true,
+        Some(object) => {
+            let own = kinds.named(name);
+            may_stand(alloc, kinds, own, &object.body, target.index, value)
+        }
+        None => Ok(true),
     }
 }
 
@@ -131,7 +230,7 @@ fn is_written(
         ≡ passes.written_value kinds.now.directory.now.config.now target.now (value_in text.now)) }
 {
     match value_in(alloc, text.as_bytes())? {
-        Some(value) => Ok(may_stand_at(kinds, target, &value)),
+        Some(value) => may_stand_at(alloc, kinds, target, &value),
         None => Ok(false),
     }
 }

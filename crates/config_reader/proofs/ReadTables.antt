@@ -1,7 +1,7 @@
 -- What the tables of a text say was judged as it was read.
-use Rattle.std.proofs.Common.{◌≡◌, ℕ, ◌+◌, Bool, true, false, not, List, [], ◌∷◌, ◌++◌, refl, sym, ap, subst, ◌∙◌, inl, inr, Option, Some, None, Result, Ok, nat_le, ℤ, pos, negsuc}
+use Rattle.std.proofs.Common.{◌≡◌, ℕ, ◌+◌, Bool, true, false, not, List, [], ◌∷◌, ◌++◌, refl, sym, ap, subst, ◌∙◌, inl, inr, Option, Some, None, is_some, Result, Ok, nat_le, ℤ, pos, negsuc}
 use Rattle.std.proofs.lemmas.Bool.{and_parts, and_from}
-use Rattle.std.specs.Prelude.{codes, option_and_then, ◌&&◌, if◌then◌else◌, ◌^◌, ◌-◌}
+use Rattle.std.specs.Prelude.{codes, option_and_then, ◌&&◌, ◌||◌, if◌then◌else◌, ◌^◌, ◌-◌}
 use Rattle.toml.specs.Data.{Data, Items, Members, no_items, item, get_member, as_integer, as_table}
 use Rattle.meter_theory.specs.Classes.{class_in, is_of_class}
 use Rattle.meter_theory.specs.declared.classes.Class.{Class}
@@ -15,13 +15,13 @@ use Rattle.config_text.specs.declared.fault.Code.TheVariants.{Kind}
 use Rattle.config_rules.proofs.Passed.{then_ok}
 use Rattle.config_rules.specs.Read.{IsRead, has_sap, is_body_of}
 use Rattle.config_text.specs.Lists.{each, array_at, element_place, texts_at}
-use Rattle.config_text.specs.Tables.{list_at, optional_list_at, table_at, table_of}
+use Rattle.config_text.specs.Tables.{list_at, optional_list_at, table_at, table_of, menu_at, menu_of_lists_at}
 use Rattle.config_text.specs.Values.{natural_at, natural_in, text_at, signed_at, optional_ascii_at, optional_integer_at}
 use Rattle.config_text.specs.Classes.{data_of, register_of, capture_of, profile_of, clock_of, script_of, script_table_of, up_down_of, monitor_of, schedule_of}
 use Rattle.config_text.specs.Targets.{target_of, script_ref_of}
 use Rattle.config_text.specs.Rights.{right_of, sets_of, label_of}
 use Rattle.config_text.specs.Clients.{client_of}
-use Rattle.config_text.specs.Objects.{object_of, body_of, fed_of}
+use Rattle.config_text.specs.Objects.{object_of, has_menus, body_of, fed_of}
 use Rattle.config_text.specs.Document.{tables_of, parts_of, config_keys, document_of}
 
 -- what was said last
@@ -120,23 +120,26 @@ register_body version class at t body h is =
     let unit = then_ok (natural_at 0 255 at (codes "unit") t) (λ unit. Ok (RegisterText value.0 default.0 scaler.0 unit)) body scaler.2 in
     subst (λ b. is_body_of version class b ≡ true) (said (RegisterText value.0 default.0 scaler.0 unit.0) body unit.2) is
 
-profile_body : (version class : ℕ) (at : Text) (t : Members) (body : BodyText) → profile_of at t ≡ Ok body →
+-- a menu was read only where there may be one
+menu_said : {A : Type 0} (menus : Bool) (read : Result (Option (List A)) Fault) (menu : Option (List A)) → (if menus then read else Ok None) ≡ Ok menu →
+    (menus || not (is_some menu)) ≡ true
+menu_said true read menu h = refl
+menu_said false read menu h = subst (λ m. not (is_some m) ≡ true) (said None menu h) refl
+
+profile_body : (version class : ℕ) (at : Text) (t : Members) (body : BodyText) → profile_of (has_menus version) at t ≡ Ok body →
     is_of_class class classes.ProfileGeneric ≡ true → is_body_of version class body ≡ true
 unfolding profile_of
 profile_body version class at t body h is =
-    let captures = then_ok (list_at capture_of at (codes "capture") t) (λ captures. natural_at 0 4294967295 at (codes "period") t >>= λ period.
-    natural_at 1 (2 ^ 63 - 1) at (codes "entries") t >>= λ entries. optional_integer_at at (codes "sort_method") t >>= λ sort_method.
-    Ok (ProfileText captures period entries sort_method)) body h in
-    let period = then_ok (natural_at 0 4294967295 at (codes "period") t) (λ period.
-    natural_at 1 (2 ^ 63 - 1) at (codes "entries") t >>= λ entries. optional_integer_at at (codes "sort_method") t >>= λ sort_method.
-    Ok (ProfileText captures.0 period entries sort_method)) body captures.2 in
-    let entries = then_ok (natural_at 1 (2 ^ 63 - 1) at (codes "entries") t) (λ entries. optional_integer_at at (codes "sort_method") t >>= λ sort_method.
-    Ok (ProfileText captures.0 period.0 entries sort_method)) body period.2 in
-    let sort_method = then_ok (optional_integer_at at (codes "sort_method") t) (λ sort_method.
-    Ok (ProfileText captures.0 period.0 entries.0 sort_method)) body entries.2 in
-    subst (λ b. is_body_of version class b ≡ true) (said (ProfileText captures.0 period.0 entries.0 sort_method.0) body sort_method.2)
-    (and_from (is_of_class class classes.ProfileGeneric) (nat_le 1 entries.0) is
-    (and_parts (nat_le 1 entries.0) (nat_le entries.0 (2 ^ 63 - 1)) (natural_in_range 1 (2 ^ 63 - 1) at (codes "entries") t entries.0 entries.1)).0)
+    let captures = then_ok (list_at capture_of at (codes "capture") t) _ body h in
+    let period = then_ok (natural_at 0 4294967295 at (codes "period") t) _ body captures.2 in
+    let entries = then_ok (natural_at 1 (2 ^ 63 - 1) at (codes "entries") t) _ body period.2 in
+    let sort_method = then_ok (optional_integer_at at (codes "sort_method") t) _ body entries.2 in
+    let menu = then_ok (if has_menus version then menu_of_lists_at capture_of at (codes "capture_menu") t else Ok None) (λ menu.
+    Ok (ProfileText (record { start = captures.0; menu = menu }) period.0 entries.0 sort_method.0)) body sort_method.2 in
+    let some = (and_parts (nat_le 1 entries.0) (nat_le entries.0 (2 ^ 63 - 1)) (natural_in_range 1 (2 ^ 63 - 1) at (codes "entries") t entries.0 entries.1)).0 in
+    subst (λ b. is_body_of version class b ≡ true) (said (ProfileText (record { start = captures.0; menu = menu.0 }) period.0 entries.0 sort_method.0) body menu.2)
+    (and_from (is_of_class class classes.ProfileGeneric) _ is
+    (and_from (nat_le 1 entries.0) _ some (menu_said (has_menus version) (menu_of_lists_at capture_of at (codes "capture_menu") t) menu.0 menu.1)))
 
 clock_body : (version class : ℕ) (at : Text) (t : Members) (body : BodyText) → clock_of at t ≡ Ok body →
     is_of_class class classes.Clock ≡ true → is_body_of version class body ≡ true
@@ -163,22 +166,24 @@ monitor_body version class at t body h is =
     let actions = then_ok (list_at up_down_of at (codes "action") t) (λ actions. Ok (MonitorText monitored.0 thresholds.0 actions)) body thresholds.2 in
     subst (λ b. is_body_of version class b ≡ true) (said (MonitorText monitored.0 thresholds.0 actions.0) body actions.2) is
 
-schedule_body : (version class : ℕ) (at : Text) (t : Members) (body : BodyText) → schedule_of at t ≡ Ok body →
+schedule_body : (version class : ℕ) (at : Text) (t : Members) (body : BodyText) → schedule_of (has_menus version) at t ≡ Ok body →
     is_of_class class classes.SingleActionSchedule ≡ true → is_body_of version class body ≡ true
 unfolding schedule_of
 schedule_body version class at t body h is =
-    let script = then_ok (table_at script_ref_of at (codes "script") t) (λ script. natural_at 1 5 at (codes "type") t >>= λ type.
-    texts_at at (codes "times") t >>= λ times. Ok (ScheduleText script type times)) body h in
-    let type = then_ok (natural_at 1 5 at (codes "type") t) (λ type.
-    texts_at at (codes "times") t >>= λ times. Ok (ScheduleText script.0 type times)) body script.2 in
-    let times = then_ok (texts_at at (codes "times") t) (λ times. Ok (ScheduleText script.0 type.0 times)) body type.2 in
-    subst (λ b. is_body_of version class b ≡ true) (said (ScheduleText script.0 type.0 times.0) body times.2) is
+    let script = then_ok (table_at script_ref_of at (codes "script") t) _ body h in
+    let type = then_ok (natural_at 1 5 at (codes "type") t) _ body script.2 in
+    let times = then_ok (texts_at at (codes "times") t) _ body type.2 in
+    let menu = then_ok (if has_menus version then menu_at script_ref_of at (codes "script_menu") t else Ok None) (λ menu.
+    Ok (ScheduleText (record { start = script.0; menu = menu }) type.0 times.0)) body times.2 in
+    subst (λ b. is_body_of version class b ≡ true) (said (ScheduleText (record { start = script.0; menu = menu.0 }) type.0 times.0) body menu.2)
+    (and_from (is_of_class class classes.SingleActionSchedule) _ is
+    (menu_said (has_menus version) (menu_at script_ref_of at (codes "script_menu") t) menu.0 menu.1))
 
-is_body : (version number : ℕ) (at : Text) (t : Members) (body : BodyText) → body_of (class_in version number) at t ≡ Ok body →
+is_body : (version number : ℕ) (at : Text) (t : Members) (body : BodyText) → body_of (has_menus version) (class_in version number) at t ≡ Ok body →
     is_body_of version number body ≡ true
 is_body version number at t body h = of_class (class_in version number) refl h
   where
-    of_class : (class : Option Class) → class_in version number ≡ class → body_of class at t ≡ Ok body →
+    of_class : (class : Option Class) → class_in version number ≡ class → body_of (has_menus version) class at t ≡ Ok body →
         is_body_of version number body ≡ true
     of_class (Some classes.Data) is e = data_body version number at t body e (known_is_of_class version number classes.Data is)
     of_class (Some classes.Register) is e =
@@ -199,12 +204,12 @@ object_has_body : (version : ℕ) (at : Text) (t : Members) (o : ObjectText) →
 unfolding object_of
 object_has_body version at t o h =
     let class = then_ok (natural_at 0 65535 at (codes "class") t) (λ class. text_at at (codes "name") t >>= λ name. fed_of (class_in version class) at t >>= λ fed.
-    body_of (class_in version class) at t >>= λ body. Ok (record { class = class; name = name; fed = fed; body = body })) o h in
+    body_of (has_menus version) (class_in version class) at t >>= λ body. Ok (record { class = class; name = name; fed = fed; body = body })) o h in
     let name = then_ok (text_at at (codes "name") t) (λ name. fed_of (class_in version class.0) at t >>= λ fed.
-    body_of (class_in version class.0) at t >>= λ body. Ok (record { class = class.0; name = name; fed = fed; body = body })) o class.2 in
+    body_of (has_menus version) (class_in version class.0) at t >>= λ body. Ok (record { class = class.0; name = name; fed = fed; body = body })) o class.2 in
     let fed = then_ok (fed_of (class_in version class.0) at t) (λ fed.
-    body_of (class_in version class.0) at t >>= λ body. Ok (record { class = class.0; name = name.0; fed = fed; body = body })) o name.2 in
-    let body = then_ok (body_of (class_in version class.0) at t) (λ body. Ok (record { class = class.0; name = name.0; fed = fed.0; body = body })) o fed.2 in
+    body_of (has_menus version) (class_in version class.0) at t >>= λ body. Ok (record { class = class.0; name = name.0; fed = fed; body = body })) o name.2 in
+    let body = then_ok (body_of (has_menus version) (class_in version class.0) at t) (λ body. Ok (record { class = class.0; name = name.0; fed = fed.0; body = body })) o fed.2 in
     subst (λ p. is_body_of version p.class p.body ≡ true) (said (record { class = class.0; name = name.0; fed = fed.0; body = body.0 }) o body.2)
     (is_body version class.0 at t body.0 body.1)
 

@@ -1,16 +1,17 @@
 -- A configuration without faults has few clients, and its profiles keep some entries, within the limit.
-use Rattle.std.proofs.Common.{◌≡◌, ◌≤◌, nat_le, Bool, true, ◌&&◌, List, [], ◌∷◌, length, map, refl, subst, inl, inr}
+use Rattle.std.proofs.Common.{◌≡◌, ◌≤◌, nat_le, Bool, true, ◌&&◌, List, [], ◌∷◌, length, refl, subst, inl, inr}
 use Rattle.std.specs.List.{list_all}
 use Rattle.std.proofs.lemmas.Bool.{and_from, and_parts}
 use Rattle.std.proofs.lemmas.List.{length-map}
 use Rattle.cosem_data.specs.declared.cell.CellRef.{CellRef}
 use Rattle.meter_theory.specs.Lists.{IsIn}
+use Rattle.meter_theory.specs.Menus.{Choice, alternatives}
 use Rattle.meter_theory.proofs.Lists.{in_map}
-use Rattle.meter_theory.specs.Sound.{is_name, has_part_sizes}
+use Rattle.meter_theory.specs.Sound.{is_name, has_capture_sizes, has_part_sizes}
 use Rattle.meter_theory.specs.declared.limits.TheConstants as limits
 use Rattle.config_text.specs.Parts.{ConfigText, BodyText, DataText, RegisterText, ProfileText, ClockText, ScriptTableText, MonitorText, ScheduleText, UnknownText}
 use Rattle.config_rules.specs.Faultless.{IsFaultless}
-use Rattle.config_rules.specs.PlanOf.{object_of, part_of, cell_named, name_of, client_of}
+use Rattle.config_rules.specs.PlanOf.{object_of, part_of, captures_of, name_of, client_of}
 use Rattle.config_rules.proofs.Sound.{plan_is_sound}
 use Rattle.config_reader.specs.Room.{has_room}
 
@@ -22,9 +23,9 @@ room_in : (c : ConfigText) (body : BodyText) → has_part_sizes (part_of c body)
 room_in c (DataText value) h = refl
 room_in c (RegisterText value default scaler unit) h = refl
 room_in c (ProfileText captures period entries sort_method) h =
-    let taken : List CellRef = map (λ x. cell_named c x.target) captures in
-    (and_parts (list_all (λ x. is_name x.name) taken) (nat_le 1 entries && nat_le entries limits.PROFILE_ENTRIES)
-    (and_parts (nat_le (length taken) limits.CAPTURE_OBJECTS) (list_all (λ x. is_name x.name) taken && (nat_le 1 entries && nat_le entries limits.PROFILE_ENTRIES)) h).1).1
+    let choice : Choice (List CellRef) = captures_of c captures in
+    let rest = (and_parts (nat_le (length choice.menu) limits.MENU) _ h).1 in
+    (and_parts (list_all has_capture_sizes (alternatives choice)) (nat_le 1 entries && nat_le entries limits.PROFILE_ENTRIES) rest).1
 room_in c (ClockText time) h = refl
 room_in c (ScriptTableText scripts) h = refl
 room_in c (MonitorText monitored thresholds actions) h = refl

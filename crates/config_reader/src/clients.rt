@@ -3,8 +3,8 @@ ghost use Rattle.std.specs.Prelude.{◌≡◌, ◌≤◌, ◌<◌, IfOk, map, le
 ghost use Rattle.meter_theory.specs.declared.limits.TheConstants.{CLIENTS};
 ghost use Rattle.config_rules.specs.PlanOf as plan;
 
-use crate::targets::name_of;
 use config_judge::directory::Directory;
+use config_judge::targets::name_of;
 use config_text::parts::{ClientParts, RightParts};
 use cosem_data::memory::Memory;
 use object_model::client::Client;

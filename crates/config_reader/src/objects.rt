@@ -1,5 +1,5 @@
 //! The objects of a configuration.
-ghost use Rattle.std.specs.Prelude.{◌≡◌, ◌≤◌, IfOk, map, length, true, string_bytes};
+ghost use Rattle.std.specs.Prelude.{◌≡◌, ◌≤◌, IfOk, map, length, option_map, true, string_bytes};
 ghost use Rattle.std.specs.List.{list_all};
 ghost use Rattle.cosem_data.specs.View.{tree};
 ghost use Rattle.config_text.specs.BodyView.{body_text};
@@ -10,14 +10,16 @@ ghost use Rattle.config_rules.specs.PlanOf as plan;
 ghost use Rattle.config_reader.specs.Room.{has_room};
 
 use crate::scripts::scripts_of;
-use crate::targets::{actions_of, captured, cell_named, name_of, script_named};
+use crate::targets::{actions_of, capture_menu, script_menu};
 use civil_moment::moment::Moment;
 use class_control::parts::{ClockPart, MonitorPart, SchedulePart, ScriptTablePart};
 use class_profile::profile::ProfilePart;
 use config_judge::arrays::{times_of, value_or_null, values_of};
 use config_judge::directory::Directory;
+use config_judge::targets::{cell_named, cells_named, name_of, script_named};
 use config_text::parts::{
-    BodyParts, CaptureParts, ObjectParts, ScriptRefParts, TargetParts, UpDownParts,
+    AlternativeParts, BodyParts, CaptureParts, ObjectParts, ScriptRefParts, TargetParts,
+    UpDownParts,
 };
 use cosem_class::data1::DataPart;
 use cosem_class::register::RegisterPart;
@@ -34,7 +36,8 @@ fn register(
     default: &str,
     scaler_unit: ScalerUnit,
 ) -> Result<Part, Memory>
-    ensures { IfOk result (λ part. part_of part ≡ theory.Register (plan.value_of value.now) (plan.value_of default.now) scaler_unit) }
+    ensures { IfOk result (λ part. part_of part
+        ≡ theory.Register (plan.value_of value.now) (plan.value_of default.now) scaler_unit) }
 {
     let start = value_or_null(alloc, value)?;
     let default = value_or_null(alloc, default)?;
@@ -49,16 +52,22 @@ fn profile(
     alloc: Global,
     directory: &Directory,
     captures: &[CaptureParts],
+    menu: &Option<Vec<AlternativeParts>>,
     capture_period: u32,
     entries: u64,
 ) -> Result<Part, Memory>
     requires some { 1 ≤ entries }
     requires few { entries ≤ PROFILE_ENTRIES }
-    ensures { IfOk result (λ part. part_of part ≡ theory.ProfileGeneric (map (λ x. plan.cell_named directory.now.config.now x.target) captures.now) capture_period entries) }
+    ensures { IfOk result (λ part. part_of part ≡ theory.ProfileGeneric
+        (plan.captures_of directory.now.config.now
+        (record { start = captures.now; menu = option_map (λ alternatives. alternatives.items) menu.now }))
+        capture_period entries) }
 {
-    let captured = captured(alloc, directory, captures)?;
+    let captured = cells_named(alloc, directory, captures)?;
+    let menu = capture_menu(alloc, directory, menu)?;
     Ok(Part::ProfileGeneric(ProfilePart {
         captured,
+        menu,
         capture_period,
         profile_entries: entries as u32,
     }))
@@ -81,7 +90,9 @@ fn monitor(
     thresholds: &[String],
     actions: &[UpDownParts],
 ) -> Result<Part, Memory>
-    ensures { IfOk result (λ part. part_of part ≡ theory.RegisterMonitor (plan.cell_named directory.now.config.now monitored.now) (plan.thresholds_value (map string_bytes thresholds.now)) (map plan.up_down_of actions.now)) }
+    ensures { IfOk result (λ part. part_of part ≡ theory.RegisterMonitor
+        (plan.cell_named directory.now.config.now monitored.now)
+        (plan.thresholds_value (map string_bytes thresholds.now)) (map plan.up_down_of actions.now)) }
 {
     let start = Data::Array(Items::new(values_of(alloc, thresholds)?));
     let actions = actions_of(alloc, actions)?;
@@ -95,14 +106,19 @@ fn monitor(
 fn schedule(
     alloc: Global,
     script: &ScriptRefParts,
+    menu: &Option<Vec<ScriptRefParts>>,
     execution_type: u8,
     times: &[String],
 ) -> Result<Part, Memory>
-    ensures { IfOk result (λ part. part_of part ≡ theory.SingleActionSchedule (plan.script_named script.now) execution_type (plan.times_value (map string_bytes times.now))) }
+    ensures { IfOk result (λ part. part_of part ≡ theory.SingleActionSchedule
+        (plan.scripts_of (record { start = script.now; menu = option_map (λ scripts. scripts.items) menu.now }))
+        execution_type (plan.times_value (map string_bytes times.now))) }
 {
     let start = Data::Array(Items::new(times_of(alloc, times)?));
+    let menu = script_menu(alloc, menu)?;
     Ok(Part::SingleActionSchedule(SchedulePart {
         executed_script: script_named(script),
+        menu,
         execution_type,
         start,
     }))
@@ -134,8 +150,16 @@ fn part(alloc: Global, directory: &Directory, body: &BodyParts) -> Result<Part, 
             capture,
             period,
             entries,
+            menu,
             ..
-        } => profile(alloc, directory, capture.as_slice(), *period, *entries),
+        } => profile(
+            alloc,
+            directory,
+            capture.as_slice(),
+            menu,
+            *period,
+            *entries,
+        ),
         BodyParts::Clock { time } => Ok(Part::Clock(ClockPart {
             start: moment_of(time.as_str()),
         })),
@@ -157,7 +181,8 @@ fn part(alloc: Global, directory: &Directory, body: &BodyParts) -> Result<Part, 
             script,
             kind,
             times,
-        } => schedule(alloc, script, *kind, times.as_slice()),
+            menu,
+        } => schedule(alloc, script, menu, *kind, times.as_slice()),
         BodyParts::Unknown => Ok(Part::ScriptTable(ScriptTablePart {
             scripts: Vec::new(alloc),
         })),

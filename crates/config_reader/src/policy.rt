@@ -7,8 +7,8 @@ ghost use Rattle.config_rules.specs.PlanOf as theory;
 
 use crate::clients::client_place;
 use crate::laws::faultless_configurations_have_room;
-use crate::targets::cell_named;
 use config_judge::directory::Directory;
+use config_judge::targets::cell_named;
 use config_text::parts::{LabelParts, SetsParts};
 use cosem_data::cell::CellRef;
 use cosem_data::clients::ClientSet;

@@ -35,7 +35,7 @@ fn make(alloc: Global, directory: &Directory) -> Result<(Plan, Policy), ConfigFa
 /// The plan and the policy of a configuration's text.
 ///
 /// # Errors
-/// The least code that is met, C1 to C21, at the first place in the text where it is; C0 where memory was refused, at any
+/// The least code that is met, C1 to C22, at the first place in the text where it is; C0 where memory was refused, at any
 /// time.
 #[tactic(auto, unfolding(crate::specs::ConfigOf::config_of))]
 pub fn read_config(alloc: Global, text: &str) -> Result<(Plan, Policy), ConfigFault>

@@ -6,11 +6,11 @@ ghost use Rattle.class_control.specs.ActionView.{action_of, has_index};
 ghost use Rattle.class_control.specs.ScriptView.{script_of};
 ghost use Rattle.config_rules.specs.PlanOf as plan;
 
-use crate::targets::{cell_named, method_named};
 use class_control::action::Action;
 use class_control::script::Script;
 use config_judge::arrays::value_or_null;
 use config_judge::directory::Directory;
+use config_judge::targets::{cell_named, method_named};
 use config_text::parts::{ActionParts, ScriptParts};
 use config_text::service::Service;
 use cosem_data::data::Data;
@@ -29,7 +29,8 @@ fn parameter_of(alloc: Global, value: &Option<String>) -> Result<Data, Memory>
 
 /// An action of a script (IEC 62056-6-2, Script table, action_specification).
 fn action(alloc: Global, directory: &Directory, parts: &ActionParts) -> Result<Action, Memory>
-    ensures action { IfOk result (λ action. action_of action ≡ plan.action_of directory.now.config.now parts.now.service parts.now.target parts.now.value) }
+    ensures action { IfOk result (λ action. action_of action
+        ≡ plan.action_of directory.now.config.now parts.now.service parts.now.target parts.now.value) }
     ensures index { IfOk result (λ action. has_index action ≡ true) }
 {
     let value = parameter_of(alloc, &parts.value)?;
@@ -50,7 +51,8 @@ fn actions(
     directory: &Directory,
     parts: &[ActionParts],
 ) -> Result<Vec<Action>, Memory>
-    ensures actions { IfOk result (λ list. map action_of list.items ≡ map (λ a. plan.action_of directory.now.config.now a.service a.target a.value) parts.now) }
+    ensures actions { IfOk result (λ list. map action_of list.items
+        ≡ map (λ a. plan.action_of directory.now.config.now a.service a.target a.value) parts.now) }
     ensures indexes { IfOk result (λ list. list_all has_index list.items ≡ true) }
 {
     let mut list = Vec::new(alloc);

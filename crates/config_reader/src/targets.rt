@@ -1,85 +1,68 @@
-//! The attributes, methods and scripts that a configuration names.
-ghost use Rattle.std.specs.Prelude.{◌≡◌, ◌<◌, IfOk, map};
-ghost use Rattle.class_profile.specs.ProfileClass.{HaveAttributeIndexes};
+//! The attributes and scripts that the parts of a plan have.
+ghost use Rattle.std.specs.Prelude.{◌≡◌, IfOk, [], map, option_map, unwrap_or};
 ghost use Rattle.config_rules.specs.PlanOf as plan;
 
 use config_judge::directory::Directory;
-use config_text::parts::{CaptureParts, ScriptRefParts, TargetParts, UpDownParts};
-use cosem_data::cell::{CellRef, MethodRef};
+use config_judge::targets::{cells_named, script_named};
+use config_text::parts::{AlternativeParts, ScriptRefParts, UpDownParts};
+use cosem_data::cell::CellRef;
 use cosem_data::memory::Memory;
-use cosem_data::name::LogicalName;
 use meter_theory::refs::{ScriptRef, UpDown};
 use std::alloc::Global;
 
-/// The logical name that a text is, six zero bytes where it is none.
-pub(crate) fn name_of(text: &str) -> LogicalName
-    ensures { result ≡ plan.name_of text.now }
-{
-    match LogicalName::read(text) {
-        Ok(name) => name,
-        Err(_) => LogicalName([0; 6]),
-    }
-}
-
-/// The attribute that is named.
-pub(crate) fn cell_named(directory: &Directory, target: &TargetParts) -> CellRef
-    ensures cell { result ≡ plan.cell_named directory.now.config.now target.now }
-    ensures index { result.index < 128 }
-{
-    let object = target.object.as_str();
-    CellRef {
-        class_id: directory.class(object),
-        name: name_of(object),
-        index: target.index,
-    }
-}
-
-/// The method that is named.
-pub(crate) fn method_named(directory: &Directory, target: &TargetParts) -> MethodRef
-    ensures method { result ≡ plan.method_named directory.now.config.now target.now }
-    ensures index { result.index < 128 }
-{
-    let object = target.object.as_str();
-    MethodRef {
-        class_id: directory.class(object),
-        name: name_of(object),
-        index: target.index,
-    }
-}
-
-/// The captured attributes, in order.
-pub(crate) fn captured(
+/// The attributes that each alternative captures, in order.
+fn alternatives_of(
     alloc: Global,
     directory: &Directory,
-    captures: &[CaptureParts],
-) -> Result<Vec<CellRef>, Memory>
-    ensures cells { IfOk result (λ cells. cells.items ≡ map (λ x. plan.cell_named directory.now.config.now x.target) captures.now) }
-    ensures indexes { IfOk result (λ cells. HaveAttributeIndexes cells.items) }
+    alternatives: &[AlternativeParts],
+) -> Result<Vec<Vec<CellRef>>, Memory>
+    ensures { IfOk result (λ menu. map (λ cells. cells.items) menu.items
+        ≡ map (plan.cells_named directory.now.config.now) alternatives.now) }
 {
-    let mut cells = Vec::new(alloc);
-    for capture in captures {
-        cells.push(cell_named(directory, &capture.target))?;
+    let mut menu = Vec::new(alloc);
+    for alternative in alternatives {
+        menu.push(cells_named(alloc, directory, alternative.captures.as_slice())?)?;
     }
-    Ok(cells)
+    Ok(menu)
 }
 
-/// A script's identifier, 0 where it is not one of sixteen bits (IEC 62056-6-2, Script table, script_identifier).
-fn script_number(script: i64) -> u16
-    ensures { result ≡ plan.script_number script }
+/// The alternatives to what a profile captures, none where it has no menu.
+pub(crate) fn capture_menu(
+    alloc: Global,
+    directory: &Directory,
+    menu: &Option<Vec<AlternativeParts>>,
+) -> Result<Vec<Vec<CellRef>>, Memory>
+    ensures { IfOk result (λ lists. map (λ cells. cells.items) lists.items
+        ≡ map (plan.cells_named directory.now.config.now) (unwrap_or (option_map (λ menu. menu.items) menu.now) [])) }
 {
-    match u16::try_from(script) {
-        Ok(number) => number,
-        Err(_) => 0,
+    match menu {
+        Some(alternatives) => alternatives_of(alloc, directory, alternatives.as_slice()),
+        None => Ok(Vec::new(alloc)),
     }
 }
 
-/// The script that is named.
-pub(crate) fn script_named(script: &ScriptRefParts) -> ScriptRef
-    ensures { result ≡ plan.script_named script.now }
+/// The scripts that are named, in order.
+fn scripts_named(alloc: Global, scripts: &[ScriptRefParts]) -> Result<Vec<ScriptRef>, Memory>
+    ensures { IfOk result (λ menu. menu.items ≡ map plan.script_named scripts.now) }
 {
-    ScriptRef {
-        table: name_of(script.table.as_str()),
-        script: script_number(script.script),
+    let mut menu = Vec::new(alloc);
+    for script in scripts {
+        menu.push(script_named(script))?;
+    }
+    Ok(menu)
+}
+
+/// The alternatives to the script of a schedule, none where it has no menu.
+pub(crate) fn script_menu(
+    alloc: Global,
+    menu: &Option<Vec<ScriptRefParts>>,
+) -> Result<Vec<ScriptRef>, Memory>
+    ensures { IfOk result (λ scripts. scripts.items
+        ≡ map plan.script_named (unwrap_or (option_map (λ menu. menu.items) menu.now) [])) }
+{
+    match menu {
+        Some(scripts) => scripts_named(alloc, scripts.as_slice()),
+        None => Ok(Vec::new(alloc)),
     }
 }
 

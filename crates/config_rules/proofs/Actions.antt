@@ -5,30 +5,33 @@ use Rattle.std.proofs.lemmas.Bool.{and_parts, and_from, or_parts, false≢true}
 use Rattle.std.proofs.lemmas.List.{length-map}
 use Rattle.std.specs.List.{list_all}
 use Rattle.cosem_data.specs.Tree.{Tree, null_data}
+use Rattle.cosem_data.specs.Equal.{same_tree, same_tree-true}
 use Rattle.cosem_data.specs.Kinds.{kind_of, same_kind}
 use Rattle.cosem_data.specs.declared.kind.Kind.{Kind}
-use Rattle.cosem_data.specs.declared.kind.Kind.TheVariants.{Array, DoubleLongUnsigned}
+use Rattle.cosem_data.specs.declared.kind.Kind.TheVariants.{Array, Structure, DoubleLongUnsigned}
 use Rattle.cosem_data.specs.declared.cell.CellRef.{CellRef}
 use Rattle.meter_theory.specs.Classes.{has_method, is_of_class}
 use Rattle.meter_theory.specs.declared.classes.Class.TheVariants as classes
 use Rattle.meter_theory.specs.Lists.{IsIn, some_passes}
+use Rattle.meter_theory.specs.Menus.{Choice, alternatives, has_menu, capture_objects_value, script_ref_value}
 use Rattle.cosem_data.specs.declared.cell.MethodRef.{MethodRef}
 use Rattle.meter_theory.specs.State.{value}
-use Rattle.meter_theory.specs.Value.{Rule, OfKind, Thresholds, meets, is_within_limits, elements}
+use Rattle.meter_theory.specs.Value.{Rule, OfKind, Thresholds, ExecutionTimes, OneOf, meets, is_within_limits, elements}
 use Rattle.meter_theory.specs.Times.{are_execution_times}
 use Rattle.meter_theory.specs.Plan as theory
-use Rattle.meter_theory.specs.Plan.{Script, Action, rule_of, rule_in, cells, class_of}
+use Rattle.meter_theory.specs.Plan.{Script, Action, rule_of, rule_in, rule_of_choice, cells, class_of}
 use Rattle.meter_theory.specs.Steps.{scripts_of}
 use Rattle.meter_theory.specs.Sound.{IsWrite, has_plain_method, are_indexes, highest_method}
 use Rattle.meter_theory.specs.declared.limits.TheConstants as limits
-use Rattle.meter_theory.proofs.Lists.{from_map}
+use Rattle.meter_theory.proofs.Lists.{from_map, any_in}
 use Rattle.config_text.specs.declared.service.Service.{Service}
 use Rattle.config_text.specs.declared.service.Service.TheVariants as services
 use Rattle.config_text.specs.Parts.{Text, ConfigText, ObjectText, ActionText, ScriptText, BodyText, DataText, RegisterText, ProfileText, ClockText, ScriptTableText, MonitorText, ScheduleText, UnknownText}
 use Rattle.config_rules.specs.Names.{object_named, class_named}
 use Rattle.value_text.specs.Texts.{value_in}
-use Rattle.config_rules.specs.Values.{kind_in, has_kind, kind_named, may_stand, may_stand_at}
-use Rattle.config_rules.specs.PlanOf.{part_of, plan_of, value_of, or_else, cell_named, method_named, up_down_of, script_of, action_of, parameter_of}
+use Rattle.config_rules.specs.Values.{kind_in, has_kind, kind_named}
+use Rattle.config_rules.specs.Written.{is_one_of, may_stand, may_stand_at}
+use Rattle.config_rules.specs.PlanOf.{captures_of, scripts_of as choice_of, part_of, plan_of, value_of, or_else, cell_named, method_named, up_down_of, script_of, action_of, parameter_of}
 use Rattle.config_rules.specs.Passes as passes
 use Rattle.config_rules.proofs.Passed.{then_ok, holds, not_faulty, each_ok, each_action_ok, EachReference}
 use Rattle.config_rules.proofs.Cells.{IsRight, IsTarget, settable_cell, rule_at}
@@ -41,6 +44,11 @@ chosen : (b : Bool) (r rule : Rule) → cond b (Some r) None ≡ Some rule → r
 chosen true r rule h = cc
 chosen false r rule h = cc
 
+-- a choice's rule, where it has one
+chosen_of : {A : Type 0} (kind : Kind) (value_of : A → Tree) (choice : Choice A) (rule : Rule) → rule_of_choice kind value_of choice ≡ Some rule →
+    OneOf kind (map value_of (alternatives choice)) ≡ rule
+chosen_of kind value_of choice rule h = chosen (has_menu choice) _ rule h
+
 kind_meets : (k : Kind) (v : Tree) → same_kind (kind_of v) k ≡ true → is_within_limits v ≡ true → meets (OfKind k) v ≡ true
 kind_meets k v kind limit = and_from (same_kind (kind_of v) k) (is_within_limits v && true) kind (and_from (is_within_limits v) true limit refl)
 
@@ -50,15 +58,40 @@ start_meets text v w kind limit =
     subst (λ z. meets (OfKind (kind_of z)) v ≡ true) (sym w.2)
     (kind_meets (kind_of w.0) v (subst (λ r. has_kind (option_map kind_of r) v ≡ true) w.1 kind) limit)
 
+-- one of the values of alternatives, which are all of a kind
+choice_meets : {A : Type 0} (kind : Kind) (value_of : A → Tree) (choice : Choice A) → ((a : A) → same_kind (kind_of (value_of a)) kind ≡ true) →
+    (v : Tree) → is_one_of (map value_of (alternatives choice)) v ≡ true → is_within_limits v ≡ true → meets (OneOf kind (map value_of (alternatives choice))) v ≡ true
+choice_meets kind value_of choice kinds v among limit =
+    let w = any_in (λ z. same_tree z v) (map value_of (alternatives choice)) among in
+    let a = from_map value_of (alternatives choice) w.0 w.1 in
+    let tag : same_kind (kind_of v) kind ≡ true = subst (λ z. same_kind (kind_of z) kind ≡ true) (sym a.2 ∙ same_tree-true w.0 v w.2) (kinds a.0) in
+    and_from (same_kind (kind_of v) kind) _ tag (and_from (is_within_limits v) _ limit among)
+
+-- a value at the index of a choice, or at that of another cell
+at_index : {A : Type 0} (kind : Kind) (value_of : A → Tree) (choice : Choice A) (place : ℕ) (other : Rule) (stands : Bool) →
+    ((a : A) → same_kind (kind_of (value_of a)) kind ≡ true) → (4 == place) ≡ false → (v : Tree) → is_within_limits v ≡ true → (stands ≡ true → meets other v ≡ true) →
+    (index : ℕ) (rule : Rule) → cond (index == 4) (Some other) (cond (index == place) (rule_of_choice kind value_of choice) None) ≡ Some rule →
+    cond (index == place) (is_one_of (map value_of (alternatives choice)) v) stands ≡ true → meets rule v ≡ true
+at_index kind value_of choice place other stands kinds apart v limit meets_other index rule = at (index == 4) (index == place) refl refl
+  where
+    at : (b d : Bool) → (index == 4) ≡ b → (index == place) ≡ d → cond b (Some other) (cond d (rule_of_choice kind value_of choice) None) ≡ Some rule →
+        cond d (is_one_of (map value_of (alternatives choice)) v) stands ≡ true → meets rule v ≡ true
+    at true true p q h s =
+        absurd (false≢true (sym apart ∙ (ap (λ n. n == place) (sym (eqb-true index 4 p)) ∙ q)))
+    at true false p q h s = subst (λ r. meets r v ≡ true) (chosen true other rule h) (meets_other s)
+    at false true p q h s = subst (λ r. meets r v ≡ true) (chosen_of kind value_of choice rule h) (choice_meets kind value_of choice kinds v s limit)
+    at false false p q h s = cc
+
 -- what may stand in a body, within the limits, meets the rule of its part
 meets_rule : (c : ConfigText) → IsRight c → (o : ObjectText) → IsIn c.objects o → (body : BodyText) → o.body ≡ body → (index : ℕ) (rule : Rule) → rule_in (plan_of c) (part_of c body) index ≡ Some rule →
-    (v : Tree) → may_stand c body v ≡ true → is_within_limits v ≡ true → meets rule v ≡ true
+    (v : Tree) → may_stand c body index v ≡ true → is_within_limits v ≡ true → meets rule v ≡ true
 meets_rule c ok o i (DataText text) is index rule h v stands limit =
     subst (λ r. meets r v ≡ true) (chosen (index == 2) _ rule h) (start_meets text v (data_start c ok o i text is) stands limit)
 meets_rule c ok o i (RegisterText text default scaler unit) is index rule h v stands limit =
     subst (λ r. meets r v ≡ true) (chosen (index == 2) _ rule h) (start_meets text v (register_start c ok o i text default scaler unit is).0 stands limit)
 meets_rule c ok o i (ProfileText captures period entries sort_method) is index rule h v stands limit =
-    subst (λ r. meets r v ≡ true) (chosen (index == 4) _ rule h) (kind_meets DoubleLongUnsigned v stands limit)
+    at_index Array capture_objects_value (captures_of c captures) 3 (OfKind DoubleLongUnsigned) (same_kind (kind_of v) DoubleLongUnsigned) (λ cells. refl) refl v limit
+    (λ s. kind_meets DoubleLongUnsigned v s limit) index rule h stands
 meets_rule c ok o i (ClockText time) is index rule h v stands limit =
     subst (λ r. meets r v ≡ true) (chosen (index == 2) _ rule h) stands
 meets_rule c ok o i (ScriptTableText scripts) is index rule h v stands limit = cc
@@ -74,9 +107,9 @@ meets_rule c ok o i (MonitorText monitored ths actions) is index rule h v stands
     (eq-eqb (length (elements v)) (length (map up_down_of actions)) (eqb-true (length (elements v)) (length actions) rest.0 ∙ sym (length-map actions up_down_of)))
     (subst (λ k. list_all (has_kind k) (elements v) ≡ true) source.1.kind rest.1)))))
 meets_rule c ok o i (ScheduleText script type times) is index rule h v stands limit =
-    let parts = and_parts (same_kind (kind_of v) Array) (are_execution_times type (elements v)) stands in
-    subst (λ r. meets r v ≡ true) (chosen (index == 4) _ rule h)
-    (and_from (same_kind (kind_of v) Array) _ parts.0 (and_from (is_within_limits v) _ limit parts.1))
+    at_index Structure script_ref_value (choice_of script) 2 (ExecutionTimes type) (same_kind (kind_of v) Array && are_execution_times type (elements v)) (λ r. refl) refl v limit
+    (λ s. let parts = and_parts (same_kind (kind_of v) Array) (are_execution_times type (elements v)) s in
+    and_from (same_kind (kind_of v) Array) _ parts.0 (and_from (is_within_limits v) _ limit parts.1)) index rule h stands
 meets_rule c ok o i UnknownText is index rule h v stands limit = cc
 
 -- what the passes found of a script's action
@@ -107,7 +140,7 @@ action_at c ok o i scripts is s j a k =
 
 -- the value that is written
 pub record IsWritten (c : ConfigText) (a : ActionText) (o : ObjectText) (v : Tree) : Type 0 where
-  pub stands : may_stand c o.body v ≡ true
+  pub stands : may_stand c o.body a.target.index v ≡ true
   pub limit : is_within_limits v ≡ true
 
 pub written_value : (c : ConfigText) (a : ActionText) (o : ObjectText) → object_named c a.target.object ≡ Some o →
@@ -125,7 +158,7 @@ written_value c a o is written small = at a.value refl
         there (Some v) q w l =
             let same : parameter_of a.value ≡ v = ap parameter_of e ∙ ap (or_else null_data) q in
             subst (IsWritten c a o) (sym same) (record {
-              stands = subst (λ r. may_stand_at c r v ≡ true) is (subst (λ z. passes.written_value c a.target z ≡ true) q w);
+              stands = subst (λ r. may_stand_at c r a.target.index v ≡ true) is (subst (λ z. passes.written_value c a.target z ≡ true) q w);
               limit = subst (λ z. passes.is_small z ≡ true) q l;
             })
 

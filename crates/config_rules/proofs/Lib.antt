@@ -5,9 +5,11 @@ pub mod Fits
 pub mod Indexes
 pub mod Monitored
 pub mod Named
+pub mod NoMenus
 pub mod OneClock
 pub mod Passed
 pub mod Rights
 pub mod Scripts
+pub mod Sizes
 pub mod Sound
 pub mod Starts

@@ -8,8 +8,9 @@ use Rattle.meter_theory.specs.Lists.{IsIn, AreDistinct}
 use Rattle.meter_theory.proofs.Lists.{in_append_cases, in_map, from_map}
 use Rattle.config_text.specs.declared.fault.Code.{Code}
 use Rattle.config_text.specs.Fault.{Fault, fault_if, ◌>>=◌}
-use Rattle.config_text.specs.Parts.{Text, ConfigText, TargetText, ScriptRefText, CaptureText, ActionText, ScriptText, UpDownText, BodyText, DataText, RegisterText, ProfileText, ClockText, ScriptTableText, MonitorText, ScheduleText, UnknownText}
-use Rattle.config_rules.specs.Walks.{Judge, each, each_from, each_after, each_new, each_action, script_actions, both_scripts, references, element_place}
+use Rattle.config_text.specs.Parts.{Text, MenuText, ConfigText, TargetText, ScriptRefText, CaptureText, ActionText, ScriptText, UpDownText, BodyText, DataText, RegisterText, ProfileText, ClockText, ScriptTableText, MonitorText, ScheduleText, UnknownText}
+use Rattle.config_rules.specs.Walks.{Judge, each, each_from, each_after, each_new, each_action, each_capture, each_run, script_actions, both_scripts, references, element_place}
+use Rattle.config_rules.specs.Names.{menu_in}
 use Rattle.config_rules.specs.Passes as passes
 use Rattle.config_rules.specs.Passes.{judged}
 
@@ -99,15 +100,40 @@ each_action_ok judge at scripts h s i a j =
     let r = each_ok (script_actions judge) (at ++ codes ".script") 0 scripts h s i in
     each_ok judge (r.0 ++ codes ".action") 0 s.actions r.1 a j
 
+-- what an attribute may hold: what it holds at the start, and the alternatives of its menu
+abbrev pub alternatives_in : {A : Type 0} → MenuText A → List A
+alternatives_in m = m.start ∷ menu_in m
+
+-- each captured attribute was judged, at the start and by each alternative, and found right
+pub each_capture_ok : (judge : Judge CaptureText) (at : Text) (captures : MenuText (List CaptureText)) → each_capture judge at captures ≡ Ok tt →
+    (xs : List CaptureText) → IsIn (alternatives_in captures) xs → (x : CaptureText) → IsIn xs x → (place : Text) × (judge place x ≡ Ok tt)
+each_capture_ok judge at captures h xs i x j =
+    let both = then_ok (each judge (at ++ codes ".capture") captures.start) (λ _. each (each judge) (at ++ codes ".capture_menu") (menu_in captures)) tt h in
+    elim i [
+      | inl e ↦ each_ok judge (at ++ codes ".capture") 0 captures.start both.1 x (subst (λ ys. IsIn ys x) e j)
+      | inr k ↦ let r = each_ok (each judge) (at ++ codes ".capture_menu") 0 (menu_in captures) both.2 xs k in each_ok judge r.0 0 xs r.1 x j
+    ]
+
+-- and each script of a schedule
+pub each_run_ok : (judge : Judge ScriptRefText) (at : Text) (script : MenuText ScriptRefText) → each_run judge at script ≡ Ok tt →
+    (r : ScriptRefText) → IsIn (alternatives_in script) r → (place : Text) × (judge place r ≡ Ok tt)
+each_run_ok judge at script h r i =
+    let both = then_ok (judge (at ++ codes ".script") script.start) (λ _. each judge (at ++ codes ".script_menu") (menu_in script)) tt h in
+    elim i [
+      | inl e ↦ (at ++ codes ".script", subst (λ z. judge (at ++ codes ".script") z ≡ Ok tt) (sym e) both.1)
+      | inr k ↦ each_ok judge (at ++ codes ".script_menu") 0 (menu_in script) both.2 r k
+    ]
+
 -- each thing that a body refers to
 abbrev pub EachReference : (TargetText → Type 0) → (ScriptRefText → Type 0) → BodyText → Type 0
 EachReference T S (DataText value) = Unit {0}
 EachReference T S (RegisterText value default scaler unit) = Unit {0}
-EachReference T S (ProfileText captures period entries sort_method) = (x : CaptureText) → IsIn captures x → T x.target
+EachReference T S (ProfileText captures period entries sort_method) =
+    (xs : List CaptureText) → IsIn (alternatives_in captures) xs → (x : CaptureText) → IsIn xs x → T x.target
 EachReference T S (ClockText time) = Unit {0}
 EachReference T S (ScriptTableText scripts) = (s : ScriptText) → IsIn scripts s → (a : ActionText) → IsIn s.actions a → T a.target
 EachReference T S (MonitorText monitored thresholds actions) = T monitored × ((a : UpDownText) → IsIn actions a → S a.up × S a.down)
-EachReference T S (ScheduleText script type times) = S script
+EachReference T S (ScheduleText script type times) = (r : ScriptRefText) → IsIn (alternatives_in script) r → S r
 EachReference T S UnknownText = Unit {0}
 
 pub references_ok : (T : TargetText → Type 0) (S : ScriptRefText → Type 0) (target : Judge TargetText) (script : Judge ScriptRefText) →
@@ -116,8 +142,8 @@ pub references_ok : (T : TargetText → Type 0) (S : ScriptRefText → Type 0) (
 unfolding references
 references_ok T S target script t r at (DataText value) h = tt
 references_ok T S target script t r at (RegisterText value default scaler unit) h = tt
-references_ok T S target script t r at (ProfileText captures period entries sort_method) h = λ x i.
-    let judged = each_ok (λ place c. target place c.target) (at ++ codes ".capture") 0 captures h x i in t judged.0 x.target judged.1
+references_ok T S target script t r at (ProfileText captures period entries sort_method) h = λ xs i x j.
+    let judged = each_capture_ok (λ place y. target place y.target) at captures h xs i x j in t judged.0 x.target judged.1
 references_ok T S target script t r at (ClockText time) h = tt
 references_ok T S target script t r at (ScriptTableText scripts) h = λ s i a j.
     let judged = each_action_ok (λ place x. target place x.target) at scripts h s i a j in t judged.0 a.target judged.1
@@ -129,7 +155,8 @@ references_ok T S target script t r at (MonitorText monitored thresholds actions
           let both = then_ok (script (judged.0 ++ codes ".up") a.up) (λ _. script (judged.0 ++ codes ".down") a.down) tt judged.1 in
           (r (judged.0 ++ codes ".up") a.up both.1, r (judged.0 ++ codes ".down") a.down both.2),
     )
-references_ok T S target script t r at (ScheduleText s type times) h = r (at ++ codes ".script") s h
+references_ok T S target script t r at (ScheduleText s type times) h = λ z i.
+    let judged = each_run_ok script at s h z i in r judged.0 z judged.1
 references_ok T S target script t r at UnknownText h = tt
 
 -- What every pass found.
@@ -152,6 +179,7 @@ pub record IsJudged (c : ConfigText) : Type 0 where
   pub times : passes.valid_times c ≡ Ok tt
   pub sorting : passes.valid_sorting c ≡ Ok tt
   pub clocks : passes.new_clocks c ≡ Ok tt
+  pub alternatives : passes.new_alternatives c ≡ Ok tt
 
 pub passed : (c : ConfigText) → judged c ≡ Ok tt → IsJudged c
 unfolding judged
@@ -173,6 +201,7 @@ passed c h =
     let q = then_ok _ _ tt p.2 in
     let r = then_ok _ _ tt q.2 in
     let s = then_ok _ _ tt r.2 in
+    let t = then_ok _ _ tt s.2 in
     record {
       forms = a.1;
       objects = b.1;
@@ -191,5 +220,6 @@ passed c h =
       inputs = q.1;
       times = r.1;
       sorting = s.1;
-      clocks = s.2;
+      clocks = t.1;
+      alternatives = t.2;
     }

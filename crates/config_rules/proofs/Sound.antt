@@ -1,8 +1,7 @@
 -- The plan of a configuration in which the passes find nothing is sound.
 use Rattle.std.proofs.Common.{◌≡◌, ◌⊎◌, ℕ, ◌==◌, Bool, true, false, not, List, [], ◌∷◌, map, length, refl, sym, ap, subst, ◌∙◌, inl, inr, Option, Some, None, is_some, eq-eqb, nat_lt, nat_le, leb-true, Ok}
 use Rattle.std.specs.Prelude.{option_and_then, codes, ◌&&◌, ◌||◌}
-use Rattle.std.proofs.lemmas.Bool.{or_cases, and_parts, and_from, false≢true, ltb-false, le-leb}
-use Rattle.std.proofs.lemmas.List.{length-map}
+use Rattle.std.proofs.lemmas.Bool.{or_cases, and_parts, and_from, false≢true}
 use Rattle.std.specs.List.{list_all}
 use Rattle.cosem_data.specs.Tree.{Tree, null_data}
 use Rattle.cosem_data.specs.Kinds.{kind_of}
@@ -12,34 +11,38 @@ use Rattle.meter_theory.specs.Classes.{is_of_class, is_settable, is_capturable}
 use Rattle.meter_theory.specs.declared.classes.Class.TheVariants as classes
 use Rattle.meter_theory.specs.ClientNames.{may_be_named}
 use Rattle.meter_theory.specs.Lists.{IsIn, AreDistinct}
+use Rattle.meter_theory.specs.Menus.{alternatives}
 use Rattle.meter_theory.specs.declared.refs.ScriptRef.{ScriptRef}
 use Rattle.meter_theory.specs.State.{value}
 use Rattle.meter_theory.specs.Value.{OfKind, counter, is_within_limits}
 use Rattle.meter_theory.specs.Plan.{start_of, cells, entries_in_use, class_of, association_name}
 use Rattle.meter_theory.specs.Steps.{scripts_of, Captures, captures_in}
-use Rattle.meter_theory.specs.Sound.{IsSound, IsCapturable, IsSoundPart, is_name, has_action_sizes, has_script_sizes, has_part_sizes, has_sizes, has_sap, has_script, is_right, scripts_run_by}
+use Rattle.meter_theory.specs.Sound.{IsSound, IsCapturable, IsSoundPart, is_name, has_action_sizes, has_script_sizes, has_capture_sizes, has_part_sizes, has_sizes, has_sap, has_script, is_right, scripts_run_by}
 use Rattle.meter_theory.specs.declared.limits.TheConstants as limits
+use Rattle.meter_theory.proofs.Menus.{in_count}
 use Rattle.meter_theory.proofs.Rights.{cell_of_found}
+use Rattle.meter_theory.specs.Edges.{captured_by}
 use Rattle.meter_theory.proofs.Lists.{in_map, from_map, from_flat_map}
 use Rattle.config_text.specs.declared.fault.Code.TheVariants as code
 use Rattle.config_text.specs.declared.service.Service.{Service}
 use Rattle.config_text.specs.declared.service.Service.TheVariants as services
 use Rattle.config_text.specs.Fault.{fault_if}
 use Rattle.config_text.specs.Parts.{Text, ConfigText, ClientText, ObjectText, TargetText, ActionText, UpDownText, BodyText, DataText, RegisterText, ProfileText, ClockText, ScriptTableText, MonitorText, ScheduleText, UnknownText}
-use Rattle.config_rules.specs.Names.{target_is, class_named}
+use Rattle.config_rules.specs.Names.{target_is, class_named, menu_in}
 use Rattle.value_text.specs.Texts.{value_in}
-use Rattle.config_rules.specs.PlanOf.{part_of, object_of, plan_of, name_of, value_of, or_else, cell_named, up_down_of, script_of, action_of, parameter_of, thresholds_value, right_of, client_of, script_named}
-use Rattle.config_rules.specs.Read.{IsRead, is_body_of}
+use Rattle.config_rules.specs.PlanOf.{cells_named, captures_of, part_of, object_of, plan_of, name_of, value_of, or_else, cell_named, up_down_of, script_of, action_of, parameter_of, thresholds_value, right_of, client_of, script_named}
+use Rattle.config_rules.specs.Read.{IsRead, is_body_of, may_have}
 use Rattle.config_rules.specs.Passes as passes
 use Rattle.config_rules.specs.Passes.{judged}
-use Rattle.config_rules.proofs.Passed.{then_ok, holds, not_faulty, each_ok, EachReference, passed}
-use Rattle.config_rules.proofs.Named.{IsName, client_names_new, names_apart, plan_names, six_bytes, name_of_is}
+use Rattle.config_rules.proofs.Passed.{then_ok, holds, each_ok, each_capture_ok, alternatives_in, EachReference, passed}
+use Rattle.config_rules.proofs.Named.{IsName, client_names_new, names_apart, plan_names}
 use Rattle.config_rules.proofs.Cells.{IsRight, IsTarget, right, settable_cell, only_place}
 use Rattle.config_rules.proofs.Clocks.{moment_there}
 use Rattle.config_rules.proofs.Starts.{of_body, register_start}
 use Rattle.config_rules.proofs.Scripts.{IsScript, script_numbers}
 use Rattle.config_rules.proofs.Actions.{IsAction, action_at, written_value, writes, calls}
 use Rattle.config_rules.proofs.Rights.{right_is}
+use Rattle.config_rules.proofs.Sizes.{at_most_ok, few_of_map, each_of_map, six, profile_sizes, schedule_sizes}
 use Rattle.config_rules.proofs.Fits.{known_of, monitor_source, starts}
 
 -- Captures
@@ -66,7 +69,8 @@ in_use c t o target class index = at o.body refl
     at (RegisterText value default scaler unit) is = other 3 refl (class_at (RegisterText value default scaler unit) is)
     at (ProfileText captures period entries sort_method) is =
         let there : IsIn {A = CellRef × Tree} (start_of (name_of t.object) (part_of c o.body)) (entries_in_use (name_of t.object), counter 0) =
-        subst (λ b. IsIn {A = CellRef × Tree} (start_of (name_of t.object) (part_of c b)) (entries_in_use (name_of t.object), counter 0)) (sym is) (inr (inr (inl refl))) in
+        subst (λ b. IsIn {A = CellRef × Tree} (start_of (name_of t.object) (part_of c b)) (entries_in_use (name_of t.object), counter 0)) (sym is)
+        (in_count (name_of t.object) (captures_of c captures) period entries) in
         let same : entries_in_use (name_of t.object) ≡ cell_named c t = λ k. cell (class k) (name_of t.object) (index k) in (
           subst (IsIn (cells (plan_of c))) same (cell_of_found (plan_of c) (name_of t.object) (object_of c o) target.planned (entries_in_use (name_of t.object)) (counter 0) there),
           inr (object_of c o, planned, _, ap (λ b. captures_in (part_of c b)) is, named),
@@ -90,24 +94,30 @@ capturable_body c index (MonitorText monitored thresholds actions) h = inl h
 capturable_body c index (ScheduleText script type times) h = inl h
 capturable_body c index UnknownText h = absurd (false≢true h)
 
+or_left : (b more : Bool) → b ≡ true → (b || more) ≡ true
+or_left b more h = ap (λ z. z || more) h
+
 captured_cell : (c : ConfigText) → IsRight c → (t : TargetText) (o : ObjectText) → IsTarget c t.object o → target_is c is_capturable t ≡ true →
     IsIn (cells (plan_of c)) (cell_named c t) × IsCapturable (plan_of c) (cell_named c t)
 captured_cell c ok t o target h =
     elim (capturable_body c t.index o.body (subst (λ k. is_capturable k t.index ≡ true) target.class h)) [
-      | inl e ↦ let s = settable_cell c ok t o target (subst (λ k. is_settable k t.index ≡ true) (sym target.class) e) in (s.0, inl s.1)
+      | inl e ↦ let s = settable_cell c ok t o target (or_left _ _ (subst (λ k. is_settable k t.index ≡ true) (sym target.class) e)) in (s.0, inl s.1)
       | inr e ↦ in_use c t o target (e.0 ∙ sym target.class) e.1
     ]
 
 captures : (c : ConfigText) → IsRight c → (o : ObjectText) → IsIn c.objects o → (body : BodyText) → o.body ≡ body → (taken : Captures) → captures_in (part_of c body) ≡ Some taken →
-    (x : CellRef) → IsIn taken.captured x → IsIn (cells (plan_of c)) x × IsCapturable (plan_of c) x
+    (x : CellRef) → IsIn (captured_by taken.captured) x → IsIn (cells (plan_of c)) x × IsCapturable (plan_of c) x
 unfolding passes.usable_indexes
 captures c ok o i (DataText value) is taken e x j = cc
 captures c ok o i (RegisterText value default scaler unit) is taken e x j = cc
 captures c ok o i (ProfileText all period entries sort_method) is taken e x j =
-    let same : record { captured = map (λ y. cell_named c y.target) all; entries = entries } ≡ taken = cc in
-    let y = from_map (λ z. cell_named c z.target) all x (subst (λ z. IsIn z.captured x) (sym same) j) in
-    let refers = subst (EachReference (λ t. (p : ObjectText) × IsTarget c t.object p) (IsScript c)) is (known_of c ok o i) y.0 y.1 in
-    let index = each_ok _ _ _ _ (of_body c ok o i (ProfileText all period entries sort_method) is).indexes.1 y.0 y.1 in
+    let own : Captures = record { captured = captures_of c all; entries = entries } in
+    let same : own ≡ taken = cc in
+    let cells_of = from_flat_map (λ ys. ys) (alternatives (captures_of c all)) x (subst (λ z. IsIn (captured_by z.captured) x) (sym same) j) in
+    let texts = from_map (cells_named c) (alternatives_in all) cells_of.0 cells_of.1 in
+    let y = from_map (λ z. cell_named c z.target) texts.0 x (subst (λ ys. IsIn ys x) texts.2 cells_of.2) in
+    let refers = subst (EachReference (λ t. (p : ObjectText) × IsTarget c t.object p) (IsScript c)) is (known_of c ok o i) texts.0 texts.1 y.0 y.1 in
+    let index = each_capture_ok _ _ all (of_body c ok o i (ProfileText all period entries sort_method) is).indexes.1 texts.0 texts.1 y.0 y.1 in
     let r = captured_cell c ok y.0.target refers.0 refers.1 (holds _ _ _ index.1) in
     (subst (IsIn (cells (plan_of c))) (sym y.2) r.0, subst (IsCapturable (plan_of c)) (sym y.2) r.1)
 captures c ok o i (ClockText time) is taken e x j = cc
@@ -136,9 +146,10 @@ scripts_run c ok o i (MonitorText monitored ths actions) is r j =
     one a both (inl e) = subst (λ z. has_script (plan_of c) z ≡ true) (sym e) both.0
     one a both (inr (inl e)) = subst (λ z. has_script (plan_of c) z ≡ true) (sym e) both.1
     one a both (inr (inr none)) = absurd none
-scripts_run c ok o i (ScheduleText script type times) is r (inl e) =
-    subst (λ z. has_script (plan_of c) z ≡ true) (sym e) (subst (EachReference (λ t. (p : ObjectText) × IsTarget c t.object p) (IsScript c)) is (known_of c ok o i))
-scripts_run c ok o i (ScheduleText script type times) is r (inr none) = absurd none
+scripts_run c ok o i (ScheduleText script type times) is r j =
+    let text = from_map script_named (alternatives_in script) r j in
+    subst (λ z. has_script (plan_of c) z ≡ true) (sym text.2)
+    (subst (EachReference (λ t. (p : ObjectText) × IsTarget c t.object p) (IsScript c)) is (known_of c ok o i) text.0 text.1)
 scripts_run c ok o i UnknownText is r j = absurd j
 
 -- Parts
@@ -156,19 +167,6 @@ sound_part c ok o i (ScheduleText script type times) is = tt
 sound_part c ok o i UnknownText is = tt
 
 -- Sizes
-
-at_most_ok : {A : Type 0} (limit : ℕ) (at : Text) (xs : List A) → passes.at_most limit at xs ≡ Ok tt → nat_le (length xs) limit ≡ true
-at_most_ok limit at xs h = le-leb (length xs) limit (ltb-false limit (length xs) (not_faulty code.Limit at (nat_lt limit (length xs)) h))
-
-few_of_map : {A B : Type 0} (f : A → B) (limit : ℕ) (xs : List A) → nat_le (length xs) limit ≡ true → nat_le (length (map f xs)) limit ≡ true
-few_of_map f limit xs h = subst (λ n. nat_le n limit ≡ true) (sym (length-map xs f)) h
-
-each_of_map : {A B : Type 0} (test : B → Bool) (f : A → B) (xs : List A) → ((x : A) → IsIn xs x → test (f x) ≡ true) → list_all test (map f xs) ≡ true
-each_of_map test f [] h = refl
-each_of_map test f (x ∷ xs) h = and_from (test (f x)) (list_all test (map f xs)) (h x (inl refl)) (each_of_map test f xs (λ y i. h y (inr i)))
-
-six : (text : Text) → IsName text → is_name (name_of text) ≡ true
-six text name = subst (λ n. is_name n ≡ true) (sym (name_of_is text name.0 name.1)) (six_bytes text name.0 name.1)
 
 -- the value of an action keeps within the limits
 small_parameter : (value : Option Text) → ((text : Text) → value ≡ Some text → is_some (value_in text) ≡ true) → passes.is_small (option_and_then value_in value) ≡ true →
@@ -194,12 +192,12 @@ unfolding passes.limits_in passes.script_limits
 part_sizes c ok o i (DataText value) is = refl
 part_sizes c ok o i (RegisterText value default scaler unit) is = refl
 part_sizes c ok o i (ProfileText all period entries sort_method) is =
-    let names = subst (EachReference (λ t. IsName t.object) (λ r. IsName r.table)) is (ok.names.references o i) in
-    let both = then_ok (passes.at_most limits.CAPTURE_OBJECTS _ all) _ tt (of_body c ok o i (ProfileText all period entries sort_method) is).limits.1 in
-    let one = (and_parts (is_of_class o.class classes.ProfileGeneric) (nat_le 1 entries) (subst (λ b. is_body_of c.version o.class b ≡ true) is (ok.read.bodies o i))).1 in
-    and_from (nat_le (length (map (λ y. cell_named c y.target) all)) limits.CAPTURE_OBJECTS) _ (few_of_map (λ y. cell_named c y.target) limits.CAPTURE_OBJECTS all (at_most_ok _ _ all both.1))
-    (and_from (list_all (λ x. is_name x.name) (map (λ y. cell_named c y.target) all)) _ (each_of_map (λ x. is_name x.name) (λ y. cell_named c y.target) all (λ y j. six y.target.object (names y j)))
-    (and_from (nat_le 1 entries) (nat_le entries limits.PROFILE_ENTRIES) one (le-leb entries limits.PROFILE_ENTRIES (ltb-false limits.PROFILE_ENTRIES entries (not_faulty _ _ _ both.2)))))
+    let sizes = profile_sizes c ok o i all period entries sort_method is in
+    let body = (and_parts (is_of_class o.class classes.ProfileGeneric) _ (subst (λ b. is_body_of c.version o.class b ≡ true) is (ok.read.bodies o i))).1 in
+    let one = (and_parts (nat_le 1 entries) (may_have c.version all) body).0 in
+    and_from (nat_le (length (map (cells_named c) (menu_in all))) limits.MENU) _ sizes.few
+    (and_from (list_all has_capture_sizes (alternatives (captures_of c all))) _ (each_of_map has_capture_sizes (cells_named c) (alternatives_in all) sizes.each)
+    (and_from (nat_le 1 entries) (nat_le entries limits.PROFILE_ENTRIES) one sizes.kept))
 part_sizes c ok o i (ClockText time) is = refl
 part_sizes c ok o i (ScriptTableText scripts) is =
     let names = subst (EachReference (λ t. IsName t.object) (λ r. IsName r.table)) is (ok.names.references o i) in
@@ -218,7 +216,9 @@ part_sizes c ok o i (MonitorText monitored ths actions) is =
     (each_of_map (λ a. is_name a.up.table && is_name a.down.table) up_down_of actions (λ a j.
     and_from (is_name (name_of a.up.table)) (is_name (name_of a.down.table)) (six a.up.table (names.1 a j).0) (six a.down.table (names.1 a j).1))))
 part_sizes c ok o i (ScheduleText script type times) is =
-    six script.table (subst (EachReference (λ t. IsName t.object) (λ r. IsName r.table)) is (ok.names.references o i))
+    let sizes = schedule_sizes c ok o i script type times is in
+    and_from (nat_le (length (map script_named (menu_in script))) limits.MENU) _ sizes.few
+    (each_of_map (λ r. is_name r.table) script_named (alternatives_in script) sizes.each)
 part_sizes c ok o i UnknownText is = refl
 
 -- The whole

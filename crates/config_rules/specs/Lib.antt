@@ -5,3 +5,4 @@ pub mod PlanOf
 pub mod Read
 pub mod Values
 pub mod Walks
+pub mod Written

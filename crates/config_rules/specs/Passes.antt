@@ -1,6 +1,6 @@
 -- What can be wrong with what the tables of a configuration say (own profile): one pass a code, each over the whole
 -- configuration in the order of its text, and run only where the passes before it found nothing.
-use Rattle.std.specs.Prelude.{ℕ, ℤ, pos, ◌==◌, nat_lt, int_le, Bool, true, false, not, ◌&&◌, ◌||◌, List, [], ◌++◌, length, codes, Option, Some, None, is_some, option_and_then, Result, Ok, ⊤}
+use Rattle.std.specs.Prelude.{ℕ, ℤ, pos, ◌==◌, nat_lt, int_le, Bool, true, false, not, ◌&&◌, ◌||◌, List, [], ◌∷◌, ◌++◌, length, codes, Option, Some, None, is_some, option_and_then, Result, Ok, ⊤}
 use Rattle.std.specs.List.{list_any}
 use Rattle.std.specs.Str.{bytes_eq}
 use Rattle.cosem_data.specs.Tree.{Tree}
@@ -12,15 +12,16 @@ use Rattle.meter_theory.specs.Times.{are_execution_times}
 use Rattle.meter_theory.specs.declared.limits.TheConstants as limits
 use Rattle.civil_moment.specs.MomentText.{moment_in}
 use Rattle.config_text.specs.Fault.{Fault, fault_if, ◌>>=◌}
-use Rattle.config_text.specs.declared.fault.Code.TheVariants.{Form, ObjectTwice, ClassUnknown, ClientUnknown, ClientTwice, Reference, Index, Value, NotSettable, Counts, ScriptId, Execute, Limit, Label, Fed, Times, Sorting, SecondClock}
+use Rattle.config_text.specs.declared.fault.Code.TheVariants.{Form, ObjectTwice, ClassUnknown, ClientUnknown, ClientTwice, Reference, Index, Value, NotSettable, Counts, ScriptId, Execute, Limit, Label, Fed, Times, Sorting, SecondClock, AlternativeTwice}
 use Rattle.config_text.specs.declared.service.Service.{Service}
 use Rattle.config_text.specs.declared.service.Service.TheVariants.{Write, Invoke}
-use Rattle.config_text.specs.Parts.{Text, ClientText, ObjectText, TargetText, ScriptRefText, ActionText, ScriptText, RightText, SetsText, LabelText, ConfigText, BodyText, DataText, RegisterText, ProfileText, ClockText, ScriptTableText, MonitorText, ScheduleText}
-use Rattle.config_rules.specs.Names.{object_named, has_client, class_named, scripts_in, target_is}
+use Rattle.config_text.specs.Parts.{Text, ClientText, ObjectText, TargetText, CaptureText, ScriptRefText, ActionText, ScriptText, RightText, SetsText, LabelText, ConfigText, BodyText, DataText, RegisterText, ProfileText, ClockText, ScriptTableText, MonitorText, ScheduleText}
+use Rattle.config_rules.specs.Names.{object_named, has_client, class_named, scripts_in, target_is, menu_in, passes_or_chosen}
 use Rattle.value_text.specs.Texts.{name_in, value_in}
-use Rattle.config_rules.specs.Values.{kind_in, kind_named, is_of_kind, is_number, may_be_number, may_stand_at, is_time_text}
+use Rattle.config_rules.specs.Values.{kind_in, kind_named, is_of_kind, is_number, may_be_number, is_time_text}
 use Rattle.config_rules.specs.PlanOf.{thresholds_value, times_value}
-use Rattle.config_rules.specs.Walks.{Judge, each, each_new, each_action, references}
+use Rattle.config_rules.specs.Walks.{Judge, each, each_new, each_action, each_capture, references}
+use Rattle.config_rules.specs.Written.{may_stand_at}
 
 -- the clients and the names of sets of clients
 abbrev pub both_sets : Judge Text → Judge SetsText
@@ -126,12 +127,12 @@ abbrev pub usable : ConfigText → (ℕ → ℕ → Bool) → Judge TargetText
 usable c test at t = fault_if Index (at ++ codes ".index") (not (target_is c test t))
 
 abbrev pub usable_action : ConfigText → Service → Judge TargetText
-usable_action c Write at t = usable c is_settable at t
+usable_action c Write at t = fault_if Index (at ++ codes ".index") (not (passes_or_chosen c is_settable t.object t.index))
 usable_action c Invoke at t = usable c has_method at t
 
 unfoldable pub usable_indexes : ConfigText → Judge BodyText
 usable_indexes c at (ProfileText captures period entries sort_method) =
-    each (λ at x. usable c is_capturable at x.target) (at ++ codes ".capture") captures
+    each_capture (λ at x. usable c is_capturable at x.target) at captures
 usable_indexes c at (ScriptTableText scripts) = each_action (λ at a. usable_action c a.service at a.target) at scripts
 usable_indexes c at (MonitorText monitored thresholds actions) = usable c is_monitorable (at ++ codes ".monitored") monitored
 usable_indexes c at _ = Ok tt
@@ -156,7 +157,7 @@ known_indexes c = do
 -- a value that may stand in the target
 abbrev pub written_value : ConfigText → TargetText → Option Tree → Bool
 written_value c t None = false
-written_value c t (Some v) = may_stand_at c (object_named c t.object) v
+written_value c t (Some v) = may_stand_at c (object_named c t.object) t.index v
 
 abbrev pub action_value : ConfigText → Service → TargetText → Option Text → Bool
 action_value c Write t text = written_value c t (option_and_then value_in text)
@@ -187,7 +188,7 @@ valid_values c = each (λ at o. valid_values_in c at o.body) (codes "object") c.
 
 unfoldable pub settable_rights : ConfigText → Result ⊤ Fault
 settable_rights c =
-    each (λ at r. each (λ at index. fault_if NotSettable at (not (is_settable (class_named c r.object) index))) (at ++ codes ".set") r.sets)
+    each (λ at r. each (λ at index. fault_if NotSettable at (not (passes_or_chosen c is_settable r.object index))) (at ++ codes ".set") r.sets)
     (codes "right") c.rights
 
 -- C13 Thresholds and actions that differ in number
@@ -235,6 +236,11 @@ is_small (Some v) = is_within_limits v
 abbrev pub small_value : Judge (Option Text)
 small_value at text = fault_if Limit at (not (is_small (option_and_then value_in text)))
 
+-- a menu has 1 to 8 alternatives beside what is configured
+abbrev pub menu_size : {A : Type 0} → Judge (Option (List A))
+menu_size at None = Ok tt
+menu_size at (Some xs) = fault_if Limit at (nat_lt (length xs) 1 || nat_lt limits.MENU (length xs))
+
 unfoldable pub script_limits : Judge ScriptText
 script_limits at s = do
   few ← at_most limits.ACTIONS (at ++ codes ".action") s.actions
@@ -246,16 +252,19 @@ limits_in at (RegisterText value default scaler unit) = do
   start ← small_value (at ++ codes ".value") (Some value)
   small_value (at ++ codes ".default") (Some default)
 limits_in at (ProfileText captures period entries sort_method) = do
-  few ← at_most limits.CAPTURE_OBJECTS (at ++ codes ".capture") captures
-  fault_if Limit (at ++ codes ".entries") (nat_lt limits.PROFILE_ENTRIES entries)
+  few ← at_most limits.CAPTURE_OBJECTS (at ++ codes ".capture") captures.start
+  size ← fault_if Limit (at ++ codes ".entries") (nat_lt limits.PROFILE_ENTRIES entries)
+  menu ← menu_size (at ++ codes ".capture_menu") captures.menu
+  each (at_most limits.CAPTURE_OBJECTS) (at ++ codes ".capture_menu") (menu_in captures)
 limits_in at (ScriptTableText scripts) = do
   few ← at_most limits.SCRIPTS (at ++ codes ".script") scripts
   each script_limits (at ++ codes ".script") scripts
 limits_in at (MonitorText monitored thresholds actions) = do
   few ← fault_if Limit (at ++ codes ".thresholds") (nat_lt limits.THRESHOLDS (length thresholds) || not (is_within_limits (thresholds_value thresholds)))
   at_most limits.THRESHOLDS (at ++ codes ".action") actions
-limits_in at (ScheduleText script type times) =
-    fault_if Limit (at ++ codes ".times") (nat_lt limits.EXECUTION_TIMES (length times) || not (is_within_limits (times_value times)))
+limits_in at (ScheduleText script type times) = do
+  few ← fault_if Limit (at ++ codes ".times") (nat_lt limits.EXECUTION_TIMES (length times) || not (is_within_limits (times_value times)))
+  menu_size (at ++ codes ".script_menu") script.menu
 limits_in at _ = Ok tt
 
 unfoldable pub within_limits : ConfigText → Result ⊤ Fault
@@ -271,7 +280,7 @@ same_target s t = bytes_eq s.object t.object && (s.index == t.index)
 
 abbrev pub new_label : ConfigText → List LabelText → Judge LabelText
 new_label c earlier at l =
-    fault_if Label (at ++ codes ".index") (not (target_is c is_cell l.target) || list_any (λ e. same_target e.target l.target) earlier)
+    fault_if Label (at ++ codes ".index") (not (passes_or_chosen c is_cell l.target.object l.target.index) || list_any (λ e. same_target e.target l.target) earlier)
 
 unfoldable pub new_labels : ConfigText → Result ⊤ Fault
 new_labels c = each_new (new_label c) (codes "label") c.labels
@@ -298,10 +307,14 @@ abbrev pub is_other : ℤ → Option ℤ → Bool
 is_other only None = false
 is_other only (Some z) = not (int_le only z && int_le z only)
 
+abbrev pub whole_attribute : Judge CaptureText
+whole_attribute at x = fault_if Sorting (at ++ codes ".data_index") (is_other (pos 0) x.data_index)
+
 unfoldable pub valid_sorting_in : Judge BodyText
 valid_sorting_in at (ProfileText captures period entries sort_method) = do
-  parts ← each (λ at x. fault_if Sorting (at ++ codes ".data_index") (is_other (pos 0) x.data_index)) (at ++ codes ".capture") captures
-  fault_if Sorting (at ++ codes ".sort_method") (is_other (pos 1) sort_method)
+  parts ← each whole_attribute (at ++ codes ".capture") captures.start
+  method ← fault_if Sorting (at ++ codes ".sort_method") (is_other (pos 1) sort_method)
+  each (each whole_attribute) (at ++ codes ".capture_menu") (menu_in captures)
 valid_sorting_in at _ = Ok tt
 
 unfoldable pub valid_sorting : ConfigText → Result ⊤ Fault
@@ -317,6 +330,34 @@ new_clock earlier at o = fault_if SecondClock (at ++ codes ".class") (is_clock o
 
 unfoldable pub new_clocks : ConfigText → Result ⊤ Fault
 new_clocks c = each_new new_clock (codes "object") c.objects
+
+-- C22 An alternative that is what is configured, or an earlier one
+
+-- the lists are equal, by a test of their elements
+abbrev pub same_lists : {A : Type 0} → (A → A → Bool) → List A → List A → Bool
+same_lists same [] [] = true
+same_lists same [] (y ∷ ys) = false
+same_lists same (x ∷ xs) [] = false
+same_lists same (x ∷ xs) (y ∷ ys) = same x y && same_lists same xs ys
+
+abbrev pub same_captures : List CaptureText → List CaptureText → Bool
+same_captures = same_lists (λ x y. same_target x.target y.target)
+
+abbrev pub same_script : ScriptRefText → ScriptRefText → Bool
+same_script r s = bytes_eq r.table s.table && (int_le r.script s.script && int_le s.script r.script)
+
+abbrev pub new_alternative : {A : Type 0} → (A → A → Bool) → A → List A → Judge A
+new_alternative same start earlier at x = fault_if AlternativeTwice at (same start x || list_any (λ e. same e x) earlier)
+
+unfoldable pub new_alternatives_in : Judge BodyText
+new_alternatives_in at (ProfileText captures period entries sort_method) =
+    each_new (new_alternative same_captures captures.start) (at ++ codes ".capture_menu") (menu_in captures)
+new_alternatives_in at (ScheduleText script type times) =
+    each_new (new_alternative same_script script.start) (at ++ codes ".script_menu") (menu_in script)
+new_alternatives_in at _ = Ok tt
+
+unfoldable pub new_alternatives : ConfigText → Result ⊤ Fault
+new_alternatives c = each (λ at o. new_alternatives_in at o.body) (codes "object") c.objects
 
 -- The passes, one code after another.
 unfoldable pub judged : ConfigText → Result ⊤ Fault
@@ -338,4 +379,5 @@ judged c = do
   inputs ← fed_values c  -- C18
   times ← valid_times c  -- C19
   sorting ← valid_sorting c  -- C20
-  new_clocks c  -- C21
+  clocks ← new_clocks c  -- C21
+  new_alternatives c  -- C22

@@ -7,6 +7,7 @@ use Rattle.cosem_data.specs.Cells.{cell}
 use Rattle.cosem_data.specs.declared.name.LogicalName.{LogicalName}
 use Rattle.cosem_data.specs.declared.cell.CellRef.{CellRef}
 use Rattle.cosem_data.specs.declared.cell.MethodRef.{MethodRef}
+use Rattle.meter_theory.specs.Menus.{Choice}
 use Rattle.meter_theory.specs.Times.{Moment, first_moment}
 use Rattle.meter_theory.specs.Value.{array_of}
 use Rattle.meter_theory.specs.declared.refs.ScriptRef.{ScriptRef}
@@ -16,8 +17,8 @@ use Rattle.meter_theory.specs.Plan.{Plan, Client, Action, Script, Part, Object, 
 use Rattle.civil_moment.specs.MomentText.{moment_in}
 use Rattle.config_text.specs.declared.service.Service.{Service}
 use Rattle.config_text.specs.declared.service.Service.TheVariants.{Write, Invoke}
-use Rattle.config_text.specs.Parts.{Text, ClientText, ObjectText, TargetText, ScriptRefText, ScriptText, UpDownText, RightText, ConfigText, BodyText, DataText, RegisterText, ProfileText, ClockText, ScriptTableText, MonitorText, ScheduleText, UnknownText}
-use Rattle.config_rules.specs.Names.{class_named}
+use Rattle.config_text.specs.Parts.{Text, MenuText, CaptureText, ClientText, ObjectText, TargetText, ScriptRefText, ScriptText, UpDownText, RightText, ConfigText, BodyText, DataText, RegisterText, ProfileText, ClockText, ScriptTableText, MonitorText, ScheduleText, UnknownText}
+use Rattle.config_rules.specs.Names.{class_named, menu_in}
 use Rattle.value_text.specs.Texts.{name_in, bytes_in, value_in}
 use Rattle.config_rules.specs.Values.{time_and_date}
 
@@ -74,6 +75,17 @@ action_of c Invoke t value = theory.Invoke (method_named c t) (parameter_of valu
 abbrev pub script_of : ConfigText → ScriptText → Script
 script_of c s = record { id = s.id; actions = map (λ a. action_of c a.service a.target a.value) s.actions }
 
+-- the attributes that a profile captures, and those of its alternatives
+abbrev pub cells_named : ConfigText → List CaptureText → List CellRef
+cells_named c captures = map (λ x. cell_named c x.target) captures
+
+abbrev pub captures_of : ConfigText → MenuText (List CaptureText) → Choice (List CellRef)
+captures_of c captures = record { configured = cells_named c captures.start; menu = map (cells_named c) (menu_in captures) }
+
+-- the script of a schedule, and those of its alternatives
+abbrev pub scripts_of : MenuText ScriptRefText → Choice ScriptRef
+scripts_of script = record { configured = script_named script.start; menu = map script_named (menu_in script) }
+
 abbrev pub up_down_of : UpDownText → UpDown
 up_down_of a = record { up = script_named a.up; down = script_named a.down }
 
@@ -82,12 +94,12 @@ part_of c (DataText value) = theory.Data1 (value_of value)
 part_of c (RegisterText value default scaler unit) =
     theory.Register (value_of value) (value_of default) (record { scaler = scaler; unit = unit })
 part_of c (ProfileText captures period entries sort_method) =
-    theory.ProfileGeneric (map (λ x. cell_named c x.target) captures) period entries
+    theory.ProfileGeneric (captures_of c captures) period entries
 part_of c (ClockText time) = theory.Clock (moment_of time)
 part_of c (ScriptTableText scripts) = theory.ScriptTable (map (script_of c) scripts)
 part_of c (MonitorText monitored thresholds actions) =
     theory.RegisterMonitor (cell_named c monitored) (thresholds_value thresholds) (map up_down_of actions)
-part_of c (ScheduleText script type times) = theory.SingleActionSchedule (script_named script) type (times_value times)
+part_of c (ScheduleText script type times) = theory.SingleActionSchedule (scripts_of script) type (times_value times)
 part_of c UnknownText = theory.ScriptTable []
 
 abbrev pub object_of : ConfigText → ObjectText → Object

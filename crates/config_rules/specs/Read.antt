@@ -1,25 +1,30 @@
 -- What the reading of a configuration's tables has judged before: numbers within their ranges, and objects that say what
 -- their classes ask for.
-use Rattle.std.specs.Prelude.{◌≡◌, ℕ, nat_le, Bool, true, not, ◌&&◌}
+use Rattle.std.specs.Prelude.{◌≡◌, ℕ, nat_le, Bool, true, not, ◌&&◌, ◌||◌, is_some}
 use Rattle.meter_theory.specs.Classes.{is_known, is_of_class}
 use Rattle.meter_theory.specs.declared.classes.Class.TheVariants as classes
 use Rattle.meter_theory.specs.Lists.{IsIn}
-use Rattle.config_text.specs.Parts.{ClientText, ObjectText, ConfigText, BodyText, DataText, RegisterText, ProfileText, ClockText, ScriptTableText, MonitorText, ScheduleText, UnknownText}
+use Rattle.config_text.specs.Objects.{has_menus}
+use Rattle.config_text.specs.Parts.{MenuText, ClientText, ObjectText, ConfigText, BodyText, DataText, RegisterText, ProfileText, ClockText, ScriptTableText, MonitorText, ScheduleText, UnknownText}
 
 -- a service access point is 1 to 127
 abbrev pub has_sap : ClientText → Bool
 has_sap client = nat_le 1 client.sap && nat_le client.sap 127
+
+-- a configuration of this version may have this menu
+abbrev pub may_have : {A : Type 0} → ℕ → MenuText A → Bool
+may_have version m = has_menus version || not (is_some m.menu)
 
 -- in a configuration of this version the body is that of the class; a profile has at least 1 entry
 abbrev pub is_body_of : ℕ → ℕ → BodyText → Bool
 is_body_of version class (DataText value) = is_of_class class classes.Data
 is_body_of version class (RegisterText value default scaler unit) = is_of_class class classes.Register
 is_body_of version class (ProfileText captures period entries sort_method) =
-    is_of_class class classes.ProfileGeneric && nat_le 1 entries
+    is_of_class class classes.ProfileGeneric && (nat_le 1 entries && may_have version captures)
 is_body_of version class (ClockText time) = is_of_class class classes.Clock
 is_body_of version class (ScriptTableText scripts) = is_of_class class classes.ScriptTable
 is_body_of version class (MonitorText monitored thresholds actions) = is_of_class class classes.RegisterMonitor
-is_body_of version class (ScheduleText script type times) = is_of_class class classes.SingleActionSchedule
+is_body_of version class (ScheduleText script type times) = is_of_class class classes.SingleActionSchedule && may_have version script
 is_body_of version class UnknownText = not (is_known version class)
 
 pub record IsRead (c : ConfigText) : Type 0 where

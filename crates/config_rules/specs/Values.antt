@@ -1,14 +1,12 @@
 -- The values in the texts of a configuration.
 use Rattle.std.specs.Prelude.{ℕ, ◌==◌, Bool, true, false, ◌&&◌, List, [], ◌∷◌, length, take, drop, Option, Some, None, option_map}
-use Rattle.std.specs.List.{list_all}
 use Rattle.cosem_data.specs.Tree.{Tree, octet_string}
 use Rattle.cosem_data.specs.Kinds.{kind_of, same_kind, is_number_kind}
 use Rattle.cosem_data.specs.declared.kind.Kind.{Kind}
-use Rattle.cosem_data.specs.declared.kind.Kind.TheVariants.{Array, DoubleLongUnsigned}
-use Rattle.meter_theory.specs.Value.{ClockTime, elements, meets, structure_of}
-use Rattle.meter_theory.specs.Times.{is_execution_time, are_execution_times}
+use Rattle.meter_theory.specs.Value.{structure_of}
+use Rattle.meter_theory.specs.Times.{is_execution_time}
 use Rattle.value_text.specs.Texts.{bytes_in, value_in}
-use Rattle.config_text.specs.Parts.{Text, ConfigText, ObjectText, BodyText, DataText, RegisterText, ProfileText, ClockText, MonitorText, ScheduleText}
+use Rattle.config_text.specs.Parts.{Text, ConfigText, ObjectText, BodyText, DataText, RegisterText}
 use Rattle.config_rules.specs.Names.{object_named}
 
 -- time, then date (IEC 62056-6-2, Single action schedule, execution_time_date)
@@ -57,19 +55,3 @@ is_number (Some kind) = is_number_kind kind
 abbrev pub may_be_number : Option Kind → Bool
 may_be_number None = true
 may_be_number (Some kind) = is_number_kind kind
-
--- the value may stand in the settable cell of an object, the limits left aside
-abbrev pub may_stand : ConfigText → BodyText → Tree → Bool
-may_stand c (DataText value) v = has_kind (kind_in value) v
-may_stand c (RegisterText value default scaler unit) v = has_kind (kind_in value) v
-may_stand c (ProfileText captures period entries sort_method) v = same_kind (kind_of v) DoubleLongUnsigned
-may_stand c (ClockText time) v = meets ClockTime v
-may_stand c (MonitorText monitored thresholds actions) v =
-    same_kind (kind_of v) Array
-    && ((length (elements v) == length actions) && list_all (has_kind (kind_named c monitored.object)) (elements v))
-may_stand c (ScheduleText script type times) v = same_kind (kind_of v) Array && are_execution_times type (elements v)
-may_stand c _ v = true
-
-abbrev pub may_stand_at : ConfigText → Option ObjectText → Tree → Bool
-may_stand_at c None v = true
-may_stand_at c (Some o) v = may_stand c o.body v

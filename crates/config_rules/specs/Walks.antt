@@ -2,7 +2,8 @@
 use Rattle.std.specs.Prelude.{ℕ, ◌+◌, ◌++◌, List, [], ◌∷◌, length, codes, Result, Ok, ⊤}
 use Rattle.std.specs.Fmt.{decimal}
 use Rattle.config_text.specs.Fault.{Fault, ◌>>=◌}
-use Rattle.config_text.specs.Parts.{Text, TargetText, ScriptRefText, ActionText, ScriptText, UpDownText, BodyText, ProfileText, ScriptTableText, MonitorText, ScheduleText}
+use Rattle.config_text.specs.Parts.{Text, MenuText, TargetText, ScriptRefText, CaptureText, ActionText, ScriptText, UpDownText, BodyText, ProfileText, ScriptTableText, MonitorText, ScheduleText}
+use Rattle.config_rules.specs.Names.{menu_in}
 
 -- what is judged at a place: nothing found, or the first fault
 abbrev pub Judge : Type 0 → Type 0
@@ -39,6 +40,18 @@ script_actions judge at s = each judge (at ++ codes ".action") s.actions
 abbrev pub each_action : Judge ActionText → Judge (List ScriptText)
 each_action judge at scripts = each (script_actions judge) (at ++ codes ".script") scripts
 
+-- each captured attribute of a profile, at the start and by each alternative
+abbrev pub each_capture : Judge CaptureText → Judge (MenuText (List CaptureText))
+each_capture judge at captures = do
+  this ← each judge (at ++ codes ".capture") captures.start
+  each (each judge) (at ++ codes ".capture_menu") (menu_in captures)
+
+-- the script of a schedule, at the start and by each alternative
+abbrev pub each_run : Judge ScriptRefText → Judge (MenuText ScriptRefText)
+each_run judge at script = do
+  this ← judge (at ++ codes ".script") script.start
+  each judge (at ++ codes ".script_menu") (menu_in script)
+
 -- the scripts of a threshold
 abbrev pub both_scripts : Judge ScriptRefText → Judge UpDownText
 both_scripts judge at a = do
@@ -48,10 +61,10 @@ both_scripts judge at a = do
 -- whatever an object refers to: the objects of targets, and scripts
 unfoldable pub references : Judge TargetText → Judge ScriptRefText → Judge BodyText
 references target script at (ProfileText captures period entries sort_method) =
-    each (λ at c. target at c.target) (at ++ codes ".capture") captures
+    each_capture (λ at x. target at x.target) at captures
 references target script at (ScriptTableText scripts) = each_action (λ at a. target at a.target) at scripts
 references target script at (MonitorText monitored thresholds actions) = do
   this ← target (at ++ codes ".monitored") monitored
   each (both_scripts script) (at ++ codes ".action") actions
-references target script at (ScheduleText r type times) = script (at ++ codes ".script") r
+references target script at (ScheduleText r type times) = each_run script at r
 references target script at _ = Ok tt

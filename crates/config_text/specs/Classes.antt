@@ -1,5 +1,5 @@
 -- What the table of an object has by its interface class (IEC 62056-6-2), beside class, name and fed.
-use Rattle.std.specs.Prelude.{◌==◌, ◌^◌, ◌-◌, if◌then◌else◌, pos, negsuc, [], ◌∷◌, codes, Result, Ok, ⊤}
+use Rattle.std.specs.Prelude.{◌==◌, ◌^◌, ◌-◌, if◌then◌else◌, pos, negsuc, Bool, true, false, List, [], ◌∷◌, codes, None, Result, Ok, ⊤}
 use Rattle.toml.specs.Data.{Members}
 use Rattle.config_text.specs.Fault.{Fault, ◌>>=◌}
 use Rattle.config_text.specs.Parts.{Text, BodyText, DataText, RegisterText, ProfileText, ClockText, ScriptTableText, MonitorText, ScheduleText, CaptureText, ActionText, ScriptText, UpDownText}
@@ -7,7 +7,7 @@ use Rattle.config_text.specs.declared.service.Service.{Service}
 use Rattle.config_text.specs.declared.service.Service.TheVariants.{Write, Invoke}
 use Rattle.config_text.specs.Keys.{needed, only}
 use Rattle.config_text.specs.Lists.{texts_at}
-use Rattle.config_text.specs.Tables.{list_at, list_keys_at, table_at, table_keys_at}
+use Rattle.config_text.specs.Tables.{list_at, list_keys_at, lists_keys_at, table_at, table_keys_at, menu_at, menu_of_lists_at}
 use Rattle.config_text.specs.Values.{text_at, natural_at, signed_at, optional_text_at, optional_integer_at}
 use Rattle.config_text.specs.Targets.{target_keys, target_of, script_ref_keys, script_ref_of}
 
@@ -52,22 +52,32 @@ capture_of at t = do
   data_index ← optional_integer_at at (codes "data_index") t
   Ok (record { target = target; data_index = data_index })
 
-unfoldable pub profile_keys : Text → Members → Result ⊤ Fault
-profile_keys at t = do
+-- the keys of a profile, with that of its menu or without
+abbrev pub known_in_profile : Bool → List Text
+known_in_profile false =
+    codes "class" ∷ codes "name" ∷ codes "fed" ∷ codes "capture" ∷ codes "period" ∷ codes "entries" ∷ codes "sort_method" ∷ []
+known_in_profile true =
+    codes "class" ∷ codes "name" ∷ codes "fed" ∷ codes "capture" ∷ codes "period" ∷ codes "entries" ∷ codes "sort_method"
+    ∷ codes "capture_menu" ∷ []
+
+unfoldable pub profile_keys : Bool → Text → Members → Result ⊤ Fault
+profile_keys menus at t = do
   capture ← needed at (codes "capture") t
   captures ← list_keys_at capture_keys at (codes "capture") t
   period ← needed at (codes "period") t
   entries ← needed at (codes "entries") t
-  only at (codes "class" ∷ codes "name" ∷ codes "fed" ∷ codes "capture" ∷ codes "period" ∷ codes "entries" ∷ codes "sort_method" ∷ []) t
+  menu ← if menus then lists_keys_at capture_keys at (codes "capture_menu") t else Ok tt
+  only at (known_in_profile menus) t
 
 -- a TOML text has no integer of 2 ^ 63 or more
-unfoldable pub profile_of : Text → Members → Result BodyText Fault
-profile_of at t = do
+unfoldable pub profile_of : Bool → Text → Members → Result BodyText Fault
+profile_of menus at t = do
   captures ← list_at capture_of at (codes "capture") t
   period ← natural_at 0 4294967295 at (codes "period") t
   entries ← natural_at 1 (2 ^ 63 - 1) at (codes "entries") t
   sort_method ← optional_integer_at at (codes "sort_method") t
-  Ok (ProfileText captures period entries sort_method)
+  menu ← if menus then menu_of_lists_at capture_of at (codes "capture_menu") t else Ok None
+  Ok (ProfileText (record { start = captures; menu = menu }) period entries sort_method)
 
 -- Clock: the moment at which its time starts, as a text
 unfoldable pub clock_keys : Text → Members → Result ⊤ Fault
@@ -157,17 +167,24 @@ monitor_of at t = do
   Ok (MonitorText monitored thresholds actions)
 
 -- Single action schedule
-unfoldable pub schedule_keys : Text → Members → Result ⊤ Fault
-schedule_keys at t = do
+abbrev pub known_in_schedule : Bool → List Text
+known_in_schedule false = codes "class" ∷ codes "name" ∷ codes "fed" ∷ codes "script" ∷ codes "type" ∷ codes "times" ∷ []
+known_in_schedule true =
+    codes "class" ∷ codes "name" ∷ codes "fed" ∷ codes "script" ∷ codes "type" ∷ codes "times" ∷ codes "script_menu" ∷ []
+
+unfoldable pub schedule_keys : Bool → Text → Members → Result ⊤ Fault
+schedule_keys menus at t = do
   script ← needed at (codes "script") t
   script_ref ← table_keys_at script_ref_keys at (codes "script") t
   type ← needed at (codes "type") t
   times ← needed at (codes "times") t
-  only at (codes "class" ∷ codes "name" ∷ codes "fed" ∷ codes "script" ∷ codes "type" ∷ codes "times" ∷ []) t
+  menu ← if menus then list_keys_at script_ref_keys at (codes "script_menu") t else Ok tt
+  only at (known_in_schedule menus) t
 
-unfoldable pub schedule_of : Text → Members → Result BodyText Fault
-schedule_of at t = do
+unfoldable pub schedule_of : Bool → Text → Members → Result BodyText Fault
+schedule_of menus at t = do
   script ← table_at script_ref_of at (codes "script") t
   type ← natural_at 1 5 at (codes "type") t
   times ← texts_at at (codes "times") t
-  Ok (ScheduleText script type times)
+  menu ← if menus then menu_at script_ref_of at (codes "script_menu") t else Ok None
+  Ok (ScheduleText (record { start = script; menu = menu }) type times)

@@ -68,3 +68,4 @@ number_of codes.Fed = 18
 number_of codes.Times = 19
 number_of codes.Sorting = 20
 number_of codes.SecondClock = 21
+number_of codes.AlternativeTwice = 22

@@ -1,5 +1,5 @@
 -- An object's table. Of an object whose class isn't known in the version of the text only `class` and `name` are looked at.
-use Rattle.std.specs.Prelude.{false, ℕ, Bool, Option, Some, None, option_and_then, codes, Result, Ok, ⊤}
+use Rattle.std.specs.Prelude.{false, ℕ, nat_le, Bool, Option, Some, None, option_and_then, codes, Result, Ok, ⊤}
 use Rattle.toml.specs.Data.{Members, as_integer, get_member}
 use Rattle.meter_theory.specs.Classes.{class_in}
 use Rattle.meter_theory.specs.declared.classes.Class.{Class}
@@ -15,42 +15,46 @@ abbrev pub class_told : ℕ → Members → Option Class
 class_told version t =
     option_and_then (class_in version) (natural_in 0 65535 (option_and_then as_integer (get_member (codes "class") t)))
 
+-- a text of this version may have menus
+abbrev pub has_menus : ℕ → Bool
+has_menus version = nat_le 2 version
+
 -- the keys that the class asks for
-abbrev pub class_keys : Option Class → Text → Members → Result ⊤ Fault
-class_keys None at t = Ok tt
-class_keys (Some classes.Data) at t = data_keys at t
-class_keys (Some classes.Register) at t = register_keys at t
-class_keys (Some classes.ProfileGeneric) at t = profile_keys at t
-class_keys (Some classes.Clock) at t = clock_keys at t
-class_keys (Some classes.ScriptTable) at t = script_table_keys at t
-class_keys (Some classes.RegisterMonitor) at t = monitor_keys at t
-class_keys (Some classes.SingleActionSchedule) at t = schedule_keys at t
+abbrev pub class_keys : Bool → Option Class → Text → Members → Result ⊤ Fault
+class_keys menus None at t = Ok tt
+class_keys menus (Some classes.Data) at t = data_keys at t
+class_keys menus (Some classes.Register) at t = register_keys at t
+class_keys menus (Some classes.ProfileGeneric) at t = profile_keys menus at t
+class_keys menus (Some classes.Clock) at t = clock_keys at t
+class_keys menus (Some classes.ScriptTable) at t = script_table_keys at t
+class_keys menus (Some classes.RegisterMonitor) at t = monitor_keys at t
+class_keys menus (Some classes.SingleActionSchedule) at t = schedule_keys menus at t
 
 unfoldable pub object_keys : ℕ → Text → Members → Result ⊤ Fault
 object_keys version at t = do
   class ← needed at (codes "class") t
   name ← needed at (codes "name") t
-  class_keys (class_told version t) at t
+  class_keys (has_menus version) (class_told version t) at t
 
 abbrev pub fed_of : Option Class → Text → Members → Result Bool Fault
 fed_of None at t = Ok false
 fed_of (Some class) at t = flag_at false at (codes "fed") t
 
 -- what the table says of its class
-abbrev pub body_of : Option Class → Text → Members → Result BodyText Fault
-body_of None at t = Ok UnknownText
-body_of (Some classes.Data) at t = data_of at t
-body_of (Some classes.Register) at t = register_of at t
-body_of (Some classes.ProfileGeneric) at t = profile_of at t
-body_of (Some classes.Clock) at t = clock_of at t
-body_of (Some classes.ScriptTable) at t = script_table_of at t
-body_of (Some classes.RegisterMonitor) at t = monitor_of at t
-body_of (Some classes.SingleActionSchedule) at t = schedule_of at t
+abbrev pub body_of : Bool → Option Class → Text → Members → Result BodyText Fault
+body_of menus None at t = Ok UnknownText
+body_of menus (Some classes.Data) at t = data_of at t
+body_of menus (Some classes.Register) at t = register_of at t
+body_of menus (Some classes.ProfileGeneric) at t = profile_of menus at t
+body_of menus (Some classes.Clock) at t = clock_of at t
+body_of menus (Some classes.ScriptTable) at t = script_table_of at t
+body_of menus (Some classes.RegisterMonitor) at t = monitor_of at t
+body_of menus (Some classes.SingleActionSchedule) at t = schedule_of menus at t
 
 unfoldable pub object_of : ℕ → Text → Members → Result ObjectText Fault
 object_of version at t = do
   class ← natural_at 0 65535 at (codes "class") t
   name ← text_at at (codes "name") t
   fed ← fed_of (class_in version class) at t
-  body ← body_of (class_in version class) at t
+  body ← body_of (has_menus version) (class_in version class) at t
   Ok (record { class = class; name = name; fed = fed; body = body })

@@ -26,6 +26,11 @@ pub record ScriptRefText : Type 0 where
   pub table : Text
   pub script : ℤ
 
+-- what an attribute holds at the start, and its menu, where it has one (own profile)
+pub record MenuText (A : Type 0) : Type 0 where
+  pub start : A
+  pub menu : Option (List A)
+
 -- an action of a script; the value is a hex text
 pub record ActionText : Type 0 where
   pub service : Service
@@ -45,11 +50,11 @@ pub record UpDownText : Type 0 where
 pub data BodyText : Type 0 where
   DataText : (value : Text) → BodyText
   RegisterText : (value default : Text) → (scaler : ℤ) → (unit : ℕ) → BodyText
-  ProfileText : List CaptureText → (period entries : ℕ) → (sort_method : Option ℤ) → BodyText
+  ProfileText : MenuText (List CaptureText) → (period entries : ℕ) → (sort_method : Option ℤ) → BodyText
   ClockText : (time : Text) → BodyText
   ScriptTableText : List ScriptText → BodyText
   MonitorText : (monitored : TargetText) → (thresholds : List Text) → List UpDownText → BodyText
-  ScheduleText : ScriptRefText → (type : ℕ) → (times : List Text) → BodyText
+  ScheduleText : MenuText ScriptRefText → (type : ℕ) → (times : List Text) → BodyText
   UnknownText : BodyText
 
 pub record ObjectText : Type 0 where

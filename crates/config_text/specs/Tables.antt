@@ -31,6 +31,16 @@ list_keys_at keys at key t = each_keys keys (at ++ key) 0 (items_or_none (option
 unfoldable pub table_keys_at : (Text → Members → Result ⊤ Fault) → Text → Text → Members → Result ⊤ Fault
 table_keys_at keys at key t = keys_of keys (at ++ key) (option_and_then as_table (get_member key t))
 
+-- of the tables in each array of an array
+unfoldable pub each_list_keys : (Text → Members → Result ⊤ Fault) → Text → ℕ → Items → Result ⊤ Fault
+each_list_keys keys name i no_items = Ok tt
+each_list_keys keys name i (item d rest) = do
+  this ← each_keys keys (element_place name i) 0 (items_or_none (as_array d))
+  each_list_keys keys name (i + 1) rest
+
+unfoldable pub lists_keys_at : (Text → Members → Result ⊤ Fault) → Text → Text → Members → Result ⊤ Fault
+lists_keys_at keys at key t = each_list_keys keys (at ++ key) 0 (items_or_none (option_and_then as_array (get_member key t)))
+
 -- what a table says
 abbrev pub table_or : {A : Type 0} → (Text → Members → Result A Fault) → Text → Option Members → Result A Fault
 table_or says place table = do
@@ -51,3 +61,29 @@ list_at says at key t = do
 
 unfoldable pub optional_list_at : {A : Type 0} → (Text → Members → Result A Fault) → Text → Text → Members → Result (List A) Fault
 optional_list_at says at key t = each_or_none (table_of says) (at ++ key) (get_member key t)
+
+-- what the tables in an array say, and those in each array of an array
+abbrev pub tables_of : {A : Type 0} → (Text → Members → Result A Fault) → Text → Data → Result (List A) Fault
+tables_of says place d = do
+  items ← found_or Kind place (as_array d)
+  each (table_of says) place 0 items
+
+abbrev pub lists_of : {A : Type 0} → (Text → Members → Result A Fault) → Text → Data → Result (List (List A)) Fault
+lists_of says place d = do
+  items ← found_or Kind place (as_array d)
+  each (tables_of says) place 0 items
+
+-- what is said where it is there
+abbrev pub if_there : {A : Type 0} → (Data → Result A Fault) → Option Data → Result (Option A) Fault
+if_there says None = Ok None
+if_there says (Some d) = do
+  x ← says d
+  Ok (Some x)
+
+-- at a key that may be left out: a menu of tables, and one of arrays of tables
+unfoldable pub menu_at : {A : Type 0} → (Text → Members → Result A Fault) → Text → Text → Members → Result (Option (List A)) Fault
+menu_at says at key t = if_there (tables_of says (at ++ key)) (get_member key t)
+
+unfoldable pub menu_of_lists_at : {A : Type 0} → (Text → Members → Result A Fault) → Text → Text → Members →
+    Result (Option (List (List A))) Fault
+menu_of_lists_at says at key t = if_there (lists_of says (at ++ key)) (get_member key t)

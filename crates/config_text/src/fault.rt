@@ -52,6 +52,8 @@ pub enum Code {
     Sorting,
     /// C21: a second clock.
     SecondClock,
+    /// C22: an alternative of a menu that is there before.
+    AlternativeTwice,
 }
 
 impl Code {
@@ -81,6 +83,7 @@ impl Code {
             Code::Times => 19,
             Code::Sorting => 20,
             Code::SecondClock => 21,
+            Code::AlternativeTwice => 22,
         }
     }
 }

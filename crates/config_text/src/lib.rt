@@ -10,6 +10,7 @@ mod key_text;
 mod keys;
 mod lists;
 mod lookup;
+mod menus;
 mod monitor;
 mod object;
 pub mod parts;

@@ -29,18 +29,30 @@ fn class_told(version: u8, table: &Table) -> Option<Class>
     Class::in_version(version, class_id as u16)
 }
 
+/// Whether a text of this version may have menus.
+fn has_menus(version: u8) -> bool
+    ensures { result ≡ spec.has_menus version }
+{
+    version >= 2
+}
+
 /// The keys that the class asks for; none where it isn't known.
-fn class_keys(class: Option<Class>, at: &Place<'_>, table: &Table) -> Result<(), ConfigFault>
-    ensures { Gives (λ u. u) result (spec.class_keys class at.now (table_view table.now)) }
+fn class_keys(
+    menus: bool,
+    class: Option<Class>,
+    at: &Place<'_>,
+    table: &Table,
+) -> Result<(), ConfigFault>
+    ensures { Gives (λ u. u) result (spec.class_keys menus class at.now (table_view table.now)) }
 {
     match class {
         Some(Class::Data) => data_keys(at, table),
         Some(Class::Register) => register_keys(at, table),
-        Some(Class::ProfileGeneric) => profile_keys(at, table),
+        Some(Class::ProfileGeneric) => profile_keys(menus, at, table),
         Some(Class::Clock) => clock_keys(at, table),
         Some(Class::ScriptTable) => script_table_keys(at, table),
         Some(Class::RegisterMonitor) => monitor_keys(at, table),
-        Some(Class::SingleActionSchedule) => schedule_keys(at, table),
+        Some(Class::SingleActionSchedule) => schedule_keys(menus, at, table),
         None => Ok(()),
     }
 }
@@ -56,17 +68,22 @@ fn fed_of(class: Option<Class>, at: &Place<'_>, table: &Table) -> Result<bool, C
 }
 
 /// What the table says of its class.
-fn body_of(class: Option<Class>, at: &Place<'_>, table: &Table) -> Result<BodyParts, ConfigFault>
-    ensures { Gives body_text result (spec.body_of class at.now (table_view table.now)) }
+fn body_of(
+    menus: bool,
+    class: Option<Class>,
+    at: &Place<'_>,
+    table: &Table,
+) -> Result<BodyParts, ConfigFault>
+    ensures { Gives body_text result (spec.body_of menus class at.now (table_view table.now)) }
 {
     match class {
         Some(Class::Data) => data_of(at, table),
         Some(Class::Register) => register_of(at, table),
-        Some(Class::ProfileGeneric) => profile_of(at, table),
+        Some(Class::ProfileGeneric) => profile_of(menus, at, table),
         Some(Class::Clock) => clock_of(at, table),
         Some(Class::ScriptTable) => script_table_of(at, table),
         Some(Class::RegisterMonitor) => monitor_of(at, table),
-        Some(Class::SingleActionSchedule) => schedule_of(at, table),
+        Some(Class::SingleActionSchedule) => schedule_of(menus, at, table),
         None => Ok(BodyParts::Unknown),
     }
 }
@@ -92,7 +109,7 @@ impl TableForm for ObjectTable {
         needed(at, "class", table)?;
         needed(at, "name", table)?;
         let class = class_told(self.version, table);
-        class_keys(class, at, table)
+        class_keys(has_menus(self.version), class, at, table)
     }
 
     #[tactic(auto, unfolding(crate::specs::Objects::object_of))]
@@ -101,7 +118,7 @@ impl TableForm for ObjectTable {
         let name = text_at(at, "name", table)?;
         let class = Class::in_version(self.version, class_id);
         let fed = fed_of(class, at, table)?;
-        let body = body_of(class, at, table)?;
+        let body = body_of(has_menus(self.version), class, at, table)?;
         Ok(ObjectParts {
             class_id,
             name,

@@ -60,6 +60,21 @@ impl Model for CaptureParts {
     ghost view = { λ c. record { target = c.target; data_index = c.data_index } };
 }
 
+/// An alternative of a profile's menu: the attributes that it captures (own profile).
+#[derive(Debug, Drop)]
+pub struct AlternativeParts {
+    pub captures: Vec<CaptureParts>,
+}
+
+impl Model for AlternativeParts {
+    ghost use Rattle.std.specs.Prelude.{List};
+    ghost use Rattle.config_text.specs.Parts.{CaptureText};
+
+    ghost Value = { List CaptureText };
+
+    ghost view = { λ a. a.captures.items };
+}
+
 /// A script of a script table.
 #[derive(Debug, Drop)]
 pub struct ScriptRefParts {
@@ -149,6 +164,8 @@ pub enum BodyParts {
         period: u32,
         entries: u64,
         sort_method: Option<i64>,
+        /// The alternatives to what it captures.
+        menu: Option<Vec<AlternativeParts>>,
     },
     /// The moment at which its time starts, as a text.
     Clock {
@@ -169,6 +186,8 @@ pub enum BodyParts {
         script: ScriptRefParts,
         kind: u8,
         times: Vec<String>,
+        /// The alternatives to its script.
+        menu: Option<Vec<ScriptRefParts>>,
     },
     /// Of a class that isn't known.
     Unknown,

@@ -1,18 +1,24 @@
 //! The tables of a profile.
 
-ghost use Rattle.toml.specs.View.{table_view};
+ghost use Rattle.std.specs.Prelude.{◌≡◌, codes, if◌then◌else◌, map, None, Ok, option_map};
+ghost use Rattle.toml.specs.View.{array_view, table_view, view};
 ghost use Rattle.config_text.specs.BodyView.{body_text};
 ghost use Rattle.config_text.specs.Fault.{Gives};
 ghost use Rattle.config_text.specs.Classes as spec;
+ghost use Rattle.config_text.specs.Lists.{each};
+ghost use Rattle.config_text.specs.Tables.{lists_keys_at, lists_of, menu_of_lists_at, tables_of};
 
-use crate::fault::ConfigFault;
+use crate::fault::{Code, ConfigFault, fault};
 use crate::keys::{needed, only};
-use crate::parts::{BodyParts, CaptureParts};
+use crate::lookup::value_at;
+use crate::menus::{lists_keys_at, tables_of};
+use crate::parts::{AlternativeParts, BodyParts, CaptureParts};
 use crate::place::Place;
 use crate::tables::{TableForm, list_at, list_keys_at};
 use crate::target::target_of;
 use crate::values::{natural_at, optional_integer_at};
-use toml::Table;
+use toml::value::Array;
+use toml::{Table, Value};
 
 /// The greatest integer that a TOML text can have.
 const GREATEST: u64 = 9_223_372_036_854_775_807;
@@ -44,40 +50,143 @@ impl TableForm for CaptureTable {
     }
 }
 
-/// The keys of a profile.
+/// The keys of a profile without a menu.
+static KNOWN: [&str; 7] = [
+    "class",
+    "name",
+    "fed",
+    "capture",
+    "period",
+    "entries",
+    "sort_method",
+];
+
+/// The keys of a profile that may have a menu.
+static KNOWN_WITH_MENU: [&str; 8] = [
+    "class",
+    "name",
+    "fed",
+    "capture",
+    "period",
+    "entries",
+    "sort_method",
+    "capture_menu",
+];
+
+/// The keys of a profile, which may have a menu or not.
+fn known_keys(menus: bool) -> &'static [&'static str]
+    ensures { map (λ key. key.now) result.now ≡ spec.known_in_profile menus }
+{
+    if menus { &KNOWN_WITH_MENU } else { &KNOWN }
+}
+
+/// The keys of the alternatives of a profile, if it may have a menu.
+fn menu_keys(menus: bool, at: &Place<'_>, table: &Table) -> Result<(), ConfigFault>
+    ensures { Gives (λ u. u) result
+        (if menus then lists_keys_at spec.capture_keys at.now (codes "capture_menu") (table_view table.now) else Ok tt) }
+{
+    if menus {
+        lists_keys_at(&CaptureTable, at, "capture_menu", table)
+    } else {
+        Ok(())
+    }
+}
+
+/// The first key of a profile that is missing or unknown; it may have a menu or not.
 #[tactic(auto, unfolding(crate::specs::Classes::profile_keys))]
-pub(crate) fn profile_keys(at: &Place<'_>, table: &Table) -> Result<(), ConfigFault>
-    ensures { Gives (λ u. u) result (spec.profile_keys at.now (table_view table.now)) }
+pub(crate) fn profile_keys(menus: bool, at: &Place<'_>, table: &Table) -> Result<(), ConfigFault>
+    ensures { Gives (λ u. u) result (spec.profile_keys menus at.now (table_view table.now)) }
 {
     needed(at, "capture", table)?;
     list_keys_at(&CaptureTable, at, "capture", table)?;
     needed(at, "period", table)?;
     needed(at, "entries", table)?;
-    let known = [
-        "class",
-        "name",
-        "fed",
-        "capture",
-        "period",
-        "entries",
-        "sort_method",
-    ];
-    only(at, &known, table)
+    menu_keys(menus, at, table)?;
+    only(at, known_keys(menus), table)
 }
 
-/// What the table says of a profile.
+/// The alternative in the array at a place.
+fn alternative_of(place: &Place<'_>, value: &Value) -> Result<AlternativeParts, ConfigFault>
+    ensures { Gives (λ a. a) result (tables_of spec.capture_of place.now (view value.now)) }
+{
+    let captures = tables_of(&CaptureTable, place, value)?;
+    Ok(AlternativeParts { captures })
+}
+
+/// The alternatives in an array.
+#[tactic(auto, unfolding(crate::specs::Lists::each))]
+fn each_alternative(name: &Place<'_>, array: &Array) -> Result<Vec<AlternativeParts>, ConfigFault>
+    ensures { Gives (λ v. v.items) result (each (tables_of spec.capture_of) name.now 0 (array_view array.now)) }
+{
+    let mut all = Vec::with_capacity(name.alloc(), array.len())?;
+    for (i, value) in array.iter().enumerate() {
+        let place = name.element(i);
+        all.push(alternative_of(&place, value)?)?;
+    }
+    Ok(all)
+}
+
+/// The alternatives in the array at a place.
+fn alternatives_of(place: &Place<'_>, value: &Value) -> Result<Vec<AlternativeParts>, ConfigFault>
+    ensures { Gives (λ v. v.items) result (lists_of spec.capture_of place.now (view value.now)) }
+{
+    match value.as_array() {
+        Some(items) => each_alternative(place, items),
+        None => Err(fault(Code::Kind, place, "")),
+    }
+}
+
+/// The alternatives in the array at a key, if it is there.
+#[tactic(auto, unfolding(crate::specs::Tables::menu_of_lists_at))]
+fn menu_at(
+    at: &Place<'_>,
+    key: &str,
+    table: &Table,
+) -> Result<Option<Vec<AlternativeParts>>, ConfigFault>
+    ensures { Gives (option_map (λ v. v.items)) result
+        (menu_of_lists_at spec.capture_of at.now key.now (table_view table.now)) }
+{
+    match value_at(table, key) {
+        Some(value) => Ok(Some(alternatives_of(&at.below(key), value)?)),
+        None => Ok(None),
+    }
+}
+
+/// The alternatives of a profile, if it may have a menu.
+fn menu_of(
+    menus: bool,
+    at: &Place<'_>,
+    table: &Table,
+) -> Result<Option<Vec<AlternativeParts>>, ConfigFault>
+    ensures { Gives (option_map (λ v. v.items)) result
+        (if menus then menu_of_lists_at spec.capture_of at.now (codes "capture_menu") (table_view table.now) else Ok None) }
+{
+    if menus {
+        menu_at(at, "capture_menu", table)
+    } else {
+        Ok(None)
+    }
+}
+
+/// What the table says of a profile, which may have a menu or not.
 #[tactic(auto, unfolding(crate::specs::Classes::profile_of))]
-pub(crate) fn profile_of(at: &Place<'_>, table: &Table) -> Result<BodyParts, ConfigFault>
-    ensures { Gives body_text result (spec.profile_of at.now (table_view table.now)) }
+pub(crate) fn profile_of(
+    menus: bool,
+    at: &Place<'_>,
+    table: &Table,
+) -> Result<BodyParts, ConfigFault>
+    ensures { Gives body_text result (spec.profile_of menus at.now (table_view table.now)) }
 {
     let capture = list_at(&CaptureTable, at, "capture", table)?;
     let period = natural_at(0, 4_294_967_295, at, "period", table)?;
     let entries = natural_at(1, GREATEST, at, "entries", table)?;
     let sort_method = optional_integer_at(at, "sort_method", table)?;
+    let menu = menu_of(menus, at, table)?;
     Ok(BodyParts::ProfileGeneric {
         capture,
         period: period as u32,
         entries,
         sort_method,
+        menu,
     })
 }

@@ -1,44 +1,103 @@
 //! The table of a single action schedule.
 
+ghost use Rattle.std.specs.Prelude.{◌≡◌, codes, if◌then◌else◌, map, None, Ok, option_map};
 ghost use Rattle.toml.specs.View.{table_view};
 ghost use Rattle.config_text.specs.BodyView.{body_text};
 ghost use Rattle.config_text.specs.Fault.{Gives};
 ghost use Rattle.config_text.specs.Classes as spec;
+ghost use Rattle.config_text.specs.Tables.{list_keys_at, menu_at};
+ghost use Rattle.config_text.specs.Targets.{script_ref_keys, script_ref_of};
 
 use crate::fault::ConfigFault;
 use crate::keys::{needed, only};
 use crate::lists::texts_at;
-use crate::parts::BodyParts;
+use crate::menus::menu_at;
+use crate::parts::{BodyParts, ScriptRefParts};
 use crate::place::Place;
-use crate::tables::{table_at, table_keys_at};
+use crate::tables::{list_keys_at, table_at, table_keys_at};
 use crate::target::ScriptRefTable;
 use crate::values::natural_at;
 use toml::Table;
 
-/// The keys of a single action schedule.
+/// The keys of a schedule without a menu.
+static KNOWN: [&str; 6] = ["class", "name", "fed", "script", "type", "times"];
+
+/// The keys of a schedule that may have a menu.
+static KNOWN_WITH_MENU: [&str; 7] = [
+    "class",
+    "name",
+    "fed",
+    "script",
+    "type",
+    "times",
+    "script_menu",
+];
+
+/// The keys of a schedule, which may have a menu or not.
+fn known_keys(menus: bool) -> &'static [&'static str]
+    ensures { map (λ key. key.now) result.now ≡ spec.known_in_schedule menus }
+{
+    if menus { &KNOWN_WITH_MENU } else { &KNOWN }
+}
+
+/// The keys of the alternatives of a schedule, if it may have a menu.
+fn menu_keys(menus: bool, at: &Place<'_>, table: &Table) -> Result<(), ConfigFault>
+    ensures { Gives (λ u. u) result
+        (if menus then list_keys_at script_ref_keys at.now (codes "script_menu") (table_view table.now) else Ok tt) }
+{
+    if menus {
+        list_keys_at(&ScriptRefTable, at, "script_menu", table)
+    } else {
+        Ok(())
+    }
+}
+
+/// The first key of a single action schedule that is missing or unknown; it may have a menu or not.
 #[tactic(auto, unfolding(crate::specs::Classes::schedule_keys))]
-pub(crate) fn schedule_keys(at: &Place<'_>, table: &Table) -> Result<(), ConfigFault>
-    ensures { Gives (λ u. u) result (spec.schedule_keys at.now (table_view table.now)) }
+pub(crate) fn schedule_keys(menus: bool, at: &Place<'_>, table: &Table) -> Result<(), ConfigFault>
+    ensures { Gives (λ u. u) result (spec.schedule_keys menus at.now (table_view table.now)) }
 {
     needed(at, "script", table)?;
     table_keys_at(&ScriptRefTable, at, "script", table)?;
     needed(at, "type", table)?;
     needed(at, "times", table)?;
-    let known = ["class", "name", "fed", "script", "type", "times"];
-    only(at, &known, table)
+    menu_keys(menus, at, table)?;
+    only(at, known_keys(menus), table)
 }
 
-/// What the table says of a single action schedule.
+/// The alternatives of a schedule, if it may have a menu.
+fn menu_of(
+    menus: bool,
+    at: &Place<'_>,
+    table: &Table,
+) -> Result<Option<Vec<ScriptRefParts>>, ConfigFault>
+    ensures { Gives (option_map (λ v. v.items)) result
+        (if menus then menu_at script_ref_of at.now (codes "script_menu") (table_view table.now) else Ok None) }
+{
+    if menus {
+        menu_at(&ScriptRefTable, at, "script_menu", table)
+    } else {
+        Ok(None)
+    }
+}
+
+/// What the table says of a single action schedule, which may have a menu or not.
 #[tactic(auto, unfolding(crate::specs::Classes::schedule_of))]
-pub(crate) fn schedule_of(at: &Place<'_>, table: &Table) -> Result<BodyParts, ConfigFault>
-    ensures { Gives body_text result (spec.schedule_of at.now (table_view table.now)) }
+pub(crate) fn schedule_of(
+    menus: bool,
+    at: &Place<'_>,
+    table: &Table,
+) -> Result<BodyParts, ConfigFault>
+    ensures { Gives body_text result (spec.schedule_of menus at.now (table_view table.now)) }
 {
     let script = table_at(&ScriptRefTable, at, "script", table)?;
     let kind = natural_at(1, 5, at, "type", table)?;
     let times = texts_at(at, "times", table)?;
+    let menu = menu_of(menus, at, table)?;
     Ok(BodyParts::SingleActionSchedule {
         script,
         kind: kind as u8,
         times,
+        menu,
     })
 }

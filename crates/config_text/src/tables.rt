@@ -67,7 +67,11 @@ fn element_keys<T: TableForm>(
 
 /// The first fault of the keys of each table in an array.
 #[tactic(auto, unfolding(crate::specs::Tables::each_keys))]
-fn each_keys<T: TableForm>(form: &T, name: &Place<'_>, array: &Array) -> Result<(), ConfigFault>
+pub(crate) fn each_keys<T: TableForm>(
+    form: &T,
+    name: &Place<'_>,
+    array: &Array,
+) -> Result<(), ConfigFault>
     ensures { Gives (λ u. u) result (spec.each_keys (T.keys form.now) name.now 0 (array_view array.now)) }
 {
     for (i, value) in array.iter().enumerate() {
@@ -142,7 +146,7 @@ fn element<T: TableForm>(
 
 /// What each table of an array says.
 #[tactic(auto, unfolding(crate::specs::Lists::each))]
-fn each_table<T: TableForm>(
+pub(crate) fn each_table<T: TableForm>(
     form: &T,
     name: &Place<'_>,
     array: &Array,

@@ -6,3 +6,8 @@ unfolding limits_in
 returns-in-Register c =
     rw c.in-Register.is
     (rw (c.as_str-in-Register.ensures.value, c.as_str-in-Register-2.ensures.value) at c.register_limits.ensures)
+
+pub returns-in-ProfileGeneric : goal.returns-in-ProfileGeneric
+unfolding limits_in
+returns-in-ProfileGeneric c =
+    rw c.in-ProfileGeneric.is (rw c.as_slice.ensures.value at c.profile_limits.ensures)

@@ -1,7 +1,7 @@
 use Rattle.std.proofs.Common.{◌≡◌, map, take}
 use Rattle.class_profile.specs.ProfileClass.{HaveAttributeIndexes}
 use Rattle.config_rules.specs.PlanOf.{cell_named}
-use Rattle.config_reader.proofs.targets.captured.Given as goal
+use Rattle.config_judge.proofs.targets.cells_named.Given as goal
 
 -- the attributes before are taken
 abbrev pub invariant-loop-capture : goal.invariant-loop-capture
