@@ -28,6 +28,7 @@ meaning faults.Fed = codes "fed is true of a class other than " ++ class_words F
 meaning faults.Times = codes "the type doesn't allow these times"
 meaning faults.Sorting = codes "sort_method isn't 1, or data_index isn't 0"
 meaning faults.SecondClock = codes "a second clock: a meter has one at most"
+meaning faults.AlternativeTwice = codes "the alternative is what is configured, or stands before in its menu"
 
 -- how a class is mended that a text of this version doesn't know (own profile)
 abbrev pub known_mending : ℕ → List ℕ
@@ -56,6 +57,7 @@ mending faults.Fed = codes "feed objects of the classes " ++ (class_words Fed ++
 mending faults.Times = codes "use another type, or fewer times"
 mending faults.Sorting = codes "leave the key out"
 mending faults.SecondClock = codes "keep one object of class " ++ class_words Clocks
+mending faults.AlternativeTwice = codes "list other alternatives alone"
 
 -- what want of memory means, and how it is mended (own profile)
 abbrev pub memory_meaning : List ℕ

@@ -67,6 +67,7 @@ pub fn word_of(cause: Cause) -> &'static str
         Cause::Monitored => "monitored",
         Cause::Monitor => "monitor",
         Cause::Captured => "captured",
+        Cause::Menu => "menu",
         Cause::Period => "period",
         Cause::Schedule => "schedule",
         Cause::Clock => "clock",

@@ -55,6 +55,9 @@ pub fn meaning_of(alloc: Global, code: Code) -> Result<String, Memory>
         Code::Times => "the type doesn't allow these times",
         Code::Sorting => "sort_method isn't 1, or data_index isn't 0",
         Code::SecondClock => "a second clock: a meter has one at most",
+        Code::AlternativeTwice => {
+            "the alternative is what is configured, or stands before in its menu"
+        }
     };
     Ok(String::from_str(alloc, words)?)
 }
@@ -98,6 +101,7 @@ pub fn mending_of(alloc: Global, code: Code) -> Result<String, Memory>
         Code::SecondClock => {
             return with_classes(alloc, "keep one object of class ", ClassesTold::Clocks, "");
         }
+        Code::AlternativeTwice => "list other alternatives alone",
     };
     Ok(String::from_str(alloc, words)?)
 }
