@@ -1,10 +1,12 @@
 -- Entries and their number still fit a profile after a call of a method.
-use Rattle.std.proofs.Common.{◌≡◌, ℕ, sym, subst, refl, Bool, true, false, Option, List, Result, Ok, Err, OnOk, OnErr}
+use Rattle.std.proofs.Common.{◌≡◌, ℕ, sym, subst, refl, Bool, true, false, List, Result, Ok, Err, OnOk, OnErr}
 use Rattle.std.specs.Prelude.{Some, ◌||◌, ◌&&◌, option_map, length, if◌then◌else◌}
 use Rattle.cosem_data.specs.Tree.{Tree}
 use Rattle.meter_theory.specs.Value.{structure_of}
 use Rattle.meter_theory.specs.Steps.{buffer_after, in_use_after}
-use Rattle.class_profile.specs.ProfileClass.{after_reset, is_buffer, is_count}
+use Rattle.cosem_data.specs.declared.cell.CellRef.{CellRef}
+use Rattle.meter_theory.specs.Menus.{Choice}
+use Rattle.class_profile.specs.ProfileClass.{after_reset, is_row_length, is_buffer, is_count}
 use Rattle.class_profile.specs.ProfileLaws.{is_buffer-after, is_count-after, is_buffer-reset, is_count-reset}
 
 -- what is there is what was said
@@ -15,7 +17,7 @@ same_value P value wanted e holds = subst (λ v. P v ≡ true) (sym (the e)) hol
     the e = cc
 
 -- after a reset, after a capture, and after neither
-pub buffer_kept : (columns entries : ℕ) (reset capture : Bool) (buffer after : Tree) (row : List Tree) → (capture ≡ true → length row ≡ columns) →
+pub buffer_kept : (columns : Choice (List CellRef)) (entries : ℕ) (reset capture : Bool) (buffer after : Tree) (row : List Tree) → (capture ≡ true → is_row_length columns (length row) ≡ true) →
     is_buffer columns entries buffer ≡ true →
     Some after ≡ (if (reset || capture) && true then (if reset then Some (after_reset 2) else option_map (λ old. buffer_after entries old (structure_of row)) (Some buffer)) else Some buffer) →
     is_buffer columns entries after ≡ true

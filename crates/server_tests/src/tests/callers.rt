@@ -3,6 +3,7 @@
 ghost use Rattle.std.specs.Prelude.{◌≡◌, ℕ, Bool, codes, length, map, string_bytes, true, IfErr, IfOk, IsErrOf, IsOk, None, OnErr, OnOk};
 ghost use Rattle.association_views.specs.AssociationClass.{association_reading, association_refusal};
 ghost use Rattle.civil_moment.specs.Texts.{moment_text};
+ghost use Rattle.class_profile.specs.PartView.{captures_of_part};
 ghost use Rattle.class_profile.specs.ProfileClass.{is_buffer};
 ghost use Rattle.cosem_class.specs.CellSets.{has};
 ghost use Rattle.cosem_class.specs.Objects.{AnswersAs, RefusedAs};
@@ -84,7 +85,7 @@ pub(super) fn capture_into_full(
     part: &ProfilePart,
     row: Row,
 ) -> Result<Captured, Memory>
-    requires rows { is_buffer (length part.now.captured.items) part.now.profile_entries (array_of profile.old.buffer) ≡ true }
+    requires rows { is_buffer (captures_of_part part.now) part.now.profile_entries (array_of profile.old.buffer) ≡ true }
     requires full { length profile.old.buffer ≡ part.now.profile_entries }
     ensures { IsOk result }
 {

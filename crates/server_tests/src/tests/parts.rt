@@ -1,7 +1,9 @@
 use super::attributes::{is_encoded, value_of};
 use super::monitors::{MONITORED_VALUE, ONE_PAIR, ONE_THRESHOLD, TWO_THRESHOLDS, monitor_part};
-use super::profiles::two_entries;
-use super::schedules::{EACH_MONTH_END, SCRIPT_OF_TABLE, TWO_NOONS, schedule_part};
+use super::profiles::{DEVICE_ALONE, ENERGY_ALONE, energy_menu, two_entries};
+use super::schedules::{
+    EACH_MONTH_END, SCRIPT_1, SCRIPT_4, SCRIPT_OF_TABLE, TWO_NOONS, schedule_part, script_menu,
+};
 use super::scripts::{TWO_SCRIPTS, scripts};
 use class_control::monitor::Monitor;
 use cosem_data::cell::CellRef;
@@ -17,13 +19,15 @@ use std::test::Fail;
 const NAME: LogicalName = LogicalName([1, 0, 99, 1, 0, 255]);
 
 /// A part of an object of this class: a profile of two entries, two scripts, a monitor with one threshold, a schedule of type 1 with
-/// one time, with wildcards.
-fn part_of(alloc: Global, class_id: u16) -> Result<Part, Fail> {
-    Ok(match class_id {
-        7 => Part::ProfileGeneric(two_entries(alloc)?),
-        9 => Part::ScriptTable(scripts(alloc)?),
-        21 => Part::RegisterMonitor(monitor_part(alloc)?),
-        22 => Part::SingleActionSchedule(schedule_part(alloc)?),
+/// one time, with wildcards. Profile and schedule may have a menu.
+fn part_of(alloc: Global, class_id: u16, has_menu: bool) -> Result<Part, Fail> {
+    Ok(match (class_id, has_menu) {
+        (7, false) => Part::ProfileGeneric(two_entries(alloc, Vec::new(alloc))?),
+        (7, true) => Part::ProfileGeneric(two_entries(alloc, energy_menu(alloc)?)?),
+        (9, _) => Part::ScriptTable(scripts(alloc)?),
+        (21, _) => Part::RegisterMonitor(monitor_part(alloc)?),
+        (22, false) => Part::SingleActionSchedule(schedule_part(alloc, Vec::new(alloc))?),
+        (22, true) => Part::SingleActionSchedule(schedule_part(alloc, script_menu(alloc)?)?),
         _ => return Err("a class without a part".into()),
     })
 }
@@ -37,6 +41,7 @@ type Judged = (u8, &'static [u8], Result<(), AccessCode>);
 /// What is told of a part of an object of this class.
 struct Told {
     class_id: u16,
+    has_menu: bool,
     /// Its cells, and of what kind the values are that they start with.
     cells: &'static [(u8, Kind)],
     /// What it fixes. A cell isn't fixed.
@@ -48,9 +53,10 @@ const UNMATCHED: Result<(), AccessCode> = Err(AccessCode::TypeUnmatched);
 
 const OTHER: Result<(), AccessCode> = Err(AccessCode::OtherReason);
 
-static TOLD: [Told; 4] = [
+static TOLD: [Told; 6] = [
     Told {
         class_id: 7,
+        has_menu: false,
         // A profile at the start has an empty buffer, 900 seconds, and no entry in use.
         cells: &[
             (2, Kind::Array),
@@ -62,25 +68,60 @@ static TOLD: [Told; 4] = [
             (4, &[0x06, 0, 0, 0, 60], Ok(())),
             (4, &[0x12, 0, 60], UNMATCHED),
             (7, &[0x06, 0, 0, 0, 60], UNMATCHED),
+            (3, &ENERGY_ALONE, UNMATCHED),
+        ],
+    },
+    Told {
+        class_id: 7,
+        has_menu: true,
+        cells: &[
+            (2, Kind::Array),
+            (3, Kind::Array),
+            (4, Kind::DoubleLongUnsigned),
+            (7, Kind::DoubleLongUnsigned),
+        ],
+        fixed: &[(8, &[0x06, 0, 0, 0, 2])],
+        judged: &[
+            (3, &ENERGY_ALONE, Ok(())),
+            (3, &DEVICE_ALONE, OTHER),
+            (3, &[0x00], UNMATCHED),
         ],
     },
     Told {
         class_id: 9,
+        has_menu: false,
         cells: &[],
         fixed: &[(2, &TWO_SCRIPTS)],
         judged: &[(2, &[0x06, 0, 0, 0, 60], UNMATCHED)],
     },
     Told {
         class_id: 21,
+        has_menu: false,
         cells: &[(2, Kind::Array), (Monitor::SEEN, Kind::NullData)],
         fixed: &[(3, &MONITORED_VALUE), (4, &ONE_PAIR), (2, &[0x00])],
         judged: &[(2, &ONE_THRESHOLD, Ok(())), (2, &TWO_THRESHOLDS, OTHER)],
     },
     Told {
         class_id: 22,
+        has_menu: false,
         cells: &[(4, Kind::Array)],
         fixed: &[(2, &SCRIPT_OF_TABLE), (3, &[0x16, 0x01])],
-        judged: &[(4, &EACH_MONTH_END, Ok(())), (4, &TWO_NOONS, OTHER)],
+        judged: &[
+            (4, &EACH_MONTH_END, Ok(())),
+            (4, &TWO_NOONS, OTHER),
+            (2, &SCRIPT_1, UNMATCHED),
+        ],
+    },
+    Told {
+        class_id: 22,
+        has_menu: true,
+        cells: &[(2, Kind::Structure), (4, Kind::Array)],
+        fixed: &[(3, &[0x16, 0x01])],
+        judged: &[
+            (2, &SCRIPT_1, Ok(())),
+            (2, &SCRIPT_4, OTHER),
+            (2, &[0x00], UNMATCHED),
+        ],
     },
 ];
 
@@ -136,7 +177,7 @@ fn is_told(rt: &impl Abort, a: Global, part: &Part, told: &Told) -> Result<(), F
 /// A part of the class is as it is told. It is lent to what tries it, since an owner has to drop it at each of its ends, which is long
 /// to prove.
 fn has_part(rt: &impl Abort, a: Global, told: &Told) -> Result<(), Fail> {
-    let part = part_of(a, told.class_id)?;
+    let part = part_of(a, told.class_id, told.has_menu)?;
     is_told(rt, a, &part, told)
 }
 

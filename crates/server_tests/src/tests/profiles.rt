@@ -1,14 +1,20 @@
-ghost use Rattle.std.specs.Prelude.{◌≡◌, length, IfOk, OnOk};
+ghost use Rattle.std.specs.Prelude.{◌≡◌, ◌||◌, length, not, true, IfOk, OnOk};
+ghost use Rattle.class_profile.specs.PartView.{captures_of_part, offered};
+ghost use Rattle.class_profile.specs.ProfileClass.{is_row_length};
+ghost use Rattle.cosem_class.specs.Objects.{tree_or_null};
+ghost use Rattle.cosem_data.specs.declared.kind.Kind.TheVariants.{Array};
+ghost use Rattle.meter_theory.specs.Menus.{has_menu};
+ghost use Rattle.meter_theory.specs.Value.{OneOf, meets};
 ghost use Rattle.server_tests.specs.Profiles.{MayStandIn};
 
 use super::attributes::{Step, shows, take};
 use civil_moment::moment::Moment;
 use class_profile::due::is_due;
 use class_profile::profile::{Profile, ProfilePart};
-use class_profile::rows::Rows;
 use cosem_class::class::{ClassFault, InterfaceClass, Lent, Row};
 use cosem_data::cell::CellRef;
 use cosem_data::data::{Data, Items};
+use cosem_data::memory::Memory;
 use cosem_data::name::LogicalName;
 use std::alloc::Global;
 use std::process::Abort;
@@ -31,13 +37,20 @@ const DEVICE: CellRef = CellRef {
     index: 2,
 };
 
-/// A profile of two entries, each of energy and device.
-pub(crate) fn two_entries(alloc: Global) -> Result<ProfilePart, Fail> {
+/// A profile of two entries, each of energy and device, with this menu of captured cells.
+pub(crate) fn two_entries(alloc: Global, menu: Vec<Vec<CellRef>>) -> Result<ProfilePart, Fail> {
     Ok(ProfilePart {
         captured: vec![in alloc; ENERGY, DEVICE]?,
+        menu,
         capture_period: 900,
         profile_entries: 2,
     })
+}
+
+/// A menu of energy alone.
+pub(crate) fn energy_menu(alloc: Global) -> Result<Vec<Vec<CellRef>>, Fail> {
+    let energy = vec![in alloc; ENERGY]?;
+    Ok(vec![in alloc; energy]?)
 }
 
 /// What a plan lends of a profile with this part.
@@ -51,14 +64,10 @@ fn lent(part: &ProfilePart) -> Lent<'_, ProfilePart>
 }
 
 /// The object at the start.
-fn at_start(alloc: Global, part: &ProfilePart) -> Result<Profile, Fail>
+fn at_start(alloc: Global, part: &ProfilePart) -> Result<Profile, Memory>
     ensures { IfOk result (λ object. MayStandIn part.now object) }
 {
-    Ok(Profile {
-        buffer: Rows::new(alloc, part.profile_entries)?,
-        capture_period: part.capture_period,
-        entries_in_use: 0,
-    })
+    Profile::start(alloc, part)
 }
 
 /// A value of energy and one of device.
@@ -72,19 +81,39 @@ fn row(alloc: Global, value: u8) -> Result<Row, Fail>
     Ok(Items::new(parts))
 }
 
+/// Whether capture_objects is as the part has it: one of the menu, or fixed.
+fn fits(part: &ProfilePart, object: &Profile) -> bool
+    ensures { result ≡ true
+        → (not (has_menu (captures_of_part part.now)) || meets (OneOf Array (offered part.now)) (tree_or_null object.now.capture_objects)) ≡ true }
+{
+    match &object.capture_objects {
+        Some(objects) => part.judge_objects(objects).is_ok(),
+        None => !part.has_menu(),
+    }
+}
+
 /// Calls a method with this row.
 fn call(
+    rt: &impl Abort,
     a: Global,
     part: &ProfilePart,
     object: &mut Profile,
     method: u8,
     row: Row,
 ) -> Result<(), ClassFault>
-    requires row { method ≡ 2 → length row ≡ length part.now.captured.items }
+    requires row { method ≡ 2 → is_row_length (captures_of_part part.now) (length row) ≡ true }
     requires before { MayStandIn part.now object.old }
     ensures { MayStandIn part.now object.new }
 {
+    assert!(rt; fits(part, object));
     object.invoke(a, lent(part), method, &Data::Integer(0), row)
+}
+
+/// Whether as many cells are captured at the start.
+fn has_columns(part: &ProfilePart, count: usize) -> bool
+    ensures { result ≡ true → is_row_length (captures_of_part part.now) count ≡ true }
+{
+    part.captured.len() == count
 }
 
 /// Captures a value of energy and one of device. The buffer before is the value that these bytes encode, as it is after a
@@ -100,12 +129,12 @@ fn captures(
     requires before { MayStandIn part.now object.old }
     ensures { OnOk result (MayStandIn part.now object.new) }
 {
-    assert!(rt; part.captured.len() == 2);
+    assert!(rt; has_columns(part, 2));
     shows(rt, a, lent(part), object, 2, before)?;
     let captured = object.capture(a, part, row(a, value)?)?;
     object.take_back(captured);
     shows(rt, a, lent(part), object, 2, before)?;
-    call(a, part, object, 2, row(a, value)?)?;
+    call(rt, a, part, object, 2, row(a, value)?)?;
     Ok(())
 }
 
@@ -122,7 +151,7 @@ fn calls(
     ensures { MayStandIn part.now object.new }
 {
     assert!(rt; method != 2);
-    let done = call(a, part, object, method, Items::new(Vec::new(a)));
+    let done = call(rt, a, part, object, method, Items::new(Vec::new(a)));
     assert!(rt; done == want, "{method}");
 }
 
@@ -188,8 +217,32 @@ fn keeps_the_last(
 #[test]
 fn the_last_entries_are_kept_and_the_period_is_set(rt: HostRuntime) -> Result<(), Fail> {
     let a = rt.alloc();
-    let part = two_entries(a)?;
+    let part = two_entries(a, Vec::new(a))?;
     keeps_the_last(&rt, a, &part, &mut at_start(a, &part)?)
+}
+
+/// A profile that has captured once takes the steps.
+fn takes_with_entry(
+    rt: &impl Abort,
+    a: Global,
+    part: &ProfilePart,
+    steps: &[Step],
+) -> Result<(), Fail> {
+    let mut object = at_start(a, part)?;
+    captures(rt, a, part, &mut object, 1, &[0x01, 0x00])?;
+    take(rt, a, &lent(part), &mut object, steps)
+}
+
+fn is_chosen(rt: &impl Abort, a: Global, part: &ProfilePart) -> Result<(), Fail> {
+    takes_with_entry(rt, a, part, &TO_ENERGY)?;
+    takes_with_entry(rt, a, part, &TO_BOTH)
+}
+
+#[test]
+fn captured_cells_are_chosen(rt: HostRuntime) -> Result<(), Fail> {
+    let a = rt.alloc();
+    let part = two_entries(a, energy_menu(a)?)?;
+    is_chosen(&rt, a, &part)
 }
 
 /// Capture periods, moments, and whether a capture is due then.
@@ -232,7 +285,7 @@ const NO_OBJECT: [u8; 18] = [
 const ONE: [u8; 5] = [0x06, 0, 0, 0, 1];
 
 /// A profile after its reset, its attributes, and writes of them.
-static STEPS: [Step<'static>; 19] = [
+static STEPS: [Step<'static>; 20] = [
     Step::Shows(2, &[0x01, 0x00]),
     Step::Shows(7, &[0x06, 0, 0, 0, 0]),
     // 900 seconds.
@@ -246,6 +299,7 @@ static STEPS: [Step<'static>; 19] = [
     Step::Hides(9),
     Step::Writes(1, &ONE, Err(ClassFault::NotSettable)),
     Step::Writes(2, &ONE, Err(ClassFault::NotSettable)),
+    Step::Writes(3, &CAPTURE_OBJECTS, Err(ClassFault::NotSettable)),
     Step::Writes(7, &ONE, Err(ClassFault::NotSettable)),
     Step::Writes(8, &ONE, Err(ClassFault::NotSettable)),
     Step::Writes(0, &ONE, Err(ClassFault::NoIndex)),
@@ -253,4 +307,47 @@ static STEPS: [Step<'static>; 19] = [
     Step::Writes(4, &[0x12, 0, 60], Err(ClassFault::Kind)),
     Step::Writes(4, &[0x06, 0, 0, 0, 60], Ok(())),
     Step::Shows(4, &[0x06, 0, 0, 0, 60]),
+];
+
+/// An array of the definition of energy alone.
+pub(crate) const ENERGY_ALONE: [u8; 20] = [
+    0x01, 0x01, // an array of one
+    0x02, 0x04, 0x12, 0x00, 0x03, // class 3
+    0x09, 0x06, 1, 0, 1, 8, 0, 255, 0x0F, 0x02, // energy, attribute 2
+    0x12, 0x00, 0x00, // the whole of it
+];
+
+/// An array of the definition of device alone, which is on no menu.
+pub(crate) const DEVICE_ALONE: [u8; 20] = [
+    0x01, 0x01, // an array of one
+    0x02, 0x04, 0x12, 0x00, 0x01, // class 1
+    0x09, 0x06, 0, 0, 96, 1, 0, 255, 0x0F, 0x02, // device, attribute 2
+    0x12, 0x00, 0x00, // the whole of it
+];
+
+/// What is no alternative is refused and leaves the entry. Energy alone leaves none.
+static TO_ENERGY: [Step<'static>; 11] = [
+    Step::Shows(3, &CAPTURE_OBJECTS),
+    Step::Writes(3, &DEVICE_ALONE, Err(ClassFault::Rule)),
+    Step::Writes(3, &[0x01, 0x00], Err(ClassFault::Rule)),
+    Step::Writes(3, &NO_OBJECT, Err(ClassFault::Kind)),
+    Step::Shows(3, &CAPTURE_OBJECTS),
+    Step::Shows(2, &FIRST_ENTRY),
+    Step::Shows(7, &ONE),
+    Step::Writes(3, &ENERGY_ALONE, Ok(())),
+    Step::Shows(3, &ENERGY_ALONE),
+    Step::Shows(2, &[0x01, 0x00]),
+    Step::Shows(7, &[0x06, 0, 0, 0, 0]),
+];
+
+/// Nor does what is captured already. From energy alone there is a way back.
+static TO_BOTH: [Step<'static>; 8] = [
+    Step::Writes(3, &CAPTURE_OBJECTS, Ok(())),
+    Step::Shows(2, &[0x01, 0x00]),
+    Step::Shows(7, &[0x06, 0, 0, 0, 0]),
+    Step::Shows(4, &[0x06, 0, 0, 0x03, 0x84]),
+    Step::Writes(3, &ENERGY_ALONE, Ok(())),
+    Step::Writes(3, &CAPTURE_OBJECTS, Ok(())),
+    Step::Shows(3, &CAPTURE_OBJECTS),
+    Step::Writes(4, &ONE, Ok(())),
 ];

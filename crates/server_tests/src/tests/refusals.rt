@@ -2,7 +2,9 @@ ghost use Rattle.meter_theory.specs.States.{IsState};
 
 use super::samples::{ENERGY, encode, plan_of, started};
 use super::steps::Event::{CaptureAt, Evaluate, Input, ScheduleAt, Tick};
-use super::steps::{AB, C, Event, GET_ALARM, OCTETS_TEXT, PROFILE, SET_AB, TABLE, is_this, step};
+use super::steps::{
+    AB, C, Event, GET_ALARM, OCTETS_TEXT, PROFILE, SCHEDULE, SET_AB, TABLE, is_this, step,
+};
 use cosem_data::cell::CellRef;
 use cosem_data::memory::Memory;
 use meter_core::apply::apply;
@@ -14,8 +16,11 @@ use std::alloc::Global;
 use std::process::Abort;
 use std::test::Fail;
 
+/// What is captured and which script the schedule runs, as encodings in hex.
+type Chosen = (&'static str, &'static str);
+
 /// A step and its reply; then what the cells hold behind it that the steps change: the values of register and alarm, what the
-/// monitor has seen, and the profile's rows and their number.
+/// monitor has seen, the profile's rows and their number, and what is chosen.
 type Row = (
     Event,
     &'static str,
@@ -24,6 +29,7 @@ type Row = (
     &'static str,
     &'static str,
     u8,
+    Chosen,
 );
 
 const RESET: Event = Event::Act((3, ENERGY, 1), "");
@@ -34,10 +40,15 @@ const CLEAR: Event = Event::Act((7, PROFILE, 1), "");
 
 const EXECUTE: Event = Event::Act((9, TABLE, 1), "120002");
 
+/// The script that chooses.
+const CHOOSE: Event = Event::Act((9, TABLE, 1), "120004");
+
 const BUFFER: Event = Event::Get((7, PROFILE, 2), "");
 
 /// The rows from the second to the second and the columns from the second to the second are one alarm.
 const ENTRY: Event = Event::Get((7, PROFILE, 2), "020406000000020600000002120002120002");
+
+const ONLY_AB: &str = "0101020109024142";
 
 const AT_A_QUARTER: Event = Event::ClockAt("2024-02-28T00:14:59");
 
@@ -68,37 +79,84 @@ const ROWS_7_8: &str = "010202020600000007090143\
 const ROWS_9_0: &str = "010202020600000009090144\
     0202060000000009024546";
 
+/// 6 with EF, 6 alone, and 7 alone.
+const ROW_6: &str = "01010202060000000609024546";
+
+const ONLY_6: &str = "010102010600000006";
+
+const ONLY_7: &str = "010102010600000007";
+
+/// Arrays of the definitions of the values of register and alarm, of that of the register alone, and of that of the alarm alone.
+const BOTH: &str = "0102020412000309060100010800FF0F02120000020412000109060000600B00FF0F02120000";
+
+const ENERGY_ALONE: &str = "0101020412000309060100010800FF0F02120000";
+
+const ALARM_ALONE: &str = "0101020412000109060000600B00FF0F02120000";
+
+/// Scripts of the table.
+const SCRIPT_2: &str = "0202090600000A0064FF120002";
+
+const SCRIPT_4: &str = "0202090600000A0064FF120004";
+
+/// What is chosen: at the start, with the register alone, and with the script that chooses.
+const START: Chosen = (BOTH, SCRIPT_2);
+
+const ALONE: Chosen = (ENERGY_ALONE, SCRIPT_2);
+
+const BY_4: Chosen = (ENERGY_ALONE, SCRIPT_4);
+
+const SET_BOTH: Event = Event::Set((7, PROFILE, 3), BOTH);
+
+const SET_ALONE: Event = Event::Set((7, PROFILE, 3), ENERGY_ALONE);
+
+const SET_ALARM_ALONE: Event = Event::Set((7, PROFILE, 3), ALARM_ALONE);
+
+const SET_CHOOSE: Event = Event::Set((22, SCHEDULE, 2), SCRIPT_4);
+
 /// The schedule's times: midnight on each last day of a month.
 const TIMES: &str = "010102020904000000FF0905FFFFFFFEFF";
 
 /// Requests; evaluations, the second of which finds 100 crossed, sets the alarm and captures into a full profile; further
 /// captures into it, one a second behind the clock's quarter; the longer script, by schedule; a reset, and the script again, by request.
-static ROWS: [Row; 25] = [
-    (SET_AB, "0", 5, AB, "00", NO_ROWS, 0),
-    (GET_ALARM, AB, 5, AB, "00", NO_ROWS, 0),
-    (CAPTURE, "0", 5, AB, "00", ROW_5, 1),
-    (Input(100), "quiet", 100, AB, "00", ROW_5, 1),
-    (CAPTURE, "0", 100, AB, "00", ROWS_5_100, 2),
-    (BUFFER, ROWS_5_100, 100, AB, "00", ROWS_5_100, 2),
-    (ENTRY, "0101020109024142", 100, AB, "00", ROWS_5_100, 2),
-    (RESET, "0", 0, AB, "00", ROWS_5_100, 2),
-    (Input(5), "quiet", 5, AB, "00", ROWS_5_100, 2),
-    (Evaluate, "quiet", 5, AB, FIVE, ROWS_5_100, 2),
-    (Input(100), "quiet", 100, AB, FIVE, ROWS_5_100, 2),
-    (Evaluate, "quiet", 100, C, HUNDRED, ROWS_100_100, 2),
-    (Input(7), "quiet", 7, C, HUNDRED, ROWS_100_100, 2),
-    (CAPTURE, "0", 7, C, HUNDRED, ROWS_100_7, 2),
-    (Input(8), "quiet", 8, C, HUNDRED, ROWS_100_7, 2),
-    (AT_A_QUARTER, "quiet", 8, C, HUNDRED, ROWS_100_7, 2),
-    (CaptureAt, "quiet", 8, C, HUNDRED, ROWS_100_7, 2),
-    (Tick, "quiet", 8, C, HUNDRED, ROWS_100_7, 2),
-    (CaptureAt, "quiet", 8, C, HUNDRED, ROWS_7_8, 2),
-    (Input(9), "quiet", 9, C, HUNDRED, ROWS_7_8, 2),
-    (AT_MIDNIGHT, "quiet", 9, C, HUNDRED, ROWS_7_8, 2),
-    (ScheduleAt, "quiet", 0, EF, HUNDRED, ROWS_9_0, 2),
-    (CLEAR, "0", 0, EF, HUNDRED, NO_ROWS, 0),
-    (Input(9), "quiet", 9, EF, HUNDRED, NO_ROWS, 0),
-    (EXECUTE, "0", 0, EF, HUNDRED, ROWS_9_0, 2),
+/// Then choices of what is captured, the first of which is none of the menu, and the script that chooses, by request and by a schedule for
+/// which it is chosen.
+static ROWS: [Row; 36] = [
+    (SET_AB, "0", 5, AB, "00", NO_ROWS, 0, START),
+    (GET_ALARM, AB, 5, AB, "00", NO_ROWS, 0, START),
+    (CAPTURE, "0", 5, AB, "00", ROW_5, 1, START),
+    (Input(100), "quiet", 100, AB, "00", ROW_5, 1, START),
+    (CAPTURE, "0", 100, AB, "00", ROWS_5_100, 2, START),
+    (BUFFER, ROWS_5_100, 100, AB, "00", ROWS_5_100, 2, START),
+    (ENTRY, ONLY_AB, 100, AB, "00", ROWS_5_100, 2, START),
+    (RESET, "0", 0, AB, "00", ROWS_5_100, 2, START),
+    (Input(5), "quiet", 5, AB, "00", ROWS_5_100, 2, START),
+    (Evaluate, "quiet", 5, AB, FIVE, ROWS_5_100, 2, START),
+    (Input(100), "quiet", 100, AB, FIVE, ROWS_5_100, 2, START),
+    (Evaluate, "quiet", 100, C, HUNDRED, ROWS_100_100, 2, START),
+    (Input(7), "quiet", 7, C, HUNDRED, ROWS_100_100, 2, START),
+    (CAPTURE, "0", 7, C, HUNDRED, ROWS_100_7, 2, START),
+    (Input(8), "quiet", 8, C, HUNDRED, ROWS_100_7, 2, START),
+    (AT_A_QUARTER, "quiet", 8, C, HUNDRED, ROWS_100_7, 2, START),
+    (CaptureAt, "quiet", 8, C, HUNDRED, ROWS_100_7, 2, START),
+    (Tick, "quiet", 8, C, HUNDRED, ROWS_100_7, 2, START),
+    (CaptureAt, "quiet", 8, C, HUNDRED, ROWS_7_8, 2, START),
+    (Input(9), "quiet", 9, C, HUNDRED, ROWS_7_8, 2, START),
+    (AT_MIDNIGHT, "quiet", 9, C, HUNDRED, ROWS_7_8, 2, START),
+    (ScheduleAt, "quiet", 0, EF, HUNDRED, ROWS_9_0, 2, START),
+    (CLEAR, "0", 0, EF, HUNDRED, NO_ROWS, 0, START),
+    (Input(9), "quiet", 9, EF, HUNDRED, NO_ROWS, 0, START),
+    (EXECUTE, "0", 0, EF, HUNDRED, ROWS_9_0, 2, START),
+    (SET_ALARM_ALONE, "250", 0, EF, HUNDRED, ROWS_9_0, 2, START),
+    (Input(6), "quiet", 6, EF, HUNDRED, ROWS_9_0, 2, START),
+    (SET_ALONE, "0", 6, EF, HUNDRED, NO_ROWS, 0, ALONE),
+    (CAPTURE, "0", 6, EF, HUNDRED, ONLY_6, 1, ALONE),
+    (SET_ALONE, "0", 6, EF, HUNDRED, NO_ROWS, 0, ALONE),
+    (SET_BOTH, "0", 6, EF, HUNDRED, NO_ROWS, 0, START),
+    (CAPTURE, "0", 6, EF, HUNDRED, ROW_6, 1, START),
+    (CHOOSE, "0", 6, EF, HUNDRED, ONLY_6, 1, ALONE),
+    (SET_CHOOSE, "0", 6, EF, HUNDRED, ONLY_6, 1, BY_4),
+    (Input(7), "quiet", 7, EF, HUNDRED, ONLY_6, 1, BY_4),
+    (ScheduleAt, "quiet", 7, EF, HUNDRED, ONLY_7, 1, BY_4),
 ];
 
 /// What a cell holds goes behind the bytes, as its encoding.
@@ -176,9 +234,9 @@ fn taken(
 /// What all cells hold behind the step of a row. The monitor's threshold of 100, the profile's period and the schedule's times
 /// stay.
 fn all_of(alloc: Global, row: &Row) -> Result<String, Memory> {
-    let (_, _, register, alarm, seen, rows, count) = row;
+    let (_, _, register, alarm, seen, rows, count, (objects, script)) = row;
     Ok(format!(in alloc;
-        "06{register:08X}{alarm}01010600000064{seen}{rows}0600000384060000000{count}{TIMES}"
+        "06{register:08X}{alarm}01010600000064{seen}{rows}{objects}0600000384060000000{count}{script}{TIMES}"
     )?)
 }
 

@@ -10,6 +10,7 @@ use cosem_data::memory::Memory;
 use cosem_data::name::LogicalName;
 use meter_theory::refs::ScriptRef;
 use std::alloc::Global;
+use std::process::Abort;
 use std::test::Fail;
 
 /// A single action schedule.
@@ -28,28 +29,41 @@ fn element(alloc: Global, time: &[u8], date: &[u8]) -> Result<Data, Memory> {
     structure(alloc, [time, date])
 }
 
-/// Script 3 is run at the end of each month: of type 1, one time, with wildcards.
-pub(crate) fn schedule_part(alloc: Global) -> Result<SchedulePart, Fail> {
+/// Script 3 is run at the end of each month, or one of the menu: of type 1, one time, with wildcards.
+pub(crate) fn schedule_part(alloc: Global, menu: Vec<ScriptRef>) -> Result<SchedulePart, Fail> {
     Ok(SchedulePart {
         executed_script: ScriptRef {
             table: SCRIPTS,
             script: 3,
         },
+        menu,
         execution_type: 1,
         start: array(alloc, [element(alloc, &MIDNIGHT, &MONTH_END)?])?,
     })
 }
 
-/// A schedule of this part at the start.
-fn schedule(alloc: Global, part: &SchedulePart) -> Result<Schedule, Fail> {
-    Ok(Schedule {
-        times: part.start.try_clone(alloc)?,
-    })
+/// A menu of script 1.
+pub(crate) fn script_menu(alloc: Global) -> Result<Vec<ScriptRef>, Fail> {
+    let script = ScriptRef {
+        table: SCRIPTS,
+        script: 1,
+    };
+    Ok(vec![in alloc; script]?)
 }
 
 /// A script of the table.
 pub(crate) const SCRIPT_OF_TABLE: [u8; 13] = [
     0x02, 0x02, 0x09, 0x06, 0x00, 0x00, 0x0A, 0x00, 0x64, 0xFF, 0x12, 0x00, 0x03,
+];
+
+/// Another one.
+pub(crate) const SCRIPT_1: [u8; 13] = [
+    0x02, 0x02, 0x09, 0x06, 0x00, 0x00, 0x0A, 0x00, 0x64, 0xFF, 0x12, 0x00, 0x01,
+];
+
+/// One that is on no menu.
+pub(crate) const SCRIPT_4: [u8; 13] = [
+    0x02, 0x02, 0x09, 0x06, 0x00, 0x00, 0x0A, 0x00, 0x64, 0xFF, 0x12, 0x00, 0x04,
 ];
 
 /// An array of midnight at each end of a month.
@@ -90,13 +104,45 @@ static STEPS: [Step<'static>; 15] = [
     Step::Shows(4, &ONE_NOON),
 ];
 
-#[test]
-fn a_schedule_is_read_and_its_times_written(rt: HostRuntime) -> Result<(), Fail> {
-    let a = rt.alloc();
-    let part = schedule_part(a)?;
+/// What is no script of the menu is refused, the other one is put, and there is a way back. The times stay.
+static STEPS_WITH_MENU: [Step<'static>; 12] = [
+    Step::Shows(2, &SCRIPT_OF_TABLE),
+    Step::Writes(2, &SCRIPT_4, Err(ClassFault::Rule)),
+    Step::Writes(2, &[0x02, 0x00], Err(ClassFault::Rule)),
+    Step::Writes(2, &[0x12, 0x00, 0x01], Err(ClassFault::Kind)),
+    Step::Shows(2, &SCRIPT_OF_TABLE),
+    Step::Writes(2, &SCRIPT_1, Ok(())),
+    Step::Shows(2, &SCRIPT_1),
+    Step::Shows(4, &EACH_MONTH_END),
+    Step::Writes(4, &ONE_NOON, Ok(())),
+    Step::Shows(2, &SCRIPT_1),
+    Step::Writes(2, &SCRIPT_OF_TABLE, Ok(())),
+    Step::Shows(2, &SCRIPT_OF_TABLE),
+];
+
+/// A schedule at the start takes the steps.
+fn takes(rt: &impl Abort, a: Global, part: &SchedulePart, steps: &[Step]) -> Result<(), Fail> {
     let lent = Lent {
         name: SCHEDULE,
-        part: &part,
+        part,
     };
-    take(&rt, a, &lent, &mut schedule(a, &part)?, &STEPS)
+    take(rt, a, &lent, &mut Schedule::start(a, part)?, steps)
+}
+
+/// So does one with this menu.
+fn takes_with_menu(
+    rt: &impl Abort,
+    a: Global,
+    menu: Vec<ScriptRef>,
+    steps: &[Step],
+) -> Result<(), Fail> {
+    let part = schedule_part(a, menu)?;
+    takes(rt, a, &part, steps)
+}
+
+#[test]
+fn a_schedule_is_read_and_written(rt: HostRuntime) -> Result<(), Fail> {
+    let a = rt.alloc();
+    takes_with_menu(&rt, a, Vec::new(a), &STEPS)?;
+    takes_with_menu(&rt, a, script_menu(a)?, &STEPS_WITH_MENU)
 }

@@ -29,8 +29,9 @@ const MANAGER: u8 = 0;
 
 /// One object of each class and a manager, who reads the profile, calls all methods, and reads and sets the alarm, which is an
 /// octet-string, so that its values take memory. The first script sets it and captures a row; the second one captures a row and
-/// clears the profile between two settings, resets the register and captures again; the third one empties the alarm.
-pub const OCTETS_TEXT: &str = r#"version = 1
+/// clears the profile between two settings, resets the register and captures again; the third one empties the alarm. The
+/// profile may capture the register alone, and the schedule run the fourth script, which chooses that and captures.
+pub const OCTETS_TEXT: &str = r#"version = 2
 client = [{ name = "manager", sap = 1 }]
 object = [
  { class = 3, name = "1.0.1.8.0.255", fed = true, value = "0600000005", default = "0600000000", scaler = 0, unit = 30 },
@@ -47,18 +48,24 @@ object = [
    { service = 1, object = "0.0.96.11.0.255", index = 2, value = "09024546" },
    { service = 2, object = "1.0.1.8.0.255", index = 1 },
    { service = 2, object = "1.0.99.1.0.255", index = 2 } ] },
-  { id = 3, action = [ { service = 1, object = "0.0.96.11.0.255", index = 2, value = "0900" } ] } ] },
+  { id = 3, action = [ { service = 1, object = "0.0.96.11.0.255", index = 2, value = "0900" } ] },
+  { id = 4, action = [
+   { service = 1, object = "1.0.99.1.0.255", index = 3, value = "0101020412000309060100010800FF0F02120000" },
+   { service = 2, object = "1.0.99.1.0.255", index = 2 } ] } ] },
  { class = 21, name = "0.0.16.1.0.255", monitored = { object = "1.0.1.8.0.255", index = 2 }, thresholds = ["0600000064"], action = [
   { up = { table = "0.0.10.0.100.255", script = 1 }, down = { table = "0.0.10.0.100.255", script = 3 } } ] },
  { class = 7, name = "1.0.99.1.0.255", period = 900, entries = 2, capture = [
-  { object = "1.0.1.8.0.255", index = 2 }, { object = "0.0.96.11.0.255", index = 2 } ] },
- { class = 22, name = "0.0.15.0.0.255", script = { table = "0.0.10.0.100.255", script = 2 }, type = 1, times = ["000000FFFFFFFFFEFF"] },
+  { object = "1.0.1.8.0.255", index = 2 }, { object = "0.0.96.11.0.255", index = 2 } ], capture_menu = [ [
+  { object = "1.0.1.8.0.255", index = 2 } ] ] },
+ { class = 22, name = "0.0.15.0.0.255", script = { table = "0.0.10.0.100.255", script = 2 }, type = 1, times = ["000000FFFFFFFFFEFF"], script_menu = [
+  { table = "0.0.10.0.100.255", script = 4 } ] },
 ]
 right = [
  { client = "manager", object = "1.0.1.8.0.255", act = [1] },
  { client = "manager", object = "0.0.96.11.0.255", get = [2], set = [2] },
  { client = "manager", object = "0.0.10.0.100.255", act = [1] },
- { client = "manager", object = "1.0.99.1.0.255", get = [2], act = [1, 2] },
+ { client = "manager", object = "1.0.99.1.0.255", get = [2], set = [3], act = [1, 2] },
+ { client = "manager", object = "0.0.15.0.0.255", set = [2] },
 ]
 policy = { influence = ["manager"], learn = ["manager"] }
 "#;
@@ -80,8 +87,8 @@ pub(super) fn descriptor((class_id, name, index): Named) -> Descriptor {
 pub(super) enum Event {
     /// The manager reads an attribute, by an entry descriptor.
     Get(Named, &'static str),
-    /// The manager sets the alarm.
-    Set(&'static str),
+    /// The manager sets an attribute.
+    Set(Named, &'static str),
     /// The manager calls a method, with a parameter.
     Act(Named, &'static str),
     /// A value of the register comes in.
@@ -105,7 +112,7 @@ pub const C: &str = "090143";
 
 pub const EMPTY: &str = "0900";
 
-pub const SET_AB: Event = Event::Set(AB);
+pub const SET_AB: Event = Event::Set((1, ALARM, 2), AB);
 
 pub const GET_ALARM: Event = Event::Get((1, ALARM, 2), "");
 
@@ -133,9 +140,9 @@ pub(super) fn step(alloc: Global, event: Event) -> Result<Step, Fail> {
             attribute: descriptor(named),
             selection: selection(alloc, text)?,
         },
-        Event::Set(text) => Step::Set {
+        Event::Set(named, text) => Step::Set {
             client: MANAGER,
-            attribute: descriptor((1, ALARM, 2)),
+            attribute: descriptor(named),
             selected: false,
             value: argument(alloc, text)?,
         },
