@@ -20,8 +20,9 @@ use Rattle.meter_theory.specs.declared.flow.Edge.{Edge}
 use Rattle.meter_theory.specs.declared.flow.Cause.TheVariants as causes
 use Rattle.meter_theory.specs.declared.flow.Cause.TheVariants.{Monitored, Monitor, Captured, Menu, Period, Schedule}
 use Rattle.meter_theory.specs.Edges.{edge, EdgeIn, IsEdge, script_changes, scripts_named, monitor_changes, captured_by, schedule_changes, among, in_plan_order, edges_from_clock, menu_edges, edges_in, same_cause, same_edge, first_of_each, edges}
-use Rattle.meter_theory.specs.Labels.{method_changes, method_changes_of, all_scripts}
+use Rattle.meter_theory.specs.Labels.{calls_in, method_changes_of, all_scripts}
 use Rattle.meter_theory.specs.Sound.{IsSound}
+use Rattle.meter_theory.proofs.Scripts.{changed_by_scripts}
 use Rattle.meter_theory.proofs.Lists.{any_in, in_any, found, in_append_left, in_append_right, in_append_cases, in_flat_map, from_flat_map, in_map, from_map, in_filter, from_filter}
 use Rattle.meter_theory.proofs.Menus.{in_count}
 use Rattle.meter_theory.proofs.Agreement.{object-found}
@@ -154,12 +155,12 @@ module _ (P : Plan) (sound : IsSound P) where
 
   monitor_cells : (actions : List UpDown) (x : CellRef) → IsIn (monitor_changes P actions) x → IsIn (cells P) x
   monitor_cells actions x i =
-      let r = from_flat_map (script_changes P) (scripts_named actions) x i in
+      let r = changed_by_scripts P (scripts_named actions) x i in
       script_cells r.0 x r.2
 
   schedule_cells : (script : Choice ScriptRef) (x : CellRef) → IsIn (schedule_changes P script) x → IsIn (cells P) x
   schedule_cells script x i =
-      let r = from_flat_map (script_changes P) (alternatives script) x i in
+      let r = changed_by_scripts P (alternatives script) x i in
       script_cells r.0 x r.2
 
   ordered : (xs : List CellRef) (x : CellRef) → IsIn xs x → IsIn (cells P) x → IsIn (in_plan_order P xs) x
@@ -330,12 +331,12 @@ edge_target P sound e h = at h.0.part refl e.cause e.source e.target h.2
 -- what a method changes is cells of the plan
 pub method_cells : (P : Plan) → IsSound P → (m : MethodRef) (x : CellRef) → IsIn (method_changes_of P m) x → IsIn (cells P) x
 method_cells P sound m x i =
-    elim (object_at P m.name) as (λ o. object_at P m.name ≡ o → IsIn (for_some o (λ z. method_changes P m z.part)) x → IsIn (cells P) x) [
+    elim (object_at P m.name) as (λ o. object_at P m.name ≡ o → IsIn (changed (for_some o (λ z. calls_in P m z.part))) x → IsIn (cells P) x) [
       | None ↦ λ is j. absurd j
       | Some o ↦ λ is j. at o is o.part refl j
     ] refl i
   where
-    at : (o : Object) → object_at P m.name ≡ Some o → (part : Part) → o.part ≡ part → IsIn (method_changes P m part) x → IsIn (cells P) x
+    at : (o : Object) → object_at P m.name ≡ Some o → (part : Part) → o.part ≡ part → IsIn (changed (calls_in P m part)) x → IsIn (cells P) x
     at o is (ScriptTable scripts) h j =
         let e = from_flat_map changed_by (all_scripts P scripts) x j in
         let s = from_flat_map (λ z. actions_effects P z.actions) scripts e.0 e.1 in

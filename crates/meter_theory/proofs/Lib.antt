@@ -4,6 +4,7 @@ pub mod State
 pub mod Menus
 pub mod Agreement
 pub mod Rights
+pub mod Scripts
 pub mod Held
 pub mod Writes
 pub mod Without
@@ -11,10 +12,11 @@ pub mod Theorem
 pub mod Check
 pub mod ClassTable
 pub mod Admission
-pub mod Unequal
 pub mod KeepKinds
 pub mod KeepSteps
 pub mod StepsAgree
+pub mod Secrecy
+pub mod Noticed
 pub mod Start
 pub mod InnerClock
 pub mod Ticks

@@ -21,7 +21,7 @@ use Rattle.meter_theory.specs.declared.access.AccessCode.TheVariants.{ReadWriteD
 use Rattle.meter_theory.specs.Access.{is_success}
 use Rattle.meter_theory.specs.Rights.{first_place, Argument, Absent, Given, Unreadable, Descriptor, cell_of, method_of, Selection, may_set, may_act, may_read, class_is, get_answer, set_answer, act_answer, get_places, set_places, act_places, script_number, has_valid_tag}
 use Rattle.meter_theory.specs.Steps.{Effect, Put, changed_by_write, changed_by, changed, actions_effects, script_in, method_in, method_effects, Step, Get, Set, Act, client_of, given_value, effects_of}
-use Rattle.meter_theory.specs.Labels.{all_scripts, method_changes, method_changes_of, MayChange}
+use Rattle.meter_theory.specs.Labels.{all_scripts, calls_in, method_changes_of, MayChange}
 use Rattle.meter_theory.proofs.Menus.{in_menu, in_period, in_script, in_times}
 use Rattle.meter_theory.proofs.Agreement.{object-found}
 use Rattle.meter_theory.proofs.Lists.{in_append_cases, in_map, found, in_flat_map, from_flat_map}
@@ -155,7 +155,7 @@ script_among P scripts id x i =
           in_flat_map changed_by (all_scripts P scripts) e.0 x (in_flat_map (λ z. actions_effects P z.actions) scripts s e.0 there.0 e.1) e.2
     ] refl i
 
-method_among : (P : Plan) (m : MethodRef) (part : Part) (id : Option ℕ) (x : CellRef) → IsIn (changed (method_in P m part id)) x → IsIn (method_changes P m part) x
+method_among : (P : Plan) (m : MethodRef) (part : Part) (id : Option ℕ) (x : CellRef) → IsIn (changed (method_in P m part id)) x → IsIn (changed (calls_in P m part)) x
 method_among P m (ScriptTable scripts) (Some id) x i = script_among P scripts id x i
 method_among P m (ScriptTable scripts) None x i = absurd i
 method_among P m (Data1 start) id x i = i
@@ -167,7 +167,7 @@ method_among P m (SingleActionSchedule script type times) id x i = i
 
 methods_among : (P : Plan) (m : MethodRef) (argument : Argument) (x : CellRef) → IsIn (changed (method_effects P m argument)) x → IsIn (method_changes_of P m) x
 methods_among P m argument x i =
-    elim (object_at P m.name) as (λ o. IsIn (changed (for_some o (λ z. method_in P m z.part (script_number argument)))) x → IsIn (for_some o (λ z. method_changes P m z.part)) x) [
+    elim (object_at P m.name) as (λ o. IsIn (changed (for_some o (λ z. method_in P m z.part (script_number argument)))) x → IsIn (changed (for_some o (λ z. calls_in P m z.part))) x) [
       | None ↦ λ j. absurd j
       | Some o ↦ λ j. method_among P m o.part (script_number argument) x j
     ] i

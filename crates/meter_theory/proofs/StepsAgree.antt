@@ -1,25 +1,23 @@
 -- States that agree on a closed set of cells agree on it after each step, by the laws of the effects.
-use Rattle.std.proofs.Common.{◌++◌, ◌≡◌, ◌⊎◌, Bool, true, false, cond, ◌&&◌, List, [], ◌∷◌, flat_map, refl, sym, ap, ap₂, subst, ◌∙◌, inl, inr, Option, Some, None, subst₂, ℤ, int_lt, int_le}
+use Rattle.std.proofs.Common.{◌++◌, ◌≡◌, ◌⊎◌, Bool, true, false, cond, List, [], ◌∷◌, flat_map, refl, sym, ap, ap₂, subst, ◌∙◌, inl, inr, Option, Some, None, subst₂}
 use Rattle.meter_theory.specs.Lists.{IsIn, for_some}
 use Rattle.cosem_data.specs.Tree.{Tree}
 use Rattle.meter_theory.specs.Menus.{alternatives, script_ref_value}
 use Rattle.meter_theory.specs.Value.{elements, count_of}
 use Rattle.meter_theory.specs.Times.{next_second, clock_moment, clock_value, is_capture_due, is_schedule_due}
-use Rattle.cosem_data.specs.Kinds.{number_of}
 use Rattle.cosem_data.specs.declared.name.LogicalName.{LogicalName}
 use Rattle.cosem_data.specs.declared.cell.CellRef.{CellRef}
 use Rattle.meter_theory.specs.State.{State, keys, value, put}
-use Rattle.meter_theory.specs.declared.refs.ScriptRef.{ScriptRef}
 use Rattle.meter_theory.specs.declared.refs.UpDown.{UpDown}
 use Rattle.meter_theory.specs.Plan.{Plan, Object, Part, ProfileGeneric, RegisterMonitor, SingleActionSchedule, buffer, capture_period, entries_in_use, thresholds, seen, executed_script, execution_time, object_at, clock_object, clock_time, told_clock, clock_cell, clock}
-use Rattle.meter_theory.specs.Steps.{Effect, Put, Capture, effects, changed_by, changed, effects_of_script, due_scripts, due_at, Step, Get, Set, Act, Input, CaptureAt, Evaluate, ScheduleAt, Tick, ClockAt, present, captured_at, evaluated, script_now, scheduled_at, effects_of, next}
+use Rattle.meter_theory.specs.Steps.{Effect, Put, Capture, effects, changed, effects_of_script, due_scripts, Step, Get, Set, Act, Input, CaptureAt, Evaluate, ScheduleAt, Tick, ClockAt, present, captured_at, evaluated, script_now, scheduled_at, effects_of, next}
 use Rattle.meter_theory.specs.declared.flow.Cause.{Cause}
 use Rattle.meter_theory.specs.declared.flow.Cause.TheVariants.{Monitored, Monitor, Menu, Period, Schedule, Clock}
-use Rattle.meter_theory.specs.Edges.{Agree, IsClosed, edge, IsEdge, EdgeIn, script_changes, scripts_named, monitor_changes, schedule_changes}
+use Rattle.meter_theory.specs.Edges.{Agree, IsClosed, edge, IsEdge, EdgeIn, monitor_changes, schedule_changes}
 use Rattle.meter_theory.specs.EffectLaws.{KeepsAgreementOn, EffectLaws}
 use Rattle.meter_theory.proofs.Writes.{clock-empties}
-use Rattle.meter_theory.proofs.Lists.{in_append_left, in_append_right, in_append_cases, in_flat_map, from_flat_map}
 use Rattle.meter_theory.proofs.Menus.{chosen-in, chosen-alike}
+use Rattle.meter_theory.proofs.Scripts.{changed_scripts, due_changes}
 use Rattle.meter_theory.proofs.Agreement.{object-found, effects-keys, effects-append, AreQuiet, quiet_branch, meets_or_not, effects-agree, effects-quiet, agree_or_quiet}
 
 -- an edge that the object of a name makes
@@ -28,42 +26,9 @@ edge_at P n o is cause x y e =
     let at = object-found P n o is in
     (o, at.0, subst (λ m. EdgeIn P m o.part cause x y) (sym at.1) e)
 
--- the due scripts are scripts of the monitor
-due_at_in : (action : UpDown) (th before now : Option ℤ) (r : ScriptRef) → IsIn (due_at action th before now) r → IsIn (action.up ∷ action.down ∷ []) r
-due_at_in action None before now r i = absurd i
-due_at_in action (Some th) None now r i = absurd i
-due_at_in action (Some th) (Some before) None r i = absurd i
-due_at_in action (Some th) (Some before) (Some now) r i =
-    either (int_lt before th && int_le th now) (int_le th before && int_lt now th) i
-  where
-    either : (b c : Bool) → IsIn (cond b (action.up ∷ []) (cond c (action.down ∷ []) [])) r → IsIn (action.up ∷ action.down ∷ []) r
-    either true c (inl e) = inl e
-    either true c (inr j) = absurd j
-    either false true (inl e) = inr (inl e)
-    either false true (inr j) = absurd j
-    either false false j = absurd j
-
-due_in : (actions : List UpDown) (ths : List Tree) (before now : Tree) (r : ScriptRef) → IsIn (due_scripts actions ths before now) r → IsIn (scripts_named actions) r
-due_in [] ths before now r i = absurd i
-due_in (action ∷ actions) [] before now r i = absurd i
-due_in (action ∷ actions) (th ∷ ths) before now r i =
-    elim (in_append_cases (due_at action (number_of th) (number_of before) (number_of now)) (due_scripts actions ths before now) r i) [
-      | inl j ↦ in_append_left (action.up ∷ action.down ∷ []) (scripts_named actions) r (due_at_in action (number_of th) (number_of before) (number_of now) r j)
-      | inr j ↦ in_append_right (action.up ∷ action.down ∷ []) (scripts_named actions) r (due_in actions ths before now r j)
-    ]
-
--- what effects of scripts change is changed by one of the scripts
-changed_by_scripts : (P : Plan) (rs : List ScriptRef) (x : CellRef) → IsIn (changed (flat_map (effects_of_script P) rs)) x → (r : ScriptRef) × IsIn rs r × IsIn (script_changes P r) x
-changed_by_scripts P rs x i =
-    let e = from_flat_map changed_by (flat_map (effects_of_script P) rs) x i in
-    let r = from_flat_map (effects_of_script P) rs e.0 e.1 in
-    (r.0, r.1, in_flat_map changed_by (effects_of_script P r.0) e.0 x r.2 e.2)
-
 due_quiet : (P : Plan) (S : CellRef → Bool) (actions : List UpDown) → ((x : CellRef) → IsIn (monitor_changes P actions) x → S x ≡ false) →
     (ths : List Tree) (before now : Tree) → AreQuiet S (flat_map (effects_of_script P) (due_scripts actions ths before now))
-due_quiet P S actions quiet ths before now x i =
-    let r = changed_by_scripts P (due_scripts actions ths before now) x i in
-    quiet x (in_flat_map (script_changes P) (scripts_named actions) r.0 x (due_in actions ths before now r.0 r.1) r.2)
+due_quiet P S actions quiet ths before now x i = quiet x (due_changes P actions ths before now x i)
 
 module _ (P : Plan) (laws : EffectLaws P) (S : CellRef → Bool) (closed : IsClosed P S) (s t : State) (k : keys s ≡ keys t) (agree : Agree S s t) where
   -- S holds the clock, where it holds a cell to which an object's edges from the clock lead
@@ -125,7 +90,7 @@ module _ (P : Plan) (laws : EffectLaws P) (S : CellRef → Bool) (closed : IsClo
 
       quiet_now : ((x : CellRef) → IsIn (schedule_changes P script) x → S x ≡ false) → (u : State) → AreQuiet S (effects_of_script P (script_now u n script))
       quiet_now quiet u x i =
-          quiet x (in_flat_map (script_changes P) (alternatives script) (script_now u n script) x (chosen-in script_ref_value script (value u (executed_script n))) i)
+          quiet x (changed_scripts P (alternatives script) (script_now u n script) x (chosen-in script_ref_value script (value u (executed_script n))) i)
   scheduled-agree n o is _ h = agree
 
   evaluated-agree : (n : LogicalName) (o : Object) → object_at P n ≡ Some o → (part : Part) → o.part ≡ part →

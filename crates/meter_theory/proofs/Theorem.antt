@@ -1,10 +1,10 @@
--- An admitted plan keeps influence and secrecy.
+-- An admitted plan keeps influence; and what secrecy asks of its labels and its policy.
 use Rattle.cosem_data.proofs.Same.{same_cell-true, same_cell-refl}
 use Rattle.cosem_data.proofs.Bits.{none_above}
 use Rattle.cosem_data.specs.declared.clients.ClientSet.{ClientSet}
-use Rattle.std.proofs.Common.{◌≡◌, ◌==◌, ◌≤◌, ℕ, Bool, true, false, not, cond, ◌&&◌, ◌||◌, List, [], ◌∷◌, refl, sym, ap, ap₂, subst, ◌∙◌, inl, inr, Option, Some, None, option_map, eqb-true, ne_eqb, nat_lt, ltb-true, arith}
+use Rattle.std.proofs.Common.{◌≡◌, ◌==◌, ◌≤◌, ℕ, Bool, true, false, not, cond, ◌&&◌, ◌||◌, List, [], ◌∷◌, refl, sym, ap, subst, ◌∙◌, inl, inr, Option, Some, None, option_map, eqb-true, ne_eqb, nat_lt, ltb-true, arith}
 use Rattle.std.specs.List.{list_all, range_with_len}
-use Rattle.std.proofs.lemmas.Bool.{cond-false, not-true, and_parts, and_from, or_cases, or_left, or_right, false_from_ne_true, ltb-false}
+use Rattle.std.proofs.lemmas.Bool.{not-true, and_parts, and_from, or_cases, or_left, or_right, false_from_ne_true, ltb-false}
 use Rattle.meter_theory.specs.Lists.{IsIn}
 use Rattle.cosem_data.specs.Tree.{Tree}
 use Rattle.cosem_data.specs.declared.name.LogicalName.{LogicalName}
@@ -15,11 +15,11 @@ use Rattle.meter_theory.specs.Plan.{Plan, Part, Data1, Register, ProfileGeneric,
 use Rattle.meter_theory.specs.Access.{is_success}
 use Rattle.meter_theory.specs.Rights.{cell_of, class_is, get_answer, set_answer, may_read, may_get, lists, readable_of_association}
 use Rattle.meter_theory.specs.Fixed.{fixed}
-use Rattle.meter_theory.specs.Replies.{Value, Code, is_step_of_client, attribute, selected, reply_to, run, replies, replies_of}
+use Rattle.meter_theory.specs.Replies.{Value, Code, is_step_of_client, attribute, selected, reply_to, run}
 use Rattle.meter_theory.specs.Steps.{Put, changed_by_write, Step, Get, Set, Input, client_of, given_value, effects_of, next, is_fed, meets_some}
 use Rattle.meter_theory.specs.Edges.{Agree, IsClosed}
 use Rattle.meter_theory.specs.Labels.{has, within, Labels, Labelling, labelling_of, may_influence, may_learn, MayChange, Admits}
-use Rattle.meter_theory.specs.Safety.{HasCells, is_step_of, Thinned, DifferHidden, Alike, outside, LookAlike, Influence, Secrecy}
+use Rattle.meter_theory.specs.Safety.{HasCells, is_step_of, Thinned, DifferHidden, outside, LookAlike, Influence}
 use Rattle.meter_theory.specs.Sound.{IsSound}
 use Rattle.meter_theory.proofs.Lists.{any_in, in_range}
 use Rattle.meter_theory.proofs.State.{value_missing, is_touched}
@@ -207,35 +207,6 @@ pub record AreHidden (P : Plan) (S : CellRef → Bool) (c : ℕ) (step step' : S
   pub quiet : (s : State) → AreQuiet S (effects_of P s step)
   pub quiet' : (s : State) → AreQuiet S (effects_of P s step')
 
-hidden-replies : (P : Plan) → StepLaws P → (Q : Labelling) (S : CellRef → Bool) (c : ℕ) → IsClosed P S →
-    ((x : CellRef) → IsIn (cells P) x → may_get P c x ≡ true → S x ≡ true) →
-    ((step step' : Step) → DifferHidden P Q c step step' → AreHidden P S c step step') →
-    (l l' : List Step) (s t : State) → keys s ≡ keys t → Agree S s t → Alike P Q c l l' → replies_of c l (replies P s l) ≡ replies_of c l' (replies P t l')
-hidden-replies P steps Q S c closed reads hidden [] [] s t k agree a = refl
-hidden-replies P steps Q S c closed reads hidden [] (step' ∷ l') s t k agree a = absurd a
-hidden-replies P steps Q S c closed reads hidden (step ∷ l) [] s t k agree a = absurd a
-hidden-replies P steps Q S c closed reads hidden (step ∷ l) (step' ∷ l') s t k agree a =
-    elim a.0 [
-      | inl same ↦ subst (λ z. replies_of c (step ∷ l) (replies P s (step ∷ l)) ≡ replies_of c (z ∷ l') (replies P t (z ∷ l'))) same
-          (equal_heads (is_step_of_client c (client_of step)) refl
-          (hidden-replies P steps Q S c closed reads hidden l l' (next P s step) (next P t step)
-          (next-keys P s step ∙ (k ∙ sym (next-keys P t step))) (steps.agrees S closed step s t k agree) a.1))
-      | inr differ ↦
-          let h = hidden step step' differ in
-          cond-false _ _ _ h.other
-          ∙ (hidden-replies P steps Q S c closed reads hidden l l' (next P s step) (next P t step')
-          (next-keys P s step ∙ (k ∙ sym (next-keys P t step')))
-          (λ x i. steps.quiet S step s (h.quiet s) x i ∙ (agree x i ∙ sym (steps.quiet S step' t (h.quiet' t) x i))) a.1
-          ∙ sym (cond-false _ _ _ h.other'))
-    ]
-  where
-    equal_heads : (b : Bool) → is_step_of_client c (client_of step) ≡ b →
-        replies_of c l (replies P (next P s step) l) ≡ replies_of c l' (replies P (next P t step) l') →
-        cond b (reply_to P s step ∷ replies_of c l (replies P (next P s step) l)) (replies_of c l (replies P (next P s step) l))
-        ≡ cond b (reply_to P t step ∷ replies_of c l' (replies P (next P t step) l')) (replies_of c l' (replies P (next P t step) l'))
-    equal_heads true p rest = ap₂ (λ r rs. r ∷ rs) (reply-same P S c reads s t agree step p) rest
-    equal_heads false p rest = rest
-
 -- what a write of a hidden cell changes is hidden
 write_hidden : (P : Plan) (S : CellRef → Bool) → IsClosed P S → (y : CellRef) → IsIn (cells P) y → S y ≡ false → (x : CellRef) → IsIn (changed_by_write y) x → S x ≡ false
 write_hidden P S closed y there hidden x i =
@@ -357,12 +328,6 @@ module _ (P : Plan) (policy : Labelling) (labels : Labels) (sound : IsSound P) (
   pub reads_learnable : (c : ℕ) (x : CellRef) → IsIn (cells P) x → may_get P c x ≡ true → may_learn Q c x ≡ true
   reads_learnable c x i may = or_right (inner x) (has (Q x).learn c) (a.covers.readers c x i may)
 
-  pub secrecy-labels : StepLaws P → Secrecy P Q
-  secrecy-labels steps = record {
-    same_replies = λ c s s' l l' is is' look alike.
-        hidden-replies P steps Q (may_learn Q c) c (learnable_closed c) (reads_learnable c) (are_hidden P Q c (learnable_closed c)) l l' s s' (is ∙ sym is') look alike;
-  }
-
   pub learn_more : (c : ℕ) (x : CellRef) → IsIn (held P) x → may_learn Q c x ≡ true → may_learn policy c x ≡ true
   learn_more c x i h = at (inner x) refl
     where
@@ -390,14 +355,3 @@ module _ (P : Plan) (policy : Labelling) (labels : Labels) (sound : IsSound P) (
   hidden_there c (Set d x selector v) (Set e y chosen w) h = (h.0, h.1, h.2, h.3, h.4, less c (cell_of x) h.4 h.5)
   hidden_there c (Input x v) (Input y w) h = (h.0, h.1, less c x h.1 h.2)
   hidden_there c _ _ h = absurd h
-
-  alike_there : (c : ℕ) (l l' : List Step) → Alike P policy c l l' → Alike P Q c l l'
-  alike_there c [] [] h = tt
-  alike_there c [] (step' ∷ l') h = absurd h
-  alike_there c (step ∷ l) [] h = absurd h
-  alike_there c (step ∷ l) (step' ∷ l') h = (elim h.0 [ inl e ↦ inl e | inr d ↦ inr (hidden_there c step step' d) ], alike_there c l l' h.1)
-
-  pub secrecy-policy : StepLaws P → Secrecy P policy
-  secrecy-policy steps = record {
-    same_replies = λ c s s' l l' is is' look alike. (secrecy-labels steps).same_replies c s s' l l' is is' (look_there c s s' is is' look) (alike_there c l l' alike);
-  }

@@ -11,7 +11,7 @@ use Rattle.meter_theory.specs.Menus.{Choice, has_any, has_menu, capture_objects_
 use Rattle.meter_theory.specs.Value.{counter}
 use Rattle.meter_theory.specs.State.{State, put}
 use Rattle.meter_theory.specs.Plan.{Plan, ProfileGeneric, HasNoMenus, part_has_menu, SingleActionSchedule, cells, start_of, rule_in, buffer, capture_objects, capture_period, entries_in_use, executed_script, execution_time}
-use Rattle.meter_theory.specs.Steps.{captured_in, script_now, empties, clear, kept, write, changed_by_write}
+use Rattle.meter_theory.specs.Steps.{changed, effects_of_script, captured_in, script_now, empties, clear, kept, write, changed_by_write}
 use Rattle.meter_theory.specs.Edges.{edge, edges_in, edges_from_clock, in_plan_order, script_changes}
 use Rattle.meter_theory.proofs.Agreement.{not_both}
 use Rattle.meter_theory.proofs.Writes.{menu_cell}
@@ -66,7 +66,7 @@ pub schedule_edges-alone : (P : Plan) (n : LogicalName) (c : Choice ScriptRef) (
     ++ edges_from_clock P (in_plan_order P (script_changes P c.configured))
 schedule_edges-alone P n c type times h =
     ap (λ d. edges_in P n (SingleActionSchedule d type times)) (alone-is c h)
-    ∙ ap (λ ys. map (λ y. edge Schedule (execution_time n) y) (in_plan_order P ys) ++ edges_from_clock P (in_plan_order P ys)) (append_none (script_changes P c.configured))
+    ∙ ap (λ es. map (λ y. edge Schedule (execution_time n) y) (in_plan_order P (changed es)) ++ edges_from_clock P (in_plan_order P (changed es))) (append_none (effects_of_script P c.configured))
 
 pub writes-alone : (P : Plan) → HasNoMenus P → (x : CellRef) → IsIn (cells P) x → (s : State) (v : Tree) → (write s x v ≡ put s x (kept x v)) × (changed_by_write x ≡ x ∷ [])
 writes-alone P none x there s v = (

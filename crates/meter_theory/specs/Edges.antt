@@ -13,7 +13,7 @@ use Rattle.meter_theory.specs.declared.flow.Cause.TheVariants.{Monitored, Monito
 use Rattle.meter_theory.specs.declared.flow.Edge.{Edge}
 use Rattle.meter_theory.specs.Menus.{Choice, alternatives, has_menu}
 use Rattle.meter_theory.specs.Plan.{Plan, Object, Part, ProfileGeneric, RegisterMonitor, SingleActionSchedule, buffer, capture_objects, capture_period, entries_in_use, thresholds, seen, executed_script, execution_time, cells, clock_object, inner_clock, told_clock}
-use Rattle.meter_theory.specs.Steps.{changed, effects_of_script}
+use Rattle.meter_theory.specs.Steps.{Effect, changed, effects_of_script}
 
 -- the cells that a script changes
 abbrev pub script_changes : Plan → ScriptRef → List CellRef
@@ -23,9 +23,13 @@ script_changes P r = changed (effects_of_script P r)
 abbrev pub scripts_named : List UpDown → List ScriptRef
 scripts_named actions = flat_map (λ a. a.up ∷ a.down ∷ []) actions
 
+-- the effects of these scripts, one after another
+abbrev pub scripts_effects : Plan → List ScriptRef → List Effect
+scripts_effects P scripts = flat_map (effects_of_script P) scripts
+
 -- the cells that a monitor's scripts change
 abbrev pub monitor_changes : Plan → List UpDown → List CellRef
-monitor_changes P actions = flat_map (script_changes P) (scripts_named actions)
+monitor_changes P actions = changed (scripts_effects P (scripts_named actions))
 
 -- the cells that a profile may capture, alternative by alternative
 abbrev pub captured_by : Choice (List CellRef) → List CellRef
@@ -33,7 +37,7 @@ captured_by captured = flat_map (λ xs. xs) (alternatives captured)
 
 -- the cells that a schedule's script may change, alternative by alternative
 abbrev pub schedule_changes : Plan → Choice ScriptRef → List CellRef
-schedule_changes P script = flat_map (script_changes P) (alternatives script)
+schedule_changes P script = changed (scripts_effects P (alternatives script))
 
 -- An edge from x to y for this cause, which an object of this name makes.
 abbrev pub EdgeIn : Plan → LogicalName → Part → Cause → CellRef → CellRef → Type 0

@@ -79,13 +79,17 @@ may_learn Q c x = same_cell inner_clock x || has (Q x).learn c
 abbrev pub all_scripts : Plan → List Script → List Effect
 all_scripts P scripts = flat_map (λ s. actions_effects P s.actions) scripts
 
--- the cells that a method changes; execute changes all that a script of its table changes
-abbrev pub method_changes : Plan → MethodRef → Part → List CellRef
-method_changes P m (ScriptTable scripts) = changed (all_scripts P scripts)
-method_changes P m part = changed (plain_method m.name part m.index)
+-- the effects that calls of a method have, whatever they are given: of execute those of each script of its table
+abbrev pub calls_in : Plan → MethodRef → Part → List Effect
+calls_in P m (ScriptTable scripts) = all_scripts P scripts
+calls_in P m part = plain_method m.name part m.index
 
+abbrev pub calls_effects : Plan → MethodRef → List Effect
+calls_effects P m = for_some (object_at P m.name) (λ o. calls_in P m o.part)
+
+-- the cells that a method changes; execute changes all that a script of its table changes
 abbrev pub method_changes_of : Plan → MethodRef → List CellRef
-method_changes_of P m = for_some (object_at P m.name) (λ o. method_changes P m o.part)
+method_changes_of P m = changed (calls_effects P m)
 
 -- The client has a right that changes the cell.
 abbrev pub MayChange : Plan → ℕ → CellRef → Type 0

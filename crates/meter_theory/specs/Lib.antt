@@ -15,9 +15,9 @@ pub mod Replies
 pub mod Edges
 pub mod Labels
 pub mod Check
-pub mod Safety
-pub mod Unequal
-pub mod EffectLaws
 pub mod States
+pub mod Safety
+pub mod Notice
+pub mod EffectLaws
 pub mod Sound
 pub mod Classes

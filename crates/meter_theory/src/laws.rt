@@ -1,5 +1,5 @@
 //! Theorems about meters and plans: each function's clauses are its statement, and its body is empty.
-ghost use Rattle.std.specs.Prelude.{◌≡◌, ◌≢◌, ◌↔◌, ◌+◌, ◌∷◌, ◌++◌, [], ℕ, Bool, List, map, true, false, None, Some};
+ghost use Rattle.std.specs.Prelude.{◌≡◌, ◌≢◌, ◌↔◌, ◌+◌, ◌∷◌, ◌++◌, [], ℕ, Bool, List, map, true, false, None, Some, is_some};
 ghost use Rattle.cosem_data.specs.Cells.{same_cell};
 ghost use Rattle.cosem_data.specs.Tree.{Tree, array, no_trees};
 ghost use Rattle.cosem_data.specs.declared.cell.CellRef.{CellRef};
@@ -26,25 +26,38 @@ ghost use Rattle.meter_theory.specs.Labels.{Labels, Labelling, labelling_of, Adm
 ghost use Rattle.meter_theory.specs.Sound.{IsSound};
 ghost use Rattle.meter_theory.specs.States.{IsState};
 ghost use Rattle.meter_theory.specs.Check.{AllPass, Refuses, may_change};
-ghost use Rattle.meter_theory.specs.Safety.{HasCells, Influence, Secrecy};
-ghost use Rattle.meter_theory.specs.Unequal.{UnequalSecrecy};
+ghost use Rattle.meter_theory.specs.Safety.{HasCells, IsQuiet, AreAlike, Alike, AlikeByPlace, Influence, Secrecy};
+ghost use Rattle.meter_theory.specs.Notice.{may_put, MayNotice, first_notice};
 
 /// Where the effects of a sound plan keep their laws, and it is admitted, it keeps what its policy, and what its labels, promise
-/// about who influences a cell, and keeps from each client what they hide from it, also over schedules that differ by steps
-/// which the client can't notice.
+/// about who influences a cell, and keeps from each client what they hide from it.
 pub fn lawful_effects_keep_promises()
     ensures influence { (P : Plan) (policy : Labelling) (labels : Labels) → IsSound P → EffectLaws P → Admits P policy labels →
         Influence P policy × Influence P (labelling_of labels) }
     ensures secrecy { (P : Plan) (policy : Labelling) (labels : Labels) → IsSound P → EffectLaws P → Admits P policy labels →
         Secrecy P policy × Secrecy P (labelling_of labels) }
-    ensures unequal { (P : Plan) (policy : Labelling) (labels : Labels) → IsSound P → EffectLaws P → Admits P policy labels →
-        UnequalSecrecy P policy × UnequalSecrecy P (labelling_of labels) }
 {}
 
 /// Where the effects of a plan keep their laws, states that agree on a closed set of cells agree on it after each step.
 pub fn lawful_effects_keep_agreement()
     ensures { (P : Plan) (S : CellRef → Bool) → EffectLaws P → IsClosed P S → (step : Step) →
         KeepsAgreementOn S (λ s. next P s step) }
+{}
+
+/// Where the effects of a plan keep their laws, a step changes only cells that it may put, so that a step of which a client could
+/// notice nothing is quiet for it, in states of any values; and the first notice is told exactly where there is one.
+pub fn steps_change_what_they_may_put()
+    ensures changed { (P : Plan) (s : State) (step : Step) (x : CellRef) → EffectLaws P → value (next P s step) x ≢ value s x →
+        IsIn (may_put P step) x }
+    ensures quiet { (P : Plan) (Q : Labelling) (c : ℕ) (step : Step) → EffectLaws P → (MayNotice P Q c step → ⊥) →
+        IsQuiet (HasCells P) P Q c step × IsQuiet (IsState P) P Q c step }
+    ensures told { (P : Plan) (Q : Labelling) (c : ℕ) (step : Step) → (is_some (first_notice P Q c step) ≡ true ↔ MayNotice P Q c step) }
+{}
+
+/// Lists of one length that differ, place by place, only in what is hidden from a client are alike to it.
+pub fn lists_alike_by_place_are_alike()
+    ensures { (P : Plan) (Q : Labelling) (c : ℕ) (l l' : List Step) → AlikeByPlace P Q c l l' →
+        Alike P Q c l l' × AreAlike (IsState P) P Q c l l' }
 {}
 
 /// The list of edges has each edge of a sound plan, and no other.
