@@ -1,12 +1,10 @@
 -- What is added to effects, and which effects methods, scripts and a meter's own steps have.
 use Rattle.std.specs.Prelude.{◌≡◌, ℕ, ◌+◌, ◌<◌, ◌==◌, Bool, true, false, ◌&&◌, cond, List, [], ◌∷◌, ◌++◌, map, flat_map, find, take, length, get_or, Option, Some, None, option_map, option_and_then, Ok, Err, is_ok, if◌then◌else◌}
-use Rattle.std.proofs.Common.{refl, sym, ap, ap₂, subst, ◌∙◌, zero, suc, arith, inl, inr}
-use Rattle.std.proofs.lemmas.Bool.{and_parts, cond-true, cond-false}
+use Rattle.std.proofs.Common.{refl, sym, ap, subst, ◌∙◌, zero, suc, arith, inl, inr}
+use Rattle.std.proofs.lemmas.Bool.{and_parts, cond-true}
 use Rattle.std.proofs.lemmas.List.{map_more, map_push, append_assoc, flat_map_more}
 use Rattle.cosem_data.specs.Tree.{Tree, array, no_trees}
 use Rattle.cosem_data.specs.Kinds.{kind_of}
-use Rattle.cosem_data.specs.View.{tree}
-use Rattle.cosem_data.specs.declared.data.Data.{Data}
 use Rattle.cosem_data.specs.declared.cell.CellRef.{CellRef}
 use Rattle.cosem_data.specs.declared.cell.MethodRef.{MethodRef}
 use Rattle.cosem_data.specs.declared.name.LogicalName.{LogicalName}
@@ -30,7 +28,6 @@ use Rattle.meter_theory.specs.Value.{Rule, OfKind, Thresholds, meets, valid_tag,
 use Rattle.meter_theory.specs.Steps as theory
 use Rattle.meter_theory.specs.Steps.{Captures, captures_in, captures_of, meets_some}
 use Rattle.meter_theory.proofs.Agreement.{object-found}
-use Rattle.meter_theory.proofs.Lists.{found}
 use Rattle.class_control.specs.ScriptView.{script_of}
 use Rattle.class_control.specs.declared.script.Script as code
 use Rattle.object_model.specs.PartView.{part_of}
@@ -38,12 +35,9 @@ use Rattle.object_model.specs.declared.part.Part as code_part
 use Rattle.object_model.specs.declared.part.Part.TheVariants as parts
 use Rattle.class_control.specs.declared.parts.ScriptTablePart.{ScriptTablePart}
 use Rattle.object_model.specs.InstanceView.{AtName}
-use Rattle.object_model.specs.EffectView.{effect_of, MayTake, MayTakeAll, IsProfile}
+use Rattle.object_model.specs.EffectView.{effect_of, MayTake, MayTakeAll}
 use Rattle.object_model.specs.declared.effect.Effect.{Effect}
-use Rattle.object_model.specs.declared.effect.Effect.TheVariants as effects
 use Rattle.meter_effects.specs.Adds.{Adds, StandsFor}
-use Rattle.meter_effects.specs.Targets.{named_script}
-use Rattle.meter_effects.specs.Writes.{AreWrites}
 
 -- Lists of effects
 
@@ -70,9 +64,6 @@ adds_more P added more a b d first second = record {
   fits = λ all. second.fits (first.fits all);
 }
 
-pub adds-is : (P : Plan) (xs ys : List theory.Effect) (a b : List Effect) → xs ≡ ys → Adds P xs a b → Adds P ys a b
-adds-is P xs ys a b is h = subst (λ zs. Adds P zs a b) is h
-
 -- the effects of one element more
 pub flat_map-more : {A B E : Type 0} (f : B → List E) (g : A → B) (xs : List A) (i : ℕ) (x : A) → i < length xs → x ≡ get_or xs i x →
     flat_map f (map g (take i xs)) ++ f (g x) ≡ flat_map f (map g (take (i + 1) xs))
@@ -94,7 +85,7 @@ nothing_at f g (y ∷ xs) (suc i) x within is none = nothing_at f g xs i x (omeg
 -- Methods
 
 -- the default of a register may stand in its value
-default_may_stand : (P : Plan) (o : Object) (first default : Tree) (scaler_unit : ScalerUnit) → IsSound P → object_at P o.name ≡ Some o → o.part ≡ Register first default scaler_unit →
+pub default_may_stand : (P : Plan) (o : Object) (first default : Tree) (scaler_unit : ScalerUnit) → IsSound P → object_at P o.name ≡ Some o → o.part ≡ Register first default scaler_unit →
     MayStand P (register_value o.name) default
 default_may_stand P o first default scaler_unit sound is part =
     (OfKind (kind_of first), rule, subst (IsSoundPart P) part (sound.parts o (object-found P o.name o is).0))
@@ -104,10 +95,6 @@ default_may_stand P o first default scaler_unit sound is part =
         ap (option_and_then (λ z. cond (class_of z.part == 3) (rule_in P z.part 2) None)) is
         ∙ ap (λ p. cond (class_of p == 3) (rule_in P p 2) None) part
 
--- a profile of the plan is one by its name
-pub is_profile-by_name : (P : Plan) (o : Object) (c : Captures) → object_at P o.name ≡ Some o → captures_in o.part ≡ Some c → IsProfile P o.name
-is_profile-by_name P o c is captures = (c, ap captures_of is ∙ captures)
-
 -- the object that a name leads to is found by its own name
 pub found_there : (P : Plan) (n : LogicalName) (i : AtName) (o : Object) → i ≡ record { plan = P; name = n } → Some o ≡ object_at i.plan i.name → Some o ≡ object_at P n
 found_there P n i o is h = h ∙ ap (λ j. object_at j.plan j.name) is
@@ -115,46 +102,11 @@ found_there P n i o is h = h ∙ ap (λ j. object_at j.plan j.name) is
 pub found_again : (P : Plan) (n : LogicalName) (o : Object) → Some o ≡ object_at P n → object_at P o.name ≡ Some o
 found_again P n o is = ap (object_at P) (object-found P n o (sym is)).1 ∙ sym is
 
--- what is known of a list to which an effect was added
-abbrev pub IsAdded : Effect → List Effect → List Effect → Type 0
-IsAdded e before after = (P : Plan) → MayTake P e → Adds P (effect_of e ∷ []) before after
-
-pub register_added : (P : Plan) (o : Object) (cell : CellRef) (d : Data) (first default : Tree) (scaler_unit : ScalerUnit) (method : ℕ) (before after : List Effect) → IsSound P →
-    object_at P o.name ≡ Some o → o.part ≡ Register first default scaler_unit → cell ≡ register_value o.name → tree d ≡ default → IsAdded (effects.Put cell d) before after →
-    Adds P (theory.plain_method o.name o.part method) before after
-register_added P o cell d first default scaler_unit method before after sound is part celled same added =
-    adds-is P _ _ before after (ap₂ (λ x v. theory.Put x v ∷ []) celled same ∙ sym (ap (λ p. theory.plain_method o.name p method) part)) (added P may)
-  where
-    may : MayStand P cell (tree d)
-    may = subst (λ x. MayStand P x (tree d)) (sym celled) (subst (MayStand P (register_value o.name)) (sym same) (default_may_stand P o first default scaler_unit sound is part))
-
-pub reset_added : (P : Plan) (o : Object) (n : LogicalName) (captured : Choice (List CellRef)) (period entries method : ℕ) (before after : List Effect) → n ≡ o.name →
-    o.part ≡ ProfileGeneric captured period entries → (method == 1) ≡ true → IsAdded (effects.Clear n) before after → Adds P (theory.plain_method o.name o.part method) before after
-reset_added P o n captured period entries method before after named part one added =
-    adds-is P _ _ before after
-    (ap (λ m. theory.Clear m ∷ []) named
-    ∙ (sym (cond-true (method == 1) (theory.Clear o.name ∷ []) (theory.Capture o.name ∷ []) one) ∙ sym (ap (λ p. theory.plain_method o.name p method) part)))
-    (added P tt)
-
-pub capture_added : (P : Plan) (o : Object) (n : LogicalName) (captured : Choice (List CellRef)) (period entries method : ℕ) (before after : List Effect) → object_at P o.name ≡ Some o → n ≡ o.name →
-    o.part ≡ ProfileGeneric captured period entries → (method == 1) ≡ false → IsAdded (effects.Capture n) before after → Adds P (theory.plain_method o.name o.part method) before after
-capture_added P o n captured period entries method before after is named part other added =
-    adds-is P _ _ before after
-    (ap (λ m. theory.Capture m ∷ []) named
-    ∙ (sym (cond-false (method == 1) (theory.Clear o.name ∷ []) (theory.Capture o.name ∷ []) other) ∙ sym (ap (λ p. theory.plain_method o.name p method) part)))
-    (added P (subst (IsProfile P) (sym named) (is_profile-by_name P o (record { captured = captured; entries = entries }) is (ap captures_in part))))
-
 -- the plain method of an object that a name leads to
 pub plain_effects : (P : Plan) (m : MethodRef) (o : Object) → Some o ≡ object_at P m.name → theory.plain_method o.name o.part m.index ≡ theory.plain_method_of P m
 plain_effects P m o is =
     ap (λ n. theory.plain_method n o.part m.index) (object-found P m.name o (sym is)).1
     ∙ ap (λ f. for_some f (λ z. theory.plain_method m.name z.part m.index)) is
-
--- an item of a loop is an element
-pub item_in : {A : Type 0} (xs : List A) (i : ℕ) (x : A) → i < length xs → x ≡ get_or xs i x → IsIn xs x
-item_in [] i x within is = absurd (omega arith)
-item_in (y ∷ xs) zero x within is = inl is
-item_in (y ∷ xs) (suc i) x within is = inr (item_in xs i x (omega arith) is)
 
 -- Scripts
 
@@ -170,13 +122,6 @@ pub script_found : {R : Type 0} (f : R → code.Script) (r : Option R) (scripts 
     option_map (λ s. script_of (f s)) r ≡ find (λ s. s.id == id) (map script_of scripts)
 script_found f None scripts id h = ap (option_map script_of) h ∙ find-map script_of (λ s. s.id == id) scripts
 script_found f (Some s) scripts id h = ap (option_map script_of) h ∙ find-map script_of (λ s. s.id == id) scripts
-
-pub script_writes : (P : Plan) (r : ScriptRef) (s : Script) → IsSound P → Some s ≡ named_script P r → AreWrites P s.actions
-script_writes P r s sound is = at (object_at P r.table) refl is
-  where
-    at : (o : Option Object) → object_at P r.table ≡ o → Some s ≡ option_and_then (λ z. find (λ k. k.id == r.script) (theory.scripts_of z.part)) o → AreWrites P s.actions
-    at None there e = cc
-    at (Some o) there e = λ x v i. sound.writes o (object-found P r.table o there).0 s (found (λ k. k.id == r.script) (theory.scripts_of o.part) s (sym e)).0 x v i
 
 -- Own steps
 

@@ -5,3 +5,5 @@ pub mod Accepted
 pub mod ClosedSets
 pub mod Added
 pub mod Targets
+pub mod Walks
+pub mod Copied

@@ -127,3 +127,24 @@ pub targets-if_some : (i : AtName) (o : Object) (scripts : List Script) (r : Opt
     IfSome r (λ s. StartsAt scripts s.0 s.1.now) → IfSome r (λ s. AreTargets i s.0 (map action_of s.1.now.actions.items))
 targets-if_some i o scripts None is part starts = starts
 targets-if_some i o scripts (Some s) is part starts = are_targets i o scripts s.0 s.1.now is part starts
+
+-- where the targets of all scripts of a table begin
+pub table_targets : (i : AtName) (o : Object) (scripts : List Script) → Some o ≡ object_at i.plan i.name → o.part ≡ ScriptTable (map script_of scripts) →
+    AreTargets i 0 (flat_map (λ s. map action_of s.actions.items) scripts)
+table_targets i o scripts is part = λ k action h.
+    let same : 0 + k ≡ k = omega arith in
+    ap (λ f. slice_get (for_some f (λ o. references o.part)) (0 + k)) (sym is)
+    ∙ ap (λ p. slice_get (references p) (0 + k)) part
+    ∙ ap (λ ns. slice_get ns (0 + k)) (target-actions scripts)
+    ∙ slice_get-map target (flat_map (λ s. map action_of s.actions.items) scripts) (0 + k)
+    ∙ ap (λ n. option_map target (slice_get (flat_map (λ s. map action_of s.actions.items) scripts) n)) same
+    ∙ ap (option_map target) h
+
+-- and where those of one of them
+pub script_targets : (i : AtName) (scripts : List Script) (index start : ℕ) (s : Script) → AreTargets i 0 (flat_map (λ z. map action_of z.actions.items) scripts) → index < length scripts → s ≡ get_or scripts index s →
+    start ≡ length (flat_map (λ z. map action_of z.actions.items) (take index scripts)) → AreTargets i start (map action_of s.actions.items)
+script_targets i scripts index start s targets within is begun = λ k action h.
+    let same : start + k ≡ 0 + (start + k) = omega arith in
+    ap (slice_get (references_at i.plan i.name)) same
+    ∙ targets (start + k) action
+    (ap (λ n. slice_get (flat_map (λ z. map action_of z.actions.items) scripts) (n + k)) begun ∙ starts-at (λ z. map action_of z.actions.items) scripts index s within is k action h)

@@ -3,3 +3,4 @@ pub mod PlanOperations
 pub mod Adds
 pub mod Writes
 pub mod Targets
+pub mod Planned

@@ -6,3 +6,4 @@ pub mod laws;
 pub mod own_steps;
 pub mod promises;
 pub mod scripts;
+pub mod walk;

@@ -52,7 +52,7 @@ pub fn input_effects(
 }
 
 /// Whether the cell is the value of a fed object, and the value may stand there.
-fn takes_input(plan: &Plan, cell: &CellRef, given: &Data) -> bool
+pub fn takes_input(plan: &Plan, cell: &CellRef, given: &Data) -> bool
     ensures { result ≡ (theory.is_fed plan.now cell.now && theory.meets_some (rule_of plan.now cell.now) (tree given.now)) }
 {
     let instance = plan.instance(&cell.name);

@@ -1,6 +1,7 @@
 //! The cells of objects by their names: the attributes that can change (IEC 62056-6-2, interface classes).
-ghost use Rattle.std.specs.Prelude.{◌≡◌, length};
+ghost use Rattle.std.specs.Prelude.{◌≡◌, ◌∷◌, [], length};
 ghost use Rattle.meter_theory.specs.Plan as theory;
+ghost use Rattle.meter_theory.specs.Steps as steps;
 
 use class_control::clock::Clock;
 use class_control::monitor::Monitor;
@@ -10,6 +11,84 @@ use cosem_class::data1::Data1;
 use cosem_class::register::Register;
 use cosem_data::cell::CellRef;
 use cosem_data::name::LogicalName;
+use std::marker::Model;
+
+/// The cells that a write or a method changes: up to three, in their order. It takes no memory, and contracts see the list.
+#[derive(Drop)]
+pub struct Changed {
+    cells: [CellRef; 3],
+    count: usize,
+}
+
+impl Model for Changed {
+    ghost use Rattle.std.specs.Prelude.{◌≤◌, List, take};
+    ghost use Rattle.cosem_data.specs.declared.cell.CellRef.{CellRef};
+
+    ghost Value = { List CellRef };
+
+    ghost view = { λ c. take c.count c.cells };
+
+    ghost invariant = { λ c. c.count ≤ 3 };
+}
+
+impl Changed {
+    /// One cell alone.
+    fn one(cell: CellRef) -> Changed
+        ensures { result ≡ cell ∷ [] }
+    {
+        Changed {
+            cells: [cell; 3],
+            count: 1,
+        }
+    }
+
+    /// The entries of a profile, its buffer and how many of them are in use.
+    pub fn entries(profile: LogicalName) -> Changed
+        ensures { result ≡ theory.buffer profile ∷ theory.entries_in_use profile ∷ [] }
+    {
+        let [buffer, in_use] = entries_of(profile);
+        Changed {
+            cells: [buffer, in_use, in_use],
+            count: 2,
+        }
+    }
+
+    /// The cells, in their order.
+    pub fn as_slice(&self) -> &[CellRef]
+        ensures { result.now ≡ self.now }
+    {
+        &self.cells[..self.count]
+    }
+}
+
+/// The cells that a write of this cell changes: itself, and the entries of a profile that it empties (IEC 62056-6-2, Profile
+/// generic).
+pub fn changed_by_write(cell: CellRef) -> Changed
+    ensures { result ≡ steps.changed_by_write cell }
+{
+    if !empties(&cell) {
+        return Changed::one(cell);
+    }
+    let [buffer, in_use] = entries_of(cell.name);
+    Changed {
+        cells: [cell, buffer, in_use],
+        count: 3,
+    }
+}
+
+/// Whether a write of this cell empties its profile: it is capture_objects (IEC 62056-6-2, Profile generic).
+pub fn empties(cell: &CellRef) -> bool
+    ensures { result ≡ steps.empties cell.now }
+{
+    cell.class_id == Profile::INTERFACE.class_id && cell.index == Profile::CAPTURE_OBJECTS
+}
+
+/// The cells that a profile's reset and its capture change: attribute 2, buffer, and attribute 7, entries_in_use.
+pub fn entries_of(profile: LogicalName) -> [CellRef; 2]
+    ensures { result ≡ theory.buffer profile ∷ theory.entries_in_use profile ∷ [] }
+{
+    [buffer(profile), entries_in_use(profile)]
+}
 
 /// Attribute 2 of a data object, value.
 pub fn data_value(object: LogicalName) -> CellRef
@@ -109,7 +188,7 @@ pub fn execution_time(schedule: LogicalName) -> CellRef
 }
 
 /// What the type keeps, for callers: the name of a cell has six bytes, so that it isn't the inner clock.
-pub(crate) fn is_named(cell: &CellRef)
+pub fn is_named(cell: &CellRef)
     ensures { length cell.now.name.0 ≡ 6 }
 {
     let name: &[u8] = &cell.name.0;

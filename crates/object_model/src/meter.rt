@@ -26,7 +26,7 @@ ghost use Rattle.object_model.specs.Present.{IsPlaced};
 ghost use Rattle.object_model.specs.Tables.{AreNumbers};
 ghost use Rattle.object_model.specs.Undone.{cell_changed, change_undone, profile_undone, undone};
 
-use crate::cells::{buffer, capture_objects, clock_time, executed_script, is_named, seen};
+use crate::cells::{buffer, capture_objects, clock_time, empties, executed_script, is_named, seen};
 use crate::effect::Effect;
 use crate::held::Held;
 use crate::instance::Instance;
@@ -40,7 +40,7 @@ use crate::stored::Stored;
 use crate::undo::{Change, Undo};
 use civil_moment::moment::Moment;
 use class_control::parts::SchedulePart;
-use class_profile::profile::{Cleared, Profile, ProfileChange, ProfilePart};
+use class_profile::profile::{Cleared, ProfileChange, ProfilePart};
 use class_profile::rows::Rows;
 use cosem_class::class::Row;
 use cosem_data::cell::CellRef;
@@ -183,7 +183,7 @@ impl Meter {
         ensures put { self.new ≡ theory.write self.old cell.now (tree given) }
         ensures before { undone result self.new ≡ self.old }
     {
-        if cell.class_id == Profile::INTERFACE.class_id && cell.index == Profile::CAPTURE_OBJECTS {
+        if empties(cell) {
             return self.choose(plan, cell.name, given);
         }
         let change = self.put_value(plan, cell, given);

@@ -1,17 +1,18 @@
-use Rattle.std.proofs.Common.{◌∙◌}
+use Rattle.std.proofs.Common.{subst}
 use Rattle.std.proofs.lemmas.Result.{on_ok_weaker}
+use Rattle.meter_theory.specs.Steps.{method_effects}
 use Rattle.object_model.specs.ArgumentView.{argument_of}
-use Rattle.meter_effects.proofs.Added.{adds-is, found_again, found_there, no_table, other_method}
+use Rattle.meter_effects.specs.Adds.{Adds}
+use Rattle.meter_effects.specs.declared.scripts.Copies.{Copies}
+use Rattle.meter_effects.proofs.Copied.{copies_added, method_may}
 use Rattle.meter_effects.proofs.scripts.push_method.Goals as goal
 
-pub push_plain_method-requires : goal.push_plain_method-requires
-push_plain_method-requires c = found_again c.args.plan.now c.args.method.now.name c.in-Some.object.now (found_there c.args.plan.now c.args.method.now.name c.instance-instance.result c.in-Some.object.now c.instance-instance.ensures c.in-Some.ensures)
-
-pub returns-in_default-part : goal.returns-in_default-part
-returns-in_default-part c =
-    let same = other_method c.args.plan.now c.args.method.now (argument_of c.args.argument.now) c.in-Some.object.now (found_there c.args.plan.now c.args.method.now.name c.instance-instance.result c.in-Some.object.now c.instance-instance.ensures c.in-Some.ensures)
-    (no_table c.part.result.now c.in_default-part.not-ScriptTable c.in-Some.object.now c.part.ensures) in
-    record {
-      ok = on_ok_weaker c.push_plain_method.result (adds-is c.args.plan.now _ _ c.args.effects.now.items c.push_plain_method.new.effects.items same) c.push_plain_method.ensures.ok;
-      none = λ none. c.push_plain_method.ensures.none (same ∙ none);
-    }
+pub returns-clause-ok : goal.returns-clause-ok
+returns-clause-ok c =
+    let P = c.args.plan.now in
+    let es = method_effects P c.args.method.now (argument_of c.args.argument.now) in
+    let copies = c.each_of_method-walked.new.visitor in
+    on_ok_weaker c.each_of_method-walked.result
+    (λ walked. subst (λ list. Adds P es list.items copies.effects.items) c.behind-copies.ensures
+    (copies_added {C = Copies} (λ z. z.effects.items) P es c.behind-copies.result copies (method_may P c.args.method.now (argument_of c.args.argument.now) c.known.ensures.sound) walked))
+    c.each_of_method-walked.ensures.ok

@@ -1,6 +1,6 @@
 use Rattle.std.proofs.Common.{◌≡◌, ◌==◌, ◌≤◌, ◌*◌, length, map, flat_map, find, take, None}
 use Rattle.class_control.specs.ActionView.{action_of}
-use Rattle.meter_effects.proofs.scripts.script_in.Given as goal
+use Rattle.meter_effects.proofs.walk.script_in.Given as goal
 use Rattle.meter_theory.specs.declared.limits.TheConstants.{ACTIONS}
 
 abbrev pub invariant-loop-script : goal.invariant-loop-script

@@ -6,7 +6,7 @@ use Rattle.object_model.specs.PartView.{part_of}
 use Rattle.meter_effects.specs.Targets.{AreFew}
 use Rattle.meter_effects.proofs.Added.{script_found}
 use Rattle.meter_effects.proofs.Targets.{are_few, targets-if_some}
-use Rattle.meter_effects.proofs.scripts.script_at.Goals as goal
+use Rattle.meter_effects.proofs.walk.script_at.Goals as goal
 
 pub script_in-requires : goal.script_in-requires
 script_in-requires c =

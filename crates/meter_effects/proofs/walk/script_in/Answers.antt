@@ -4,7 +4,7 @@ use Rattle.std.proofs.lemmas.Bool.{eq-eqb, ne_eqb}
 use Rattle.std.proofs.lemmas.List.{length-map}
 use Rattle.class_control.specs.ActionView.{action_of}
 use Rattle.meter_effects.proofs.Targets.{starts-at, grown, finds, finds-none}
-use Rattle.meter_effects.proofs.scripts.script_in.Goals as goal
+use Rattle.meter_effects.proofs.walk.script_in.Goals as goal
 
 pub returns-then-script-id-clause-found : goal.returns-then-script-id-clause-found
 returns-then-script-id-clause-found c =
