@@ -1,8 +1,9 @@
 pub mod Steps
 pub mod CauseBits
-pub mod Marks
+pub mod EdgeMarks
 pub mod Gathered
 pub mod Adding
 pub mod Targets
 pub mod Objects
 pub mod Sources
+pub mod Walked

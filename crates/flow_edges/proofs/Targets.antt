@@ -10,7 +10,7 @@ use Rattle.cosem_data.proofs.Same.{same_cell-true, same_cell-refl}
 use Rattle.meter_theory.specs.Edges.{among}
 use Rattle.meter_theory.specs.Lists.{IsIn}
 use Rattle.flow_edges.specs.Table.{cell_at, no_cell, AreCells}
-use Rattle.flow_edges.proofs.Marks.{or-true, or-false}
+use Rattle.flow_edges.proofs.EdgeMarks.{or-true, or-false}
 
 -- none is among no others
 pub none_among : (cs : List CellRef) (n : ℕ) → n ≡ length cs → replicate n false ≡ map (among []) cs

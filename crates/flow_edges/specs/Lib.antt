@@ -2,3 +2,4 @@ pub mod Causes
 pub mod Table
 pub mod Gather
 pub mod Sources
+pub mod Marking

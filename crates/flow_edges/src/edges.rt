@@ -1,5 +1,5 @@
 //! The edges of a plan.
-ghost use Rattle.std.specs.Prelude.{◌≡◌, ◌<◌, ◌∷◌, ◌++◌, [], ℕ, Bool, List, IfOk, OnOk, length, map, filter, flat_map};
+ghost use Rattle.std.specs.Prelude.{◌≡◌, ◌<◌, ℕ, Bool, IfOk, OnOk, length, map, filter, flat_map};
 ghost use Rattle.class_control.specs.PartView.{monitor_part_of, schedule_part_of, scripts_of_part};
 ghost use Rattle.class_profile.specs.PartView.{captures_of_part, profile_part_of};
 ghost use Rattle.cosem_data.specs.declared.cell.CellRef.{CellRef as CellValue};
@@ -10,7 +10,7 @@ ghost use Rattle.flow_edges.specs.Gather.{IsGathered, both_at, captures_into};
 ghost use Rattle.flow_edges.specs.Sources.{AreOfPlan, HasPart};
 ghost use Rattle.flow_edges.specs.Table.{cell_at};
 
-use crate::changes::{push_monitor_changes, push_schedule_changes};
+use crate::marks::{changed_by_monitor, changed_by_schedule};
 use crate::table::EdgeTable;
 use class_control::parts::{MonitorPart, SchedulePart};
 use class_profile::profile::ProfilePart;
@@ -240,9 +240,7 @@ fn add_schedule(
 {
     plan.known();
     let times = number_of(plan, &execution_time(name));
-    let mut changed = Vec::new(alloc);
-    push_schedule_changes(plan, part, &mut changed)?;
-    let targets = marks_of(alloc, plan, table.cells().len(), &changed)?;
+    let targets = changed_by_schedule(alloc, plan, table.cells().len(), part)?;
     add_all(Cause::Schedule, &[times], &targets, table)?;
     add_menu_to_each(plan, name, part, &targets, table)?;
     add_clock_to_each(plan, &targets, table)
@@ -266,9 +264,7 @@ fn add_monitor(
     let limits = number_of(plan, &thresholds(name));
     let last = number_of(plan, &seen(name));
     table.add(Cause::Monitored, monitored, last)?;
-    let mut changed = Vec::new(alloc);
-    push_monitor_changes(plan, &part.actions, &mut changed)?;
-    let targets = marks_of(alloc, plan, table.cells().len(), &changed)?;
+    let targets = changed_by_monitor(alloc, plan, table.cells().len(), &part.actions)?;
     add_all(Cause::Monitor, &[monitored, limits, last], &targets, table)
 }
 
@@ -282,36 +278,6 @@ fn number_of(plan: &Plan, cell: &CellRef) -> usize
         Some(number) => usize::from(number),
         None => unreachable!(),
     }
-}
-
-/// For each cell of the plan whether it is one of these.
-fn marks_of(
-    alloc: Global,
-    plan: &Plan,
-    cells: usize,
-    changed: &[CellRef],
-) -> Result<Vec<bool>, Memory>
-    requires { cells ≡ length (plans.cells plan.now) }
-    ensures { IfOk result (λ marks. marks.items ≡ map (theory.among changed.now) (plans.cells plan.now)) }
-{
-    let mut marks = vec![in alloc; false; cells]?;
-    for cell in changed {
-        mark(plan, cell, &mut marks);
-    }
-    Ok(marks)
-}
-
-/// Marks one more cell, if it is one of the plan.
-fn mark(plan: &Plan, cell: &CellRef, marks: &mut Vec<bool>)
-    requires { length marks.old.items ≡ length (plans.cells plan.now) }
-    ensures { (before : List CellValue) → marks.old.items ≡ map (theory.among before) (plans.cells plan.now) →
-        marks.new.items ≡ map (theory.among (before ++ cell.now ∷ [])) (plans.cells plan.now) }
-{
-    plan.known();
-    let Some(number) = plan.cell_number(cell) else {
-        return;
-    };
-    marks[usize::from(number)] = true;
 }
 
 /// Adds the edges from each source to each target.

@@ -2,8 +2,8 @@
 #![tactic(auto)]
 
 mod causes;
-pub mod changes;
 pub mod edges;
+mod marks;
 pub mod table;
 
 pub use meter_theory::flow::Edge;

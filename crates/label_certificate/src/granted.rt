@@ -1,18 +1,18 @@
 //! What the rights of a plan ask of the labels of its cells.
-ghost use Rattle.std.specs.Prelude.{◌≡◌, ℕ, ◌∷◌, [], length, IfOk, OnOk};
+ghost use Rattle.std.specs.Prelude.{◌≡◌, ℕ, ◌∷◌, [], length, IfOk};
 ghost use Rattle.cosem_data.specs.Cells.{cell};
 ghost use Rattle.meter_theory.specs.Plan as theory;
-ghost use Rattle.meter_theory.specs.Labels.{has, method_changes_of};
+ghost use Rattle.meter_theory.specs.Labels.{has};
 ghost use Rattle.meter_theory.specs.Rights.{may_act, may_get, may_set};
-ghost use Rattle.label_certificate.specs.Granted.{AreGranted, AreJoined, AreOwn, by_clients, may_call_for, may_empty, methods_of};
+ghost use Rattle.label_certificate.specs.Granted.{AreGranted, AreJoined, AreOwn, may_call_for, may_empty, methods_of};
 
+use crate::joining::{join, join_method};
 use cosem_data::cell::{CellRef, MethodRef};
 use cosem_data::clients::ClientSet;
 use cosem_data::memory::Memory;
-use flow_edges::changes::{empties, push_method_changes};
 use meter_theory::flow::Label;
 use meter_theory::limits::CLIENTS;
-use object_model::cells::{buffer, entries_in_use};
+use object_model::cells::{empties, entries_of};
 use object_model::instance::Instance;
 use object_model::object::Object;
 use object_model::plan::Plan;
@@ -39,7 +39,7 @@ pub(crate) fn granted_to_cells(
     let mut labels = own_labels(alloc, plan, cells)?;
     join_writes(plan, cells, &mut labels);
     for object in plan.objects() {
-        join_methods(alloc, plan, object, &mut labels)?;
+        join_methods(plan, object, &mut labels);
     }
     Ok(labels)
 }
@@ -115,23 +115,13 @@ fn join_write(plan: &Plan, cell: &CellRef, labels: &mut [Label])
         return;
     }
     let clients = setters(&plan.instance(&cell.name), cell.index);
-    join(
-        plan,
-        &[buffer(cell.name), entries_in_use(cell.name)],
-        clients,
-        labels,
-    );
+    join(plan, &entries_of(cell.name), clients, labels);
 }
 
 /// Lets the clients that may call a method of the object influence the cells that it changes.
-fn join_methods(
-    alloc: Global,
-    plan: &Plan,
-    object: &Object,
-    labels: &mut [Label],
-) -> Result<(), Memory>
+fn join_methods(plan: &Plan, object: &Object, labels: &mut [Label])
     requires { length labels.old ≡ length (theory.cells plan.now) }
-    ensures { OnOk result (AreJoined plan.now (may_call_for plan.now (methods_of object.now)) labels.old labels.new) }
+    ensures { AreJoined plan.now (may_call_for plan.now (methods_of object.now)) labels.old labels.new }
 {
     let instance = plan.instance(&object.name());
     let interface = object.part().interface();
@@ -142,9 +132,8 @@ fn join_methods(
             index: place + 1,
         };
         let clients = callers(&instance, method.index);
-        join_method(alloc, plan, &method, clients, labels)?;
+        join_method(plan, &method, clients, labels);
     }
-    Ok(())
 }
 
 /// The clients that may call the method with this index.
@@ -159,38 +148,4 @@ fn callers(instance: &Instance<'_>, index: u8) -> ClientSet
         }
     }
     clients
-}
-
-/// Lets these clients influence the cells that a method changes. Where there are none, the method isn't looked at.
-fn join_method(
-    alloc: Global,
-    plan: &Plan,
-    method: &MethodRef,
-    clients: ClientSet,
-    labels: &mut [Label],
-) -> Result<(), Memory>
-    requires { length labels.old ≡ length (theory.cells plan.now) }
-    ensures { OnOk result (AreJoined plan.now (by_clients clients (method_changes_of plan.now method.now)) labels.old labels.new) }
-{
-    if clients.within(ClientSet::new()) {
-        return Ok(());
-    }
-    let mut changed = Vec::new(alloc);
-    push_method_changes(plan, method, &mut changed)?;
-    join(plan, &changed, clients, labels);
-    Ok(())
-}
-
-/// Lets these clients influence these cells.
-fn join(plan: &Plan, changed: &[CellRef], clients: ClientSet, labels: &mut [Label])
-    requires { length labels.old ≡ length (theory.cells plan.now) }
-    ensures { AreJoined plan.now (by_clients clients changed.now) labels.old labels.new }
-{
-    plan.known();
-    for cell in changed {
-        if let Some(number) = plan.cell_number(cell) {
-            let label = &mut labels[usize::from(number)];
-            label.influence = label.influence.union(clients);
-        }
-    }
 }

@@ -9,6 +9,7 @@ mod chains;
 pub mod closing;
 pub mod fault;
 pub mod granted;
+mod joining;
 pub mod labels;
 pub mod laws;
 pub mod least;

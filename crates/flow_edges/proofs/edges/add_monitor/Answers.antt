@@ -1,4 +1,4 @@
-use Rattle.std.proofs.Common.{◌≡◌, ◌∙◌, ◌++◌, ap, ap₂, sym, subst, refl, inl, inr, map}
+use Rattle.std.proofs.Common.{◌≡◌, ◌∙◌, ap, ap₂, sym, subst, refl, inl, inr, map}
 use Rattle.std.proofs.lemmas.Result.{on_ok_weaker}
 use Rattle.cosem_data.specs.View.{tree}
 use Rattle.meter_theory.specs.Edges.{among, monitor_changes}
@@ -33,8 +33,5 @@ returns c =
     (ap (λ cs. cell_at cs c.number_of-last.result) c.requires.cells ∙ c.number_of-last.ensures.there ∙ c.seen.ensures)
     c.in_ok-add.ensures.ok)
     (c.add_all.ensures (among changes)
-    (c.deref-3.ensures.value ∙ c.in_ok-targets.ensures
-    ∙ ap₂ (λ xs cs. map (among xs) cs)
-    (c.deref-2.ensures.value ∙ c.in_ok-push_monitor_changes.ensures
-    ∙ ap₂ (λ xs actions. xs ++ monitor_changes c.args.plan.now actions) c.new-changed.ensures.items c.deref.ensures.value)
-    (sym c.requires.cells ∙ sym same)))
+    (c.deref-2.ensures.value ∙ c.in_ok-targets.ensures
+    ∙ ap₂ (λ xs cs. map (among (monitor_changes c.args.plan.now xs)) cs) c.deref.ensures.value (sym c.requires.cells ∙ sym same)))

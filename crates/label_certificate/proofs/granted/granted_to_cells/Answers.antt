@@ -3,7 +3,7 @@ use Rattle.std.specs.Prelude.{flat_map}
 use Rattle.std.proofs.lemmas.List.{take_all}
 use Rattle.label_certificate.specs.Granted.{AreJoined, may_call_for, may_empty, methods_of}
 use Rattle.label_certificate.proofs.Closed.{written-back}
-use Rattle.label_certificate.proofs.Joining.{all-granted}
+use Rattle.label_certificate.proofs.Joins.{all-granted}
 use Rattle.label_certificate.proofs.granted.granted_to_cells.Goals as goal
 
 pub returns : goal.returns

@@ -4,7 +4,7 @@ use Rattle.meter_theory.specs.Labels.{has}
 use Rattle.meter_theory.specs.Plan.{interface_of}
 use Rattle.meter_theory.specs.Rights.{may_act}
 use Rattle.label_certificate.specs.Granted.{AreJoined, may_call_for}
-use Rattle.label_certificate.proofs.Joining.{joined-method, method_at}
+use Rattle.label_certificate.proofs.Joins.{joined-method, method_at}
 use Rattle.label_certificate.proofs.granted.join_methods.Goals as goal
 
 pub loop-place-preserved : goal.loop-place-preserved
@@ -17,7 +17,7 @@ loop-place-preserved c =
     joined-method P (interface_of c.args.object.now.part).class_id place c.args.object.now.name (method_at c.interface-interface.result.class_id c.name-in-loop-place.result (place + 1)) clients
     c.args.labels.now c.loop-place.labels _ c.name-in-loop-place.ensures refl
     (λ d. subst (λ n. has clients d ≡ may_act P d (method_at 0 n (place + 1))) (c.name.ensures ∙ sym c.name-in-loop-place.ensures) (asked d))
-    c.loop-place.invariant c.in_ok-join_method.ensures
+    c.loop-place.invariant c.join_method.ensures
 
 pub returns : goal.returns
 returns c =

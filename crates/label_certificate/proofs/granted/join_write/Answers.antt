@@ -1,10 +1,10 @@
-use Rattle.std.proofs.Common.{◌≡◌, ◌∙◌, ◌∷◌, [], sym, ap₂, subst}
+use Rattle.std.proofs.Common.{◌≡◌, ◌∙◌, ◌∷◌, [], sym, subst}
 use Rattle.cosem_data.specs.Cells.{cell}
 use Rattle.meter_theory.specs.Labels.{has}
 use Rattle.meter_theory.specs.Plan.{buffer, entries_in_use}
 use Rattle.meter_theory.specs.Rights.{may_set}
 use Rattle.label_certificate.specs.Granted.{AreJoined, by_clients, may_empty}
-use Rattle.label_certificate.proofs.Joining.{empties-both, empties-nothing, joined-nothing, joined-same}
+use Rattle.label_certificate.proofs.Joins.{empties-both, empties-nothing, joined-nothing, joined-same}
 use Rattle.label_certificate.proofs.granted.join_write.Goals as goal
 
 pub returns-then-not-empties : goal.returns-then-not-empties
@@ -20,4 +20,4 @@ returns c =
     (empties-both P y c.setters-clients.result (sym c.empties.ensures ∙ c.if-not-empties.false)
     (λ d. subst (λ i. has c.setters-clients.result d ≡ may_set i.plan d (cell 0 i.name y.index)) c.instance.ensures (c.setters-clients.ensures 0 d)))
     (subst (λ ys. AreJoined P (by_clients c.setters-clients.result ys) c.args.labels.now c.join.new.labels)
-    (ap₂ (λ a b. a ∷ b ∷ []) c.buffer.ensures c.entries_in_use.ensures) c.join.ensures)
+    c.entries_of.ensures c.join.ensures)

@@ -1,7 +1,7 @@
 use Rattle.std.proofs.Common.{get_or}
 use Rattle.std.proofs.lemmas.List.{get_or_default}
 use Rattle.flow_edges.specs.Table.{no_cell}
-use Rattle.label_certificate.proofs.Joining.{emptied-more}
+use Rattle.label_certificate.proofs.Joins.{emptied-more}
 use Rattle.label_certificate.proofs.granted.join_writes.Goals as goal
 
 pub loop-cell-preserved : goal.loop-cell-preserved

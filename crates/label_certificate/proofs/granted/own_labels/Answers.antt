@@ -1,6 +1,6 @@
 use Rattle.std.proofs.Common.{◌+◌, sym, ap, subst, get_or, rules}
 use Rattle.flow_edges.specs.Table.{no_cell}
-use Rattle.label_certificate.proofs.Joining.{IsOwnTo, owned-more}
+use Rattle.label_certificate.proofs.Joins.{IsOwnTo, owned-more}
 use Rattle.label_certificate.proofs.granted.own_labels.Goals as goal
 
 pub loop-cell-preserved : goal.loop-cell-preserved

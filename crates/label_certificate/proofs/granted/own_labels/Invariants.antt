@@ -1,5 +1,5 @@
 use Rattle.std.proofs.Common.{◌≡◌, length}
-use Rattle.label_certificate.proofs.Joining.{IsOwnTo}
+use Rattle.label_certificate.proofs.Joins.{IsOwnTo}
 use Rattle.label_certificate.proofs.granted.own_labels.Given as goal
 
 abbrev pub invariant-loop-cell : goal.invariant-loop-cell

@@ -1,7 +1,7 @@
 use Rattle.std.proofs.Common.{subst}
 use Rattle.meter_theory.specs.Sound.{IsSound}
 use Rattle.meter_theory.specs.Rights.{lists}
-use Rattle.label_certificate.proofs.Joining.{asked-all}
+use Rattle.label_certificate.proofs.Joins.{asked-all}
 use Rattle.label_certificate.proofs.granted.setters.Goals as goal
 
 pub returns : goal.returns

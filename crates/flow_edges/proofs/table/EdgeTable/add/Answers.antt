@@ -4,7 +4,7 @@ use Rattle.meter_theory.specs.Edges.{same_cause}
 use Rattle.flow_edges.specs.declared.table.Link.{Link}
 use Rattle.flow_edges.specs.Causes.{has_cause}
 use Rattle.flow_edges.specs.Table.{place_of, CellEdges, IsLink, IsMarked}
-use Rattle.flow_edges.proofs.Marks.{marked-more, found_before, found_now, mark_at, mark_is, read_mark}
+use Rattle.flow_edges.proofs.EdgeMarks.{marked-more, found_before, found_now, mark_at, mark_is, read_mark}
 use Rattle.flow_edges.proofs.table.EdgeTable.add.Goals as goal
 use Rattle.flow_edges.proofs.table.EdgeTable.add.Goals.{After-has}
 

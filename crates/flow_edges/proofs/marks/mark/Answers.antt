@@ -2,14 +2,14 @@ use Rattle.std.proofs.Common.{◌≡◌, ◌∙◌, ℕ, Option, Some, None, ap,
 use Rattle.meter_theory.specs.Plan.{cells}
 use Rattle.flow_edges.proofs.Sources.{are-cells, numbered, unnumbered}
 use Rattle.flow_edges.proofs.Targets.{marked, unmarked}
-use Rattle.flow_edges.proofs.edges.mark.Goals as goal
+use Rattle.flow_edges.proofs.marks.mark.Goals as goal
 
 absent : (r : Option ℕ) → ((n : ℕ) → r ≡ Some n → ⊥) → r ≡ None
 absent None none = refl
 absent (Some n) none = absurd (none n refl)
 
-pub returns-in_default : goal.returns-in_default
-returns-in_default c = λ before is.
+pub returns-in_default-clause-marked : goal.returns-in_default-clause-marked
+returns-in_default-clause-marked c = λ before is.
     is ∙ unmarked (cells c.args.plan.now) before c.args.cell.now
     (unnumbered (cells c.args.plan.now) c.args.cell.now (sym c.cell_number.ensures ∙ absent c.cell_number.result c.in_default.not-Some))
 
@@ -19,8 +19,8 @@ index_mut-requires c =
     let long : vec_len c.args.marks.now ≡ length c.args.marks.now.items = search rules in
     omega (arith, at.0, c.from.ensures, long, c.requires)
 
-pub returns : goal.returns
-returns c = λ before is.
+pub returns-clause-marked : goal.returns-clause-marked
+returns-clause-marked c = λ before is.
     let at = numbered (cells c.args.plan.now) c.args.cell.now c.in-Some.number (sym c.in-Some.ensures) in
     ap (λ n. slice_set c.args.marks.now.items n true) c.from.ensures
     ∙ marked (cells c.args.plan.now) before c.in-Some.number c.args.cell.now c.args.marks.now.items (are-cells c.args.plan.now c.known.ensures.sound) at.0 at.1 is

@@ -5,9 +5,9 @@ use Rattle.meter_theory.specs.Labels.{has}
 use Rattle.meter_theory.specs.Plan.{cells}
 use Rattle.flow_edges.proofs.Sources.{are-cells, numbered}
 use Rattle.label_certificate.specs.Granted.{AreJoined, by_clients, label_in}
-use Rattle.label_certificate.proofs.Joining.{joined-at, joined-more, joined-nowhere, none-else}
-use Rattle.label_certificate.proofs.granted.join.Goals as goal
-use Rattle.label_certificate.proofs.granted.join.Goals.{in-Some, in_default}
+use Rattle.label_certificate.proofs.Joins.{joined-at, joined-more, joined-nowhere, none-else}
+use Rattle.label_certificate.proofs.joining.join.Goals as goal
+use Rattle.label_certificate.proofs.joining.join.Goals.{in-Some, in_default}
 
 pub bounds-labels-from : goal.bounds-labels-from
 bounds-labels-from c =

@@ -1,0 +1,14 @@
+use Rattle.std.proofs.Common.{refl, rules, subst}
+use Rattle.meter_theory.specs.Labels.{calls_effects}
+use Rattle.meter_theory.specs.Steps.{changed}
+use Rattle.label_certificate.specs.Granted.{AreJoined, by_clients}
+use Rattle.label_certificate.proofs.Walked.{walk-joins}
+use Rattle.label_certificate.proofs.joining.join_method.Goals as goal
+
+pub returns : goal.returns
+returns c =
+    let P = c.args.plan.now in
+    let effects = calls_effects P c.args.method.now in
+    let joined = walk-joins P c.args.clients effects _ c.each_of_calls.new.visitor refl refl c.in-Ok.ensures in
+    let same = joined.same_reference in
+    subst (AreJoined P (by_clients c.args.clients (changed effects)) c.args.labels.now) (search rules) joined.labels
