@@ -1,5 +1,5 @@
 -- What the permits say of a reply and of the state after it.
-use Rattle.std.specs.Prelude.{◌≡◌, Bool, true, false, not, cond, ℕ, ℤ, List, [], length, ◌==◌, Option, Some, None, Ok, Err}
+use Rattle.std.specs.Prelude.{◌≡◌, Bool, true, false, not, cond, ℕ, List, [], length, ◌==◌, Option, Some, None, Ok, Err}
 use Rattle.std.proofs.lemmas.Bool.{eqb-true, false≢true, and_parts}
 use Rattle.std.specs.Prelude.{is_some, unsigned_abs}
 use Rattle.std.specs.Option.{option_map}

@@ -1,3 +1,4 @@
 pub mod Crossing
 pub mod Answered
+pub mod Permitted
 pub mod Runs

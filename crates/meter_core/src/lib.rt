@@ -2,6 +2,7 @@
 #![tactic(auto)]
 
 pub mod apply;
+pub mod changing;
 pub mod moments;
 pub mod reply;
 pub mod run;

@@ -63,6 +63,25 @@ pub enum Step {
 impl Step {
     ghost use Rattle.std.specs.Prelude.{◌≡◌, false, IfOk, IsOk};
     ghost use Rattle.meter_core.specs.Copies.{brings_value};
+    ghost use Rattle.meter_core.specs.StepView.{step_of};
+    ghost use Rattle.meter_theory.specs.Steps.{client_of};
+
+    /// The place of the client whose step it is; the meter's own have none.
+    pub fn client(&self) -> Option<u8>
+        ensures { result ≡ client_of (step_of self.now) }
+    {
+        match self {
+            Step::Get { client, .. } | Step::Set { client, .. } | Step::Act { client, .. } => {
+                Some(*client)
+            }
+            Step::Input { .. }
+            | Step::CaptureAt { .. }
+            | Step::Evaluate { .. }
+            | Step::ScheduleAt { .. }
+            | Step::Tick
+            | Step::ClockAt { .. } => None,
+        }
+    }
 
     /// A copy, which equals the original. The only error is that memory was refused; a step that brings no value takes none.
     pub fn try_clone(&self, alloc: Global) -> Result<Step, Memory>

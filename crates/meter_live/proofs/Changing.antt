@@ -1,7 +1,6 @@
 -- Steps that change nothing, and what a port answers.
 use Rattle.std.proofs.Common.{◌≡◌, ◌≤◌, Bool, true, false, refl, sym, arith}
-use Rattle.association_views.specs.Permits.{permitted}
-use Rattle.std.specs.Prelude.{cond, List, [], is_ok}
+use Rattle.std.specs.Prelude.{cond, List, []}
 use Rattle.cosem_data.specs.Tree.{Tree}
 use Rattle.cosem_data.specs.View.{tree}
 use Rattle.meter_core.specs.Copies.{has_value}
@@ -9,26 +8,14 @@ use Rattle.meter_core.specs.StepView.{reply_of}
 use Rattle.meter_core.specs.declared.reply.Reply.{Reply as CodeReply}
 use Rattle.meter_core.specs.declared.reply.Reply.TheVariants as kinds
 use Rattle.meter_theory.specs.Access.{is_success}
-use Rattle.meter_theory.specs.declared.access.AccessCode.{AccessCode}
-use Rattle.meter_theory.specs.declared.access.AccessCode.TheVariants as codes
 use Rattle.meter_theory.specs.Plan.{Plan}
 use Rattle.meter_theory.specs.Replies.{Reply, Value, reply_to}
 use Rattle.meter_theory.specs.Rights.{set_answer, act_answer, method_of, cell_of}
 use Rattle.meter_theory.specs.State.{State}
 use Rattle.meter_theory.specs.States.{IsState}
 use Rattle.meter_theory.specs.Steps.{Effect, Step, Get, Set, Act, Input, CaptureAt, Evaluate, ScheduleAt, Tick, ClockAt, next, effects, given_value, method_effects}
-use Rattle.meter_live.specs.Changes.{is_changing, changes_of, Answers}
-
--- a request is permitted where its code is success
-pub permits : (code : AccessCode) → is_ok (permitted code) ≡ is_success code
-permits codes.Success = refl
-permits codes.TemporaryFailure = refl
-permits codes.ReadWriteDenied = refl
-permits codes.ObjectUndefined = refl
-permits codes.ObjectClassInconsistent = refl
-permits codes.TypeUnmatched = refl
-permits codes.ScopeOfAccessViolated = refl
-permits codes.OtherReason = refl
+use Rattle.meter_core.specs.Changing.{is_changing}
+use Rattle.meter_live.specs.Changes.{changes_of, Answers}
 
 -- effects that aren't taken
 not_taken : (P : Plan) (s : State) (granted : Bool) (es : List Effect) → granted ≡ false → effects P s (cond granted es []) ≡ s

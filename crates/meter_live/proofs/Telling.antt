@@ -8,7 +8,8 @@ use Rattle.meter_theory.specs.Replies.{run}
 use Rattle.meter_theory.specs.Steps.{Step, next}
 use Rattle.meter_live.proofs.Changing.{unchanged}
 use Rattle.meter_live.proofs.Trails.{run-push}
-use Rattle.meter_live.specs.Changes.{is_changing, changes_of}
+use Rattle.meter_core.specs.Changing.{is_changing}
+use Rattle.meter_live.specs.Changes.{changes_of}
 use Rattle.meter_live.specs.Told.{Told, IsPublished, IsTold, acted}
 use Rattle.meter_live.specs.Trail.{Traced, after}
 

@@ -5,7 +5,7 @@ use Rattle.logbook.specs.Pages.{Book}
 use Rattle.meter_theory.specs.Plan.{Plan, start}
 use Rattle.meter_theory.specs.Replies.{run}
 use Rattle.meter_theory.specs.Steps.{Step}
-use Rattle.meter_live.specs.Changes.{is_changing}
+use Rattle.meter_core.specs.Changing.{is_changing}
 use Rattle.meter_live.specs.Trail.{Traced, after}
 
 -- the meter, the history that its readers read, the published steps, and the pending ones behind them

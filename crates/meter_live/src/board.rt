@@ -7,7 +7,8 @@ ghost use Rattle.meter_core.specs.StepView.{reply_of, step_of};
 ghost use Rattle.meter_theory.specs.PlanCode.{plan_code};
 ghost use Rattle.meter_theory.specs.States.{IsState};
 ghost use Rattle.meter_theory.specs.Steps as steps;
-ghost use Rattle.meter_live.specs.Changes.{Answers, changes_of, is_changing};
+ghost use Rattle.meter_core.specs.Changing.{is_changing};
+ghost use Rattle.meter_live.specs.Changes.{Answers, changes_of};
 ghost use Rattle.meter_live.specs.Codes.{step_code};
 ghost use Rattle.meter_live.specs.Tally.{HasSeen, counted, nothing};
 

@@ -1,10 +1,10 @@
 //! Steps that are published.
 ghost use Rattle.std.specs.Prelude.{◌≡◌, IfOk};
 ghost use Rattle.meter_core.specs.StepView.{step_of};
-ghost use Rattle.meter_live.specs.Changes.{changes_of, is_changing};
+ghost use Rattle.meter_live.specs.Changes.{changes_of};
 
-use association_views::permits::{permit_action, permit_set};
 use cosem_data::memory::Memory;
+use meter_core::changing::is_change;
 use meter_core::step::Step;
 use object_model::plan::Plan;
 use std::alloc::Global;
@@ -43,33 +43,6 @@ impl Change {
         ensures { step_of result.now ≡ self.now }
     {
         &self.step
-    }
-}
-
-/// Whether a step may change a meter of the plan, which no state decides: a SET or an ACTION that is granted may, and each step of
-/// the meter itself (own profile).
-pub fn is_change(plan: &Plan, step: &Step) -> bool
-    ensures { result ≡ is_changing plan.now (step_of step.now) }
-{
-    match step {
-        Step::Get { .. } => false,
-        Step::Set {
-            client,
-            attribute,
-            selected,
-            value,
-        } => permit_set(plan, *client, attribute, *selected, value).is_ok(),
-        Step::Act {
-            client,
-            method,
-            argument,
-        } => permit_action(plan, *client, method, argument).is_ok(),
-        Step::Input { .. }
-        | Step::CaptureAt { .. }
-        | Step::Evaluate { .. }
-        | Step::ScheduleAt { .. }
-        | Step::Tick
-        | Step::ClockAt { .. } => true,
     }
 }
 

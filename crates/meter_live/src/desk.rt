@@ -8,7 +8,8 @@ ghost use Rattle.meter_theory.specs.PlanCode.{plan_code};
 ghost use Rattle.meter_theory.specs.Replies.{reply_to, run};
 ghost use Rattle.meter_theory.specs.States.{IsState};
 ghost use Rattle.meter_theory.specs.Steps as steps;
-ghost use Rattle.meter_live.specs.Changes.{Answers, changes_of, is_changing, is_get};
+ghost use Rattle.meter_core.specs.Changing.{is_changing};
+ghost use Rattle.meter_live.specs.Changes.{Answers, changes_of, is_get};
 ghost use Rattle.meter_live.specs.Tally.{HasSeen, counted, nothing};
 ghost use Rattle.meter_live.specs.Told.{acted, posted};
 

@@ -5,7 +5,7 @@
 //! - [`board::Board`] is a live meter under a lock, with a [`board::Port`] for each thread that uses it. What each port took is
 //!   counted by its share, and when the board is closed the shares add up to all that was taken.
 //!
-//! The definitions stand in `specs/`: which steps may change a meter (`Changes`), a meter with its trail (`Trail`), what was
+//! The definitions stand in `specs/`: how many changes a step is (`Changes`), a meter with its trail (`Trail`), what was
 //! published of it (`Told`), and the rule of the published copies (`Copies`).
 #![tactic(auto)]
 

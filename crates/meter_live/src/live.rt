@@ -5,7 +5,7 @@ ghost use Rattle.meter_core.specs.StepView.{reply_of, step_of};
 ghost use Rattle.meter_theory.specs.Replies.{reply_to};
 ghost use Rattle.meter_theory.specs.States.{IsState};
 
-use crate::change::{Change, is_change};
+use crate::change::Change;
 use crate::fault::LiveFault;
 use crate::history::{Front, History};
 use crate::outbox::Outbox;
@@ -13,6 +13,7 @@ use crate::reader::Reader;
 use crate::traced::TracedMeter;
 use cosem_data::memory::Memory;
 use flow_checker::check::Checked;
+use meter_core::changing::is_change;
 use meter_core::reply::Reply;
 use meter_core::step::Step;
 use object_model::meter::Meter;

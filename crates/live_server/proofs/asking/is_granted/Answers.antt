@@ -1,7 +1,7 @@
 use Rattle.std.proofs.Common.{ap, sym, ◌∙◌}
 use Rattle.std.specs.Prelude.{is_ok}
 use Rattle.meter_core.specs.StepView.{step_of}
-use Rattle.meter_live.proofs.Changing.{permits}
+use Rattle.meter_core.proofs.Permitted.{permits}
 use Rattle.live_server.proofs.asking.is_granted.Goals as goal
 use Rattle.live_server.specs.Asking.{is_granted}
 

@@ -1,10 +1,10 @@
-use Rattle.std.specs.Prelude.{◌≡◌, Bool, true, cond, is_some, Ok, Err}
-use Rattle.std.proofs.Common.{sym, ap, ◌∙◌}
+use Rattle.std.specs.Prelude.{◌≡◌, true, cond}
+use Rattle.std.proofs.Common.{ap, ◌∙◌}
 use Rattle.std.proofs.lemmas.Bool.{false≢true}
 use Rattle.std.proofs.lemmas.Result.{IfOk-weaker}
 use Rattle.cosem_data.specs.Cells.{cell}
 use Rattle.meter_theory.specs.Fixed.{fixed}
-use Rattle.meter_theory.specs.Plan.{Plan, is_cell}
+use Rattle.meter_theory.specs.Plan.{is_cell}
 use Rattle.meter_theory.specs.Replies.{selected}
 use Rattle.meter_theory.specs.Rights.{cell_of, get_answer}
 use Rattle.meter_theory.specs.State.{value}

@@ -3,7 +3,7 @@ use Rattle.std.specs.Prelude.{cond}
 use Rattle.meter_core.specs.StepView.{step_of}
 use Rattle.meter_live.proofs.Lasts.{ends_with}
 use Rattle.meter_live.proofs.desk.Desk.put.Goals as goal
-use Rattle.meter_live.specs.Changes.{is_changing}
+use Rattle.meter_core.specs.Changing.{is_changing}
 
 pub returns-in-Ok-clause-told : goal.returns-in-Ok-clause-told
 returns-in-Ok-clause-told g c =

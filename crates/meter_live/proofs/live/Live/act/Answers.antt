@@ -2,7 +2,7 @@ use Rattle.std.proofs.Common.{rules, ◌≡◌, true, ◌∷◌, ◌++◌, [], a
 use Rattle.meter_core.specs.StepView.{step_of}
 use Rattle.meter_live.proofs.Telling.{loud_is, told_made}
 use Rattle.meter_live.proofs.live.Live.act.Goals as goal
-use Rattle.meter_live.specs.Changes.{is_changing}
+use Rattle.meter_core.specs.Changing.{is_changing}
 use Rattle.meter_live.specs.Told.{Told}
 use Rattle.meter_theory.specs.Plan.{Plan}
 

@@ -1,9 +1,9 @@
 use Rattle.std.proofs.Common.{ap, sym, ◌∙◌}
 use Rattle.std.specs.Prelude.{is_ok}
 use Rattle.meter_core.specs.StepView.{step_of}
-use Rattle.meter_live.proofs.Changing.{permits}
-use Rattle.meter_live.proofs.change.is_change.Goals as goal
-use Rattle.meter_live.specs.Changes.{is_changing}
+use Rattle.meter_core.specs.Changing.{is_changing}
+use Rattle.meter_core.proofs.Permitted.{permits}
+use Rattle.meter_core.proofs.changing.is_change.Goals as goal
 
 pub returns-in-Set : goal.returns-in-Set
 returns-in-Set c = c.is_ok.ensures.value ∙ ap is_ok c.permit_set.ensures ∙ permits _ ∙ ap (λ s. is_changing c.args.plan.now (step_of s)) (sym c.in-Set.is)
