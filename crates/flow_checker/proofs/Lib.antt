@@ -3,3 +3,4 @@ pub mod Firsts
 pub mod Within
 pub mod Placed
 pub mod Answering
+pub mod Looked

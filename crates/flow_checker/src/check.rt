@@ -4,17 +4,16 @@ ghost use Rattle.meter_theory.specs.Check.{Refuses};
 ghost use Rattle.meter_theory.specs.Labels as theory;
 ghost use Rattle.meter_theory.specs.Labels.{Admits, labelling_of, labelling_of_policy};
 ghost use Rattle.meter_theory.specs.Safety.{Influence, Secrecy};
-ghost use Rattle.meter_theory.specs.Unequal.{UnequalSecrecy};
+ghost use Rattle.flow_checker.specs.Accepted.{AreAllowed};
 ghost use Rattle.flow_checker.specs.Answer.{IsRefusedAs, name_at};
 
+use crate::numbered::{policy_labels, source_of};
 use crate::refusal::first_refusal;
 use cosem_data::cell::CellRef;
 use cosem_data::memory::Memory;
 use label_certificate::labels::Labels;
-use meter_effects::promises::{
-    admitted_is_influence_safe, admitted_is_secret, admitted_is_secret_but_for_quiet_steps,
-};
-use meter_theory::flow::{Edge, Refusal};
+use meter_effects::promises::{admitted_is_influence_safe, admitted_is_secret};
+use meter_theory::flow::{Edge, Label, Refusal};
 use meter_theory::laws::tests_decide_admission;
 use object_model::plan::Plan;
 use object_model::policy::Policy;
@@ -54,10 +53,12 @@ pub struct Checked {
 struct Admitted {
     plan: Plan,
     policy: Policy,
+    // For each cell of the plan, in plan order, the label that the policy gives it.
+    labels: Vec<Label>,
 }
 
 impl Model for Checked {
-    ghost use Rattle.flow_checker.specs.Accepted.{Accepted, IsAdmitted};
+    ghost use Rattle.flow_checker.specs.Accepted.{Accepted, IsAdmitted, AreAllowed};
     ghost use Rattle.std.specs.Arc.{arc_value};
     ghost use Rattle.std.specs.Coded.{codes};
     ghost use Rattle.meter_theory.specs.PlanCode.{plan_code};
@@ -68,7 +69,8 @@ impl Model for Checked {
 
     ghost view = { λ c. record { plan = (arc_value c.admitted).plan; policy = (arc_value c.admitted).policy } };
 
-    ghost invariant = { λ c. IsAdmitted (record { plan = (arc_value c.admitted).plan; policy = (arc_value c.admitted).policy }) };
+    ghost invariant = { λ c. IsAdmitted (record { plan = (arc_value c.admitted).plan; policy = (arc_value c.admitted).policy })
+        × AreAllowed (arc_value c.admitted).plan (arc_value c.admitted).policy (arc_value c.admitted).labels.items };
 }
 
 impl Checked {
@@ -80,13 +82,11 @@ impl Checked {
         ensures admitted { IsAdmitted self.now }
         ensures influence { Influence self.now.plan (labelling_of_policy self.now.plan self.now.policy) }
         ensures secrecy { Secrecy self.now.plan (labelling_of_policy self.now.plan self.now.policy) }
-        ensures unequal { UnequalSecrecy self.now.plan (labelling_of_policy self.now.plan self.now.policy) }
     {
         let admitted = &self.admitted;
         admitted.plan.known();
         admitted_is_influence_safe();
         admitted_is_secret();
-        admitted_is_secret_but_for_quiet_steps();
     }
 
     /// The plan.
@@ -103,6 +103,21 @@ impl Checked {
         &self.admitted.policy
     }
 
+    /// The label that the policy gives a cell; of the inner cell of a register monitor that of the cell that it watches.
+    pub fn label(&self, cell: &CellRef) -> Label
+        ensures { result ≡ labelling_of_policy self.now.plan self.now.policy cell.now }
+    {
+        let Admitted {
+            plan,
+            policy,
+            labels,
+        } = &*self.admitted;
+        match plan.cell_number(cell) {
+            Some(number) => labels[usize::from(number)],
+            None => policy.label(&source_of(plan, cell)),
+        }
+    }
+
     /// Another owner of the plan and its policy, neither of which is copied. The only error is that memory was refused.
     pub fn share(&self) -> Result<Checked, Memory>
         ensures { IfOk result (λ other. other ≡ self.now) }
@@ -115,8 +130,7 @@ impl Checked {
 
 /// Accepts a plan whose labels pass the six clauses of admission, and no other: it is refused with what fails the first clause
 /// that any fails, and is given back. An accepted plan keeps what its policy, and what the labels, promise about who
-/// influences a cell, and keeps from each client what they hide from it, also over schedules that differ by steps which the
-/// client can't notice. Where memory is refused nothing is known (own profile).
+/// influences a cell, and keeps from each client what they hide from it. Where memory is refused nothing is known (own profile).
 pub fn check(
     alloc: Global,
     plan: Plan,
@@ -129,34 +143,55 @@ pub fn check(
     ensures returned { IfErr result (λ e. e.1 ≡ plan) }
     ensures influence { OnOk result (Influence plan (labelling_of_policy plan policy.now) × Influence plan (labelling_of labels.now)) }
     ensures secrecy { OnOk result (Secrecy plan (labelling_of_policy plan policy.now) × Secrecy plan (labelling_of labels.now)) }
-    ensures unequal { OnOk result (UnequalSecrecy plan (labelling_of_policy plan policy.now) × UnequalSecrecy plan (labelling_of labels.now)) }
 {
     plan.known();
     admitted_is_influence_safe();
     admitted_is_secret();
-    admitted_is_secret_but_for_quiet_steps();
-    match judged(alloc, &plan, policy, labels) {
-        Ok(policy) => match Arc::new(alloc, Admitted { plan, policy }) {
-            Ok(admitted) => Ok(Checked { admitted }),
-            Err(failed) => Err((Refused::Memory, failed.value.plan)),
+    let (policy, labels) = match judged(alloc, &plan, policy, labels) {
+        Ok(kept) => kept,
+        Err(refused) => return Err((refused, plan)),
+    };
+    match Arc::new(
+        alloc,
+        Admitted {
+            plan,
+            policy,
+            labels,
         },
-        Err(refused) => Err((refused, plan)),
+    ) {
+        Ok(admitted) => Ok(Checked { admitted }),
+        Err(failed) => Err((Refused::Memory, failed.value.plan)),
     }
 }
 
-/// Another policy like this one, where the labels are admitted for it.
-fn judged(alloc: Global, plan: &Plan, policy: &Policy, labels: &Labels) -> Result<Policy, Refused>
+/// Another policy like this one, and for each cell the label that it gives, where the labels are admitted for it.
+fn judged(
+    alloc: Global,
+    plan: &Plan,
+    policy: &Policy,
+    labels: &Labels,
+) -> Result<(Policy, Vec<Label>), Refused>
     ensures admitted { OnOk result (Admits plan.now (labelling_of_policy plan.now policy.now) labels.now) }
-    ensures same { IfOk result (λ kept. kept ≡ policy.now) }
+    ensures same { IfOk result (λ kept. kept.0 ≡ policy.now) }
+    ensures allowed { IfOk result (λ kept. AreAllowed plan.now policy.now kept.1.items) }
     ensures refused { IfErr result (λ e. IsRefusedAs plan.now (labelling_of_policy plan.now policy.now) labels.now e) }
 {
     plan.known();
     tests_decide_admission();
     match first_refusal(alloc, plan, policy, labels) {
-        Ok(None) => policy.try_clone(alloc).map_err(|_| Refused::Memory),
+        Ok(None) => kept(alloc, plan, policy).map_err(|_| Refused::Memory),
         Ok(Some(refusal)) => Err(told(alloc, plan, refusal)),
         Err(_) => Err(Refused::Memory),
     }
+}
+
+/// Another policy like this one, and for each cell of the plan the label that it gives. The only error is want of memory.
+fn kept(alloc: Global, plan: &Plan, policy: &Policy) -> Result<(Policy, Vec<Label>), Memory>
+    ensures same { IfOk result (λ kept. kept.0 ≡ policy.now) }
+    ensures allowed { IfOk result (λ kept. AreAllowed plan.now policy.now kept.1.items) }
+{
+    let labels = policy_labels(alloc, plan, &plan.cells(alloc)?, policy)?;
+    Ok((policy.try_clone(alloc)?, labels))
 }
 
 /// A refusal as it is told, with the name of its client.

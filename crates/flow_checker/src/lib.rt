@@ -1,11 +1,13 @@
 //! Whether labels are accepted for a plan and its policy, and what an accepted plan promises.
 //!
 //! The definitions stand in `specs/`: the clauses of admission over numbers of cells (`Numbered`), the first number that fails
-//! one (`First`), and what a checker answers (`Answer`). [`check::check`] judges, and [`check::Checked`] is the plan that it
-//! accepted.
+//! one (`First`), what a checker answers (`Answer`), and what a client could notice of a step (`Notices`). [`check::check`] judges,
+//! [`check::Checked`] is the plan that it accepted, and [`notice::quiet`] says of a step whether a client could notice it.
 #![tactic(auto)]
 
 pub mod check;
 mod clauses;
+mod looking;
+pub mod notice;
 mod numbered;
 pub mod refusal;

@@ -104,7 +104,7 @@ fn policy_label(plan: &Plan, default: Label, own: &[Option<Label>], cell: &CellR
 }
 
 /// The cell whose label a policy takes for a cell: for what a register monitor has seen that is its monitored value.
-fn source_of(plan: &Plan, cell: &CellRef) -> CellRef
+pub(crate) fn source_of(plan: &Plan, cell: &CellRef) -> CellRef
     ensures { result ≡ policy_source plan.now cell.now }
 {
     if cell.index != 0 {

@@ -10,8 +10,3 @@ pub returns-in-Ok-new-clause-secrecy : goal.returns-in-Ok-new-clause-secrecy
 returns-in-Ok-new-clause-secrecy c =
     let policy = labelling_of_policy c.args.plan c.args.policy.now in
     (c.admitted_is_secret.ensures.policy c.args.plan policy c.args.labels.now c.known.ensures.sound c.in-Ok.ensures.admitted, c.admitted_is_secret.ensures.labels c.args.plan policy c.args.labels.now c.known.ensures.sound c.in-Ok.ensures.admitted)
-
-pub returns-in-Ok-new-clause-unequal : goal.returns-in-Ok-new-clause-unequal
-returns-in-Ok-new-clause-unequal c =
-    let policy = labelling_of_policy c.args.plan c.args.policy.now in
-    (c.admitted_is_secret_but_for_quiet_steps.ensures.policy c.args.plan policy c.args.labels.now c.known.ensures.sound c.in-Ok.ensures.admitted, c.admitted_is_secret_but_for_quiet_steps.ensures.labels c.args.plan policy c.args.labels.now c.known.ensures.sound c.in-Ok.ensures.admitted)
