@@ -5,17 +5,21 @@ use Rattle.clap.specs.Simple.{new_shape}
 use Rattle.clap.specs.declared.builder.action.ArgAction.TheVariants.{Append, Count, Set}
 use Rattle.clap.specs.declared.builder.value_parser.ValueParser.TheVariants.{Signed, Unsigned}
 
--- a file that has to be named (own profile)
-abbrev pub file : Text → Rule
-file id = record (new_rule id) { required = true; action = Some Set; value_names = 1 }
+-- an argument that has to stand there (own profile)
+abbrev pub needed : Text → Rule
+needed id = record (new_rule id) { required = true; action = Some Set; value_names = 1 }
 
 -- the file of a configuration (own profile)
 abbrev pub config_file : Rule
-config_file = file (codes "config")
+config_file = needed (codes "config")
 
 -- the file of labels (own profile)
 abbrev pub labels_file : Rule
-labels_file = file (codes "labels")
+labels_file = needed (codes "labels")
+
+-- the name of a client (own profile)
+abbrev pub client : Rule
+client = needed (codes "client")
 
 -- `-v` or `--verbose`, also more than once (own profile)
 abbrev pub verbose : Rule
@@ -73,6 +77,10 @@ label_app = with_rule (new_app (codes "label")) config_file
 abbrev pub check_app : App
 check_app = with_rule (with_rule (new_app (codes "check")) config_file) labels_file
 
+-- `quiet CONFIG LABELS CLIENT` (own profile)
+abbrev pub quiet_app : App
+quiet_app = with_rule (with_rule (with_rule (with_rule (new_app (codes "quiet")) verbose) config_file) labels_file) client
+
 -- `audit --workers N [--progress] NAME...` (own profile)
 abbrev pub audit_app : App
 audit_app = with_rule (with_rule (with_rule (new_app (codes "audit")) workers) progress) names
@@ -103,7 +111,7 @@ bare_program = record { top = record program { is_leaf = true }; subs = [] }
 
 -- the commands of the program (own profile)
 abbrev pub commands : List App
-commands = demo_app ∷ run_app ∷ edges_app ∷ label_app ∷ check_app ∷ audit_app ∷ session_app ∷ serve_app ∷ encode_app ∷ decode_app ∷ []
+commands = demo_app ∷ run_app ∷ edges_app ∷ label_app ∷ check_app ∷ quiet_app ∷ audit_app ∷ session_app ∷ serve_app ∷ encode_app ∷ decode_app ∷ []
 
 -- the program with its commands (own profile)
 abbrev pub app : App

@@ -10,7 +10,7 @@ use Rattle.command_words.specs.CommandLine.{app, kinds_of}
 use Rattle.command_words.specs.declared.command.Command.{Command}
 use Rattle.command_words.specs.declared.command.Command.TheVariants as commands
 
--- what is asked for, with the paths of the files that are named: of an audit how many workers, which names, and whether it is
+-- what is asked for, with the paths of the files that are named: of whether lines are noticed the client; of an audit how many workers, which names, and whether it is
 -- told how far it is; of a served meter the address, the port and how many connections (own profile)
 pub data Asked : Type 0 where
   Demo : Bool → Asked
@@ -18,6 +18,7 @@ pub data Asked : Type 0 where
   Edges : List ℕ → Asked
   Label : List ℕ → Asked
   Check : List ℕ → List ℕ → Asked
+  Quiet : List ℕ → List ℕ → List ℕ → Bool → Asked
   Audit : ℕ → List (List ℕ) → Bool → Asked
   Session : List ℕ → Asked
   Serve : List ℕ → List ℕ → List ℕ → ℕ → ℕ → Asked
@@ -31,6 +32,7 @@ asked_by (commands.Run config is_verbose) = Run config.now is_verbose
 asked_by (commands.Edges config) = Edges config.now
 asked_by (commands.Label config) = Label config.now
 asked_by (commands.Check config labels) = Check config.now labels.now
+asked_by (commands.Quiet config labels client is_verbose) = Quiet config.now labels.now client.now is_verbose
 asked_by (commands.Audit workers names tells_progress) =
     Audit (non_zero_usize_get workers) (map (λ name. name.now) names.items) tells_progress
 asked_by (commands.Session config) = Session config.now
@@ -55,6 +57,14 @@ check_in rows =
 infixl 10 ◌>>=◌
 abbrev pub ◌>>=◌ : {A B : Type 0} → Option A → (A → Option B) → Option B
 found >>= f = option_and_then f found
+
+-- a configuration, labels and a client, and whether each line is to be told of (own profile)
+abbrev pub quiet_in : List Row → Option Asked
+quiet_in rows = do
+  config ← first_of (codes "config") rows
+  labels ← first_of (codes "labels") rows
+  client ← first_of (codes "client") rows
+  Some (Quiet config labels client (is_verbose rows))
 
 -- the number of a text of decimal digits, a plus before them or not, where it is from `least` to `most` (own profile)
 abbrev pub number_in : ℕ → ℕ → Text → Option ℕ
@@ -101,6 +111,7 @@ asked_in p =
     else if bytes_eq p.0 (codes "edges") then option_map Edges (first_of (codes "config") p.1)
     else if bytes_eq p.0 (codes "label") then option_map Label (first_of (codes "config") p.1)
     else if bytes_eq p.0 (codes "check") then check_in p.1
+    else if bytes_eq p.0 (codes "quiet") then quiet_in p.1
     else if bytes_eq p.0 (codes "audit") then audit_in p.1
     else if bytes_eq p.0 (codes "session") then option_map Session (first_of (codes "config") p.1)
     else if bytes_eq p.0 (codes "serve") then serve_in p.1

@@ -27,6 +27,14 @@ pub enum Command<'a> {
         config: &'a str,
         labels: &'a str,
     },
+    /// To print whether a client could notice each step line, by a configuration whose labels are accepted, and to tell what it could
+    /// notice where that is asked for.
+    Quiet {
+        config: &'a str,
+        labels: &'a str,
+        client: &'a str,
+        is_verbose: bool,
+    },
     /// To print the verdicts on configurations and their labels, which so many workers come to, from 1 to 64. Each name stands for
     /// two files, NAME.toml and NAME.labels. Where that is asked for, it is told how far the audit is.
     Audit {

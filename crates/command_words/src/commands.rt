@@ -11,11 +11,17 @@ use std::alloc::{AllocError, Global};
 const CONFIG_FILE: &str = "The file of the configuration, in TOML";
 /// What CONFIG is elsewhere.
 const CONFIG_SOURCE: &str = "The file of the configuration, in TOML; - is standard input";
-/// What LABELS is where standard input has the meter's own steps.
+/// What LABELS is where standard input has the steps.
 const LABELS_FILE: &str = "The file of the labels, in the form that `label` prints";
 /// What LABELS is elsewhere.
 const LABELS_SOURCE: &str =
     "The file of the labels, in the form that `label` prints; - is standard input";
+/// What -v does where lines are answered.
+const TELL_LINES: &str =
+    "Tell on standard error what each line asks, what is answered and what changes";
+/// What -v does where it is told whether a client could notice lines.
+const TELL_NOTICES: &str =
+    "Tell on standard error, of each line that is seen, what the client could notice by which step";
 
 /// All commands of the program.
 pub fn all_commands<'a>(alloc: Global) -> Result<Command<'a>, AllocError>
@@ -26,6 +32,7 @@ pub fn all_commands<'a>(alloc: Global) -> Result<Command<'a>, AllocError>
     let commands = with(commands, edges_command(alloc));
     let commands = with(commands, label_command(alloc));
     let commands = with(commands, check_command(alloc));
+    let commands = with(commands, quiet_command(alloc));
     let commands = with(commands, audit_command(alloc));
     let commands = with(commands, session_command(alloc));
     let commands = with(commands, serve_command(alloc));
@@ -65,7 +72,7 @@ fn demo_command<'a>(alloc: Global) -> Result<Command<'a>, AllocError>
     Command::new(alloc, "demo")
         .about("Answer the step lines of standard input by the demo configuration")
         .after_help("Example: cosem-flow demo < steps.txt")
-        .arg(verbose(alloc))
+        .arg(verbose(alloc, TELL_LINES))
 }
 
 fn run_command<'a>(alloc: Global) -> Result<Command<'a>, AllocError>
@@ -75,7 +82,7 @@ fn run_command<'a>(alloc: Global) -> Result<Command<'a>, AllocError>
     Command::new(alloc, "run")
         .about("Answer the step lines of standard input by a configuration")
         .after_help("Example: cosem-flow run mine.toml < steps.txt")
-        .arg(verbose(alloc))?
+        .arg(verbose(alloc, TELL_LINES))?
         .arg(config_file(alloc, CONFIG_FILE))
 }
 
@@ -108,6 +115,21 @@ fn check_command<'a>(alloc: Global) -> Result<Command<'a>, AllocError>
         .after_help("Example: cosem-flow check mine.toml mine.labels")
         .arg(config_file(alloc, CONFIG_SOURCE))?
         .arg(labels_file(alloc, LABELS_SOURCE))
+}
+
+fn quiet_command<'a>(alloc: Global) -> Result<Command<'a>, AllocError>
+    ensures app { IfOk result (λ c. app_of c ≡ spec.quiet_app) }
+    ensures local { IfOk result (λ c. (out-Command c).has_globals ≡ false) }
+{
+    Command::new(alloc, "quiet")
+        .about(
+            "Print for each step line of standard input whether the client could notice it: `quiet` or `seen`",
+        )
+        .after_help("Example: cosem-flow quiet mine.toml mine.labels public < steps.txt")
+        .arg(verbose(alloc, TELL_NOTICES))?
+        .arg(config_file(alloc, CONFIG_FILE))?
+        .arg(labels_file(alloc, LABELS_FILE))?
+        .arg(client(alloc))
 }
 
 fn audit_command<'a>(alloc: Global) -> Result<Command<'a>, AllocError>
@@ -167,7 +189,7 @@ fn decode_command<'a>(alloc: Global) -> Command<'a>
 }
 
 /// Whether each line is told of in words.
-fn verbose<'a>(alloc: Global) -> Arg<'a>
+fn verbose<'a>(alloc: Global, help: &'a str) -> Arg<'a>
     ensures rule { rule_of result ≡ spec.verbose }
     ensures local { result.global ≡ false }
 {
@@ -175,7 +197,7 @@ fn verbose<'a>(alloc: Global) -> Arg<'a>
         .short('v')
         .long("verbose")
         .action(ArgAction::Count)
-        .help("Tell on standard error what each line asks, what is answered and what changes")
+        .help(help)
 }
 
 fn config_file<'a>(alloc: Global, help: &'a str) -> Arg<'a>
@@ -198,6 +220,18 @@ fn labels_file<'a>(alloc: Global, help: &'a str) -> Arg<'a>
         .action(ArgAction::Set)
         .value_name("LABELS")
         .help(help)
+}
+
+/// For which client it is told whether it could notice a line.
+fn client<'a>(alloc: Global) -> Arg<'a>
+    ensures rule { rule_of result ≡ spec.client }
+    ensures local { result.global ≡ false }
+{
+    Arg::new(alloc, "client")
+        .required(true)
+        .action(ArgAction::Set)
+        .value_name("CLIENT")
+        .help("The name of the client, as the configuration has it")
 }
 
 /// How many workers share the work.

@@ -84,6 +84,7 @@ fn command_named<'a>(
         "edges" => value(found, "config").map(|config| Command::Edges { config }),
         "label" => value(found, "config").map(|config| Command::Label { config }),
         "check" => check_in(found),
+        "quiet" => quiet_in(found),
         "audit" => audit_in(alloc, found)?,
         "session" => value(found, "config").map(|config| Command::Session { config }),
         "serve" => serve_in(found),
@@ -109,6 +110,20 @@ fn check_in<'a>(found: &ArgMatches<'a>) -> Option<Command<'a>>
     let config = value(found, "config")?;
     let labels = value(found, "labels")?;
     Some(Command::Check { config, labels })
+}
+
+fn quiet_in<'a>(found: &ArgMatches<'a>) -> Option<Command<'a>>
+    ensures { option_map asked_by result ≡ spec.quiet_in (rows_of (found_of found.now)) }
+{
+    let config = value(found, "config")?;
+    let labels = value(found, "labels")?;
+    let client = value(found, "client")?;
+    Some(Command::Quiet {
+        config,
+        labels,
+        client,
+        is_verbose: is_verbose(found),
+    })
 }
 
 fn audit_in<'a>(alloc: Global, found: &ArgMatches<'a>) -> Result<Option<Command<'a>>, AllocError>

@@ -49,6 +49,7 @@ pub fn accepted(
     labels: &str,
 ) -> Result<Checked, Verdict>
     ensures plan { IfOk result (λ checked. checked.plan ≡ plan) }
+    ensures policy { IfOk result (λ checked. checked.policy ≡ policy.now) }
     ensures admitted { IfOk result (λ _. IsVerdictOn plan policy.now labels.now Verdict.Accepted) }
     ensures err { IfErr result (λ verdict. IsVerdictOn plan policy.now labels.now verdict) }
     ensures refused { IfErr result (λ verdict. verdict ≢ Verdict.Accepted) }

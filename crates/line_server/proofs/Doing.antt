@@ -1,6 +1,6 @@
 -- What lines give an asker to do, and what it does to a meter alone.
 use Rattle.std.proofs.Common.{◌≡◌, ℕ, zero, suc, ◌+◌, ◌-◌, ◌<◌, List, [], ◌∷◌, ◌++◌, take, drop, length, get_or, Option, Some, None, Result, Ok, Err, OnOk, OnErr, inl, refl, sym, ap, subst, ◌∙◌, append-nil, append_assoc, zero-add, suc-add, arith}
-use Rattle.std.specs.Prelude.{option_to_list, option_and_then, IfErr}
+use Rattle.std.specs.Prelude.{option_to_list, IfErr}
 use Rattle.std.specs.List.{flat_map, filter_map}
 use Rattle.std.proofs.lemmas.List.{take_more, take-append-drop}
 use Rattle.std.proofs.lemmas.List.Elements.{filter_map-append}
@@ -10,9 +10,7 @@ use Rattle.meter_theory.specs.State.{State}
 use Rattle.meter_theory.specs.Steps.{Step, next}
 use Rattle.meter_theory.specs.Replies.{Reply}
 use Rattle.meter_core.specs.Moments.{offered, second_steps, tick_steps}
-use Rattle.xdlms_services.specs.declared.request.Request.{Request}
-use Rattle.xdlms_services.specs.Asking.{Asked, asking_at, asking_of, apdu_of}
-use Rattle.xdlms_services.specs.Reading.{request_at}
+use Rattle.xdlms_services.specs.Asking.{Asked, asking_at, apdu_of}
 use Rattle.acse_session.specs.Conversation.{Answers}
 use Rattle.acse_session.specs.Solo.{Alone, AnswersAlone}
 use Rattle.line_server.specs.Asking.{Ask}
@@ -20,25 +18,26 @@ use Rattle.line_server.specs.Answering.{Task, Answer, Take, next_by, reply_by, n
 use Rattle.line_server.specs.Doing.{DoesAsked, AnswersAsk, MayAsk, FailsAsk, Does, TakesAll, StopsBehind, TakesLine}
 use Rattle.line_server.specs.Lines.{Puts}
 use Rattle.line_server.specs.Running.{tasks_in}
-use Rattle.line_server.specs.Solo.{meter_after, replies_to, AnswersLine, StopsAtLine}
+use Rattle.line_server.specs.Solo.{meter_after, replies_to, TellsUnreadable, AnswersLine, StopsAtLine}
 use Rattle.line_server.specs.Spelling.{line_of, reply_text, unreadable_text}
 use Rattle.line_server.specs.declared.line.Line.{Line as LineValue}
 use Rattle.line_server.specs.declared.line.Line.TheVariants.{Unreadable}
+use Rattle.line_server.specs.declared.reason.Reason.{Reason}
 use Rattle.line_server.specs.declared.running.LineFault.{LineFault}
 use Rattle.line_server.specs.declared.running.LineFault.TheVariants.{Read, Write, Line, Memory}
 
 -- ---- one APDU
 
 -- what is asked is what the bytes are
-pub answers_ask-at : {A : Type 0} (answers : Answers A) (old : A) (ask : Ask) (read : Option Request) (apdu : List ℕ) (new : A)
-    → request_at ask.apdu ≡ read → DoesAsked answers old (option_and_then (asking_of ask.client) read) apdu new → AnswersAsk answers old ask apdu new
+pub answers_ask-at : {A : Type 0} (answers : Answers A) (old : A) (ask : Ask) (given : Option Asked) (apdu : List ℕ) (new : A)
+    → asking_at ask.client ask.apdu ≡ given → DoesAsked answers old given apdu new → AnswersAsk answers old ask apdu new
 unfolding AnswersAsk
-answers_ask-at answers old ask read apdu new e d = subst (λ (r : Option Request). DoesAsked answers old (option_and_then (asking_of ask.client) r) apdu new) (sym e) d
+answers_ask-at answers old ask given apdu new e d = subst (λ (a : Option Asked). DoesAsked answers old a apdu new) (sym e) d
 
-pub fails_ask-at : {A : Type 0} (answers : Answers A) (old : A) (ask : Ask) (read : Option Request) (new : A)
-    → request_at ask.apdu ≡ read → MayAsk answers old (option_and_then (asking_of ask.client) read) new → FailsAsk answers old ask new
+pub fails_ask-at : {A : Type 0} (answers : Answers A) (old : A) (ask : Ask) (given : Option Asked) (new : A)
+    → asking_at ask.client ask.apdu ≡ given → MayAsk answers old given new → FailsAsk answers old ask new
 unfolding FailsAsk
-fails_ask-at answers old ask read new e d = subst (λ (r : Option Request). MayAsk answers old (option_and_then (asking_of ask.client) r) new) (sym e) d
+fails_ask-at answers old ask given new e d = subst (λ (a : Option Asked). MayAsk answers old a new) (sym e) d
 
 -- nothing was done yet
 stays : {A : Type 0} (answers : Answers A) (old : A) (asked : Option Asked) → MayAsk answers old asked old
@@ -82,7 +81,7 @@ one_offered f x None e = rw e refl
 one_offered f x (Some y) e = rw e refl
 
 -- what is offered to the objects up to one more
-offered_up-to : (objects : List Object) (i : ℕ) (o : Object) → i < length objects → o ≡ get_or objects i o
+pub offered_up-to : (objects : List Object) (i : ℕ) (o : Object) → i < length objects → o ≡ get_or objects i o
     → filter_map offered (take i objects) ++ option_to_list (offered o) ≡ filter_map offered (take (i + 1) objects)
 offered_up-to objects i o within is =
     let front = filter_map offered (take i objects) in
@@ -199,6 +198,14 @@ does-alone plan meter (Answer ask ∷ tasks) apdus new (mid, apdu, others, a, d,
     let more = does-alone plan (next_of plan meter ask) tasks others new (subst (λ (s : Alone). Does AnswersAlone s tasks others new) k.1 d) in
     (is ∙ ap (λ (x : List ℕ). x ∷ others) k.0 ∙ ap (λ (l : List (List ℕ)). reply_of_ask plan meter ask ∷ l) more.0, more.1)
 does-alone plan meter (Take step ∷ tasks) apdus new (mid, reply, a, d) = does-alone plan (next plan meter step) tasks apdus new (subst (λ (s : Alone). Does AnswersAlone s tasks apdus new) a.1 d)
+
+-- an unreadable line gives nothing to do
+pub line-ended : {A : Type 0} (answers : Answers A) (plan : Plan) (old : A) (number : ℕ) (line waiting texts : List ℕ) (why : Reason) (fault : LineFault) → line_of plan line ≡ Unreadable why
+    → TellsUnreadable number why waiting texts fault → TakesLine answers plan old old number line waiting texts (Err fault)
+line-ended answers plan old number line waiting texts why Read bad t = absurd t
+line-ended answers plan old number line waiting texts why Write bad t = absurd t
+line-ended answers plan old number line waiting texts why (Line n told) bad t = (bad ∙ ap Unreadable (sym t.1), t.0, t.2, refl)
+line-ended answers plan old number line waiting texts why Memory bad t = t
 
 -- what a line does to it, as its text
 pub line-answered : (old new : Alone) (number : ℕ) (line waiting texts : List ℕ) (r : Result (Unit {0}) LineFault) → TakesLine AnswersAlone old.plan old new number line waiting texts r

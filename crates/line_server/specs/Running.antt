@@ -49,34 +49,42 @@ pub record Heard (plan : Plan) (before after : Moment) (lines : List (List ℕ))
   pub read : Consumes before.unread after.unread (text_of_lines lines ++ rest)
   pub wrote : Appends before.written after.written text
 
--- what is written for a line behind these: the replies to what it asks, or that it is unreadable (own profile)
-abbrev pub IsTextFor : Plan → List (List ℕ) → List ℕ → List ℕ → Type 0
-IsTextFor plan lines line text =
-    (printed plan (lines ++ line ∷ []) ≡ printed plan lines ++ text) ⊎ ((why : Reason) × (line_of plan line ≡ Unreadable why) × (text ≡ unreadable_text (length lines + 1)))
+-- what is written for lines (own profile)
+abbrev pub Telling : Type 0
+Telling = List (List ℕ) → List ℕ
 
--- what a fault says of what was read and written (own profile)
-abbrev pub Stops : Plan → Moment → Moment → LineFault → Type 0
+-- what is written for a line behind these: what it adds, or that it is unreadable (own profile)
+abbrev pub IsTextFor : Plan → Telling → List (List ℕ) → List ℕ → List ℕ → Type 0
+IsTextFor plan telling lines line text =
+    (telling (lines ++ line ∷ []) ≡ telling lines ++ text) ⊎ ((why : Reason) × (line_of plan line ≡ Unreadable why) × (text ≡ unreadable_text (length lines + 1)))
+
+-- what a fault says of what was read and written, where this is written for lines (own profile)
+abbrev pub StopsTelling : Plan → Telling → Moment → Moment → LineFault → Type 0
 -- all whole lines were answered, and one more has begun at most, unless the count of bytes came to its end
-Stops plan before after Read =
-    (lines : List (List ℕ)) × (rest : List ℕ) × Heard plan before after lines rest (printed plan lines) × (IsLine rest ⊎ (2 ^ 64 ≤ length (text_of_lines lines ++ rest)))
+StopsTelling plan telling before after Read =
+    (lines : List (List ℕ)) × (rest : List ℕ) × Heard plan before after lines rest (telling lines) × (IsLine rest ⊎ (2 ^ 64 ≤ length (text_of_lines lines ++ rest)))
 -- the lines before one were answered, and of what is written for it a beginning was written and something is left
-Stops plan before after Write =
-    (lines : List (List ℕ)) × (rest : List ℕ) × (line : List ℕ) × (front : List ℕ) × (left : List ℕ) × Heard plan before after lines rest (printed plan lines ++ front)
-    × StandsWhole after.unread line rest × IsTextFor plan lines line (front ++ left) × (0 < length left)
+StopsTelling plan telling before after Write =
+    (lines : List (List ℕ)) × (rest : List ℕ) × (line : List ℕ) × (front : List ℕ) × (left : List ℕ) × Heard plan before after lines rest (telling lines ++ front)
+    × StandsWhole after.unread line rest × IsTextFor plan telling lines line (front ++ left) × (0 < length left)
 -- the lines before the first unreadable one were answered, and its number from 1 was told; this is why
-Stops plan before after (Line number why) =
-    (lines : List (List ℕ)) × (rest : List ℕ) × (line : List ℕ) × Heard plan before after lines rest (printed plan lines ++ unreadable_text number)
+StopsTelling plan telling before after (Line number why) =
+    (lines : List (List ℕ)) × (rest : List ℕ) × (line : List ℕ) × Heard plan before after lines rest (telling lines ++ unreadable_text number)
     × StandsWhole after.unread line rest × (line_of plan line ≡ Unreadable why) × (number ≡ length lines + 1)
 -- some lines were answered, and nothing else was written
-Stops plan before after Memory =
-    (lines : List (List ℕ)) × (rest : List ℕ) × Heard plan before after lines rest (printed plan lines)
+StopsTelling plan telling before after Memory =
+    (lines : List (List ℕ)) × (rest : List ℕ) × Heard plan before after lines rest (telling lines)
 
--- how a run of lines ends: all of the input was read and answered, and this is the number of its lines; or a fault stopped it (own profile)
-abbrev pub RunsLines : Plan → Moment → Moment → Result ℕ LineFault → Type 0
-RunsLines plan before after (Ok count) =
-    (lines : List (List ℕ)) × (last : List ℕ) × Heard plan before after lines last (printed plan (with_last lines last))
+-- how a run of lines ends for which this is written: all of the input was read and answered, and this is the number of its lines; or a fault stopped it (own profile)
+abbrev pub RunsTelling : Plan → Telling → Moment → Moment → Result ℕ LineFault → Type 0
+RunsTelling plan telling before after (Ok count) =
+    (lines : List (List ℕ)) × (last : List ℕ) × Heard plan before after lines last (telling (with_last lines last))
     × IsLine last × IsReadable plan last × IsAtEnd after.unread × (count ≡ length (with_last lines last))
-RunsLines plan before after (Err fault) = Stops plan before after fault
+RunsTelling plan telling before after (Err fault) = StopsTelling plan telling before after fault
+
+-- how a run of lines ends that a meter answers (own profile)
+abbrev pub RunsLines : Plan → Moment → Moment → Result ℕ LineFault → Type 0
+RunsLines plan before after result = RunsTelling plan (printed plan) before after result
 
 -- The input decides the answer
 

@@ -1,5 +1,5 @@
 -- A meter alone, which answers lines. All of it is own profile.
-use Rattle.std.specs.Prelude.{◌≡◌, ℕ, List, [], ◌∷◌}
+use Rattle.std.specs.Prelude.{◌≡◌, ℕ, List, [], ◌∷◌, ◌++◌}
 use Rattle.std.specs.List.{flat_map}
 use Rattle.meter_theory.specs.Plan.{Plan}
 use Rattle.meter_theory.specs.State.{State}
@@ -7,6 +7,7 @@ use Rattle.meter_theory.specs.Steps.{next}
 use Rattle.acse_session.specs.Solo.{Alone}
 use Rattle.line_server.specs.Answering.{Task, Answer, Take, next_of, reply_of_ask}
 use Rattle.line_server.specs.declared.line.Line.TheVariants.{Unreadable}
+use Rattle.line_server.specs.declared.reason.Reason.{Reason}
 use Rattle.line_server.specs.declared.running.LineFault.{LineFault}
 use Rattle.line_server.specs.declared.running.LineFault.TheVariants.{Read, Write, Line, Memory}
 use Rattle.line_server.specs.Spelling.{line_of, reply_text, unreadable_text}
@@ -38,9 +39,19 @@ AnswersLine old number line text new =
     IsReadable old.plan line × (text ≡ told old.plan old.meter (tasks_in old.plan (line_of old.plan line)))
     × (new ≡ record { plan = old.plan; meter = meter_after old.plan old.meter (tasks_in old.plan (line_of old.plan line)) })
 
--- a line ended the run, and this text tells it (own profile)
+-- an unreadable line ends a run: its number is told behind the texts that wait; or memory was refused for that, and they are as they were (own profile)
+abbrev pub TellsUnreadable : ℕ → Reason → (before after : List ℕ) → LineFault → Type 0
+TellsUnreadable number why before after (Line n told) = (n ≡ number) × (told ≡ why) × (after ≡ before ++ unreadable_text number)
+TellsUnreadable number why before after Memory = after ≡ before
+TellsUnreadable number why before after _ = ⊥
+
+-- a line over a plan ended the run, and this text tells it (own profile)
+abbrev pub StopsOver : Plan → ℕ → List ℕ → List ℕ → LineFault → Type 0
+StopsOver plan number line text Read = ⊥
+StopsOver plan number line text Write = ⊥
+StopsOver plan number line text (Line n why) = (line_of plan line ≡ Unreadable why) × (n ≡ number) × (text ≡ unreadable_text number)
+StopsOver plan number line text Memory = text ≡ []
+
+-- the same of a meter alone (own profile)
 abbrev pub StopsAtLine : Alone → ℕ → List ℕ → List ℕ → LineFault → Type 0
-StopsAtLine old number line text Read = ⊥
-StopsAtLine old number line text Write = ⊥
-StopsAtLine old number line text (Line n why) = (line_of old.plan line ≡ Unreadable why) × (n ≡ number) × (text ≡ unreadable_text number)
-StopsAtLine old number line text Memory = text ≡ []
+StopsAtLine old number line text fault = StopsOver old.plan number line text fault

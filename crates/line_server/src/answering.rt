@@ -1,14 +1,12 @@
 ghost use Rattle.std.specs.Prelude.{◌≡◌, ◌++◌, List, ℕ, OnOk, OnErr};
-ghost use Rattle.xdlms_services.specs.Asking.{asking_of};
-ghost use Rattle.line_server.specs.Doing.{AnswersAsk, DoesAsked, FailsAsk, MayAsk};
+ghost use Rattle.line_server.specs.Doing.{AnswersAsk, FailsAsk};
 
 use acse_session::asker::Asker;
 use cosem_data::memory::Memory;
 use std::alloc::Global;
 use std::marker::Model;
-use xdlms_services::asking::{Exception, write_exception};
+use xdlms_services::asking::{Asking, Exception, write_exception};
 use xdlms_services::reading::{ApduFault, read_apdu};
-use xdlms_services::request::Request;
 
 /// An APDU of a client, which is named by its place in the plan. Contracts see the two as a record.
 #[derive(Debug, Drop)]
@@ -26,12 +24,29 @@ impl<'a> Model for Ask<'a> {
 }
 
 impl<'a> Ask<'a> {
+    ghost use Rattle.std.specs.Prelude.{◌≡◌, IfOk, IfSome, option_map};
+    ghost use Rattle.meter_core.specs.StepView.{step_of};
+    ghost use Rattle.xdlms_services.specs.Asking.{IsServiceOf, asked, asking_at};
+
     /// What this client asks by this APDU.
     pub fn new(client: u8, apdu: &'a [u8]) -> Self
         ensures client { result.client ≡ client }
         ensures apdu { result.apdu ≡ apdu.now }
     {
         Ask { client, apdu }
+    }
+
+    /// What the APDU asks of the meter, or `None` where it is no GET or SET of one attribute and no ACTION of one method. The only
+    /// error is want of memory.
+    pub fn asking(&self, alloc: Global) -> Result<Option<Asking>, Memory>
+        ensures asking { IfOk result (λ x. option_map asked x ≡ asking_at self.now.client self.now.apdu) }
+        ensures service { IfOk result (λ x. IfSome x (λ asking. IsServiceOf (step_of asking.step) asking.service)) }
+    {
+        match read_apdu(alloc, self.apdu) {
+            Ok(request) => Ok(request.into_asking(self.client)),
+            Err(ApduFault::Unreadable) => Ok(None),
+            Err(ApduFault::Memory) => Err(Memory),
+        }
     }
 }
 
@@ -48,25 +63,7 @@ pub fn answer<A: Asker>(
     ensures reply { OnOk result ((apdu : List ℕ) × AnswersAsk A.answers asker.old ask.now apdu asker.new × (out.new.items ≡ out.old.items ++ apdu)) }
     ensures err { OnErr result (FailsAsk A.answers asker.old ask.now asker.new) }
 {
-    match read_apdu(alloc, ask.apdu) {
-        Ok(request) => answer_request(alloc, asker, ask.client, request, out),
-        Err(ApduFault::Unreadable) => write_exception(Exception::Unknown, out),
-        Err(ApduFault::Memory) => Err(Memory),
-    }
-}
-
-/// Puts the APDU that is replied to a request behind what is there; the asker takes the step that it asks for, if it asks one.
-fn answer_request<A: Asker>(
-    alloc: Global,
-    asker: &mut A,
-    client: u8,
-    request: Request,
-    out: &mut Vec<u8>,
-) -> Result<(), Memory>
-    ensures reply { OnOk result ((apdu : List ℕ) × DoesAsked A.answers asker.old (asking_of client request) apdu asker.new × (out.new.items ≡ out.old.items ++ apdu)) }
-    ensures err { OnErr result (MayAsk A.answers asker.old (asking_of client request) asker.new) }
-{
-    match request.into_asking(client) {
+    match ask.asking(alloc)? {
         Some(asking) => asker.put_reply(alloc, asking, out),
         None => write_exception(Exception::Unknown, out),
     }

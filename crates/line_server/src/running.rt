@@ -6,6 +6,7 @@ ghost use Rattle.line_server.specs.Doing.{AnswersAsk, TakesLine};
 ghost use Rattle.line_server.specs.Lines.{with_last};
 ghost use Rattle.line_server.specs.declared.reason.Reason.{Reason as Why};
 ghost use Rattle.line_server.specs.Running.{RunsLines, IsFirstBad, IsAllReadable, IsOther};
+ghost use Rattle.line_server.specs.Solo.{TellsUnreadable};
 ghost use Rattle.line_server.specs.Spelling.{reply_text};
 
 use crate::answering::{Ask, answer};
@@ -188,14 +189,20 @@ fn take_line<A: Asker>(
                 return Err(LineFault::Memory);
             };
         }
-        Line::Unreadable(why) => {
-            let Ok(()) = put_unreadable(alloc, number, waiting) else {
-                return Err(LineFault::Memory);
-            };
-            return Err(LineFault::Line(number, why));
-        }
+        Line::Unreadable(why) => return Err(unreadable(alloc, number, why, waiting)),
     }
     Ok(())
+}
+
+/// Ends a run at an unreadable line: its number is told behind the texts that wait, and the fault says why. Where memory is refused
+/// for that, this is the fault, and the texts are as they were.
+pub fn unreadable(alloc: Global, number: u64, why: Reason, waiting: &mut Vec<u8>) -> LineFault
+    ensures { TellsUnreadable number why waiting.old.items waiting.new.items result }
+{
+    match put_unreadable(alloc, number, waiting) {
+        Ok(()) => LineFault::Line(number, why),
+        Err(_) => LineFault::Memory,
+    }
 }
 
 /// Has the APDU of a client answered into the buffer for replies, and puts its line behind the texts that wait.

@@ -10,7 +10,7 @@ use Rattle.meter_server.specs.Outcomes.{ended}
 use Rattle.meter_server.specs.Program.{IsJudged}
 use Rattle.meter_server.specs.Reading.{MayRead}
 use Rattle.meter_server.specs.declared.outcome.Outcome.{Outcome}
-use Rattle.meter_server.specs.declared.outcome.Outcome.TheVariants.{Done, Judged, Words, Unread, Fault, Broken, Unserved, Audited, Unaudited, Unwritten, Untranslated, Closed}
+use Rattle.meter_server.specs.declared.outcome.Outcome.TheVariants.{Done, Judged, Words, Unread, Stranger, Fault, Broken, Unserved, Audited, Unaudited, Unwritten, Untranslated, Closed}
 use Rattle.meter_server.specs.declared.program.Source.{Source}
 
 -- a file that was read, as a source
@@ -23,6 +23,7 @@ unread-accepts-nothing path why (Judged verdict text) h = absurd h
 unread-accepts-nothing path why Done h = tt
 unread-accepts-nothing path why (Words fault) h = tt
 unread-accepts-nothing path why (Unread file told) h = tt
+unread-accepts-nothing path why (Stranger told) h = tt
 unread-accepts-nothing path why (Fault fault) h = tt
 unread-accepts-nothing path why (Broken fault) h = tt
 unread-accepts-nothing path why (Unserved fault) h = tt
@@ -41,6 +42,7 @@ refusal-accepts-nothing config labels verdict (Judged (Refused refused) text) ne
 refusal-accepts-nothing config labels verdict Done never h = absurd h
 refusal-accepts-nothing config labels verdict (Words fault) never h = absurd h
 refusal-accepts-nothing config labels verdict (Unread file told) never h = absurd h
+refusal-accepts-nothing config labels verdict (Stranger told) never h = absurd h
 refusal-accepts-nothing config labels verdict (Fault fault) never h = absurd h
 refusal-accepts-nothing config labels verdict (Broken fault) never h = absurd h
 refusal-accepts-nothing config labels verdict (Unserved fault) never h = absurd h

@@ -6,7 +6,7 @@ use Rattle.meter_server.specs.Outcomes.{output_of, status_of, unless_closed}
 use Rattle.meter_server.specs.Program.{AreMistaken, AskForHelp, IsNoCommand, TellsVerdict}
 use Rattle.meter_server.specs.declared.listing.ListFault.TheVariants.{Write, Memory}
 use Rattle.meter_server.specs.declared.outcome.Outcome.{Outcome}
-use Rattle.meter_server.specs.declared.outcome.Outcome.TheVariants.{Done, Judged, Words, Unread, Fault, Broken, Unserved, Audited, Unaudited, Unwritten, Untranslated, Closed}
+use Rattle.meter_server.specs.declared.outcome.Outcome.TheVariants.{Done, Judged, Words, Unread, Stranger, Fault, Broken, Unserved, Audited, Unaudited, Unwritten, Untranslated, Closed}
 
 -- of no text a write leaves nothing
 nothing-left : (front left : List ℕ) → [] ≡ front ++ left → 0 < length left → ⊥
@@ -41,6 +41,7 @@ mistaken-ends ws mistaken (Words words.Memory) told closed before after h t = el
 mistaken-ends ws mistaken Done told closed before after h t = absurd h
 mistaken-ends ws mistaken (Judged verdict text) told closed before after h t = absurd h
 mistaken-ends ws mistaken (Unread file why) told closed before after h t = absurd h
+mistaken-ends ws mistaken (Stranger text) told closed before after h t = absurd h
 mistaken-ends ws mistaken (Fault fault) told closed before after h t = absurd h
 mistaken-ends ws mistaken (Broken fault) told closed before after h t = absurd h
 mistaken-ends ws mistaken (Unserved fault) told closed before after h t = absurd h
@@ -61,6 +62,7 @@ helped-ends ws asks (Words words.Memory) told closed before after h t = elim (wo
 helped-ends ws asks Done told closed before after h t = absurd h
 helped-ends ws asks (Judged verdict text) told closed before after h t = absurd h
 helped-ends ws asks (Unread file why) told closed before after h t = absurd h
+helped-ends ws asks (Stranger text) told closed before after h t = absurd h
 helped-ends ws asks (Fault fault) told closed before after h t = absurd h
 helped-ends ws asks (Broken fault) told closed before after h t = absurd h
 helped-ends ws asks (Unserved fault) told closed before after h t = absurd h

@@ -5,3 +5,5 @@ pub mod Errors
 pub mod Fleets
 pub mod Listed
 pub mod Made
+pub mod Onlooking
+pub mod Seeing

@@ -4,6 +4,7 @@ use Rattle.meter_theory.specs.Labels.{Policy}
 use Rattle.meter_theory.specs.Plan.{Plan}
 use Rattle.config_text.specs.Fault.{Fault as ConfigFault}
 use Rattle.config_text.specs.Parts.{ConfigText}
+use Rattle.config_rules.specs.Faultless.{IsPolicyOf}
 use Rattle.config_rules.specs.PlanOf.{plan_of}
 use Rattle.config_reader.specs.ConfigOf.{Reads}
 use Rattle.line_server.specs.declared.running.LineFault.{LineFault}
@@ -14,8 +15,8 @@ use Rattle.meter_server.specs.Program.{AnswersText}
 use Rattle.meter_server.specs.declared.program.Source.{Source}
 
 -- what was read is what the text says
-pub said-of : (made : Plan × Policy) (said : Result ConfigText ConfigFault) → Reads (Ok made) said → (c : ConfigText) × (said ≡ Ok c) × (made.0 ≡ plan_of c)
-said-of made (Ok c) h = (c, refl, h.0)
+pub said-of : (made : Plan × Policy) (said : Result ConfigText ConfigFault) → Reads (Ok made) said → (c : ConfigText) × (said ≡ Ok c) × (made.0 ≡ plan_of c) × IsPolicyOf c made.1
+said-of made (Ok c) h = (c, refl, h.0, h.1)
 said-of made (Err fault) h = absurd h
 
 -- a run of lines over the plan of what the text says

@@ -3,9 +3,10 @@ use Rattle.std.specs.Prelude.{◌≡◌, ◌⊎◌, ◌++◌, ℕ, List, Bool, t
 use Rattle.std.specs.Io.KnownBytes.{Appends}
 use Rattle.std.specs.List.{AllZip}
 use Rattle.command_words.specs.Commands.{Asked, command_of}
-use Rattle.command_words.specs.Commands.Asked.{Demo, Run, Edges, Label, Check, Audit, Session, Serve, Encode, Decode}
+use Rattle.command_words.specs.Commands.Asked.{Demo, Run, Edges, Label, Check, Quiet, Audit, Session, Serve, Encode, Decode}
 use Rattle.command_words.specs.declared.fault.WordsFault.TheVariants as words
 use Rattle.config_reader.specs.ConfigOf.{config_of}
+use Rattle.config_rules.specs.Faultless.{IsPolicyOf}
 use Rattle.config_rules.specs.PlanOf.{plan_of}
 use Rattle.config_text.specs.Fault.{Fault as Faulty, Fails}
 use Rattle.config_text.specs.Parts.{ConfigText}
@@ -19,9 +20,11 @@ use Rattle.fleet_audit.specs.declared.verdict.Verdict.TheVariants.{Accepted}
 use Rattle.flow_checker.specs.declared.check.Checked.{Checked}
 use Rattle.line_server.specs.Lines.{Moment}
 use Rattle.line_server.specs.declared.running.LineFault.TheVariants as lines
+use Rattle.meter_theory.specs.Plan.{client_named}
 use Rattle.meter_server.specs.Auditing.{AuditsTexts}
 use Rattle.meter_server.specs.Connecting.{AnswersFrames}
 use Rattle.meter_server.specs.Listing.{WritesText}
+use Rattle.meter_server.specs.Noticing.{NoticesAs}
 use Rattle.meter_server.specs.Outcomes.{error_of, status_of, translated, unless_closed}
 use Rattle.meter_server.specs.Program.{AnswersText, IsFaulty, IsJudged, IsNoCommand, ListsEdges, ListsLabels, TellsVerdict}
 use Rattle.meter_server.specs.Reading.{AreTextsOf, FailsFirst, MayRead}
@@ -90,6 +93,7 @@ pub record IsAcceptedOf (reads : MayRead) (config_path labels_path : List ℕ) (
   pub said : ConfigText
   pub faultless : config_of config.text.now ≡ Ok said
   pub plan_is : checked.plan ≡ plan_of said
+  pub policy_is : IsPolicyOf said checked.policy
   pub accepted : IsVerdict (config_of config.text.now) labels.text.now Accepted
 
 -- a live meter has ended, or didn't begin
@@ -111,6 +115,12 @@ RefusesFiles reads config labels outcome = JudgesFiles reads config labels outco
 abbrev pub ServesFiles : MayRead → (config labels : List ℕ) → (unread left : Option (List ℕ)) → Outcome → Type 0
 ServesFiles reads config labels unread left outcome =
     (RefusesFiles reads config labels outcome × (left ≡ unread)) ⊎ (((checked : Checked) × IsAcceptedOf reads config labels checked) × IsServed outcome)
+
+-- it is told of each line of an input whether the client of this name could notice it, by the configuration in one file, where the labels in another are accepted for it; else a verdict is told, and nothing is read of the input
+abbrev pub NoticesFiles : MayRead → (config labels client : List ℕ) → (before after : Moment) → Outcome → Type 0
+NoticesFiles reads config labels client before after outcome =
+    (RefusesFiles reads config labels outcome × (after ≡ before))
+    ⊎ ((checked : Checked) × IsAcceptedOf reads config labels checked × NoticesAs checked client (client_named checked.plan client) before after outcome)
 
 -- Fleets
 
@@ -154,6 +164,7 @@ Answers reads (Label path) before after outcome =
     (given : Option Given) × ReadsWhere (is_input path) before.unread after.unread given × ListsFile ListsLabels (MayGive reads given) path before.written after.written outcome
 Answers reads (Check config labels) before after outcome =
     (given : Option Given) × ReadsWhere (is_input config || is_input labels) before.unread after.unread given × (after.written ≡ before.written) × JudgesFiles (MayGive reads given) config labels outcome
+Answers reads (Quiet config labels client is_verbose) before after outcome = NoticesFiles reads config labels client before after outcome
 Answers reads (Audit workers names tells_progress) before after outcome = (after ≡ before) × AuditsFiles reads names outcome
 Answers reads (Session path) before after outcome = ConnectsFile reads path before after outcome
 Answers reads (Serve config labels address port sessions) before after outcome =
@@ -174,6 +185,7 @@ pub record Does (reads : MayRead) (ws : List (List ℕ)) (before after : Moment)
 abbrev pub is_quiet : Option Asked → Bool
 is_quiet (Some (Demo is_verbose)) = not is_verbose
 is_quiet (Some (Run path is_verbose)) = not is_verbose
+is_quiet (Some (Quiet config labels client is_verbose)) = not is_verbose
 is_quiet (Some (Audit workers names tells_progress)) = not tells_progress
 is_quiet (Some (Serve config labels address port sessions)) = false
 is_quiet _ = true

@@ -2,10 +2,12 @@ pub mod Answering
 pub mod Auditing
 pub mod Connecting
 pub mod Listing
+pub mod Noticing
 pub mod Outcomes
 pub mod Program
 pub mod Progress
 pub mod Reading
+pub mod Seen
 pub mod Sources
 pub mod Translating
 pub mod Watching

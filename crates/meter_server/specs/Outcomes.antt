@@ -17,7 +17,7 @@ use Rattle.meter_server.specs.Translating as translations
 use Rattle.fleet_audit.specs.Verdicts.{verdict_line}
 use Rattle.meter_server.specs.declared.listing.ListFault.{ListFault}
 use Rattle.meter_server.specs.declared.outcome.Outcome.{Outcome}
-use Rattle.meter_server.specs.declared.outcome.Outcome.TheVariants.{Done, Judged, Words, Unread, Fault, Broken, Unserved, Audited, Unaudited, Unwritten, Untranslated, Closed}
+use Rattle.meter_server.specs.declared.outcome.Outcome.TheVariants.{Done, Judged, Words, Unread, Stranger, Fault, Broken, Unserved, Audited, Unaudited, Unwritten, Untranslated, Closed}
 use Rattle.line_server.specs.declared.running.LineFault.{LineFault}
 use Rattle.line_server.specs.declared.running.LineFault.TheVariants.{Line}
 use Rattle.line_server.specs.declared.running.LineFault.TheVariants as lines
@@ -73,6 +73,7 @@ status_of Done = 0
 status_of (Judged verdict explanation) = status_of_verdict verdict
 status_of (Words fault) = status_of_words fault
 status_of (Unread file why) = 3
+status_of (Stranger told) = 2
 status_of (Fault fault) = 3
 status_of (Broken fault) = 3
 status_of (Unserved fault) = 3
@@ -120,6 +121,7 @@ error_of (Words (words.Version text)) = []
 error_of (Words (words.Usage text)) = string_bytes text
 error_of (Words words.Memory) = codes "cosem-flow: out of memory\n"
 error_of (Unread file why) = unread_line (string_bytes file) why
+error_of (Stranger told) = line (string_bytes told)
 error_of (Fault (Line number why)) = codes "cosem-flow: line " ++ (decimal number ++ (codes ": " ++ (reason_words why ++ codes "\n")))
 error_of (Fault fault) = line (fault_words fault)
 error_of (Audited text accepts) = []

@@ -2,12 +2,13 @@
 ghost use Rattle.std.specs.Prelude.{◌≡◌, false, true, MatchResult, Ok, Some, map, string_bytes};
 ghost use Rattle.command_words.specs.Commands.{asked_by};
 ghost use Rattle.config_reader.specs.ConfigOf.{config_of};
-ghost use Rattle.meter_server.specs.Answering.{Answers, AuditsFiles, ConnectsFile, IsAcceptedOf, IsUnread, JudgesFiles, ListsFile, RefusesFiles, RunsFile, ServesFiles, TellsUnread, is_quiet, unread_fleet};
+ghost use Rattle.meter_server.specs.Answering.{Answers, AuditsFiles, ConnectsFile, IsAcceptedOf, IsUnread, JudgesFiles, ListsFile, NoticesFiles, RefusesFiles, RunsFile, ServesFiles, TellsUnread, is_quiet, unread_fleet};
 ghost use Rattle.meter_server.specs.Program.{AnswersText, ListsEdges, ListsLabels};
 
 use crate::auditing::{audit_texts, audit_texts_aloud};
 use crate::demo::DEMO;
 use crate::files::TextFiles;
+use crate::noticing::{Look, notice_lines};
 use crate::outcome::Outcome;
 use crate::program::{
     Source, answer_aloud, answer_frames, answer_text, ended, faulty, judged, list_edges,
@@ -83,6 +84,20 @@ where
         Command::Check { config, labels } => {
             let sources = Sources::new(alloc, files, input, is_either_input(config, labels));
             check_files(alloc, &sources, config, labels)
+        }
+        Command::Quiet {
+            config,
+            labels,
+            client,
+            is_verbose,
+        } => {
+            let look = Look {
+                config,
+                labels,
+                client,
+                is_verbose,
+            };
+            notice_files(alloc, files, look, input, output, errors)
         }
         Command::Audit {
             workers,
@@ -231,6 +246,27 @@ where
 {
     match accepted_of_files(rt.alloc(), files, config, labels) {
         Ok(checked) => ended(serve_at(rt, checked, place, input, errors)),
+        Err(outcome) => outcome,
+    }
+}
+
+/// Tells of each line of the input whether a client could notice it, by the configuration in a file, where the labels in another are
+/// accepted for it.
+fn notice_files<F: TextFiles, I: Read, O: Write, E: Write>(
+    alloc: Global,
+    files: &F,
+    look: Look<'_>,
+    input: &mut I,
+    output: &mut O,
+    errors: &mut E,
+) -> Outcome
+    ensures notices { NoticesFiles (F.may_read files.now) look.entry.config.now look.entry.labels.now look.entry.client.now
+        (record { unread = I.remaining input.old; written = O.contents output.old })
+        (record { unread = I.remaining input.new; written = O.contents output.new }) result }
+    ensures quiet { look.entry.is_verbose ≡ false → E.contents errors.new ≡ E.contents errors.old }
+{
+    match accepted_of_files(alloc, files, look.config, look.labels) {
+        Ok(checked) => notice_lines(alloc, &checked, look, input, output, errors),
         Err(outcome) => outcome,
     }
 }

@@ -28,6 +28,8 @@ pub enum Outcome {
     Words(WordsFault),
     /// The file with this path isn't read as text, and why.
     Unread(String, FileFault),
+    /// The words of the command line name a client that the configuration hasn't, as these words say.
+    Stranger(String),
     /// A fault stopped the run of lines.
     Fault(LineFault),
     /// A fault ended the connection.
@@ -56,7 +58,7 @@ impl Outcome {
             Outcome::Done | Outcome::Judged(Verdict::Accepted, _) => 0,
             Outcome::Judged(_, _) => 1,
             Outcome::Words(WordsFault::Help(_) | WordsFault::Version(_)) => 0,
-            Outcome::Words(WordsFault::Usage(_)) => 2,
+            Outcome::Words(WordsFault::Usage(_)) | Outcome::Stranger(_) => 2,
             Outcome::Words(WordsFault::Memory) => 3,
             Outcome::Audited { is_accepted, .. } => u8::from(!is_accepted),
             Outcome::Unread(_, _)
@@ -122,6 +124,7 @@ impl Outcome {
                 Ok(String::from_str(alloc, "cosem-flow: out of memory\n")?)
             }
             Outcome::Unread(file, why) => unread_text(alloc, file.as_str(), *why),
+            Outcome::Stranger(words) => line_of(alloc, words.as_str()),
             Outcome::Fault(LineFault::Line(number, why)) => {
                 Ok(format!(in alloc; "cosem-flow: line {number}: {why}\n")?)
             }

@@ -1,6 +1,7 @@
-use Rattle.std.proofs.Common.{inl, inr, ◌∙◌}
+use Rattle.std.proofs.Common.{inl, inr, sym, subst, ◌∙◌}
 use Rattle.std.proofs.lemmas.Result.{err_from_is_err_and}
 use Rattle.config_reader.specs.ConfigOf.{config_of}
+use Rattle.config_rules.specs.Faultless.{IsPolicyOf}
 use Rattle.fleet_audit.specs.declared.verdict.Verdict.TheVariants.{Accepted}
 use Rattle.fleet_audit.proofs.Judged.{judged}
 use Rattle.meter_server.proofs.Answered.{file-read, refusal-accepts-nothing, unread-accepts-nothing}
@@ -31,6 +32,7 @@ returns-in-Ok-accepted g c =
       said = s.0;
       faultless = s.1;
       plan_is = c.in-Ok-accepted.ensures.plan ∙ s.2;
+      policy_is = subst (IsPolicyOf s.0) (sym c.in-Ok-accepted.ensures.policy) s.3;
       accepted = judged c.in-Ok.made (config_of config.text.now) labels.text.now Accepted c.in-Ok.ensures c.in-Ok-accepted.ensures.admitted;
     }
 
