@@ -1,9 +1,9 @@
 #!/usr/bin/env python3
-"""Instructions of `cosem-flow run`, counted by valgrind, which repeat from run to run where times don't.
+"""Instructions of `cosem-flow run` and `quiet`, counted by valgrind, which repeat from run to run where times don't.
 
     bench/instructions.py [PROGRAM]
 
-Told are the instructions for a mixed line of the demo, for a GET by a random name over 512 objects and 2,048 rights, for a byte
+Told are the instructions for a mixed line of the demo, and for one that is judged for a client, for a GET by a random name over 512 objects and 2,048 rights, for a byte
 of that configuration's text, for a GET of a buffer of 1,000 rows, whole and by 10 rows, for a capture into full buffers of
 10 and 1,000 rows, and for a second over 512 objects of which 20 have a turn at it, told by `tick 3600` and by 3,600 lines `at`. Each
 figure is a run with many lines less one with few. Run `tools/build` first; another program of the same words can be named, to be counted beside it.
@@ -21,6 +21,7 @@ import config
 import demo
 import profile
 
+LABELS = os.path.join(os.path.dirname(demo.CONFIG), "demo.labels")
 COUNTED = re.compile(rb"Collected : (\d+)")
 
 
@@ -37,9 +38,9 @@ def turns():
     return f'version = 2\nclient = [{{ name = "reader", sap = 32 }}]\nobject = [\n{objects}\n]\npolicy = {{ influence = [], learn = [] }}\n'
 
 
-def counted(program, text, lines):
-    """The instructions of a run by the configuration in one file over the lines in another."""
-    command = ["valgrind", "--tool=callgrind", "--callgrind-out-file=/dev/null", program, "run", text]
+def counted(program, text, lines, words=("run",), rest=()):
+    """The instructions of a run by the configuration in one file over the lines in another, or of another command of such words."""
+    command = ["valgrind", "--tool=callgrind", "--callgrind-out-file=/dev/null", program, *words, text, *rest]
     with open(lines, "rb") as given:
         run = subprocess.run(command, stdin=given, stdout=subprocess.DEVNULL, stderr=subprocess.PIPE, check=True)
     return int(COUNTED.search(run.stderr).group(1))
@@ -49,15 +50,18 @@ def main():
     program = sys.argv[1] if len(sys.argv) > 1 else demo.PROGRAM
     with tempfile.TemporaryDirectory() as folder:
 
-        def each(text, begin, line, few, many):
+        def each(text, begin, line, few, many, words=("run",), rest=()):
             """Of lines behind those that begin a run, the instructions for one."""
             runs = [profile.written(folder, f"{count}", begin + "".join(line() for _ in range(count))) for count in (few, many)]
-            less, more = (counted(program, text, run) for run in runs)
+            less, more = (counted(program, text, run, words, rest) for run in runs)
             return (more - less) / (many - few)
 
         rng = random.Random(1)
         mixed = each(demo.CONFIG, "", lambda: demo.request(rng) + "\n", 2_000, 22_000)
         print(f"a mixed line: {mixed:.0f}")
+        for client in ("public", "reader"):
+            noticed = each(demo.CONFIG, "", lambda: demo.request(rng) + "\n", 2_000, 22_000, ("quiet",), (LABELS, client))
+            print(f"a mixed line that is judged for the client {client}: {noticed:.0f}")
         wide = profile.written(folder, "wide.toml", config.config(rng, 512))
         names = iter(config.gets(rng, 512).splitlines(keepends=True))
         print(f"a GET by a random name over 512 objects: {each(wide, '', lambda: next(names), 2_000, 22_000):.0f}")

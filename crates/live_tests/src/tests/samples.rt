@@ -30,9 +30,11 @@ right = [
 policy = { influence = ["manager"], learn = ["reader", "manager"] }
 "#;
 
-const READER: u8 = 1;
+/// The place of the client that reads.
+pub(super) const READER: u8 = 1;
 
-const MANAGER: u8 = 2;
+/// The place of the client that sets the alarm.
+pub(super) const MANAGER: u8 = 2;
 
 /// The value of the register at the start.
 pub(super) const ENERGY: u32 = 123_456;

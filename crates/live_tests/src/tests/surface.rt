@@ -28,6 +28,7 @@ use fleet_audit::fleet::{AuditFault, Text, audit};
 use fleet_audit::verdict::Verdict;
 use fleet_audit::{Gate, Go};
 use flow_checker::check::{Checked, Refused, check};
+use flow_checker::notice::quiet;
 use flow_edges::Edge;
 use flow_edges::edges::edges;
 use label_certificate::fault::LabelFault;
