@@ -94,7 +94,8 @@ refusal P source (Some contents) = first_refusal (places P source contents)
 
 -- ---- what is agreed
 
--- what the server offers: block-transfer-with-get, bit 11 from the left, get, bit 19, set, bit 20, selective-access, bit 21, and action, bit 23 (own profile)
+-- what the server offers: block-transfer-with-get, bit 11 from the left, get, bit 19, set, bit 20, selective-access, bit 21, and action,
+-- bit 23 (own profile); bit 11 alone changes what is served (own profile)
 abbrev pub offered : ℕ
 offered = 0x00101D
 

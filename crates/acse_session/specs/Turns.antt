@@ -30,7 +30,7 @@ front_while test (t ∷ ts) = if test t then t ∷ front_while test ts else []
 
 -- Associations
 
--- the APDU opens an association, or asks to (IEC 62056-5-3, AARQ)
+-- the APDU opens an association, or asks to (IEC 62056-5-3, AARQ); it ends what stood before, whether it is accepted or not (own profile)
 unfoldable pub is_opening : Turn → Bool
 is_opening t = is_aarq t.apdu
 

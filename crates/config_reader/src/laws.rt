@@ -9,8 +9,8 @@ ghost use Rattle.config_rules.specs.Passes.{judged};
 ghost use Rattle.config_rules.specs.Read.{IsRead};
 ghost use Rattle.config_reader.specs.Room.{has_room};
 
-/// What the tables of a text say keeps to the ranges of its numbers, and each object says what its class asks for; it is
-/// without faults where no pass finds one.
+/// What the tables of a text say keeps to the ranges of its numbers and to the form of passwords, and each object says what
+/// its class asks for; it is without faults where no pass finds one.
 pub fn configurations_are_read()
     ensures read { (text : Text) (c : ConfigText) → tables_of text ≡ Ok c → IsRead c }
     ensures faultless { (text : Text) (c : ConfigText) → tables_of text ≡ Ok c → judged c ≡ Ok tt → IsFaultless c }

@@ -44,18 +44,25 @@ use Rattle.config_rules.proofs.Scripts.{IsScript, known_script}
 use Rattle.config_rules.proofs.Sizes.{AreProfileSizes, AreScheduleSizes, profile_sizes, schedule_sizes}
 use Rattle.config_rules.proofs.Monitored.{IsKept, monitored_cell}
 
--- whatever an object refers to is there: the objects of targets, and scripts
-pub known_of : (c : ConfigText) → IsRight c → (o : ObjectText) → IsIn c.objects o → EachReference (λ t. (p : ObjectText) × IsTarget c t.object p) (IsScript c) o.body
+-- a script that was looked up at some place, and found
+abbrev pub IsFound : ConfigText → ScriptRefText → Type 0
+IsFound c r = (place : Text) × (passes.known_script c place r ≡ Ok tt)
+
+-- whatever an object refers to was looked up
+pub found_of : (c : ConfigText) → IsRight c → (o : ObjectText) → IsIn c.objects o → EachReference (λ t. is_some (object_named c t.object) ≡ true) (IsFound c) o.body
 unfolding passes.known_references
-known_of c ok o i =
+found_of c ok o i =
     let at = each_ok _ _ _ _ (then_ok _ _ tt ok.judged.references).1 o i in
-    both o.body (references_ok (λ t. is_some (object_named c t.object) ≡ true) (λ r. (place : Text) × (passes.known_script c place r ≡ Ok tt)) _ _
-    (λ place t h. holds _ _ _ h) (λ place r h. (place, h)) at.0 o.body at.1) (ok.names.references o i)
+    references_ok (λ t. is_some (object_named c t.object) ≡ true) (IsFound c) _ _ (λ place t h. holds _ _ _ h) (λ place r h. (place, h)) at.0 o.body at.1
+
+-- and is there: the objects of targets, and scripts
+pub known_of : (c : ConfigText) → IsRight c → (o : ObjectText) → IsIn c.objects o → EachReference (λ t. (p : ObjectText) × IsTarget c t.object p) (IsScript c) o.body
+known_of c ok o i = both o.body (found_of c ok o i) (ok.names.references o i)
   where
-    run : (r : ScriptRefText) → (place : Text) × (passes.known_script c place r ≡ Ok tt) → IsName r.table → IsScript c r
+    run : (r : ScriptRefText) → IsFound c r → IsName r.table → IsScript c r
     run r h n = known_script c ok h.0 r n h.1
 
-    both : (body : BodyText) → EachReference (λ t. is_some (object_named c t.object) ≡ true) (λ r. (place : Text) × (passes.known_script c place r ≡ Ok tt)) body →
+    both : (body : BodyText) → EachReference (λ t. is_some (object_named c t.object) ≡ true) (IsFound c) body →
         EachReference (λ t. IsName t.object) (λ r. IsName r.table) body → EachReference (λ t. (p : ObjectText) × IsTarget c t.object p) (IsScript c) body
     both (DataText value) h n = tt
     both (RegisterText value default scaler unit) h n = tt

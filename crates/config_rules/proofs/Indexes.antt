@@ -14,7 +14,7 @@ pub method_of : (part : Part) (index : ℕ) → has_method (class_of part) index
 method_of part index h = sym (methods_are part index) ∙ h
 
 -- a list whose elements pass one test passes another that this implies
-implied : {A : Type 0} (test other : A → Bool) → ((x : A) → test x ≡ true → other x ≡ true) → (xs : List A) → list_all test xs ≡ true → list_all other xs ≡ true
+pub implied : {A : Type 0} (test other : A → Bool) → ((x : A) → test x ≡ true → other x ≡ true) → (xs : List A) → list_all test xs ≡ true → list_all other xs ≡ true
 implied test other does [] h = refl
 implied test other does (x ∷ xs) h =
     let parts = and_parts (test x) (list_all test xs) h in

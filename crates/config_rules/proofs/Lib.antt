@@ -1,4 +1,5 @@
 pub mod Actions
+pub mod Alternatives
 pub mod Cells
 pub mod Clocks
 pub mod Fits
@@ -6,6 +7,7 @@ pub mod Indexes
 pub mod Monitored
 pub mod Named
 pub mod NoMenus
+pub mod Objects
 pub mod OneClock
 pub mod Passed
 pub mod Rights

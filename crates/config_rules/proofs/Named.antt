@@ -1,5 +1,5 @@
 -- Names of objects: as texts, and as logical names.
-use Rattle.std.proofs.Common.{◌≡◌, ℕ, ◌==◌, Bool, true, false, cond, List, [], ◌∷◌, ◌++◌, map, length, find, refl, sym, ap, subst, ◌∙◌, inl, inr, Option, Some, None, is_some, Ok}
+use Rattle.std.proofs.Common.{◌≡◌, ℕ, ◌==◌, Bool, true, false, cond, List, [], ◌∷◌, ◌++◌, map, length, find, refl, sym, ap, subst, ◌∙◌, inl, inr, Option, Some, None, is_some, eq-eqb, Ok}
 use Rattle.std.specs.Prelude.{option_map, codes, if◌then◌else◌}
 use Rattle.std.specs.Str.{bytes_eq}
 use Rattle.std.specs.List.{list_any}
@@ -149,6 +149,17 @@ client_names_new c h = each_new_distinct (λ client. client.name) passes.new_cli
         let first = then_ok (fault_if ClientTwice (at ++ codes ".name") (list_any (λ z. bytes_eq z.name client.name) earlier)) _ tt ok in
         let none = not_faulty ClientTwice (at ++ codes ".name") _ first.1 in
         absurd (false≢true (sym (none_in (λ z. bytes_eq z.name client.name) earlier y none i) ∙ (bytes_eq-Decides y.name client.name).1 e))
+
+-- and no two have one service access point
+pub saps_new : (c : ConfigText) → passes.new_clients c ≡ Ok tt → AreDistinct (map (λ client. client.sap) c.clients)
+unfolding passes.new_clients passes.new_client
+saps_new c h = each_new_distinct (λ client. client.sap) passes.new_client other (codes "client") c.clients h
+  where
+    other : AsksNewKey (λ client. client.sap) passes.new_client
+    other earlier at client ok y i e =
+        let first = then_ok (fault_if ClientTwice (at ++ codes ".name") (list_any (λ z. bytes_eq z.name client.name) earlier)) _ tt ok in
+        let none = not_faulty ClientTwice (at ++ codes ".sap") _ first.2 in
+        absurd (false≢true (sym (none_in (λ z. z.sap == client.sap) earlier y none i) ∙ eq-eqb y.sap client.sap e))
 
 is_association : name_of (codes "0.0.40.0.0.255") ≡ association_name
 unfolding name_at

@@ -8,9 +8,9 @@ use Rattle.meter_theory.specs.Classes.{is_known, is_of_class, may_be_fed}
 use Rattle.meter_theory.specs.declared.classes.Class.TheVariants as classes
 use Rattle.meter_theory.specs.Lists.{IsIn}
 use Rattle.meter_theory.specs.Plan.{Object, class_of, clock_object}
+use Rattle.meter_theory.specs.Sound.{IsClock, HasAtMostOneClock}
 use Rattle.meter_theory.proofs.Lists.{found, from_map}
 use Rattle.config_text.specs.Parts.{Text, ConfigText, ObjectText}
-use Rattle.config_rules.specs.Faultless.{IsClock, HasAtMostOneClock}
 use Rattle.config_rules.specs.Passes as passes
 use Rattle.config_rules.specs.Passes.{is_clock, new_clock, judged}
 use Rattle.config_rules.specs.PlanOf.{object_of, plan_of}

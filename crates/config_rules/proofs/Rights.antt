@@ -1,24 +1,26 @@
 -- Rights are those of clients of the plan, on what its objects have.
-use Rattle.std.proofs.Common.{◌≡◌, ◌<◌, ◌+◌, ℕ, arith, Bool, true, false, cond, List, [], ◌∷◌, map, length, refl, sym, subst, Some, nat_lt, Ok}
+use Rattle.std.proofs.Common.{◌≡◌, ◌<◌, ◌+◌, ℕ, arith, Bool, true, false, cond, not, List, [], ◌∷◌, ◌++◌, map, length, refl, sym, subst, Some, is_some, nat_lt, Ok}
 use Rattle.std.specs.Prelude.{codes, ◌&&◌, ◌||◌}
 use Rattle.std.proofs.lemmas.Bool.{and_from, lt-ltb}
 use Rattle.std.proofs.lemmas.List.{length-map}
 use Rattle.std.specs.List.{list_all, list_any, position_from}
 use Rattle.std.specs.Str.{bytes_eq}
-use Rattle.meter_theory.specs.Classes.{has_attribute, has_method}
+use Rattle.cosem_data.specs.Cells.{cell}
+use Rattle.meter_theory.specs.Classes.{has_attribute, has_method, is_settable}
 use Rattle.meter_theory.specs.Lists.{IsIn, some_passes}
-use Rattle.meter_theory.specs.Plan.{class_of, interface_of}
-use Rattle.meter_theory.specs.Sound.{is_right, are_indexes, highest_method}
+use Rattle.meter_theory.specs.Plan.{class_of, interface_of, rule_of}
+use Rattle.meter_theory.specs.Sound.{is_right, sets_cells, are_indexes, highest_method}
 use Rattle.config_text.specs.declared.fault.Code.TheVariants as code
+use Rattle.config_text.specs.Fault.{fault_if}
 use Rattle.config_text.specs.Parts.{Text, ConfigText, ClientText, ObjectText, RightText}
-use Rattle.config_rules.specs.Names.{class_named}
-use Rattle.config_rules.specs.PlanOf.{part_of, plan_of, or_else, right_of, client_of, client_place}
+use Rattle.config_rules.specs.Names.{class_named, passes_or_chosen}
+use Rattle.config_rules.specs.PlanOf.{part_of, plan_of, name_of, or_else, right_of, client_of, client_place}
 use Rattle.config_rules.specs.Passes as passes
 use Rattle.config_rules.specs.Passes.{judged}
 use Rattle.config_rules.specs.Walks.{each, references}
 use Rattle.config_rules.proofs.Passed.{then_ok, holds, each_ok, each_holds}
-use Rattle.config_rules.proofs.Cells.{IsRight, IsTarget, target_of}
-use Rattle.config_rules.proofs.Indexes.{attributes_of, methods_of}
+use Rattle.config_rules.proofs.Cells.{IsRight, IsTarget, target_of, settable_cell}
+use Rattle.config_rules.proofs.Indexes.{implied, attributes_of, methods_of}
 
 -- a client that is there has a place
 place_below : (name : Text) (clients : List ClientText) (i : ℕ) → list_any (λ x. bytes_eq x.name name) clients ≡ true →
@@ -40,13 +42,19 @@ known_right c ok r i =
     let place = place_below r.client c.clients 0 (holds _ _ _ at.1) in
     subst (λ k. or_else 0 k < length c.clients) (sym place.1) (omega (arith, place.2))
 
--- a right is on an object of the plan, and on what this has
-pub right_is : (c : ConfigText) → IsRight c → (r : RightText) → IsIn c.rights r → is_right (plan_of c) (right_of c r) ≡ true
-unfolding passes.known_references passes.known_indexes passes.right_indexes
-right_is c ok r i =
+-- a right is on an object of the configuration
+object_of_right : (c : ConfigText) → IsRight c → (r : RightText) → IsIn c.rights r → (o : ObjectText) × IsTarget c r.object o
+unfolding passes.known_references
+object_of_right c ok r i =
     let objects = then_ok (each (λ at o. references (λ at t. passes.known_object c at t.object) (passes.known_script c) at o.body) (codes "object") c.objects) _ tt ok.judged.references in
     let at = each_ok (λ at z. passes.known_object c at z.object) _ _ _ (then_ok _ _ tt objects.2).1 r i in
-    let o = target_of c ok r.object (ok.names.rights r i) (holds _ _ _ at.1) in
+    target_of c ok r.object (ok.names.rights r i) (holds _ _ _ at.1)
+
+-- a right is on an object of the plan, and on what this has
+pub right_is : (c : ConfigText) → IsRight c → (r : RightText) → IsIn c.rights r → is_right (plan_of c) (right_of c r) ≡ true
+unfolding passes.known_indexes passes.right_indexes
+right_is c ok r i =
+    let o = object_of_right c ok r i in
     let usable = then_ok _ (λ _. each (passes.right_indexes c) (codes "right") c.rights) tt ok.judged.indexes in
     let judged = each_ok (passes.right_indexes c) _ _ _ usable.2 r i in
     let gets = then_ok _ _ tt judged.1 in
@@ -63,3 +71,19 @@ right_is c ok r i =
         list_all (has (class_of (part_of c o.body))) indexes ≡ true
     at_class o target has indexes place h =
         subst (λ k. list_all (has k) indexes ≡ true) target.class (each_holds code.Index (has (class_named c r.object)) place 0 indexes h)
+
+-- what a right lets a client set are settable cells
+pub right_sets : (c : ConfigText) → IsRight c → (r : RightText) → IsIn c.rights r → sets_cells (plan_of c) (right_of c r) ≡ true
+unfolding passes.settable_rights
+right_sets c ok r i =
+    let o = object_of_right c ok r i in
+    let judged = each_ok (λ at z. each (λ at index. fault_if code.NotSettable at (not (passes_or_chosen c is_settable z.object index))) (at ++ codes ".set") z.sets) _ _ _ ok.judged.rights r i in
+    subst (λ found. some_passes (λ p. list_all (λ index. is_some (rule_of (plan_of c) (cell (class_of p.part) (name_of r.object) index))) r.sets) found ≡ true) (sym o.1.planned)
+    (implied (passes_or_chosen c is_settable r.object) (λ index. is_some (rule_of (plan_of c) (cell (class_of (part_of c o.0.body)) (name_of r.object) index)))
+    (settable o.0 o.1) r.sets (each_holds code.NotSettable (passes_or_chosen c is_settable r.object) _ 0 r.sets judged.1))
+  where
+    settable : (o : ObjectText) → IsTarget c r.object o → (index : ℕ) → passes_or_chosen c is_settable r.object index ≡ true →
+        is_some (rule_of (plan_of c) (cell (class_of (part_of c o.body)) (name_of r.object) index)) ≡ true
+    settable o target index h =
+        let s = settable_cell c ok (record { object = r.object; index = index }) o target h in
+        subst (λ k. is_some (rule_of (plan_of c) (cell k (name_of r.object) index)) ≡ true) target.class (subst (λ z. is_some z ≡ true) (sym s.1.1) refl)

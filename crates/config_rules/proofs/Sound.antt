@@ -7,7 +7,7 @@ use Rattle.cosem_data.specs.Tree.{Tree, null_data}
 use Rattle.cosem_data.specs.Kinds.{kind_of}
 use Rattle.cosem_data.specs.Cells.{cell, same_name}
 use Rattle.cosem_data.specs.declared.cell.CellRef.{CellRef}
-use Rattle.meter_theory.specs.Classes.{is_of_class, is_settable, is_capturable}
+use Rattle.meter_theory.specs.Classes.{is_known, is_of_class, is_settable, is_capturable, may_be_fed}
 use Rattle.meter_theory.specs.declared.classes.Class.TheVariants as classes
 use Rattle.meter_theory.specs.ClientNames.{may_be_named}
 use Rattle.meter_theory.specs.Lists.{IsIn, AreDistinct}
@@ -17,7 +17,7 @@ use Rattle.meter_theory.specs.State.{value}
 use Rattle.meter_theory.specs.Value.{OfKind, counter, is_within_limits}
 use Rattle.meter_theory.specs.Plan.{start_of, cells, entries_in_use, class_of, association_name}
 use Rattle.meter_theory.specs.Steps.{scripts_of, Captures, captures_in}
-use Rattle.meter_theory.specs.Sound.{IsSound, IsCapturable, IsSoundPart, is_name, has_action_sizes, has_script_sizes, has_capture_sizes, has_part_sizes, has_sizes, has_sap, has_script, is_right, scripts_run_by}
+use Rattle.meter_theory.specs.Sound.{IsSound, IsCapturable, IsSoundPart, is_name, has_action_sizes, has_script_sizes, has_capture_sizes, has_part_sizes, has_sizes, has_ranges, has_sap, is_password_or_none, has_script, is_right, sets_cells, has_numbers, scripts_run_by, HasOwnAlternatives}
 use Rattle.meter_theory.specs.declared.limits.TheConstants as limits
 use Rattle.meter_theory.proofs.Menus.{in_count}
 use Rattle.meter_theory.proofs.Rights.{cell_of_found}
@@ -35,15 +35,19 @@ use Rattle.config_rules.specs.Read.{IsRead, is_body_of, may_have}
 use Rattle.config_rules.specs.Passes as passes
 use Rattle.config_rules.specs.Passes.{judged}
 use Rattle.config_rules.proofs.Passed.{then_ok, holds, each_ok, each_capture_ok, alternatives_in, EachReference, passed}
-use Rattle.config_rules.proofs.Named.{IsName, client_names_new, names_apart, plan_names}
+use Rattle.config_rules.proofs.Named.{IsName, client_names_new, saps_new, names_apart, plan_names}
 use Rattle.config_rules.proofs.Cells.{IsRight, IsTarget, right, settable_cell, only_place}
 use Rattle.config_rules.proofs.Clocks.{moment_there}
 use Rattle.config_rules.proofs.Starts.{of_body, register_start}
 use Rattle.config_rules.proofs.Scripts.{IsScript, script_numbers}
 use Rattle.config_rules.proofs.Actions.{IsAction, action_at, written_value, writes, calls}
-use Rattle.config_rules.proofs.Rights.{right_is}
+use Rattle.config_rules.proofs.Rights.{right_is, right_sets}
 use Rattle.config_rules.proofs.Sizes.{at_most_ok, few_of_map, each_of_map, six, profile_sizes, schedule_sizes}
 use Rattle.config_rules.proofs.Fits.{known_of, monitor_source, starts}
+use Rattle.config_rules.proofs.Objects.{known_class, fed_of_class, ranges_of, numbers_of}
+use Rattle.config_rules.proofs.Alternatives.{own_alternatives}
+use Rattle.config_rules.proofs.NoMenus.{no_menus}
+use Rattle.config_rules.proofs.OneClock.{one_clock_at_most}
 
 -- Captures
 
@@ -105,12 +109,16 @@ captured_cell c ok t o target h =
       | inr e ↦ in_use c t o target (e.0 ∙ sym target.class) e.1
     ]
 
-captures : (c : ConfigText) → IsRight c → (o : ObjectText) → IsIn c.objects o → (body : BodyText) → o.body ≡ body → (taken : Captures) → captures_in (part_of c body) ≡ Some taken →
-    (x : CellRef) → IsIn (captured_by taken.captured) x → IsIn (cells (plan_of c)) x × IsCapturable (plan_of c) x
+-- a target that a profile captures
+abbrev IsCapture : ConfigText → CellRef → Type 0
+IsCapture c x = (t : TargetText) × (o : ObjectText) × IsTarget c t.object o × (target_is c is_capturable t ≡ true) × (x ≡ cell_named c t)
+
+captured_target : (c : ConfigText) → IsRight c → (o : ObjectText) → IsIn c.objects o → (body : BodyText) → o.body ≡ body → (taken : Captures) → captures_in (part_of c body) ≡ Some taken →
+    (x : CellRef) → IsIn (captured_by taken.captured) x → IsCapture c x
 unfolding passes.usable_indexes
-captures c ok o i (DataText value) is taken e x j = cc
-captures c ok o i (RegisterText value default scaler unit) is taken e x j = cc
-captures c ok o i (ProfileText all period entries sort_method) is taken e x j =
+captured_target c ok o i (DataText value) is taken e x j = cc
+captured_target c ok o i (RegisterText value default scaler unit) is taken e x j = cc
+captured_target c ok o i (ProfileText all period entries sort_method) is taken e x j =
     let own : Captures = record { captured = captures_of c all; entries = entries } in
     let same : own ≡ taken = cc in
     let cells_of = from_flat_map (λ ys. ys) (alternatives (captures_of c all)) x (subst (λ z. IsIn (captured_by z.captured) x) (sym same) j) in
@@ -118,13 +126,17 @@ captures c ok o i (ProfileText all period entries sort_method) is taken e x j =
     let y = from_map (λ z. cell_named c z.target) texts.0 x (subst (λ ys. IsIn ys x) texts.2 cells_of.2) in
     let refers = subst (EachReference (λ t. (p : ObjectText) × IsTarget c t.object p) (IsScript c)) is (known_of c ok o i) texts.0 texts.1 y.0 y.1 in
     let index = each_capture_ok _ _ all (of_body c ok o i (ProfileText all period entries sort_method) is).indexes.1 texts.0 texts.1 y.0 y.1 in
-    let r = captured_cell c ok y.0.target refers.0 refers.1 (holds _ _ _ index.1) in
-    (subst (IsIn (cells (plan_of c))) (sym y.2) r.0, subst (IsCapturable (plan_of c)) (sym y.2) r.1)
-captures c ok o i (ClockText time) is taken e x j = cc
-captures c ok o i (ScriptTableText scripts) is taken e x j = cc
-captures c ok o i (MonitorText monitored ths actions) is taken e x j = cc
-captures c ok o i (ScheduleText script type times) is taken e x j = cc
-captures c ok o i UnknownText is taken e x j = cc
+    (y.0.target, refers.0, refers.1, holds _ _ _ index.1, y.2)
+captured_target c ok o i (ClockText time) is taken e x j = cc
+captured_target c ok o i (ScriptTableText scripts) is taken e x j = cc
+captured_target c ok o i (MonitorText monitored ths actions) is taken e x j = cc
+captured_target c ok o i (ScheduleText script type times) is taken e x j = cc
+captured_target c ok o i UnknownText is taken e x j = cc
+
+captures : (c : ConfigText) → IsRight c → (x : CellRef) → IsCapture c x → IsIn (cells (plan_of c)) x × IsCapturable (plan_of c) x
+captures c ok x t =
+    let r = captured_cell c ok t.0 t.1 t.2 t.3 in
+    (subst (IsIn (cells (plan_of c))) (sym t.4) r.0, subst (IsCapturable (plan_of c)) (sym t.4) r.1)
 
 -- References
 
@@ -230,29 +242,47 @@ few c ok =
     let clients = then_ok (passes.at_most limits.CLIENTS (codes "client") c.clients) _ tt ok.judged.limits in
     (at_most_ok _ _ c.clients clients.1, at_most_ok _ _ c.objects (then_ok (passes.at_most limits.OBJECTS (codes "object") c.objects) _ tt clients.2).1)
 
--- a plan's clients have the names of the configuration's
+-- a plan's clients have the names of the configuration's, and their service access points
 names_of_clients : (clients : List ClientText) → map (λ client. client.name) (map client_of clients) ≡ map (λ client. client.name) clients
 names_of_clients [] = refl
 names_of_clients (client ∷ clients) = ap (λ names. client.name ∷ names) (names_of_clients clients)
 
+saps_of_clients : (clients : List ClientText) → map (λ client. client.sap) (map client_of clients) ≡ map (λ client. client.sap) clients
+saps_of_clients [] = refl
+saps_of_clients (client ∷ clients) = ap (λ saps. client.sap ∷ saps) (saps_of_clients clients)
+
 -- The plan of a configuration without a fault is sound.
 pub plan_is_sound : (c : ConfigText) → IsRead c → judged c ≡ Ok tt → IsSound (plan_of c)
 plan_is_sound c read h = record {
+  version = read.version;
   names = plan_names c ok.names ok.new;
   apart = λ o i. let p = from_map (object_of c) c.objects o i in
       subst (λ z. same_name z.name association_name ≡ false) (sym p.2) (names_apart c ok.names ok.judged.objects p.0 p.1);
+  classes = λ o i. let p = from_map (object_of c) c.objects o i in
+      subst (λ z. is_known c.version (class_of z.part) ≡ true) (sym p.2) (known_class c ok p.0 p.1);
   few_clients = leb-true (length (map client_of c.clients)) limits.CLIENTS (few_of_map client_of limits.CLIENTS c.clients (few c ok).0);
   few_objects = leb-true (length (map (object_of c) c.objects)) limits.OBJECTS (few_of_map (object_of c) limits.OBJECTS c.objects (few c ok).1);
   sizes = λ o i. let p = from_map (object_of c) c.objects o i in
       subst (λ z. has_sizes z ≡ true) (sym p.2)
       (and_from (is_name (name_of p.0.name)) (has_part_sizes (part_of c p.0.body)) (six p.0.name (ok.names.objects p.0 p.1)) (part_sizes c ok p.0 p.1 p.0.body refl));
+  ranges = λ o i. let p = from_map (object_of c) c.objects o i in
+      subst (λ z. has_ranges z.part ≡ true) (sym p.2) (ranges_of c p.0.body (read.ranges p.0 p.1));
   saps = λ client i. let p = from_map client_of c.clients client i in subst (λ z. has_sap z ≡ true) (sym p.2) (read.saps p.0 p.1);
+  saps_apart = subst AreDistinct (sym (saps_of_clients c.clients)) (saps_new c ok.judged.access);
   client_names = λ client i. let p = from_map client_of c.clients client i in
       subst (λ z. may_be_named c.version z.name ≡ true) (sym p.2) (ok.names.clients p.0 p.1);
   clients_apart = subst AreDistinct (sym (names_of_clients c.clients)) (client_names_new c ok.judged.access);
+  passwords = λ client i. let p = from_map client_of c.clients client i in
+      subst (λ z. is_password_or_none z.password ≡ true) (sym p.2) (read.passwords p.0 p.1);
   rights = λ r i. let p = from_map (right_of c) c.rights r i in
       subst (λ z. is_right (plan_of c) z ≡ true) (sym p.2) (right_is c ok p.0 p.1);
+  sets = λ r i. let p = from_map (right_of c) c.rights r i in
+      subst (λ z. sets_cells (plan_of c) z ≡ true) (sym p.2) (right_sets c ok p.0 p.1);
+  inputs = λ o i fed. let p = from_map (object_of c) c.objects o i in
+      subst (λ z. may_be_fed (class_of z.part) ≡ true) (sym p.2) (fed_of_class c ok p.0 p.1 (ap (λ z. z.fed) (sym p.2) ∙ fed));
   starts = starts c ok;
+  numbers = λ o i. let p = from_map (object_of c) c.objects o i in
+      subst (λ z. has_numbers (plan_of c) z.part ≡ true) (sym p.2) (numbers_of c ok p.0 p.1 p.0.body refl);
   writes = λ o i script j x v k. let p = from_map (object_of c) c.objects o i in
       writes c ok p.0 p.1 script (subst (λ z. IsIn (scripts_of z.part) script) p.2 j) x v k;
   calls = λ o i script j m v k. let p = from_map (object_of c) c.objects o i in
@@ -262,9 +292,16 @@ plan_is_sound c read h = record {
   references = λ o i r j. let p = from_map (object_of c) c.objects o i in
       scripts_run c ok p.0 p.1 p.0.body refl r (subst (λ z. IsIn (scripts_run_by z.part) r) p.2 j);
   captures = λ o i taken is x j. let p = from_map (object_of c) c.objects o i in
-      captures c ok p.0 p.1 p.0.body refl taken (sym (ap (λ z. captures_in z.part) p.2) ∙ is) x j;
+      captures c ok x (captured_target c ok p.0 p.1 p.0.body refl taken (sym (ap (λ z. captures_in z.part) p.2) ∙ is) x j);
+  capturable = λ o i taken is x j. let p = from_map (object_of c) c.objects o i in
+      let t = captured_target c ok p.0 p.1 p.0.body refl taken (sym (ap (λ z. captures_in z.part) p.2) ∙ is) x j in
+      subst (λ y. is_capturable y.class_id y.index ≡ true) (sym t.4) t.3;
   parts = λ o i. let p = from_map (object_of c) c.objects o i in
       subst (λ z. IsSoundPart (plan_of c) z.part) (sym p.2) (sound_part c ok p.0 p.1 p.0.body refl);
+  alternatives = λ o i. let p = from_map (object_of c) c.objects o i in
+      subst (λ z. HasOwnAlternatives z.part) (sym p.2) (own_alternatives c ok p.0 p.1 p.0.body refl);
+  menus_since = no_menus c read;
+  one_clock = one_clock_at_most c read h;
 }
   where
     ok : IsRight c

@@ -1,14 +1,10 @@
 -- Configurations in which no pass finds a fault, and their policies.
-use Rattle.std.specs.Prelude.{◌≡◌, ℕ, Ok, None, true, false, List, [], ◌∷◌, ◌==◌}
+use Rattle.std.specs.Prelude.{◌≡◌, ℕ, Ok, List, [], ◌∷◌, ◌==◌}
 use Rattle.std.specs.List.{list_any}
 use Rattle.cosem_data.specs.Clients.{has_client}
 use Rattle.cosem_data.specs.declared.clients.ClientSet.{ClientSet}
-use Rattle.meter_theory.specs.Classes.{is_of_class}
-use Rattle.meter_theory.specs.declared.classes.Class.TheVariants.{Clock}
 use Rattle.meter_theory.specs.declared.flow.Label.{Label}
 use Rattle.meter_theory.specs.Labels.{Labels, Policy}
-use Rattle.meter_theory.specs.Lists.{IsIn}
-use Rattle.meter_theory.specs.Plan.{Plan, Object, class_of, clock_object}
 use Rattle.config_text.specs.Parts.{Text, SetsText, LabelText, ConfigText}
 use Rattle.config_rules.specs.Passes.{judged}
 use Rattle.config_rules.specs.PlanOf.{cell_named, client_place}
@@ -39,13 +35,3 @@ pub record IsPolicyOf (c : ConfigText) (policy : Policy) : Type 0 where
 pub record IsFaultless (c : ConfigText) : Type 0 where
   pub read : IsRead c
   pub judged : judged c ≡ Ok tt
-
--- an object is of the class of clocks
-abbrev pub IsClock : Object → Type 0
-IsClock o = is_of_class (class_of o.part) Clock ≡ true
-
--- One clock at most, which isn't fed, and none in a plan of version 1 (own profile).
-pub record HasAtMostOneClock (P : Plan) : Type 0 where
-  pub one : (o p : Object) → IsIn P.objects o → IsIn P.objects p → IsClock o → IsClock p → o ≡ p
-  pub fed : (o : Object) → IsIn P.objects o → IsClock o → o.fed ≡ false
-  pub since : P.version ≡ 1 → clock_object P ≡ None

@@ -1,14 +1,15 @@
 //! What holds of every configuration.
 ghost use Rattle.std.specs.Prelude.{◌≡◌};
 ghost use Rattle.meter_theory.specs.Plan.{HasNoMenus};
-ghost use Rattle.meter_theory.specs.Sound.{IsSound};
+ghost use Rattle.meter_theory.specs.Sound.{IsSound, HasAtMostOneClock};
 ghost use Rattle.config_text.specs.Parts.{ConfigText};
-ghost use Rattle.config_rules.specs.Faultless.{IsFaultless, HasAtMostOneClock};
+ghost use Rattle.config_rules.specs.Faultless.{IsFaultless};
 ghost use Rattle.config_rules.specs.PlanOf.{plan_of};
 ghost use Rattle.config_rules.specs.Read.{IsRead};
 
-/// A configuration whose tables could be read, and in which no pass finds a fault, describes a sound plan: one of which
-/// the promises about influence and secrecy hold, and from whose start a meter runs.
+/// A configuration whose tables could be read, and in which no pass finds a fault, describes a sound plan: one in which no
+/// fault of a configuration is left. Of such a plan the promises about influence and secrecy hold, and from its start a
+/// meter runs.
 pub fn faultless_configurations_are_sound()
     ensures sound { (c : ConfigText) → IsFaultless c → IsSound (plan_of c) }
 {

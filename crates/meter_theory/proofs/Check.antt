@@ -2,8 +2,8 @@
 use Rattle.cosem_data.proofs.Same.{same_cell-true, same_cell-refl}
 use Rattle.std.proofs.Common.{◌≡◌, ◌==◌, ◌⊎◌, ℕ, Bool, true, false, cond, ◌&&◌, List, [], ◌∷◌, map, flat_map, find, refl, sym, ap, ap₂, subst, ◌∙◌, inl, inr, Option, Some, None}
 use Rattle.std.specs.List.{list_any}
-use Rattle.std.proofs.lemmas.Bool.{and_parts}
-use Rattle.meter_theory.specs.Lists.{IsIn, for_some}
+use Rattle.std.proofs.lemmas.Bool.{and_from, and_parts, false≢true}
+use Rattle.meter_theory.specs.Lists.{IsIn, AreDistinct, for_some}
 use Rattle.meter_theory.specs.Menus.{Choice, alternatives, has_menu}
 use Rattle.meter_theory.specs.Value.{counter}
 use Rattle.cosem_data.specs.Tree.{Tree, null_data, array, no_trees}
@@ -49,6 +49,19 @@ same_cause-true Schedule Schedule h = refl
 same_cause-true causes.Clock causes.Clock h = refl
 same_cause-true _ _ h = cc
 
+same_cause-refl : (a : Cause) → same_cause a a ≡ true
+same_cause-refl Monitored = refl
+same_cause-refl Monitor = refl
+same_cause-refl Captured = refl
+same_cause-refl Menu = refl
+same_cause-refl Period = refl
+same_cause-refl Schedule = refl
+same_cause-refl causes.Clock = refl
+
+same_edge-refl : (e : Edge) → same_edge e e ≡ true
+same_edge-refl e = and_from (same_cause e.cause e.cause) _ (same_cause-refl e.cause)
+    (and_from (same_cell e.source e.source) (same_cell e.target e.target) (same_cell-refl e.source) (same_cell-refl e.target))
+
 same_edge-true : (e f : Edge) → same_edge e f ≡ true → e ≡ f
 same_edge-true e f h =
     let a = and_parts (same_cause e.cause f.cause) (same_cell e.source f.source && same_cell e.target f.target) h in
@@ -86,6 +99,29 @@ from_first earlier (f ∷ es) e i =
       | true ↦ λ j. inr (from_first earlier es e j)
       | false ↦ λ j. elim j [ inl same ↦ inl same | inr k ↦ inr (from_first (f ∷ earlier) es e k) ]
     ] i
+
+first_apart : (earlier es : List Edge) (e : Edge) → IsIn (first_of_each earlier es) e → IsIn earlier e → ⊥
+first_apart earlier [] e i before = i
+first_apart earlier (f ∷ es) e i before =
+    elim (list_any (same_edge f) earlier) as (λ b. list_any (same_edge f) earlier ≡ b → IsIn (cond b (first_of_each earlier es) (f ∷ first_of_each (f ∷ earlier) es)) e → ⊥) [
+      | true ↦ λ p j. first_apart earlier es e j before
+      | false ↦ λ p j. elim j [
+        | inl same ↦ absurd (false≢true (sym p ∙ in_any (same_edge f) earlier e before (subst (λ z. same_edge f z ≡ true) (sym same) (same_edge-refl f))))
+        | inr k ↦ first_apart (f ∷ earlier) es e k (inr before)
+      ]
+    ] refl i
+
+first_distinct : (earlier es : List Edge) → AreDistinct (first_of_each earlier es)
+first_distinct earlier [] = tt
+first_distinct earlier (f ∷ es) =
+    elim (list_any (same_edge f) earlier) as (λ b. AreDistinct (cond b (first_of_each earlier es) (f ∷ first_of_each (f ∷ earlier) es))) [
+      | true ↦ first_distinct earlier es
+      | false ↦ (λ i. first_apart (f ∷ earlier) es f i (inl refl), first_distinct (f ∷ earlier) es)
+    ]
+
+-- each edge is listed once
+pub edges-distinct : (P : Plan) → AreDistinct (edges P)
+edges-distinct P = first_distinct [] (flat_map (λ o. edges_in P o.name o.part) P.objects)
 
 -- The edges of a menu
 

@@ -390,12 +390,14 @@ captured_now P s (x ∷ xs) h = (h x (inl refl), captured_now P s xs (λ y i. h 
 
 capturable_now : (P : Plan) (s : State) → IsState P s → (x : CellRef) → IsIn (cells P) x → IsCapturable P x → IsCaptured P x (value s x)
 capturable_now P s k x i (inl h) = inl (h.0, h.1, k.settable x (subst (λ ks. IsIn ks x) (sym k.cells) (cell_held P x i)) h.0 h.1)
-capturable_now P s k x i (inr h) = inr (at h.0.part refl (k.inner h.0 h.1))
+capturable_now P s k x i (inr h) = inr (h.0, h.1, h.2, h.3, h.4, subst (λ z. IsCount h.2.entries (value s z)) (sym h.4) (at h.0.part refl (k.inner h.0 h.1)))
   where
-    at : (part : Part) → h.0.part ≡ part → Holds P s h.0.name h.0.part → (n : LogicalName) × (count : ℕ) × (x ≡ entries_in_use n) × (value s x ≡ counter count)
+    at : (part : Part) → h.0.part ≡ part → Holds P s h.0.name h.0.part → IsCount h.2.entries (value s (entries_in_use h.0.name))
     at (ProfileGeneric captured period entries) is held =
-        let count : IsCount entries (value s (entries_in_use h.0.name)) = (subst (Holds P s h.0.name) is held).1 in
-        (h.0.name, count.0, h.4, subst (λ z. value s z ≡ counter count.0) (sym h.4) count.1)
+        let same : captures_in (ProfileGeneric captured period entries) ≡ Some h.2 = subst (λ p. captures_in p ≡ Some h.2) is h.3 in
+        let own : Captures = record { captured = captured; entries = entries } in
+        let taken : own ≡ h.2 = cc in
+        subst (λ c. IsCount c.entries (value s (entries_in_use h.0.name))) taken (subst (Holds P s h.0.name) is held).1
     at (Data1 start) is held = let no : captures_in (Data1 start) ≡ Some h.2 = subst (λ p. captures_in p ≡ Some h.2) is h.3 in cc
     at (Register start default scaler_unit) is held = let no : captures_in (Register start default scaler_unit) ≡ Some h.2 = subst (λ p. captures_in p ≡ Some h.2) is h.3 in cc
     at (Clock first) is held = let no : captures_in (Clock first) ≡ Some h.2 = subst (λ p. captures_in p ≡ Some h.2) is h.3 in cc

@@ -241,7 +241,7 @@ fixed_writable P sound c x h =
 
 captured_writable : (P : Plan) (x : CellRef) (v : Tree) → IsCaptured P x v → HasLengths v
 captured_writable P x v (inl h) = meeting_writable h.0 v h.2
-captured_writable P x v (inr h) = subst HasLengths (sym h.3) tt
+captured_writable P x v (inr h) = subst HasLengths (sym h.5.1) tt
 
 values_writable : (P : Plan) (xs : List CellRef) (vs : List Tree) → AreCaptured P xs vs → (length vs ≡ length xs) × AllWritable vs
 values_writable P [] [] h = (refl, λ t i. absurd i)

@@ -14,6 +14,7 @@ pub mod ClassTable
 pub mod Admission
 pub mod KeepKinds
 pub mod KeepSteps
+pub mod Guards
 pub mod StepsAgree
 pub mod Secrecy
 pub mod Noticed

@@ -1,59 +1,36 @@
 -- States that agree on a closed set of cells agree on it after each step, by the laws of the effects.
-use Rattle.std.proofs.Common.{◌++◌, ◌≡◌, ◌⊎◌, Bool, true, false, cond, List, [], ◌∷◌, flat_map, refl, sym, ap, ap₂, subst, ◌∙◌, inl, inr, Option, Some, None, subst₂}
+use Rattle.std.proofs.Common.{◌++◌, ◌≡◌, ◌⊎◌, Bool, true, false, cond, List, [], ◌∷◌, flat_map, refl, sym, ap, subst, ◌∙◌, inl, inr, Some, None, subst₂}
 use Rattle.meter_theory.specs.Lists.{IsIn, for_some}
 use Rattle.cosem_data.specs.Tree.{Tree}
 use Rattle.meter_theory.specs.Menus.{alternatives, script_ref_value}
-use Rattle.meter_theory.specs.Value.{elements, count_of}
-use Rattle.meter_theory.specs.Times.{next_second, clock_moment, clock_value, is_capture_due, is_schedule_due}
+use Rattle.meter_theory.specs.Value.{elements}
+use Rattle.meter_theory.specs.Times.{next_second, clock_value}
 use Rattle.cosem_data.specs.declared.name.LogicalName.{LogicalName}
 use Rattle.cosem_data.specs.declared.cell.CellRef.{CellRef}
 use Rattle.meter_theory.specs.State.{State, keys, value, put}
 use Rattle.meter_theory.specs.declared.refs.UpDown.{UpDown}
-use Rattle.meter_theory.specs.Plan.{Plan, Object, Part, ProfileGeneric, RegisterMonitor, SingleActionSchedule, buffer, capture_period, entries_in_use, thresholds, seen, executed_script, execution_time, object_at, clock_object, clock_time, told_clock, clock_cell, clock}
+use Rattle.meter_theory.specs.Plan.{Plan, Object, Part, ProfileGeneric, RegisterMonitor, SingleActionSchedule, buffer, entries_in_use, thresholds, seen, executed_script, object_at, clock}
 use Rattle.meter_theory.specs.Steps.{Effect, Put, Capture, effects, changed, effects_of_script, due_scripts, Step, Get, Set, Act, Input, CaptureAt, Evaluate, ScheduleAt, Tick, ClockAt, present, captured_at, evaluated, script_now, scheduled_at, effects_of, next}
-use Rattle.meter_theory.specs.declared.flow.Cause.{Cause}
-use Rattle.meter_theory.specs.declared.flow.Cause.TheVariants.{Monitored, Monitor, Menu, Period, Schedule, Clock}
-use Rattle.meter_theory.specs.Edges.{Agree, IsClosed, edge, IsEdge, EdgeIn, monitor_changes, schedule_changes}
+use Rattle.meter_theory.specs.declared.flow.Cause.TheVariants.{Monitored}
+use Rattle.meter_theory.specs.Edges.{Agree, IsClosed, edge, EdgeIn, monitor_changes, schedule_changes}
 use Rattle.meter_theory.specs.EffectLaws.{KeepsAgreementOn, EffectLaws}
+use Rattle.meter_theory.proofs.Guards.{edge_at, same_present, captured-same, scheduled-same, monitored-same}
 use Rattle.meter_theory.proofs.Writes.{clock-empties}
-use Rattle.meter_theory.proofs.Menus.{chosen-in, chosen-alike}
+use Rattle.meter_theory.proofs.Menus.{chosen-in}
 use Rattle.meter_theory.proofs.Scripts.{changed_scripts, due_changes}
-use Rattle.meter_theory.proofs.Agreement.{object-found, effects-keys, effects-append, AreQuiet, quiet_branch, meets_or_not, effects-agree, effects-quiet, agree_or_quiet}
-
--- an edge that the object of a name makes
-edge_at : (P : Plan) (n : LogicalName) (o : Object) → object_at P n ≡ Some o → (cause : Cause) (x y : CellRef) → EdgeIn P n o.part cause x y → IsEdge P (edge cause x y)
-edge_at P n o is cause x y e =
-    let at = object-found P n o is in
-    (o, at.0, subst (λ m. EdgeIn P m o.part cause x y) (sym at.1) e)
+use Rattle.meter_theory.proofs.Agreement.{effects-keys, effects-append, AreQuiet, quiet_branch, meets_or_not, effects-agree, effects-quiet, agree_or_quiet}
 
 due_quiet : (P : Plan) (S : CellRef → Bool) (actions : List UpDown) → ((x : CellRef) → IsIn (monitor_changes P actions) x → S x ≡ false) →
     (ths : List Tree) (before now : Tree) → AreQuiet S (flat_map (effects_of_script P) (due_scripts actions ths before now))
 due_quiet P S actions quiet ths before now x i = quiet x (due_changes P actions ths before now x i)
 
 module _ (P : Plan) (laws : EffectLaws P) (S : CellRef → Bool) (closed : IsClosed P S) (s t : State) (k : keys s ≡ keys t) (agree : Agree S s t) where
-  -- S holds the clock, where it holds a cell to which an object's edges from the clock lead
-  clock_inside : (n : LogicalName) (o : Object) → object_at P n ≡ Some o → (y : CellRef) → ((x : CellRef) → IsIn (told_clock P) x → EdgeIn P n o.part Clock x y) →
-      S y ≡ true → S (clock P) ≡ true
-  clock_inside n o is y leads h = at (clock_object P) refl
-    where
-      at : (c : Option Object) → clock_object P ≡ c → S (clock_cell c) ≡ true
-      at None e = closed.holds_clock e
-      at (Some k) e =
-          let told : IsIn (told_clock P) (clock_time k.name) = subst (λ z. IsIn (for_some z (λ q. clock_time q.name ∷ [])) (clock_time k.name)) (sym e) (inl refl) in
-          closed.edges (edge Clock (clock_time k.name) y) (edge_at P n o is Clock (clock_time k.name) y (leads (clock_time k.name) told)) h
-
-  same_present : S (clock P) ≡ true → present P s ≡ present P t
-  same_present h = ap clock_moment (agree (clock P) h)
-
   captured-agree : (n : LogicalName) (o : Object) → object_at P n ≡ Some o → (part : Part) → o.part ≡ part →
       Agree S (effects P s (captured_at s n (present P s) part)) (effects P t (captured_at t n (present P t) part))
   captured-agree n o is (ProfileGeneric captured period entries) h =
       agree_or_quiet P laws S closed _ _ s t k agree (
       elim (meets_or_not S (buffer n ∷ entries_in_use n ∷ [])) [
-        | inl m ↦ inl (ap₂ (λ v moment. cond (is_capture_due (count_of v) moment) (Capture n ∷ []) [])
-            (agree (capture_period n) (closed.edges (edge Period (capture_period n) m.0)
-            (edge_at P n o is Period (capture_period n) m.0 (subst (λ p. EdgeIn P n p Period (capture_period n) m.0) (sym h) (refl, m.1))) m.2))
-            (same_present (clock_inside n o is m.0 (λ x told. subst (λ p. EdgeIn P n p Clock x m.0) (sym h) (told, m.1)) m.2)))
+        | inl m ↦ inl (captured-same P S closed s t agree n o is (ProfileGeneric captured period entries) h m.0 m.1 m.2)
         | inr quiet ↦ inr (quiet_branch S _ (Capture n ∷ []) (λ x i. quiet x (one_effect x i)), quiet_branch S _ (Capture n ∷ []) (λ x i. quiet x (one_effect x i)))
       ])
     where
@@ -68,26 +45,13 @@ module _ (P : Plan) (laws : EffectLaws P) (S : CellRef → Bool) (closed : IsClo
   scheduled-agree n o is (SingleActionSchedule script type times) h =
       agree_or_quiet P laws S closed _ _ s t k agree (
       elim (meets_or_not S (schedule_changes P script)) [
-        | inl m ↦
-            let due = ap₂ (λ v moment. is_schedule_due (elements v) moment) (same_times m.0 m.1 m.2)
-            (same_present (clock_inside n o is m.0 (λ x told. subst (λ p. EdgeIn P n p Clock x m.0) (sym h) (told, m.1)) m.2)) in
-            inl (ap₂ (λ b r. cond b (effects_of_script P r) []) due (same_script m.0 m.1 m.2))
+        | inl m ↦ inl (scheduled-same P S closed s t agree n o is (SingleActionSchedule script type times) h m.0 m.1 m.2)
         | inr quiet ↦ inr (
           quiet_branch S _ (effects_of_script P (script_now s n script)) (quiet_now quiet s),
           quiet_branch S _ (effects_of_script P (script_now t n script)) (quiet_now quiet t),
         )
       ])
     where
-      same_times : (x : CellRef) → IsIn (schedule_changes P script) x → S x ≡ true → value s (execution_time n) ≡ value t (execution_time n)
-      same_times x i e =
-          agree (execution_time n) (closed.edges (edge Schedule (execution_time n) x)
-          (edge_at P n o is Schedule (execution_time n) x (subst (λ p. EdgeIn P n p Schedule (execution_time n) x) (sym h) (refl, i))) e)
-
-      same_script : (x : CellRef) → IsIn (schedule_changes P script) x → S x ≡ true → script_now s n script ≡ script_now t n script
-      same_script x i e = chosen-alike script_ref_value script (value s (executed_script n)) (value t (executed_script n)) (λ menu.
-          agree (executed_script n) (closed.edges (edge Menu (executed_script n) x)
-          (edge_at P n o is Menu (executed_script n) x (subst (λ p. EdgeIn P n p Menu (executed_script n) x) (sym h) (menu, refl, i))) e))
-
       quiet_now : ((x : CellRef) → IsIn (schedule_changes P script) x → S x ≡ false) → (u : State) → AreQuiet S (effects_of_script P (script_now u n script))
       quiet_now quiet u x i =
           quiet x (changed_scripts P (alternatives script) (script_now u n script) x (chosen-in script_ref_value script (value u (executed_script n))) i)
@@ -113,9 +77,6 @@ module _ (P : Plan) (laws : EffectLaws P) (S : CellRef → Bool) (closed : IsClo
       then : Tree
       then = value t monitored
 
-      guard : (y : CellRef) → IsIn (monitored ∷ thresholds n ∷ seen n ∷ []) y → (x : CellRef) → IsIn (monitor_changes P actions) x → S x ≡ true → value s y ≡ value t y
-      guard y i x j e = agree y (closed.edges (edge Monitor y x) (edge_at P n o is Monitor y x (subst (λ p. EdgeIn P n p Monitor y x) (sym h) (i, j))) e)
-
       of_guards : Tree → Tree → Tree → List Effect
       of_guards a b c = flat_map (effects_of_script P) (due_scripts actions (elements a) b c)
 
@@ -127,7 +88,9 @@ module _ (P : Plan) (laws : EffectLaws P) (S : CellRef → Bool) (closed : IsClo
       after_scripts : Agree S (effects P s es) (effects P t fs)
       after_scripts = agree_or_quiet P laws S closed es fs s t k agree (
           elim (meets_or_not S (monitor_changes P actions)) [
-            | inl m ↦ inl (same_due (guard (thresholds n) (inr (inl refl)) m.0 m.1 m.2) (guard (seen n) (inr (inr (inl refl))) m.0 m.1 m.2) (guard monitored (inl refl) m.0 m.1 m.2))
+            | inl m ↦
+                let same = monitored-same P S closed s t agree n o is monitored th actions h m.0 m.1 m.2 in
+                inl (same_due (same (thresholds n) (inr (inl refl))) (same (seen n) (inr (inr (inl refl)))) (same monitored (inl refl)))
             | inr quiet ↦ inr (due_quiet P S actions quiet _ _ _, due_quiet P S actions quiet _ _ _)
           ])
 
@@ -165,7 +128,7 @@ module _ (P : Plan) (laws : EffectLaws P) (S : CellRef → Bool) (closed : IsClo
   step-agrees Tick =
       agree_or_quiet P laws S closed (effects_of P s Tick) (effects_of P t Tick) s t k agree
       (elim (S (clock P)) as (λ b. S (clock P) ≡ b → (effects_of P s Tick ≡ effects_of P t Tick) ⊎ (AreQuiet S (effects_of P s Tick) × AreQuiet S (effects_of P t Tick))) [
-        | true ↦ λ h. inl (ap (λ m. Put (clock P) (clock_value (next_second m)) ∷ []) (same_present h))
+        | true ↦ λ h. inl (ap (λ m. Put (clock P) (clock_value (next_second m)) ∷ []) (same_present P S closed s t agree h))
         | false ↦ λ h. inr (one_quiet h (clock_value (next_second (present P s))), one_quiet h (clock_value (next_second (present P t))))
       ] refl)
     where

@@ -25,7 +25,8 @@ abbrev pub no_sort_object : Tree
 no_sort_object =
     structure_of (long_unsigned 0 ∷ octet_string (0 ∷ 0 ∷ 0 ∷ 0 ∷ 0 ∷ 0 ∷ []) ∷ integer (pos 0) ∷ long_unsigned 0 ∷ [])
 
--- action_specification: service 1 writes an attribute, service 2 executes a method
+-- action_specification: service 1 writes an attribute, service 2 executes a method, whose parameter is null-data where none is told (own
+-- profile)
 abbrev pub action_value : Action → Tree
 action_value (Write x v) =
     structure_of (enumerated 1 ∷ long_unsigned x.class_id ∷ name_value x.name ∷ index_value x.index ∷ v ∷ [])
@@ -122,7 +123,8 @@ partners client = structure_of (integer (pos client.sap) ∷ long_unsigned 1 ∷
 abbrev pub application_context : Tree
 application_context = octet_string (96 ∷ 133 ∷ 116 ∷ 5 ∷ 8 ∷ 1 ∷ 1 ∷ [])
 
--- low level security for a client with a password, else lowest level (2.16.756.5.8.2.1 and .0)
+-- low level security for a client with a password, else lowest level (2.16.756.5.8.2.1 and .0), as the seven bytes of their encoding (own
+-- profile)
 abbrev pub mechanism_of : Option (List ℕ) → Tree
 mechanism_of (Some password) = octet_string (96 ∷ 133 ∷ 116 ∷ 5 ∷ 8 ∷ 2 ∷ 1 ∷ [])
 mechanism_of None = octet_string (96 ∷ 133 ∷ 116 ∷ 5 ∷ 8 ∷ 2 ∷ 0 ∷ [])

@@ -16,6 +16,10 @@ abbrev pub put_by_capture : LogicalName → Part → List CellRef
 put_by_capture n (ProfileGeneric captured period entries) = changed_by (Capture n)
 put_by_capture n _ = []
 
+abbrev pub put_by_monitor : Plan → Part → List CellRef
+put_by_monitor P (RegisterMonitor monitored th actions) = monitor_changes P actions
+put_by_monitor P _ = []
+
 abbrev pub put_by_evaluation : Plan → LogicalName → Part → List CellRef
 put_by_evaluation P n (RegisterMonitor monitored th actions) = monitor_changes P actions ++ seen n ∷ []
 put_by_evaluation P n _ = []
@@ -41,6 +45,13 @@ may_put P (Evaluate n) = for_some (object_at P n) (λ o. put_by_evaluation P n o
 may_put P (ScheduleAt n) = for_some (object_at P n) (λ o. put_by_schedule P o.part)
 may_put P Tick = clock P ∷ []
 may_put P (ClockAt t) = put_by_moment (clock_object P)
+
+-- The cells behind the guards of a step: a capture puts them where it is due, a monitor or a schedule where a script is.
+abbrev pub behind_guards : Plan → Step → List CellRef
+behind_guards P (CaptureAt n) = for_some (object_at P n) (λ o. put_by_capture n o.part)
+behind_guards P (Evaluate n) = for_some (object_at P n) (λ o. put_by_monitor P o.part)
+behind_guards P (ScheduleAt n) = for_some (object_at P n) (λ o. put_by_schedule P o.part)
+behind_guards P _ = []
 
 -- What a client could notice of a step: that it is its own, or, by what it may learn, that a cell was put.
 pub data Notice : Type 0 where

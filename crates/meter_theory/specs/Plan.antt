@@ -163,7 +163,7 @@ start_of n (RegisterMonitor monitored th actions) = (thresholds n, th) ∷ (seen
 start_of n (SingleActionSchedule script type times) =
     start_of_choice (executed_script n) script_ref_value script ++ (execution_time n, times) ∷ []
 
--- the configured values, seen null-data, the buffers empty
+-- the configured values, seen null-data (own profile), the buffers empty
 abbrev pub start_values : Plan → State
 start_values P = flat_map (λ o. start_of o.name o.part) P.objects
 

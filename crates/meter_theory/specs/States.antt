@@ -9,13 +9,17 @@ use Rattle.cosem_data.specs.declared.cell.CellRef.{CellRef}
 use Rattle.meter_theory.specs.State.{State, keys, value}
 use Rattle.cosem_data.specs.declared.name.LogicalName.{LogicalName}
 use Rattle.meter_theory.specs.Plan.{Plan, Object, Part, ProfileGeneric, RegisterMonitor, start_values, held, clock, rule_of, buffer, entries_in_use, seen}
-use Rattle.meter_theory.specs.Steps.{Effect, Put, Capture, Clear, captured_in}
+use Rattle.meter_theory.specs.Steps.{Effect, Put, Capture, Clear, Captures, captures_in, captured_in}
 
--- What stands in a captured cell: a value that meets the cell's rule, or a number of entries in use.
+-- a number of entries in use
+abbrev pub IsCount : ℕ → Tree → Type 0
+IsCount entries v = (count : ℕ) × (v ≡ counter count) × (count ≤ entries)
+
+-- What stands in a captured cell: a value that meets the cell's rule, or how many of a profile's entries are in use.
 abbrev pub IsCaptured : Plan → CellRef → Tree → Type 0
 IsCaptured P x v =
     ((rule : Rule) × (rule_of P x ≡ Some rule) × (meets rule v ≡ true))
-    ⊎ ((n : LogicalName) × (count : ℕ) × (x ≡ entries_in_use n) × (v ≡ counter count))
+    ⊎ ((o : Object) × IsIn P.objects o × (c : Captures) × (captures_in o.part ≡ Some c) × (x ≡ entries_in_use o.name) × IsCount c.entries v)
 
 -- one value for each captured cell, in order
 abbrev pub AreCaptured : Plan → List CellRef → List Tree → Type 0
@@ -35,11 +39,7 @@ abbrev pub IsBuffer : Plan → List CellRef → ℕ → Tree → Type 0
 IsBuffer P captured entries v =
     (rows : List Tree) × (v ≡ array_of rows) × (length rows ≤ entries) × AreRows P captured rows
 
--- a number of entries in use
-abbrev pub IsCount : ℕ → Tree → Type 0
-IsCount entries v = (count : ℕ) × (v ≡ counter count) × (count ≤ entries)
-
--- null-data before the first evaluation, else a value that may stand in the monitored cell
+-- null-data before the first evaluation (own profile), else a value that may stand in the monitored cell
 abbrev pub IsSeen : Plan → CellRef → Tree → Type 0
 IsSeen P monitored v = (v ≡ null_data) ⊎ (meets (OfKind (kind_of (value (start_values P) monitored))) v ≡ true)
 

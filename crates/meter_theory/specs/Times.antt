@@ -106,7 +106,7 @@ day_of date = get_or date 3 0
 abbrev pub weekday_of : List ℕ → ℕ
 weekday_of date = get_or date 4 0
 
--- the field is not specified
+-- the field is not specified, and matches anything (own profile for the fields of a time)
 abbrev pub is_any : ℕ → Bool
 is_any field = field == 255
 

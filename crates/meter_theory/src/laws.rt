@@ -6,7 +6,7 @@ ghost use Rattle.cosem_data.specs.declared.cell.CellRef.{CellRef};
 ghost use Rattle.cosem_data.specs.declared.name.LogicalName.{LogicalName};
 ghost use Rattle.cosem_data.specs.declared.cell.MethodRef.{MethodRef};
 ghost use Rattle.cosem_axdr.specs.Canonical.{HasLengths};
-ghost use Rattle.meter_theory.specs.Lists.{IsIn, for_some};
+ghost use Rattle.meter_theory.specs.Lists.{IsIn, AreDistinct, for_some};
 ghost use Rattle.meter_theory.specs.State.{State, keys, value, put};
 ghost use Rattle.meter_theory.specs.declared.refs.ScriptRef.{ScriptRef};
 ghost use Rattle.meter_theory.specs.declared.flow.Cause.TheVariants as causes;
@@ -20,14 +20,14 @@ ghost use Rattle.meter_theory.specs.Steps.{Step, CaptureAt, ScheduleAt, ClockAt,
 ghost use Rattle.meter_theory.specs.Replies.{Value, reply_to, run};
 ghost use Rattle.meter_theory.specs.declared.flow.Edge.{Edge};
 ghost use Rattle.meter_theory.specs.declared.flow.Refusal.{Refusal};
-ghost use Rattle.meter_theory.specs.Edges.{IsEdge, edge, edges_in, edges_from_clock, in_plan_order, script_changes, edges, IsClosed};
+ghost use Rattle.meter_theory.specs.Edges.{Agree, IsEdge, edge, edges_in, edges_from_clock, in_plan_order, script_changes, edges, IsClosed};
 ghost use Rattle.meter_theory.specs.EffectLaws.{KeepsAgreementOn, EffectLaws};
 ghost use Rattle.meter_theory.specs.Labels.{Labels, Labelling, labelling_of, Admits, AreLeast, MayChange, method_changes_of};
 ghost use Rattle.meter_theory.specs.Sound.{IsSound};
 ghost use Rattle.meter_theory.specs.States.{IsState};
 ghost use Rattle.meter_theory.specs.Check.{AllPass, Refuses, may_change};
 ghost use Rattle.meter_theory.specs.Safety.{HasCells, IsQuiet, AreAlike, Alike, AlikeByPlace, Influence, Secrecy};
-ghost use Rattle.meter_theory.specs.Notice.{may_put, MayNotice, first_notice};
+ghost use Rattle.meter_theory.specs.Notice.{behind_guards, may_put, MayNotice, first_notice};
 
 /// Where the effects of a sound plan keep their laws, and it is admitted, it keeps what its policy, and what its labels, promise
 /// about who influences a cell, and keeps from each client what they hide from it.
@@ -42,6 +42,13 @@ pub fn lawful_effects_keep_promises()
 pub fn lawful_effects_keep_agreement()
     ensures { (P : Plan) (S : CellRef → Bool) → EffectLaws P → IsClosed P S → (step : Step) →
         KeepsAgreementOn S (λ s. next P s step) }
+{}
+
+/// What guards look at lies in closed sets: in states that agree on a closed set with a cell behind the guards of a step, the step
+/// has the same effects.
+pub fn guards_lie_in_closed_sets()
+    ensures { (P : Plan) (S : CellRef → Bool) → IsClosed P S → (s t : State) → Agree S s t →
+        (step : Step) (x : CellRef) → IsIn (behind_guards P step) x → S x ≡ true → effects_of P s step ≡ effects_of P t step }
 {}
 
 /// Where the effects of a plan keep their laws, a step changes only cells that it may put, so that a step of which a client could
@@ -60,9 +67,10 @@ pub fn lists_alike_by_place_are_alike()
         Alike P Q c l l' × AreAlike (IsState P) P Q c l l' }
 {}
 
-/// The list of edges has each edge of a sound plan, and no other.
+/// The list of edges has each edge of a sound plan, and no other, and each once.
 pub fn edges_are_listed()
-    ensures { (P : Plan) (e : Edge) → IsSound P → (IsEdge P e ↔ IsIn (edges P) e) }
+    ensures all { (P : Plan) (e : Edge) → IsSound P → (IsEdge P e ↔ IsIn (edges P) e) }
+    ensures once { (P : Plan) → AreDistinct (edges P) }
 {}
 
 /// The six tests decide admission; what a refusal names isn't admitted, and there is one refusal at most.

@@ -322,7 +322,7 @@ fixed_reply P sound c x h =
 
 captured_small : (P : Plan) (x : CellRef) (v : Tree) → IsCaptured P x v → IsSmall v
 captured_small P x v (inl h) = meeting_small h.0 v h.2
-captured_small P x v (inr h) = subst (IsWithin 1024) (sym h.3) (counter_small h.1)
+captured_small P x v (inr h) = subst (IsWithin 1024) (sym h.5.1) (counter_small h.5.0)
 
 values_small : (P : Plan) (xs : List CellRef) (vs : List Tree) → AreCaptured P xs vs → (length vs ≡ length xs) × AreWithin 1024 vs
 values_small P [] [] h = (refl, tt)

@@ -4,7 +4,8 @@ use Rattle.std.specs.Int.{w32, to_be_bytes}
 use Rattle.xdlms_services.specs.declared.blocks.BlockFault.{BlockFault}
 use Rattle.xdlms_services.specs.declared.blocks.BlockFault.TheVariants.{NoLongGet, NumberInvalid}
 
--- the number of a result (IEC 62056-5-3, Data-Access-Result: no-long-get-in-progress, data-block-number-invalid)
+-- the number of a result (IEC 62056-5-3, Data-Access-Result: no-long-get-in-progress, data-block-number-invalid); that a next without a
+-- transfer is answered by the former is own profile
 abbrev pub fault_number : BlockFault → ℕ
 fault_number NoLongGet = 16
 fault_number NumberInvalid = 19
