@@ -1,6 +1,6 @@
 -- Class 15, Association LN, version 0 (IEC 62056-6-2), as a client sees its current association: no cell; every attribute is
 -- fixed by the plan and the client, and no method is offered (own profile).
-use Rattle.std.specs.Prelude.{◌≡◌, ℕ, nat_le, List, Option, Result, Ok, Some, None, Err, Bool, false, ◌&&◌, if◌then◌else◌, refl}
+use Rattle.std.specs.Prelude.{◌≡◌, ◌==◌, ◌||◌, not, ℕ, nat_le, List, Option, Result, Ok, Some, None, Err, Bool, false, ◌&&◌, if◌then◌else◌, refl}
 use Rattle.std.specs.Coded.{Coded, code_by, coded_ℕ, coded×}
 use Rattle.cosem_data.specs.Tree.{Tree}
 use Rattle.cosem_data.specs.Cells.{cell}
@@ -27,11 +27,14 @@ client_view_code = code_by (Plan × ℕ) (coded× plan_code coded_ℕ) (λ v. (v
 abbrev pub is_association_attribute : ℕ → Bool
 is_association_attribute index = nat_le 1 index && nat_le index association.attributes
 
--- the logical name at 1 and the attributes of the client's current association, null-data at 5 and 7: IEC 62056-6-2,
--- Association LN; that user information and secret have no value is own profile
+-- user information, at 5, and secret, at 7, have no value: own profile
+abbrev pub has_value : ℕ → Bool
+has_value index = is_association_attribute index && not (index == 5 || index == 7)
+
+-- the logical name at 1 and the attributes of the client's current association: IEC 62056-6-2, Association LN
 abbrev pub association_reading : ClientView → ℕ → Option Tree → Result Tree ClassFault
 association_reading view index held =
-    if is_association_attribute index then Ok (fixed view.plan view.client (cell association.class_id association_name index)) else Err NoIndex
+    if has_value index then Ok (fixed view.plan view.client (cell association.class_id association_name index)) else Err NoIndex
 
 -- no attribute is settable, and no method is offered: own profile
 abbrev pub association_refusal : ClientView → Op → Tree → Option ClassFault

@@ -4,7 +4,7 @@ ghost use Rattle.cosem_data.specs.View.{tree};
 ghost use Rattle.meter_theory.specs.Fixed as shapes;
 ghost use Rattle.cosem_class.specs.CellSets.{has};
 ghost use Rattle.cosem_class.specs.Objects.{no_cells};
-ghost use Rattle.association_views.specs.AssociationClass.{ClientView, AssociationMeetsRule, association_new_value, association_reading, association_refusal, association_touched, is_association_attribute};
+ghost use Rattle.association_views.specs.AssociationClass.{ClientView, AssociationMeetsRule, association_new_value, association_reading, association_refusal, association_touched, has_value, is_association_attribute};
 ghost use Rattle.association_views.specs.AssociationLaws.{association_depends_only_on_sources, association_keeps_rules, association_writes_its_value};
 
 use crate::association::{fixed_attribute_at, object_list};
@@ -59,6 +59,13 @@ fn is_attribute(index: u8) -> bool
     1 <= index && index <= ASSOCIATION_LN.attributes
 }
 
+/// Whether an attribute of the class has a value: 5, user information, and 7, secret, have none (own profile).
+fn has_value(index: u8) -> bool
+    ensures { result ≡ has_value index }
+{
+    is_attribute(index) && !matches!(index, 5 | 7)
+}
+
 impl<'a> InterfaceClass<()> for View<'a> {
     const CLASS_ID: u16 = ASSOCIATION_LN.class_id;
 
@@ -98,9 +105,9 @@ impl<'a> InterfaceClass<()> for View<'a> {
 
     ghost keeps_rules = { association_keeps_rules };
 
-    /// As the service GET reads it: 5, user information, and 7, secret, are null-data (own profile).
+    /// `NoIndex` for 5, user information, and 7, secret, too: they have no value (own profile).
     fn read(&self, alloc: Global, _lent: (), index: u8) -> Result<Data, ClassFault> {
-        if !is_attribute(index) {
+        if !has_value(index) {
             return Err(ClassFault::NoIndex);
         }
         let association = self.plan.instance(&ASSOCIATION);

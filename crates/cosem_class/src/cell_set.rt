@@ -39,6 +39,15 @@ impl CellSet {
         }
     }
 
+    /// The members of both sets.
+    pub fn union(self, other: CellSet) -> CellSet
+        ensures { (i : ℕ) → has result i ≡ (has self i || has other i) }
+    {
+        CellSet {
+            mask: self.mask | other.mask,
+        }
+    }
+
     /// Whether the index is a member. An index past 15 is none.
     pub fn has(self, cell: u8) -> bool
         ensures { result ≡ has self cell }

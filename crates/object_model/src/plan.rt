@@ -2,8 +2,10 @@ ghost use Rattle.std.specs.Prelude.{◌≡◌, ◌==◌, ◌<◌, ◌≤◌, ◌
 ghost use Rattle.std.specs.List.{position_from};
 ghost use Rattle.std.specs.Str.{bytes_eq};
 ghost use Rattle.cosem_data.specs.Cells.{same_cell, same_name};
+ghost use Rattle.cosem_data.specs.View.{tree};
+ghost use Rattle.cosem_class.specs.Judged.{rule_answer};
 ghost use Rattle.cosem_data.specs.Kinds.{kind_of};
-ghost use Rattle.meter_theory.specs.Plan.{cells, class_of, client_named, clock_object, is_cell, object_at, start, start_of, start_values};
+ghost use Rattle.meter_theory.specs.Plan.{cells, class_of, client_named, clock_object, is_cell, object_at, rule_of, start, start_of, start_values};
 ghost use Rattle.meter_theory.specs.Rights.{is_client};
 ghost use Rattle.meter_theory.specs.State.{value};
 ghost use Rattle.meter_theory.specs.Sound.{IsSound};
@@ -30,6 +32,7 @@ use cosem_data::data::Data;
 use cosem_data::kind::Kind;
 use cosem_data::memory::Memory;
 use cosem_data::name::LogicalName;
+use meter_theory::access::AccessCode;
 use meter_theory::refs::Interface;
 use std::alloc::Global;
 use std::marker::Model;
@@ -250,6 +253,14 @@ impl Plan {
     {
         self.instance(&cell.name)
             .start_kind(cell.class_id, cell.index)
+    }
+
+    /// Whether the value may be put into a cell, as [`Instance::rule`] says of what stands at its name.
+    pub fn rule(&self, cell: &CellRef, value: &Data) -> Result<(), AccessCode>
+        ensures { result ≡ rule_answer (rule_of self.now cell.now) (tree value.now) }
+    {
+        self.instance(&cell.name)
+            .rule(cell.class_id, cell.index, value)
     }
 
     /// A meter of this plan, with the start values.
