@@ -9,7 +9,6 @@ use Rattle.std.proofs.Crossing.{frees, send, sync}
 use Rattle.std.proofs.Crossing as std
 use Rattle.core.specs.declared.ledger.Ledger as ledgers
 use Rattle.core.proofs.ledger.Book.TheSendSync as books
-use Rattle.core.proofs.ledger.Share.TheSendSync as ledger_shares
 use Rattle.left_right.proofs.reader.Reader.TheSendSync as ends
 use Rattle.left_right.proofs.writer.Writer.TheSendSync as pens
 use Rattle.cosem_data.proofs.Crosses.{Crosses, crosses}
@@ -30,6 +29,7 @@ use Rattle.meter_live.specs.contracts.outbox.Outbox as outboxes
 use Rattle.meter_live.specs.contracts.outbox.Outbox.TheInside as outboxes_inside
 use Rattle.meter_live.specs.contracts.reader.Reader as readers
 use Rattle.meter_live.specs.contracts.reader.Reader.TheInside as readers_inside
+use Rattle.meter_live.specs.contracts.share.Rest as rests
 use Rattle.meter_live.specs.contracts.share.Share as shares
 use Rattle.meter_live.specs.contracts.shown.Note as notes
 use Rattle.meter_live.specs.contracts.shown.Shown as shown
@@ -37,6 +37,7 @@ use Rattle.meter_live.specs.contracts.traced.Entry as entries
 use Rattle.meter_live.specs.contracts.traced.TracedMeter as traced
 use Rattle.meter_live.proofs.history.Front.TheSendSync as front
 use Rattle.meter_live.proofs.history.History.TheSendSync as histories
+use Rattle.meter_live.proofs.share.Rest.TheSendSync as rests_sent
 use Rattle.meter_live.proofs.share.Share.TheSendSync as shares_sent
 
 change_crosses : Crosses changes.the_row
@@ -87,7 +88,7 @@ live_send = view_send _ _ _ _ _ (declared_send lives_inside.the_type (traced_cro
 
 reader_send : IsSend readers.the_row
 reader_send = view_send _ _ _ _ _
-    (declared_send readers_inside.the_type (search (ends.the_send, shown_sync, send, sync, frees) depth 12, tt))
+    (declared_send readers_inside.the_type (search (ends.the_send, shown_sync, send, sync, frees) depth 12, (front.the_send, tt)))
 
 module _ (N : RattleType) (g : naming.Ghosts N.Denot) (n : IsSend N) where
   pub board_reader_send : IsSend (board_readers.the_row N g)
@@ -99,6 +100,9 @@ module _ (N S C W : RattleType) (g : naming.Ghosts N.Denot) (h : ledgers.Ghosts 
   pub share_send : IsSend (shares.the_row S C h k)
   share_send = search (shares_sent.the_send, sendable) depth 12
 
+  rest_send : IsSend (rests.the_row S C h k)
+  rest_send = search (rests_sent.the_send, sendable) depth 12
+
   desk_send : IsSend (desks.the_row N S C W g h k)
   desk_send = declared_send (desks.the_type N S C W g h k) (
     live_send,
@@ -108,13 +112,7 @@ module _ (N S C W : RattleType) (g : naming.Ghosts N.Denot) (h : ledgers.Ghosts 
         search (books.the_send, sendable) depth 12,
         (
           search (books.the_send, sendable) depth 12,
-          (
-            search (ledger_shares.the_send, sendable) depth 12,
-            (
-              search (ledger_shares.the_send, sendable) depth 12,
-              (search (std.crosses, sendable) depth 20, (search sendable depth 12, tt)),
-            ),
-          ),
+          (rest_send, (search (std.crosses, sendable) depth 20, (search sendable depth 12, tt))),
         ),
       ),
     ),

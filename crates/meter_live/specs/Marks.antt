@@ -1,5 +1,6 @@
 -- Marks in the one history of the steps that were published. All of it is own profile.
 use Rattle.std.specs.Prelude.{◌≡◌, ℕ, ◌==◌, List, [], ◌∷◌, ◌++◌, length, MatchBool, true}
+use mathlib.Core.List.{IsPrefix}
 use Rattle.logbook.specs.Pages.{Cell, Step as Move, View, Book, Named}
 use Rattle.flow_checker.specs.Accepted.{Accepted}
 use Rattle.meter_theory.specs.State.{State}
@@ -9,6 +10,12 @@ use Rattle.meter_theory.specs.Steps.{Step}
 pub record Mark : Type 0 where
   pub book : Book
   pub steps : List Step
+
+-- each of the two lists is a beginning of one list
+pub record LieOnOne (one : List Step) (other : List Step) : Type 0 where
+  pub all : List Step
+  pub one_begins : IsPrefix one all
+  pub other_begins : IsPrefix other all
 
 -- a copy of a meter, and the mark of the steps that it is the run of
 pub record Copy : Type 0 where

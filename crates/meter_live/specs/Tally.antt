@@ -7,6 +7,12 @@ pub record Tally : Type 0 where
   pub steps : ℕ
   pub changes : ℕ
 
+-- a board that wasn't closed: the shares that came, how many ports were opened, and how many of 256 were not
+pub record Unclosed : Type 0 where
+  pub shares : List Tally
+  pub opened : ℕ
+  pub left : ℕ
+
 -- one step more
 abbrev pub counted : Tally → ℕ → Tally
 counted t changes = record { steps = t.steps + 1; changes = t.changes + changes }

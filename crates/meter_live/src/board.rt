@@ -1,5 +1,5 @@
 //! A live meter that many threads use.
-ghost use Rattle.std.specs.Prelude.{◌≡◌, ◌<◌, ◌++◌, ◌∷◌, [], List, true, IfOk, IfErr, OnOk, OnErr, MatchBool, sum_by, vec_len};
+ghost use Rattle.std.specs.Prelude.{◌≡◌, ◌<◌, ◌++◌, ◌∷◌, [], List, true, IfOk, IfErr, OnOk, OnErr, MatchBool, ◌+◌, sum_by, vec_len};
 ghost use Rattle.std.specs.Coded.{codes};
 ghost use mathlib.Core.List.{IsPrefix};
 ghost use Rattle.logbook.specs.Pages.{book_coded};
@@ -25,6 +25,7 @@ use meter_core::step::Step;
 use object_model::meter::Meter;
 use object_model::plan::Plan;
 use std::alloc::Global;
+use std::marker::Model;
 use std::sync::ledger::{Blank, Ledger};
 use std::sync::{Mutex, MutexGuard, Wait};
 
@@ -83,13 +84,49 @@ pub struct Closed {
     pub changes: u64,
 }
 
-/// A board that wasn't closed, since there were fewer shares than opened ports. Both are handed back.
+/// A board that wasn't closed, since there were fewer shares than opened ports. Both are handed back. Contracts see the shares, how
+/// many ports were opened, and how many could still be opened.
 #[derive(Drop)]
 pub struct NotAll<N: Naming, S: Ledger, C: Ledger, W: Wait + Drop> {
-    pub board: Board<N, S, C, W>,
-    pub shares: Vec<Share<S, C>>,
+    desk: Desk<N, S, C, W>,
+    checked: Checked,
+    shares: Vec<Share<S, C>>,
+}
+
+impl<N: Naming, S: Ledger, C: Ledger, W: Wait + Drop> Model for NotAll<N, S, C, W> {
+    ghost use Rattle.std.specs.Prelude.{◌≡◌, ◌<◌, vec_len};
+    ghost use Rattle.meter_live.specs.Tally.{Unclosed};
+
+    ghost Value = { Unclosed };
+
+    ghost view = { λ n. record { shares = n.shares.items; opened = vec_len n.desk.ports; left = n.desk.left } };
+
+    ghost invariant = { λ n. (n.checked ≡ N.accepted) × (vec_len n.shares < vec_len n.desk.ports) };
+}
+
+impl<N: Naming, S: Ledger, C: Ledger, W: Wait + Drop> NotAll<N, S, C, W> {
     /// How many ports were opened.
-    pub opened: usize,
+    pub fn opened(&self) -> usize
+        ensures { result ≡ self.now.opened }
+    {
+        self.desk.ports.len()
+    }
+
+    /// The board, which isn't closed, and the shares that were given.
+    pub fn into_parts(self) -> (Board<N, S, C, W>, Vec<Share<S, C>>)
+        ensures { result.1.items ≡ self.shares }
+    {
+        let NotAll {
+            desk,
+            checked,
+            shares,
+        } = self;
+        let board = Board {
+            desk: Mutex::new(desk),
+            checked,
+        };
+        (board, shares)
+    }
 }
 
 impl<N: Naming, S: Ledger, C: Ledger, W: Wait + Drop> Board<N, S, C, W> {
@@ -155,32 +192,28 @@ impl<N: Naming, S: Ledger, C: Ledger, W: Wait + Drop> Board<N, S, C, W> {
         ))
     }
 
-    /// Closes the board, once the shares of all opened ports are back: the numbers of steps and changes are their sums. It waits for
-    /// the readers.
+    /// Closes the board, once the shares of all opened ports are back: the numbers of steps and changes are their sums. It waits
+    /// for the readers. The only error is that there are fewer shares than ports that were opened.
     pub fn close<R: Wait>(
         self,
         rt: &R,
         shares: Vec<Share<S, C>>,
     ) -> Result<Closed, NotAll<N, S, C, W>>
-        requires { (S.parts ≡ 256) × (C.parts ≡ 256) }
         ensures count { IfOk result (λ c. c.count ≡ sum_by (λ s. s.steps) shares.items) }
         ensures changes { IfOk result (λ c. c.changes ≡ sum_by (λ s. s.changes) shares.items) }
         ensures plan { IfOk result (λ c. c.plan ≡ N.accepted) }
         ensures meter { IfOk result (λ c. IsState N.accepted.plan c.meter) }
-        ensures fewer { IfErr result (λ n. (n.shares.items ≡ shares.items) × (vec_len shares < n.opened)) }
+        ensures fewer { IfErr result (λ n. (n.shares ≡ shares.items) × (vec_len shares < n.opened)) }
+        // By the books, in which each of 256 ports was opened or has its part left.
+        ensures books { IfErr result (λ n. n.opened + n.left ≡ 256) }
     {
         let Board { desk, checked } = self;
         let desk = desk.into_inner();
-        let opened = desk.ports.len();
-        if shares.len() < opened {
-            let board = Board {
-                desk: Mutex::new(desk),
-                checked,
-            };
+        if shares.len() < desk.ports.len() {
             return Err(NotAll {
-                board,
+                desk,
+                checked,
                 shares,
-                opened,
             });
         }
         let (plan, meter, count, changes) = desk.settle(rt, shares);

@@ -1,15 +1,14 @@
 //! What lies under the lock of a board.
-ghost use Rattle.std.specs.Prelude.{◌≡◌, ◌+◌, ◌++◌, ◌∷◌, [], ◌≤◌, List, true, IfOk, IfErr, OnOk, OnErr, MatchBool, sum_by, vec_len};
+ghost use Rattle.std.specs.Prelude.{◌≡◌, ◌≢◌, ◌⊎◌, ◌+◌, ◌++◌, ◌∷◌, [], ◌≤◌, ◌↔◌, List, true, Err, IfOk, IfErr, OnOk, OnErr, MatchBool, sum_by, vec_len};
 ghost use Rattle.std.specs.Coded.{codes};
 ghost use mathlib.Core.List.{IsPrefix};
 ghost use Rattle.meter_core.specs.StepView.{reply_of, step_of};
-ghost use Rattle.meter_theory.specs.Plan.{start};
 ghost use Rattle.meter_theory.specs.PlanCode.{plan_code};
-ghost use Rattle.meter_theory.specs.Replies.{reply_to, run};
 ghost use Rattle.meter_theory.specs.States.{IsState};
 ghost use Rattle.meter_theory.specs.Steps as steps;
 ghost use Rattle.meter_core.specs.Changing.{is_changing};
-ghost use Rattle.meter_live.specs.Changes.{Answers, changes_of, is_get};
+ghost use Rattle.meter_live.specs.Changes.{Answers, answer_after, changes_of, is_get, takes_none};
+ghost use Rattle.meter_live.specs.Marks.{LieOnOne};
 ghost use Rattle.meter_live.specs.Tally.{HasSeen, counted, nothing};
 ghost use Rattle.meter_live.specs.Told.{acted, posted};
 
@@ -18,7 +17,7 @@ use crate::fault::{LiveFault, PortFault, ReadRefused, ReaderFault};
 use crate::live::Live;
 use crate::names::Naming;
 use crate::reader::Reader;
-use crate::share::{Share, gather};
+use crate::share::{Rest, Share};
 use crate::traced::TracedMeter;
 use cosem_data::memory::Memory;
 use flow_checker::check::Checked;
@@ -54,13 +53,23 @@ impl<N: Naming> Model for BoardReader<N> {
 
 impl<N: Naming> BoardReader<N> {
     /// The answer to a GET after a list of published steps, which the reader has seen then, and which begins with all that it saw
-    /// before. It takes no lock, and waits for nobody.
+    /// before. It takes no lock, and waits for nobody. Only a GET that is answered by a value is ever refused for memory.
     pub fn get(&mut self, alloc: Global, step: &Step) -> Result<Reply, ReadRefused>
         requires { is_get (step_of step.now) ≡ true }
         ensures later { IsPrefix self.old self.new }
-        ensures reply { IfOk result (λ reply. reply_of reply ≡ reply_to N.accepted.plan (run N.accepted.plan (start N.accepted.plan) self.new) (step_of step.now)) }
+        ensures reply { IfOk result (λ reply. reply_of reply ≡ answer_after N.accepted.plan self.new (step_of step.now)) }
+        ensures denied { takes_none N.accepted.plan self.new (step_of step.now) ≡ true → result ≢ Err ReadRefused.Memory }
     {
         self.reader.get(alloc, step)
+    }
+
+    /// Of two readers of a board, the steps that either has seen are beginnings of one list: so one of the two has seen all that
+    /// the other has, in the same order. It does nothing when it runs.
+    pub fn beside(&self, other: &BoardReader<N>)
+        ensures one_list { LieOnOne self.now other.now }
+        ensures begins { IsPrefix self.now other.now ⊎ IsPrefix other.now self.now }
+    {
+        self.reader.beside(&other.reader);
     }
 }
 
@@ -70,8 +79,8 @@ pub struct Desk<N: Naming, S: Ledger, C: Ledger, W: Wait + Drop> {
     rt: W,
     steps: Book<S>,
     changes: Book<C>,
-    steps_left: ledger::Share<S>,
-    changes_left: ledger::Share<C>,
+    // What no port has.
+    pub(crate) left: Rest<S, C>,
     // Whether each port was given a reader.
     pub(crate) ports: Vec<bool>,
     of: PhantomData<N>,
@@ -79,9 +88,8 @@ pub struct Desk<N: Naming, S: Ledger, C: Ledger, W: Wait + Drop> {
     ghost book_is: { live.book ≡ N.book },
     ghost counted: { live.meter.count ≡ steps.total },
     ghost changed: { live.meter.changes ≡ changes.total },
-    ghost steps_parts: { steps_left.parts + vec_len ports ≡ 256 },
-    ghost changes_parts: { changes_left.parts + vec_len ports ≡ 256 },
-    ghost none_left: { (steps_left.amount ≡ 0) × (changes_left.amount ≡ 0) },
+    // By the books: each of 256 parts is left, or its port was opened.
+    ghost parts: { left + vec_len ports ≡ 256 },
 }
 
 impl<N: Naming, S: Ledger, C: Ledger, W: Wait + Drop> Desk<N, S, C, W> {
@@ -99,15 +107,14 @@ impl<N: Naming, S: Ledger, C: Ledger, W: Wait + Drop> Desk<N, S, C, W> {
         requires steps { (steps.name ≡ S.name) × (steps.parts ≡ 256) × (S.parts ≡ 256) }
         requires changes { (changes.name ≡ C.name) × (changes.parts ≡ 256) × (C.parts ≡ 256) }
     {
-        let (steps, steps_left) = steps.open::<S>();
-        let (changes, changes_left) = changes.open::<C>();
+        let (steps, all_steps) = steps.open::<S>();
+        let (changes, all_changes) = changes.open::<C>();
         Desk {
             live,
             rt,
             steps,
             changes,
-            steps_left,
-            changes_left,
+            left: Rest::whole(all_steps, all_changes),
             ports: Vec::new(alloc),
             of: PhantomData,
         }
@@ -138,8 +145,7 @@ impl<N: Naming, S: Ledger, C: Ledger, W: Wait + Drop> Desk<N, S, C, W> {
             rt: _,
             steps,
             changes,
-            steps_left: _,
-            changes_left: _,
+            left: _,
             ports: _,
             of: _,
         } = self;
@@ -169,8 +175,7 @@ impl<N: Naming, S: Ledger, C: Ledger, W: Wait + Drop> Desk<N, S, C, W> {
             rt: _,
             steps: _,
             changes,
-            steps_left: _,
-            changes_left: _,
+            left: _,
             ports: _,
             of: _,
         } = self;
@@ -203,8 +208,12 @@ impl<N: Naming, S: Ledger, C: Ledger, W: Wait + Drop> Desk<N, S, C, W> {
         }
     }
 
-    /// The number of a new port, and its share.
+    /// The number of a new port, and its share. None is opened where all 256 are, and else only memory is refused.
     pub(crate) fn open_port(&mut self) -> Result<(u8, Share<S, C>), PortFault>
+        ensures number { IfOk result (λ r. r.0 ≡ vec_len self.old.ports) }
+        ensures opened { OnOk result (self.new.left + 1 ≡ self.old.left) }
+        ensures no_port { (result ≡ Err PortFault.NoPort) ↔ (self.old.left ≡ 0) }
+        ensures err { OnErr result (self.new.left ≡ self.old.left) }
         ensures share { IfOk result (λ r. r.1 ≡ nothing) }
         ensures live { self.new.live ≡ self.old.live }
     {
@@ -215,9 +224,7 @@ impl<N: Naming, S: Ledger, C: Ledger, W: Wait + Drop> Desk<N, S, C, W> {
             return Err(PortFault::Memory);
         }
         self.ports.push_reserved(false);
-        let steps = self.steps_left.split_off(1, 0);
-        let changes = self.changes_left.split_off(1, 0);
-        Ok((number, Share { steps, changes }))
+        Ok((number, self.left.hand_out()))
     }
 
     /// The reader of a port that was given none, which has seen what is published.
@@ -245,8 +252,7 @@ impl<N: Naming, S: Ledger, C: Ledger, W: Wait + Drop> Desk<N, S, C, W> {
         rt: &R,
         shares: Vec<Share<S, C>>,
     ) -> (Checked, Meter, u64, u64)
-        requires parts { (S.parts ≡ 256) × (C.parts ≡ 256) }
-        requires all { vec_len self.ports ≤ vec_len shares }
+        requires { vec_len self.ports ≤ vec_len shares }
         ensures plan { (result.0 ≡ N.accepted) × IsState N.accepted.plan result.1 }
         ensures counted { result.2 ≡ sum_by (λ s. s.steps) shares.items }
         ensures changed { result.3 ≡ sum_by (λ s. s.changes) shares.items }
@@ -256,14 +262,13 @@ impl<N: Naming, S: Ledger, C: Ledger, W: Wait + Drop> Desk<N, S, C, W> {
             rt: _rt,
             mut steps,
             mut changes,
-            mut steps_left,
-            mut changes_left,
+            left,
             ports: _ports,
             of: _,
         } = self;
-        gather(&mut steps_left, &mut changes_left, shares);
-        steps.audit(&mut steps_left);
-        changes.audit(&mut changes_left);
+        let (mut all_steps, mut all_changes) = left.with(shares);
+        steps.audit(&mut all_steps);
+        changes.audit(&mut all_changes);
         live.into_parts(rt)
     }
 
@@ -274,8 +279,7 @@ impl<N: Naming, S: Ledger, C: Ledger, W: Wait + Drop> Desk<N, S, C, W> {
             rt: _rt,
             steps: _steps,
             changes: _changes,
-            steps_left: _steps_left,
-            changes_left: _changes_left,
+            left: _left,
             ports: _ports,
             of: _,
         } = self;
@@ -290,8 +294,7 @@ impl<N: Naming, S: Ledger, C: Ledger, W: Wait + Drop> Drop for Desk<N, S, C, W> 
             rt,
             steps: _steps,
             changes: _changes,
-            steps_left: _steps_left,
-            changes_left: _changes_left,
+            left: _left,
             ports: _ports,
             of: _,
         } = self;

@@ -1,6 +1,6 @@
 //! The one history of the steps that are published. It exists in proofs alone: in memory it is the number of its batches.
 ghost use Rattle.std.specs.Prelude.{◌≡◌, ◌++◌, [], length, IsTrue};
-ghost use mathlib.Core.List.{IsPrefix};
+ghost use Rattle.meter_live.specs.Marks.{LieOnOne};
 
 use crate::change::Change;
 use crate::names::Lot;
@@ -130,6 +130,15 @@ impl Front {
             return true;
         }
         false
+    }
+
+    /// Two beginnings of the history are beginnings of one list. It does nothing when it runs.
+    pub fn beside(&self, other: &Front)
+        requires { other.now.book ≡ self.now.book }
+        ensures { LieOnOne self.now.steps other.now.steps }
+    {
+        let mut both = self.seen.again();
+        both.learn(&other.seen);
     }
 
     /// Adds a lot to the steps of this beginning, where the history has no others, and says whether it did.

@@ -1,9 +1,10 @@
 //! A live meter: its steps are taken one after another, and published to readers.
-ghost use Rattle.std.specs.Prelude.{◌≡◌, ◌-◌, ◌^◌, ◌<◌, ◌↔◌, ◌++◌, [], IfOk, IfErr, IfSome, OnOk, OnErr};
+ghost use Rattle.std.specs.Prelude.{◌≡◌, ◌-◌, ◌^◌, ◌<◌, ◌↔◌, ◌⊎◌, ◌++◌, [], IfOk, IfErr, IfSome, OnOk, OnErr};
 ghost use mathlib.Core.List.{IsPrefix};
 ghost use Rattle.meter_core.specs.StepView.{reply_of, step_of};
 ghost use Rattle.meter_theory.specs.Replies.{reply_to};
 ghost use Rattle.meter_theory.specs.States.{IsState};
+ghost use Rattle.meter_live.specs.Marks.{LieOnOne};
 
 use crate::change::Change;
 use crate::fault::LiveFault;
@@ -116,6 +117,19 @@ impl Live {
         ensures reader { IfSome result (λ r. r ≡ record { plan = self.old.meter.accepted.plan; book = self.old.book; seen = self.old.published }) }
     {
         self.outbox.reader()
+    }
+
+    /// Of two readers of this meter, the steps that either has seen and those that are published lie on one list, the history of
+    /// this meter. So one of the two has seen all that the other has, in the same order. It does nothing when it runs.
+    pub fn beside(&self, one: &Reader, other: &Reader)
+        requires { (one.now.book ≡ self.now.book) × (other.now.book ≡ self.now.book) }
+        ensures published { LieOnOne one.now.seen self.now.published × LieOnOne other.now.seen self.now.published }
+        ensures one_list { LieOnOne one.now.seen other.now.seen }
+        ensures begins { IsPrefix one.now.seen other.now.seen ⊎ IsPrefix other.now.seen one.now.seen }
+    {
+        self.outbox.beside(one);
+        self.outbox.beside(other);
+        one.beside(other);
     }
 
     /// Takes one step of a port, and answers it: the state afterwards and the reply are those of the old state, the step stands

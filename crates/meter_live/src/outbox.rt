@@ -4,6 +4,7 @@ ghost use mathlib.Core.List.{IsPrefix};
 ghost use Rattle.left_right.specs.Sides.{view};
 ghost use Rattle.meter_theory.specs.Plan.{start};
 ghost use Rattle.meter_live.specs.Copies.{last_mark, named};
+ghost use Rattle.meter_live.specs.Marks.{LieOnOne};
 ghost use Rattle.meter_live.specs.Outgoing.{IsPosted, steps_in, list_of};
 
 use crate::change::Change;
@@ -90,7 +91,15 @@ impl Outbox {
     {
         let mut end = self.pen.factory().reader().ok()?;
         end.learn::<Takes>(self.pen.tell::<Hands>());
-        Some(Reader::new(end))
+        Some(Reader::new(end, self.pen.published().front().again()))
+    }
+
+    /// The steps that a reader has seen and those that are published are beginnings of one list. It does nothing when it runs.
+    pub(crate) fn beside(&self, reader: &Reader)
+        requires { reader.now.book ≡ self.now.book }
+        ensures { LieOnOne reader.now.seen self.now.published }
+    {
+        reader.beside_front(self.pen.published().front());
     }
 
     /// Makes room for a step. The only error is that memory was refused.

@@ -1,12 +1,11 @@
 //! Readers of the published copies. They take no lock, and wait for nobody.
-ghost use Rattle.std.specs.Prelude.{◌≡◌, true, IsTrue, IfOk};
+ghost use Rattle.std.specs.Prelude.{◌≡◌, ◌≢◌, ◌⊎◌, true, Err, IsTrue, IfOk};
 ghost use mathlib.Core.List.{IsPrefix};
 ghost use Rattle.left_right.specs.Sides.{view};
 ghost use Rattle.meter_core.specs.StepView.{reply_of, step_of};
-ghost use Rattle.meter_theory.specs.Plan.{start};
-ghost use Rattle.meter_theory.specs.Replies.{reply_to, run};
-ghost use Rattle.meter_live.specs.Changes.{is_get};
+ghost use Rattle.meter_live.specs.Changes.{answer_after, is_get, takes_none};
 ghost use Rattle.meter_live.specs.Copies.{Follows};
+ghost use Rattle.meter_live.specs.Marks.{LieOnOne};
 
 use crate::fault::ReadRefused;
 use crate::history::Front;
@@ -26,6 +25,7 @@ pub(crate) type End = reader::Reader<Shown, Names, Published>;
 #[derive(Drop)]
 pub struct Reader {
     end: End,
+    front: Front,
 }
 
 impl Model for Reader {
@@ -43,33 +43,55 @@ impl Model for Reader {
 
     ghost view = { λ r. seer (sides.view r.end.place) };
 
-    ghost invariant = { λ r. (sides.view r.end.place).known ≡ true };
+    ghost invariant = { λ r. ((sides.view r.end.place).known ≡ true) × (r.front ≡ (sides.view r.end.place).front) };
 }
 
 impl Reader {
     ghost use Rattle.meter_live.specs.Outgoing.{seer};
 
-    /// A reader of this end, which has learned what the writer knew.
-    pub(crate) fn new(end: End) -> Reader
-        requires { (view end.place).known ≡ true }
+    /// A reader of this end, which has learned what the writer knew, and its beginning of the history.
+    pub(crate) fn new(end: End, front: Front) -> Reader
+        requires known { (view end.place).known ≡ true }
+        requires front { front ≡ (view end.place).front }
         ensures { result ≡ seer (view end.place) }
     {
-        Reader { end }
+        Reader { end, front }
     }
 
     /// The answer to a GET after a list of published steps, which the reader has seen then, and which begins with all that it saw
-    /// before. It takes no lock.
+    /// before. It takes no lock. Only a GET that is answered by a value is ever refused for memory.
     pub fn get(&mut self, alloc: Global, step: &Step) -> Result<Reply, ReadRefused>
         requires { is_get (step_of step.now) ≡ true }
         ensures same { (self.new.plan ≡ self.old.plan) × (self.new.book ≡ self.old.book) }
         ensures later { IsPrefix self.old.seen self.new.seen }
-        ensures reply { IfOk result (λ reply. reply_of reply ≡ reply_to self.old.plan (run self.old.plan (start self.old.plan) self.new.seen) (step_of step.now)) }
+        ensures reply { IfOk result (λ reply. reply_of reply ≡ answer_after self.old.plan self.new.seen (step_of step.now)) }
+        ensures denied { takes_none self.old.plan self.new.seen (step_of step.now) ≡ true → result ≢ Err ReadRefused.Memory }
     {
-        replace_with(
+        let (front, reply) = replace_with(
             &mut self.end,
-            (alloc, step),
-            |end, (alloc, step)| look(end, alloc, step),
-        )
+            (&self.front, alloc, step),
+            |end, (front, alloc, step)| look(end, front, alloc, step),
+        );
+        self.front = front;
+        reply
+    }
+
+    /// Of two readers of one history, the steps that either has seen are beginnings of one list: so one of the two has seen all
+    /// that the other has, in the same order. It does nothing when it runs.
+    pub fn beside(&self, other: &Reader)
+        requires { other.now.book ≡ self.now.book }
+        ensures one_list { LieOnOne self.now.seen other.now.seen }
+        ensures begins { IsPrefix self.now.seen other.now.seen ⊎ IsPrefix other.now.seen self.now.seen }
+    {
+        self.front.beside(&other.front);
+    }
+
+    /// Of a reader and a beginning of its history, the steps of both are beginnings of one list. It does nothing when it runs.
+    pub(crate) fn beside_front(&self, front: &Front)
+        requires { front.now.book ≡ self.now.book }
+        ensures { LieOnOne self.now.seen front.now.steps }
+    {
+        self.front.beside(front);
     }
 
     /// Sees what is published now, and says whether that is as much as this beginning of the history.
@@ -79,42 +101,61 @@ impl Reader {
         ensures later { IsPrefix self.old.seen self.new.seen }
         ensures caught { IsTrue result → self.new.seen ≡ front.now.steps }
     {
-        replace_with(&mut self.end, front, |end, front| compare(end, front))
+        let (seen, caught) = replace_with(
+            &mut self.end,
+            (&self.front, front),
+            |end, (seen, front)| compare(end, seen, front),
+        );
+        self.front = seen;
+        caught
     }
 }
 
-/// Reads the copy that is shown.
-fn look(end: End, alloc: Global, step: &Step) -> (End, Result<Reply, ReadRefused>)
+/// Reads the copy that is shown, and gives the beginning of the history that the end has seen then.
+fn look(
+    end: End,
+    front: &Front,
+    alloc: Global,
+    step: &Step,
+) -> (End, (Front, Result<Reply, ReadRefused>))
     requires known { (view end.place).known ≡ true }
+    requires front { front.now ≡ (view end.place).front }
     requires get { is_get (step_of step.now) ≡ true }
     ensures seen { Follows (view end.place) (view result.0.place) }
-    ensures reply { IfOk result.1 (λ reply. reply_of reply ≡ reply_to (view end.place).plan (run (view end.place).plan (start (view end.place).plan) (view result.0.place).front.steps) (step_of step.now)) }
+    ensures front { result.1.0 ≡ (view result.0.place).front }
+    ensures reply { IfOk result.1.1 (λ reply. reply_of reply ≡ answer_after (view end.place).plan (view result.0.place).front.steps (step_of step.now)) }
+    ensures denied { takes_none (view end.place).plan (view result.0.place).front.steps (step_of step.now) ≡ true → result.1.1 ≢ Err ReadRefused.Memory }
 {
     match end.enter_as::<Enters>() {
         Ok(reading) => {
-            let reply = reading.get().answer(alloc, step);
+            let copy = reading.get();
+            let reply = copy.answer(alloc, step);
+            let seen = copy.front().again();
             let end = reading.leave();
             match reply {
-                Ok(reply) => (end, Ok(reply)),
-                Err(_) => (end, Err(ReadRefused::Memory)),
+                Ok(reply) => (end, (seen, Ok(reply))),
+                Err(_) => (end, (seen, Err(ReadRefused::Memory))),
             }
         }
-        Err(end) => (end, Err(ReadRefused::NoEntry)),
+        Err(end) => (end, (front.again(), Err(ReadRefused::NoEntry))),
     }
 }
 
-/// Sees the copy that is shown, and says whether its beginning of the history is this one.
-fn compare(end: End, front: &Front) -> (End, bool)
+/// Sees the copy that is shown, gives its beginning of the history, and says whether that is this one.
+fn compare(end: End, seen: &Front, front: &Front) -> (End, (Front, bool))
     requires known { (view end.place).known ≡ true }
+    requires front { seen.now ≡ (view end.place).front }
     requires book { front.now.book ≡ (view end.place).front.book }
     ensures seen { Follows (view end.place) (view result.0.place) }
-    ensures caught { IsTrue result.1 → (view result.0.place).front.steps ≡ front.now.steps }
+    ensures front { result.1.0 ≡ (view result.0.place).front }
+    ensures caught { IsTrue result.1.1 → (view result.0.place).front.steps ≡ front.now.steps }
 {
     match end.enter_as::<Enters>() {
         Ok(reading) => {
-            let caught = reading.get().front().equals(front);
-            (reading.leave(), caught)
+            let shown = reading.get().front().again();
+            let caught = shown.equals(front);
+            (reading.leave(), (shown, caught))
         }
-        Err(end) => (end, false),
+        Err(end) => (end, (seen.again(), false)),
     }
 }

@@ -1,5 +1,6 @@
 //! What a port has taken, as parts of two ledgers.
-ghost use Rattle.std.specs.Prelude.{◌≡◌, ◌+◌, ◌≤◌, sum_by, vec_len};
+ghost use Rattle.std.specs.Prelude.{◌≡◌, ◌+◌, ◌<◌, ◌≤◌, sum_by, vec_len};
+ghost use Rattle.meter_live.specs.Tally.{nothing};
 
 use std::marker::Model;
 use std::sync::ledger;
@@ -24,8 +25,65 @@ impl<S: Ledger, C: Ledger> Model for Share<S, C> {
     ghost invariant = { λ s. (s.steps.parts ≡ 1) × (s.changes.parts ≡ 1) };
 }
 
+/// What no port has of the two ledgers: a part of each for every port that isn't opened, and no amount. Contracts see how many
+/// parts these are, of 256 of each.
+#[derive(Drop)]
+pub struct Rest<S: Ledger, C: Ledger> {
+    steps: ledger::Share<S>,
+    changes: ledger::Share<C>,
+}
+
+impl<S: Ledger, C: Ledger> Model for Rest<S, C> {
+    ghost use Rattle.std.specs.Prelude.{◌≡◌, ℕ};
+
+    ghost Value = { ℕ };
+
+    ghost view = { λ r. r.steps.parts };
+
+    ghost invariant = { λ r. (S.parts ≡ 256) × (C.parts ≡ 256) × (r.changes.parts ≡ r.steps.parts) × (r.steps.amount ≡ 0) × (r.changes.amount ≡ 0) };
+}
+
+impl<S: Ledger, C: Ledger> Rest<S, C> {
+    /// The whole of two ledgers in which nothing is counted.
+    pub(crate) fn whole(steps: ledger::Share<S>, changes: ledger::Share<C>) -> Rest<S, C>
+        requires ledgers { (S.parts ≡ 256) × (C.parts ≡ 256) }
+        requires parts { (steps.parts ≡ 256) × (changes.parts ≡ 256) }
+        requires empty { (steps.amount ≡ 0) × (changes.amount ≡ 0) }
+        ensures { result ≡ 256 }
+    {
+        Rest { steps, changes }
+    }
+
+    /// The share of a new port.
+    pub(crate) fn hand_out(&mut self) -> Share<S, C>
+        requires { 0 < self.old }
+        ensures share { result ≡ nothing }
+        ensures left { self.new + 1 ≡ self.old }
+    {
+        let Rest { steps, changes } = self;
+        Share {
+            steps: steps.split_off(1, 0),
+            changes: changes.split_off(1, 0),
+        }
+    }
+
+    /// The rest with all these shares: where they are no fewer than the ports that were opened, the whole of both ledgers.
+    pub(crate) fn with(self, shares: Vec<Share<S, C>>) -> (ledger::Share<S>, ledger::Share<C>)
+        ensures steps { result.0.amount ≡ sum_by (λ s. s.steps) shares.items }
+        ensures changes { result.1.amount ≡ sum_by (λ s. s.changes) shares.items }
+        ensures whole { 256 ≤ self + vec_len shares → (result.0.parts ≡ S.parts) × (result.1.parts ≡ C.parts) }
+    {
+        let Rest {
+            mut steps,
+            mut changes,
+        } = self;
+        gather(&mut steps, &mut changes, shares);
+        (steps, changes)
+    }
+}
+
 /// Merges all shares into these two.
-pub(crate) fn gather<S: Ledger, C: Ledger>(
+fn gather<S: Ledger, C: Ledger>(
     steps: &mut ledger::Share<S>,
     changes: &mut ledger::Share<C>,
     mut shares: Vec<Share<S, C>>,

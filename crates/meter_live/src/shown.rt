@@ -1,5 +1,6 @@
 //! The copies that readers read.
-ghost use Rattle.std.specs.Prelude.{◌≡◌, true, IfOk};
+ghost use Rattle.std.specs.Prelude.{◌≡◌, true, IfOk, IsOk};
+ghost use Rattle.meter_core.specs.Memory.{needs_no_memory};
 ghost use Rattle.meter_core.specs.StepView.{reply_of, step_of};
 ghost use Rattle.meter_theory.specs.Replies.{reply_to};
 ghost use Rattle.meter_theory.specs.States.{IsState};
@@ -73,10 +74,12 @@ impl Shown {
         &self.front
     }
 
-    /// What the copy answers to a GET. The only error is that memory was refused.
+    /// What the copy answers to a GET. The only error is that memory was refused; a GET that the plan denies is answered without
+    /// memory.
     pub(crate) fn answer(&self, alloc: Global, step: &Step) -> Result<Reply, Memory>
         requires { is_get (step_of step.now) ≡ true }
-        ensures { IfOk result (λ reply. reply_of reply ≡ reply_to self.now.accepted.plan self.now.state (step_of step.now)) }
+        ensures ok { IfOk result (λ reply. reply_of reply ≡ reply_to self.now.accepted.plan self.now.state (step_of step.now)) }
+        ensures denied { needs_no_memory self.now.accepted.plan self.now.state (step_of step.now) ≡ true → IsOk result }
     {
         match step {
             Step::Get {
