@@ -49,7 +49,7 @@ bind = option_or (codes "bind") (codes "127.0.0.1")
 abbrev pub port : Rule
 port = record (option_or (codes "port") (codes "4059")) { parser = Some (Signed (pos 1) (pos 65535)) }
 
--- `--sessions N`, a number of 64 bits: 0, which is without end, where it isn't given (own profile)
+-- `--sessions N`, a number of 64 bits: 0, which is without end, where it isn't given (own profile); the end waits for the lines too
 abbrev pub sessions : Rule
 sessions = record (option_or (codes "sessions") (codes "0")) { parser = Some (Unsigned 0 18446744073709551615) }
 

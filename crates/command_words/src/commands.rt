@@ -288,7 +288,7 @@ fn port<'a>(alloc: Global) -> Arg<'a>
         .help("The TCP port where connections are taken, from 1 to 65535")
 }
 
-/// How many connections are answered before the end.
+/// How many connections are answered before the end, which waits for the lines of standard input too.
 fn sessions<'a>(alloc: Global) -> Arg<'a>
     ensures rule { rule_of result ≡ spec.sessions }
     ensures local { result.global ≡ false }
@@ -299,7 +299,9 @@ fn sessions<'a>(alloc: Global) -> Arg<'a>
         .default_value("0")
         .value_parser(value_parser!(u64))
         .value_name("N")
-        .help("After how many connections the meter ends, 0 for never")
+        .help(
+            "After how many connections the meter ends, once the lines have ended too, 0 for never",
+        )
 }
 
 /// One name or more, each of which stands for two files.

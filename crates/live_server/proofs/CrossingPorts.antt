@@ -1,9 +1,11 @@
 -- What asks at a port may go to a thread, and so may the driver; a seat's may be shared under its lock.
 use denote.RattleType.{RattleType}
 use denote.Ref.{NamedLft}
-use denote.Param.Send.{IsSend, IsSync, shr_send, sendable}
-use denote.Param.SendFields.{declared_send}
+use denote.Struct.Field.{row_field}
+use denote.Param.Send.{IsSend, IsSync, shr_send, view_send, sendable}
+use denote.Param.SendFields.{as_row_send, declared_send}
 use Rattle.std.proofs.Crossing.{crosses}
+use Rattle.std.specs.declared.io.Write as writes
 use Rattle.core.specs.declared.ledger.Ledger as ledgers
 use Rattle.core.specs.contracts.sync.Mutex as mutexes
 use Rattle.meter_live.specs.declared.names.Naming as naming
@@ -11,6 +13,12 @@ use Rattle.meter_live.specs.contracts.desk.BoardReader as board_readers
 use Rattle.meter_live.proofs.Crossing.{board_reader_send, port_send, share_send}
 use Rattle.live_server.specs.contracts.asking.PortAsker as askers
 use Rattle.live_server.specs.contracts.driver.Driver as drivers
+use Rattle.live_server.specs.contracts.driver.Taker as takers
+use Rattle.live_server.specs.contracts.driver.Taker.TheInside as takers_inside
+use Rattle.live_server.specs.contracts.notices.Notices as notices
+
+notices_send : (F : RattleType) → IsSend F → IsSend (notices.the_row F)
+notices_send F f = declared_send (notices.the_type F) (search (crosses, sendable) depth 20, (as_row_send (row_field F) f, tt))
 
 module _ (N S C W : RattleType) (g : naming.Ghosts N.Denot) (h : ledgers.Ghosts S.Denot) (k : ledgers.Ghosts C.Denot)
     (n : IsSend N) (s : IsSend S) (c : IsSend C) (w : IsSend W) (a : NamedLft) (R : RattleType) (y : IsSync R) where
@@ -23,8 +31,13 @@ module _ (N S C W : RattleType) (g : naming.Ghosts N.Denot) (h : ledgers.Ghosts 
       declared_send (askers.the_type a N S C W R g h k)
       (shr_send a.mir a.lft R y, (p, (share, (search (seat_reader_send, sendable) depth 12, (search sendable depth 12, tt)))))
 
-  pub driver_send : IsSend (drivers.the_row a N S C W R g h k)
-  driver_send = declared_send (drivers.the_type a N S C W R g h k) (asker_send, (search (crosses, sendable) depth 20, tt))
+  taker_send : (F : RattleType) (t : writes.Ghosts F.Denot) → IsSend F → IsSend (takers.the_row a N S C W R F g h k t)
+  taker_send F t f = let told = notices_send F f in
+      view_send _ _ _ _ _ (declared_send (takers_inside.the_type a N S C W R F g h k t) (asker_send, (told, (search sendable depth 12, tt))))
+
+  pub driver_send : (F : RattleType) (t : writes.Ghosts F.Denot) → IsSend F → IsSend (drivers.the_row a N S C W R F g h k t)
+  driver_send F t f = let taken = taker_send F t f in
+      declared_send (drivers.the_type a N S C W R F g h k t) (taken, (search (crosses, sendable) depth 20, tt))
 
   pub seat_sync : IsSync (mutexes.the_row (askers.the_row a N S C W R g h k))
   seat_sync = search (asker_send, crosses, sendable) depth 12

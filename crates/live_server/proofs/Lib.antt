@@ -1,3 +1,4 @@
+pub mod Ahead
 pub mod Asked
 pub mod CrossingCalls
 pub mod CrossingPorts

@@ -1,2 +1,5 @@
+pub mod Accepting
+pub mod Ahead
 pub mod Asking
+pub mod Driving
 pub mod Faults

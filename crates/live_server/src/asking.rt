@@ -1,15 +1,16 @@
 //! What a session of a live meter asks.
-ghost use Rattle.std.specs.Prelude.{◌≡◌, false, true, IfOk, IfSome, None, OnOk, Some};
+ghost use Rattle.std.specs.Prelude.{◌≡◌, false, true, IfOk, IfSome, None, OnErr, OnOk, Some};
 ghost use mathlib.Core.List.{IsPrefix};
 ghost use Rattle.std.proofs.Props.{props};
 ghost use Rattle.meter_live.specs.Changes as changes;
-ghost use Rattle.meter_live.specs.Tally.{HasSeen, nothing};
+ghost use Rattle.meter_live.specs.Changes.{Answers, changes_of};
+ghost use Rattle.meter_live.specs.Tally.{HasSeen, counted, nothing};
 ghost use Rattle.meter_theory.specs.Plan.{start};
 ghost use Rattle.meter_theory.specs.Replies.{reply_to, run};
 ghost use Rattle.meter_core.specs.StepView.{reply_of, step_of};
 ghost use Rattle.acse_session.specs.Conversation.{answered, IsSendable};
 ghost use Rattle.live_server.specs.Asking as spec;
-ghost use Rattle.live_server.specs.Asking.{AnswersLive};
+ghost use Rattle.live_server.specs.Asking.{AnswersLive, SeesOn};
 
 use acse_session::asker::Asker;
 use association_views::permits::permit_get;
@@ -28,12 +29,13 @@ use std::sync::ledger::Ledger;
 
 /// A place at a live meter, for one session after another: a port, its share, and its reader, where it got one.
 ///
-/// Its reader answers GETs, without the lock, and all else is a step under it. A seat without a reader asks everything under the lock.
+/// Its reader answers GETs, without the lock, and all else is a step under it. A seat without a reader asks everything under
+/// the lock.
 #[derive(Drop)]
 pub struct PortAsker<'b, N: Naming, S: Ledger, C: Ledger, W: Wait + Drop, R: Wait> {
     rt: &'b R,
     port: Port<'b, N, S, C, W>,
-    share: Share<S, C>,
+    pub(crate) share: Share<S, C>,
     reader: Option<BoardReader<N>>,
     /// Whether a step was taken here that the reader wasn't told of.
     is_behind: bool,
@@ -63,8 +65,29 @@ impl<'b, N: Naming, S: Ledger, C: Ledger, W: Wait + Drop, R: Wait> PortAsker<'b,
         self.port.plan()
     }
 
-    /// Publishes all steps that are pending, and tells the reader. Where memory is refused, that is left to the next telling.
-    pub fn tell(&mut self) {
+    /// Takes a step under the lock, of which the reader is told by the next telling.
+    pub fn take(&mut self, alloc: Global, step: Step) -> Result<Reply, Memory>
+        ensures reply { IfOk result (λ reply. Answers N.accepted.plan (step_of step) (reply_of reply)) }
+        ensures share { OnOk result (self.new.share ≡ counted self.old.share (changes_of N.accepted.plan (step_of step))) }
+        ensures sendable { IfOk result (λ reply. IsSendable (step_of step) (reply_of reply)) }
+        ensures seen { self.new.reader ≡ self.old.reader }
+        ensures err { OnErr result (self.new.share ≡ self.old.share) }
+    {
+        self.is_behind = true;
+        self.port.plan().known();
+        match self.port.act(self.rt, alloc, &mut self.share, step) {
+            Ok(reply) => Ok(reply),
+            Err(_) => Err(Memory),
+        }
+    }
+
+    /// Publishes all steps that are pending, and tells the reader, which has then seen as many changes as the share counts, or
+    /// more. Where memory is refused, that is left to the next telling.
+    pub fn tell(&mut self)
+        ensures later { SeesOn self.old.reader self.new.reader }
+        ensures noted { self.new.is_behind ≡ false → IfSome self.new.reader (λ seen. HasSeen self.new.share seen) }
+        ensures share { self.new.share ≡ self.old.share }
+    {
         if let Some(reader) = &mut self.reader {
             self.is_behind = self.port.tell(self.rt, &mut self.share, reader).is_err();
         }

@@ -1,190 +1,208 @@
 //! The driver of a live meter: inputs, evaluations and moments come as lines (own profile).
 ghost use Rattle.std.specs.Prelude.{◌≡◌};
+ghost use Rattle.live_server.specs.Driving.{Drives, DrivesLine};
 
 use crate::asking::PortAsker;
+use crate::by_line::ByLine;
+use crate::notices::Notices;
 use acse_session::asker::Asker;
-use civil_moment::moment::Moment;
 use cosem_data::memory::Memory;
+use line_server::driving::{take_moment, take_ticks};
 use line_server::line::{Line, read_line};
-use line_server::lines::AnswersLines;
+use line_server::lines::{AnswersLines, answer_lines};
 use line_server::running::LineFault;
-use line_server::text::put_unreadable;
-use meter_core::moments::offered;
+use meter_core::reply::Reply;
 use meter_core::step::Step;
 use meter_live::names::Naming;
+use meter_theory::access::AccessCode;
 use object_model::plan::Plan;
 use std::alloc::Global;
-use std::io::{self, Write};
+use std::io::{self, Read, Write};
+use std::marker::Model;
 use std::sync::Wait;
 use std::sync::ledger::Ledger;
 
-/// Takes the meter's own steps from lines, at a seat, which tells of them behind each line. A line that is no such step, and so the APDU
-/// of a client too, is told as `line N: unreadable`, and a step that is refused for memory as `line N: memory`; then the next goes on.
+/// Takes the steps of a line at a seat, which is told of none of them. A step that is refused for memory is told, and passed
+/// over. Contracts see what the share counts, what was told, and the number of the line.
 #[derive(Drop)]
-pub struct Driver<'b, N: Naming, S: Ledger, C: Ledger, W: Wait + Drop, R: Wait> {
+struct Taker<'b, N: Naming, S: Ledger, C: Ledger, W: Wait + Drop, R: Wait, F: Write + Drop> {
     seat: PortAsker<'b, N, S, C, W, R>,
+    notices: Notices<F>,
+    number: u64,
+}
+
+impl<'b, N: Naming, S: Ledger, C: Ledger, W: Wait + Drop, R: Wait, F: Write + Drop> Model
+    for Taker<'b, N, S, C, W, R, F> {
+    ghost use Rattle.live_server.specs.Driving.{Hand};
+
+    ghost Value = { Hand };
+
+    ghost view = { λ t. record { share = t.seat.share; told = F.contents t.notices.faults; number = t.number } };
+}
+
+impl<'b, N: Naming, S: Ledger, C: Ledger, W: Wait + Drop, R: Wait, F: Write + Drop> Asker
+    for Taker<'b, N, S, C, W, R, F> {
+    ghost use Rattle.live_server.specs.Driving.{TakesOrTells};
+
+    ghost plan_of = { λ _. N.accepted.plan };
+
+    ghost answers = { TakesOrTells N.accepted.plan };
+
+    // A step that is refused is told, and answered a temporary failure (IEC 62056-5-3, Data-Access-Result), which nobody reads.
+    fn ask(&mut self, alloc: Global, step: Step) -> Result<Reply, Memory> {
+        match self.seat.take(alloc, step) {
+            Ok(reply) => Ok(reply),
+            Err(_) => {
+                self.notices.tell_memory(self.number);
+                Ok(Reply::Code(AccessCode::TemporaryFailure))
+            }
+        }
+    }
+}
+
+/// Takes the meter's own steps from lines, at a seat, which tells of them once behind each line. A line that is no such step,
+/// and so the APDU of a client too, is told as `line N: unreadable`, and each step that is refused for memory as
+/// `line N: memory`, and so is a line that is refused memory before its steps; then the next goes on. What is told takes no memory.
+#[derive(Drop)]
+pub struct Driver<'b, N: Naming, S: Ledger, C: Ledger, W: Wait + Drop, R: Wait, F: Write + Drop> {
+    taker: Taker<'b, N, S, C, W, R, F>,
     apdu: Vec<u8>,
 }
 
-impl<'b, N: Naming, S: Ledger, C: Ledger, W: Wait + Drop, R: Wait> Driver<'b, N, S, C, W, R> {
-    /// A driver at this seat.
-    pub fn new(alloc: Global, seat: PortAsker<'b, N, S, C, W, R>) -> Self {
-        Driver {
+impl<'b, N: Naming, S: Ledger, C: Ledger, W: Wait + Drop, R: Wait, F: Write + Drop> Driver<
+    'b,
+    N,
+    S,
+    C,
+    W,
+    R,
+    F,
+> {
+    /// A driver at this seat, with what it tells by. No line is taken yet.
+    pub fn new(alloc: Global, seat: PortAsker<'b, N, S, C, W, R>, notices: Notices<F>) -> Self
+        ensures { result.taker ≡ record { share = seat.entry.share; told = F.contents notices.faults; number = 0 } }
+    {
+        let taker = Taker {
             seat,
+            notices,
+            number: 0,
+        };
+        Driver {
+            taker,
             apdu: Vec::new(alloc),
         }
     }
 
     /// Its seat, once all lines were taken.
-    pub fn into_seat(self) -> PortAsker<'b, N, S, C, W, R> {
-        self.seat
+    pub fn into_seat(self) -> PortAsker<'b, N, S, C, W, R>
+        ensures { result.share ≡ self.entry.taker.share }
+    {
+        let Driver { taker, apdu: _apdu } = self;
+        let Taker {
+            seat,
+            notices: _notices,
+            number: _,
+        } = taker;
+        seat
     }
 
-    /// Takes the steps of a line, and puts what is told of it.
-    fn take_line(
-        &mut self,
-        alloc: Global,
-        number: u64,
-        line: &[u8],
-        told: &mut Vec<u8>,
-    ) -> Result<(), Memory> {
-        let plan = self.seat.plan();
-        match read_line(alloc, plan, line, &mut self.apdu) {
-            Ok(line) => take_steps(alloc, plan, &mut self.seat, number, line, told),
-            Err(_) => put_memory(alloc, number, told),
+    /// Takes the lines that are read, to their end or to a read that fails. A line that can't be kept for want of memory is
+    /// told and passed over.
+    pub(crate) fn take_lines<I: Read + Drop>(&mut self, alloc: Global, lines: &mut ByLine<I>) {
+        for _ in 0..u64::MAX {
+            let Err(LineFault::Memory) = answer_lines(alloc, self, lines, &mut io::sink()) else {
+                return;
+            };
+            self.lose_line();
+            if lines.end_line().is_err() {
+                return;
+            }
         }
+    }
+
+    /// Tells of a line that couldn't be kept for want of memory.
+    fn lose_line(&mut self) {
+        let Taker {
+            seat: _,
+            notices,
+            number,
+        } = &mut self.taker;
+        *number = number.wrapping_add(1);
+        notices.tell_memory(*number);
     }
 }
 
-impl<'b, N: Naming, S: Ledger, C: Ledger, W: Wait + Drop, R: Wait> AnswersLines
-    for Driver<'b, N, S, C, W, R> {
-    // No contract says what a driver does: tests do.
-    ghost answers = { λ _ _ _ _ _. Unit {0} };
+impl<'b, N: Naming, S: Ledger, C: Ledger, W: Wait + Drop, R: Wait, F: Write + Drop> AnswersLines
+    for Driver<'b, N, S, C, W, R, F> {
+    ghost use Rattle.std.specs.Prelude.{◌≡◌, []};
+    ghost use Rattle.live_server.specs.Driving.{DrivesLine, following};
 
-    ghost stops = { λ _ _ _ _ _. Unit {0} };
+    // Lines are counted by the driver, since some may be lost. Nothing waits to be written: what is told is written at once.
+    ghost answers = { λ old _ line text new. (text ≡ []) × DrivesLine N.accepted.plan (following old.taker) line new.taker };
+
+    // No line ends the driver.
+    ghost stops = { λ _ _ _ _ _. ⊥ };
 
     fn answer_line(
         &mut self,
         alloc: Global,
-        number: u64,
+        _number: u64,
         line: &[u8],
-        waiting: &mut Vec<u8>,
+        _waiting: &mut Vec<u8>,
     ) -> Result<(), LineFault> {
-        let mut told = Vec::new(alloc);
-        let Ok(()) = self.take_line(alloc, number, line, &mut told) else {
-            return Err(LineFault::Memory);
-        };
-        self.seat.tell();
-        match waiting.extend_from_slice(&told) {
-            Ok(()) => Ok(()),
-            Err(_) => Err(LineFault::Memory),
+        let Driver { taker, apdu } = self;
+        taker.number = taker.number.wrapping_add(1);
+        take_line(alloc, taker, apdu, line);
+        taker.seat.tell();
+        Ok(())
+    }
+}
+
+/// Takes the steps of a line, or tells that it has none, or that memory was refused to read it. The room is for an APDU.
+fn take_line<N: Naming, S: Ledger, C: Ledger, W: Wait + Drop, R: Wait, F: Write + Drop>(
+    alloc: Global,
+    taker: &mut Taker<'_, N, S, C, W, R, F>,
+    room: &mut Vec<u8>,
+    line: &[u8],
+)
+    ensures { DrivesLine N.accepted.plan taker.old line.now taker.new }
+{
+    let plan = taker.seat.plan();
+    match read_line(alloc, plan, line, room) {
+        Ok(line) => take_steps(alloc, plan, taker, line),
+        Err(_) => {
+            taker.notices.tell_memory(taker.number);
         }
     }
 }
 
 /// Takes the steps of a line, or tells that it has none.
-fn take_steps<A: Asker>(
+fn take_steps<N: Naming, S: Ledger, C: Ledger, W: Wait + Drop, R: Wait, F: Write + Drop>(
     alloc: Global,
     plan: &Plan,
-    asker: &mut A,
-    number: u64,
+    taker: &mut Taker<'_, N, S, C, W, R, F>,
     line: Line<'_>,
-    told: &mut Vec<u8>,
-) -> Result<(), Memory> {
+)
+    requires { plan.now ≡ N.accepted.plan }
+    ensures { Drives N.accepted.plan taker.old line.entry taker.new }
+{
+    // No step is an error: the taker tells of those that are refused.
     match line {
-        Line::Skipped => Ok(()),
+        Line::Skipped => {}
         Line::Input { cell, value } => {
-            take(alloc, asker, number, Step::Input { cell, value }, told)
+            let _ = taker.ask(alloc, Step::Input { cell, value });
         }
-        Line::Evaluate(monitor) => take(alloc, asker, number, Step::Evaluate { monitor }, told),
-        Line::At(moment) => take_moment(alloc, plan, asker, number, moment, told),
-        Line::Ticks(seconds) => take_ticks(alloc, plan, asker, number, seconds, told),
-        Line::Ask(_) | Line::Unreadable(_) => put_unreadable(alloc, number, told),
-    }
-}
-
-/// Takes the steps of a moment: the clock is set to it, and each object is offered its step.
-fn take_moment<A: Asker>(
-    alloc: Global,
-    plan: &Plan,
-    asker: &mut A,
-    number: u64,
-    moment: Moment,
-    told: &mut Vec<u8>,
-) -> Result<(), Memory> {
-    take(alloc, asker, number, Step::ClockAt { moment }, told)?;
-    take_driven(alloc, plan, asker, number, told)
-}
-
-/// Takes the steps of so many seconds: at each the clock ticks, and each object is offered its step.
-fn take_ticks<A: Asker>(
-    alloc: Global,
-    plan: &Plan,
-    asker: &mut A,
-    number: u64,
-    seconds: u16,
-    told: &mut Vec<u8>,
-) -> Result<(), Memory> {
-    for _second in 0..seconds {
-        take(alloc, asker, number, Step::Tick, told)?;
-        take_driven(alloc, plan, asker, number, told)?;
-    }
-    Ok(())
-}
-
-/// Takes the steps that are offered to the objects of the plan when the clock has moved, in their order.
-fn take_driven<A: Asker>(
-    alloc: Global,
-    plan: &Plan,
-    asker: &mut A,
-    number: u64,
-    told: &mut Vec<u8>,
-) -> Result<(), Memory> {
-    for object in plan.objects() {
-        if let Some(step) = offered(object) {
-            take(alloc, asker, number, step, told)?;
+        Line::Evaluate(monitor) => {
+            let _ = taker.ask(alloc, Step::Evaluate { monitor });
         }
-    }
-    Ok(())
-}
-
-/// Has a step taken, and tells where it was refused.
-fn take<A: Asker>(
-    alloc: Global,
-    asker: &mut A,
-    number: u64,
-    step: Step,
-    told: &mut Vec<u8>,
-) -> Result<(), Memory> {
-    match asker.ask(alloc, step) {
-        Ok(_) => Ok(()),
-        Err(_) => put_memory(alloc, number, told),
-    }
-}
-
-/// Puts the line that tells of a step that was refused behind the texts that are there.
-fn put_memory(alloc: Global, number: u64, told: &mut Vec<u8>) -> Result<(), Memory> {
-    let text = format!(in alloc; "line {number}: memory\n")?;
-    told.extend_from_slice(text.as_bytes())?;
-    Ok(())
-}
-
-/// A writer that passes over each write that fails, so that what is told can't stop who tells it.
-#[derive(Drop)]
-pub struct PassedOver<F: Write + Drop>(pub F);
-
-impl<F: Write + Drop> Write for PassedOver<F> {
-    ghost use Rattle.std.specs.Prelude.{None};
-
-    ghost contents = { λ _. None };
-
-    fn write(&mut self, bytes: &[u8]) -> io::Result<usize> {
-        let _ = self.0.write_all(bytes);
-        Ok(bytes.len())
-    }
-
-    fn flush(&mut self) -> io::Result<()> {
-        let _ = self.0.flush();
-        Ok(())
+        Line::At(moment) => {
+            let _ = take_moment(alloc, plan, taker, moment);
+        }
+        Line::Ticks(seconds) => {
+            let _ = take_ticks(alloc, plan, taker, seconds);
+        }
+        Line::Ask(_) | Line::Unreadable(_) => {
+            taker.notices.tell_unreadable(taker.number);
+        }
     }
 }

@@ -7,7 +7,7 @@ use thiserror::Error;
 #[derive(Clone, Copy, Debug, PartialEq, Eq, Drop, Error)]
 #[error("{}", self.words())]
 pub enum ServerFault {
-    /// No connection can be taken at the address.
+    /// No connection can be taken at the address, as the listening itself fails.
     Listen,
     /// Memory was refused, or no thread was there for the driver.
     Memory,

@@ -2,11 +2,14 @@
 //!
 //! - [`sessions::serve_sessions`] answers connections, each in a thread of its own, on one board.
 //! - [`asking::PortAsker`] is what a session asks: a port of the board, with its share and its reader.
-//! - [`driver::Driver`] takes the meter's own steps from lines.
+//! - [`driver::Driver`] takes the meter's own steps from lines, and tells of those that are refused by its [`notices::Notices`].
 #![tactic(auto)]
 
+mod accepting;
 pub mod asking;
+mod by_line;
 pub mod driver;
 pub mod fault;
+pub mod notices;
 mod seats;
 pub mod sessions;

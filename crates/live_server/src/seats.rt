@@ -6,13 +6,14 @@ use crate::asking::PortAsker;
 use crate::fault::ServerFault;
 use gates::Gate;
 use meter_live::board::Board;
+use meter_live::fault::PortFault;
 use meter_live::names::Naming;
 use meter_live::share::Share;
 use std::alloc::Global;
 use std::sync::ledger::Ledger;
 use std::sync::{Mutex, Wait};
 
-/// How many connections are answered at once.
+/// How many connections are answered at once (own profile).
 pub(crate) const SEATS: usize = 64;
 
 /// Opens a seat at a port of its own.
@@ -20,9 +21,20 @@ pub(crate) fn open_seat<'b, N: Naming, S: Ledger, C: Ledger, W: Wait + Drop, R: 
     rt: &'b R,
     board: &'b Board<N, S, C, W>,
 ) -> Result<PortAsker<'b, N, S, C, W, R>, ServerFault>
-    ensures { IfErr result (λ fault. fault ≡ ServerFault.Board) }
+    ensures { IfErr result (λ fault. (fault ≡ ServerFault.Board) ⊎ (fault ≡ ServerFault.Memory)) }
 {
-    PortAsker::open(rt, board).map_err(|_| ServerFault::Board)
+    PortAsker::open(rt, board).map_err(fault_of_port)
+}
+
+/// Why no seat is opened where a board opens no port: memory was refused, or all its ports were opened.
+fn fault_of_port(fault: PortFault) -> ServerFault
+    ensures memory { fault ≡ PortFault.Memory → result ≡ ServerFault.Memory }
+    ensures no_port { fault ≡ PortFault.NoPort → result ≡ ServerFault.Board }
+{
+    match fault {
+        PortFault::Memory => ServerFault::Memory,
+        PortFault::NoPort => ServerFault::Board,
+    }
 }
 
 /// Opens a seat for each connection that is answered at once, under a lock of its own.

@@ -4,16 +4,18 @@ ghost use denote.Param.Send.{IsSend, IsSync};
 ghost use Rattle.meter_theory.specs.States.{IsState};
 ghost use Rattle.live_server.specs.Faults.{IsFaultBy};
 
+use crate::accepting::{is_passing, pause};
 use crate::asking::PortAsker;
-use crate::driver::{Driver, PassedOver};
+use crate::by_line::ByLine;
+use crate::driver::Driver;
 use crate::fault::ServerFault;
+use crate::notices::Notices;
 use crate::seats::{Taken, open_seat, open_seats, shares_of};
 use flow_checker::check::Checked;
 use frame_server::fault::ServeFault;
 use frame_server::serving::{Seat, serve_gated};
 use gates::Gate;
-use line_server::lines::answer_lines;
-use meter_live::board::{Blanks, Board, Closed, NotAll};
+use meter_live::board::{Blanks, Board, Closed};
 use meter_live::names::Naming;
 use meter_live::share::Share;
 use std::alloc::Global;
@@ -40,12 +42,13 @@ pub struct Driven<I: Read + Drop, F: Write + Drop> {
     pub faults: F,
 }
 
-/// Answers so many connections, each in a thread of its own at the lowest free seat, and takes the meter's own steps from the driver's
-/// lines; then closes the board. A connection that finds no free seat, or no thread, is closed, and counts.
+/// Answers so many connections, each in a thread of its own at the lowest free seat, and takes the meter's own steps from the
+/// driver's lines; then closes the board. A connection that finds no free seat, or no thread, is closed, and counts; one that
+/// can't be taken is passed over, and doesn't.
 ///
 /// # Errors
-/// No connection can be taken, memory was refused, a seat gave up at its gate, or the board had no port for a seat. The board has ended
-/// then.
+/// The listening itself fails, memory was refused, a seat gave up at its gate, or the board had no port for a seat. The board
+/// has ended then.
 pub fn serve_sessions<N, S, C, W, R, I, F, G>(
     rt: &R,
     alloc: Global,
@@ -62,7 +65,6 @@ where
     I: Read + Send + Drop,
     F: Write + Send + Drop,
     G: Gate + Sync,
-    requires { (S.parts ≡ 256) × (C.parts ≡ 256) }
     ensures plan { IfOk result (λ closed. closed.plan ≡ N.accepted) }
     ensures meter { IfOk result (λ closed. IsState N.accepted.plan closed.meter) }
     // A seat gave up only where a gate may have it do so.
@@ -71,7 +73,8 @@ where
     match run_sessions(rt, alloc, &board, service, driven) {
         Ok(shares) => match board.close(rt, shares) {
             Ok(closed) => Ok(closed),
-            Err(NotAll { board, .. }) => {
+            Err(not_all) => {
+                let (board, _shares) = not_all.into_parts();
                 board.end(rt);
                 Err(ServerFault::Board)
             }
@@ -102,14 +105,17 @@ where
     G: Gate + Sync,
     ensures { IfErr result (λ fault. IsFaultBy G.may_give_up fault) }
 {
-    let driver = Driver::new(alloc, open_seat(rt, board)?);
+    let Driven { steps, faults } = driven;
+    let lines = ByLine::new(alloc, steps).map_err(|_| ServerFault::Memory)?;
+    let notices = Notices::new(alloc, faults).map_err(|_| ServerFault::Memory)?;
+    let driver = Driver::new(alloc, open_seat(rt, board)?, notices);
     let seats = open_seats(rt, alloc, board)?;
     let taken = Mutex::new(Taken::new(service.gate));
     let lent = seats.as_slice();
     let shared = &taken;
     let (driver, ended) = thread::join(
         rt,
-        move || drive(alloc, driver, driven),
+        move || drive(alloc, driver, lines),
         || accept_all(rt, alloc, lent, shared, &service),
     );
     ended.map_err(|_| ServerFault::Listen)?;
@@ -117,19 +123,27 @@ where
     shares_of(alloc, driver.into_seat(), seats)
 }
 
-/// The driver takes its lines, to their end or to a read that fails.
-fn drive<N: Naming, S: Ledger, C: Ledger, W: Wait + Drop, R: Wait, I: Read + Drop, F: Write + Drop>(
+/// The driver takes its lines.
+fn drive<N, S, C, W, R, I, F>(
     alloc: Global,
-    mut driver: Driver<'_, N, S, C, W, R>,
-    driven: Driven<I, F>,
-) -> Driver<'_, N, S, C, W, R> {
-    let Driven { mut steps, faults } = driven;
-    let mut faults = PassedOver(faults);
-    let _ = answer_lines(alloc, &mut driver, &mut steps, &mut faults);
+    mut driver: Driver<'_, N, S, C, W, R, F>,
+    mut lines: ByLine<I>,
+) -> Driver<'_, N, S, C, W, R, F>
+where
+    N: Naming,
+    S: Ledger,
+    C: Ledger,
+    W: Wait + Drop,
+    R: Wait,
+    I: Read + Drop,
+    F: Write + Drop,
+{
+    driver.take_lines(alloc, &mut lines);
     driver
 }
 
-/// Takes connections until there were so many, or one can't be taken, and waits for their threads.
+/// Takes connections until there were so many, or the listening fails, and waits for their threads. One that can't be taken is
+/// passed over, and doesn't count.
 fn accept_all<'g, N, S, C, W, R, G>(
     rt: &R,
     alloc: Global,
@@ -154,7 +168,14 @@ where
         {
             let mut count = 0u64;
             for stream in service.listener.incoming() {
-                let stream = stream?;
+                let stream = match stream {
+                    Ok(stream) => stream,
+                    Err(error) if is_passing(&error) => {
+                        pause(rt);
+                        continue;
+                    }
+                    Err(error) => return Err(error),
+                };
                 let free = taken.lock(rt).take();
                 if let Some(number) = free {
                     if let Some(seat) = seats.get(number) {

@@ -2,7 +2,7 @@ use denote.Exit.{no}
 use denote.Param.{param}
 use denote.Param.Send.{param_send, arg_send}
 use Rattle.std.proofs.Crossing.{send}
-use Rattle.live_server.proofs.CrossingCalls.{three_send, driven_send}
+use Rattle.live_server.proofs.CrossingCalls.{three_send, by_line_send}
 use Rattle.live_server.proofs.CrossingPorts.{driver_send}
 use Rattle.live_server.proofs.sessions.run_sessions.Goals as goal
 
@@ -10,11 +10,13 @@ use Rattle.live_server.proofs.sessions.run_sessions.Goals as goal
 pub join-driver-requires-send-F : goal.join-driver-requires-send-F
 join-driver-requires-send-F g c κs within =
     let b = c.type_bounds in param_send 1 _ (arg_send _ no _ (three_send _ _ _ _ send
-    (driver_send (param 0 g.row.N) (param 1 g.row.S) (param 2 g.row.C) (param 3 g.row.W) g.N.Naming g.S.Ledger g.C.Ledger b.send-N b.send-S b.send-C b.send-W _ (param 4 g.row.R) b.sync-R)
-    (driven_send (param 5 g.row.I) (param 6 g.row.F) b.send-I b.send-F)))
+    (driver_send (param 0 g.row.N) (param 1 g.row.S) (param 2 g.row.C) (param 3 g.row.W) g.N.Naming g.S.Ledger g.C.Ledger b.send-N b.send-S b.send-C b.send-W _ (param 4 g.row.R) b.sync-R
+    (param 6 g.row.F) g.F.Write b.send-F)
+    (by_line_send (param 5 g.row.I) g.I.Read b.send-I)))
 
 -- and comes back from it
 pub join-driver-requires-send-A : goal.join-driver-requires-send-A
 join-driver-requires-send-A g c κs within =
     let b = c.type_bounds in param_send _ _ (arg_send _ no _
-    (driver_send (param 0 g.row.N) (param 1 g.row.S) (param 2 g.row.C) (param 3 g.row.W) g.N.Naming g.S.Ledger g.C.Ledger b.send-N b.send-S b.send-C b.send-W _ (param 4 g.row.R) b.sync-R))
+    (driver_send (param 0 g.row.N) (param 1 g.row.S) (param 2 g.row.C) (param 3 g.row.W) g.N.Naming g.S.Ledger g.C.Ledger b.send-N b.send-S b.send-C b.send-W _ (param 4 g.row.R) b.sync-R
+    (param 6 g.row.F) g.F.Write b.send-F))

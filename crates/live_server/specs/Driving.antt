@@ -1,0 +1,62 @@
+-- How a driver takes the steps of its lines. All of it is own profile.
+use Rattle.std.specs.Prelude.{◌≡◌, ◌⊎◌, ℕ, ◌+◌, ◌%◌, ◌^◌, Bool, true, false, List, [], ◌∷◌, ◌++◌, codes, Option, Result, Ok, Err}
+use Rattle.std.specs.Fmt.{decimal}
+use Rattle.std.specs.Io.KnownBytes.{Appends}
+use Rattle.cosem_data.specs.View.{tree}
+use Rattle.cosem_data.specs.declared.memory.Memory.{Memory}
+use Rattle.meter_theory.specs.Plan.{Plan}
+use Rattle.meter_theory.specs.Replies.{Reply}
+use Rattle.meter_theory.specs.Steps as steps
+use Rattle.meter_core.specs.Moments.{moment_steps, tick_steps}
+use Rattle.meter_live.specs.Changes.{Answers, changes_of}
+use Rattle.meter_live.specs.Tally.{Tally, counted}
+use Rattle.line_server.specs.Doing.{TakesAll}
+use Rattle.line_server.specs.Spelling.{line_of, unreadable_text}
+use Rattle.line_server.specs.declared.line.Line.{Line}
+use Rattle.line_server.specs.declared.line.Line.TheVariants.{Skipped, Ask, Input, Evaluate, At, Ticks, Unreadable}
+
+-- what is told of a line for which memory was refused, or of a step of it
+abbrev pub memory_text : ℕ → List ℕ
+memory_text number = codes "line " ++ (decimal number ++ codes ": memory\n")
+
+-- a text was told whole, or, where that wasn't so, at most a beginning of it
+abbrev pub Tells : Option (List ℕ) → Option (List ℕ) → List ℕ → Bool → Type 0
+Tells old new text true = Appends old new text
+Tells old new text false = (front : List ℕ) × (left : List ℕ) × (text ≡ front ++ left) × Appends old new front
+
+-- what takes the steps of a line: what its share counts, what was told, and the number of the line
+pub record Hand : Type 0 where
+  pub share : Tally
+  pub told : Option (List ℕ)
+  pub number : ℕ
+
+-- before the steps of the next line, whose number is one more
+abbrev pub following : Hand → Hand
+following old = record { share = old.share; told = old.told; number = (old.number + 1) % 2 ^ 64 }
+
+-- a step is taken under the lock, and the share counts it
+abbrev pub IsCounted : Plan → Hand → steps.Step → Reply → Hand → Type 0
+IsCounted P old step reply new = Answers P step reply × (new.share ≡ counted old.share (changes_of P step)) × (new.told ≡ old.told)
+
+-- a step is refused for memory, which is told, and nothing else changes
+abbrev pub IsTold : Hand → List ℕ → Hand → Type 0
+IsTold old text new = (is_whole : Bool) × Tells old.told new.told text is_whole × (new.share ≡ old.share)
+
+-- Each step of a line is taken, or is told and passed over: the next goes on.
+abbrev pub TakesOrTells : Plan → Hand → steps.Step → Result Reply Memory → Hand → Type 0
+TakesOrTells P old step (Ok reply) new = (new.number ≡ old.number) × (IsCounted P old step reply new ⊎ IsTold old (memory_text old.number) new)
+TakesOrTells P old step (Err refused) new = ⊥
+
+-- what a line does: its steps are taken one after another; a line that is no step of the meter itself, as the APDU of a client, is told
+abbrev pub Drives : Plan → Hand → Line → Hand → Type 0
+Drives P old Skipped new = new ≡ old
+Drives P old (Input cell value) new = TakesAll (TakesOrTells P) old (steps.Input cell (tree value) ∷ []) new
+Drives P old (Evaluate monitor) new = TakesAll (TakesOrTells P) old (steps.Evaluate monitor ∷ []) new
+Drives P old (At moment) new = TakesAll (TakesOrTells P) old (moment_steps P moment) new
+Drives P old (Ticks seconds) new = TakesAll (TakesOrTells P) old (tick_steps P seconds) new
+Drives P old (Ask ask) new = IsTold old (unreadable_text old.number) new
+Drives P old (Unreadable why) new = IsTold old (unreadable_text old.number) new
+
+-- the same of the text of a line, unless memory was refused to read it, which is told
+abbrev pub DrivesLine : Plan → Hand → List ℕ → Hand → Type 0
+DrivesLine P old text new = Drives P old (line_of P text) new ⊎ IsTold old (memory_text old.number) new

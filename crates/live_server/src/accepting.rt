@@ -1,0 +1,61 @@
+//! Connections that can't be taken.
+ghost use Rattle.std.specs.Prelude.{◌≡◌, ◌||◌};
+ghost use Rattle.std.specs.IoError.{error_kind, raw_os_error};
+ghost use Rattle.live_server.specs.Accepting as spec;
+
+use std::io::{self, ErrorKind};
+use std::sync::Wait;
+use std::thread::Parker;
+use std::time::Duration;
+
+/// Whether a connection that couldn't be taken says nothing of the next: its other side gave it up, it isn't let in or its
+/// network failed, or the system is short of files or memory for now. Any other error is of the listening itself.
+pub(crate) fn is_passing(error: &io::Error) -> bool
+    ensures { result ≡ spec.is_passing (error_kind error.now) (raw_os_error error.now) }
+{
+    is_passing_kind(error.kind()) || is_passing_number(error.raw_os_error())
+}
+
+/// Whether an error of this kind passes.
+fn is_passing_kind(kind: ErrorKind) -> bool
+    ensures { result ≡ spec.is_passing_kind kind }
+{
+    matches!(
+        kind,
+        ErrorKind::Interrupted
+            | ErrorKind::ConnectionAborted
+            | ErrorKind::ConnectionReset
+            | ErrorKind::PermissionDenied
+            | ErrorKind::TimedOut
+            | ErrorKind::NetworkDown
+            | ErrorKind::NetworkUnreachable
+            | ErrorKind::HostUnreachable
+            | ErrorKind::WouldBlock
+            | ErrorKind::OutOfMemory
+    )
+}
+
+/// Whether an error of the system with this number passes, if it is one: those that have no kind.
+fn is_passing_number(number: Option<i32>) -> bool
+    ensures { result ≡ spec.is_passing_number number }
+{
+    match number {
+        Some(number) => is_passing_code(number.unsigned_abs()),
+        None => false,
+    }
+}
+
+/// The same of the number (Linux: ENFILE, EMFILE, ENONET, EPROTO, ENOPROTOOPT, ENOBUFS, EHOSTDOWN).
+fn is_passing_code(number: u32) -> bool
+    ensures { result ≡ spec.is_passing_code number }
+{
+    matches!(number, 23 | 24 | 64 | 71 | 92 | 105 | 112)
+}
+
+/// How long the next connection is waited for where one can't be taken: a shortage may last, and isn't asked about without a pause.
+const PAUSE: u64 = 10;
+
+/// Waits so many milliseconds, or less.
+pub(crate) fn pause<R: Wait>(rt: &R) {
+    Parker::new().park_timeout(rt, Duration::from_millis(PAUSE));
+}
