@@ -6,6 +6,7 @@ mod closing;
 mod faults;
 mod fleets;
 mod holds;
+mod lists;
 mod noticing;
 mod progress;
 mod samples;

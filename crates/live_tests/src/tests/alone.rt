@@ -5,6 +5,7 @@ use super::accepting::accepted;
 use super::samples::{
     ALARM_CELL, ENERGY, TEXT, energy_is, get_energy, is_quiet, number_in, set_alarm,
 };
+use cosem_data::data::Data;
 use meter_core::reply::Reply;
 use meter_core::step::Step;
 use meter_live::fault::{LiveFault, ReadRefused};
@@ -64,7 +65,7 @@ fn has_taken(rt: &impl Abort, live: &Live, count: u64, entries: usize) {
     assert!(rt; live.meter().trail().len() == entries);
 }
 
-/// Takes a first step and then GETs of the register, until the trail is closed.
+/// Takes a first step and then GETs of the register, until the trail is closed: it begins in the state before the last of them.
 fn take_past_the_trail(
     rt: &impl Abort,
     alloc: Global,
@@ -76,9 +77,31 @@ fn take_past_the_trail(
         takes_get(rt, alloc, live)?;
     }
     has_taken(rt, live, 4096, 4096);
+    let before = values_now(alloc, live)?;
     takes_get(rt, alloc, live)?;
     has_taken(rt, live, 4097, 1);
+    assert!(rt; values_where_it_begins(alloc, live)?.as_slice() == before.as_slice());
     Ok(())
+}
+
+/// What the cells hold in the state now.
+fn values_now(alloc: Global, live: &Live) -> Result<Vec<Data>, Fail> {
+    live.known();
+    let mut values = Vec::new(alloc);
+    for cell in &live.plan().cells(alloc)? {
+        values.push(live.meter().state().value(alloc, live.plan(), cell)?)?;
+    }
+    Ok(values)
+}
+
+/// What they hold in the state where the trail begins.
+fn values_where_it_begins(alloc: Global, live: &Live) -> Result<Vec<Data>, Fail> {
+    live.known();
+    let mut values = Vec::new(alloc);
+    for cell in &live.plan().cells(alloc)? {
+        values.push(live.meter().opening().value(alloc, live.plan(), cell)?)?;
+    }
+    Ok(values)
 }
 
 /// The alarm in the state where the trail begins.

@@ -6,7 +6,7 @@ use super::samples::{
     ENERGY, TEXT, energy_is, get_energy, is_quiet, is_success, number_in, set_denied,
 };
 use flow_checker::check::Checked;
-use meter_live::board::{Blanks, Board, NotAll, Port};
+use meter_live::board::{Blanks, Board, Port};
 use meter_live::desk::BoardReader;
 use meter_live::fault::{LiveFault, PortFault, ReadRefused};
 use meter_live::names::Naming;
@@ -53,7 +53,7 @@ fn put<N: Naming, S: Ledger, C: Ledger, W: Wait + Drop, R: Wait + Abort>(
 }
 
 /// A value comes into the register, and is read back without the lock. Where its telling is refused for memory, the reader sees the
-/// old value until it is told.
+/// old value until it is told. Whether the step itself was told.
 fn put_and_read<N: Naming, S: Ledger, C: Ledger, W: Wait + Drop, R: Wait + Abort>(
     rt: &R,
     alloc: Global,
@@ -62,13 +62,14 @@ fn put_and_read<N: Naming, S: Ledger, C: Ledger, W: Wait + Drop, R: Wait + Abort
     reader: &mut BoardReader<N>,
     old: u32,
     new: u32,
-) -> Result<(), Fail> {
-    if !put(rt, alloc, port, share, reader, new)? {
+) -> Result<bool, Fail> {
+    let is_told = put(rt, alloc, port, share, reader, new)?;
+    if !is_told {
         sees(rt, alloc, reader, old);
         port.tell(rt, share, reader)?;
     }
     sees(rt, alloc, reader, new);
-    Ok(())
+    Ok(is_told)
 }
 
 /// A step is denied, where memory is refused at most once.
@@ -89,7 +90,8 @@ fn is_denied<N: Naming, S: Ledger, C: Ledger, W: Wait + Drop, R: Wait + Abort>(
     assert!(rt; is_denied);
 }
 
-/// Takes three values in, reads while the lock is held (a reader that took it would wait for ever), and is denied once.
+/// Takes three values in, of which at most one isn't told at once, for want of memory; reads while the lock is held (a reader that
+/// took it would wait for ever), and is denied once.
 fn use_reader<N: Naming, S: Ledger, C: Ledger, W: Wait + Drop, R: Wait + Abort>(
     rt: &R,
     alloc: Global,
@@ -98,9 +100,10 @@ fn use_reader<N: Naming, S: Ledger, C: Ledger, W: Wait + Drop, R: Wait + Abort>(
     share: &mut Share<S, C>,
     reader: &mut BoardReader<N>,
 ) -> Result<(), Fail> {
-    put_and_read(rt, alloc, port, share, reader, ENERGY, 5)?;
-    put_and_read(rt, alloc, port, share, reader, 5, 7)?;
-    put_and_read(rt, alloc, port, share, reader, 7, 0)?;
+    let first = put_and_read(rt, alloc, port, share, reader, ENERGY, 5)?;
+    let second = put_and_read(rt, alloc, port, share, reader, 5, 7)?;
+    let third = put_and_read(rt, alloc, port, share, reader, 7, 0)?;
+    assert!(rt; [first, second, third].iter().filter(|told| !**told).count() <= 1);
     {
         let _guard = board.lock(rt);
         sees(rt, alloc, reader, 0);
@@ -150,12 +153,8 @@ fn hold_day<N: Naming, S: Ledger, C: Ledger, W: Wait + Drop, R: Wait + Abort>(
     let Err(not_all) = board.close(rt, shares) else {
         return Err("closed without a share".into());
     };
-    let NotAll {
-        board,
-        mut shares,
-        opened,
-    } = not_all;
-    assert!(rt; opened == 1);
+    assert!(rt; not_all.opened() == 1);
+    let (board, mut shares) = not_all.into_parts();
     let Ok(()) = shares.push(share) else {
         return Err("no room".into());
     };
@@ -184,4 +183,61 @@ fn a_board_is_opened_used_and_closed(rt: HostRuntime) -> Result<(), Fail> {
         None => Ok(()),
         Some(_) => Err("refused once more".into()),
     }
+}
+
+/// How many ports a board has.
+const PORTS: usize = 256;
+
+/// Opens a port, where memory is refused at most once, and keeps its share.
+fn opens<N: Naming, S: Ledger, C: Ledger, W: Wait + Drop, R: Wait>(
+    rt: &R,
+    board: &Board<N, S, C, W>,
+    shares: &mut Vec<Share<S, C>>,
+) -> Result<(), Fail> {
+    let opened = match board.port(rt) {
+        Err(PortFault::Memory) => board.port(rt),
+        opened => opened,
+    };
+    let (_port, share) = opened?;
+    Ok(shares.push(share)?)
+}
+
+/// A board opens so many ports and no more, and is closed with their shares, which count no step.
+fn fill_board<N: Naming, S: Ledger, C: Ledger, W: Wait + Drop, R: Wait + Abort>(
+    rt: &R,
+    keep: W,
+    alloc: Global,
+    checked: Checked,
+    blanks: Blanks,
+) -> Result<(), Fail>
+    requires plan { checked ≡ N.accepted }
+    requires book { blanks.history ≡ N.book }
+    requires steps { (blanks.steps.name ≡ S.name) × (S.parts ≡ 256) }
+    requires changes { (blanks.changes.name ≡ C.name) × (C.parts ≡ 256) }
+{
+    let Ok(board) = Board::<N, S, C, W>::open(keep, alloc, checked, blanks) else {
+        return Err("not opened".into());
+    };
+    let mut shares = Vec::with_capacity(alloc, PORTS)?;
+    for _ in 0..PORTS {
+        opens(rt, &board, &mut shares)?;
+    }
+    let refused = board.port(rt).err();
+    assert!(rt; refused == Some(PortFault::NoPort));
+    let Ok(closed) = board.close(rt, shares) else {
+        return Err("not closed".into());
+    };
+    assert!(rt; (closed.count, closed.changes) == (0, 0));
+    Ok(())
+}
+
+fn fill_named<R: Wait + Abort>(rt: &R, alloc: Global, checked: Checked) -> Result<(), Fail> {
+    let blanks = Blanks::new();
+    fill_board::<Brand, Brand, Brand, &R, R>(rt, rt, alloc, checked, blanks)
+}
+
+#[test]
+fn a_board_has_256_ports(rt: HostRuntime) -> Result<(), Fail> {
+    let checked = accepted(rt.alloc(), TEXT)?;
+    fill_named(&rt, rt.alloc(), checked)
 }

@@ -2,6 +2,8 @@
 //! contract, and with
 //! it a body, does less.
 ghost use Rattle.std.specs.Prelude.{◌≡◌, ◌⊎◌, IfOk, map, string_bytes};
+ghost use mathlib.Core.List.{IsPrefix};
+ghost use Rattle.meter_live.specs.Marks.{LieOnOne};
 ghost use Rattle.meter_server.specs.Answering.{Runs};
 ghost use Rattle.meter_server.specs.Outcomes as outcomes;
 ghost use Rattle.meter_server.specs.Outcomes.{output_of, status_of};
@@ -9,6 +11,10 @@ ghost use Rattle.meter_server.specs.Program.{AreMistaken};
 
 use cosem_data::memory::Memory;
 use line_server::running::LineFault;
+use meter_live::desk::BoardReader;
+use meter_live::live::Live;
+use meter_live::names::Naming;
+use meter_live::reader::Reader;
 use meter_server::files::TextFiles;
 use meter_server::outcome::Outcome;
 use meter_server::output::Output;
@@ -32,6 +38,21 @@ pub(super) fn told_behind(alloc: Global, outcome: &Outcome) -> Result<String, Me
     ensures { IfOk result (λ text. string_bytes text ≡ output_of outcome.now) }
 {
     outcome.output(alloc)
+}
+
+/// Of two readers of a board, one has seen all that the other has.
+pub(super) fn one_begins_the_other<N: Naming>(one: &BoardReader<N>, other: &BoardReader<N>)
+    ensures { IsPrefix one.now other.now ⊎ IsPrefix other.now one.now }
+{
+    one.beside(other);
+}
+
+/// What a reader has seen, and what is published, lie on one list.
+pub(super) fn lie_on_one(live: &Live, one: &Reader, other: &Reader)
+    requires { (one.now.book ≡ live.now.book) × (other.now.book ≡ live.now.book) }
+    ensures { LieOnOne one.now.seen live.now.published }
+{
+    live.beside(one, other);
 }
 
 /// A fault of the lines is how the command ended.

@@ -23,8 +23,8 @@ fn is_told(rt: &impl Abort, alloc: Global, fault: &impl Display, want: &str) -> 
     Ok(())
 }
 
-/// An unreadable line has its number, a frame fault its own, a text's fault its place and an unread file its path; the words of a wrong
-/// command line are clap's.
+/// An unreadable line has its number, a frame fault its own, a text's fault its place and an unread file its path; the words of
+/// a wrong command line are clap's.
 #[test]
 fn faults_are_told(rt: HostRuntime) -> Result<(), Fail> {
     let a = rt.alloc();

@@ -77,6 +77,7 @@ fn name_methods() {
     let _ = ClientSet::has;
     let _ = ClientSet::within;
     let _ = ClientSet::union;
+    let _ = CellSet::union;
     let _ = Profile::select;
     let _ = Monitor::due;
     let _ = Monitor::remember;
@@ -85,6 +86,7 @@ fn name_methods() {
     let _ = Plan::new;
     let _ = Plan::client;
     let _ = Plan::object;
+    let _ = Plan::rule;
     let _ = Plan::start;
     let _ = Plan::cells;
     let _ = Policy::new;

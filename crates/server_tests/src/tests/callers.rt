@@ -1,11 +1,12 @@
-//! Callers that no other crate has. Each rests on a clause that nothing else needs, so that it is proved no more where a contract, and with
-//! it a body, does less.
-ghost use Rattle.std.specs.Prelude.{◌≡◌, ℕ, Bool, codes, length, map, string_bytes, true, IfErr, IfOk, IsErrOf, IsOk, None, OnErr, OnOk};
+//! Callers that no other crate has. Each rests on a clause that nothing else needs, so that it is proved no more where a
+//! contract, and with it a body, does less.
+ghost use Rattle.std.specs.Prelude.{◌≡◌, ◌||◌, ℕ, Bool, codes, length, map, string_bytes, true, IfErr, IfOk, IsErrOf, IsOk, None, OnErr, OnOk};
 ghost use Rattle.association_views.specs.AssociationClass.{association_reading, association_refusal};
 ghost use Rattle.civil_moment.specs.Texts.{moment_text};
 ghost use Rattle.class_profile.specs.PartView.{captures_of_part};
 ghost use Rattle.class_profile.specs.ProfileClass.{is_buffer};
 ghost use Rattle.cosem_class.specs.CellSets.{has};
+ghost use Rattle.cosem_class.specs.Judged.{rule_answer};
 ghost use Rattle.cosem_class.specs.Objects.{AnswersAs, RefusedAs};
 ghost use Rattle.cosem_class.specs.declared.class.Op.TheVariants as ops;
 ghost use Rattle.cosem_class.specs.declared.class.Op.{Op};
@@ -62,6 +63,20 @@ pub(super) fn is_member(cells: CellSet, index: u8) -> bool
     ensures { result ≡ has cells index }
 {
     cells.has(index)
+}
+
+/// A member of either set is one of their union.
+pub(super) fn is_member_of_either(one: CellSet, other: CellSet, index: u8) -> bool
+    ensures { result ≡ (has one index || has other index) }
+{
+    one.union(other).has(index)
+}
+
+/// A value is judged by the rule of the cell that it shall go to.
+pub(super) fn is_ruled(plan: &Plan, cell: &CellRef, value: &Data) -> Result<(), AccessCode>
+    ensures { result ≡ rule_answer (theory.rule_of plan.now cell.now) (tree value.now) }
+{
+    plan.rule(cell, value)
 }
 
 /// A moment as it is written.

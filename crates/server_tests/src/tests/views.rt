@@ -52,7 +52,7 @@ fn have_attributes(rt: &impl Abort, alloc: Global, plan: &Plan, rows: &[Row]) ->
 }
 
 /// Attributes that the view of a client without rights is asked for, and their values.
-static READINGS: [(u8, &str); 3] = [(1, "09060000280000FF"), (5, "00"), (8, "1602")];
+static READINGS: [(u8, &str); 2] = [(1, "09060000280000FF"), (8, "1602")];
 
 fn are_read(rt: &impl Abort, alloc: Global, view: &View) -> Result<(), Fail> {
     for (index, want) in &READINGS {
@@ -62,9 +62,12 @@ fn are_read(rt: &impl Abort, alloc: Global, view: &View) -> Result<(), Fail> {
     Ok(())
 }
 
+/// User information (5) and secret (7) have no value, and the class has no attribute 9.
 fn no_index_is_told(rt: &impl Abort, alloc: Global, view: &View) {
-    let other = view.read(alloc, (), 9).err();
-    assert_eq!(rt; other, Some(ClassFault::NoIndex));
+    for index in [5, 7, 9] {
+        let other = view.read(alloc, (), index).err();
+        assert_eq!(rt; other, Some(ClassFault::NoIndex), "{index}");
+    }
 }
 
 fn is_seen(rt: &impl Abort, alloc: Global, view: &View) -> Result<(), Fail> {

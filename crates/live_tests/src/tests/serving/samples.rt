@@ -4,8 +4,8 @@ use std::alloc::Global;
 use std::io::{Read, Write};
 use std::net::{Net, SocketAddr, TcpStream};
 
-/// A register that comes from outside, an alarm that the manager sets, a long identifier and a profile whose period the
-/// installer sets.
+/// A register that comes from outside, an alarm that the manager sets and that is 9 once the register is 100 or more, a long
+/// identifier and a profile whose period the installer sets.
 pub(super) const TEXT: &str = r#"version = 2
 client = [
  { name = "reader", sap = 32 },
@@ -17,11 +17,15 @@ object = [
  { class = 1, name = "0.0.96.11.0.255", value = "1100" },
  { class = 1, name = "0.0.96.1.0.255", value = "0A6441414141414141414141414141414141414141414141414141414141414141414141414141414141414141414141414141414141414141414141414141414141414141414141414141414141414141414141414141414141414141414141414141414141" },
  { class = 7, name = "1.0.99.1.0.255", period = 900, entries = 2, capture = [ { object = "1.0.1.8.0.255", index = 2 } ] },
+ { class = 9, name = "0.0.10.0.100.255", script = [
+  { id = 1, action = [ { service = 1, object = "0.0.96.11.0.255", index = 2, value = "1109" } ] } ] },
+ { class = 21, name = "0.0.16.1.0.255", monitored = { object = "1.0.1.8.0.255", index = 2 }, thresholds = ["0600000064"], action = [
+  { up = { table = "0.0.10.0.100.255", script = 1 }, down = { table = "0.0.10.0.100.255", script = 0 } } ] },
 ]
 right = [
  { client = "reader", object = "1.0.1.8.0.255", get = [2] },
  { client = "reader", object = "0.0.96.1.0.255", get = [2] },
- { client = "installer", object = "1.0.99.1.0.255", get = [4], set = [4] },
+ { client = "installer", object = "1.0.99.1.0.255", get = [4, 7], set = [4] },
  { client = "manager", object = "0.0.96.11.0.255", get = [2], set = [2] },
 ]
 policy = { influence = ["installer", "manager"], learn = ["reader", "installer", "manager"] }

@@ -3,20 +3,23 @@
 //! what asks by it, since it has to drop it at each of its ends.
 
 use super::super::accepting::accepted;
+use super::super::closing::Full;
 use super::samples::{
     AARE, Client, GET_ALARM, GET_REGISTER, INSTALLER, MANAGER, READER, REGISTER, SHORT_AARQ, TEXT,
 };
-use gates::{Gate, Open};
+use gates::{Gate, Go, Open};
 use live_server::fault::ServerFault;
 use live_server::sessions::{Driven, Service, serve_accepted};
 use meter_live::board::Closed;
 use std::alloc::Global;
+use std::io::{ErrorKind, Read, Write};
 use std::net::{Net, SocketAddr, TcpListener, TcpStream};
 use std::process::Abort;
 use std::sync::Wait;
+use std::sync::atomic::{AtomicU64, Ordering};
 use std::test::Fail;
-use std::thread;
 use std::thread::Threads;
+use std::{io, thread};
 
 /// What clients ask of a meter.
 #[derive(Clone, Copy)]
@@ -25,6 +28,8 @@ pub(super) enum Clients {
     Write,
     Fill,
     SeeTheDriver,
+    Read,
+    GiveUp,
 }
 
 /// Whether all answers to them are right.
@@ -39,21 +44,21 @@ fn ask<R: Net<Stream = TcpStream>>(
         Clients::Write => write(rt, alloc, address),
         Clients::Fill => fill(rt, alloc, address),
         Clients::SeeTheDriver => see_the_driver(rt, alloc, address),
+        Clients::Read => read(rt, alloc, address),
+        Clients::GiveUp => give_up(rt, alloc, address),
     }
 }
 
-/// The clients are answered in so many sessions at this gate, while the driver brings these lines, and then so many steps
-/// and changes
-/// are counted. What the driver is told comes behind the faults.
-fn serves_driven<R, G>(
+/// The clients ask in so many sessions at this gate, while the driver brings these lines, and what it is told comes behind the
+/// faults. Whether the answers to them are right is asserted; how the serving ended is told.
+fn ends_driven<R, G, I, F>(
     rt: &R,
     clients: Clients,
     sessions: u64,
     gate: &G,
-    steps: &[u8],
-    faults: &mut Vec<u8>,
-    counted: (u64, u64),
-) -> Result<(), Fail>
+    steps: I,
+    faults: F,
+) -> Result<Result<Closed, ServerFault>, Fail>
 where
     R: Abort
         + AllocGlobal
@@ -62,6 +67,8 @@ where
         + Wait
         + Sync,
     G: Gate + Sync,
+    I: Read + Send + Drop,
+    F: Write + Send + Drop,
 {
     let alloc = rt.alloc();
     let listener = TcpListener::bind(rt, "127.0.0.1:0")?;
@@ -80,6 +87,31 @@ where
         },
     );
     assert!(rt; answered.is_some());
+    Ok(served)
+}
+
+/// So many steps and changes are counted then.
+fn serves_driven<R, G, I, F>(
+    rt: &R,
+    clients: Clients,
+    sessions: u64,
+    gate: &G,
+    steps: I,
+    faults: F,
+    counted: (u64, u64),
+) -> Result<(), Fail>
+where
+    R: Abort
+        + AllocGlobal
+        + Net<Stream = TcpStream, Listener = TcpListener>
+        + Threads
+        + Wait
+        + Sync,
+    G: Gate + Sync,
+    I: Read + Send + Drop,
+    F: Write + Send + Drop,
+{
+    let served = ends_driven(rt, clients, sessions, gate, steps, faults)?;
     let Ok(closed) = served else {
         return Err("not served".into());
     };
@@ -105,7 +137,8 @@ where
     G: Gate + Sync,
 {
     let mut faults = Vec::new(rt.alloc());
-    serves_driven(rt, clients, sessions, gate, b"", &mut faults, counted)
+    let none: &[u8] = b"";
+    serves_driven(rt, clients, sessions, gate, none, &mut faults, counted)
 }
 
 /// Two clients ask, and the answers are read, the second one's first.
@@ -193,7 +226,7 @@ fn is_turned_away<R: Net<Stream = TcpStream>>(
     late.is_closed().then_some(())
 }
 
-/// A client is answered once a seat is free, at most so many connections later.
+/// A client is answered once a seat is free, at most so many connections later, by the reader that the seat has kept.
 fn finds_a_seat<R: Net<Stream = TcpStream>>(
     rt: &R,
     alloc: Global,
@@ -202,8 +235,10 @@ fn finds_a_seat<R: Net<Stream = TcpStream>>(
     let mut is_seated = false;
     for _ in 0..135 {
         if !is_seated {
-            let found = Client::associated(rt, alloc, address, READER);
-            is_seated = found.is_some();
+            if let Some(mut client) = Client::associated(rt, alloc, address, READER) {
+                client.is_answered(GET_REGISTER, REGISTER)?;
+                is_seated = true;
+            }
         } else {
             Client::connected(rt, alloc, address, READER)?;
         }
@@ -226,27 +261,39 @@ fn a_seat_is_free_again(rt: HostRuntime) -> Result<(), Fail> {
     serves(&rt, Clients::Fill, 200, &Open, (1, 1))
 }
 
-/// Two inputs, between them an APDU, a line that is none, two seconds, at each of which the profile has its turn, and a moment that isn't one.
+/// Two inputs, between them an APDU, a line that is none, two seconds, at each of which profile and monitor have their turn, and
+/// a moment that isn't one; then the monitor is evaluated, and a moment comes at which a capture is due.
 const LINES: &[u8] =
-    b"in 1.0.1.8.0.255 060000005A\nreader C001C100030100010800FF0200\n\nnothing\ntick 2\nat 2023-02-29T00:00:00\nin 1.0.1.8.0.255 0600000064";
+    b"in 1.0.1.8.0.255 060000005A\nreader C001C100030100010800FF0200\n\nnothing\ntick 2\nat 2023-02-29T00:00:00\n\
+      in 1.0.1.8.0.255 0600000064\neval 0.0.16.1.0.255\nat 2024-02-29T00:00:00";
 
 /// What is told of the lines that are none.
 const TOLD: &[u8] = b"line 2: unreadable\nline 4: unreadable\nline 6: unreadable\n";
 
-/// The reader is answered the last of the inputs in the end.
+/// The reader is answered the last of the inputs in the end, the manager the alarm that the monitor's script wrote, and the
+/// installer that an entry is in use.
 fn see_the_driver<R: Net<Stream = TcpStream>>(
     rt: &R,
     alloc: Global,
     address: SocketAddr,
 ) -> Option<()> {
     let mut reader = Client::associated(rt, alloc, address, READER)?;
-    sees_the_last(&mut reader)
+    sees(&mut reader, GET_REGISTER, "C401C1000600000064")?;
+    let mut manager = Client::associated(rt, alloc, address, MANAGER)?;
+    sees(&mut manager, GET_ALARM, "C401C1001109")?;
+    let mut installer = Client::associated(rt, alloc, address, INSTALLER)?;
+    sees(
+        &mut installer,
+        "C001C100070100630100FF0700",
+        "C401C1000600000001",
+    )
 }
 
-fn sees_the_last(reader: &mut Client) -> Option<()> {
+/// The client asks until it is answered so.
+fn sees(client: &mut Client, apdu: &str, want: &str) -> Option<()> {
     for _ in 0..100_000u32 {
-        reader.send(GET_REGISTER)?;
-        if reader.is_sent("C401C1000600000064").is_some() {
+        client.send(apdu)?;
+        if client.is_sent(want).is_some() {
             return Some(());
         }
         thread::yield_now();
@@ -254,12 +301,85 @@ fn sees_the_last(reader: &mut Client) -> Option<()> {
     None
 }
 
-/// Inputs that the driver brings are answered to sessions, and lines that are no steps of the meter are told.
+/// What the driver brings (inputs, an evaluation, seconds and a moment) is answered to sessions, and lines that are no steps of
+/// the meter are told.
 #[test]
 fn the_driver_brings_inputs(rt: HostRuntime) -> Result<(), Fail> {
     let mut faults = Vec::new(rt.alloc());
     let clients = Clients::SeeTheDriver;
-    serves_driven(&rt, clients, 1, &Open, LINES, &mut faults, (6, 6))?;
+    serves_driven(&rt, clients, 3, &Open, LINES, &mut faults, (12, 12))?;
     assert!(rt; faults.as_slice() == TOLD);
     Ok(())
+}
+
+/// A reader that fails where its bytes end.
+#[derive(Drop)]
+struct Broken(&'static [u8]);
+
+impl Read for Broken {
+    fn read(&mut self, buf: &mut [u8]) -> io::Result<usize> {
+        if self.0.is_empty() {
+            return Err(io::Error::from(ErrorKind::Other));
+        }
+        self.0.read(buf)
+    }
+}
+
+/// A reader gets the register.
+fn read<R: Net<Stream = TcpStream>>(rt: &R, alloc: Global, address: SocketAddr) -> Option<()> {
+    let mut reader = Client::associated(rt, alloc, address, READER)?;
+    reader.is_answered("C001C100030100010800FF0100", "C401C10009060100010800FF")
+}
+
+/// The lines before a read that fails are taken, and sessions are answered all the same; a notice that can't be written is
+/// passed over, and the next line is taken.
+#[test]
+fn the_driver_outlives_its_streams(rt: HostRuntime) -> Result<(), Fail> {
+    let mut faults = Vec::new(rt.alloc());
+    let cut = Broken(b"nothing\nin 1.0.1.8.0.255 060000005A\nin 1.0.1.8.0.255 06000000");
+    serves_driven(&rt, Clients::Read, 1, &Open, cut, &mut faults, (1, 1))?;
+    assert!(rt; faults.as_slice() == b"line 1: unreadable\n".as_slice());
+    let lines: &[u8] = b"nothing\nin 1.0.1.8.0.255 060000005A\n";
+    let full = Full(ErrorKind::StorageFull);
+    serves_driven(&rt, Clients::Read, 1, &Open, lines, full, (1, 1))
+}
+
+/// A gate at which seat 0 gives up before its second piece of work.
+#[derive(Drop)]
+struct FirstGivesUp(AtomicU64);
+
+impl Gate for FirstGivesUp {
+    fn before(&self, seat: usize) -> Go {
+        if seat == 0 && self.0.fetch_add(1, Ordering::SeqCst) > 0 {
+            Go::GaveUp
+        } else {
+            Go::On
+        }
+    }
+
+    fn after(&self, _seat: usize) {}
+}
+
+/// The first client is closed without an answer to its second frame, and the second one is answered all the same.
+fn give_up<R: Net<Stream = TcpStream>>(rt: &R, alloc: Global, address: SocketAddr) -> Option<()> {
+    let mut first = Client::associated(rt, alloc, address, READER)?;
+    let mut second = Client::associated(rt, alloc, address, READER)?;
+    first.send(GET_REGISTER)?;
+    if !first.is_closed() {
+        return None;
+    }
+    second.is_answered(GET_REGISTER, REGISTER)
+}
+
+/// A seat that gives up ends its own session alone; the fault is told once all have ended.
+#[test]
+fn a_seat_that_gives_up_ends_its_session_alone(rt: HostRuntime) -> Result<(), Fail> {
+    let mut faults = Vec::new(rt.alloc());
+    let none: &[u8] = b"";
+    let gate = FirstGivesUp(AtomicU64::new(0));
+    let served = ends_driven(&rt, Clients::GiveUp, 2, &gate, none, &mut faults)?;
+    match served {
+        Err(ServerFault::GaveUp) => Ok(()),
+        _ => Err("it ended otherwise".into()),
+    }
 }

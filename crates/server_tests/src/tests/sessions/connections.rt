@@ -4,10 +4,14 @@ use super::samples::TEXT;
 use acse_session::solo::Solo;
 use cosem_data::memory::Memory;
 use frame_server::fault::ServeFault;
-use frame_server::serving::serve;
+use frame_server::serving::{Seat, serve, serve_gated};
+use gates::{Gate, Go};
 use object_model::plan::Plan;
 use std::alloc::Global;
+use std::io;
+use std::io::Write;
 use std::process::Abort;
+use std::sync::atomic::{AtomicU64, Ordering};
 use std::test::Fail;
 
 /// The public opens an association, gets the register's name and releases the association: frames of 39, 21 and 13 bytes. Behind them,
@@ -108,4 +112,84 @@ fn all_end(rt: &impl Abort, alloc: Global, plan: &Plan) -> Result<(), Fail> {
 fn a_failing_call_ends_a_connection(rt: HostRuntime) -> Result<(), Fail> {
     let plan = plan_of(rt.alloc(), TEXT)?;
     all_end(&rt, rt.alloc(), &plan)
+}
+
+/// A writer that takes no byte, and says so.
+#[derive(Drop)]
+struct Stuck;
+
+impl Write for Stuck {
+    fn write(&mut self, _bytes: &[u8]) -> io::Result<usize> {
+        Ok(0)
+    }
+
+    fn flush(&mut self) -> io::Result<()> {
+        Ok(())
+    }
+}
+
+/// A writer that takes no byte fails as one that refuses.
+#[test]
+fn a_writer_that_takes_no_byte_ends_a_connection(rt: HostRuntime) -> Result<(), Fail> {
+    let alloc = rt.alloc();
+    let plan = plan_of(alloc, TEXT)?;
+    let mut asker = Solo::new(&plan, started(&plan, alloc)?);
+    let mut reader = SlowReader::new(frames(), 0);
+    let end = serve(alloc, &mut reader, &mut Stuck, &plan, &mut asker);
+    assert!(rt; end == Err(ServeFault::Write));
+    Ok(())
+}
+
+/// The number of the seat at the gate.
+const SEAT: usize = 5;
+
+/// A gate at which a seat gives up before its second piece of work.
+#[derive(Drop)]
+struct OnceOpen {
+    begun: AtomicU64,
+    done: AtomicU64,
+}
+
+impl Gate for OnceOpen {
+    fn before(&self, seat: usize) -> Go {
+        if seat == SEAT && self.begun.fetch_add(1, Ordering::SeqCst) == 0 {
+            Go::On
+        } else {
+            Go::GaveUp
+        }
+    }
+
+    fn after(&self, seat: usize) {
+        if seat == SEAT {
+            self.done.fetch_add(1, Ordering::SeqCst);
+        }
+    }
+}
+
+/// A seat that gives up before its second frame has answered the first alone, and passed the gate behind it.
+#[test]
+fn a_seat_that_gives_up_answers_no_more(rt: HostRuntime) -> Result<(), Fail> {
+    let alloc = rt.alloc();
+    let plan = plan_of(alloc, TEXT)?;
+    let mut asker = Solo::new(&plan, started(&plan, alloc)?);
+    let mut reader = SlowReader::new(frames(), 0);
+    let mut writer = SlowWriter::new(alloc, 0)?;
+    let gate = OnceOpen {
+        begun: AtomicU64::new(0),
+        done: AtomicU64::new(0),
+    };
+    let seat = Seat {
+        number: SEAT,
+        gate: &gate,
+    };
+    let end = serve_gated(alloc, &mut reader, &mut writer, &plan, &mut asker, &seat);
+    assert!(rt; end == Err(ServeFault::GaveUp));
+    assert!(rt; writer.held.as_slice() == ANSWERS.get(..51).unwrap_or(&[]));
+    assert!(rt;
+        (
+            gate.begun.load(Ordering::SeqCst),
+            gate.done.load(Ordering::SeqCst)
+        ) == (2, 1)
+    );
+    Ok(())
 }
