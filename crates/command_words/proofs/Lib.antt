@@ -1,3 +1,8 @@
+pub mod CommandLaw
 pub mod CommandLineLemmas
+pub mod EachLemmas
+pub mod LevelLemmas
 pub mod NumberLemmas
+pub mod RowLemmas
+pub mod WalkKeeps
 pub mod WordsLemmas

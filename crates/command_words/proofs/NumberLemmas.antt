@@ -1,12 +1,13 @@
 -- What is read of an option with a number, against the number that its text says.
-use Rattle.std.proofs.Common.{◌≡◌, ◌∙◌, ◌+◌, ◌^◌, ◌<◌, ◌≤◌, ℕ, Bool, true, false, arith, Option, Some, None, Result, Ok, Err, refl, sym, ap, subst}
+use Rattle.std.proofs.Common.{◌≡◌, ◌∙◌, ◌∷◌, [], ◌+◌, cond, pos, unwrap_or, ◌^◌, ◌<◌, ◌≤◌, ℕ, Bool, true, false, arith, Option, Some, None, Result, Ok, Err, refl, sym, ap, subst}
 use Rattle.std.proofs.lemmas.Bool.{leb-true, le-leb}
 use Rattle.std.specs.Prelude.{MatchOption, nat_le, option_map, if◌then◌else◌}
-use Rattle.std.specs.Str.Parse.{ParsesUnsigned, digits_value, without_leading_plus}
+use Rattle.std.specs.Str.Parse.{IsNumeral, ParsesUnsigned, digits_value, starts_with_minus, without_leading_plus}
+use Rattle.std.proofs.lemmas.Int.{ints}
 use Rattle.clap.proofs.ValueTestLemmas.{Accepts-accepts, accepts-Accepts}
-use Rattle.clap.specs.ValueTests.{is_unsigned_in}
-use Rattle.clap.specs.Values.{IsUnsignedIn}
-use Rattle.clap.specs.Words.{ReadsOne, Text}
+use Rattle.clap.specs.ValueTests.{is_signed_in, is_unsigned_in}
+use Rattle.clap.specs.Values.{IsSignedIn, IsUnsignedIn}
+use Rattle.clap.specs.Words.{ReadsOne, Text, without_minus}
 use Rattle.clap.specs.declared.builder.value_parser.ValueParser.TheVariants as vp
 use Rattle.command_words.specs.Commands.{◌>>=◌, number_in}
 
@@ -60,3 +61,28 @@ pub without_zero : {X : Type 0} (get : X → ℕ) → ((x : X) → 0 < get x) �
 without_zero get positive n None zero = subst (λ m. None ≡ at_least 1 (Some m)) (sym zero) refl
 without_zero get positive n (Some x) is =
     subst (λ m. Some (get x) ≡ at_least 1 (Some m)) is (sym (ap (λ (b : Bool). if b then Some (get x) else None) (le-leb 1 (get x) (omega (arith, positive x)))))
+
+-- what one parser takes, one takes that goes further
+pub unsigned_wider : (least most more : ℕ) (t : Text) → most ≤ more → is_unsigned_in least most t ≡ true → is_unsigned_in least more t ≡ true
+unsigned_wider least most more t further is =
+    let passes = accepts-Accepts false (vp.Unsigned least most) t is in
+    Accepts-accepts false (vp.Unsigned least more) t (passes.0, passes.1, passes.2, omega (arith, passes.3))
+
+-- without the sign that it can't have, a number above 0 that a parser of signed numbers takes is one of the same ends
+pub signed_unsigned : (least most : ℕ) (t : Text) → 0 < least → most < 2 ^ 64 → is_signed_in (pos least) (pos most) t ≡ true → is_unsigned_in least most (without_minus t) ≡ true
+signed_unsigned least most t above small is = go (starts_with_minus t) refl (accepts-Accepts false (vp.Signed (pos least) (pos most)) t is)
+  where
+    same : (t : Text) → starts_with_minus t ≡ false → without_minus t ≡ t
+    same [] minus = refl
+    same (x ∷ xs) minus = ap (λ (b : Bool). unwrap_or (cond b (Some xs) None) (x ∷ xs)) minus
+
+    go : (b : Bool) → starts_with_minus t ≡ b → IsSignedIn (pos least) (pos most) t → is_unsigned_in least most (without_minus t) ≡ true
+    go true minus passes =
+        let low = rw minus at passes.2 in
+        absurd (omega (arith, ints))
+    go false minus passes =
+        let numeral : IsNumeral 10 (without_leading_plus t) = rw minus at passes.0 in
+        let low = rw minus at passes.2 in
+        let high = rw minus at passes.3 in
+        let fits : IsUnsignedIn least most t = (numeral, omega (arith, ints), omega (arith, ints), omega (arith, ints)) in
+        rw (same t minus) (Accepts-accepts false (vp.Unsigned least most) t fits)

@@ -4,7 +4,7 @@ use Rattle.std.proofs.lemmas.Bool.Decides.{nat_tests}
 use Rattle.std.specs.Prelude.{option_and_then, if◌then◌else◌}
 use Rattle.clap.specs.Words.{IsAmong, Kinds, Row, Text, subcommand_of}
 use Rattle.clap.specs.declared.error.kind.ErrorKind.{ErrorKind}
-use Rattle.clap.specs.declared.error.kind.ErrorKind.TheVariants.{DisplayHelp, DisplayVersion, MissingSubcommand, OutOfMemory}
+use Rattle.clap.specs.declared.error.kind.ErrorKind.TheVariants.{DisplayHelp, DisplayVersion, OutOfMemory}
 use Rattle.command_words.specs.CommandLine.{app, kinds_of}
 use Rattle.command_words.specs.Commands.{Asked, asked_in, command_of}
 use Rattle.command_words.specs.Faults.{HasMistake, IfHelp, IfUsage, IfVersion, IsToldAs, UnlessMemory}
@@ -59,34 +59,9 @@ told-version kinds kind (faults.Version text) told (inr h) = subst (λ k. IsAmon
 told-version kinds kind (faults.Usage text) told h = tt
 
 pub told-usage : (kinds : Kinds) (kind : ErrorKind) (fault : WordsFault) → IsToldAs kind fault → (kind ≡ OutOfMemory) ⊎ IsAmong kind kinds
-    → IfUsage fault ((kinds ≡ []) ⊎ HasMistake kinds)
+    → IfUsage fault (HasMistake kinds)
 told-usage kinds kind faults.Memory told h = tt
 told-usage kinds kind (faults.Help text) told h = tt
 told-usage kinds kind (faults.Version text) told h = tt
 told-usage kinds kind (faults.Usage text) told (inl h) = absurd (told.0 h)
-told-usage kinds kind (faults.Usage text) told (inr h) = inr (kind, h, told.1)
-
--- a fault where the matches name no command: it is no help and no version
-pub unnamed-no_command : (words : List Text) (fault : WordsFault) → command_of words ≡ None → UnlessMemory fault (command_of words ≡ None)
-unnamed-no_command words faults.Memory none = tt
-unnamed-no_command words (faults.Help text) none = none
-unnamed-no_command words (faults.Version text) none = none
-unnamed-no_command words (faults.Usage text) none = none
-
-pub unnamed-help : (P : Type 0) (fault : WordsFault) → IsToldAs MissingSubcommand fault → IfHelp fault P
-unnamed-help P faults.Memory told = tt
-unnamed-help P (faults.Help text) told = cc
-unnamed-help P (faults.Version text) told = tt
-unnamed-help P (faults.Usage text) told = tt
-
-pub unnamed-version : (P : Type 0) (fault : WordsFault) → IsToldAs MissingSubcommand fault → IfVersion fault P
-unnamed-version P faults.Memory told = tt
-unnamed-version P (faults.Help text) told = tt
-unnamed-version P (faults.Version text) told = cc
-unnamed-version P (faults.Usage text) told = tt
-
-pub unnamed-usage : (kinds : Kinds) (fault : WordsFault) → kinds ≡ [] → IfUsage fault ((kinds ≡ []) ⊎ HasMistake kinds)
-unnamed-usage kinds faults.Memory none = tt
-unnamed-usage kinds (faults.Help text) none = tt
-unnamed-usage kinds (faults.Version text) none = tt
-unnamed-usage kinds (faults.Usage text) none = inl none
+told-usage kinds kind (faults.Usage text) told (inr h) = (kind, h, told.1)

@@ -1,12 +1,12 @@
 //! Command lines, read.
-ghost use Rattle.std.specs.Prelude.{◌≡◌, ◌⊎◌, [], IfErr, IfOk, None, Some, map, option_and_then, option_map};
+ghost use Rattle.std.specs.Prelude.{◌≡◌, IfErr, IfOk, None, Some, map, option_and_then, option_map};
 ghost use Rattle.std.specs.Int.NonZero.{non_zero_u16_get, non_zero_usize_get};
 ghost use Rattle.clap.specs.Words.{IsAmong, all_of, first_of, found_of, rows_of, subcommand_rows_of};
-ghost use Rattle.clap.specs.declared.error.kind.ErrorKind.TheVariants.{DisplayHelp, DisplayVersion, MissingSubcommand};
+ghost use Rattle.clap.specs.declared.error.kind.ErrorKind.TheVariants.{DisplayHelp, DisplayVersion};
 ghost use Rattle.command_words.specs.Commands as spec;
 ghost use Rattle.command_words.specs.Commands.{asked_by, command_of};
 ghost use Rattle.command_words.specs.CommandLine.{kinds_of};
-ghost use Rattle.command_words.specs.Faults.{HasMistake, IfHelp, IfUsage, IfVersion, IsToldAs, UnlessMemory};
+ghost use Rattle.command_words.specs.Faults.{HasMistake, IfHelp, IfUsage, IfVersion, UnlessMemory};
 
 use crate::command::Command;
 use crate::commands::all_commands;
@@ -27,8 +27,7 @@ pub fn read_words<'a>(alloc: Global, words: &'a [&'a str]) -> Result<Command<'a>
     ensures version { IfErr result (λ fault. IfVersion fault
         (IsAmong DisplayVersion (kinds_of (map (λ word. word.now) words.now)))) }
     ensures usage { IfErr result (λ fault. IfUsage fault
-        ((kinds_of (map (λ word. word.now) words.now) ≡ [])
-        ⊎ HasMistake (kinds_of (map (λ word. word.now) words.now)))) }
+        (HasMistake (kinds_of (map (λ word. word.now) words.now)))) }
 {
     let Ok(commands) = all_commands(alloc) else {
         return Err(WordsFault::Memory);
@@ -36,20 +35,10 @@ pub fn read_words<'a>(alloc: Global, words: &'a [&'a str]) -> Result<Command<'a>
     match commands.try_get_matches_from(words) {
         Ok(matches) => match command_in(alloc, &matches) {
             Ok(Some(command)) => Ok(command),
-            Ok(None) => Err(nothing_named(alloc)),
+            Ok(None) => unreachable!(),
             Err(_) => Err(WordsFault::Memory),
         },
         Err(error) => Err(fault_told(alloc, &error)),
-    }
-}
-
-/// The fault of matches that name no command. No words are known of which clap makes such matches.
-fn nothing_named(alloc: Global) -> WordsFault
-    ensures { IsToldAs MissingSubcommand result }
-{
-    match String::from_str(alloc, "error: the words name no command\n") {
-        Ok(text) => WordsFault::Usage(text),
-        Err(_) => WordsFault::Memory,
     }
 }
 

@@ -56,8 +56,7 @@ pub helped-ends : (ws : List (List ℕ)) → AskForHelp ws → (outcome told : O
     → (status_of (unless_closed told closed) ≡ 0) ⊎ (status_of (unless_closed told closed) ≡ 3) ⊎ (status_of (unless_closed told closed) ≡ 141)
 helped-ends ws asks (Words (words.Help text)) told closed before after h t = text-told (words.Help text) told closed before after t
 helped-ends ws asks (Words (words.Version text)) told closed before after h t = text-told (words.Version text) told closed before after t
-helped-ends ws asks (Words (words.Usage text)) told closed before after (inl none) t = absurd (asks.some none)
-helped-ends ws asks (Words (words.Usage text)) told closed before after (inr mistake) t = absurd (asks.no_mistake mistake)
+helped-ends ws asks (Words (words.Usage text)) told closed before after mistake t = absurd (asks.no_mistake mistake)
 helped-ends ws asks (Words words.Memory) told closed before after h t = elim (words-told words.Memory told closed before after refl t) [ inl e ↦ inr (inl e) | inr e ↦ inr (inl e) ]
 helped-ends ws asks Done told closed before after h t = absurd h
 helped-ends ws asks (Judged verdict text) told closed before after h t = absurd h

@@ -1,5 +1,5 @@
 -- What the program does with its words (own profile throughout).
-use Rattle.std.specs.Prelude.{◌≡◌, ◌≢◌, ℕ, List, [], string_bytes, Option, None, ◌⊎◌, Result, Ok, Err}
+use Rattle.std.specs.Prelude.{◌≡◌, ℕ, List, [], string_bytes, Option, None, ◌⊎◌, Result, Ok, Err}
 use Rattle.clap.specs.Words.{IsAmong}
 use Rattle.clap.specs.declared.error.kind.ErrorKind.TheVariants.{DisplayHelp, DisplayVersion}
 use Rattle.command_words.specs.CommandLine.{kinds_of}
@@ -22,8 +22,8 @@ use Rattle.meter_server.specs.declared.listing.ListFault.{ListFault}
 use Rattle.meter_server.specs.declared.outcome.Outcome.{Outcome}
 use Rattle.meter_server.specs.declared.outcome.Outcome.TheVariants.{Done, Judged, Words, Fault, Unwritten}
 use Rattle.meter_server.specs.declared.program.Source.{Source}
-use Rattle.fleet_audit.specs.declared.verdict.Verdict.{Verdict}
-use Rattle.fleet_audit.specs.declared.verdict.Verdict.TheVariants.{Accepted, Config, Labels, Refused}
+use Rattle.verdict.specs.declared.Verdict.{Verdict}
+use Rattle.verdict.specs.declared.Verdict.TheVariants.{Accepted, Config, Labels, Refused}
 
 -- Words
 
@@ -36,14 +36,13 @@ pub record AreMistaken (words : List (List ℕ)) : Type 0 where
 -- words that ask for help or the version, with which nothing else is wrong
 pub record AskForHelp (words : List (List ℕ)) : Type 0 where
   pub no_command : command_of words ≡ None
-  pub some : kinds_of words ≢ []
   pub no_mistake : ¬ HasMistake (kinds_of words)
 
 -- how words ended that are no command: with help or the version, which they ask for, with what is wrong with them, or with want of memory
 abbrev pub IsNoCommand : List (List ℕ) → Outcome → Type 0
 IsNoCommand ws (Words (words.Help text)) = IsAmong DisplayHelp (kinds_of ws)
 IsNoCommand ws (Words (words.Version text)) = IsAmong DisplayVersion (kinds_of ws)
-IsNoCommand ws (Words (words.Usage text)) = (kinds_of ws ≡ []) ⊎ HasMistake (kinds_of ws)
+IsNoCommand ws (Words (words.Usage text)) = HasMistake (kinds_of ws)
 IsNoCommand ws (Words words.Memory) = Unit {0}
 IsNoCommand ws _ = ⊥
 

@@ -4,7 +4,7 @@ use Rattle.clap.specs.declared.error.kind.ErrorKind.TheVariants.{OutOfMemory}
 use Rattle.command_words.specs.CommandLine.{app, kinds_of}
 use Rattle.command_words.specs.Commands.{asked_by}
 use Rattle.command_words.proofs.WordsLemmas.{command_of-taken, told-help, told-no_command, told-usage, told-version}
-use Rattle.command_words.proofs.WordsLemmas.{unnamed-help, unnamed-no_command, unnamed-usage, unnamed-version}
+use Rattle.command_words.proofs.CommandLaw.{words_without_fault_are_a_command}
 use Rattle.command_words.proofs.reading.read_words.Goals as goal
 
 pub returns-in-Ok-Some-clause-command : goal.returns-in-Ok-Some-clause-command
@@ -18,29 +18,19 @@ returns-in-Ok-Some-clause-command c =
     command_of-taken words (subcommand_rows_of m.matches) (Some (asked_by c.in-Ok-Some.command)) none rows
     (ap (option_map asked_by) is ∙ c.in-Ok-Some.ensures)
 
-pub returns-in-Ok-None-clause-no_command : goal.returns-in-Ok-None-clause-no_command
-returns-in-Ok-None-clause-no_command c =
+-- clap took the words, so they are a command
+pub unreachable-requires : goal.unreachable-requires
+unreachable-requires c =
     let words : List Text = map (λ w. w.now) c.args.words.now in
     let app_is : app_of c.in-Ok.commands ≡ app = c.in-Ok.ensures in
     let m = c.in-Ok-try_get_matches_from in
     let none = ap (λ (a : App). fault_of a words) (sym app_is) ∙ m.ensures.kinds (ap is_simple_and_free app_is) in
     let rows = (m.ensures.matches (ap is_simple app_is)).1 ∙ ap (λ (a : App). subcommand_of a words) app_is in
     let is : None ≡ c.in-Ok-None.field-0 = search rules in
-    unnamed-no_command words c.nothing_named.result
-    (command_of-taken words (subcommand_rows_of m.matches) None none rows (ap (option_map asked_by) is ∙ c.in-Ok-None.ensures))
-
-pub returns-in-Ok-None-clause-help : goal.returns-in-Ok-None-clause-help
-returns-in-Ok-None-clause-help c = unnamed-help _ c.nothing_named.result c.nothing_named.ensures
-
-pub returns-in-Ok-None-clause-version : goal.returns-in-Ok-None-clause-version
-returns-in-Ok-None-clause-version c = unnamed-version _ c.nothing_named.result c.nothing_named.ensures
-
-pub returns-in-Ok-None-clause-usage : goal.returns-in-Ok-None-clause-usage
-returns-in-Ok-None-clause-usage c =
-    let words : List Text = map (λ w. w.now) c.args.words.now in
-    let app_is : app_of c.in-Ok.commands ≡ app = c.in-Ok.ensures in
-    let none = ap (λ (a : App). fault_of a words) (sym app_is) ∙ c.in-Ok-try_get_matches_from.ensures.kinds (ap is_simple_and_free app_is) in
-    unnamed-usage (kinds_of words) c.nothing_named.result none
+    let nothing = command_of-taken words (subcommand_rows_of m.matches) None none rows (ap (option_map asked_by) is ∙ c.in-Ok-None.ensures) in
+    let asked = words_without_fault_are_a_command words none in
+    let bad = sym nothing ∙ asked.1 in
+    cc
 
 pub returns-clause-no_command : goal.returns-clause-no_command
 returns-clause-no_command c =

@@ -1,0 +1,162 @@
+-- Words in which clap finds no fault are a command.
+use Rattle.std.proofs.Common.{◌≡◌, ◌∙◌, Bool, true, false, not, ◌&&◌, ◌||◌, List, [], Option, Some, None, IfSome, is_some, option_and_then, option_map, bytes_eq, find, fold, codes, inl, inr, refl, true≢false, sym, ap, subst, arith}
+use Rattle.std.specs.Option.{option_map_or}
+use Rattle.std.specs.List.{list_any}
+use Rattle.std.proofs.lemmas.Bool.{or_cases}
+use Rattle.std.proofs.Math.Bool.{and-true}
+use Rattle.std.proofs.lemmas.Slice.Eq.{bytes_eq-Decides}
+use Rattle.clap.specs.Words.{App, Row, Shape, Text, built, subcommand_of}
+use Rattle.clap.specs.Faults.{built_fault, defaults_fault, entered_fault, level_fault, settle_fault, walk_fault}
+use Rattle.clap.specs.Simple.{argument_words, built_leaf, entered, help_shape, label_of, names_of, rows_at}
+use Rattle.clap.specs.ValueTests.{is_unsigned_in}
+use Rattle.clap.specs.Walk.{answers_to, nothing_held, rows_after, settled, stop_after, walk_from, walked}
+use Rattle.command_words.specs.CommandLine.{app, audit_app, check_app, decode_app, demo_app, edges_app, encode_app, kinds_of, label_app, quiet_app, run_app, serve_app, session_app}
+use Rattle.command_words.specs.Commands.{Asked, asked_in, command_of}
+use Rattle.command_words.proofs.EachLemmas.{Each, each_found, no_kinds}
+use Rattle.command_words.proofs.LevelLemmas.{IsTaken, level_taken, nothing_wanted, number_there, text_there, texts_there}
+use Rattle.command_words.proofs.NumberLemmas.{signed_unsigned, unsigned_wider}
+use Rattle.command_words.proofs.RowLemmas.{Gives}
+use Rattle.command_words.proofs.WalkKeeps.{IsNoHelp, walk_fine}
+use Rattle.command_words.proofs.WordsLemmas.{command_of-taken}
+
+-- what can't be, as that an argument is another
+other : {P : Type 0} → false ≡ true → P
+other e = absurd (true≢false (sym e))
+
+-- a subcommand with one name: it is `help`, or where it took its words it is known what they ask for
+abbrev Told : Shape → Type 0
+Told s = (s.aliases ≡ []) × (bytes_eq s.name (codes "help") ≡ false → (rows : List Row) → IsTaken s rows → is_some (asked_in (s.name, rows)) ≡ true)
+
+-- some value, and then another
+then : {A B : Type 0} (o : Option A) (f : A → Option B) → is_some o ≡ true → ((x : A) → is_some (f x) ≡ true) → is_some (option_and_then f o) ≡ true
+then None f has later = other has
+then (Some x) f has later = later x
+
+-- `demo`, which asks for nothing else
+demo : Told (built_leaf demo_app.top)
+demo = (refl, λ no_help rows t. refl)
+
+-- `run CONFIG`
+run : Told (built_leaf run_app.top)
+run = (refl, λ no_help rows t. then _ _ (text_there _ rows t (codes "config") refl) (λ config. refl))
+
+-- `edges CONFIG`
+edges : Told (built_leaf edges_app.top)
+edges = (refl, λ no_help rows t. then _ _ (text_there _ rows t (codes "config") refl) (λ config. refl))
+
+-- `label CONFIG`
+label : Told (built_leaf label_app.top)
+label = (refl, λ no_help rows t. then _ _ (text_there _ rows t (codes "config") refl) (λ config. refl))
+
+-- `check CONFIG LABELS`
+check : Told (built_leaf check_app.top)
+check = (
+  refl,
+  λ no_help rows t. then _ _ (text_there _ rows t (codes "config") refl) (λ config.
+      then _ _ (text_there _ rows t (codes "labels") refl) (λ labels. refl)),
+)
+
+-- `quiet CONFIG LABELS CLIENT`
+quiet : Told (built_leaf quiet_app.top)
+quiet = (
+  refl,
+  λ no_help rows t. then _ _ (text_there _ rows t (codes "config") refl) (λ config.
+      then _ _ (text_there _ rows t (codes "labels") refl) (λ labels.
+      then _ _ (text_there _ rows t (codes "client") refl) (λ client. refl))),
+)
+
+-- `audit --workers N NAME...`: a number from 1 to 64 is one from 1 on
+audit : Told (built_leaf audit_app.top)
+audit = (
+  refl,
+  λ no_help rows t. then _ _ (number_there _ rows t (codes "workers") refl 1 18446744073709551615 workers) (λ count.
+      then _ _ (texts_there _ rows t (codes "name") refl) (λ names. refl)),
+)
+  where
+    workers : Each (Gives (is_unsigned_in 1 18446744073709551615) (codes "workers")) (built_leaf audit_app.top).rules
+    workers = ((λ own. (refl, (λ v taken. unsigned_wider 1 64 18446744073709551615 v (omega arith) taken), refl)), (other, (other, (other, tt))))
+
+-- `session CONFIG`
+session : Told (built_leaf session_app.top)
+session = (refl, λ no_help rows t. then _ _ (text_there _ rows t (codes "config") refl) (λ config. refl))
+
+-- `serve CONFIG LABELS`, with a default for each of its three options
+serve : Told (built_leaf serve_app.top)
+serve = (
+  refl,
+  λ no_help rows t. then _ _ (text_there _ rows t (codes "config") refl) (λ config.
+      then _ _ (text_there _ rows t (codes "labels") refl) (λ labels.
+      then _ _ (text_there _ rows t (codes "bind") refl) (λ bind.
+      then _ _ (number_there _ rows t (codes "port") refl 1 65535 port) (λ number.
+      then _ _ (number_there _ rows t (codes "sessions") refl 0 18446744073709551615 sessions) (λ count. refl))))),
+)
+  where
+    port : Each (Gives (is_unsigned_in 1 65535) (codes "port")) (built_leaf serve_app.top).rules
+    port = (other, (other, (other, ((λ own. (refl, (λ v taken. signed_unsigned 1 65535 v (omega arith) (omega arith) taken), refl)), (other, (other, tt))))))
+
+    sessions : Each (Gives (is_unsigned_in 0 18446744073709551615) (codes "sessions")) (built_leaf serve_app.top).rules
+    sessions = (other, (other, (other, (other, ((λ own. (refl, (λ v taken. taken), refl)), (other, tt))))))
+
+-- `encode`
+encode : Told (built_leaf encode_app.top)
+encode = (refl, λ no_help rows t. refl)
+
+-- `decode`
+decode : Told (built_leaf decode_app.top)
+decode = (refl, λ no_help rows t. refl)
+
+-- clap's own subcommand
+help : Told (built_leaf help_shape)
+help = (refl, λ no_help rows t. other (sym no_help))
+
+-- all that the program has
+all_told : Each Told (built app).subs
+all_told = (demo, (run, (edges, (label, (check, (quiet, (audit, (session, (serve, (encode, (decode, (help, tt))))))))))))
+
+module _ (above : App) (required : above.top.subcommand_required ≡ true) (helps : above.top.disable_help_subcommand ≡ false) (told : Each Told above.subs) where
+  -- the subcommand at which the words stop
+  entered_told : (stop : Option (Text × List Text)) → IfSome stop (λ p. IsNoHelp above.top p.0) → is_some (entered above stop) ≡ true → entered_fault above stop ≡ []
+      → is_some (option_and_then asked_in (entered above stop)) ≡ true
+  entered_told None no_help has none = other has
+  entered_told (Some p) no_help has none = go (find (λ s. answers_to p.0 (label_of s)) above.subs) refl has none
+    where
+      go : (o : Option Shape) → find (λ s. answers_to p.0 (label_of s)) above.subs ≡ o → is_some (option_map (λ s. rows_at s p.1) o) ≡ true
+          → option_map_or (λ s. level_fault s [] nothing_held p.1 false []) o [] ≡ []
+          → is_some (option_and_then asked_in (option_map (λ s. rows_at s p.1) o)) ≡ true
+      go None is has none = other has
+      go (Some s) is has none =
+          let found = each_found Told (λ x. answers_to p.0 (label_of x)) above.subs s is told in
+          found.0.1 (named s found.0.0 found.1) (rows_after s.rules [] p.1) (level_taken s p.1 none)
+        where
+          named : (s : Shape) → s.aliases ≡ [] → answers_to p.0 (label_of s) ≡ true → bytes_eq s.name (codes "help") ≡ false
+          named s single answers = elim (or_cases (bytes_eq s.name p.0) false (sym (ap (λ xs. bytes_eq s.name p.0 || list_any (λ alias. bytes_eq alias p.0) xs) single) ∙ answers)) [
+            | inl same ↦ subst (λ t. bytes_eq t (codes "help") ≡ false) (sym ((bytes_eq-Decides s.name p.0).0 same))
+                (sym (and-true (bytes_eq p.0 (codes "help"))) ∙ (sym (ap (λ d. bytes_eq p.0 (codes "help") && not d) helps) ∙ no_help))
+            | inr empty ↦ other empty
+          ]
+
+  -- words without fault stop at one
+  level_told : (words : List Text) → built_fault above nothing_held words ≡ []
+      → is_some (option_and_then asked_in (entered above (stop_after above.top.rules (names_of above) words))) ≡ true
+  level_told words none =
+      let c = above.top.rules in
+      let end = fold (walked c (names_of above)) (walk_from nothing_held) words in
+      let walk = no_kinds (walk_fault above.top (names_of above) (walk_from nothing_held) words) _ none in
+      let below = no_kinds (entered_fault above end.stopped) _ walk.1 in
+      let settle = no_kinds (settle_fault c above.top.args_override_self end.held) _ below.1 in
+      let checks = no_kinds (defaults_fault (settled c end.held).rows c) _ settle.1 in
+      let fine = walk_fine above.top (λ _. Unit {0}) (λ q a is values rows none all. tt) (names_of above) words (walk_from nothing_held) walk.0 (tt, tt) in
+      entered_told end.stopped fine.1 (wanted (is_some (entered above end.stopped)) (nothing_wanted _ _ _ checks.1).0) below.0
+    where
+      wanted : (b : Bool) → (not b && above.top.subcommand_required) ≡ false → b ≡ true
+      wanted true none = refl
+      wanted false none = other (sym none ∙ required)
+
+-- so a command line in which clap finds no fault asks for something
+pub words_without_fault_are_a_command : (words : List Text) → kinds_of words ≡ [] → (asked : Asked) × (command_of words ≡ Some asked)
+words_without_fault_are_a_command words none =
+    go (option_and_then asked_in (subcommand_of app words)) refl (level_told (built app) refl refl all_told (argument_words app words) none)
+  where
+    go : (o : Option Asked) → option_and_then asked_in (subcommand_of app words) ≡ o → is_some o ≡ true → (asked : Asked) × (command_of words ≡ Some asked)
+    go None is some = other some
+    go (Some asked) is some = (asked, command_of-taken words (subcommand_of app words) (Some asked) none refl (sym is))
