@@ -4,7 +4,7 @@ ghost use Rattle.std.specs.Prelude.{◌++◌};
 ghost use Rattle.config_text.specs.Fault.{Gives};
 ghost use Rattle.config_rules.specs.Passes as spec;
 
-use crate::form::{is_logical_name, may_be_named};
+use crate::form::is_logical_name;
 use crate::judged::fault_if;
 use crate::reference_walk::{JudgeReferences, references};
 use crate::walk::{Judge, JudgeText, both_sets, each};
@@ -14,6 +14,7 @@ use config_text::parts::{
 };
 use config_text::place::Place;
 use std::alloc::Global;
+use value_text::client_name::may_be_named;
 
 /// Judges the form of a logical name at a key below a place.
 fn logical_form(at: &Place<'_>, key: &str, name: &str) -> Result<(), ConfigFault>
@@ -26,7 +27,7 @@ fn logical_form(at: &Place<'_>, key: &str, name: &str) -> Result<(), ConfigFault
 fn client_form(version: u8, at: &Place<'_>, key: &str, name: &str) -> Result<(), ConfigFault>
     ensures { Gives (λ u. u) result (spec.client_form version (at.now ++ key.now) name.now) }
 {
-    fault_if(Code::Form, at, key, !may_be_named(version, name))
+    fault_if(Code::Form, at, key, !may_be_named(version, name.as_bytes()))
 }
 
 /// Names of clients in a set.

@@ -1,11 +1,11 @@
 -- The value to which a place in the text of a configuration leads, as `object[6].name`. Texts are lists of bytes.
-use Rattle.std.specs.Prelude.{ℕ, ◌+◌, ◌-◌, ◌*◌, ◌==◌, nat_eq, nat_lt, Bool, ◌&&◌, ◌||◌, List, [], ◌∷◌, codes, length, if◌then◌else◌, Option, Some, None, option_and_then}
-use Rattle.std.specs.Char.{is_ascii_digit}
+use Rattle.std.specs.Prelude.{ℕ, ◌==◌, nat_eq, nat_lt, Bool, ◌||◌, List, [], ◌∷◌, codes, length, if◌then◌else◌, Option, Some, None, option_and_then}
 use Rattle.std.specs.List.{slice_split, position_or_len, before_first, after_first, list_any, ends_with}
 use Rattle.std.specs.Str.{bytes_eq}
 use Rattle.config_text.specs.Fault.{number_of}
 use Rattle.config_text.specs.declared.fault.Code.{Code}
 use Rattle.toml.specs.Data.{Data, get, at, as_str}
+use Rattle.value_words.specs.WordReading.{number_in}
 
 -- Parts of texts
 
@@ -28,18 +28,9 @@ parts_left separator (Some text) = parts separator text
 
 -- Steps
 
--- the number with these digits behind it, if it has no more than six (own profile)
-abbrev pub number_from : ℕ → List ℕ → Option ℕ
-number_from value [] = Some value
-number_from value (c ∷ text) = if is_ascii_digit c && nat_lt value 100000 then number_from (10 * value + (c - 48)) text else None
-
--- the number that a text is in decimal (own profile)
-abbrev pub number_in : List ℕ → Option ℕ
-number_in text = if length text == 0 then None else number_from 0 text
-
--- the number before a bracket, behind which nothing is to stand (own profile)
+-- the number before a bracket, behind which nothing is to stand: six digits at most, without leading zeros (own profile)
 abbrev pub closed : List ℕ → Option (List ℕ) → Option ℕ
-closed digits (Some []) = number_in digits
+closed digits (Some []) = number_in 999999 digits
 closed digits _ = None
 
 -- what a key of a table leads to, and an index of the array there (own profile)

@@ -5,6 +5,5 @@ pub mod Meanings
 pub mod Advice
 pub mod Config
 pub mod Labels
-pub mod Cells
 pub mod Refusals
 pub mod Files

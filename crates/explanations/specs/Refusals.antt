@@ -6,7 +6,7 @@ use Rattle.flow_checker.specs.declared.check.Refused.{Refused}
 use Rattle.flow_checker.specs.declared.check.Refused.TheVariants as refusals
 use Rattle.meter_theory.specs.declared.flow.Edge.{Edge}
 use Rattle.value_text.specs.Texts.{cell_text}
-use Rattle.explanations.specs.Cells.{edge_text}
+use Rattle.value_text.specs.Edges.{edge_text}
 use Rattle.explanations.specs.Printable.{printable}
 
 -- a cell without a label (own profile)

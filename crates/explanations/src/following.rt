@@ -1,38 +1,27 @@
 //! The value to which a place in the text of a configuration leads (own profile).
-ghost use Rattle.std.specs.Prelude.{◌≡◌, ◌<◌, ◌^◌, option_map, IfSome};
+ghost use Rattle.std.specs.Prelude.{◌≡◌, option_map};
 ghost use Rattle.toml.specs.View.{view};
 ghost use Rattle.explanations.specs.Following as spec;
 
 use crate::split::first_part;
 use config_text::fault::Code;
 use toml::Value;
+use value_words::numbers::number_in;
 
 /// The number of the code of a key that is missing or unknown.
 const UNKNOWN_KEY: u8 = 2;
 
-/// The number that a text is in decimal, if it has no more than six digits behind leading zeros.
-fn number_in(text: &str) -> Option<usize>
-    ensures { result ≡ spec.number_in text.now }
-{
-    if text.is_empty() {
-        return None;
-    }
-    let mut value: usize = 0;
-    for digit in text.as_bytes() {
-        if !(digit.is_ascii_digit() && value < 100000) {
-            return None;
-        }
-        value = 10 * value + usize::from(*digit - b'0');
-    }
-    Some(value)
-}
+/// The highest index that a place may have.
+const HIGHEST_INDEX: u64 = 999_999;
 
 /// The index that stands before a bracket, behind which nothing stands.
 fn index_in(text: &str) -> Option<usize>
     ensures { result ≡ spec.closed (spec.front 93 text.now) (spec.back 93 text.now) }
 {
     match first_part(']', text) {
-        (digits, Some(rest)) if rest.is_empty() => number_in(digits),
+        (digits, Some(rest)) if rest.is_empty() => {
+            Some(number_in(HIGHEST_INDEX, digits.as_bytes())? as usize)
+        }
         _ => None,
     }
 }

@@ -7,7 +7,6 @@
 #![tactic(auto)]
 
 mod advice;
-pub mod cell;
 mod class_words;
 pub mod config;
 pub mod file;

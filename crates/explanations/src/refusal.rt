@@ -3,13 +3,14 @@ ghost use Rattle.std.specs.Prelude.{◌≡◌, IfOk, string_bytes};
 ghost use Rattle.explanations.specs.Refusals as spec;
 ghost use Rattle.explanations.specs.Refusals.{explanation};
 
-use crate::cell::{CellText, EdgeText};
 use crate::printable::printable_text;
 use cosem_data::cell::CellRef;
 use cosem_data::memory::Memory;
 use flow_checker::check::Refused;
 use meter_theory::flow::Edge;
 use std::alloc::Global;
+use value_text::cell::CellText;
+use value_text::edge::EdgeText;
 
 /// What is told of a cell without a label.
 fn not_labelled(alloc: Global, cell: CellRef) -> Result<String, Memory>

@@ -1,5 +1,5 @@
 -- A line of labels is read from its text, and from no other.
-use Rattle.std.proofs.Common.{◌≡◌, ◌≢◌, not, eqb, ℕ, ◌<◌, ◌^◌, Bool, true, false, cond, List, [], ◌∷◌, ◌++◌, length, Option, Some, None, option_map, refl, sym, ap, subst, ◌∙◌, arith, inl, inr}
+use Rattle.std.proofs.Common.{◌≡◌, ◌≢◌, not, eqb, ℕ, ◌-◌, ◌<◌, ◌^◌, Bool, true, false, cond, List, [], ◌∷◌, ◌++◌, length, Option, Some, None, option_map, refl, sym, ap, subst, ◌∙◌, arith, inl, inr}
 use Rattle.std.specs.Prelude.{codes, IfSome}
 use Rattle.std.specs.Fmt.{decimal}
 use Rattle.std.specs.List.{join_with_byte, list_all}
@@ -13,11 +13,14 @@ use Rattle.cosem_data.specs.Names.{name_text}
 use Rattle.cosem_data.specs.declared.name.LogicalName.{LogicalName}
 use Rattle.cosem_data.proofs.Decimals.{name_takes, text_gives}
 use Rattle.value_text.specs.Texts.{name_in}
-use Rattle.label_certificate.specs.LabelLine.{LabelLine, IsLabelLine, are_client_names, attribute_text, names_text, line_cell_text, line_text, parts, three, behind, number_in, attribute_in, names_of, names_in, names_after, label_line_at}
+use Rattle.value_words.specs.Stopping.{behind}
+use Rattle.value_words.specs.WordReading.{number_in}
+use Rattle.value_words.proofs.Behind.{behind-again, behind-takes}
+use Rattle.value_words.proofs.Decimals.{number_takes, number_low, number_gives}
+use Rattle.value_words.proofs.NameBytes.{bind_some, IsNameRead, name_read}
+use Rattle.label_certificate.specs.LabelLine.{LabelLine, IsLabelLine, are_client_names, attribute_text, names_text, line_cell_text, line_text, parts, three, attribute_in, names_of, names_in, names_after, label_line_at}
 use Rattle.label_certificate.proofs.Joined.{Lacks, EachLacks, IsNoNameByte, lacks_append, parts_joined, lacks_joined, lacks_decimal, lacks_name, lacks_names, names_lack, no_dash}
-use Rattle.label_certificate.proofs.NameBytes.{IsNameRead, name_read}
-use Rattle.label_certificate.proofs.Numbers.{bind_some, number_takes, number_gives}
-use Rattle.label_certificate.proofs.Parts.{behind-again, behind-takes, parts-some}
+use Rattle.label_certificate.proofs.Parts.{parts-some}
 
 -- ---- what is read stands there
 
@@ -55,18 +58,18 @@ names_behind_taken word text names e =
 attribute_taken : (text : List ℕ) (attribute : Option ℕ) → attribute_in text ≡ Some attribute → (text ≡ attribute_text attribute) × IfSome attribute (λ n. n < 2 ^ 8)
 attribute_taken text attribute e = at (bytes_eq text (codes "seen")) refl e
   where
-    numbered : (found : Option ℕ) → number_in (2 ^ 8) text ≡ found → option_map Some found ≡ Some attribute → (text ≡ attribute_text attribute) × IfSome attribute (λ n. n < 2 ^ 8)
+    numbered : (found : Option ℕ) → number_in (2 ^ 8 - 1) text ≡ found → option_map Some found ≡ Some attribute → (text ≡ attribute_text attribute) × IfSome attribute (λ n. n < 2 ^ 8)
     numbered None is h = absurd cc
     numbered (Some n) is h =
         let same : Some n ≡ attribute = cc in
-        let t = number_takes (2 ^ 8) n text (omega arith) is in
-        subst (λ (a : Option ℕ). (text ≡ attribute_text a) × IfSome a (λ m. m < 2 ^ 8)) same t
+        let low = number_low (2 ^ 8 - 1) n text is in
+        subst (λ (a : Option ℕ). (text ≡ attribute_text a) × IfSome a (λ m. m < 2 ^ 8)) same (number_takes (2 ^ 8 - 1) n text (omega arith) is, omega arith)
 
-    at : (b : Bool) → bytes_eq text (codes "seen") ≡ b → cond b (Some None) (option_map Some (number_in (2 ^ 8) text)) ≡ Some attribute → (text ≡ attribute_text attribute) × IfSome attribute (λ n. n < 2 ^ 8)
+    at : (b : Bool) → bytes_eq text (codes "seen") ≡ b → cond b (Some None) (option_map Some (number_in (2 ^ 8 - 1) text)) ≡ Some attribute → (text ≡ attribute_text attribute) × IfSome attribute (λ n. n < 2 ^ 8)
     at true is h =
         let same : None ≡ attribute = cc in
         subst (λ (a : Option ℕ). (text ≡ attribute_text a) × IfSome a (λ m. m < 2 ^ 8)) same ((bytes_eq-Decides text (codes "seen")).0 is, tt)
-    at false is h = numbered (number_in (2 ^ 8) text) refl h
+    at false is h = numbered (number_in (2 ^ 8 - 1) text) refl h
 
 name_taken : (text : List ℕ) (name : LogicalName) → name_in text ≡ Some name → (text ≡ name_text name.0) × IsNameRead name.0
 name_taken text name e = at (name_at text) refl e
@@ -86,21 +89,22 @@ unfolding label_line_at
 line_takes line l h =
     let words = bind_some (three (parts 32 line)) _ l h in
     let cell = bind_some (three (parts 47 words.0.0)) _ l words.2 in
-    let class = bind_some (number_in (2 ^ 16) cell.0.0) _ l cell.2 in
+    let class = bind_some (number_in (2 ^ 16 - 1) cell.0.0) _ l cell.2 in
     let name = bind_some (name_in cell.0.1) _ l class.2 in
     let attribute = bind_some (attribute_in cell.0.2) _ l name.2 in
     let influence = bind_some (names_after (codes "influence=") words.0.1) _ l attribute.2 in
     let learn = bind_some (names_after (codes "learn=") words.0.2) _ l influence.2 in
     let made : LabelLine = record { class_id = class.0; name = name.0; attribute = attribute.0; influence = influence.0; learn = learn.0 } in
     let same : made ≡ l = some_line made l learn.2 in
-    let class_is = number_takes (2 ^ 16) class.0 cell.0.0 (omega arith) class.1 in
+    let class_is = number_takes (2 ^ 16 - 1) class.0 cell.0.0 (omega arith) class.1 in
+    let class_low = number_low (2 ^ 16 - 1) class.0 cell.0.0 class.1 in
     let name_is = name_taken cell.0.1 name.0 name.1 in
     let attribute_is = attribute_taken cell.0.2 attribute.0 attribute.1 in
     let influence_is = names_behind_taken (codes "influence=") words.0.1 influence.0 influence.1 in
     let learn_is = names_behind_taken (codes "learn=") words.0.2 learn.0 learn.1 in
     let cell_is : words.0.0 ≡ line_cell_text made =
     parts_taken 47 words.0.0 cell.0 cell.1
-    ∙ ap (λ t. join_with_byte 47 (t ∷ cell.0.1 ∷ cell.0.2 ∷ [])) class_is.0
+    ∙ ap (λ t. join_with_byte 47 (t ∷ cell.0.1 ∷ cell.0.2 ∷ [])) class_is
     ∙ ap (λ t. join_with_byte 47 (decimal class.0 ∷ t ∷ cell.0.2 ∷ [])) name_is.0
     ∙ ap (λ t. join_with_byte 47 (decimal class.0 ∷ name_text name.0.0 ∷ t ∷ [])) attribute_is.0 in
     let whole : line ≡ line_text made =
@@ -109,7 +113,7 @@ line_takes line l h =
     ∙ ap (λ t. join_with_byte 32 (line_cell_text made ∷ t ∷ words.0.2 ∷ [])) influence_is.1
     ∙ ap (λ t. join_with_byte 32 (line_cell_text made ∷ (codes "influence=" ++ names_text influence.0) ∷ t ∷ [])) learn_is.1 in
     let form : IsLabelLine made = record {
-      class_id = class_is.1;
+      class_id = omega (arith, class_low);
       name_bytes = All-from_recursion (λ b. b < 256) name.0.0 name_is.1.small;
       name_length = name_is.1.long;
       attribute = attribute_is.1;
@@ -141,9 +145,9 @@ attribute_given (Some n) h = at (bytes_eq (decimal n) (codes "seen")) refl
     other : bytes_eq (decimal n) (codes "seen") ≡ true → ⊥
     other e = (subst (Lacks 115) ((bytes_eq-Decides (decimal n) (codes "seen")).0 e) (lacks_decimal 115 n (inr (omega arith)) (omega arith))).0 refl
 
-    at : (b : Bool) → bytes_eq (decimal n) (codes "seen") ≡ b → cond b (Some None) (option_map Some (number_in (2 ^ 8) (decimal n))) ≡ Some (Some n)
+    at : (b : Bool) → bytes_eq (decimal n) (codes "seen") ≡ b → cond b (Some None) (option_map Some (number_in (2 ^ 8 - 1) (decimal n))) ≡ Some (Some n)
     at true is = absurd (other is)
-    at false is = ap (option_map Some) (number_gives (2 ^ 8) n (decimal n) (omega arith) h refl)
+    at false is = ap (option_map Some) (number_gives (2 ^ 8 - 1) n (decimal n) (omega arith) (omega arith) refl)
 
 lacks_attribute : (c : ℕ) (attribute : Option ℕ) → c < 48 → IfSome attribute (λ n. n < 2 ^ 8) → Lacks c (attribute_text attribute)
 lacks_attribute c None low h = ((λ e. omega arith), ((λ e. omega arith), ((λ e. omega arith), ((λ e. omega arith), tt))))
@@ -200,7 +204,7 @@ line_gives l h =
     let name : name_in (name_text l.name.0) ≡ Some l.name = ap (option_map (λ bytes. record { 0 = bytes })) (text_gives (name_text l.name.0) l.name h.name_bytes h.name_length refl) in
     bind_at _ _ _ _ words
     (bind_at _ _ _ _ cell
-    (bind_at _ _ _ _ (number_gives (2 ^ 16) l.class_id (decimal l.class_id) (omega arith) h.class_id refl)
+    (bind_at _ _ _ _ (number_gives (2 ^ 16 - 1) l.class_id (decimal l.class_id) (omega arith) (omega (arith, h.class_id)) refl)
     (bind_at _ _ _ _ name
     (bind_at _ _ _ _ (attribute_given l.attribute h.attribute)
     (bind_at _ _ _ _ (names_behind_given (codes "influence=") l.influence h.influence)

@@ -1,6 +1,5 @@
 -- One line of a text of labels: a cell, and the clients that may influence and learn it. Texts are lists of bytes.
-use Rattle.std.specs.Prelude.{◌≡◌, ◌<◌, ◌^◌, ℕ, ◌+◌, ◌-◌, ◌*◌, ◌==◌, Bool, true, ◌&&◌, nat_lt, List, [], ◌∷◌, ◌++◌, length, codes, All, Option, Some, None, option_map, IfSome, if◌then◌else◌}
-use Rattle.std.specs.Char.{is_ascii_digit}
+use Rattle.std.specs.Prelude.{◌≡◌, ◌<◌, ◌^◌, ℕ, ◌-◌, ◌==◌, Bool, true, List, [], ◌∷◌, ◌++◌, length, codes, All, Option, Some, None, option_map, IfSome, if◌then◌else◌}
 use Rattle.std.specs.Fmt.{decimal}
 use Rattle.std.specs.List.{join_with_byte, list_all, slice_split}
 use Rattle.std.specs.Str.{bytes_eq}
@@ -8,6 +7,8 @@ use Rattle.cosem_data.specs.Digits.{◌>>=◌}
 use Rattle.cosem_data.specs.Names.{name_text}
 use Rattle.cosem_data.specs.declared.name.LogicalName.{LogicalName}
 use Rattle.value_text.specs.Texts.{name_in}
+use Rattle.value_words.specs.Stopping.{behind}
+use Rattle.value_words.specs.WordReading.{number_in}
 use Rattle.meter_theory.specs.ClientNames.{is_client_name}
 
 -- what a line says: a cell by its class, its name and its attribute, which is none for what a register monitor has seen; and names of clients (own profile)
@@ -62,29 +63,9 @@ abbrev pub three : List (List ℕ) → Option (List ℕ × List ℕ × List ℕ)
 three (a ∷ b ∷ c ∷ []) = Some (a, b, c)
 three _ = None
 
--- what follows these bytes at the front of a text, if they stand there (own profile)
-abbrev pub behind : List ℕ → List ℕ → Option (List ℕ)
-behind [] text = Some text
-behind (b ∷ bs) [] = None
-behind (b ∷ bs) (c ∷ text) = if c == b then behind bs text else None
-
--- the value with one digit more, if it is a digit and the value stays below the bound (own profile)
-abbrev pub with_digit : ℕ → ℕ → ℕ → Option ℕ
-with_digit bound value c = if is_ascii_digit c && nat_lt (10 * value + (c - 48)) bound then Some (10 * value + (c - 48)) else None
-
--- the value with these digits behind it (own profile)
-abbrev pub with_digits : ℕ → ℕ → List ℕ → Option ℕ
-with_digits bound value [] = Some value
-with_digits bound value (c ∷ text) = with_digit bound value c >>= λ more. with_digits bound more text
-
--- the number below the bound that a text is in decimal, without leading zeros (own profile)
-abbrev pub number_in : ℕ → List ℕ → Option ℕ
-number_in bound [] = None
-number_in bound (c ∷ text) = if (c == 48) && nat_lt 0 (length text) then None else with_digits bound 0 (c ∷ text)
-
 -- an attribute: `seen`, or a number of one byte (own profile)
 abbrev pub attribute_in : List ℕ → Option (Option ℕ)
-attribute_in text = if bytes_eq text (codes "seen") then Some None else option_map Some (number_in (2 ^ 8) text)
+attribute_in text = if bytes_eq text (codes "seen") then Some None else option_map Some (number_in (2 ^ 8 - 1) text)
 
 -- what stands between the commas, and nothing where the text is `-` (own profile)
 abbrev pub names_of : List ℕ → List (List ℕ)
@@ -103,7 +84,7 @@ unfoldable pub label_line_at : List ℕ → Option LabelLine
 label_line_at line = do
   words ← three (parts 32 line)
   cell ← three (parts 47 words.0)
-  class_id ← number_in (2 ^ 16) cell.0
+  class_id ← number_in (2 ^ 16 - 1) cell.0
   name ← name_in cell.1
   attribute ← attribute_in cell.2
   influence ← names_after (codes "influence=") words.1

@@ -1,14 +1,15 @@
 //! The form of one line of a text of labels.
-ghost use Rattle.std.specs.Prelude.{◌≡◌, ◌<◌, ◌^◌, ◌==◌, ◌∷◌, length, option_map, position, IfSome};
-ghost use Rattle.std.specs.List.{list_all};
-ghost use Rattle.meter_theory.specs.ClientNames as names;
+ghost use Rattle.std.specs.Prelude.{◌≡◌, ◌<◌, ◌-◌, ◌^◌, ◌==◌, ◌∷◌, length, option_map, position, IfSome};
+ghost use Rattle.value_words.specs.WordReading.{number_in};
 ghost use Rattle.label_certificate.specs.LabelLine as spec;
 ghost use Rattle.label_certificate.specs.LabelLine.{label_line_at, names_of, parts};
 ghost use Rattle.label_certificate.specs.LineView.{line_of, parts_left};
 
 use cosem_data::name::LogicalName;
-use meter_theory::limits::NAME_CHARACTERS;
+use value_text::client_name::is_client_name;
 use value_text::name::name_in;
+use value_words::marks::behind;
+use value_words::numbers::number_in;
 
 /// What stands in the place of an attribute's number for what a register monitor has seen.
 const SEEN: &[u8] = b"seen";
@@ -21,13 +22,6 @@ const INFLUENCE: &[u8] = b"influence=";
 
 /// What stands before the names of those that may learn a cell.
 const LEARN: &[u8] = b"learn=";
-
-/// The words that begin a step of the meter itself: no client has such a name.
-const IN: &[u8] = b"in";
-
-const AT: &[u8] = b"at";
-
-const EVALUATE: &[u8] = b"eval";
 
 const SPACE: u8 = b' ';
 
@@ -82,42 +76,11 @@ fn three(separator: u8, text: &[u8]) -> Option<(&[u8], &[u8], &[u8])>
     }
 }
 
-/// The value with one digit more, if it is a digit and the value stays below the bound.
-fn with_digit(bound: u32, value: u32, digit: u8) -> Option<u32>
-    requires small { value < 2 ^ 17 }
-    ensures value { result ≡ spec.with_digit bound value digit }
-    ensures below { IfSome result (λ more. more < bound) }
-{
-    if !digit.is_ascii_digit() {
-        return None;
-    }
-    let more = 10 * value + u32::from(digit - b'0');
-    if more < bound { Some(more) } else { None }
-}
-
-/// The number below a bound that a text is in decimal, without leading zeros.
-fn number_in(bound: u32, text: &[u8]) -> Option<u32>
-    requires positive { 0 < bound }
-    requires small { bound < 2 ^ 17 }
-    ensures number { result ≡ spec.number_in bound text.now }
-    ensures below { IfSome result (λ n. n < bound) }
-{
-    let (first, rest) = text.split_first()?;
-    if *first == b'0' && !rest.is_empty() {
-        return None;
-    }
-    let mut value = 0;
-    for digit in text {
-        value = with_digit(bound, value, *digit)?;
-    }
-    Some(value)
-}
-
 /// The class that a text is in decimal.
 fn class_in(text: &[u8]) -> Option<u16>
-    ensures { result ≡ spec.number_in (2 ^ 16) text.now }
+    ensures { result ≡ number_in (2 ^ 16 - 1) text.now }
 {
-    let number = number_in(1 << 16, text)?;
+    let number = number_in(u64::from(u16::MAX), text)?;
     Some(number as u16)
 }
 
@@ -128,30 +91,8 @@ fn attribute_in(text: &[u8]) -> Option<Option<u8>>
     if text == SEEN {
         return Some(None);
     }
-    let number = number_in(1 << 8, text)?;
+    let number = number_in(u64::from(u8::MAX), text)?;
     Some(Some(number as u8))
-}
-
-/// Whether a text has a to z, 0 to 9 and _ alone.
-fn has_name_bytes(text: &[u8]) -> bool
-    ensures { result ≡ list_all names.is_name_byte text.now }
-{
-    text.iter()
-        .all(|byte| matches!(byte, b'a'..=b'z' | b'0'..=b'9' | b'_'))
-}
-
-/// Whether a text is a word that begins a step of the meter itself.
-fn is_step_word(text: &[u8]) -> bool
-    ensures { result ≡ names.is_step_word text.now }
-{
-    text == IN || text == AT || text == EVALUATE
-}
-
-/// Whether a client may have this name.
-fn is_client_name(name: &[u8]) -> bool
-    ensures { result ≡ names.is_client_name name.now }
-{
-    1 <= name.len() && name.len() <= NAME_CHARACTERS && has_name_bytes(name) && !is_step_word(name)
 }
 
 /// What there is of names in a text, to be taken one by one.
@@ -188,7 +129,7 @@ fn are_names(text: &[u8]) -> bool
 fn names_after<'a>(word: &[u8], text: &'a [u8]) -> Option<&'a [u8]>
     ensures { option_map (λ names. names_of names.now) result ≡ spec.names_after word.now text.now }
 {
-    let names = text.strip_prefix(word)?;
+    let names = behind(word, text)?;
     if are_names(names) { Some(names) } else { None }
 }
 

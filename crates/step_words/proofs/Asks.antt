@@ -15,24 +15,24 @@ use Rattle.object_model.specs.declared.argument.Argument.{Argument}
 use Rattle.object_model.specs.declared.argument.Argument.TheVariants.{Value}
 use Rattle.value_words.specs.declared.fault.Asked.TheVariants as kinds
 use Rattle.value_words.specs.Words.{octet_words}
-use Rattle.value_words.specs.WordReading as words
-use Rattle.value_words.specs.WordReading.{behind, front, past, bytes_in, is_digit, octets_at}
-use Rattle.value_words.proofs.Steps as steps
-use Rattle.value_words.proofs.Steps.{chosen}
+use Rattle.value_words.specs.declared.stop.Stop.{Stop}
+use Rattle.value_words.specs.Stopping.{◌>>=◌, stops, found, behind, front, past}
+use Rattle.value_words.specs.WordReading.{bytes_in, is_digit, octets_at}
+use Rattle.value_words.proofs.Steps.{bind_ok, done, ok_is, chosen, found_ok}
 use Rattle.value_words.proofs.Behind.{behind-takes}
 use Rattle.value_words.proofs.Octets.{octets_take}
 use Rattle.xdlms_services.specs.declared.request.Request.{Request}
 use Rattle.xdlms_services.specs.declared.request.Request.TheVariants.{Get, Set, Act}
 use Rattle.xdlms_services.specs.Requests.{request_bytes, IsWritableValue, IsArgumentInRange, CanAsk}
 use Rattle.xdlms_services.proofs.Shortest.{written_requests_are_read_lem}
+use Rattle.step_words.specs.declared.fault.Asked.{Asked}
 use Rattle.step_words.specs.declared.fault.Asked.TheVariants as asked
-use Rattle.step_words.specs.declared.stop.Stop.{Stop}
-use Rattle.step_words.specs.Parts.{◌>>=◌, CanBeSent, stops, ended}
+use Rattle.step_words.specs.Parts.{CanBeSent, ended}
 use Rattle.step_words.specs.RequestWords.{descriptor_words, named_words, entries_words, given_words, invoke_words, get_words, request_words, apdu_words}
 use Rattle.step_words.specs.RequestReading.{descriptor_at, entries_at, selection_step, selection_at, given_at, parameter_at, invoke_at, parameter_of, get_at, set_at, act_at, words_in, wordless, bytes_at, apdu_at, request_or, apdu_or, asked_bytes}
 use Rattle.step_words.specs.StepLines.{ask_words}
 use Rattle.step_words.proofs.Ranges.{AreBytes, bytes_low}
-use Rattle.step_words.proofs.Stops.{bind_ok, ok_is, found_ok, ended_ok}
+use Rattle.step_words.proofs.Stops.{ended_ok}
 use Rattle.step_words.proofs.Bytes.{request_are_bytes, request_has_bytes}
 use Rattle.step_words.proofs.Forms.{descriptor_takes, IsEntries, entries_take}
 use Rattle.step_words.proofs.Given.{IsGiven, given_takes, parameter_takes, invoke_takes}
@@ -205,9 +205,9 @@ no_sign c e = at (eqb c 45) refl
 as_octets : (c : ℕ) (digits bytes left : List ℕ) → is_digit c ≡ true → bytes_in (front is_digit (c ∷ digits)) ≡ Some bytes → past is_digit (c ∷ digits) ≡ left → octets_at (c ∷ digits) ≡ Ok (bytes, left)
 unfolding octets_at
 as_octets c digits bytes left is f g =
-    ap (λ (b : Bool). cond b (Ok ([], digits)) (words.found kinds.HexDigits (c ∷ digits) (bytes_in (front is_digit (c ∷ digits))) (past is_digit (c ∷ digits)))) (no_sign c is)
-    ∙ ap (λ (o : Option (List ℕ)). words.found kinds.HexDigits (c ∷ digits) o (past is_digit (c ∷ digits))) f
-    ∙ ap (λ (s : List ℕ). steps.done {A = List ℕ × List ℕ} (bytes, s)) g
+    ap (λ (b : Bool). cond b (Ok ([], digits)) (found kinds.HexDigits (c ∷ digits) (bytes_in (front is_digit (c ∷ digits))) (past is_digit (c ∷ digits)))) (no_sign c is)
+    ∙ ap (λ (o : Option (List ℕ)). found kinds.HexDigits (c ∷ digits) o (past is_digit (c ∷ digits))) f
+    ∙ ap (λ (s : List ℕ). done {A = List ℕ × List ℕ} (bytes, s)) g
 
 abbrev AreRead : List ℕ → List ℕ → List ℕ → Type 0
 AreRead digits left bytes = (digits ≡ encode_upper bytes ++ left) × (0 < length bytes) × AreBytes bytes
@@ -229,7 +229,7 @@ hex_takes (c ∷ digits) bytes left e =
     at true is f g = octets_are c digits left bytes is (octets_take (c ∷ digits) bytes left (as_octets c digits bytes left is f g)) (bytes_low (front is_digit (c ∷ digits)) bytes f)
 
 -- the bytes behind the word of a request
-request_case : (word text rest : List ℕ) (reader : List ℕ → Result Request Stop) (bytes : List ℕ) → ((t : List ℕ) (r : Request) → reader t ≡ Ok r → IsAsked (word ++ t) r)
+request_case : (word text rest : List ℕ) (reader : List ℕ → Result Request (Stop Asked)) (bytes : List ℕ) → ((t : List ℕ) (r : Request) → reader t ≡ Ok r → IsAsked (word ++ t) r)
     → text ≡ word ++ rest → (reader rest >>= λ r. Ok (request_bytes r)) ≡ Ok bytes → IsTold text bytes
 request_case word text rest reader bytes takes is e =
     let b = bind_ok (reader rest) (λ r. Ok (request_bytes r)) bytes e in
@@ -261,8 +261,8 @@ apdu_takes text digits bytes is e =
     none_said None x h = refl
     none_said (Some y) x h = absurd cc
 
-by_word : (word text : List ℕ) (reader : List ℕ → Result Request Stop) (bytes : List ℕ) → ((t : List ℕ) (r : Request) → reader t ≡ Ok r → IsAsked (word ++ t) r)
-    → (other : Result (List ℕ) Stop) → request_or (behind word text) reader other ≡ Ok bytes → (other ≡ Ok bytes → IsTold text bytes) → IsTold text bytes
+by_word : (word text : List ℕ) (reader : List ℕ → Result Request (Stop Asked)) (bytes : List ℕ) → ((t : List ℕ) (r : Request) → reader t ≡ Ok r → IsAsked (word ++ t) r)
+    → (other : Result (List ℕ) (Stop Asked)) → request_or (behind word text) reader other ≡ Ok bytes → (other ≡ Ok bytes → IsTold text bytes) → IsTold text bytes
 by_word word text reader bytes takes other e next = at (behind word text) refl e
   where
     at : (o : Option (List ℕ)) → behind word text ≡ o → request_or o reader other ≡ Ok bytes → IsTold text bytes

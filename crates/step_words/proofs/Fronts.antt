@@ -7,15 +7,18 @@ use Rattle.cosem_data.specs.declared.name.LogicalName.{LogicalName}
 use Rattle.meter_theory.specs.Times.{Moment}
 use Rattle.meter_theory.specs.ClientNames.{is_name_byte, is_client_name}
 use Rattle.value_text.specs.Texts.{name_in}
-use Rattle.value_words.specs.WordReading.{front, past}
+use Rattle.value_words.specs.declared.stop.Stop.{Stop}
+use Rattle.value_words.specs.Stopping.{◌>>=◌, stops, found, mark_at, front, past}
+use Rattle.value_words.proofs.Steps.{bind_ok, done, ok_is, found_ok}
+use Rattle.value_words.proofs.Behind.{mark_takes}
 use Rattle.value_words.proofs.Runs.{front-past, front-passes, front-again, past-again, NoneInFront}
+use Rattle.step_words.specs.declared.fault.Asked.{Asked}
 use Rattle.step_words.specs.declared.fault.Asked.TheVariants as asked
 use Rattle.step_words.specs.declared.head.Head.{Head}
 use Rattle.step_words.specs.declared.head.Head.TheVariants.{Input, Client, NamedTick, Whole}
-use Rattle.step_words.specs.declared.stop.Stop.{Stop}
-use Rattle.step_words.specs.Parts.{◌>>=◌, stops, found, mark_at, ended, is_name_digit, name_at, moment_at}
+use Rattle.step_words.specs.Parts.{ended, is_name_digit, name_at, moment_at}
 use Rattle.step_words.specs.StepLines.{input_at, evaluation_at, offer_at, seconds_in, tick_at, client_at, head_step, head_at}
-use Rattle.step_words.proofs.Stops.{bind_ok, done, ok_is, found_ok, mark_takes, ended_ok}
+use Rattle.step_words.proofs.Stops.{ended_ok}
 
 -- behind a whole line nothing stands, and behind the client named `tick` no number of seconds
 abbrev pub Fits : Head → List ℕ → Type 0
@@ -26,7 +29,7 @@ Fits _ x = Unit {0}
 -- ---- behind the first word
 
 -- a space and a part, which are read again whatever stands behind them
-record IsPart (reader : List ℕ → Result (Head × List ℕ) Stop) (text : List ℕ) (h : Head) (rest : List ℕ) : Type 0 where
+record IsPart (reader : List ℕ → Result (Head × List ℕ) (Stop Asked)) (text : List ℕ) (h : Head) (rest : List ℕ) : Type 0 where
   part : List ℕ
   is : text ≡ 32 ∷ (part ++ rest)
   fits : Fits h rest
@@ -46,14 +49,14 @@ name_again text d left x e none =
           ∙ ap (λ (t : List ℕ). done {A = LogicalName × List ℕ} (d, t)) (past-again is_name_digit s x all none),
     )
 
-abbrev after_name : LogicalName × List ℕ → Result (Head × List ℕ) Stop
+abbrev after_name : LogicalName × List ℕ → Result (Head × List ℕ) (Stop Asked)
 after_name name = mark_at asked.Space (codes " ") name.1 >>= λ value. Ok (Input, value)
 
 input_again : (s x : List ℕ) (d : LogicalName) → name_at (s ++ 32 ∷ x) ≡ Ok (d, 32 ∷ x) → input_at (32 ∷ ((s ++ 32 ∷ []) ++ x)) ≡ Ok (Input, x)
 unfolding input_at
 input_again s x d h =
     ap (λ (t : List ℕ). name_at t >>= after_name) (append_assoc s (32 ∷ []) x)
-    ∙ ap (λ (r : Result (LogicalName × List ℕ) Stop). r >>= after_name) h
+    ∙ ap (λ (r : Result (LogicalName × List ℕ) (Stop Asked)). r >>= after_name) h
 
 input_takes : (text : List ℕ) (h : Head) (rest : List ℕ) → input_at text ≡ Ok (h, rest) → IsPart input_at text h rest
 unfolding input_at
@@ -74,12 +77,12 @@ input_takes text h rest e =
       again = λ x f. input_again s x n.0.0 (name_again a.0 n.0.0 n.0.1 (32 ∷ x) n.1 refl).1;
     })
 
-abbrev name_ends : LogicalName × List ℕ → Result (Head × List ℕ) Stop
+abbrev name_ends : LogicalName × List ℕ → Result (Head × List ℕ) (Stop Asked)
 name_ends name = ended (tt {0}) name.1 >>= λ whole. Ok (Whole, name.1)
 
 evaluation_again : (s : List ℕ) (d : LogicalName) → name_at (s ++ []) ≡ Ok (d, []) → evaluation_at (32 ∷ (s ++ [])) ≡ Ok (Whole, [])
 unfolding evaluation_at
-evaluation_again s d h = ap (λ (r : Result (LogicalName × List ℕ) Stop). r >>= name_ends) h
+evaluation_again s d h = ap (λ (r : Result (LogicalName × List ℕ) (Stop Asked)). r >>= name_ends) h
 
 evaluation_takes : (text : List ℕ) (h : Head) (rest : List ℕ) → evaluation_at text ≡ Ok (h, rest) → IsPart evaluation_at text h rest
 unfolding evaluation_at
@@ -100,7 +103,7 @@ evaluation_takes text h rest e =
 
 offer_again : (text : List ℕ) (m : Moment × List ℕ) → moment_at text ≡ Ok m → offer_at (32 ∷ text) ≡ Ok (Whole, [])
 unfolding offer_at
-offer_again text m h = ap (λ (r : Result (Moment × List ℕ) Stop). r >>= λ moment. done {A = Head × List ℕ} (Whole, [])) h
+offer_again text m h = ap (λ (r : Result (Moment × List ℕ) (Stop Asked)). r >>= λ moment. done {A = Head × List ℕ} (Whole, [])) h
 
 offer_takes : (text : List ℕ) (h : Head) (rest : List ℕ) → offer_at text ≡ Ok (h, rest) → IsPart offer_at text h rest
 unfolding offer_at
@@ -120,7 +123,7 @@ offer_takes text h rest e =
     })
 
 -- by whether it is a number of seconds
-abbrev ticks : List ℕ → Bool → Result (Head × List ℕ) Stop
+abbrev ticks : List ℕ → Bool → Result (Head × List ℕ) (Stop Asked)
 ticks rest b = cond b (Ok (Whole, [])) (Ok (NamedTick, rest))
 
 tick_again : (text : List ℕ) (b : Bool) → is_some (seconds_in text) ≡ b → tick_at (32 ∷ text) ≡ ticks text b
@@ -170,7 +173,7 @@ client_takes text h rest e =
 -- ---- the first word
 
 -- the front by what the first word is
-abbrev by_word : Bool → Bool → Bool → Bool → Bool → List ℕ → List ℕ → Result (Head × List ℕ) Stop
+abbrev by_word : Bool → Bool → Bool → Bool → Bool → List ℕ → List ℕ → Result (Head × List ℕ) (Stop Asked)
 by_word a b c t d text rest =
     cond a (input_at rest) (cond b (evaluation_at rest) (cond c (offer_at rest) (cond t (tick_at rest) (cond d (client_at rest) (stops asked.FirstWord text)))))
 

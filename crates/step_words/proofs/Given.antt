@@ -13,19 +13,19 @@ use Rattle.value_words.specs.declared.fault.ValueFault.{ValueFault}
 use Rattle.value_words.specs.declared.fault.ValueFault.TheVariants as fault
 use Rattle.value_words.specs.Words.{value_words}
 use Rattle.value_words.specs.WordReading as words
-use Rattle.value_words.specs.WordReading.{behind, front, past, number_in}
-use Rattle.value_words.proofs.Steps.{chosen, some_is, then_some}
-use Rattle.value_words.proofs.Behind.{behind-takes}
+use Rattle.value_words.specs.WordReading.{number_in}
+use Rattle.value_words.specs.Stopping.{stops, found, behind, mark_at, front, past}
+use Rattle.value_words.proofs.Steps.{bind_ok, ok_is, chosen, some_is, then_some, found_ok}
+use Rattle.value_words.proofs.Behind.{behind-takes, mark_takes}
 use Rattle.value_words.proofs.Runs.{front-past}
-use Rattle.value_words.proofs.Decimals.{number_takes}
+use Rattle.value_words.proofs.Decimals.{number_takes, number_low}
 use Rattle.value_words.proofs.Values.{read_is_written}
 use Rattle.step_words.specs.declared.fault.Asked.TheVariants as asked
-use Rattle.step_words.specs.Parts.{CanBeSent, can_be_sent, stops, found, ended, mark_at, value_step, sent_step, value_at}
+use Rattle.step_words.specs.Parts.{CanBeSent, can_be_sent, ended, value_step, sent_step, value_at}
 use Rattle.step_words.specs.RequestWords.{given_words, invoke_words}
 use Rattle.step_words.specs.RequestReading.{argument_at, given_at, is_over, parameter_at, invoke_in, invoke_step, invoke_at}
-use Rattle.step_words.proofs.Ranges.{number_low}
 use Rattle.step_words.proofs.Sending.{sent_is}
-use Rattle.step_words.proofs.Stops.{bind_ok, ok_is, found_ok, mark_takes, ended_ok}
+use Rattle.step_words.proofs.Stops.{ended_ok}
 
 -- ---- values
 

@@ -4,10 +4,11 @@ use Rattle.std.specs.Prelude.{position}
 use Rattle.std.specs.List.{slice_split, onto_first, join_with_byte, position_or_len}
 use Rattle.std.proofs.lemmas.Bool.{ltb-true, ltb-false}
 use Rattle.std.proofs.lemmas.Option.{cond_some}
+use Rattle.value_words.specs.Stopping.{◌>>=◌}
 use Rattle.step_words.specs.declared.fault.TextFault.{TextFault}
 use Rattle.step_words.specs.declared.fault.TextFault.TheVariants as faults
 use Rattle.step_words.specs.declared.texts.Way.{Way}
-use Rattle.step_words.specs.Texts.{◌>>=◌, Fails, placed, line_at, lines_at}
+use Rattle.step_words.specs.Texts.{Fails, placed, line_at, lines_at}
 
 -- the lines that newlines part
 abbrev pub lines_of : List ℕ → List (List ℕ)

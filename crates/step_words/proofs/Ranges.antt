@@ -1,11 +1,9 @@
 -- What is read as a value has each number in the range of its kind.
-use Rattle.std.proofs.Common.{◌≡◌, ℕ, ℤ, pos, negsuc, zero, suc, ◌+◌, ◌-◌, ◌*◌, ◌^◌, ◌<◌, ◌≤◌, Bool, true, false, ◌&&◌, cond, ltb, leb, eqb, List, [], ◌∷◌, length, Option, Some, None, Result, Ok, Err, ap, subst, arith, inl, inr, FitsSigned}
+use Rattle.std.proofs.Common.{◌≡◌, ℕ, ℤ, pos, negsuc, zero, suc, ◌+◌, ◌-◌, ◌*◌, ◌^◌, ◌<◌, Bool, true, false, ◌&&◌, cond, eqb, List, [], ◌∷◌, length, Option, Some, None, Result, Ok, Err, ap, subst, arith, inl, inr, FitsSigned}
 use Rattle.std.specs.Prelude.{option_and_then, codes, slice_index}
-use Rattle.std.specs.Char.{is_ascii_digit}
 use Rattle.std.specs.List.{AllByRecursion}
 use Rattle.std.specs.Result.{result_ok}
 use Rattle.std.specs.Int.{w8, w16, w32, w64}
-use Rattle.std.proofs.lemmas.Bool.{and_parts, leb-true}
 use Rattle.std.proofs.lemmas.Bool.Decides.{nat_tests}
 use Rattle.std.proofs.lemmas.Int.{ints}
 use Rattle.hex.specs.Hex.{decode_of}
@@ -15,66 +13,18 @@ use Rattle.cosem_data.specs.Tree.{Tree, null_data, array, structure, boolean, do
 use Rattle.cosem_data.specs.declared.kind.Kind.{Kind}
 use Rattle.cosem_data.specs.declared.kind.Kind.TheVariants.{NullData, Array, Structure, Boolean, DoubleLong, DoubleLongUnsigned, OctetString, VisibleString, Integer, Long, Unsigned, LongUnsigned, Long64, Long64Unsigned, Enumerated}
 use Rattle.cosem_axdr.specs.Laws.{HasRanges, HaveRanges}
+use Rattle.value_words.specs.declared.fault.Asked.{Asked}
 use Rattle.value_words.specs.declared.fault.Asked.TheVariants as asked
 use Rattle.value_words.specs.Words.{is_plain}
-use Rattle.value_words.specs.WordReading.{Reader, ◌>>=◌, behind, with_digit, with_digits, number_in, negative_in, front, past, unsigned_at, signed_step, signed_at, bytes_in, is_digit, digit_value, octets_at, escaped, escape_at, letter_at, letters_step, letters_at, quoted_at, mark_at, truth_at, part_end_at, parts_step, parts_at, list_step, kind_at, content_at, value_with, list_at, value_within, placed, value_at, read_map}
+use Rattle.value_words.specs.Stopping.{Reader, ◌>>=◌, behind, mark_at, front, past, read_map}
+use Rattle.value_words.specs.WordReading.{unsigned_at, signed_at, bytes_in, is_digit, digit_value, octets_at, escaped, escape_at, letter_at, letters_step, letters_at, quoted_at, truth_at, part_end_at, parts_step, parts_at, list_step, kind_at, content_at, value_with, list_at, value_within, placed, value_at}
 use Rattle.value_words.proofs.Steps.{bind_ok, ok_is, some_is, then_some, found_ok, mapped, chosen}
 use Rattle.value_words.proofs.Octets.{digit_takes}
-use Rattle.value_words.proofs.Decimals.{IsWithin}
+use Rattle.value_words.proofs.Decimals.{IsWithin, unsigned_low, signed_low}
 
 -- ---- numbers
 
-digit_low : (most v c n : ℕ) → with_digit most v c ≡ Some n → n ≤ most
-digit_low most v c n e =
-    elim (chosen (is_ascii_digit c && leb (10 * v + (c - 48)) most) _ _ (Some n) e) [
-      | inl p ↦
-          let is = some_is (10 * v + (c - 48)) n p.1 in
-          let low = leb-true (10 * v + (c - 48)) most (and_parts (is_ascii_digit c) (leb (10 * v + (c - 48)) most) p.0).1 in
-          omega arith
-      | inr p ↦ let wrong = p.1 in absurd cc
-    ]
-
-digits_low : (most v n : ℕ) (text : List ℕ) → v ≤ most → with_digits most v text ≡ Some n → n ≤ most
-digits_low most v n [] low e = let is = some_is v n e in omega arith
-digits_low most v n (c ∷ text) low e =
-    let b = then_some (λ more. with_digits most more text) (with_digit most v c) n e in
-    digits_low most b.0 n text (digit_low most v c b.0 b.1) b.2
-
-pub number_low : (most n : ℕ) (text : List ℕ) → number_in most text ≡ Some n → n ≤ most
-number_low most n [] e = absurd cc
-number_low most n (c ∷ text) e =
-    elim (chosen (eqb c 48 && ltb 0 (length text)) _ _ (Some n) e) [
-      | inl p ↦ let wrong = p.1 in absurd cc
-      | inr p ↦ digits_low most 0 n (c ∷ text) (omega arith) p.1
-    ]
-
-unsigned_low : (most n : ℕ) (text rest : List ℕ) → unsigned_at most text ≡ Ok (n, rest) → n ≤ most
-unfolding unsigned_at
-unsigned_low most n text rest e =
-    number_low most n (front is_ascii_digit text) (found_ok asked.Number text (number_in most (front is_ascii_digit text)) (past is_ascii_digit text) n rest e).0
-
-pub negative_low : (half : ℕ) (z : ℤ) (digits : List ℕ) → negative_in half digits ≡ Some z → IsWithin half z
-negative_low half z digits e =
-    let b = then_some (λ n. cond (eqb n 0) None (Some (negsuc (n - 1)))) (number_in half digits) z e in
-    let low = number_low half b.0 digits b.1 in
-    elim (chosen (eqb b.0 0) None (Some (negsuc (b.0 - 1))) (Some z) b.2) [
-      | inl p ↦ let wrong = p.1 in absurd cc
-      | inr p ↦
-          let some : 0 < b.0 = grind (arith, nat_tests, p.0) in
-          subst (IsWithin half) (some_is (negsuc (b.0 - 1)) z p.1) (omega arith)
-    ]
-
-pub signed_low : (half : ℕ) (z : ℤ) (text rest : List ℕ) → 0 < half → signed_at half text ≡ Ok (z, rest) → IsWithin half z
-unfolding signed_at
-signed_low half z text rest some e = at (behind (codes "-") text) e
-  where
-    at : (o : Option (List ℕ)) → signed_step half text o ≡ Ok (z, rest) → IsWithin half z
-    at (Some left) h = negative_low half z (front is_ascii_digit left) (found_ok asked.Number text (negative_in half (front is_ascii_digit left)) (past is_ascii_digit left) z rest h).0
-    at None h =
-        let m = mapped pos (unsigned_at (half - 1) text) z rest h in
-        let low = unsigned_low (half - 1) m.0 text rest m.1 in
-        subst (IsWithin half) m.2 (omega arith)
-
+-- a number in the range of its kind
 pub fits8 : (z : ℤ) → IsWithin (2 ^ 7) z → FitsSigned w8 z
 fits8 (pos n) h = omega (arith, ints)
 fits8 (negsuc n) h = omega (arith, ints)
@@ -187,13 +137,13 @@ quoted_low text s rest e =
 
 -- ---- values
 
-abbrev ValueFits : Reader Tree → Type 0
+abbrev ValueFits : Reader Asked Tree → Type 0
 ValueFits value = (text : List ℕ) (t : Tree) (rest : List ℕ) → value text ≡ Ok (t, rest) → HasRanges t
 
-abbrev ListFits : Reader (List Tree) → Type 0
+abbrev ListFits : Reader Asked (List Tree) → Type 0
 ListFits list = (text : List ℕ) (ts : List Tree) (rest : List ℕ) → list text ≡ Ok (ts, rest) → HaveRanges (trees ts)
 
-parts_fit : (value : Reader Tree) → ValueFits value → (n : ℕ) → ListFits (parts_at value n)
+parts_fit : (value : Reader Asked Tree) → ValueFits value → (n : ℕ) → ListFits (parts_at value n)
 unfolding parts_at
 parts_fit value fits zero text ts rest e = absurd cc
 parts_fit value fits (suc n) text ts rest e =
@@ -208,28 +158,28 @@ parts_fit value fits (suc n) text ts rest e =
     on us true after h more = subst (λ (vs : List Tree). HaveRanges (trees vs)) (ap (λ (x : List Tree × List ℕ). x.0) (ok_is {A = List Tree × List ℕ} ([], after) (us, rest) h)) tt
     on us false after h more = more h
 
-simple : {A : Type 0} (f : A → Tree) (reader : Reader A) (text : List ℕ) (t : Tree) (rest : List ℕ) → ((x : A) → reader text ≡ Ok (x, rest) → HasRanges (f x)) → read_map f (reader text) ≡ Ok (t, rest) → HasRanges t
+simple : {A : Type 0} (f : A → Tree) (reader : Reader Asked A) (text : List ℕ) (t : Tree) (rest : List ℕ) → ((x : A) → reader text ≡ Ok (x, rest) → HasRanges (f x)) → read_map f (reader text) ≡ Ok (t, rest) → HasRanges t
 simple f reader text t rest fits e = let m = mapped f (reader text) t rest e in subst HasRanges m.2 (fits m.0 m.1)
 
-content_fits : (list : Reader (List Tree)) → ListFits list → (k : Kind) → ValueFits (content_at list k)
+content_fits : (list : Reader Asked (List Tree)) → ListFits list → (k : Kind) → ValueFits (content_at list k)
 unfolding content_at
 content_fits list fits NullData text t rest e = subst HasRanges (ap (λ (x : Tree × List ℕ). x.0) (ok_is {A = Tree × List ℕ} (null_data, text) (t, rest) e)) tt
 content_fits list fits Array text t rest e = simple (λ ts. array (trees ts)) list text t rest (λ x h. fits text x rest h) e
 content_fits list fits Structure text t rest e = simple (λ ts. structure (trees ts)) list text t rest (λ x h. fits text x rest h) e
 content_fits list fits Boolean text t rest e = simple boolean truth_at text t rest (λ x h. tt) e
-content_fits list fits DoubleLong text t rest e = simple double_long (signed_at (2 ^ 31)) text t rest (λ x h. fits32 x (signed_low (2 ^ 31) x text rest (omega arith) h)) e
-content_fits list fits DoubleLongUnsigned text t rest e = simple double_long_unsigned (unsigned_at (2 ^ 32 - 1)) text t rest (λ x h. let low = unsigned_low (2 ^ 32 - 1) x text rest h in omega arith) e
+content_fits list fits DoubleLong text t rest e = simple double_long (signed_at asked.Number (2 ^ 31)) text t rest (λ x h. fits32 x (signed_low asked.Number (2 ^ 31) x text rest (omega arith) h)) e
+content_fits list fits DoubleLongUnsigned text t rest e = simple double_long_unsigned (unsigned_at asked.Number (2 ^ 32 - 1)) text t rest (λ x h. let low = unsigned_low asked.Number (2 ^ 32 - 1) x text rest h in omega arith) e
 content_fits list fits OctetString text t rest e = simple octet_string octets_at text t rest (λ x h. octets_low text x rest h) e
 content_fits list fits VisibleString text t rest e = simple visible_string quoted_at text t rest (λ x h. quoted_low text x rest h) e
-content_fits list fits Integer text t rest e = simple integer (signed_at (2 ^ 7)) text t rest (λ x h. fits8 x (signed_low (2 ^ 7) x text rest (omega arith) h)) e
-content_fits list fits Long text t rest e = simple long (signed_at (2 ^ 15)) text t rest (λ x h. fits16 x (signed_low (2 ^ 15) x text rest (omega arith) h)) e
-content_fits list fits Unsigned text t rest e = simple unsigned (unsigned_at (2 ^ 8 - 1)) text t rest (λ x h. let low = unsigned_low (2 ^ 8 - 1) x text rest h in omega arith) e
-content_fits list fits LongUnsigned text t rest e = simple long_unsigned (unsigned_at (2 ^ 16 - 1)) text t rest (λ x h. let low = unsigned_low (2 ^ 16 - 1) x text rest h in omega arith) e
-content_fits list fits Long64 text t rest e = simple long64 (signed_at (2 ^ 63)) text t rest (λ x h. fits64 x (signed_low (2 ^ 63) x text rest (omega arith) h)) e
-content_fits list fits Long64Unsigned text t rest e = simple long64_unsigned (unsigned_at (2 ^ 64 - 1)) text t rest (λ x h. let low = unsigned_low (2 ^ 64 - 1) x text rest h in omega arith) e
-content_fits list fits Enumerated text t rest e = simple enumerated (unsigned_at (2 ^ 8 - 1)) text t rest (λ x h. let low = unsigned_low (2 ^ 8 - 1) x text rest h in omega arith) e
+content_fits list fits Integer text t rest e = simple integer (signed_at asked.Number (2 ^ 7)) text t rest (λ x h. fits8 x (signed_low asked.Number (2 ^ 7) x text rest (omega arith) h)) e
+content_fits list fits Long text t rest e = simple long (signed_at asked.Number (2 ^ 15)) text t rest (λ x h. fits16 x (signed_low asked.Number (2 ^ 15) x text rest (omega arith) h)) e
+content_fits list fits Unsigned text t rest e = simple unsigned (unsigned_at asked.Number (2 ^ 8 - 1)) text t rest (λ x h. let low = unsigned_low asked.Number (2 ^ 8 - 1) x text rest h in omega arith) e
+content_fits list fits LongUnsigned text t rest e = simple long_unsigned (unsigned_at asked.Number (2 ^ 16 - 1)) text t rest (λ x h. let low = unsigned_low asked.Number (2 ^ 16 - 1) x text rest h in omega arith) e
+content_fits list fits Long64 text t rest e = simple long64 (signed_at asked.Number (2 ^ 63)) text t rest (λ x h. fits64 x (signed_low asked.Number (2 ^ 63) x text rest (omega arith) h)) e
+content_fits list fits Long64Unsigned text t rest e = simple long64_unsigned (unsigned_at asked.Number (2 ^ 64 - 1)) text t rest (λ x h. let low = unsigned_low asked.Number (2 ^ 64 - 1) x text rest h in omega arith) e
+content_fits list fits Enumerated text t rest e = simple enumerated (unsigned_at asked.Number (2 ^ 8 - 1)) text t rest (λ x h. let low = unsigned_low asked.Number (2 ^ 8 - 1) x text rest h in omega arith) e
 
-value_fits : (list : Reader (List Tree)) → ListFits list → ValueFits (value_with list)
+value_fits : (list : Reader Asked (List Tree)) → ListFits list → ValueFits (value_with list)
 value_fits list fits text t rest e =
     let b = bind_ok (kind_at text) (λ kind. content_at list kind.0 kind.1) (t, rest) e in
     content_fits list fits b.0.0 b.0.1 t rest b.2
@@ -245,7 +195,7 @@ list_fits (suc d) text ts rest e =
     on left (Some after) h fits = subst (λ (us : List Tree). HaveRanges (trees us)) (ap (λ (x : List Tree × List ℕ). x.0) (ok_is {A = List Tree × List ℕ} ([], after) (ts, rest) h)) tt
     on left None h fits = parts_fit (value_with (list_at d)) fits (length left) left ts rest h
 
-placed_ok : {A : Type 0} (size : ℕ) (reader : Reader A) (text : List ℕ) (x : A × List ℕ) → placed size (reader text) ≡ Ok x → reader text ≡ Ok x
+placed_ok : {A : Type 0} (size : ℕ) (reader : Reader Asked A) (text : List ℕ) (x : A × List ℕ) → placed size (reader text) ≡ Ok x → reader text ≡ Ok x
 placed_ok {A} size reader text x e = elim (reader text) as (λ r. placed size r ≡ Ok x → r ≡ Ok x) [ Ok y ↦ λ h. grind arith | Err d ↦ λ h. grind arith ] e
 
 pub read_in_range : (text : List ℕ) (t : Tree) (rest : List ℕ) → value_at 16 text ≡ Ok (t, rest) → HasRanges t

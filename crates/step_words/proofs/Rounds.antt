@@ -14,21 +14,23 @@ use Rattle.cosem_axdr.specs.declared.fault.ReadFault.{ReadFault}
 use Rattle.cosem_axdr.proofs.Prefixes.{written_is_read}
 use Rattle.value_text.specs.Texts.{bytes_in, value_in, whole}
 use Rattle.value_words.specs.Words.{value_words}
+use Rattle.value_words.specs.declared.stop.Stop.{Stop}
+use Rattle.value_words.specs.declared.stop.Stop.TheVariants as stop
+use Rattle.value_words.specs.Stopping.{◌>>=◌, stops}
 use Rattle.value_words.specs.WordReading.{digit_value}
-use Rattle.value_words.proofs.Steps.{chosen}
+use Rattle.value_words.proofs.Steps.{bind_ok, done, ok_is, chosen}
 use Rattle.value_words.proofs.Octets.{digit_again}
+use Rattle.step_words.specs.declared.fault.Asked.{Asked}
 use Rattle.step_words.specs.declared.fault.Asked.TheVariants as asked
 use Rattle.step_words.specs.declared.head.Head.{Head}
 use Rattle.step_words.specs.declared.head.Head.TheVariants.{Input, Client, NamedTick, Whole}
-use Rattle.step_words.specs.declared.stop.Stop.{Stop}
-use Rattle.step_words.specs.declared.stop.Stop.TheVariants as stop
 use Rattle.step_words.specs.declared.texts.Way.TheVariants.{Encode, Decode}
-use Rattle.step_words.specs.Parts.{◌>>=◌, stops, ended, value_at}
+use Rattle.step_words.specs.Parts.{ended, value_at}
 use Rattle.step_words.specs.RequestReading.{asked_bytes}
 use Rattle.step_words.specs.StepLines.{seconds_in, head_at, up_to, or_seconds, no_seconds, hex_at, encoded_step, ask_words, ask_step, input_step, words_at, decoded_step}
 use Rattle.step_words.specs.Texts.{spared, with_return, ends_in_return, made_of, line_at}
 use Rattle.step_words.proofs.Ranges.{AreBytes}
-use Rattle.step_words.proofs.Stops.{bind_ok, done, ok_is, ended_ok}
+use Rattle.step_words.proofs.Stops.{ended_ok}
 use Rattle.step_words.proofs.Bytes.{each_byte, canonical_bytes}
 use Rattle.step_words.proofs.Given.{value_takes}
 use Rattle.step_words.proofs.Asks.{asked_takes}
@@ -101,7 +103,7 @@ client_hex text hex e =
       tt,
     )
 
-seconds_ok : (r : Result (List ℕ) Stop) (bytes : List ℕ) → or_seconds r ≡ Ok bytes → r ≡ Ok bytes
+seconds_ok : (r : Result (List ℕ) (Stop Asked)) (bytes : List ℕ) → or_seconds r ≡ Ok bytes → r ≡ Ok bytes
 seconds_ok (Ok x) bytes e = e
 seconds_ok (Err stop.Memory) bytes e = absurd cc
 seconds_ok (Err (stop.At left asked.Service)) bytes e = absurd cc
@@ -150,8 +152,8 @@ record IsStep (text made : List ℕ) : Type 0 where
 front_again : (h : Head) (first rest hex : List ℕ) → head_at (first ++ hex) ≡ Ok (h, hex) → words_at h hex ≡ Ok rest → decoded_step (first ++ hex) ≡ Ok (first ++ rest)
 unfolding decoded_step
 front_again h first rest hex read made =
-    ap (λ (r : Result (Head × List ℕ) Stop). r >>= λ head. words_at head.0 head.1 >>= λ words. Ok (up_to (first ++ hex) head.1 ++ words)) read
-    ∙ ap (λ (r : Result (List ℕ) Stop). r >>= λ words. Ok (up_to (first ++ hex) hex ++ words)) made
+    ap (λ (r : Result (Head × List ℕ) (Stop Asked)). r >>= λ head. words_at head.0 head.1 >>= λ words. Ok (up_to (first ++ hex) head.1 ++ words)) read
+    ∙ ap (λ (r : Result (List ℕ) (Stop Asked)). r >>= λ words. Ok (up_to (first ++ hex) hex ++ words)) made
     ∙ ap (λ (s : List ℕ). done (s ++ rest)) (up_to_front first hex)
 
 step_takes : (text made : List ℕ) → encoded_step text ≡ Ok made → IsStep text made
@@ -178,7 +180,7 @@ step_takes text made e =
 
 -- ---- lines
 
-returned : (text : List ℕ) (r : Result (List ℕ) Stop) (x : List ℕ) → with_return text r ≡ Ok x → r ≡ Ok x
+returned : (text : List ℕ) (r : Result (List ℕ) (Stop Asked)) (x : List ℕ) → with_return text r ≡ Ok x → r ≡ Ok x
 returned text (Ok y) x e = e
 returned text (Err stop.Memory) x e = absurd cc
 returned text (Err (stop.At left what)) x e =
@@ -203,7 +205,7 @@ line_again : (c : ℕ) (text made : List ℕ) (first hex : List ℕ) → eqb c 3
 line_again c text made first hex other is again =
     ap (line_at Decode) is
     ∙ ap (λ (b : Bool). cond b (Ok ((c ∷ first) ++ hex)) (with_return ((c ∷ first) ++ hex) (made_of Decode ((c ∷ first) ++ hex)))) other
-    ∙ ap (λ (r : Result (List ℕ) Stop). with_return ((c ∷ first) ++ hex) (spared ((c ∷ first) ++ hex) r)) (ap decoded_step (sym is) ∙ again)
+    ∙ ap (λ (r : Result (List ℕ) (Stop Asked)). with_return ((c ∷ first) ++ hex) (spared ((c ∷ first) ++ hex) r)) (ap decoded_step (sym is) ∙ again)
 
 made_line : (c : ℕ) (text made first rest hex : List ℕ) → eqb c 35 ≡ false → IsLine (c ∷ text) → c ∷ text ≡ first ++ rest → made ≡ first ++ hex → 0 < length first → IsLine hex → decoded_step made ≡ Ok (c ∷ text) → IsMade (c ∷ text) made
 made_line c text made [] rest hex other line is made_is some in_line again = absurd (omega arith)

@@ -7,8 +7,9 @@ use Rattle.cosem_data.specs.declared.data.Data.{Data}
 use Rattle.cosem_axdr.specs.Canonical.{canonical}
 use Rattle.cosem_axdr.proofs.Room.{small_has_lengths}
 use Rattle.object_model.specs.declared.argument.Argument.TheVariants.{Value}
+use Rattle.value_words.specs.Stopping.{◌>>=◌}
 use Rattle.value_words.specs.WordReading as words
-use Rattle.step_words.specs.Parts.{◌>>=◌, can_be_sent, CanBeSent, value_at}
+use Rattle.step_words.specs.Parts.{can_be_sent, CanBeSent, value_at}
 use Rattle.step_words.specs.RequestReading.{argument_at}
 use Rattle.step_words.proofs.Ranges.{read_in_range}
 

@@ -2,27 +2,21 @@
 use Rattle.std.proofs.Common.{◌≡◌, ℕ, suc, ◌+◌, ◌<◌, Bool, true, false, cond, eqb, List, [], ◌∷◌, ◌++◌, length, Result, Ok, Err, refl, sym, ap, subst, ◌∙◌, arith}
 use Rattle.std.specs.List.{AllByRecursion, onto_first, join_with_byte}
 use Rattle.std.proofs.lemmas.List.Splits.{join_with_byte-slice_split}
+use Rattle.value_words.specs.declared.stop.Stop.{Stop}
+use Rattle.value_words.specs.declared.stop.Stop.TheVariants as stop
+use Rattle.value_words.specs.Stopping.{◌>>=◌}
+use Rattle.value_words.proofs.Steps.{bind_ok, done, ok_is}
+use Rattle.step_words.specs.declared.fault.Asked.{Asked}
 use Rattle.step_words.specs.declared.fault.TextFault.{TextFault}
-use Rattle.step_words.specs.declared.stop.Stop.{Stop}
-use Rattle.step_words.specs.declared.stop.Stop.TheVariants as stop
 use Rattle.step_words.specs.declared.texts.Way.TheVariants.{Encode, Decode}
-use Rattle.step_words.specs.Texts.{◌>>=◌, placed, line_at, lines_at, encoded, decoded}
+use Rattle.step_words.specs.Texts.{placed, line_at, lines_at, encoded, decoded}
 use Rattle.step_words.specs.TextLaws.{EncodedIsDecoded}
 use Rattle.step_words.proofs.Lines.{lines_of, some_line}
 use Rattle.step_words.proofs.Rounds.{IsLine, line_takes}
 
-bind_ok : {A B : Type 0} (r : Result A TextFault) (f : A → Result B TextFault) (y : B) → (r >>= f) ≡ Ok y → (x : A) × (r ≡ Ok x) × (f x ≡ Ok y)
-bind_ok (Ok x) f y e = (x, refl, e)
-bind_ok (Err d) f y e = absurd cc
-
-abbrev done : {A : Type 0} → A → Result A TextFault
-done x = Ok x
-
-ok_is : {A : Type 0} (x y : A) → done x ≡ done y → x ≡ y
-ok_is x y e = cc
-
-placed_ok : (number size : ℕ) (r : Result (List ℕ) Stop) (x : List ℕ) → placed number size r ≡ Ok x → r ≡ Ok x
-placed_ok number size (Ok y) x e = ap (λ (z : List ℕ). let r : Result (List ℕ) Stop = Ok z in r) (ok_is y x e)
+-- a line of which something was made
+placed_ok : (number size : ℕ) (r : Result (List ℕ) (Stop Asked)) (x : List ℕ) → placed number size r ≡ Ok x → r ≡ Ok x
+placed_ok number size (Ok y) x e = ap (λ (z : List ℕ). let r : Result (List ℕ) (Stop Asked) = Ok z in r) (ok_is y x e)
 placed_ok number size (Err stop.Memory) x e = absurd cc
 placed_ok number size (Err (stop.At left what)) x e = absurd cc
 
@@ -83,7 +77,7 @@ lines_take number (line ∷ lines) made h e =
     subst (AreMade number (line ∷ lines)) (ok_is (a.0 ∷ b.0) made b.2)
     (record {
       again =
-          ap (λ (r : Result (List ℕ) Stop). placed number (length a.0) r >>= λ first. lines_at Decode (number + 1) b.0 >>= λ others. Ok (first ∷ others)) one.0
+          ap (λ (r : Result (List ℕ) (Stop Asked)). placed number (length a.0) r >>= λ first. lines_at Decode (number + 1) b.0 >>= λ others. Ok (first ∷ others)) one.0
           ∙ ap (λ (r : Result (List (List ℕ)) TextFault). r >>= λ others. Ok (line ∷ others)) more.again;
       are_lines = (one.1, more.are_lines);
       as_many = ap suc more.as_many;

@@ -3,9 +3,10 @@ use Rattle.std.specs.Prelude.{ℕ, ◌==◌, List, [], ◌∷◌, ◌++◌, leng
 use Rattle.cosem_axdr.specs.Reading.{data_at}
 use Rattle.value_text.specs.Texts.{bytes_in, whole}
 use Rattle.value_words.specs.Words.{value_words}
+use Rattle.value_words.specs.declared.stop.Stop.{Stop}
+use Rattle.value_words.specs.Stopping.{stops}
+use Rattle.step_words.specs.declared.fault.Asked.{Asked}
 use Rattle.step_words.specs.declared.fault.Asked.TheVariants as asked
-use Rattle.step_words.specs.declared.stop.Stop.{Stop}
-use Rattle.step_words.specs.Parts.{stops}
 use Rattle.step_words.specs.RequestWords.{apdu_words, invoke_words}
 
 -- a result and its number (IEC 62056-5-3, Data-Access-Result)
@@ -87,10 +88,10 @@ abbrev pub reply_words : List ℕ → List ℕ
 reply_words bytes = unwrap_or (response_words bytes) (apdu_words bytes)
 
 -- the words of a reply in hex digits, if it has a byte (own profile)
-abbrev pub reply_step : List ℕ → Option (List ℕ) → Result (List ℕ) Stop
+abbrev pub reply_step : List ℕ → Option (List ℕ) → Result (List ℕ) (Stop Asked)
 reply_step text (Some (b ∷ bytes)) = Ok (reply_words (b ∷ bytes))
 reply_step text _ = stops asked.HexDigits text
 
 -- the words of a reply in hex (own profile)
-unfoldable pub decoded_reply : List ℕ → Result (List ℕ) Stop
+unfoldable pub decoded_reply : List ℕ → Result (List ℕ) (Stop Asked)
 decoded_reply text = reply_step text (bytes_in text)

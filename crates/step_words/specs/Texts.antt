@@ -3,14 +3,15 @@ use Rattle.std.specs.Prelude.{◌≡◌, ℕ, ◌+◌, ◌-◌, ◌==◌, ◌||�
 use Rattle.std.specs.Char.{is_ascii_digit}
 use Rattle.std.specs.List.{slice_split, join_with_byte, list_any}
 use Rattle.std.specs.Str.{bytes_eq}
-use Rattle.value_words.specs.WordReading.{behind, past}
+use Rattle.value_words.specs.declared.stop.Stop.{Stop}
+use Rattle.value_words.specs.declared.stop.Stop.TheVariants as stop
+use Rattle.value_words.specs.Stopping.{◌>>=◌, behind, past}
+use Rattle.step_words.specs.declared.fault.Asked.{Asked}
 use Rattle.step_words.specs.declared.fault.Asked.TheVariants as asked
 use Rattle.step_words.specs.declared.fault.TextFault.{TextFault}
 use Rattle.step_words.specs.declared.fault.TextFault.TheVariants as faults
 use Rattle.step_words.specs.declared.texts.Way.{Way}
 use Rattle.step_words.specs.declared.texts.Way.TheVariants.{Encode, Decode}
-use Rattle.step_words.specs.declared.stop.Stop.{Stop}
-use Rattle.step_words.specs.declared.stop.Stop.TheVariants as stop
 use Rattle.step_words.specs.StepLines.{encoded_step, decoded_step}
 use Rattle.step_words.specs.ReplyWords.{decoded_reply}
 
@@ -26,7 +27,7 @@ abbrev pub is_told : List ℕ → Bool
 is_told text = is_some (behind (codes "config C") text) || unreadable_step (behind (codes "line ") text)
 
 -- a line that is no step line in hex stands as it is if a run tells it; without a space it is a reply (own profile)
-abbrev pub spared : List ℕ → Result (List ℕ) Stop → Result (List ℕ) Stop
+abbrev pub spared : List ℕ → Result (List ℕ) (Stop Asked) → Result (List ℕ) (Stop Asked)
 spared text (Ok words) = Ok words
 spared text (Err stop.Memory) = Err stop.Memory
 spared text (Err (stop.At left what)) =
@@ -35,7 +36,7 @@ spared text (Err (stop.At left what)) =
     else decoded_reply text
 
 -- what is made of a line that says something (own profile)
-abbrev pub made_of : Way → List ℕ → Result (List ℕ) Stop
+abbrev pub made_of : Way → List ℕ → Result (List ℕ) (Stop Asked)
 made_of Encode text = encoded_step text
 made_of Decode text = spared text (decoded_step text)
 
@@ -49,25 +50,19 @@ abbrev pub ends_in_return : List ℕ → Bool
 ends_in_return text = is_return (slice_get text (length text - 1))
 
 -- where such a byte ends a line of which nothing is made, that is the fault (own profile)
-abbrev pub with_return : List ℕ → Result (List ℕ) Stop → Result (List ℕ) Stop
+abbrev pub with_return : List ℕ → Result (List ℕ) (Stop Asked) → Result (List ℕ) (Stop Asked)
 with_return text (Err (stop.At left what)) = if ends_in_return text then Err (stop.At 1 asked.Newline) else Err (stop.At left what)
 with_return text made = made
 
 -- what is made of a line; an empty one and one that begins with `#` stand as they are (own profile)
-abbrev pub line_at : Way → List ℕ → Result (List ℕ) Stop
+abbrev pub line_at : Way → List ℕ → Result (List ℕ) (Stop Asked)
 line_at way [] = Ok []
 line_at way (c ∷ text) = if c == 35 then Ok (c ∷ text) else with_return (c ∷ text) (made_of way (c ∷ text))
 
 -- Texts
 
--- the next step, unless there is a fault (own profile)
-infixl 10 ◌>>=◌
-abbrev pub ◌>>=◌ : {A B : Type 0} → Result A TextFault → (A → Result B TextFault) → Result B TextFault
-(Ok x) >>= f = f x
-(Err e) >>= f = Err e
-
 -- a stop in the line with this number that is so long, by its place from the front, from 1 (own profile)
-abbrev pub placed : ℕ → ℕ → Result (List ℕ) Stop → Result (List ℕ) TextFault
+abbrev pub placed : ℕ → ℕ → Result (List ℕ) (Stop Asked) → Result (List ℕ) TextFault
 placed number size (Ok x) = Ok x
 placed number size (Err stop.Memory) = Err faults.Memory
 placed number size (Err (stop.At left what)) = Err (faults.At number (size - left + 1) what)

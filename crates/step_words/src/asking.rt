@@ -3,16 +3,13 @@ ghost use Rattle.std.specs.Prelude.{◌≡◌, ◌≤◌, ◌<◌, IfOk, IfSome,
 ghost use Rattle.cosem_data.specs.View.{tree, data_of};
 ghost use Rattle.class_profile.specs.SelectionView.{descriptor_view};
 ghost use Rattle.xdlms_services.specs.Requests.{IsWritableValue, IsWritableParameter, IsDescriptorInRange, IsArgumentInRange, CanAsk, request_bytes};
-ghost use Rattle.step_words.specs.Parts.{Reads};
+ghost use Rattle.value_words.specs.Stopping.{Reads};
 ghost use Rattle.step_words.specs.RequestReading as spec;
 
 use crate::fault::Asked;
-use crate::marks::{behind, end_of, mark_of};
-use crate::numbers::{index_of, number_in, number_of};
-use crate::parts::{name_of, value_of};
+use crate::parts::{end_of, name_of, value_of};
 use crate::requests::{BY_ENTRY, USUAL_INVOKE, request_words};
 use crate::runs::{Run, run_of};
-use crate::stop::{Stop, stop_at};
 use class_profile::selection::EntryDescriptor;
 use cosem_data::data::{Data, Items};
 use cosem_data::memory::Memory;
@@ -20,50 +17,53 @@ use hex::FromHexError;
 use meter_theory::refs::Descriptor;
 use object_model::argument::Argument;
 use std::alloc::Global;
+use value_words::marks::{behind, mark_of};
+use value_words::numbers::{number_in, signed_of, unsigned_of};
+use value_words::stop::{Stop, stop_at};
 use xdlms_services::{ApduFault, Request, read_apdu, write_request};
 
 /// Class, logical name and index.
 #[tactic(auto, unfolding(crate::specs::RequestReading::descriptor_at))]
-fn descriptor_of(text: &[u8]) -> Result<(Descriptor, &[u8]), Stop>
+fn descriptor_of(text: &[u8]) -> Result<(Descriptor, &[u8]), Stop<Asked>>
     ensures read { Reads (λ x. (x.0, x.1.now)) result (spec.descriptor_at text.now) }
     ensures ranges { IfOk result (λ x. IsDescriptorInRange x.0) }
 {
-    let (class_id, rest) = number_of(Asked::Class, 65_535, text)?;
+    let (class_id, rest) = unsigned_of(Asked::Class, 65_535, text)?;
     let rest = mark_of(Asked::Slash, b"/", rest)?;
     let (name, rest) = name_of(rest)?;
     let rest = mark_of(Asked::Slash, b"/", rest)?;
-    let (index, rest) = index_of(rest)?;
+    let (index, rest) = signed_of(Asked::Index, 128, rest)?;
     let named = Descriptor {
         class_id: class_id as u16,
         name,
-        index,
+        index: index as i8,
     };
     Ok((named, rest))
 }
 
 /// Two numbers up to the most, with two dots between them.
 #[tactic(auto, unfolding(crate::specs::RequestReading::pair_at))]
-fn pair_of(asked: Asked, most: u32, text: &[u8]) -> Result<((u32, u32), &[u8]), Stop>
+fn pair_of(asked: Asked, most: u64, text: &[u8]) -> Result<((u64, u64), &[u8]), Stop<Asked>>
     ensures read { Reads (λ x. (x.0, x.1.now)) result (spec.pair_at asked most text.now) }
     ensures most { IfOk result (λ x. (x.0.0 ≤ most) × (x.0.1 ≤ most)) }
 {
-    let (from, rest) = number_of(asked, most, text)?;
+    let (from, rest) = unsigned_of(asked, most, text)?;
     let rest = mark_of(Asked::Dots, b"..", rest)?;
-    let (to, rest) = number_of(asked, most, rest)?;
+    let (to, rest) = unsigned_of(asked, most, rest)?;
     Ok(((from, to), rest))
 }
 
 /// Entries and columns.
 #[tactic(auto, unfolding(crate::specs::RequestReading::entries_at))]
-fn entries_of(text: &[u8]) -> Result<(EntryDescriptor, &[u8]), Stop>
+fn entries_of(text: &[u8]) -> Result<(EntryDescriptor, &[u8]), Stop<Asked>>
     ensures { Reads (λ x. (descriptor_view x.0, x.1.now)) result (spec.entries_at text.now) }
 {
-    let ((from_entry, to_entry), rest) = pair_of(Asked::Entry, u32::MAX, text)?;
+    let ((from_entry, to_entry), rest) = pair_of(Asked::Entry, u64::from(u32::MAX), text)?;
     let rest = mark_of(Asked::Columns, b" columns ", rest)?;
     let ((from_column, to_column), rest) = pair_of(Asked::Column, 65_535, rest)?;
     let entries = EntryDescriptor {
-        from_entry,
-        to_entry,
+        from_entry: from_entry as u32,
+        to_entry: to_entry as u32,
         from_selected_value: from_column as u16,
         to_selected_value: to_column as u16,
     };
@@ -86,7 +86,7 @@ fn parameter_of(alloc: Global, entries: EntryDescriptor) -> Result<Argument, Mem
 
 /// A selection by entry, or none.
 #[tactic(auto, unfolding(crate::specs::RequestReading::selection_at))]
-fn selection_of(alloc: Global, text: &[u8]) -> Result<(Option<(u8, Argument)>, &[u8]), Stop>
+fn selection_of(alloc: Global, text: &[u8]) -> Result<(Option<(u8, Argument)>, &[u8]), Stop<Asked>>
     ensures read { Reads (λ x. (x.0, x.1.now)) result (spec.selection_at text.now) }
     ensures writable { IfOk result (λ x. IfSome x.0 (λ s. IsWritableValue s.1)) }
     ensures ranges { IfOk result (λ x. IfSome x.0 (λ s. (s.0 < 256) × IsArgumentInRange s.1)) }
@@ -100,7 +100,7 @@ fn selection_of(alloc: Global, text: &[u8]) -> Result<(Option<(u8, Argument)>, &
 
 /// A value.
 #[tactic(auto, unfolding(crate::specs::RequestReading::argument_at))]
-fn argument_of(alloc: Global, text: &[u8]) -> Result<(Argument, &[u8]), Stop>
+fn argument_of(alloc: Global, text: &[u8]) -> Result<(Argument, &[u8]), Stop<Asked>>
     ensures read { Reads (λ x. (x.0, x.1.now)) result (spec.argument_at text.now) }
     ensures sent { IfOk result (λ x. IsWritableValue x.0 × IsArgumentInRange x.0) }
 {
@@ -110,7 +110,7 @@ fn argument_of(alloc: Global, text: &[u8]) -> Result<(Argument, &[u8]), Stop>
 
 /// A value behind a space.
 #[tactic(auto, unfolding(crate::specs::RequestReading::given_at))]
-fn given_of(alloc: Global, text: &[u8]) -> Result<(Argument, &[u8]), Stop>
+fn given_of(alloc: Global, text: &[u8]) -> Result<(Argument, &[u8]), Stop<Asked>>
     ensures read { Reads (λ x. (x.0, x.1.now)) result (spec.given_at text.now) }
     ensures sent { IfOk result (λ x. IsWritableValue x.0 × IsArgumentInRange x.0) }
 {
@@ -119,7 +119,7 @@ fn given_of(alloc: Global, text: &[u8]) -> Result<(Argument, &[u8]), Stop>
 
 /// A value behind a space, or nothing.
 #[tactic(auto, unfolding(crate::specs::RequestReading::parameter_at))]
-fn given_or_absent(alloc: Global, text: &[u8]) -> Result<(Argument, &[u8]), Stop>
+fn given_or_absent(alloc: Global, text: &[u8]) -> Result<(Argument, &[u8]), Stop<Asked>>
     ensures read { Reads (λ x. (x.0, x.1.now)) result (spec.parameter_at text.now) }
     ensures sent { IfOk result (λ x. IsWritableParameter x.0 × IsArgumentInRange x.0) }
 {
@@ -143,7 +143,7 @@ fn invoke_in(digits: &[u8]) -> Option<u8>
 
 /// The invoke byte at the end of a line.
 #[tactic(auto, unfolding(crate::specs::RequestReading::invoke_at))]
-fn invoke_of(text: &[u8]) -> Result<u8, Stop>
+fn invoke_of(text: &[u8]) -> Result<u8, Stop<Asked>>
     ensures { Reads (λ x. x) result (spec.invoke_at text.now) }
 {
     let Some(rest) = behind(b" invoke ", text) else {
@@ -163,7 +163,7 @@ fn invoke_of(text: &[u8]) -> Result<u8, Stop>
 
 /// A GET, behind its word.
 #[tactic(auto, unfolding(crate::specs::RequestReading::get_at))]
-fn get_of(alloc: Global, text: &[u8]) -> Result<Request, Stop>
+fn get_of(alloc: Global, text: &[u8]) -> Result<Request, Stop<Asked>>
     ensures read { Reads (λ x. x) result (spec.get_at text.now) }
     ensures sent { IfOk result (λ x. CanAsk x) }
 {
@@ -179,7 +179,7 @@ fn get_of(alloc: Global, text: &[u8]) -> Result<Request, Stop>
 
 /// A SET, behind its word.
 #[tactic(auto, unfolding(crate::specs::RequestReading::set_at))]
-fn set_of(alloc: Global, text: &[u8]) -> Result<Request, Stop>
+fn set_of(alloc: Global, text: &[u8]) -> Result<Request, Stop<Asked>>
     ensures read { Reads (λ x. x) result (spec.set_at text.now) }
     ensures sent { IfOk result (λ x. CanAsk x) }
 {
@@ -196,7 +196,7 @@ fn set_of(alloc: Global, text: &[u8]) -> Result<Request, Stop>
 
 /// An ACTION, behind its word.
 #[tactic(auto, unfolding(crate::specs::RequestReading::act_at))]
-fn act_of(alloc: Global, text: &[u8]) -> Result<Request, Stop>
+fn act_of(alloc: Global, text: &[u8]) -> Result<Request, Stop<Asked>>
     ensures read { Reads (λ x. x) result (spec.act_at text.now) }
     ensures sent { IfOk result (λ x. CanAsk x) }
 {
@@ -224,7 +224,7 @@ pub(crate) fn words_in(alloc: Global, bytes: &[u8]) -> Result<Option<Vec<u8>>, M
 
 /// The bytes that upper-case hex digits are, at least one.
 #[tactic(auto, unfolding(crate::specs::RequestReading::bytes_at))]
-fn bytes_of(alloc: Global, text: &[u8]) -> Result<(Vec<u8>, &[u8]), Stop>
+fn bytes_of(alloc: Global, text: &[u8]) -> Result<(Vec<u8>, &[u8]), Stop<Asked>>
     ensures { Reads (λ x. (x.0.items, x.1.now)) result (spec.bytes_at text.now) }
 {
     let (digits, rest) = run_of(Run::Hex, text);
@@ -240,7 +240,7 @@ fn bytes_of(alloc: Global, text: &[u8]) -> Result<(Vec<u8>, &[u8]), Stop>
 
 /// The bytes of an APDU that has no other words, behind its word.
 #[tactic(auto, unfolding(crate::specs::RequestReading::apdu_at))]
-fn apdu_of(alloc: Global, text: &[u8], digits: &[u8]) -> Result<Vec<u8>, Stop>
+fn apdu_of(alloc: Global, text: &[u8], digits: &[u8]) -> Result<Vec<u8>, Stop<Asked>>
     ensures { Reads (λ x. x.items) result (spec.apdu_at text.now digits.now) }
 {
     let (bytes, rest) = bytes_of(alloc, digits)?;
@@ -263,7 +263,7 @@ fn bytes_of_request(alloc: Global, request: &Request) -> Result<Vec<u8>, Memory>
 
 /// The bytes of what a client asks.
 #[tactic(auto, unfolding(crate::specs::RequestReading::asked_bytes))]
-pub(crate) fn asked_bytes(alloc: Global, text: &[u8]) -> Result<Vec<u8>, Stop>
+pub(crate) fn asked_bytes(alloc: Global, text: &[u8]) -> Result<Vec<u8>, Stop<Asked>>
     ensures { Reads (λ x. x.items) result (spec.asked_bytes text.now) }
 {
     let request = if let Some(rest) = behind(b"get ", text) {

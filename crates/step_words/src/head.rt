@@ -1,17 +1,16 @@
 //! Reading the front of a step line, which words and hex have alike.
 ghost use Rattle.std.specs.Prelude.{◌≡◌, is_some};
-ghost use Rattle.std.specs.List.{list_all};
-ghost use Rattle.meter_theory.specs.ClientNames as names;
-ghost use Rattle.step_words.specs.Parts.{Reads};
+ghost use Rattle.value_words.specs.Stopping.{Reads};
 ghost use Rattle.step_words.specs.StepLines as spec;
 
 use crate::fault::Asked;
-use crate::marks::{end_of, mark_of};
-use crate::numbers::number_in;
-use crate::parts::{moment_of, name_of};
+use crate::parts::{end_of, moment_of, name_of};
 use crate::runs::{Run, run_of};
-use crate::stop::{Stop, stop_at};
-use meter_theory::limits::{NAME_CHARACTERS, TICK_SECONDS};
+use meter_theory::limits::TICK_SECONDS;
+use value_text::client_name::is_client_name;
+use value_words::marks::mark_of;
+use value_words::numbers::number_in;
+use value_words::stop::{Stop, stop_at};
 
 /// What stands behind the front of a step line.
 #[derive(Clone, Copy, Debug)]
@@ -35,31 +34,9 @@ const AT: &[u8] = b"at";
 
 const TICK: &[u8] = b"tick";
 
-/// Whether a text has a to z, 0 to 9 and _ alone.
-fn has_name_bytes(text: &[u8]) -> bool
-    ensures { result ≡ list_all names.is_name_byte text.now }
-{
-    text.iter()
-        .all(|byte| matches!(byte, b'a'..=b'z' | b'0'..=b'9' | b'_'))
-}
-
-/// Whether a text is a word that begins a step of the meter itself.
-fn is_step_word(text: &[u8]) -> bool
-    ensures { result ≡ names.is_step_word text.now }
-{
-    text == INPUT || text == AT || text == EVALUATE
-}
-
-/// Whether a client may have this name.
-fn is_client_name(name: &[u8]) -> bool
-    ensures { result ≡ names.is_client_name name.now }
-{
-    1 <= name.len() && name.len() <= NAME_CHARACTERS && has_name_bytes(name) && !is_step_word(name)
-}
-
 /// What stands behind `in`: the name of the input's object.
 #[tactic(auto, unfolding(crate::specs::StepLines::input_at))]
-fn input_of(text: &[u8]) -> Result<(Head, &[u8]), Stop>
+fn input_of(text: &[u8]) -> Result<(Head, &[u8]), Stop<Asked>>
     ensures { Reads (λ x. (x.0, x.1.now)) result (spec.input_at text.now) }
 {
     let rest = mark_of(Asked::Space, b" ", text)?;
@@ -70,7 +47,7 @@ fn input_of(text: &[u8]) -> Result<(Head, &[u8]), Stop>
 
 /// What stands behind `eval`: the name of a register monitor.
 #[tactic(auto, unfolding(crate::specs::StepLines::evaluation_at))]
-fn evaluation_of(text: &[u8]) -> Result<(Head, &[u8]), Stop>
+fn evaluation_of(text: &[u8]) -> Result<(Head, &[u8]), Stop<Asked>>
     ensures { Reads (λ x. (x.0, x.1.now)) result (spec.evaluation_at text.now) }
 {
     let rest = mark_of(Asked::Space, b" ", text)?;
@@ -81,7 +58,7 @@ fn evaluation_of(text: &[u8]) -> Result<(Head, &[u8]), Stop>
 
 /// What stands behind `at`: a moment.
 #[tactic(auto, unfolding(crate::specs::StepLines::offer_at))]
-fn offer_of(text: &[u8]) -> Result<(Head, &[u8]), Stop>
+fn offer_of(text: &[u8]) -> Result<(Head, &[u8]), Stop<Asked>>
     ensures { Reads (λ x. (x.0, x.1.now)) result (spec.offer_at text.now) }
 {
     let rest = mark_of(Asked::Space, b" ", text)?;
@@ -93,7 +70,7 @@ fn offer_of(text: &[u8]) -> Result<(Head, &[u8]), Stop>
 pub(crate) fn is_seconds(text: &[u8]) -> bool
     ensures { result ≡ is_some (spec.seconds_in text.now) }
 {
-    match number_in(u32::from(TICK_SECONDS), text) {
+    match number_in(u64::from(TICK_SECONDS), text) {
         Some(seconds) => seconds >= 1,
         None => false,
     }
@@ -101,7 +78,7 @@ pub(crate) fn is_seconds(text: &[u8]) -> bool
 
 /// What stands behind `tick`: how many seconds pass, or what a client with this name asks.
 #[tactic(auto, unfolding(crate::specs::StepLines::tick_at))]
-fn tick_of(text: &[u8]) -> Result<(Head, &[u8]), Stop>
+fn tick_of(text: &[u8]) -> Result<(Head, &[u8]), Stop<Asked>>
     ensures { Reads (λ x. (x.0, x.1.now)) result (spec.tick_at text.now) }
 {
     let rest = mark_of(Asked::Space, b" ", text)?;
@@ -114,7 +91,7 @@ fn tick_of(text: &[u8]) -> Result<(Head, &[u8]), Stop>
 
 /// What stands behind the name of a client.
 #[tactic(auto, unfolding(crate::specs::StepLines::client_at))]
-fn client_of(text: &[u8]) -> Result<(Head, &[u8]), Stop>
+fn client_of(text: &[u8]) -> Result<(Head, &[u8]), Stop<Asked>>
     ensures { Reads (λ x. (x.0, x.1.now)) result (spec.client_at text.now) }
 {
     Ok((Head::Client, mark_of(Asked::Space, b" ", text)?))
@@ -122,7 +99,7 @@ fn client_of(text: &[u8]) -> Result<(Head, &[u8]), Stop>
 
 /// The front of a step line.
 #[tactic(auto, unfolding(crate::specs::StepLines::head_at))]
-pub(crate) fn head_of(text: &[u8]) -> Result<(Head, &[u8]), Stop>
+pub(crate) fn head_of(text: &[u8]) -> Result<(Head, &[u8]), Stop<Asked>>
     ensures { Reads (λ x. (x.0, x.1.now)) result (spec.head_at text.now) }
 {
     let (word, rest) = run_of(Run::Word, text);

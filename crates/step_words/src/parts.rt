@@ -1,13 +1,13 @@
-//! Reading names, moments and values.
+//! Reading names, moments and values, and the end of a line.
 ghost use Rattle.std.specs.Prelude.{◌≡◌, [], IfOk};
 ghost use Rattle.civil_moment.specs.MomentText as moments;
 ghost use Rattle.cosem_data.specs.View.{tree};
+ghost use Rattle.value_words.specs.Stopping.{Reads};
 ghost use Rattle.step_words.specs.Parts as spec;
-ghost use Rattle.step_words.specs.Parts.{Reads, CanBeSent, name_at, moment_at, value_at};
+ghost use Rattle.step_words.specs.Parts.{CanBeSent, name_at, moment_at, value_at};
 
 use crate::fault::Asked;
 use crate::runs::{Run, run_of};
-use crate::stop::{Stop, stop_at};
 use civil_moment::moment::Moment;
 use cosem_axdr::limits::is_encoded_within;
 use cosem_data::data::Data;
@@ -16,10 +16,11 @@ use std::alloc::Global;
 use value_text::name::name_in;
 use value_words::fault::ValueFault;
 use value_words::reading::read_value;
+use value_words::stop::{Stop, stop_at};
 
 /// A logical name.
 #[tactic(auto, unfolding(crate::specs::Parts::name_at))]
-pub(crate) fn name_of(text: &[u8]) -> Result<(LogicalName, &[u8]), Stop>
+pub(crate) fn name_of(text: &[u8]) -> Result<(LogicalName, &[u8]), Stop<Asked>>
     ensures { Reads (λ x. (x.0, x.1.now)) result (name_at text.now) }
 {
     let (digits, rest) = run_of(Run::Name, text);
@@ -38,7 +39,7 @@ fn moment_in(text: &[u8]) -> Option<Moment>
 
 /// A moment, to the end of the line.
 #[tactic(auto, unfolding(crate::specs::Parts::moment_at))]
-pub(crate) fn moment_of(text: &[u8]) -> Result<Moment, Stop>
+pub(crate) fn moment_of(text: &[u8]) -> Result<Moment, Stop<Asked>>
     ensures { Reads (λ x. (x, [])) result (moment_at text.now) }
 {
     match moment_in(text) {
@@ -56,7 +57,7 @@ fn can_be_sent(value: &Data) -> bool
 
 /// A value in words that can be sent.
 #[tactic(auto, unfolding(crate::specs::Parts::value_at))]
-pub(crate) fn value_of(alloc: Global, text: &[u8]) -> Result<(Data, &[u8]), Stop>
+pub(crate) fn value_of(alloc: Global, text: &[u8]) -> Result<(Data, &[u8]), Stop<Asked>>
     ensures read { Reads (λ x. (tree x.0, x.1.now)) result (value_at text.now) }
     ensures sent { IfOk result (λ x. CanBeSent (tree x.0)) }
 {
@@ -72,5 +73,15 @@ pub(crate) fn value_of(alloc: Global, text: &[u8]) -> Result<(Data, &[u8]), Stop
         Err(ValueFault::At { place, asked }) => {
             Err(Stop::At(text.len() - place, Asked::Value(asked)))
         }
+    }
+}
+
+/// The end of the line, which is asked.
+pub(crate) fn end_of(text: &[u8]) -> Result<(), Stop<Asked>>
+    ensures { Reads (λ x. x) result (spec.ended tt text.now) }
+{
+    match text {
+        [] => Ok(()),
+        [..] => Err(stop_at(text, Asked::End)),
     }
 }

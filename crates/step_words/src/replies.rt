@@ -3,19 +3,19 @@ ghost use Rattle.std.specs.Prelude.{◌≡◌, ◌++◌, IfOk, Ok, OnErr, OnOk, 
 ghost use Rattle.cosem_data.specs.View.{tree};
 ghost use Rattle.cosem_axdr.specs.Reading.{data_at};
 ghost use Rattle.value_text.specs.Texts as texts;
-ghost use Rattle.step_words.specs.Parts.{Reads};
+ghost use Rattle.value_words.specs.Stopping.{Reads};
 ghost use Rattle.step_words.specs.ReplyWords as spec;
 
 use crate::fault::Asked;
 use crate::requests::push_invoke;
 use crate::steps::apdu_words;
-use crate::stop::{Stop, stop_at};
 use cosem_axdr::fault::ReadFault;
 use cosem_axdr::reading::read_data;
 use cosem_data::data::Data;
 use cosem_data::memory::Memory;
 use std::alloc::Global;
 use value_text::value::bytes_in;
+use value_words::stop::{Stop, stop_at};
 use value_words::writing::push_value;
 
 /// The tags of the responses, and of an exception-response.
@@ -236,7 +236,7 @@ pub fn push_reply(alloc: Global, apdu: &[u8], text: &mut Vec<u8>) -> Result<(), 
 
 /// The words of a reply in hex.
 #[tactic(auto, unfolding(crate::specs::ReplyWords::decoded_reply))]
-pub(crate) fn decoded_reply(alloc: Global, text: &[u8]) -> Result<Vec<u8>, Stop>
+pub(crate) fn decoded_reply(alloc: Global, text: &[u8]) -> Result<Vec<u8>, Stop<Asked>>
     ensures { Reads (λ x. x.items) result (spec.decoded_reply text.now) }
 {
     match bytes_in(alloc, text)? {

@@ -1,6 +1,6 @@
 //! The bytes in front of a text that pass a test.
 ghost use Rattle.std.specs.Prelude.{◌≡◌, ◌<◌, not, length, position, IfSome};
-ghost use Rattle.value_words.specs.WordReading.{front, past};
+ghost use Rattle.value_words.specs.Stopping.{front, past};
 ghost use Rattle.step_words.specs.Parts as spec;
 
 /// What a run in front of a text is of.

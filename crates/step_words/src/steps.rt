@@ -4,7 +4,7 @@ ghost use Rattle.std.specs.Result.{result_unwrap_or};
 ghost use Rattle.hex.specs.Hex.{encode_upper};
 ghost use Rattle.cosem_data.specs.View.{tree};
 ghost use Rattle.cosem_axdr.specs.Canonical.{canonical, HasLengths};
-ghost use Rattle.step_words.specs.Parts.{Reads};
+ghost use Rattle.value_words.specs.Stopping.{Reads};
 ghost use Rattle.step_words.specs.RequestReading as reading;
 ghost use Rattle.step_words.specs.RequestWords as requests;
 ghost use Rattle.step_words.specs.StepLines as spec;
@@ -12,14 +12,13 @@ ghost use Rattle.step_words.specs.StepLines as spec;
 use crate::asking::{asked_bytes, words_in};
 use crate::fault::Asked;
 use crate::head::{Head, head_of, is_seconds};
-use crate::marks::end_of;
-use crate::parts::value_of;
-use crate::stop::{Stop, stop_at};
+use crate::parts::{end_of, value_of};
 use cosem_axdr::writing::write_data;
 use cosem_data::data::Data;
 use cosem_data::memory::Memory;
 use std::alloc::Global;
 use value_text::value::{bytes_in, value_in};
+use value_words::stop::{Stop, stop_at};
 use value_words::writing::push_value;
 
 /// The bytes in upper-case hex.
@@ -40,7 +39,7 @@ fn hex_of_value(alloc: Global, value: &Data) -> Result<Vec<u8>, Memory>
 }
 
 /// The bytes of what a client named `tick` asks.
-fn named_tick_bytes(alloc: Global, text: &[u8]) -> Result<Vec<u8>, Stop>
+fn named_tick_bytes(alloc: Global, text: &[u8]) -> Result<Vec<u8>, Stop<Asked>>
     ensures { Reads (λ x. x.items) result (spec.or_seconds (reading.asked_bytes text.now)) }
 {
     match asked_bytes(alloc, text) {
@@ -52,7 +51,7 @@ fn named_tick_bytes(alloc: Global, text: &[u8]) -> Result<Vec<u8>, Stop>
 
 /// The hex digits of what a client named `tick` asks.
 #[tactic(auto, unfolding(crate::specs::StepLines::hex_at))]
-fn hex_of_named_tick(alloc: Global, text: &[u8]) -> Result<Vec<u8>, Stop>
+fn hex_of_named_tick(alloc: Global, text: &[u8]) -> Result<Vec<u8>, Stop<Asked>>
     ensures { Reads (λ x. x.items) result (spec.hex_at Head.NamedTick text.now) }
 {
     let digits = hex_of(alloc, &named_tick_bytes(alloc, text)?)?;
@@ -65,7 +64,7 @@ fn hex_of_named_tick(alloc: Global, text: &[u8]) -> Result<Vec<u8>, Stop>
 
 /// The hex of what stands in words behind the front of a step line.
 #[tactic(auto, unfolding(crate::specs::StepLines::hex_at))]
-fn hex_behind(alloc: Global, head: Head, text: &[u8]) -> Result<Vec<u8>, Stop>
+fn hex_behind(alloc: Global, head: Head, text: &[u8]) -> Result<Vec<u8>, Stop<Asked>>
     ensures { Reads (λ x. x.items) result (spec.hex_at head text.now) }
 {
     match head {
@@ -92,7 +91,7 @@ fn with_rest(alloc: Global, text: &[u8], left: &[u8], rest: &[u8]) -> Result<Vec
 
 /// The step line in hex of a step in words.
 #[tactic(auto, unfolding(crate::specs::StepLines::encoded_step))]
-pub(crate) fn encoded_step(alloc: Global, text: &[u8]) -> Result<Vec<u8>, Stop>
+pub(crate) fn encoded_step(alloc: Global, text: &[u8]) -> Result<Vec<u8>, Stop<Asked>>
     ensures { Reads (λ x. x.items) result (spec.encoded_step text.now) }
 {
     let (head, rest) = head_of(text)?;
@@ -122,7 +121,7 @@ pub(crate) fn apdu_words(alloc: Global, bytes: &[u8]) -> Result<Vec<u8>, Memory>
 
 /// The words of an input in hex digits.
 #[tactic(auto, unfolding(crate::specs::StepLines::words_at))]
-fn input_words(alloc: Global, text: &[u8]) -> Result<Vec<u8>, Stop>
+fn input_words(alloc: Global, text: &[u8]) -> Result<Vec<u8>, Stop<Asked>>
     ensures { Reads (λ x. x.items) result (spec.words_at Head.Input text.now) }
 {
     let Some(value) = value_in(alloc, text)? else {
@@ -135,7 +134,7 @@ fn input_words(alloc: Global, text: &[u8]) -> Result<Vec<u8>, Stop>
 
 /// The words of what a client asks in hex digits.
 #[tactic(auto, unfolding(crate::specs::StepLines::words_at))]
-fn client_words(alloc: Global, text: &[u8]) -> Result<Vec<u8>, Stop>
+fn client_words(alloc: Global, text: &[u8]) -> Result<Vec<u8>, Stop<Asked>>
     ensures { Reads (λ x. x.items) result (spec.words_at Head.Client text.now) }
 {
     match bytes_in(alloc, text)? {
@@ -146,7 +145,7 @@ fn client_words(alloc: Global, text: &[u8]) -> Result<Vec<u8>, Stop>
 
 /// The words of what stands in hex behind the front of a step line.
 #[tactic(auto, unfolding(crate::specs::StepLines::words_at))]
-fn words_behind(alloc: Global, head: Head, text: &[u8]) -> Result<Vec<u8>, Stop>
+fn words_behind(alloc: Global, head: Head, text: &[u8]) -> Result<Vec<u8>, Stop<Asked>>
     ensures { Reads (λ x. x.items) result (spec.words_at head text.now) }
 {
     match head {
@@ -158,7 +157,7 @@ fn words_behind(alloc: Global, head: Head, text: &[u8]) -> Result<Vec<u8>, Stop>
 
 /// The step in words of a step line in hex.
 #[tactic(auto, unfolding(crate::specs::StepLines::decoded_step))]
-pub(crate) fn decoded_step(alloc: Global, text: &[u8]) -> Result<Vec<u8>, Stop>
+pub(crate) fn decoded_step(alloc: Global, text: &[u8]) -> Result<Vec<u8>, Stop<Asked>>
     ensures { Reads (λ x. x.items) result (spec.decoded_step text.now) }
 {
     let (head, rest) = head_of(text)?;

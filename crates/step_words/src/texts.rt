@@ -1,19 +1,19 @@
 //! Whole texts, line by line.
 ghost use Rattle.std.specs.Prelude.{◌≡◌, ◌<◌, ◌==◌, ◌∷◌, [], IfNone, IfOk, IfSome, codes, length, position};
 ghost use Rattle.std.specs.List.{list_any, slice_split};
-ghost use Rattle.value_words.specs.WordReading as words;
-ghost use Rattle.step_words.specs.Parts.{Reads};
+ghost use Rattle.value_words.specs.Stopping as words;
+ghost use Rattle.value_words.specs.Stopping.{Reads};
 ghost use Rattle.step_words.specs.Texts as spec;
 ghost use Rattle.step_words.specs.Texts.{Gives, encoded, decoded};
 
 use crate::fault::{Asked, TextFault};
-use crate::marks::behind;
 use crate::replies::decoded_reply;
 use crate::runs::{Run, run_of};
 use crate::steps::{decoded_step, encoded_step};
-use crate::stop::Stop;
 use cosem_data::memory::Memory;
 use std::alloc::Global;
+use value_words::marks::behind;
+use value_words::stop::Stop;
 
 /// Which way a text is translated.
 #[derive(Clone, Copy, Debug)]
@@ -66,7 +66,7 @@ fn has_space(text: &[u8]) -> bool
 }
 
 /// The words of a line in hex.
-fn words_of(alloc: Global, text: &[u8]) -> Result<Vec<u8>, Stop>
+fn words_of(alloc: Global, text: &[u8]) -> Result<Vec<u8>, Stop<Asked>>
     ensures { Reads (λ x. x.items) result (spec.made_of Way.Decode text.now) }
 {
     match decoded_step(alloc, text) {
@@ -84,7 +84,7 @@ fn words_of(alloc: Global, text: &[u8]) -> Result<Vec<u8>, Stop>
 }
 
 /// What is made of a line that says something.
-fn made_of(alloc: Global, way: Way, text: &[u8]) -> Result<Vec<u8>, Stop>
+fn made_of(alloc: Global, way: Way, text: &[u8]) -> Result<Vec<u8>, Stop<Asked>>
     ensures { Reads (λ x. x.items) result (spec.made_of way text.now) }
 {
     match way {
@@ -104,7 +104,7 @@ fn ends_in_return(text: &[u8]) -> bool
 }
 
 /// What is made of a line.
-fn line_of(alloc: Global, way: Way, text: &[u8]) -> Result<Vec<u8>, Stop>
+fn line_of(alloc: Global, way: Way, text: &[u8]) -> Result<Vec<u8>, Stop<Asked>>
     ensures { Reads (λ x. x.items) result (spec.line_at way text.now) }
 {
     let Some((first, _)) = text.split_first() else {

@@ -1,6 +1,8 @@
-//! Names, bytes and values as texts: words of lines and texts of configurations (own profile).
+//! Names, bytes, values, cells and edges as texts: words of lines and texts of configurations (own profile).
 #![tactic(auto)]
 
 pub mod cell;
+pub mod client_name;
+pub mod edge;
 pub mod name;
 pub mod value;

@@ -3,8 +3,7 @@ use Rattle.std.proofs.Common.{◌≡◌, ℕ, Bool, true, false, cond, eqb, List
 use Rattle.std.specs.Prelude.{◌≢◌, MatchOption}
 use Rattle.std.specs.Borrow.{Bor}
 use Rattle.std.proofs.lemmas.Bool.{eqb-true, eq-eqb}
-use Rattle.value_words.specs.declared.fault.Asked.{Asked}
-use Rattle.value_words.specs.WordReading.{behind, mark_at, mark_step}
+use Rattle.value_words.specs.Stopping.{behind, mark_at, mark_step}
 
 -- what stands behind bytes is found
 pub behind-again : (word text : List ℕ) → behind word (word ++ text) ≡ Some text
@@ -34,7 +33,7 @@ behind-is word text None h = sym (behind-none word text h)
 behind-is word text (Some x) h = sym (ap (behind word) h ∙ behind-again word x.now)
 
 -- what was asked stands there
-pub mark_takes : (what : Asked) (word text rest : List ℕ) → mark_at what word text ≡ Ok rest → text ≡ word ++ rest
+pub mark_takes : {Q : Type 0} (what : Q) (word text rest : List ℕ) → mark_at what word text ≡ Ok rest → text ≡ word ++ rest
 mark_takes what word text rest e = at (behind word text) refl e
   where
     at : (r : Option (List ℕ)) → behind word text ≡ r → mark_step what text r ≡ Ok rest → text ≡ word ++ rest

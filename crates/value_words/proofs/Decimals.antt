@@ -1,5 +1,5 @@
 -- Numbers in decimal are read from their texts, and from no others.
-use Rattle.std.proofs.Common.{◌≡◌, ◌≢◌, ℕ, ℤ, pos, negsuc, zero, suc, ◌+◌, ◌-◌, ◌*◌, ◌/◌, ◌%◌, ◌^◌, ◌<◌, ◌≤◌, Bool, true, false, ◌&&◌, cond, ltb, leb, eqb, List, [], ◌∷◌, ◌++◌, length, get_or, Option, Some, None, Ok, refl, sym, ap, ◌∙◌, append_assoc, arith, inl, inr}
+use Rattle.std.proofs.Common.{◌≡◌, ◌≢◌, ℕ, ℤ, pos, negsuc, zero, suc, ◌+◌, ◌-◌, ◌*◌, ◌/◌, ◌%◌, ◌^◌, ◌<◌, ◌≤◌, Bool, true, false, ◌&&◌, cond, ltb, leb, eqb, List, [], ◌∷◌, ◌++◌, length, get_or, Option, Some, None, Ok, refl, sym, ap, subst, ◌∙◌, append_assoc, arith, inl, inr}
 use Rattle.std.specs.Prelude.{option_and_then}
 use Rattle.std.specs.Char.{is_ascii_digit}
 use Rattle.std.specs.Fmt.{decimal, signed_decimal}
@@ -8,9 +8,9 @@ use Rattle.std.proofs.lemmas.Bool.{cases_lt, ltb-true, eqb-true, eq-eqb, ne_eqb,
 use Rattle.std.proofs.lemmas.Bool.Decides.{nat_tests}
 use Rattle.std.proofs.lemmas.Fmt.{decimal_digit, decimal_step, decimal_by_steps, first_decimal, decimal_nonempty}
 use Rattle.std.proofs.lemmas.List.{append-nil}
-use Rattle.value_words.specs.declared.fault.Asked.TheVariants as asked
-use Rattle.value_words.specs.WordReading.{with_digit, with_digits, number_in, found, front, past, unsigned_at, behind, negative_in, signed_step, signed_at}
-use Rattle.value_words.proofs.Steps.{then_some, some_is, found_ok, mapped, read_again, done}
+use Rattle.value_words.specs.Stopping.{found, front, past, behind}
+use Rattle.value_words.specs.WordReading.{with_digit, with_digits, number_in, unsigned_at, negative_in, signed_step, signed_at}
+use Rattle.value_words.proofs.Steps.{then_some, some_is, chosen, found_ok, mapped, read_again, done}
 use Rattle.value_words.proofs.Behind.{behind-takes}
 use Rattle.value_words.proofs.Runs.{front-past, front-again, past-again, NoneInFront}
 
@@ -87,6 +87,22 @@ number_takes most n (c ∷ text) few e = at (eqb c 48) (ltb 0 (length text)) ref
         let whole : 48 + f.0 ≡ c = omega arith in
         ap (λ (x : ℕ). x ∷ text) (sym whole) ∙ ap (λ (x : List ℕ). x ++ text) (sym (decimal_digit f.0 (omega arith))) ∙ rest
 
+-- digits make no more than the most
+digits_low : (most v n : ℕ) (text : List ℕ) → v ≤ most → with_digits most v text ≡ Some n → n ≤ most
+digits_low most v n [] low e = let is = some_is v n e in omega arith
+digits_low most v n (c ∷ text) low e =
+    let b = then_some (λ more. with_digits most more text) (with_digit most v c) n e in
+    digits_low most b.0 n text (digit_taken most v c b.0 b.1).below b.2
+
+-- the number that is read is no more than the most
+pub number_low : (most n : ℕ) (text : List ℕ) → number_in most text ≡ Some n → n ≤ most
+number_low most n [] e = absurd cc
+number_low most n (c ∷ text) e =
+    elim (chosen (eqb c 48 && ltb 0 (length text)) _ _ (Some n) e) [
+      | inl p ↦ let wrong = p.1 in absurd cc
+      | inr p ↦ digits_low most 0 n (c ∷ text) (omega arith) p.1
+    ]
+
 -- ---- what stands there is read
 
 digit_gives : (most v d : ℕ) → d < 10 → 10 * v + d ≤ most → with_digit most v (48 + d) ≡ Some (10 * v + d)
@@ -149,6 +165,7 @@ number_gives most n (c ∷ text) few low e = at (eqb c 48) (ltb 0 (length text))
 
 -- ---- a number in front of a text
 
+-- each byte of two texts passes, if each of both does
 pub all_append : (p : ℕ → Bool) (s more : List ℕ) → list_all p s ≡ true → list_all p more ≡ true → list_all p (s ++ more) ≡ true
 all_append p [] more h k = k
 all_append p (c ∷ s) more h k = at (p c) h (λ e. all_append p s more e k)
@@ -167,24 +184,37 @@ decimal_digits n low =
     (λ m ds many h. all_append is_ascii_digit ds ((48 + m % 10) ∷ []) h (one_all (48 + m % 10) (grind (arith, nat_tests))))
     n low
 
-pub unsigned_takes : (most : ℕ) (text : List ℕ) (n : ℕ) (rest : List ℕ) → most < 2 ^ 64 → unsigned_at most text ≡ Ok (n, rest) → text ≡ decimal n ++ rest
+-- an unsigned number that is read stands there
+pub unsigned_takes : {Q : Type 0} (what : Q) (most : ℕ) (text : List ℕ) (n : ℕ) (rest : List ℕ) → most < 2 ^ 64 → unsigned_at what most text ≡ Ok (n, rest) → text ≡ decimal n ++ rest
 unfolding unsigned_at
-unsigned_takes most text n rest few e =
-    let f = found_ok asked.Number text (number_in most (front is_ascii_digit text)) (past is_ascii_digit text) n rest e in
+unsigned_takes what most text n rest few e =
+    let f = found_ok what text (number_in most (front is_ascii_digit text)) (past is_ascii_digit text) n rest e in
     sym (front-past is_ascii_digit text)
     ∙ ap (λ (s : List ℕ). s ++ past is_ascii_digit text) (number_takes most n (front is_ascii_digit text) few f.0)
     ∙ ap (λ (s : List ℕ). decimal n ++ s) f.1
 
-pub unsigned_again : (most n : ℕ) (rest : List ℕ) → most < 2 ^ 64 → n ≤ most → NoneInFront is_ascii_digit rest → unsigned_at most (decimal n ++ rest) ≡ Ok (n, rest)
+-- and no more than the most
+pub unsigned_low : {Q : Type 0} (what : Q) (most n : ℕ) (text rest : List ℕ) → unsigned_at what most text ≡ Ok (n, rest) → n ≤ most
 unfolding unsigned_at
-unsigned_again most n rest few low ends =
+unsigned_low what most n text rest e =
+    number_low most n (front is_ascii_digit text) (found_ok what text (number_in most (front is_ascii_digit text)) (past is_ascii_digit text) n rest e).0
+
+-- the digits of a number in front of another byte are read
+pub unsigned_again : {Q : Type 0} (what : Q) (most n : ℕ) (rest : List ℕ) → most < 2 ^ 64 → n ≤ most → NoneInFront is_ascii_digit rest → unsigned_at what most (decimal n ++ rest) ≡ Ok (n, rest)
+unfolding unsigned_at
+unsigned_again what most n rest few low ends =
     let digits = decimal_digits n (omega arith) in
     let text = decimal n ++ rest in
-    ap (λ (o : Option ℕ). found asked.Number text o (past is_ascii_digit text))
+    ap (λ (o : Option ℕ). found what text o (past is_ascii_digit text))
     (number_gives most n (front is_ascii_digit text) few low (front-again is_ascii_digit (decimal n) rest digits ends))
     ∙ ap (λ (s : List ℕ). done {A = ℕ × List ℕ} (n, s)) (past-again is_ascii_digit (decimal n) rest digits ends)
 
 -- ---- signed numbers
+
+-- a number from -half up to half - 1
+abbrev pub IsWithin : ℕ → ℤ → Type 0
+IsWithin half (pos n) = n < half
+IsWithin half (negsuc k) = suc k ≤ half
 
 abbrev minus_one : ℕ → Option ℤ
 minus_one n = cond (eqb n 0) None (Some (negsuc (n - 1)))
@@ -203,20 +233,45 @@ negative_takes half digits z few e =
         let same : negsuc (n - 1) ≡ z = some_is (negsuc (n - 1)) z h in
         ap (λ (s : List ℕ). 45 ∷ s) (read ∙ ap decimal (sym more)) ∙ ap signed_decimal same
 
-step_takes : (half : ℕ) (text : List ℕ) (o : Option (List ℕ)) (z : ℤ) (rest : List ℕ) → half ≤ 2 ^ 63 → behind (45 ∷ []) text ≡ o → signed_step half text o ≡ Ok (z, rest) → text ≡ signed_decimal z ++ rest
-step_takes half text (Some left) z rest few is e =
-    let f = found_ok asked.Number text (negative_in half (front is_ascii_digit left)) (past is_ascii_digit left) z rest e in
+step_takes : {Q : Type 0} (what : Q) (half : ℕ) (text : List ℕ) (o : Option (List ℕ)) (z : ℤ) (rest : List ℕ) → half ≤ 2 ^ 63 → behind (45 ∷ []) text ≡ o → signed_step what half text o ≡ Ok (z, rest) → text ≡ signed_decimal z ++ rest
+step_takes what half text (Some left) z rest few is e =
+    let f = found_ok what text (negative_in half (front is_ascii_digit left)) (past is_ascii_digit left) z rest e in
     behind-takes (45 ∷ []) text left is
     ∙ ap (λ (s : List ℕ). 45 ∷ s) (sym (front-past is_ascii_digit left))
     ∙ ap (λ (s : List ℕ). s ++ past is_ascii_digit left) (negative_takes half (front is_ascii_digit left) z few f.0)
     ∙ ap (λ (s : List ℕ). signed_decimal z ++ s) f.1
-step_takes half text None z rest few is e =
-    let m = mapped pos (unsigned_at (half - 1) text) z rest e in
-    unsigned_takes (half - 1) text m.0 rest (omega arith) m.1 ∙ ap (λ (y : ℤ). signed_decimal y ++ rest) m.2
+step_takes what half text None z rest few is e =
+    let m = mapped pos (unsigned_at what (half - 1) text) z rest e in
+    unsigned_takes what (half - 1) text m.0 rest (omega arith) m.1 ∙ ap (λ (y : ℤ). signed_decimal y ++ rest) m.2
 
-pub signed_takes : (half : ℕ) (text : List ℕ) (z : ℤ) (rest : List ℕ) → half ≤ 2 ^ 63 → signed_at half text ≡ Ok (z, rest) → text ≡ signed_decimal z ++ rest
+-- a signed number that is read stands there
+pub signed_takes : {Q : Type 0} (what : Q) (half : ℕ) (text : List ℕ) (z : ℤ) (rest : List ℕ) → half ≤ 2 ^ 63 → signed_at what half text ≡ Ok (z, rest) → text ≡ signed_decimal z ++ rest
 unfolding signed_at
-signed_takes half text z rest few e = step_takes half text (behind (45 ∷ []) text) z rest few refl e
+signed_takes what half text z rest few e = step_takes what half text (behind (45 ∷ []) text) z rest few refl e
+
+-- the number below zero that is read is no less than the least
+negative_low : (half : ℕ) (z : ℤ) (digits : List ℕ) → negative_in half digits ≡ Some z → IsWithin half z
+negative_low half z digits e =
+    let b = then_some minus_one (number_in half digits) z e in
+    let low = number_low half b.0 digits b.1 in
+    elim (chosen (eqb b.0 0) None (Some (negsuc (b.0 - 1))) (Some z) b.2) [
+      | inl p ↦ let wrong = p.1 in absurd cc
+      | inr p ↦
+          let some : 0 < b.0 = grind (arith, nat_tests, p.0) in
+          subst (IsWithin half) (some_is (negsuc (b.0 - 1)) z p.1) (omega arith)
+    ]
+
+-- and lies in its range
+pub signed_low : {Q : Type 0} (what : Q) (half : ℕ) (z : ℤ) (text rest : List ℕ) → 0 < half → signed_at what half text ≡ Ok (z, rest) → IsWithin half z
+unfolding signed_at
+signed_low what half z text rest some e = at (behind (45 ∷ []) text) e
+  where
+    at : (o : Option (List ℕ)) → signed_step what half text o ≡ Ok (z, rest) → IsWithin half z
+    at (Some left) h = negative_low half z (front is_ascii_digit left) (found_ok what text (negative_in half (front is_ascii_digit left)) (past is_ascii_digit left) z rest h).0
+    at None h =
+        let m = mapped pos (unsigned_at what (half - 1) text) z rest h in
+        let low = unsigned_low what (half - 1) m.0 text rest m.1 in
+        subst (IsWithin half) m.2 (omega arith)
 
 -- the digits of a number don't begin with a minus sign
 no_minus : (s rest : List ℕ) → list_all is_ascii_digit s ≡ true → 0 < length s → behind (45 ∷ []) (s ++ rest) ≡ None
@@ -227,18 +282,14 @@ no_minus (c ∷ s) rest h some = at (eqb c 45) refl
     at false is = refl
     at true is = let same : c ≡ 45 = eqb-true c 45 is in let wrong : (is_ascii_digit 45 && list_all is_ascii_digit s) ≡ true = ap (λ (d : ℕ). is_ascii_digit d && list_all is_ascii_digit s) (sym same) ∙ h in absurd cc
 
--- a number from -half up to half - 1
-abbrev pub IsWithin : ℕ → ℤ → Type 0
-IsWithin half (pos n) = n < half
-IsWithin half (negsuc k) = suc k ≤ half
-
-pub signed_again : (half : ℕ) (z : ℤ) (rest : List ℕ) → half ≤ 2 ^ 63 → IsWithin half z → NoneInFront is_ascii_digit rest → signed_at half (signed_decimal z ++ rest) ≡ Ok (z, rest)
+-- a signed number in front of another byte than a digit is read
+pub signed_again : {Q : Type 0} (what : Q) (half : ℕ) (z : ℤ) (rest : List ℕ) → half ≤ 2 ^ 63 → IsWithin half z → NoneInFront is_ascii_digit rest → signed_at what half (signed_decimal z ++ rest) ≡ Ok (z, rest)
 unfolding signed_at
-signed_again half (pos n) rest few low ends =
+signed_again what half (pos n) rest few low ends =
     let text = decimal n ++ rest in
-    ap (signed_step half text) (no_minus (decimal n) rest (decimal_digits n (omega arith)) (decimal_nonempty n (omega arith)))
-    ∙ read_again pos (unsigned_at (half - 1) text) n rest (unsigned_again (half - 1) n rest (omega arith) (omega arith) ends)
-signed_again half (negsuc k) rest few low ends =
+    ap (signed_step what half text) (no_minus (decimal n) rest (decimal_digits n (omega arith)) (decimal_nonempty n (omega arith)))
+    ∙ read_again pos (unsigned_at what (half - 1) text) n rest (unsigned_again what (half - 1) n rest (omega arith) (omega arith) ends)
+signed_again what half (negsuc k) rest few low ends =
     let n = suc k in
     let digits = decimal_digits n (omega arith) in
     let left = decimal n ++ rest in
@@ -246,7 +297,7 @@ signed_again half (negsuc k) rest few low ends =
     let other : eqb n 0 ≡ false = ne_eqb n 0 (λ e. omega arith) in
     let less : n - 1 ≡ k = omega arith in
     let value : minus_one n ≡ Some (negsuc k) = rw (other, less) refl in
-    ap (λ (o : Option ℕ). found asked.Number text (option_and_then minus_one o) (past is_ascii_digit left))
+    ap (λ (o : Option ℕ). found what text (option_and_then minus_one o) (past is_ascii_digit left))
     (number_gives half n (front is_ascii_digit left) (omega arith) low (front-again is_ascii_digit (decimal n) rest digits ends))
-    ∙ ap (λ (o : Option ℤ). found asked.Number text o (past is_ascii_digit left)) value
+    ∙ ap (λ (o : Option ℤ). found what text o (past is_ascii_digit left)) value
     ∙ ap (λ (s : List ℕ). done {A = ℤ × List ℕ} (negsuc k, s)) (past-again is_ascii_digit (decimal n) rest digits ends)

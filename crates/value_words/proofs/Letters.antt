@@ -6,10 +6,12 @@ use Rattle.std.proofs.lemmas.Bool.{and_parts, eqb-true}
 use Rattle.std.proofs.lemmas.Bool.Decides.{nat_tests}
 use Rattle.std.proofs.lemmas.List.{length-append}
 use Rattle.hex.specs.Hex.{encode_upper, encode_with, upper_digits}
+use Rattle.value_words.specs.declared.fault.Asked.{Asked}
 use Rattle.value_words.specs.declared.fault.Asked.TheVariants as asked
 use Rattle.value_words.specs.declared.stop.Stop.{Stop}
 use Rattle.value_words.specs.Words.{is_plain, letter_words, letters_words}
-use Rattle.value_words.specs.WordReading.{◌>>=◌, found, digit_value, escaped, escape_at, letter_at, letters_step, letters_at, mark_at, quoted_at, read_map}
+use Rattle.value_words.specs.Stopping.{◌>>=◌, found, mark_at, read_map}
+use Rattle.value_words.specs.WordReading.{digit_value, escaped, escape_at, letter_at, letters_step, letters_at, quoted_at}
 use Rattle.value_words.proofs.Steps.{bind_ok, ok_is, then_some, some_is, found_ok, mapped, read_again, chosen, done}
 use Rattle.value_words.proofs.Behind.{mark_takes}
 use Rattle.value_words.proofs.Octets.{digit_takes, digit_again, byte_digits}
@@ -130,7 +132,7 @@ letters_again (suc n) [] rest lt h = refl
 letters_again (suc n) (b ∷ s) rest lt h =
     let after = letters_words s ++ rest in
     ap (letters_at (suc n)) (append_assoc (letter_words b) (letters_words s) rest)
-    ∙ ap (λ (r : Result (Option ℕ × List ℕ) Stop). r >>= λ l. letters_step (letters_at n) l.0 l.1) (letter_again b after h.0)
+    ∙ ap (λ (r : Result (Option ℕ × List ℕ) (Stop Asked)). r >>= λ l. letters_step (letters_at n) l.0 l.1) (letter_again b after h.0)
     ∙ read_again (λ u. b ∷ u) (letters_at n after) s rest (letters_again n s rest (omega arith) h.1)
 
 letter_some : (b : ℕ) → 0 < length (letter_words b)

@@ -7,3 +7,4 @@ pub mod Decimals
 pub mod Octets
 pub mod Letters
 pub mod Values
+pub mod NameBytes

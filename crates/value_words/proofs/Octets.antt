@@ -11,7 +11,8 @@ use Rattle.hex.specs.declared.error.FromHexError.{FromHexError}
 use Rattle.hex.proofs.HexLemmas.{decode_of-encode_upper}
 use Rattle.value_words.specs.declared.fault.Asked.TheVariants as asked
 use Rattle.value_words.specs.Words.{octet_words}
-use Rattle.value_words.specs.WordReading.{found, front, past, digit_value, is_digit, bytes_in, octets_at}
+use Rattle.value_words.specs.Stopping.{found, front, past}
+use Rattle.value_words.specs.WordReading.{digit_value, is_digit, bytes_in, octets_at}
 use Rattle.value_words.proofs.Steps.{ok_is, some_is, found_ok, chosen, done}
 use Rattle.value_words.proofs.Runs.{front-past, front-passes, front-again, past-again, NoneInFront}
 

@@ -6,7 +6,7 @@ use Rattle.std.proofs.lemmas.Bool.{ltb-false}
 use Rattle.std.proofs.lemmas.List.{take-append-drop, take_at, drop_at}
 use Rattle.std.proofs.lemmas.List.Sums.{prefix_len-le-length}
 use Rattle.std.proofs.lemmas.Option.{cond_some}
-use Rattle.value_words.specs.WordReading.{front, past}
+use Rattle.value_words.specs.Stopping.{front, past}
 
 double : (b : Bool) → not (not b) ≡ b
 double true = refl

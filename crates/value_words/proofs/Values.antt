@@ -12,11 +12,13 @@ use Rattle.cosem_data.specs.TreeCode.{trees-parts}
 use Rattle.cosem_data.specs.Kinds.{kind_of}
 use Rattle.cosem_data.specs.declared.kind.Kind.{Kind}
 use Rattle.cosem_data.specs.declared.kind.Kind.TheVariants.{NullData, Array, Structure, Boolean, DoubleLong, DoubleLongUnsigned, OctetString, VisibleString, Integer, Long, Unsigned, LongUnsigned, Long64, Long64Unsigned, Enumerated}
+use Rattle.value_words.specs.declared.fault.Asked.{Asked}
 use Rattle.value_words.specs.declared.fault.Asked.TheVariants as asked
 use Rattle.value_words.specs.declared.stop.Stop.{Stop}
 use Rattle.value_words.specs.declared.stop.Stop.TheVariants as stop
 use Rattle.value_words.specs.Words.{word_of, truth_words, content_words, list_words, more_words, value_words}
-use Rattle.value_words.specs.WordReading.{◌>>=◌, behind, kinds, kind_or, kind_among, found_kind, kind_at, is_digit, truth_step, truth_at, unsigned_at, signed_at, octets_at, quoted_at, mark_at, part_end_step, part_end_at, parts_step, parts_at, list_step, content_at, value_with, list_at, value_within, placed, value_at, read_map}
+use Rattle.value_words.specs.Stopping.{◌>>=◌, Reader, behind, mark_at, read_map}
+use Rattle.value_words.specs.WordReading.{kinds, kind_or, kind_among, found_kind, kind_at, is_digit, truth_step, truth_at, unsigned_at, signed_at, octets_at, quoted_at, part_end_step, part_end_at, parts_step, parts_at, list_step, content_at, value_with, list_at, value_within, placed, value_at}
 use Rattle.value_words.specs.WordLaws.{HasRanges, HaveRanges, EndsHere, WrittenIsRead, ReadIsWritten}
 use Rattle.value_words.proofs.Steps.{bind_ok, ok_is, some_is, mapped, read_again, done}
 use Rattle.value_words.proofs.Behind.{behind-takes, mark_takes}
@@ -89,10 +91,10 @@ abbrev from_first : List Tree → List ℕ
 from_first [] = []
 from_first (t ∷ ts) = value_words t ++ more_words (trees ts)
 
-abbrev ValueTakes : (List ℕ → Result (Tree × List ℕ) Stop) → Type 0
+abbrev ValueTakes : Reader Asked Tree → Type 0
 ValueTakes value = (text : List ℕ) (t : Tree) (rest : List ℕ) → value text ≡ Ok (t, rest) → text ≡ value_words t ++ rest
 
-abbrev ListTakes : (List ℕ → Result (List Tree × List ℕ) Stop) → Type 0
+abbrev ListTakes : Reader Asked (List Tree) → Type 0
 ListTakes list = (text : List ℕ) (ts : List Tree) (rest : List ℕ) → list text ≡ Ok (ts, rest) → text ≡ list_words (trees ts) ++ rest
 
 record Parts (text : List ℕ) (ts : List Tree) (rest : List ℕ) : Type 0 where
@@ -103,7 +105,7 @@ behind_comma : (t : Tree) (us : List Tree) (rest : List ℕ) → 0 < length us �
 behind_comma t [] rest some = absurd (omega arith)
 behind_comma t (u ∷ us) rest some = sym (append_assoc (value_words t) (codes ", " ++ from_first (u ∷ us)) rest)
 
-parts_take : (value : List ℕ → Result (Tree × List ℕ) Stop) → ValueTakes value → (n : ℕ) (text : List ℕ) (ts : List Tree) (rest : List ℕ) → parts_at value n text ≡ Ok (ts, rest) → Parts text ts rest
+parts_take : (value : Reader Asked Tree) → ValueTakes value → (n : ℕ) (text : List ℕ) (ts : List Tree) (rest : List ℕ) → parts_at value n text ≡ Ok (ts, rest) → Parts text ts rest
 unfolding parts_at
 parts_take value takes zero text ts rest e = absurd cc
 parts_take value takes (suc n) text ts rest e =
@@ -135,12 +137,12 @@ record Content (k : Kind) (text : List ℕ) (t : Tree) (rest : List ℕ) : Type 
   kind : kind_of t ≡ k
   front : text ≡ content_words t ++ rest
 
-simple : {A : Type 0} (f : A → Tree) (k : Kind) (r : Result (A × List ℕ) Stop) (text : List ℕ) (t : Tree) (rest : List ℕ) → ((x : A) → r ≡ Ok (x, rest) → text ≡ content_words (f x) ++ rest) → ((x : A) → kind_of (f x) ≡ k) → read_map f r ≡ Ok (t, rest) → Content k text t rest
+simple : {A : Type 0} (f : A → Tree) (k : Kind) (r : Result (A × List ℕ) (Stop Asked)) (text : List ℕ) (t : Tree) (rest : List ℕ) → ((x : A) → r ≡ Ok (x, rest) → text ≡ content_words (f x) ++ rest) → ((x : A) → kind_of (f x) ≡ k) → read_map f r ≡ Ok (t, rest) → Content k text t rest
 simple f k r text t rest takes kind e =
     let m = mapped f r t rest e in
     subst (λ (u : Tree). Content k text u rest) m.2 (record { kind = kind m.0; front = takes m.0 m.1 })
 
-content_takes : (list : List ℕ → Result (List Tree × List ℕ) Stop) → ListTakes list → (k : Kind) (text : List ℕ) (t : Tree) (rest : List ℕ) → content_at list k text ≡ Ok (t, rest) → Content k text t rest
+content_takes : (list : Reader Asked (List Tree)) → ListTakes list → (k : Kind) (text : List ℕ) (t : Tree) (rest : List ℕ) → content_at list k text ≡ Ok (t, rest) → Content k text t rest
 unfolding content_at
 content_takes list takes NullData text t rest e =
     let is = ok_is {A = Tree × List ℕ} (null_data, text) (t, rest) e in
@@ -148,19 +150,19 @@ content_takes list takes NullData text t rest e =
 content_takes list takes Array text t rest e = simple (λ ts. array (trees ts)) Array (list text) text t rest (λ x h. takes text x rest h) (λ x. refl) e
 content_takes list takes Structure text t rest e = simple (λ ts. structure (trees ts)) Structure (list text) text t rest (λ x h. takes text x rest h) (λ x. refl) e
 content_takes list takes Boolean text t rest e = simple boolean Boolean (truth_at text) text t rest (λ x h. truth_takes text x rest h) (λ x. refl) e
-content_takes list takes DoubleLong text t rest e = simple double_long DoubleLong (signed_at (2 ^ 31) text) text t rest (λ x h. signed_takes (2 ^ 31) text x rest (omega arith) h) (λ x. refl) e
-content_takes list takes DoubleLongUnsigned text t rest e = simple double_long_unsigned DoubleLongUnsigned (unsigned_at (2 ^ 32 - 1) text) text t rest (λ x h. unsigned_takes (2 ^ 32 - 1) text x rest (omega arith) h) (λ x. refl) e
+content_takes list takes DoubleLong text t rest e = simple double_long DoubleLong (signed_at asked.Number (2 ^ 31) text) text t rest (λ x h. signed_takes asked.Number (2 ^ 31) text x rest (omega arith) h) (λ x. refl) e
+content_takes list takes DoubleLongUnsigned text t rest e = simple double_long_unsigned DoubleLongUnsigned (unsigned_at asked.Number (2 ^ 32 - 1) text) text t rest (λ x h. unsigned_takes asked.Number (2 ^ 32 - 1) text x rest (omega arith) h) (λ x. refl) e
 content_takes list takes OctetString text t rest e = simple octet_string OctetString (octets_at text) text t rest (λ x h. octets_take text x rest h) (λ x. refl) e
 content_takes list takes VisibleString text t rest e = simple visible_string VisibleString (quoted_at text) text t rest (λ x h. quoted_takes text x rest h) (λ x. refl) e
-content_takes list takes Integer text t rest e = simple integer Integer (signed_at (2 ^ 7) text) text t rest (λ x h. signed_takes (2 ^ 7) text x rest (omega arith) h) (λ x. refl) e
-content_takes list takes Long text t rest e = simple long Long (signed_at (2 ^ 15) text) text t rest (λ x h. signed_takes (2 ^ 15) text x rest (omega arith) h) (λ x. refl) e
-content_takes list takes Unsigned text t rest e = simple unsigned Unsigned (unsigned_at (2 ^ 8 - 1) text) text t rest (λ x h. unsigned_takes (2 ^ 8 - 1) text x rest (omega arith) h) (λ x. refl) e
-content_takes list takes LongUnsigned text t rest e = simple long_unsigned LongUnsigned (unsigned_at (2 ^ 16 - 1) text) text t rest (λ x h. unsigned_takes (2 ^ 16 - 1) text x rest (omega arith) h) (λ x. refl) e
-content_takes list takes Long64 text t rest e = simple long64 Long64 (signed_at (2 ^ 63) text) text t rest (λ x h. signed_takes (2 ^ 63) text x rest (omega arith) h) (λ x. refl) e
-content_takes list takes Long64Unsigned text t rest e = simple long64_unsigned Long64Unsigned (unsigned_at (2 ^ 64 - 1) text) text t rest (λ x h. unsigned_takes (2 ^ 64 - 1) text x rest (omega arith) h) (λ x. refl) e
-content_takes list takes Enumerated text t rest e = simple enumerated Enumerated (unsigned_at (2 ^ 8 - 1) text) text t rest (λ x h. unsigned_takes (2 ^ 8 - 1) text x rest (omega arith) h) (λ x. refl) e
+content_takes list takes Integer text t rest e = simple integer Integer (signed_at asked.Number (2 ^ 7) text) text t rest (λ x h. signed_takes asked.Number (2 ^ 7) text x rest (omega arith) h) (λ x. refl) e
+content_takes list takes Long text t rest e = simple long Long (signed_at asked.Number (2 ^ 15) text) text t rest (λ x h. signed_takes asked.Number (2 ^ 15) text x rest (omega arith) h) (λ x. refl) e
+content_takes list takes Unsigned text t rest e = simple unsigned Unsigned (unsigned_at asked.Number (2 ^ 8 - 1) text) text t rest (λ x h. unsigned_takes asked.Number (2 ^ 8 - 1) text x rest (omega arith) h) (λ x. refl) e
+content_takes list takes LongUnsigned text t rest e = simple long_unsigned LongUnsigned (unsigned_at asked.Number (2 ^ 16 - 1) text) text t rest (λ x h. unsigned_takes asked.Number (2 ^ 16 - 1) text x rest (omega arith) h) (λ x. refl) e
+content_takes list takes Long64 text t rest e = simple long64 Long64 (signed_at asked.Number (2 ^ 63) text) text t rest (λ x h. signed_takes asked.Number (2 ^ 63) text x rest (omega arith) h) (λ x. refl) e
+content_takes list takes Long64Unsigned text t rest e = simple long64_unsigned Long64Unsigned (unsigned_at asked.Number (2 ^ 64 - 1) text) text t rest (λ x h. unsigned_takes asked.Number (2 ^ 64 - 1) text x rest (omega arith) h) (λ x. refl) e
+content_takes list takes Enumerated text t rest e = simple enumerated Enumerated (unsigned_at asked.Number (2 ^ 8 - 1) text) text t rest (λ x h. unsigned_takes asked.Number (2 ^ 8 - 1) text x rest (omega arith) h) (λ x. refl) e
 
-value_takes : (list : List ℕ → Result (List Tree × List ℕ) Stop) → ListTakes list → ValueTakes (value_with list)
+value_takes : (list : Reader Asked (List Tree)) → ListTakes list → ValueTakes (value_with list)
 value_takes list takes text t rest e =
     let b = bind_ok (kind_at text) (λ kind. content_at list kind.0 kind.1) (t, rest) e in
     let c = content_takes list takes b.0.0 b.0.1 t rest b.2 in
@@ -189,7 +191,7 @@ pub within_takes : (d : ℕ) (text : List ℕ) (t : Tree) (rest : List ℕ) → 
 unfolding value_within
 within_takes d text t rest e = value_takes (list_at d) (list_takes d) text t rest e
 
-placed_ok : {A : Type 0} (size : ℕ) (r : Result A Stop) (x : A) → placed size r ≡ Ok x → r ≡ Ok x
+placed_ok : {A : Type 0} (size : ℕ) (r : Result A (Stop Asked)) (x : A) → placed size r ≡ Ok x → r ≡ Ok x
 placed_ok {A} size (Ok y) x e = let is : y ≡ x = cc in ap done is
 placed_ok size (Err stop.Memory) x e = absurd cc
 placed_ok size (Err (stop.At left what)) x e = absurd cc
@@ -244,16 +246,16 @@ after_first (more_trees t ts) = value_words t ++ more_words ts
 value_from : (t : Tree) (d : ℕ) (rest : List ℕ) → content_at (list_at d) (kind_of t) (content_words t ++ rest) ≡ Ok (t, rest) → value_with (list_at d) (value_words t ++ rest) ≡ Ok (t, rest)
 value_from t d rest h =
     ap (value_with (list_at d)) (append_assoc (word_of (kind_of t)) (content_words t) rest)
-    ∙ ap (λ (r : Result (Kind × List ℕ) Stop). r >>= λ kind. content_at (list_at d) kind.0 kind.1) (kind_again (kind_of t) (content_words t ++ rest))
+    ∙ ap (λ (r : Result (Kind × List ℕ) (Stop Asked)). r >>= λ kind. content_at (list_at d) kind.0 kind.1) (kind_again (kind_of t) (content_words t ++ rest))
     ∙ h
 
 -- one part and what ends it
-part_step : (value : List ℕ → Result (Tree × List ℕ) Stop) (n : ℕ) (text mid after : List ℕ) (t : Tree) (last : Bool) → value text ≡ Ok (t, mid) → part_end_at mid ≡ Ok (last, after)
+part_step : (value : Reader Asked Tree) (n : ℕ) (text mid after : List ℕ) (t : Tree) (last : Bool) → value text ≡ Ok (t, mid) → part_end_at mid ≡ Ok (last, after)
     → parts_at value (suc n) text ≡ read_map (λ ts. t ∷ ts) (parts_step (parts_at value n) last after)
 unfolding parts_at
 part_step value n text mid after t last h end =
-    ap (λ (r : Result (Tree × List ℕ) Stop). r >>= λ first. part_end_at first.1 >>= λ end. read_map (λ ts. first.0 ∷ ts) (parts_step (parts_at value n) end.0 end.1)) h
-    ∙ ap (λ (r : Result (Bool × List ℕ) Stop). r >>= λ end. read_map (λ ts. t ∷ ts) (parts_step (parts_at value n) end.0 end.1)) end
+    ap (λ (r : Result (Tree × List ℕ) (Stop Asked)). r >>= λ first. part_end_at first.1 >>= λ end. read_map (λ ts. first.0 ∷ ts) (parts_step (parts_at value n) end.0 end.1)) h
+    ∙ ap (λ (r : Result (Bool × List ℕ) (Stop Asked)). r >>= λ end. read_map (λ ts. t ∷ ts) (parts_step (parts_at value n) end.0 end.1)) end
 
 -- one part, where the first of what it's followed by is known
 first_part : (t : Tree) (d n : ℕ) (more after : List ℕ) (last : Bool) → content_at (list_at d) (kind_of t) (content_words t ++ (end_words last ++ after)) ≡ Ok (t, end_words last ++ after) → more ≡ end_words last ++ after
@@ -294,17 +296,17 @@ mutual
       read_again {A = List Tree} (λ us. structure (trees us)) (list_at (suc d) (list_words ts ++ rest)) (parts ts) rest (list_again ts d rest (λ n some enough. parts_again ts n d rest h (omega arith) some enough))
       ∙ ap (λ (us : Trees). done {A = Tree × List ℕ} (structure us, rest)) (trees-parts ts)
   content_again (boolean b) d rest h le ends = read_again boolean (truth_at (truth_words b ++ rest)) b rest (truth_again b rest)
-  content_again (double_long z) d rest h le ends = read_again double_long (signed_at (2 ^ 31) (signed_decimal z ++ rest)) z rest (signed_again (2 ^ 31) z rest (omega arith) (within32 z h) (ends_digits rest ends))
-  content_again (double_long_unsigned n) d rest h le ends = read_again double_long_unsigned (unsigned_at (2 ^ 32 - 1) (decimal n ++ rest)) n rest (unsigned_again (2 ^ 32 - 1) n rest (omega arith) (omega arith) (ends_digits rest ends))
+  content_again (double_long z) d rest h le ends = read_again double_long (signed_at asked.Number (2 ^ 31) (signed_decimal z ++ rest)) z rest (signed_again asked.Number (2 ^ 31) z rest (omega arith) (within32 z h) (ends_digits rest ends))
+  content_again (double_long_unsigned n) d rest h le ends = read_again double_long_unsigned (unsigned_at asked.Number (2 ^ 32 - 1) (decimal n ++ rest)) n rest (unsigned_again asked.Number (2 ^ 32 - 1) n rest (omega arith) (omega arith) (ends_digits rest ends))
   content_again (octet_string s) d rest h le ends = read_again octet_string (octets_at (content_words (octet_string s) ++ rest)) s rest (octets_again s rest h (ends_hex rest ends))
   content_again (visible_string s) d rest h le ends = read_again visible_string (quoted_at (content_words (visible_string s) ++ rest)) s rest (quoted_again s rest h)
-  content_again (integer z) d rest h le ends = read_again integer (signed_at (2 ^ 7) (signed_decimal z ++ rest)) z rest (signed_again (2 ^ 7) z rest (omega arith) (within8 z h) (ends_digits rest ends))
-  content_again (long z) d rest h le ends = read_again long (signed_at (2 ^ 15) (signed_decimal z ++ rest)) z rest (signed_again (2 ^ 15) z rest (omega arith) (within16 z h) (ends_digits rest ends))
-  content_again (unsigned n) d rest h le ends = read_again unsigned (unsigned_at (2 ^ 8 - 1) (decimal n ++ rest)) n rest (unsigned_again (2 ^ 8 - 1) n rest (omega arith) (omega arith) (ends_digits rest ends))
-  content_again (long_unsigned n) d rest h le ends = read_again long_unsigned (unsigned_at (2 ^ 16 - 1) (decimal n ++ rest)) n rest (unsigned_again (2 ^ 16 - 1) n rest (omega arith) (omega arith) (ends_digits rest ends))
-  content_again (long64 z) d rest h le ends = read_again long64 (signed_at (2 ^ 63) (signed_decimal z ++ rest)) z rest (signed_again (2 ^ 63) z rest (omega arith) (within64 z h) (ends_digits rest ends))
-  content_again (long64_unsigned n) d rest h le ends = read_again long64_unsigned (unsigned_at (2 ^ 64 - 1) (decimal n ++ rest)) n rest (unsigned_again (2 ^ 64 - 1) n rest (omega arith) (omega arith) (ends_digits rest ends))
-  content_again (enumerated n) d rest h le ends = read_again enumerated (unsigned_at (2 ^ 8 - 1) (decimal n ++ rest)) n rest (unsigned_again (2 ^ 8 - 1) n rest (omega arith) (omega arith) (ends_digits rest ends))
+  content_again (integer z) d rest h le ends = read_again integer (signed_at asked.Number (2 ^ 7) (signed_decimal z ++ rest)) z rest (signed_again asked.Number (2 ^ 7) z rest (omega arith) (within8 z h) (ends_digits rest ends))
+  content_again (long z) d rest h le ends = read_again long (signed_at asked.Number (2 ^ 15) (signed_decimal z ++ rest)) z rest (signed_again asked.Number (2 ^ 15) z rest (omega arith) (within16 z h) (ends_digits rest ends))
+  content_again (unsigned n) d rest h le ends = read_again unsigned (unsigned_at asked.Number (2 ^ 8 - 1) (decimal n ++ rest)) n rest (unsigned_again asked.Number (2 ^ 8 - 1) n rest (omega arith) (omega arith) (ends_digits rest ends))
+  content_again (long_unsigned n) d rest h le ends = read_again long_unsigned (unsigned_at asked.Number (2 ^ 16 - 1) (decimal n ++ rest)) n rest (unsigned_again asked.Number (2 ^ 16 - 1) n rest (omega arith) (omega arith) (ends_digits rest ends))
+  content_again (long64 z) d rest h le ends = read_again long64 (signed_at asked.Number (2 ^ 63) (signed_decimal z ++ rest)) z rest (signed_again asked.Number (2 ^ 63) z rest (omega arith) (within64 z h) (ends_digits rest ends))
+  content_again (long64_unsigned n) d rest h le ends = read_again long64_unsigned (unsigned_at asked.Number (2 ^ 64 - 1) (decimal n ++ rest)) n rest (unsigned_again asked.Number (2 ^ 64 - 1) n rest (omega arith) (omega arith) (ends_digits rest ends))
+  content_again (enumerated n) d rest h le ends = read_again enumerated (unsigned_at asked.Number (2 ^ 8 - 1) (decimal n ++ rest)) n rest (unsigned_again asked.Number (2 ^ 8 - 1) n rest (omega arith) (omega arith) (ends_digits rest ends))
 
   parts_again : (ts : Trees) (n d : ℕ) (rest : List ℕ) → HaveRanges ts → depth_of ts ≤ d → 0 < length (parts ts) → length (parts ts) ≤ n → parts_at (value_with (list_at d)) n (after_first ts ++ rest) ≡ Ok (parts ts, rest)
   parts_again no_trees n d rest h le some enough = absurd (omega arith)

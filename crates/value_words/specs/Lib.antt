@@ -1,3 +1,4 @@
 pub mod Words
+pub mod Stopping
 pub mod WordReading
 pub mod WordLaws

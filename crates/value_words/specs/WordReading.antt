@@ -1,7 +1,6 @@
 -- Reading the words of a value from left to right: the value and what stands behind it, or the first place where something else stands than what the grammar asks. Texts are lists of bytes.
-use Rattle.std.specs.Prelude.{◌≡◌, ◌≤◌, ℕ, ℤ, pos, negsuc, zero, suc, ◌+◌, ◌-◌, ◌*◌, ◌^◌, Bool, true, false, ◌&&◌, ◌==◌, nat_lt, nat_le, List, [], ◌∷◌, length, take, drop, codes, Option, Some, None, option_and_then, is_some, Result, Ok, Err, if◌then◌else◌}
+use Rattle.std.specs.Prelude.{◌≡◌, ◌≤◌, ℕ, ℤ, pos, negsuc, zero, suc, ◌+◌, ◌-◌, ◌*◌, ◌^◌, Bool, true, false, ◌&&◌, ◌==◌, nat_lt, nat_le, List, [], ◌∷◌, length, codes, Option, Some, None, option_and_then, is_some, Result, Ok, Err, if◌then◌else◌}
 use Rattle.std.specs.Char.{is_ascii_digit}
-use Rattle.std.specs.List.{prefix_len}
 use Rattle.std.specs.Result.{result_ok}
 use Rattle.hex.specs.Hex.{decode_of}
 use Rattle.cosem_data.specs.Tree.{Tree, null_data, array, structure, boolean, double_long, double_long_unsigned, octet_string, visible_string, integer, long, unsigned, long_unsigned, long64, long64_unsigned, enumerated, trees}
@@ -13,53 +12,8 @@ use Rattle.value_words.specs.declared.fault.ValueFault.{ValueFault}
 use Rattle.value_words.specs.declared.fault.ValueFault.TheVariants as fault
 use Rattle.value_words.specs.declared.stop.Stop.{Stop}
 use Rattle.value_words.specs.declared.stop.Stop.TheVariants as stop
+use Rattle.value_words.specs.Stopping.{◌>>=◌, Reader, stops, found, read_map, behind, mark_at, front, past}
 use Rattle.value_words.specs.Words.{word_of, is_plain}
-
--- the next step, unless this one stopped (own profile)
-infixl 10 ◌>>=◌
-abbrev pub ◌>>=◌ : {A B : Type 0} → Result A Stop → (A → Result B Stop) → Result B Stop
-(Ok x) >>= f = f x
-(Err e) >>= f = Err e
-
--- reading stops in front of this text, where something else was asked (own profile)
-abbrev pub stops : {A : Type 0} → Asked → List ℕ → Result A Stop
-stops what text = Err (stop.At (length text) what)
-
--- from a text to what stands in front of it and the text behind that (own profile)
-abbrev pub Reader : Type 0 → Type 0
-Reader A = List ℕ → Result (A × List ℕ) Stop
-
--- what was found in front of a text, and what stands behind that; else reading stops there (own profile)
-abbrev pub found : {A : Type 0} → Asked → List ℕ → Option A → List ℕ → Result (A × List ℕ) Stop
-found what text (Some x) rest = Ok (x, rest)
-found what text None rest = stops what text
-
--- what is read, as another type (own profile)
-abbrev pub read_map : {A B : Type 0} → (A → B) → Result (A × List ℕ) Stop → Result (B × List ℕ) Stop
-read_map f read = read >>= λ x. Ok (f x.0, x.1)
-
--- what stands behind these bytes, if they are in front of the text (own profile)
-abbrev pub behind : List ℕ → List ℕ → Option (List ℕ)
-behind [] text = Some text
-behind (b ∷ bs) [] = None
-behind (b ∷ bs) (c ∷ text) = if c == b then behind bs text else None
-
--- what stands behind the bytes that are asked, if they were found; else reading stops (own profile)
-abbrev pub mark_step : Asked → List ℕ → Option (List ℕ) → Result (List ℕ) Stop
-mark_step what text None = stops what text
-mark_step what text (Some rest) = Ok rest
-
--- what stands behind these bytes, which are asked (own profile)
-abbrev pub mark_at : Asked → List ℕ → List ℕ → Result (List ℕ) Stop
-mark_at what bytes text = mark_step what text (behind bytes text)
-
--- the bytes in front that pass a test (own profile)
-abbrev pub front : (ℕ → Bool) → List ℕ → List ℕ
-front p text = take (prefix_len p text) text
-
--- what stands behind them (own profile)
-abbrev pub past : (ℕ → Bool) → List ℕ → List ℕ
-past p text = drop (prefix_len p text) text
 
 -- Kinds
 
@@ -78,12 +32,12 @@ kind_among [] text = None
 kind_among (k ∷ ks) text = kind_or k (behind (word_of k) text) (kind_among ks text)
 
 -- the kind that was found; else reading stops (own profile)
-abbrev pub found_kind : List ℕ → Option (Kind × List ℕ) → Result (Kind × List ℕ) Stop
+abbrev pub found_kind : List ℕ → Option (Kind × List ℕ) → Result (Kind × List ℕ) (Stop Asked)
 found_kind text None = stops asked.Kind text
 found_kind text (Some x) = Ok x
 
 -- the kind whose word stands in front (own profile)
-unfoldable pub kind_at : Reader Kind
+unfoldable pub kind_at : Reader Asked Kind
 kind_at text = found_kind text (kind_among kinds text)
 
 -- Numbers
@@ -103,32 +57,32 @@ number_in most [] = None
 number_in most (c ∷ text) = if (c == 48) && nat_lt 0 (length text) then None else with_digits most 0 (c ∷ text)
 
 -- an unsigned number up to the most; it ends where the digits end (own profile)
-unfoldable pub unsigned_at : ℕ → Reader ℕ
-unsigned_at most text = found asked.Number text (number_in most (front is_ascii_digit text)) (past is_ascii_digit text)
+unfoldable pub unsigned_at : {Q : Type 0} → Q → ℕ → Reader Q ℕ
+unsigned_at what most text = found what text (number_in most (front is_ascii_digit text)) (past is_ascii_digit text)
 
 -- the number below zero that this text is behind a minus sign; there is no `-0` (own profile)
 abbrev pub negative_in : ℕ → List ℕ → Option ℤ
 negative_in half digits = option_and_then (λ n. if n == 0 then None else Some (negsuc (n - 1))) (number_in half digits)
 
 -- a signed number: below zero where something stands behind a minus sign, else from zero up (own profile)
-abbrev pub signed_step : ℕ → List ℕ → Option (List ℕ) → Result (ℤ × List ℕ) Stop
-signed_step half text (Some rest) = found asked.Number text (negative_in half (front is_ascii_digit rest)) (past is_ascii_digit rest)
-signed_step half text None = read_map pos (unsigned_at (half - 1) text)
+abbrev pub signed_step : {Q : Type 0} → Q → ℕ → List ℕ → Option (List ℕ) → Result (ℤ × List ℕ) (Stop Q)
+signed_step what half text (Some rest) = found what text (negative_in half (front is_ascii_digit rest)) (past is_ascii_digit rest)
+signed_step what half text None = read_map pos (unsigned_at what (half - 1) text)
 
 -- a signed number from -half up to half - 1, where a minus sign stands in front of one below zero (own profile)
-unfoldable pub signed_at : ℕ → Reader ℤ
-signed_at half text = signed_step half text (behind (codes "-") text)
+unfoldable pub signed_at : {Q : Type 0} → Q → ℕ → Reader Q ℤ
+signed_at what half text = signed_step what half text (behind (codes "-") text)
 
 -- Truth and bytes
 
 -- true, or else false, by what stands behind the one or the other word (own profile)
-abbrev pub truth_step : List ℕ → Option (List ℕ) → Option (List ℕ) → Result (Bool × List ℕ) Stop
+abbrev pub truth_step : List ℕ → Option (List ℕ) → Option (List ℕ) → Result (Bool × List ℕ) (Stop Asked)
 truth_step text (Some rest) other = Ok (true, rest)
 truth_step text None (Some rest) = Ok (false, rest)
 truth_step text None None = stops asked.Truth text
 
 -- `true` or `false` (own profile)
-unfoldable pub truth_at : Reader Bool
+unfoldable pub truth_at : Reader Asked Bool
 truth_at text = truth_step text (behind (codes "true") text) (behind (codes "false") text)
 
 -- the value of an upper-case hex digit (own profile)
@@ -145,7 +99,7 @@ bytes_in [] = None
 bytes_in (c ∷ digits) = result_ok (decode_of (c ∷ digits))
 
 -- `-` for no bytes, or upper-case hex digits, two a byte; they end where such digits end (own profile)
-unfoldable pub octets_at : Reader (List ℕ)
+unfoldable pub octets_at : Reader Asked (List ℕ)
 octets_at [] = stops asked.HexDigits []
 octets_at (c ∷ rest) = if c == 45 then Ok ([], rest) else found asked.HexDigits (c ∷ rest) (bytes_in (front is_digit (c ∷ rest))) (past is_digit (c ∷ rest))
 
@@ -156,29 +110,29 @@ escaped slash x high low =
     else None
 
 -- `\xHH` (own profile)
-abbrev pub escape_at : Reader ℕ
+abbrev pub escape_at : Reader Asked ℕ
 escape_at (slash ∷ x ∷ high ∷ low ∷ rest) = found asked.Letter (slash ∷ x ∷ high ∷ low ∷ rest) (escaped slash x high low) rest
 escape_at text = stops asked.Letter text
 
 -- one byte between quotes, or none at the closing quote (own profile)
-unfoldable pub letter_at : Reader (Option ℕ)
+unfoldable pub letter_at : Reader Asked (Option ℕ)
 letter_at [] = stops asked.Letter []
 letter_at (b ∷ rest) = if b == 34 then Ok (None, rest) else if is_plain b then Ok (Some b, rest) else read_map Some (escape_at (b ∷ rest))
 
 -- nothing more behind the closing quote; behind a byte the others (own profile)
-abbrev pub letters_step : Reader (List ℕ) → Option ℕ → Reader (List ℕ)
+abbrev pub letters_step : Reader Asked (List ℕ) → Option ℕ → Reader Asked (List ℕ)
 letters_step others None text = Ok ([], text)
 letters_step others (Some b) text = read_map (λ s. b ∷ s) (others text)
 
 -- at most so many bytes between quotes and the closing quote (own profile)
-unfoldable pub letters_at : ℕ → Reader (List ℕ)
+unfoldable pub letters_at : ℕ → Reader Asked (List ℕ)
 letters_at zero text = stops asked.Letter text
 letters_at (suc n) text = do
   letter ← letter_at text
   letters_step (letters_at n) letter.0 letter.1
 
 -- bytes in quotes (own profile)
-unfoldable pub quoted_at : Reader (List ℕ)
+unfoldable pub quoted_at : Reader Asked (List ℕ)
 quoted_at text = do
   rest ← mark_at asked.Quote (34 ∷ []) text
   letters_at (length rest) rest
@@ -186,22 +140,22 @@ quoted_at text = do
 -- Lists
 
 -- whether a part was the last, by what stands behind the one or the other mark (own profile)
-abbrev pub part_end_step : List ℕ → Option (List ℕ) → Option (List ℕ) → Result (Bool × List ℕ) Stop
+abbrev pub part_end_step : List ℕ → Option (List ℕ) → Option (List ℕ) → Result (Bool × List ℕ) (Stop Asked)
 part_end_step text (Some rest) other = Ok (true, rest)
 part_end_step text None (Some rest) = Ok (false, rest)
 part_end_step text None None = stops asked.CommaOrBrace text
 
 -- whether a part was the last: ` }` stands behind the last one, and `, ` behind another (own profile)
-unfoldable pub part_end_at : Reader Bool
+unfoldable pub part_end_at : Reader Asked Bool
 part_end_at text = part_end_step text (behind (codes " }") text) (behind (codes ", ") text)
 
 -- nothing more behind the last part; behind another the others (own profile)
-abbrev pub parts_step : Reader (List Tree) → Bool → Reader (List Tree)
+abbrev pub parts_step : Reader Asked (List Tree) → Bool → Reader Asked (List Tree)
 parts_step others true text = Ok ([], text)
 parts_step others false text = others text
 
 -- at most so many parts, one at least, and the closing brace (own profile)
-unfoldable pub parts_at : Reader Tree → ℕ → Reader (List Tree)
+unfoldable pub parts_at : Reader Asked Tree → ℕ → Reader Asked (List Tree)
 parts_at value zero text = stops asked.Kind text
 parts_at value (suc n) text = do
   first ← value text
@@ -209,47 +163,47 @@ parts_at value (suc n) text = do
   read_map (λ ts. first.0 ∷ ts) (parts_step (parts_at value n) end.0 end.1)
 
 -- what stands behind the opening brace: the closing one, or parts (own profile)
-abbrev pub list_step : Reader Tree → List ℕ → Option (List ℕ) → Result (List Tree × List ℕ) Stop
+abbrev pub list_step : Reader Asked Tree → List ℕ → Option (List ℕ) → Result (List Tree × List ℕ) (Stop Asked)
 list_step value text (Some rest) = Ok ([], rest)
 list_step value text None = parts_at value (length text) text
 
 -- the content of a value of a kind, where list reads the parts of an array or a structure (own profile)
-unfoldable pub content_at : Reader (List Tree) → Kind → Reader Tree
+unfoldable pub content_at : Reader Asked (List Tree) → Kind → Reader Asked Tree
 content_at list NullData text = Ok (null_data, text)
 content_at list Array text = read_map (λ ts. array (trees ts)) (list text)
 content_at list Structure text = read_map (λ ts. structure (trees ts)) (list text)
 content_at list Boolean text = read_map boolean (truth_at text)
-content_at list DoubleLong text = read_map double_long (signed_at (2 ^ 31) text)
-content_at list DoubleLongUnsigned text = read_map double_long_unsigned (unsigned_at (2 ^ 32 - 1) text)
+content_at list DoubleLong text = read_map double_long (signed_at asked.Number (2 ^ 31) text)
+content_at list DoubleLongUnsigned text = read_map double_long_unsigned (unsigned_at asked.Number (2 ^ 32 - 1) text)
 content_at list OctetString text = read_map octet_string (octets_at text)
 content_at list VisibleString text = read_map visible_string (quoted_at text)
-content_at list Integer text = read_map integer (signed_at (2 ^ 7) text)
-content_at list Long text = read_map long (signed_at (2 ^ 15) text)
-content_at list Unsigned text = read_map unsigned (unsigned_at (2 ^ 8 - 1) text)
-content_at list LongUnsigned text = read_map long_unsigned (unsigned_at (2 ^ 16 - 1) text)
-content_at list Long64 text = read_map long64 (signed_at (2 ^ 63) text)
-content_at list Long64Unsigned text = read_map long64_unsigned (unsigned_at (2 ^ 64 - 1) text)
-content_at list Enumerated text = read_map enumerated (unsigned_at (2 ^ 8 - 1) text)
+content_at list Integer text = read_map integer (signed_at asked.Number (2 ^ 7) text)
+content_at list Long text = read_map long (signed_at asked.Number (2 ^ 15) text)
+content_at list Unsigned text = read_map unsigned (unsigned_at asked.Number (2 ^ 8 - 1) text)
+content_at list LongUnsigned text = read_map long_unsigned (unsigned_at asked.Number (2 ^ 16 - 1) text)
+content_at list Long64 text = read_map long64 (signed_at asked.Number (2 ^ 63) text)
+content_at list Long64Unsigned text = read_map long64_unsigned (unsigned_at asked.Number (2 ^ 64 - 1) text)
+content_at list Enumerated text = read_map enumerated (unsigned_at asked.Number (2 ^ 8 - 1) text)
 
 -- the word of a kind and its content (own profile)
-abbrev pub value_with : Reader (List Tree) → Reader Tree
+abbrev pub value_with : Reader Asked (List Tree) → Reader Asked Tree
 value_with list text = do
   kind ← kind_at text
   content_at list kind.0 kind.1
 
 -- the parts of an array or a structure that may be nested so deep, each of them one less; at depth 0 it is too deep already, whatever follows its word (own profile)
-unfoldable pub list_at : ℕ → Reader (List Tree)
+unfoldable pub list_at : ℕ → Reader Asked (List Tree)
 list_at zero text = stops asked.Depth text
 list_at (suc depth) text = do
   rest ← mark_at asked.OpenBrace (codes "{ ") text
   list_step (value_with (list_at depth)) rest (behind (codes "}") rest)
 
 -- a value that is nested no deeper (own profile)
-unfoldable pub value_within : ℕ → Reader Tree
+unfoldable pub value_within : ℕ → Reader Asked Tree
 value_within depth = value_with (list_at depth)
 
 -- a stop by its place from the front of a text that is so long (own profile)
-abbrev pub placed : {A : Type 0} → ℕ → Result A Stop → Result A ValueFault
+abbrev pub placed : {A : Type 0} → ℕ → Result A (Stop Asked) → Result A ValueFault
 placed size (Ok x) = Ok x
 placed size (Err stop.Memory) = Err fault.Memory
 placed size (Err (stop.At left what)) = Err (fault.At (size - left) what)
@@ -260,17 +214,7 @@ value_at depth text = placed (length text) (value_within depth text)
 
 -- What a function of the code says of this
 
--- a function told the stop that reading meets; where memory ran out it says nothing of what reading gives (own profile)
-abbrev pub Stops : {Y : Type 0} → Stop → Result Y Stop → Type 0
-Stops stop.Memory read = Unit {0}
-Stops (stop.At left what) read = read ≡ Err (stop.At left what)
-
--- what a function returned, seen by view, is what reading gives, unless memory ran out (own profile)
-abbrev pub Reads : {X Y : Type 0} → (X → Y) → Result X Stop → Result Y Stop → Type 0
-Reads view (Ok x) read = read ≡ Ok (view x)
-Reads view (Err e) read = Stops e read
-
--- the same of a fault by its place (own profile)
+-- a function told the fault that is met; where memory ran out it says nothing of what is met (own profile)
 abbrev pub Fails : {Y : Type 0} → ValueFault → Result Y ValueFault → Type 0
 Fails fault.Memory read = Unit {0}
 Fails (fault.At place what) read = read ≡ Err (fault.At place what)

@@ -1,8 +1,9 @@
 //! The words of the kinds.
 ghost use Rattle.std.specs.Prelude.{◌≡◌, option_map};
 ghost use Rattle.value_words.specs.Words as words;
+ghost use Rattle.value_words.specs.Stopping.{Reads};
 ghost use Rattle.value_words.specs.WordReading as spec;
-ghost use Rattle.value_words.specs.WordReading.{Reads, kind_at};
+ghost use Rattle.value_words.specs.WordReading.{kind_at};
 
 use crate::fault::Asked;
 use crate::marks::behind;
@@ -65,7 +66,7 @@ fn kind_among<'a>(kinds: &[Kind], text: &'a [u8]) -> Option<(Kind, &'a [u8])>
 
 /// The kind whose word stands in front.
 #[tactic(auto, unfolding(crate::specs::WordReading::kind_at))]
-pub(crate) fn kind_of(text: &[u8]) -> Result<(Kind, &[u8]), Stop>
+pub(crate) fn kind_of(text: &[u8]) -> Result<(Kind, &[u8]), Stop<Asked>>
     ensures { Reads (λ x. (x.0, x.1.now)) result (kind_at text.now) }
 {
     match kind_among(&KINDS, text) {

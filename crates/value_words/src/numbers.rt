@@ -1,10 +1,10 @@
 //! Reading numbers in decimal.
 ghost use Rattle.std.specs.Prelude.{◌≡◌, ◌<◌, ◌≤◌, ◌+ℤ◌, ◌≤ℤ◌, ◌<ℤ◌, ◌^◌, pos, not, length, position, IfSome, IfOk};
 ghost use Rattle.std.specs.Char.{is_ascii_digit};
+ghost use Rattle.value_words.specs.Stopping.{Reads, front, past};
 ghost use Rattle.value_words.specs.WordReading as spec;
-ghost use Rattle.value_words.specs.WordReading.{Reads, unsigned_at, signed_at, front, past};
+ghost use Rattle.value_words.specs.WordReading.{unsigned_at, signed_at};
 
-use crate::fault::Asked;
 use crate::marks::behind;
 use crate::stop::{Stop, stop_at};
 
@@ -55,16 +55,19 @@ fn digits_of(text: &[u8]) -> (&[u8], &[u8])
     }
 }
 
-/// An unsigned number up to the most.
+/// An unsigned number up to the most, and what stands behind its digits (own profile).
+///
+/// # Errors
+/// The stop in front of the text, if no such number is there.
 #[tactic(auto, unfolding(crate::specs::WordReading::unsigned_at))]
-pub(crate) fn unsigned_of(most: u64, text: &[u8]) -> Result<(u64, &[u8]), Stop>
-    ensures read { Reads (λ x. (x.0, x.1.now)) result (unsigned_at most text.now) }
+pub fn unsigned_of<A: Copy>(asked: A, most: u64, text: &[u8]) -> Result<(u64, &[u8]), Stop<A>>
+    ensures read { Reads (λ x. (x.0, x.1.now)) result (unsigned_at asked most text.now) }
     ensures most { IfOk result (λ x. x.0 ≤ most) }
 {
     let (digits, rest) = digits_of(text);
     match number_in(most, digits) {
         Some(number) => Ok((number, rest)),
-        None => Err(stop_at(text, Asked::Number)),
+        None => Err(stop_at(text, asked)),
     }
 }
 
@@ -82,29 +85,37 @@ fn negative_in(half: u64, text: &[u8]) -> Option<i64>
 }
 
 /// The number below zero that stands behind its minus sign, or the stop in front of the sign.
-fn negative_of<'a>(half: u64, text: &[u8], behind: &'a [u8]) -> Result<(i64, &'a [u8]), Stop>
+fn negative_of<'a, A: Copy>(
+    asked: A,
+    half: u64,
+    text: &[u8],
+    behind: &'a [u8],
+) -> Result<(i64, &'a [u8]), Stop<A>>
     requires { half ≤ 2 ^ 63 }
-    ensures read { Reads (λ x. (x.0, x.1.now)) result (spec.signed_step half text.now (Some behind.now)) }
+    ensures read { Reads (λ x. (x.0, x.1.now)) result (spec.signed_step asked half text.now (Some behind.now)) }
     ensures least { IfOk result (λ x. (x.0 <ℤ pos 0) × (pos 0 ≤ℤ (x.0 +ℤ pos half))) }
 {
     let (digits, rest) = digits_of(behind);
     match negative_in(half, digits) {
         Some(number) => Ok((number, rest)),
-        None => Err(stop_at(text, Asked::Number)),
+        None => Err(stop_at(text, asked)),
     }
 }
 
-/// A signed number from -half up to half - 1.
+/// A signed number from -half up to half - 1, and what stands behind its digits (own profile).
+///
+/// # Errors
+/// The stop in front of the text, if no such number is there.
 #[tactic(auto, unfolding(crate::specs::WordReading::signed_at))]
-pub(crate) fn signed_of(half: u64, text: &[u8]) -> Result<(i64, &[u8]), Stop>
+pub fn signed_of<A: Copy>(asked: A, half: u64, text: &[u8]) -> Result<(i64, &[u8]), Stop<A>>
     requires some { 0 < half }
     requires few { half ≤ 2 ^ 63 }
-    ensures read { Reads (λ x. (x.0, x.1.now)) result (signed_at half text.now) }
+    ensures read { Reads (λ x. (x.0, x.1.now)) result (signed_at asked half text.now) }
     ensures range { IfOk result (λ x. (x.0 <ℤ pos half) × (pos 0 ≤ℤ (x.0 +ℤ pos half))) }
 {
     if let Some(rest) = behind(b"-", text) {
-        return negative_of(half, text, rest);
+        return negative_of(asked, half, text, rest);
     }
-    let (number, rest) = unsigned_of(half - 1, text)?;
+    let (number, rest) = unsigned_of(asked, half - 1, text)?;
     Ok((number as i64, rest))
 }

@@ -2,7 +2,8 @@
 ghost use Rattle.std.specs.Prelude.{◌≡◌, ℕ, ◌≤◌, length, take, drop, map, IfOk, IfErr};
 ghost use Rattle.cosem_data.specs.View.{tree};
 ghost use Rattle.value_words.specs.Words.{value_words};
-ghost use Rattle.value_words.specs.WordReading.{Reads, Gives, truth_at, part_end_at, parts_at, list_at, content_at, value_within, value_at, placed, IsPlaceWithin};
+ghost use Rattle.value_words.specs.Stopping.{Reads};
+ghost use Rattle.value_words.specs.WordReading.{Gives, truth_at, part_end_at, parts_at, list_at, content_at, value_within, value_at, placed, IsPlaceWithin};
 
 use crate::fault::{Asked, ValueFault};
 use crate::kinds::kind_of;
@@ -19,7 +20,7 @@ const DEEPEST: u8 = 16;
 
 /// True or false.
 #[tactic(auto, unfolding(crate::specs::WordReading::truth_at))]
-fn truth_of(text: &[u8]) -> Result<(bool, &[u8]), Stop>
+fn truth_of(text: &[u8]) -> Result<(bool, &[u8]), Stop<Asked>>
     ensures { Reads (λ x. (x.0, x.1.now)) result (truth_at text.now) }
 {
     if let Some(rest) = behind(b"true", text) {
@@ -34,7 +35,7 @@ fn truth_of(text: &[u8]) -> Result<(bool, &[u8]), Stop>
 /// A value that is nested at most `depth`.
 #[cycle(read)]
 #[tactic(auto, unfolding(crate::specs::WordReading::value_within))]
-fn value_of(alloc: Global, depth: u8, text: &[u8]) -> Result<(Data, &[u8]), Stop>
+fn value_of(alloc: Global, depth: u8, text: &[u8]) -> Result<(Data, &[u8]), Stop<Asked>>
     ensures { Reads (λ x. (tree x.0, x.1.now)) result (value_within depth text.now) }
 {
     let (kind, rest) = kind_of(text)?;
@@ -44,7 +45,12 @@ fn value_of(alloc: Global, depth: u8, text: &[u8]) -> Result<(Data, &[u8]), Stop
 /// What stands behind the word of the kind.
 #[cycle(read)]
 #[tactic(auto, unfolding(crate::specs::WordReading::content_at))]
-fn content_of(alloc: Global, depth: u8, kind: Kind, text: &[u8]) -> Result<(Data, &[u8]), Stop>
+fn content_of(
+    alloc: Global,
+    depth: u8,
+    kind: Kind,
+    text: &[u8],
+) -> Result<(Data, &[u8]), Stop<Asked>>
     ensures { Reads (λ x. (tree x.0, x.1.now)) result (content_at (list_at depth) kind text.now) }
 {
     match kind {
@@ -62,11 +68,11 @@ fn content_of(alloc: Global, depth: u8, kind: Kind, text: &[u8]) -> Result<(Data
             Ok((Data::Boolean(truth), rest))
         }
         Kind::DoubleLong => {
-            let (number, rest) = signed_of(1 << 31, text)?;
+            let (number, rest) = signed_of(Asked::Number, 1 << 31, text)?;
             Ok((Data::DoubleLong(number as i32), rest))
         }
         Kind::DoubleLongUnsigned => {
-            let (number, rest) = unsigned_of(u64::from(u32::MAX), text)?;
+            let (number, rest) = unsigned_of(Asked::Number, u64::from(u32::MAX), text)?;
             Ok((Data::DoubleLongUnsigned(number as u32), rest))
         }
         Kind::OctetString => {
@@ -78,31 +84,31 @@ fn content_of(alloc: Global, depth: u8, kind: Kind, text: &[u8]) -> Result<(Data
             Ok((Data::VisibleString(bytes), rest))
         }
         Kind::Integer => {
-            let (number, rest) = signed_of(1 << 7, text)?;
+            let (number, rest) = signed_of(Asked::Number, 1 << 7, text)?;
             Ok((Data::Integer(number as i8), rest))
         }
         Kind::Long => {
-            let (number, rest) = signed_of(1 << 15, text)?;
+            let (number, rest) = signed_of(Asked::Number, 1 << 15, text)?;
             Ok((Data::Long(number as i16), rest))
         }
         Kind::Unsigned => {
-            let (number, rest) = unsigned_of(u64::from(u8::MAX), text)?;
+            let (number, rest) = unsigned_of(Asked::Number, u64::from(u8::MAX), text)?;
             Ok((Data::Unsigned(number as u8), rest))
         }
         Kind::LongUnsigned => {
-            let (number, rest) = unsigned_of(u64::from(u16::MAX), text)?;
+            let (number, rest) = unsigned_of(Asked::Number, u64::from(u16::MAX), text)?;
             Ok((Data::LongUnsigned(number as u16), rest))
         }
         Kind::Long64 => {
-            let (number, rest) = signed_of(1 << 63, text)?;
+            let (number, rest) = signed_of(Asked::Number, 1 << 63, text)?;
             Ok((Data::Long64(number), rest))
         }
         Kind::Long64Unsigned => {
-            let (number, rest) = unsigned_of(u64::MAX, text)?;
+            let (number, rest) = unsigned_of(Asked::Number, u64::MAX, text)?;
             Ok((Data::Long64Unsigned(number), rest))
         }
         Kind::Enumerated => {
-            let (number, rest) = unsigned_of(u64::from(u8::MAX), text)?;
+            let (number, rest) = unsigned_of(Asked::Number, u64::from(u8::MAX), text)?;
             Ok((Data::Enumerated(number as u8), rest))
         }
     }
@@ -111,7 +117,7 @@ fn content_of(alloc: Global, depth: u8, kind: Kind, text: &[u8]) -> Result<(Data
 /// The parts of an array or a structure that may be nested `depth` deep.
 #[cycle(read)]
 #[tactic(auto, unfolding(crate::specs::WordReading::list_at, crate::specs::WordReading::value_within))]
-fn list_of(alloc: Global, depth: u8, text: &[u8]) -> Result<(Items, &[u8]), Stop>
+fn list_of(alloc: Global, depth: u8, text: &[u8]) -> Result<(Items, &[u8]), Stop<Asked>>
     ensures { Reads (λ x. (x.0, x.1.now)) result (list_at depth text.now) }
 {
     if depth == 0 {
@@ -127,7 +133,7 @@ fn list_of(alloc: Global, depth: u8, text: &[u8]) -> Result<(Items, &[u8]), Stop
 
 /// What stands behind a part, and whether it ends the list.
 #[tactic(auto, unfolding(crate::specs::WordReading::part_end_at))]
-fn part_end_of(text: &[u8]) -> Result<(bool, &[u8]), Stop>
+fn part_end_of(text: &[u8]) -> Result<(bool, &[u8]), Stop<Asked>>
     ensures { Reads (λ x. (x.0, x.1.now)) result (part_end_at text.now) }
 {
     if let Some(rest) = behind(b" }", text) {
@@ -141,7 +147,7 @@ fn part_end_of(text: &[u8]) -> Result<(bool, &[u8]), Stop>
 
 /// Values with `, ` between them, up to the closing brace, each nested at most `depth`.
 #[cycle(read)]
-fn parts_of(alloc: Global, depth: u8, text: &[u8]) -> Result<(Vec<Data>, &[u8]), Stop>
+fn parts_of(alloc: Global, depth: u8, text: &[u8]) -> Result<(Vec<Data>, &[u8]), Stop<Asked>>
     ensures { Reads (λ x. (map tree x.0.items, x.1.now)) result (parts_at (value_within depth) (length text.now) text.now) }
 {
     let mut parts = Vec::new(alloc);
@@ -159,7 +165,7 @@ fn parts_of(alloc: Global, depth: u8, text: &[u8]) -> Result<(Vec<Data>, &[u8]),
 }
 
 /// The fault of a stop, by its place from the front of a text that is so long.
-fn fault_of(long: usize, stop: Stop) -> ValueFault
+fn fault_of(long: usize, stop: Stop<Asked>) -> ValueFault
     ensures fault { placed {A = ℕ} long (Err stop) ≡ Err result }
     ensures place { IsPlaceWithin long result }
 {

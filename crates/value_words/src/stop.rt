@@ -2,27 +2,26 @@
 ghost use Rattle.std.specs.Prelude.{◌≡◌, length};
 ghost use Rattle.value_words.specs.declared.stop.Stop.TheVariants.{Memory as out_of_memory};
 
-use crate::fault::Asked;
 use cosem_data::memory::Memory;
 use std::alloc::{AllocError, AllocFailed};
 
-/// Why reading stops, with the place counted from the back of the text.
+/// Why reading stops, with the place counted from the back of the text, and what is asked there (own profile).
 #[derive(Clone, Copy, Debug)]
-pub(crate) enum Stop {
+pub enum Stop<A> {
     /// Memory was refused.
     Memory,
     /// So many bytes before the end of the text something else was asked.
-    At(usize, Asked),
+    At(usize, A),
 }
 
-/// The stop in front of this text.
-pub(crate) fn stop_at(text: &[u8], asked: Asked) -> Stop
+/// The stop in front of this text (own profile).
+pub fn stop_at<A>(text: &[u8], asked: A) -> Stop<A>
     ensures { result ≡ Stop.At (length text.now) asked }
 {
     Stop::At(text.len(), asked)
 }
 
-impl From<Memory> for Stop {
+impl<A> From<Memory> for Stop<A> {
     ghost from_gives = { λ _ stop. stop ≡ out_of_memory };
 
     fn from(_: Memory) -> Self {
@@ -30,7 +29,7 @@ impl From<Memory> for Stop {
     }
 }
 
-impl From<AllocError> for Stop {
+impl<A> From<AllocError> for Stop<A> {
     ghost from_gives = { λ _ stop. stop ≡ out_of_memory };
 
     fn from(_: AllocError) -> Self {
@@ -38,7 +37,7 @@ impl From<AllocError> for Stop {
     }
 }
 
-impl<T: Drop> From<AllocFailed<T>> for Stop {
+impl<A, T: Drop> From<AllocFailed<T>> for Stop<A> {
     ghost from_gives = { λ _ stop. stop ≡ out_of_memory };
 
     fn from(_: AllocFailed<T>) -> Self {

@@ -1,8 +1,9 @@
 //! Reading bytes, in hex digits and in quotes.
 ghost use Rattle.std.specs.Prelude.{◌≡◌, ◌<◌, not, length, position, IfSome};
 ghost use Rattle.value_words.specs.Words as words;
+ghost use Rattle.value_words.specs.Stopping.{Reads, front, past};
 ghost use Rattle.value_words.specs.WordReading as spec;
-ghost use Rattle.value_words.specs.WordReading.{Reads, octets_at, letter_at, letters_at, quoted_at, front, past};
+ghost use Rattle.value_words.specs.WordReading.{octets_at, letter_at, letters_at, quoted_at};
 
 use crate::fault::Asked;
 use crate::marks::mark_of;
@@ -51,7 +52,7 @@ fn digits_of(text: &[u8]) -> (&[u8], &[u8])
 
 /// `-` for no bytes, or upper-case hex digits, two a byte.
 #[tactic(auto, unfolding(crate::specs::WordReading::octets_at))]
-pub(crate) fn octets_of(alloc: Global, text: &[u8]) -> Result<(Bytes, &[u8]), Stop>
+pub(crate) fn octets_of(alloc: Global, text: &[u8]) -> Result<(Bytes, &[u8]), Stop<Asked>>
     ensures { Reads (λ x. (x.0, x.1.now)) result (octets_at text.now) }
 {
     if let [b'-', rest @ ..] = text {
@@ -85,7 +86,7 @@ fn escaped(high: u8, low: u8) -> Option<u8>
 
 /// One byte between quotes, or none at the closing quote.
 #[tactic(auto, unfolding(crate::specs::WordReading::letter_at))]
-fn letter_of(text: &[u8]) -> Result<(Option<u8>, &[u8]), Stop>
+fn letter_of(text: &[u8]) -> Result<(Option<u8>, &[u8]), Stop<Asked>>
     ensures { Reads (λ x. (x.0, x.1.now)) result (letter_at text.now) }
 {
     match text {
@@ -100,7 +101,7 @@ fn letter_of(text: &[u8]) -> Result<(Option<u8>, &[u8]), Stop>
 }
 
 /// Bytes between quotes and the closing quote.
-fn letters_of(alloc: Global, text: &[u8]) -> Result<(Vec<u8>, &[u8]), Stop>
+fn letters_of(alloc: Global, text: &[u8]) -> Result<(Vec<u8>, &[u8]), Stop<Asked>>
     ensures { Reads (λ x. (x.0.items, x.1.now)) result (letters_at (length text.now) text.now) }
 {
     let mut letters = Vec::new(alloc);
@@ -118,7 +119,7 @@ fn letters_of(alloc: Global, text: &[u8]) -> Result<(Vec<u8>, &[u8]), Stop>
 
 /// Bytes in quotes.
 #[tactic(auto, unfolding(crate::specs::WordReading::quoted_at))]
-pub(crate) fn quoted_of(alloc: Global, text: &[u8]) -> Result<(Bytes, &[u8]), Stop>
+pub(crate) fn quoted_of(alloc: Global, text: &[u8]) -> Result<(Bytes, &[u8]), Stop<Asked>>
     ensures { Reads (λ x. (x.0, x.1.now)) result (quoted_at text.now) }
 {
     let rest = mark_of(Asked::Quote, b"\"", text)?;

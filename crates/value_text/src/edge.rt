@@ -1,37 +1,13 @@
-//! Cells and edges as they are printed (own profile).
+//! Edges as they are printed (own profile).
 ghost use Rattle.std.specs.Prelude.{◌≡◌, IfOk, string_bytes};
-ghost use Rattle.explanations.specs.Cells as spec;
-ghost use Rattle.explanations.specs.Cells.{cause_word};
+ghost use Rattle.value_text.specs.Edges as spec;
+ghost use Rattle.value_text.specs.Edges.{cause_word};
 
-use cosem_data::cell::CellRef;
+use crate::cell::CellText;
 use cosem_data::memory::Memory;
 use meter_theory::flow::{Cause, Edge};
 use std::alloc::Global;
 use std::fmt;
-
-/// A cell as it is printed: `class_id/logical name/attribute`, with `seen` for the inner cell of a register monitor.
-#[derive(Drop)]
-pub struct CellText(pub CellRef);
-
-impl fmt::Display for CellText {
-    ghost use Rattle.std.specs.Prelude.{Some};
-    ghost use Rattle.value_text.specs.Texts.{cell_text};
-
-    ghost output = { λ cell. Some (cell_text cell.0) };
-
-    fn fmt<W: fmt::Write>(&self, f: &mut fmt::Formatter<W>) -> fmt::Result {
-        let CellRef {
-            class_id,
-            name,
-            index,
-        } = self.0;
-        if index == 0 {
-            write!(f, "{class_id}/{name}/seen")
-        } else {
-            write!(f, "{class_id}/{name}/{index}")
-        }
-    }
-}
 
 /// An edge as it is printed: `CELL -> CELL CAUSE`.
 #[derive(Drop)]
@@ -39,7 +15,7 @@ pub struct EdgeText(pub Edge);
 
 impl fmt::Display for EdgeText {
     ghost use Rattle.std.specs.Prelude.{Some};
-    ghost use Rattle.explanations.specs.Cells.{edge_text};
+    ghost use Rattle.value_text.specs.Edges.{edge_text};
 
     ghost output = { λ edge. Some (edge_text edge.0) };
 

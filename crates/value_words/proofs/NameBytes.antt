@@ -1,15 +1,18 @@
--- A logical name that is read has six bytes.
-use Rattle.std.proofs.Common.{◌≡◌, ℕ, ◌+◌, ◌-◌, ◌*◌, ◌<◌, Bool, true, false, ◌&&◌, cond, ltb, eqb, List, [], ◌∷◌, length, Some, None, refl, ap, subst, arith, inl, inr}
+-- A logical name that is read has six bytes, each below 256.
+use Rattle.std.proofs.Common.{◌≡◌, ℕ, ◌+◌, ◌-◌, ◌*◌, ◌<◌, Bool, true, false, ◌&&◌, cond, ltb, eqb, List, [], ◌∷◌, length, Option, Some, None, refl, ap, subst, arith, inl, inr}
 use Rattle.std.specs.Char.{is_ascii_digit}
 use Rattle.std.specs.List.{AllByRecursion}
 use Rattle.std.proofs.lemmas.Bool.{and_parts, ltb-true}
 use Rattle.std.proofs.lemmas.Bool.Decides.{nat_tests}
-use Rattle.cosem_data.specs.Digits.{step, field_at, dot_at, dotted_at, name_at}
-use Rattle.label_certificate.proofs.Numbers.{bind_some, chosen}
+use Rattle.cosem_data.specs.Digits.{◌>>=◌, step, field_at, dot_at, dotted_at, name_at}
+use Rattle.value_words.proofs.Steps.{chosen, some_is}
 
-some_is : {A : Type 0} (x y : A) → Some x ≡ Some y → x ≡ y
-some_is x y e = cc
+-- the value of a step that found something
+pub bind_some : {A B : Type 0} (o : Option A) (f : A → Option B) (y : B) → (o >>= f) ≡ Some y → (x : A) × (o ≡ Some x) × (f x ≡ Some y)
+bind_some (Some x) f y e = (x, refl, e)
+bind_some None f y e = absurd cc
 
+-- one more digit
 step_small : (v : ℕ) (text : List ℕ) → v < 256 → (step v text).0 < 256
 step_small v [] h = h
 step_small v (c ∷ rest) h = at (is_ascii_digit c && ltb (10 * v + (c - 48)) 256) refl
@@ -18,6 +21,7 @@ step_small v (c ∷ rest) h = at (is_ascii_digit c && ltb (10 * v + (c - 48)) 25
     at true e = ltb-true (10 * v + (c - 48)) 256 (and_parts _ _ e).1
     at false e = h
 
+-- a number that is read in a name
 field_small : (text : List ℕ) (x : ℕ × List ℕ) → field_at text ≡ Some x → x.0 < 256
 field_small [] x e = absurd cc
 field_small (c ∷ rest) x e =
@@ -33,6 +37,7 @@ field_small (c ∷ rest) x e =
       ]
     ]
 
+-- the number before a dot
 dot_keeps : (value : ℕ) (text : List ℕ) (x : ℕ × List ℕ) → dot_at value text ≡ Some x → value ≡ x.0
 dot_keeps value [] x e = absurd cc
 dot_keeps value (c ∷ rest) x e =
@@ -41,6 +46,7 @@ dot_keeps value (c ∷ rest) x e =
       | inr p ↦ let wrong = p.1 in absurd cc
     ]
 
+-- a number that is read before a dot
 dotted_small : (text : List ℕ) (x : ℕ × List ℕ) → dotted_at text ≡ Some x → x.0 < 256
 dotted_small text x e =
     let b = bind_some (field_at text) (λ y. dot_at y.0 y.1) x e in
@@ -53,6 +59,7 @@ pub record IsNameRead (bytes : List ℕ) : Type 0 where
   pub long : length bytes ≡ 6
   pub small : AllByRecursion (λ b. b < 256) bytes
 
+-- the six numbers, if nothing stands behind them
 six : (rest : List ℕ) (made bytes : List ℕ) → cond (eqb (length rest) 0) (Some made) None ≡ Some bytes → made ≡ bytes
 six [] made bytes e = some_is made bytes e
 six (c ∷ rest) made bytes e = at (eqb (length (c ∷ rest)) 0) e
@@ -61,6 +68,7 @@ six (c ∷ rest) made bytes e = at (eqb (length (c ∷ rest)) 0) e
     at true h = some_is made bytes h
     at false h = absurd cc
 
+-- what is read as a name is one
 pub name_read : (text bytes : List ℕ) → name_at text ≡ Some bytes → IsNameRead bytes
 unfolding name_at
 name_read text bytes h =
