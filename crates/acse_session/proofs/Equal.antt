@@ -12,7 +12,7 @@ use Rattle.acse_association.specs.Answers.{aare_bytes, rlre_bytes}
 use Rattle.acse_association.specs.Answers.{is_aarq, is_rlrq}
 use Rattle.acse_association.specs.Judging.{associated}
 use Rattle.acse_session.specs.Answering.{not_allowed, unknown, reply_answer, next_answer, Says, Brings, AnswersRequest, AnswersInside, AnswersHere, AnswersFrom, AnswersIn, IsSpoken}
-use Rattle.acse_session.specs.Conversation.{Exchange, asked_list}
+use Rattle.xdlms_services.specs.Conversation.{Exchange, asked_list}
 use Rattle.acse_session.specs.Laws.{message, messages, answers, conversation, EqualAnswers}
 use Rattle.acse_session.specs.Stepping.{association_after}
 use Rattle.acse_session.specs.Turns.{Turn, is_opening, is_release_from, opened, in_force, sending}

@@ -1,5 +1,4 @@
 pub mod Equal
 pub mod OneTurn
 pub mod Refining
-pub mod Sendable
 pub mod Sending

@@ -16,7 +16,7 @@ use Rattle.acse_association.specs.Answers.{is_aarq, is_rlrq}
 use Rattle.acse_association.specs.Judging.{associated}
 use Rattle.acse_session.specs.declared.turning.After.{After}
 use Rattle.acse_session.specs.Answering.{not_allowed, unknown, reply_answer, next_answer, Brings, AnswersIn, AnswersRequest, Speaks}
-use Rattle.acse_session.specs.Conversation.{Exchange, Leads, asked_list, Answers}
+use Rattle.xdlms_services.specs.Conversation.{Exchange, Leads, asked_list, Answers}
 use Rattle.acse_session.specs.Keeping.{Kept}
 use Rattle.acse_session.specs.Stepping.{Steps, StepsInside, begun, advanced, association_after, transfer_after}
 use Rattle.acse_session.specs.Turns.{Turn, is_opening, is_release_from, opened, follows_block, block_named, long_value, in_force, sending}

@@ -2,7 +2,7 @@
 use Rattle.std.specs.Prelude.{◌≡◌, ℕ, List, [], ◌∷◌, ◌++◌, map}
 use Rattle.meter_theory.specs.Plan.{Plan}
 use Rattle.acse_session.specs.Answering.{IsSpoken}
-use Rattle.acse_session.specs.Conversation.{Exchange, asked_list}
+use Rattle.xdlms_services.specs.Conversation.{Exchange, asked_list}
 use Rattle.acse_session.specs.Turns.{Turn}
 
 -- what came in a turn: the wPort that the APDU came from, and the APDU (IEC 62056-4-7)

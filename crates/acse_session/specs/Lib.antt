@@ -1,7 +1,5 @@
 pub mod Answering
-pub mod Conversation
 pub mod Keeping
 pub mod Laws
-pub mod Solo
 pub mod Stepping
 pub mod Turns

@@ -14,7 +14,7 @@ use Rattle.xdlms_services.specs.Blocks.{Transfer, start, behind}
 use Rattle.acse_association.specs.declared.association.Association.{Association}
 use Rattle.acse_association.specs.Judging.{associated, takes_blocks}
 use Rattle.acse_association.specs.Answers.{is_aarq, is_rlrq}
-use Rattle.acse_session.specs.Conversation.{Exchange}
+use Rattle.xdlms_services.specs.Conversation.{Exchange}
 
 -- an APDU and the wPort that it came from, what was asked of the meter for it, and the APDU that answers it (own profile)
 pub record Turn : Type 0 where

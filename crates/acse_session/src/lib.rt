@@ -2,12 +2,13 @@
 //!
 //! - [`session::Session`] answers an APDU behind those that came before: it keeps the association in force and the value that is sent
 //!   in blocks, and asks the meter each step that a request is.
-//! - [`asker::Asker`] is what takes these steps, and [`solo::Solo`] a meter alone that does.
+//! - [`Asker`] is what takes these steps, and [`Solo`] a meter alone that does, both of `xdlms_services`.
 //! - [`laws`] has the law that equal APDUs and equal replies of the meter have equal answers.
 #![tactic(auto)]
 
-pub mod asker;
 pub mod laws;
 pub mod session;
-pub mod solo;
 mod turning;
+
+pub use xdlms_services::asker::Asker;
+pub use xdlms_services::solo::Solo;

@@ -1,15 +1,15 @@
 //! A session of a client.
 ghost use Rattle.std.specs.Prelude.{◌≡◌, ◌≤◌, [], IfOk, OnErr, Option, length};
 ghost use Rattle.acse_session.specs.Answering.{Speaks, kept_of};
-ghost use Rattle.acse_session.specs.Conversation.{Exchange, Leads, asked_list};
+ghost use Rattle.xdlms_services.specs.Conversation.{Exchange, Leads, asked_list};
 
-use crate::asker::Asker;
 use crate::turning::turn;
 use acse_association::Association;
 use cosem_data::memory::Memory;
 use object_model::plan::Plan;
 use std::alloc::Global;
 use std::marker::Model;
+use xdlms_services::asker::Asker;
 use xdlms_services::blocks::LongGet;
 
 /// The APDUs of one connection are answered one after another (IEC 62056-5-3). It keeps the association in force and the value that is

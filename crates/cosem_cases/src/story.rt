@@ -5,11 +5,11 @@ ghost use Rattle.meter_theory.specs.States.{IsState};
 use crate::hex_text::bytes_of;
 use crate::texts::parted;
 use acse_session::session::Session;
-use acse_session::solo::Solo;
 use config_reader::read_config;
 use object_model::meter::Meter;
 use object_model::plan::Plan;
 use std::alloc::Global;
+use xdlms_services::solo::Solo;
 
 /// Two sessions on one meter.
 #[derive(Drop)]

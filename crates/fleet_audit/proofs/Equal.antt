@@ -2,7 +2,7 @@
 use Rattle.std.proofs.Common.{◌≡◌, ℕ, ◌||◌, Bool, true, false, List, [], ◌∷◌, ◌++◌, codes, string_bytes, Result, Ok, refl, sym, ap, subst, ◌∙◌}
 use Rattle.std.specs.List.{list_any}
 use Rattle.value_text.specs.Texts.{cell_text}
-use Rattle.explanations.specs.Cells.{edge_text}
+use Rattle.value_text.specs.Edges.{edge_text}
 use Rattle.cosem_data.specs.declared.clients.ClientSet.{ClientSet}
 use Rattle.meter_theory.specs.Check.{Refuses}
 use Rattle.meter_theory.specs.declared.flow.Label.{Label}
@@ -36,11 +36,12 @@ use Rattle.flow_checker.specs.Answer.{IsRefusedAs, IsToldAs, name_at}
 use Rattle.flow_checker.specs.declared.check.Refused.{Refused as RefusedTold}
 use Rattle.flow_checker.specs.declared.check.Refused.TheVariants as told
 use Rattle.fleet_audit.specs.declared.fleet.Text.{Text}
-use Rattle.fleet_audit.specs.declared.verdict.Verdict.{Verdict}
-use Rattle.fleet_audit.specs.declared.verdict.Verdict.TheVariants.{Accepted, Config, Labels, Refused}
-use Rattle.fleet_audit.specs.Judging.{IsVerdict, IsVerdictOf, IsVerdictOn}
+use Rattle.verdict.specs.declared.Verdict.{Verdict}
+use Rattle.verdict.specs.declared.Verdict.TheVariants.{Accepted, Config, Labels, Refused}
+use Rattle.verdict.specs.Judging.{IsVerdict, IsVerdictOn}
+use Rattle.fleet_audit.specs.Audits.{IsVerdictOf}
 use Rattle.fleet_audit.specs.Laws.{SaysTheSame, is_want_of_memory, EqualAudits}
-use Rattle.fleet_audit.specs.Verdicts.{fault_line, label_fault_line, refusal_line, refused_by, verdict_line}
+use Rattle.verdict.specs.Lines.{fault_line, label_fault_line, refusal_line, refused_by, verdict_line}
 
 -- ---- a text has one plan and one policy
 

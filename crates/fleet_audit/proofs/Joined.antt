@@ -1,7 +1,7 @@
 -- Lists of verdicts, joined and cut.
 use Rattle.std.proofs.Common.{◌≡◌, List, [], ◌∷◌, ◌++◌, refl, ap}
 use Rattle.std.specs.List.{AllZip}
-use Rattle.fleet_audit.specs.Judging.{IsVerdictOf}
+use Rattle.fleet_audit.specs.Audits.{IsVerdictOf}
 use Rattle.fleet_audit.specs.Laws.{JoinedAudits, SplitAudits}
 
 module _ {X Y : Type 0} (R : X → Y → Type 0) where

@@ -1,4 +1,3 @@
 pub mod Dealt
 pub mod Equal
 pub mod Joined
-pub mod Judged

@@ -5,10 +5,10 @@ use Rattle.config_text.specs.declared.fault.ConfigFault.TheVariants as config
 use Rattle.label_certificate.specs.declared.fault.LabelFault.TheVariants as labels
 use Rattle.flow_checker.specs.declared.check.Refused.TheVariants as refusals
 use Rattle.fleet_audit.specs.declared.fleet.Text.{Text}
-use Rattle.fleet_audit.specs.declared.verdict.Verdict.{Verdict}
-use Rattle.fleet_audit.specs.declared.verdict.Verdict.TheVariants.{Config, Labels, Refused}
+use Rattle.verdict.specs.declared.Verdict.{Verdict}
+use Rattle.verdict.specs.declared.Verdict.TheVariants.{Config, Labels, Refused}
 use Rattle.fleet_audit.specs.Audits.{Audits}
-use Rattle.fleet_audit.specs.Verdicts.{verdict_line}
+use Rattle.verdict.specs.Lines.{verdict_line}
 
 -- the verdict says that memory was refused (own profile)
 abbrev pub is_want_of_memory : Verdict → Bool

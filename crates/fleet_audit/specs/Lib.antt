@@ -1,7 +1,5 @@
 pub mod Audits
 pub mod Faults
 pub mod Giving
-pub mod Judging
 pub mod Laws
 pub mod Turns
-pub mod Verdicts

@@ -6,13 +6,13 @@ ghost use Rattle.fleet_audit.specs.Turns.{every};
 
 use crate::threads::in_threads;
 use crate::turns::{all_done, in_turn};
-use crate::verdict::Verdict;
 use crate::watch::{Unwatched, Watch};
 use crate::worker::work;
 use gates::Gate;
 use std::num::NonZeroUsize;
 use std::thread::Threads;
 use thiserror::Error;
+use verdict::Verdict;
 
 /// A configuration and labels for it, as texts.
 #[derive(Debug, Drop)]

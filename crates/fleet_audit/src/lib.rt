@@ -1,6 +1,5 @@
-//! Verdicts on configurations and their labels, and on whole fleets of them, by many workers (own profile).
+//! Verdicts on whole fleets of configurations and their labels, by many workers (own profile).
 //!
-//! - [`verdict`] says what a verdict is and what is printed of it, and [`judging`] comes to one.
 //! - [`fleet::audit`] comes to the verdicts on many texts, each in the order given, whatever the number of workers;
 //!   [`fleet::audit_watched`] tells a [`watch::Watch`] of each as it comes.
 //! - [`threads::in_threads`] does the same work at many numbers, each in a thread.
@@ -8,12 +7,11 @@
 #![tactic(auto)]
 
 pub mod fleet;
-pub mod judging;
 pub mod laws;
 pub mod threads;
 mod turns;
-pub mod verdict;
 pub mod watch;
 mod worker;
 
 pub use gates::{Gate, Go};
+pub use verdict::Verdict;

@@ -6,9 +6,9 @@ ghost use Rattle.fleet_audit.specs.Giving.{IsFaultOf};
 ghost use Rattle.fleet_audit.specs.Turns.{turns};
 
 use crate::fleet::AuditFault;
-use crate::verdict::Verdict;
 use std::alloc::Global;
 use std::collections::VecDeque;
+use verdict::Verdict;
 
 /// The lists of all workers, in their order, or the first fault of one.
 pub(crate) fn all_done(

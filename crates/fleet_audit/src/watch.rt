@@ -1,5 +1,5 @@
 //! Who looks on while an audit goes on.
-use crate::verdict::Verdict;
+use verdict::Verdict;
 
 /// Told of each verdict of an audit by the worker that came to it, once it has (own profile). It changes none of them. A watch
 /// that workers share is `Sync`.

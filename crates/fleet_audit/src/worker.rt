@@ -1,15 +1,15 @@
 //! One worker of an audit.
 ghost use Rattle.std.specs.Prelude.{◌≡◌, ◌<◌, ◌≤◌, MatchResult, length};
-ghost use Rattle.fleet_audit.specs.Audits.{Audits};
+ghost use Rattle.fleet_audit.specs.Audits.{Audits, IsVerdictOf};
 ghost use Rattle.fleet_audit.specs.Giving.{IsFaultAt};
 ghost use Rattle.fleet_audit.specs.Turns.{every};
 
 use crate::fleet::{AuditFault, Text};
-use crate::judging::judge;
-use crate::verdict::Verdict;
 use crate::watch::Watch;
 use gates::{Gate, Go};
 use std::alloc::Global;
+use verdict::Verdict;
+use verdict::judging::verdict_of;
 
 /// The verdicts of a worker: on the text at the first seat, and on each that stands `workers` behind the one before. It begins
 /// no further text once the gate has given up, and tells the watch of each verdict.
@@ -42,4 +42,11 @@ pub(crate) fn work<G: Gate, W: Watch>(
         seat += workers;
     }
     Ok(verdicts)
+}
+
+/// The verdict on a text, of its configuration and its labels.
+fn judge(alloc: Global, text: &Text) -> Verdict
+    ensures { IsVerdictOf text.now result }
+{
+    verdict_of(alloc, text.config.as_str(), text.labels.as_str())
 }

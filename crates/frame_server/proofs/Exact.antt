@@ -7,7 +7,7 @@ use Rattle.tcp_wrapper.specs.Stream.{frames_of, IsPartial, Refuses, Splits, head
 use Rattle.tcp_wrapper.proofs.Reading.{one_reading}
 use Rattle.std.proofs.lemmas.List.{length-append, length-map, get_or_append_left}
 use Rattle.meter_theory.specs.Plan.{Plan}
-use Rattle.acse_session.specs.Conversation.{Answers}
+use Rattle.xdlms_services.specs.Conversation.{Answers}
 use Rattle.acse_session.specs.Turns.{Turn}
 use Rattle.frame_server.specs.declared.fault.ServeFault.{ServeFault}
 use Rattle.frame_server.specs.declared.fault.ServeFault.TheVariants.{Read, Write, Wrap, Cut, Memory, GaveUp}

@@ -11,7 +11,7 @@ use Rattle.tcp_wrapper.specs.declared.fault.WrapFault.{WrapFault}
 use Rattle.tcp_wrapper.specs.declared.fault.WrapFault.TheVariants as faults
 use Rattle.tcp_wrapper.specs.Stream.{frame_of, frames_of, IsFrame, IsPartial, Splits, Reads, Causes}
 use Rattle.meter_theory.specs.Plan.{Plan}
-use Rattle.acse_session.specs.Conversation.{Answers, Exchange, Leads, asked_list}
+use Rattle.xdlms_services.specs.Conversation.{Answers, Exchange, Leads, asked_list}
 use Rattle.acse_session.specs.Turns.{Turn}
 use Rattle.acse_session.specs.Answering.{IsSpoken, kept_of}
 use Rattle.acse_session.specs.Keeping.{Kept}

@@ -5,7 +5,7 @@ use Rattle.std.proofs.lemmas.List.Concat.{flat_map-append}
 use Rattle.std.proofs.KnownBytes.{Appends-trans, Appends-nil}
 use Rattle.std.specs.Io.KnownBytes.{Appends}
 use Rattle.tcp_wrapper.specs.declared.message.Message.{Message}
-use Rattle.acse_session.specs.Conversation.{Answers, Exchange, Leads, asked_list}
+use Rattle.xdlms_services.specs.Conversation.{Answers, Exchange, Leads, asked_list}
 use Rattle.acse_session.specs.Turns.{Turn}
 use Rattle.acse_session.specs.Answering.{Speaks}
 use Rattle.acse_session.specs.Keeping.{Kept}

@@ -7,7 +7,7 @@ use Rattle.tcp_wrapper.specs.declared.fault.WrapFault.{WrapFault}
 use Rattle.tcp_wrapper.specs.declared.fault.WrapFault.TheVariants as faults
 use Rattle.tcp_wrapper.specs.Stream.{framed, frame_of, frames_of, IsFrame, IsPartial, Refuses}
 use Rattle.meter_theory.specs.Plan.{Plan}
-use Rattle.acse_session.specs.Conversation.{Answers, Exchange, Leads, asked_list}
+use Rattle.xdlms_services.specs.Conversation.{Answers, Exchange, Leads, asked_list}
 use Rattle.acse_session.specs.Turns.{Turn}
 use Rattle.acse_session.specs.Answering.{Speaks, IsSpoken}
 use Rattle.acse_session.specs.Keeping.{Kept}

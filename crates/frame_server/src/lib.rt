@@ -1,9 +1,7 @@
 //! One connection, from bytes to bytes: frames come from a reader, and their answers go to a writer (IEC 62056-4-7 over TCP).
 //!
 //! - [`serving::serve`] answers the frames of a connection, whatever meter is asked.
-//! - [`writing`] has the loops that write whole texts.
 #![tactic(auto)]
 
 pub mod fault;
 pub mod serving;
-pub mod writing;

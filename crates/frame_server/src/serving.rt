@@ -6,8 +6,6 @@ ghost use Rattle.tcp_wrapper.specs.declared.fault.WrapFault.{WrapFault as FaultV
 ghost use Rattle.frame_server.specs.Serving.{Connection, Serves, AnswersOne, AnswersAll, stop_of_fault, IsOther};
 
 use crate::fault::ServeFault;
-use crate::writing::write_whole;
-use acse_session::asker::Asker;
 use acse_session::session::Session;
 use gates::{Gate, Go, Open};
 use object_model::plan::Plan;
@@ -17,6 +15,8 @@ use tcp_wrapper::fault::WrapFault;
 use tcp_wrapper::feeder::Feeder;
 use tcp_wrapper::framing::{SERVER_PORT, frame};
 use tcp_wrapper::message::Message;
+use whole_writes::write_whole;
+use xdlms_services::asker::Asker;
 
 /// How many bytes are read at once at most.
 const PIECE: usize = 65536;

@@ -7,14 +7,14 @@ use Rattle.std.specs.List.{flat_map}
 use Rattle.meter_theory.specs.Plan.{Plan, start}
 use Rattle.meter_theory.specs.State.{State}
 use Rattle.meter_theory.specs.Steps.{next}
-use Rattle.acse_session.specs.Solo.{Alone}
+use Rattle.xdlms_services.specs.Solo.{Alone}
 use Rattle.line_server.specs.Answering.{Task, Answer, Take, next_of, reply_of_ask}
-use Rattle.line_server.specs.declared.running.LineFault.{LineFault}
-use Rattle.line_server.specs.declared.running.LineFault.TheVariants.{Memory}
+use Rattle.line_server.specs.declared.fault.LineFault.{LineFault}
+use Rattle.line_server.specs.declared.fault.LineFault.TheVariants.{Memory}
 use Rattle.line_server.specs.Spelling.{line_of, reply_text}
 use Rattle.line_server.specs.Lines.{Moment, Turn, lines_of, texts_of, Leads, AnswersAll}
 use Rattle.line_server.specs.Running.{IsReadable, tasks_in, tasks_of, printed, StopsTelling, RunsLines}
-use Rattle.line_server.specs.Solo.{next_by_task, meter_after, replies_to, told, AnswersLine, StopsAtLine, StopsOver}
+use Rattle.line_server.specs.LineMeter.{next_by_task, meter_after, replies_to, told, AnswersLine, StopsAtLine, StopsOver}
 use Rattle.line_server.proofs.Replying.{told-printed}
 use Rattle.line_server.proofs.Telling.{IsTelling, runs-telling}
 

@@ -5,8 +5,8 @@ use Rattle.std.proofs.lemmas.List.Elements.{All-cons, All-head, All-tail, All-ni
 use Rattle.std.proofs.lemmas.List.{map-append}
 use Rattle.std.proofs.KnownBytes.{Appends-trans}
 use Rattle.std.specs.Io.KnownBytes.{Consumes, Appends}
-use Rattle.line_server.specs.declared.running.LineFault.{LineFault}
-use Rattle.line_server.specs.declared.running.LineFault.TheVariants.{Write}
+use Rattle.line_server.specs.declared.fault.LineFault.{LineFault}
+use Rattle.line_server.specs.declared.fault.LineFault.TheVariants.{Write}
 use Rattle.line_server.specs.Lines.{IsLine, ended, text_of_lines, Moment, StandsWhole, Answering, Stopping, Turn, lines_of, texts_of, Leads, Hears, Ends, IsTextFor, Breaks, AnswersAll}
 use Rattle.line_server.specs.Pieces.{Halts, moment}
 

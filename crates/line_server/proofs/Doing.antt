@@ -11,20 +11,20 @@ use Rattle.meter_theory.specs.Steps.{Step, next}
 use Rattle.meter_theory.specs.Replies.{Reply}
 use Rattle.meter_core.specs.Moments.{offered, second_steps, tick_steps}
 use Rattle.xdlms_services.specs.Asking.{Asked, asking_at, apdu_of}
-use Rattle.acse_session.specs.Conversation.{Answers}
-use Rattle.acse_session.specs.Solo.{Alone, AnswersAlone}
+use Rattle.xdlms_services.specs.Conversation.{Answers}
+use Rattle.xdlms_services.specs.Solo.{Alone, AnswersAlone}
 use Rattle.line_server.specs.Asking.{Ask}
 use Rattle.line_server.specs.Answering.{Task, Answer, Take, next_by, reply_by, next_of, reply_of_ask}
 use Rattle.line_server.specs.Doing.{DoesAsked, AnswersAsk, MayAsk, FailsAsk, Does, TakesAll, StopsBehind, TakesLine}
 use Rattle.line_server.specs.Lines.{Puts}
 use Rattle.line_server.specs.Running.{tasks_in}
-use Rattle.line_server.specs.Solo.{meter_after, replies_to, TellsUnreadable, AnswersLine, StopsAtLine}
+use Rattle.line_server.specs.LineMeter.{meter_after, replies_to, TellsUnreadable, AnswersLine, StopsAtLine}
 use Rattle.line_server.specs.Spelling.{line_of, reply_text, unreadable_text}
 use Rattle.line_server.specs.declared.line.Line.{Line as LineValue}
 use Rattle.line_server.specs.declared.line.Line.TheVariants.{Unreadable}
 use Rattle.line_server.specs.declared.reason.Reason.{Reason}
-use Rattle.line_server.specs.declared.running.LineFault.{LineFault}
-use Rattle.line_server.specs.declared.running.LineFault.TheVariants.{Read, Write, Line, Memory}
+use Rattle.line_server.specs.declared.fault.LineFault.{LineFault}
+use Rattle.line_server.specs.declared.fault.LineFault.TheVariants.{Read, Write, Line, Memory}
 
 -- ---- one APDU
 

@@ -6,8 +6,8 @@ use Rattle.meter_theory.specs.Plan.{Plan}
 use Rattle.line_server.specs.declared.line.Line.{Line as LineValue}
 use Rattle.line_server.specs.declared.line.Line.TheVariants.{Unreadable}
 use Rattle.line_server.specs.declared.reason.Reason.{Reason}
-use Rattle.line_server.specs.declared.running.LineFault.{LineFault}
-use Rattle.line_server.specs.declared.running.LineFault.TheVariants.{Read, Write, Line, Memory}
+use Rattle.line_server.specs.declared.fault.LineFault.{LineFault}
+use Rattle.line_server.specs.declared.fault.LineFault.TheVariants.{Read, Write, Line, Memory}
 use Rattle.line_server.specs.Spelling.{line_of}
 use Rattle.line_server.specs.Lines.{IsLine, ended, text_of_lines, with_last, Moment, StandsWhole}
 use Rattle.line_server.specs.Running.{IsReadable, RunsLines, IsOther, IsFirstBad, IsAllReadable}

@@ -11,7 +11,7 @@ use Rattle.xdlms_services.specs.Asking.{asking_at, exception_bytes}
 use Rattle.line_server.specs.Answering.{next_by, reply_by, next_of, reply_of_ask, Task, Answer, Take, steps_of, apdus_from, apdus_of}
 use Rattle.line_server.specs.Spelling.{reply_text}
 use Rattle.line_server.specs.Running.{tasks_of, printed}
-use Rattle.line_server.specs.Solo.{replies_to, told}
+use Rattle.line_server.specs.LineMeter.{replies_to, told}
 
 -- the APDUs in order bring the replies of the run of the steps
 pub replies_to-apdus_of : (P : Plan) (s : State) (tasks : List Task) → replies_to P s tasks ≡ apdus_of tasks (replies P s (steps_of tasks))

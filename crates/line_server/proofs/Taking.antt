@@ -5,8 +5,8 @@ use Rattle.std.proofs.lemmas.List.Elements.{All-push, All-nil, All-same}
 use Rattle.std.proofs.lemmas.List.{map-append, length-map}
 use Rattle.std.proofs.KnownBytes.{Appends-trans, Appends-nil, Consumes-trans, Consumes-nil}
 use Rattle.std.specs.Io.KnownBytes.{Consumes, Appends, IsAtEnd}
-use Rattle.line_server.specs.declared.running.LineFault.{LineFault}
-use Rattle.line_server.specs.declared.running.LineFault.TheVariants.{Write}
+use Rattle.line_server.specs.declared.fault.LineFault.{LineFault}
+use Rattle.line_server.specs.declared.fault.LineFault.TheVariants.{Write}
 use Rattle.line_server.specs.Feeding.{IsSplit}
 use Rattle.line_server.specs.Lines.{IsLine, ended, text_of_lines, Moment, StandsWhole, Answering, Stopping, Puts, Turn, lines_of, texts_of, Leads, Hears, IsBetween, StopsBy}
 use Rattle.line_server.specs.Pieces.{Stands, Halts, Stage, moment}

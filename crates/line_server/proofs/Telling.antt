@@ -5,13 +5,13 @@ use Rattle.std.proofs.lemmas.List.{length-map}
 use Rattle.std.specs.Io.KnownBytes.{Appends}
 use Rattle.meter_theory.specs.Plan.{Plan}
 use Rattle.line_server.specs.declared.reason.Reason.{Reason}
-use Rattle.line_server.specs.declared.running.LineFault.{LineFault}
-use Rattle.line_server.specs.declared.running.LineFault.TheVariants.{Read, Write, Line, Memory}
+use Rattle.line_server.specs.declared.fault.LineFault.{LineFault}
+use Rattle.line_server.specs.declared.fault.LineFault.TheVariants.{Read, Write, Line, Memory}
 use Rattle.line_server.specs.Spelling.{unreadable_text}
 use Rattle.line_server.specs.Lines.{Answering, Stopping, Moment, StandsWhole, Turn, lines_of, texts_of, Leads, Hears, StopsBy, Ends, IsTextFor, Breaks, AnswersAll}
 use Rattle.line_server.specs.Running.{IsReadable, Telling, Heard, StopsTelling, RunsTelling}
 use Rattle.line_server.specs.Running as running
-use Rattle.line_server.specs.Solo.{StopsOver}
+use Rattle.line_server.specs.LineMeter.{StopsOver}
 use Rattle.line_server.proofs.Taking.{Leads-push, lines-push, texts-push}
 
 -- what is true of all is true of the last

@@ -7,12 +7,12 @@ use Rattle.meter_theory.specs.Steps.{Step}
 use Rattle.meter_theory.specs.Replies.{Reply}
 use Rattle.xdlms_services.specs.declared.asking.Exception.TheVariants.{Unknown}
 use Rattle.xdlms_services.specs.Asking.{Asked, asking_at, apdu_of, exception_bytes}
-use Rattle.acse_session.specs.Conversation.{Answers, LosesReply}
+use Rattle.xdlms_services.specs.Conversation.{Answers, LosesReply}
 use Rattle.line_server.specs.Asking.{Ask}
 use Rattle.line_server.specs.Answering.{Task, Answer, Take}
 use Rattle.line_server.specs.declared.line.Line.TheVariants.{Unreadable}
-use Rattle.line_server.specs.declared.running.LineFault.{LineFault}
-use Rattle.line_server.specs.declared.running.LineFault.TheVariants.{Read, Write, Line, Memory}
+use Rattle.line_server.specs.declared.fault.LineFault.{LineFault}
+use Rattle.line_server.specs.declared.fault.LineFault.TheVariants.{Read, Write, Line, Memory}
 use Rattle.line_server.specs.Running.{IsReadable, tasks_in}
 use Rattle.line_server.specs.Spelling.{line_of, reply_text, unreadable_text}
 

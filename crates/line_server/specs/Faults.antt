@@ -1,7 +1,7 @@
 -- What is told of a fault that ends a run of lines, of an unreadable line without its number (own profile).
 use Rattle.std.specs.Prelude.{ℕ, List, codes}
-use Rattle.line_server.specs.declared.running.LineFault.{LineFault}
-use Rattle.line_server.specs.declared.running.LineFault.TheVariants.{Read, Write, Line, Memory}
+use Rattle.line_server.specs.declared.fault.LineFault.{LineFault}
+use Rattle.line_server.specs.declared.fault.LineFault.TheVariants.{Read, Write, Line, Memory}
 use Rattle.line_server.specs.declared.reason.Reason.{Reason}
 use Rattle.line_server.specs.declared.reason.Reason.TheVariants as reasons
 

@@ -3,9 +3,9 @@ pub mod Asking
 pub mod Doing
 pub mod Faults
 pub mod Feeding
+pub mod LineMeter
 pub mod Lines
 pub mod Pieces
 pub mod Running
-pub mod Solo
 pub mod Spelling
 pub mod Words

@@ -1,8 +1,8 @@
 -- A run of lines in the order in which its bytes come: what the parts of the runner do. All of it is own profile.
 use Rattle.std.specs.Prelude.{◌≡◌, ℕ, List, [], ◌++◌, length, Option, ◌⊎◌, All, Result, Ok, Err}
 use Rattle.std.specs.Io.KnownBytes.{Consumes, Appends, IsAtEnd}
-use Rattle.line_server.specs.declared.running.LineFault.{LineFault}
-use Rattle.line_server.specs.declared.running.LineFault.TheVariants.{Write}
+use Rattle.line_server.specs.declared.fault.LineFault.{LineFault}
+use Rattle.line_server.specs.declared.fault.LineFault.TheVariants.{Write}
 use Rattle.line_server.specs.declared.lines.Run.{Run}
 use Rattle.line_server.specs.Lines.{IsLine, text_of_lines, Moment, Answering, Stopping, Turn, lines_of, texts_of, Leads, Ends, Breaks}
 

@@ -11,8 +11,8 @@ use Rattle.meter_core.specs.Moments.{moment_steps, tick_steps}
 use Rattle.line_server.specs.declared.line.Line.{Line as LineValue}
 use Rattle.line_server.specs.declared.line.Line.TheVariants.{Skipped, Ask, Input, Evaluate, At, Ticks, Unreadable}
 use Rattle.line_server.specs.declared.reason.Reason.{Reason}
-use Rattle.line_server.specs.declared.running.LineFault.{LineFault}
-use Rattle.line_server.specs.declared.running.LineFault.TheVariants.{Read, Write, Line, Memory}
+use Rattle.line_server.specs.declared.fault.LineFault.{LineFault}
+use Rattle.line_server.specs.declared.fault.LineFault.TheVariants.{Read, Write, Line, Memory}
 use Rattle.line_server.specs.Lines.{IsLine, ended, text_of_lines, with_last, Moment, StandsWhole}
 use Rattle.line_server.specs.Spelling.{line_of, reply_text, unreadable_text}
 

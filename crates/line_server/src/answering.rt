@@ -1,10 +1,10 @@
 ghost use Rattle.std.specs.Prelude.{◌≡◌, ◌++◌, List, ℕ, OnOk, OnErr};
 ghost use Rattle.line_server.specs.Doing.{AnswersAsk, FailsAsk};
 
-use acse_session::asker::Asker;
 use cosem_data::memory::Memory;
 use std::alloc::Global;
 use std::marker::Model;
+use xdlms_services::asker::Asker;
 use xdlms_services::asking::{Asking, Exception, write_exception};
 use xdlms_services::reading::{ApduFault, read_apdu};
 

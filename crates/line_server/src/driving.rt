@@ -4,7 +4,6 @@ ghost use Rattle.line_server.specs.Doing.{TakesAll, StopsBehind};
 ghost use Rattle.meter_core.specs.Moments as spec;
 ghost use Rattle.meter_core.specs.Moments.{driven, moment_steps, second_steps, tick_steps};
 
-use acse_session::asker::Asker;
 use civil_moment::moment::Moment;
 use cosem_data::memory::Memory;
 use meter_core::moments::offered;
@@ -12,6 +11,7 @@ use meter_core::step::Step;
 use object_model::object::Object;
 use object_model::plan::Plan;
 use std::alloc::Global;
+use xdlms_services::asker::Asker;
 
 /// The asker takes the steps of a moment: the clock is set to it, and each object is offered its step (own profile). The error is
 /// that memory was refused for one of them, and then those before it were taken.

@@ -8,6 +8,7 @@
 
 mod answering;
 pub mod driving;
+pub mod fault;
 pub mod feeding;
 pub mod line;
 pub mod lines;

@@ -4,17 +4,17 @@ ghost use Rattle.line_server.specs.Feeding.{Feeds};
 ghost use Rattle.line_server.specs.Lines.{AnswersAll, IsLine};
 ghost use Rattle.line_server.specs.Pieces.{Halts, TakesPiece, EndsRun};
 
+use crate::fault::LineFault;
 use crate::feeding::Feeder;
-use crate::running::LineFault;
-use frame_server::writing::{write_full, write_waiting};
 use std::alloc::Global;
 use std::io::{Read, Write};
+use whole_writes::{write_full, write_waiting};
 
 /// What answers lines, one after another.
 pub trait AnswersLines {
     ghost use Rattle.std.specs.Prelude.{ℕ, List, OnOk, IfErr};
     ghost use Rattle.line_server.specs.Lines.{Puts};
-    ghost use Rattle.line_server.specs.declared.running.LineFault.{LineFault as FaultValue};
+    ghost use Rattle.line_server.specs.declared.fault.LineFault.{LineFault as FaultValue};
 
     /// The line with this number, from 1, leads from the old to the new, and this text is put for it.
     ghost answers: { Self → ℕ → List ℕ → List ℕ → Self → Type 0 };

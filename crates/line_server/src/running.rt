@@ -6,17 +6,16 @@ ghost use Rattle.line_server.specs.Doing.{AnswersAsk, TakesLine};
 ghost use Rattle.line_server.specs.Lines.{with_last};
 ghost use Rattle.line_server.specs.declared.reason.Reason.{Reason as Why};
 ghost use Rattle.line_server.specs.Running.{RunsLines, IsFirstBad, IsAllReadable, IsOther};
-ghost use Rattle.line_server.specs.Solo.{TellsUnreadable};
+ghost use Rattle.line_server.specs.LineMeter.{TellsUnreadable};
 ghost use Rattle.line_server.specs.Spelling.{reply_text};
 
 use crate::answering::{Ask, answer};
 use crate::driving::{take_moment, take_ticks};
+use crate::fault::LineFault;
 use crate::line::{Line, read_line};
 use crate::lines::{AnswersLines, answer_lines};
 use crate::reason::Reason;
 use crate::text::{put_reply, put_unreadable};
-use acse_session::asker::Asker;
-use acse_session::solo::Solo as Alone;
 use cosem_data::memory::Memory;
 use meter_core::step::Step;
 use object_model::meter::Meter;
@@ -24,45 +23,13 @@ use object_model::plan::Plan;
 use std::alloc::Global;
 use std::io::{Read, Write};
 use std::marker::Model;
-use thiserror::Error;
-
-/// Why a run of lines ended early.
-#[derive(Clone, Copy, Debug, PartialEq, Eq, Drop, Error)]
-pub enum LineFault {
-    /// A read failed, or more than 2^64 - 1 bytes were read.
-    #[error("{}", self.words())]
-    Read,
-    /// A write failed, or took no byte.
-    #[error("{}", self.words())]
-    Write,
-    /// The line with this number, from 1, is unreadable, and why.
-    #[error("line {0}: {words}", words = self.words())]
-    Line(u64, Reason),
-    /// Memory was refused.
-    #[error("{}", self.words())]
-    Memory,
-}
-
-impl LineFault {
-    ghost use Rattle.line_server.specs.Faults.{fault_words};
-
-    /// The fault as it is told, of an unreadable line without its number (own profile).
-    pub fn words(self) -> &'static str
-        ensures { result.now ≡ fault_words self }
-    {
-        match self {
-            LineFault::Read => "the lines can't be read",
-            LineFault::Write => "the replies can't be written",
-            LineFault::Line(_, _) => "unreadable",
-            LineFault::Memory => "out of memory",
-        }
-    }
-}
+use xdlms_services::asker::Asker;
+use xdlms_services::solo::Solo;
 
 /// A meter of a plan alone, which answers lines. Contracts see the plan and the meter.
 #[derive(Drop)]
-pub struct Solo<'a> {
-    asker: Alone<'a>,
+pub struct LineMeter<'a> {
+    asker: Solo<'a>,
     room: Room,
 }
 
@@ -73,29 +40,29 @@ struct Room {
     reply: Vec<u8>,
 }
 
-impl<'a> Model for Solo<'a> {
-    ghost use Rattle.acse_session.specs.Solo.{Alone as AloneValue, alone_code};
+impl<'a> Model for LineMeter<'a> {
+    ghost use Rattle.xdlms_services.specs.Solo.{Alone, alone_code};
 
-    ghost Value = { AloneValue };
+    ghost Value = { Alone };
 
     ghost coded = { alone_code };
 
     ghost view = { λ s. s.asker };
 }
 
-impl<'a> Solo<'a> {
+impl<'a> LineMeter<'a> {
     /// A meter that begins at the start of the plan.
     pub fn start(alloc: Global, plan: &'a Plan) -> Result<Self, Memory>
         ensures plan { IfOk result (λ x. x.plan ≡ plan.now) }
         ensures meter { IfOk result (λ x. x.meter ≡ start plan.now) }
     {
         plan.known();
-        let asker = Alone::new(plan, plan.start(alloc)?);
+        let asker = Solo::new(plan, plan.start(alloc)?);
         let room = Room {
             apdu: Vec::new(alloc),
             reply: Vec::new(alloc),
         };
-        Ok(Solo { asker, room })
+        Ok(LineMeter { asker, room })
     }
 
     /// Its plan.
@@ -120,8 +87,8 @@ impl<'a> Solo<'a> {
     }
 }
 
-impl<'a> AnswersLines for Solo<'a> {
-    ghost use Rattle.line_server.specs.Solo.{AnswersLine, StopsAtLine};
+impl<'a> AnswersLines for LineMeter<'a> {
+    ghost use Rattle.line_server.specs.LineMeter.{AnswersLine, StopsAtLine};
 
     ghost answers = { AnswersLine };
 
@@ -252,8 +219,8 @@ pub fn run_lines<R: Read, W: Write>(
     ensures unreadable { (input : List ℕ) (lines : List (List ℕ)) (line rest : List ℕ) (why : Why) → R.remaining reader.old ≡ Some input →
         IsFirstBad plan.now input lines line rest why → (result ≡ Err (LineFault.Line (length lines + 1) why)) ⊎ IsOther result }
 {
-    let Ok(mut solo) = Solo::start(alloc, plan) else {
+    let Ok(mut meter) = LineMeter::start(alloc, plan) else {
         return Err(LineFault::Memory);
     };
-    answer_lines(alloc, &mut solo, reader, writer)
+    answer_lines(alloc, &mut meter, reader, writer)
 }

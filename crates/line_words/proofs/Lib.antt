@@ -1,4 +1,5 @@
 mod Looking
 mod Rows
-pub mod States
 mod Told
+pub mod Aloud
+pub mod States

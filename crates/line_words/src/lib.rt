@@ -7,8 +7,10 @@
 //!
 //! - [`watch::Watch`] keeps what the cells of a meter held when they were looked at last.
 //! - [`telling::push_told`] puts what is told of a line behind a text.
+//! - [`watching::run_watched`] answers lines as `run_lines` does, and tells of each.
 #![tactic(auto)]
 
 mod held;
 pub mod telling;
 pub mod watch;
+pub mod watching;

@@ -111,7 +111,7 @@ fn push_line(
 /// # Errors
 /// `Memory` where memory is refused; the text is then as it was, and the watch is of no more use.
 #[tactic(auto, unfolding(crate::specs::Telling::told_text))]
-pub fn push_told(
+pub(crate) fn push_told(
     alloc: Global,
     plan: &Plan,
     meter: &Meter,

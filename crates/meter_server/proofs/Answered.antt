@@ -2,8 +2,8 @@
 use Rattle.std.proofs.Common.{◌≡◌, ℕ, List, sym, subst, Result, Ok, Err}
 use Rattle.std.specs.Prelude.{◌≢◌}
 use Rattle.explanations.specs.declared.file.FileFault.{FileFault}
-use Rattle.fleet_audit.specs.declared.verdict.Verdict.{Verdict}
-use Rattle.fleet_audit.specs.declared.verdict.Verdict.TheVariants.{Accepted, Config, Labels, Refused}
+use Rattle.verdict.specs.declared.Verdict.{Verdict}
+use Rattle.verdict.specs.declared.Verdict.TheVariants.{Accepted, Config, Labels, Refused}
 use Rattle.live_server.specs.declared.fault.ServerFault.{ServerFault}
 use Rattle.meter_server.specs.Answering.{IsFile, IsNoAcceptance, IsServed, TellsUnread}
 use Rattle.meter_server.specs.Outcomes.{ended}

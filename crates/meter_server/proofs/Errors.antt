@@ -2,7 +2,7 @@
 use Rattle.std.proofs.Common.{◌≡◌, ◌<◌, ℕ, List, [], ◌++◌, length, codes, Option, Result, Ok, Err, OnOk, OnErr, append-nil, inr, sym}
 use Rattle.std.proofs.KnownBytes.{Appends-trans}
 use Rattle.std.specs.Io.KnownBytes.{Appends}
-use Rattle.frame_server.specs.declared.writing.WriteFailed.{WriteFailed}
+use Rattle.whole_writes.specs.declared.WriteFailed.{WriteFailed}
 use Rattle.meter_server.specs.Answering.{TellsError, WritesError}
 use Rattle.meter_server.specs.declared.listing.ListFault.TheVariants as lists
 use Rattle.meter_server.specs.declared.outcome.Outcome.{Outcome}

@@ -1,9 +1,6 @@
-pub mod Aloud
 pub mod Answered
 pub mod Ends
 pub mod Errors
 pub mod Fleets
 pub mod Listed
 pub mod Made
-pub mod Onlooking
-pub mod Seeing

@@ -8,7 +8,7 @@ use Rattle.value_text.specs.Texts.{cell_text}
 use Rattle.flow_edges.specs.declared.table.Link.{Link}
 use Rattle.flow_edges.specs.Table.{IsLink, AreWithin, edge_at, no_cell}
 use Rattle.line_server.specs.Lines.{ended}
-use Rattle.explanations.specs.Cells.{cause_word, edge_text}
+use Rattle.value_text.specs.Edges.{cause_word, edge_text}
 use Rattle.meter_server.specs.Listing.{edges_text, link_text, links_text}
 
 -- the line of an edge between numbers is that of the edge between cells

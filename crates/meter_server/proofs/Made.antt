@@ -7,7 +7,7 @@ use Rattle.config_text.specs.Parts.{ConfigText}
 use Rattle.config_rules.specs.Faultless.{IsPolicyOf}
 use Rattle.config_rules.specs.PlanOf.{plan_of}
 use Rattle.config_reader.specs.ConfigOf.{Reads}
-use Rattle.line_server.specs.declared.running.LineFault.{LineFault}
+use Rattle.line_server.specs.declared.fault.LineFault.{LineFault}
 use Rattle.line_server.specs.Lines.{Moment}
 use Rattle.line_server.specs.Running.{RunsLines}
 use Rattle.meter_server.specs.Outcomes.{outcome_of}

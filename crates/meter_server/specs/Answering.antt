@@ -12,14 +12,14 @@ use Rattle.config_text.specs.Fault.{Fault as Faulty, Fails}
 use Rattle.config_text.specs.Parts.{ConfigText}
 use Rattle.config_text.specs.declared.fault.ConfigFault.{ConfigFault}
 use Rattle.explanations.specs.declared.file.FileFault.{FileFault}
-use Rattle.fleet_audit.specs.Judging.{IsVerdict}
+use Rattle.verdict.specs.Judging.{IsVerdict}
 use Rattle.fleet_audit.specs.declared.fleet.AuditFault.TheVariants as audits
 use Rattle.fleet_audit.specs.declared.fleet.Text.{Text}
-use Rattle.fleet_audit.specs.declared.verdict.Verdict.{Verdict}
-use Rattle.fleet_audit.specs.declared.verdict.Verdict.TheVariants.{Accepted}
+use Rattle.verdict.specs.declared.Verdict.{Verdict}
+use Rattle.verdict.specs.declared.Verdict.TheVariants.{Accepted}
 use Rattle.flow_checker.specs.declared.check.Checked.{Checked}
 use Rattle.line_server.specs.Lines.{Moment}
-use Rattle.line_server.specs.declared.running.LineFault.TheVariants as lines
+use Rattle.line_server.specs.declared.fault.LineFault.TheVariants as lines
 use Rattle.meter_theory.specs.Plan.{client_named}
 use Rattle.meter_server.specs.Auditing.{AuditsTexts}
 use Rattle.meter_server.specs.Connecting.{AnswersFrames}

@@ -2,11 +2,11 @@
 use Rattle.std.specs.Prelude.{◌≡◌, ℕ, List, [], ◌∷◌, ◌++◌, Bool, true, false, codes, string_bytes}
 use Rattle.std.specs.List.{list_all}
 use Rattle.fleet_audit.specs.Audits.{Audits}
-use Rattle.fleet_audit.specs.Verdicts.{verdict_line}
+use Rattle.verdict.specs.Lines.{verdict_line}
 use Rattle.fleet_audit.specs.declared.fleet.AuditFault.TheVariants as faults
 use Rattle.fleet_audit.specs.declared.fleet.Text.{Text}
-use Rattle.fleet_audit.specs.declared.verdict.Verdict.{Verdict}
-use Rattle.fleet_audit.specs.declared.verdict.Verdict.TheVariants.{Accepted}
+use Rattle.verdict.specs.declared.Verdict.{Verdict}
+use Rattle.verdict.specs.declared.Verdict.TheVariants.{Accepted}
 use Rattle.meter_server.specs.declared.outcome.Outcome.{Outcome}
 use Rattle.meter_server.specs.declared.outcome.Outcome.TheVariants.{Audited, Unaudited}
 

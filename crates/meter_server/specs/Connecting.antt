@@ -1,6 +1,6 @@
 -- The frames of one connection, answered by the configuration that a text says. All of it is own profile; what the frames bring and what answers them is not.
 use Rattle.std.specs.Prelude.{◌≡◌, ℕ, string_bytes, Result, Ok, Err}
-use Rattle.acse_session.specs.Solo.{Alone, AnswersAlone}
+use Rattle.xdlms_services.specs.Solo.{Alone, AnswersAlone}
 use Rattle.config_rules.specs.PlanOf.{plan_of}
 use Rattle.config_text.specs.Fault.{Fault as ConfigFault, Fails}
 use Rattle.config_text.specs.Parts.{ConfigText}
@@ -12,7 +12,7 @@ use Rattle.meter_server.specs.Program.{ExplainsFault, IsTold}
 use Rattle.meter_server.specs.declared.outcome.Outcome.{Outcome}
 use Rattle.meter_server.specs.declared.outcome.Outcome.TheVariants.{Done, Judged, Broken}
 use Rattle.meter_server.specs.declared.program.Source.{Source}
-use Rattle.fleet_audit.specs.declared.verdict.Verdict.TheVariants.{Config}
+use Rattle.verdict.specs.declared.Verdict.TheVariants.{Config}
 
 -- a connection to a meter alone, with what is unread and what is written
 abbrev pub connected : Alone → Moment → Connection Alone

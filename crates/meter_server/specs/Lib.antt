@@ -7,7 +7,5 @@ pub mod Outcomes
 pub mod Program
 pub mod Progress
 pub mod Reading
-pub mod Seen
 pub mod Sources
 pub mod Translating
-pub mod Watching

@@ -4,7 +4,7 @@ use Rattle.std.specs.Io.KnownBytes.{Appends}
 use Rattle.meter_theory.specs.Labels.{Labels, AreLeast}
 use Rattle.meter_theory.specs.Plan.{Plan, cells}
 use Rattle.meter_theory.specs.declared.flow.Edge.{Edge}
-use Rattle.explanations.specs.Cells.{cause_word, edge_text}
+use Rattle.value_text.specs.Edges.{cause_word, edge_text}
 use Rattle.flow_edges.specs.declared.table.Link.{Link}
 use Rattle.label_certificate.specs.LabelText.{text_of_labels}
 use Rattle.line_server.specs.Lines.{ended}

@@ -14,19 +14,19 @@ use Rattle.live_server.specs.Faults as servers
 use Rattle.live_server.specs.declared.fault.ServerFault.{ServerFault}
 use Rattle.meter_server.specs.Listing as lists
 use Rattle.meter_server.specs.Translating as translations
-use Rattle.fleet_audit.specs.Verdicts.{verdict_line}
+use Rattle.verdict.specs.Lines.{verdict_line}
 use Rattle.meter_server.specs.declared.listing.ListFault.{ListFault}
 use Rattle.meter_server.specs.declared.outcome.Outcome.{Outcome}
 use Rattle.meter_server.specs.declared.outcome.Outcome.TheVariants.{Done, Judged, Words, Unread, Stranger, Fault, Broken, Unserved, Audited, Unaudited, Unwritten, Untranslated, Closed}
-use Rattle.line_server.specs.declared.running.LineFault.{LineFault}
-use Rattle.line_server.specs.declared.running.LineFault.TheVariants.{Line}
-use Rattle.line_server.specs.declared.running.LineFault.TheVariants as lines
+use Rattle.line_server.specs.declared.fault.LineFault.{LineFault}
+use Rattle.line_server.specs.declared.fault.LineFault.TheVariants.{Line}
+use Rattle.line_server.specs.declared.fault.LineFault.TheVariants as lines
 use Rattle.frame_server.specs.declared.fault.ServeFault.TheVariants as frames
 use Rattle.meter_server.specs.declared.listing.ListFault.TheVariants as lists_fault
 use Rattle.meter_server.specs.declared.translating.TranslationFault.TheVariants as texts
 use Rattle.meter_server.specs.declared.translating.TranslationFault.{TranslationFault}
-use Rattle.fleet_audit.specs.declared.verdict.Verdict.{Verdict}
-use Rattle.fleet_audit.specs.declared.verdict.Verdict.TheVariants.{Accepted, Config, Labels, Refused}
+use Rattle.verdict.specs.declared.Verdict.{Verdict}
+use Rattle.verdict.specs.declared.Verdict.TheVariants.{Accepted, Config, Labels, Refused}
 
 -- how a command ended whose lines were answered so
 abbrev pub outcome_of : Result ℕ LineFault → Outcome

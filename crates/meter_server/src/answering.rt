@@ -15,24 +15,24 @@ use crate::program::{
     list_labels, translated,
 };
 use crate::reading::{FleetFault, read_fleet};
-use crate::serving::{Place, serve_at};
 use crate::sources::{Sources, is_either_input, is_input};
 use crate::translating::{Way, translate};
 use command_words::Command;
 use config_reader::read_config;
 use explanations::file::FileFault;
 use fleet_audit::fleet::AuditFault;
-use fleet_audit::judging::accepted;
-use fleet_audit::verdict::Verdict;
 use flow_checker::check::Checked;
-use line_server::running::LineFault;
+use line_server::fault::LineFault;
+use live_server::serving::{Place, serve_at};
 use std::alloc::Global;
 use std::io::{Read, Write};
 use std::net::{Net, TcpListener, TcpStream};
-use std::num::NonZeroUsize;
+use std::num::{NonZeroU16, NonZeroUsize};
 use std::sync::Wait;
 use std::thread::Threads;
 use std::time::Clock;
+use verdict::Verdict;
+use verdict::judging::accepted;
 
 /// The demo configuration, under the name of the file that people copy.
 const DEMO_SOURCE: Source<'static> = Source {
@@ -112,15 +112,22 @@ where
             port,
             sessions,
         } => {
-            let place = Place {
-                address: bind,
-                port,
-                sessions,
-            };
+            let place = place_of(bind, port, sessions);
             serve_files(rt, files, config, labels, place, input, errors)
         }
         Command::Encode => translated(translate(alloc, Way::Encode, input, output)),
         Command::Decode => translated(translate(alloc, Way::Decode, input, output)),
+    }
+}
+
+/// Where the words of a command line have connections taken.
+fn place_of(bind: &str, port: NonZeroU16, sessions: u64) -> Place<'_>
+    ensures { (result.address.now ≡ bind.now) × (result.port ≡ port) × (result.sessions ≡ sessions) }
+{
+    Place {
+        address: bind,
+        port,
+        sessions,
     }
 }
 

@@ -8,7 +8,6 @@ use crate::outcome::Outcome;
 use crate::progress::Progress;
 use cosem_data::memory::Memory;
 use fleet_audit::fleet::{AuditFault, Text, audit_watched};
-use fleet_audit::verdict::{Verdict, verdict_text};
 use fleet_audit::watch::{Unwatched, Watch};
 use gates::Open;
 use std::alloc::Global;
@@ -16,10 +15,11 @@ use std::io::Write;
 use std::num::NonZeroUsize;
 use std::thread::Threads;
 use std::time::Clock;
+use verdict::{Verdict, verdict_text};
 
 /// The verdicts on many configurations and their labels, each in a line behind its name, by so many workers, and whether all are
 /// accepted. Whatever the number of workers, the lines are those that one would come to.
-pub fn audit_texts<H: Threads + AllocGlobal + Sync>(
+pub(crate) fn audit_texts<H: Threads + AllocGlobal + Sync>(
     rt: &H,
     names: &[&str],
     texts: Vec<Text>,

@@ -1,16 +1,16 @@
 //! The frames of one connection, answered by a meter alone.
 ghost use Rattle.meter_server.specs.Connecting.{ServesAlone};
 
-use acse_session::solo::Solo;
 use frame_server::fault::ServeFault;
 use frame_server::serving::serve;
 use object_model::plan::Plan;
 use std::alloc::Global;
 use std::io::{Read, Write};
+use xdlms_services::solo::Solo;
 
 /// Answers the frames that the reader gives, by a meter of the plan that begins at its start, and says how many there were. It ends
 /// as `serve` does.
-pub fn serve_alone<R: Read, W: Write>(
+pub(crate) fn serve_alone<R: Read, W: Write>(
     alloc: Global,
     plan: &Plan,
     reader: &mut R,

@@ -7,10 +7,8 @@ ghost use Rattle.meter_server.specs.Listing.{WritesLeast, WritesText, edges_text
 
 use cosem_data::cell::CellRef;
 use cosem_data::memory::Memory;
-use explanations::cell::word_of;
 use flow_edges::edges::edge_table;
 use flow_edges::table::Link;
-use frame_server::writing::{write_full, write_waiting, write_whole};
 use label_certificate::least::make_labels;
 use label_certificate::writing::write_labels;
 use object_model::plan::Plan;
@@ -18,6 +16,8 @@ use std::alloc::Global;
 use std::io::Write;
 use thiserror::Error;
 use value_text::cell::push_cell;
+use value_text::edge::word_of;
+use whole_writes::{write_full, write_waiting, write_whole};
 
 /// Why a text that a program prints, as a list or a verdict, wasn't written whole.
 #[derive(Clone, Copy, Debug, PartialEq, Eq, Drop, Error)]
@@ -48,7 +48,11 @@ impl ListFault {
 ///
 /// # Errors
 /// Memory was refused or a write failed, and then a beginning of the list was written.
-pub fn write_edges<W: Write>(alloc: Global, plan: &Plan, writer: &mut W) -> Result<(), ListFault>
+pub(crate) fn write_edges<W: Write>(
+    alloc: Global,
+    plan: &Plan,
+    writer: &mut W,
+) -> Result<(), ListFault>
     ensures { WritesText (edges_text (edges plan.now)) (W.contents writer.old) (W.contents writer.new) result }
 {
     let Ok(table) = edge_table(alloc, plan) else {
@@ -118,7 +122,7 @@ fn push_link(texts: &[Vec<u8>], link: Link, waiting: &mut Vec<u8>) -> Result<(),
 ///
 /// # Errors
 /// Memory was refused, and nothing was written; or a write failed, and a beginning of the list was written.
-pub fn write_least_labels<W: Write>(
+pub(crate) fn write_least_labels<W: Write>(
     alloc: Global,
     plan: &Plan,
     writer: &mut W,

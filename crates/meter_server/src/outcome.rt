@@ -10,11 +10,11 @@ use cosem_data::memory::Memory;
 use explanations::file::FileFault;
 use explanations::printable::printable_text;
 use fleet_audit::fleet::AuditFault;
-use fleet_audit::verdict::{Verdict, verdict_text};
 use frame_server::fault::ServeFault;
-use line_server::running::LineFault;
+use line_server::fault::LineFault;
 use live_server::fault::ServerFault;
 use std::alloc::Global;
+use verdict::{Verdict, verdict_text};
 
 /// How a command ended.
 #[derive(Debug, Drop)]

@@ -17,7 +17,6 @@ use crate::listing::{ListFault, write_edges, write_least_labels};
 use crate::outcome::Outcome;
 use crate::output::Output;
 use crate::translating::TranslationFault;
-use crate::watching::{Watched, run_watched};
 use command_words::{WordsFault, read_words};
 use config_reader::read_config;
 use config_text::fault::ConfigFault;
@@ -25,10 +24,10 @@ use cosem_data::memory::Memory;
 use explanations::config::explain_config;
 use explanations::labels::explain_labels;
 use explanations::refusal::explain_refusal;
-use fleet_audit::verdict::Verdict;
 use frame_server::fault::ServeFault;
-use frame_server::writing::write_whole;
-use line_server::running::{LineFault, run_lines};
+use line_server::fault::LineFault;
+use line_server::running::run_lines;
+use line_words::watching::{Watched, run_watched};
 use live_server::fault::ServerFault;
 use meter_live::board::Closed;
 use object_model::plan::Plan;
@@ -38,10 +37,12 @@ use std::net::{Net, TcpListener, TcpStream};
 use std::sync::Wait;
 use std::thread::Threads;
 use std::time::Clock;
+use verdict::Verdict;
+use whole_writes::write_whole;
 
 /// A file by its path, with its text.
 #[derive(Clone, Copy, Debug)]
-pub struct Source<'a> {
+pub(crate) struct Source<'a> {
     pub file: &'a str,
     pub text: &'a str,
 }
@@ -191,7 +192,7 @@ fn texts_of(alloc: Global, words: &[String]) -> Result<Vec<&str>, Memory>
 /// Answers the lines of the input by a configuration, on the output, and says how that ended: `Done`, a fault of the run, or the
 /// verdict where the configuration has a fault or memory was refused while it was read; then nothing was read of the input, and
 /// nothing written.
-pub fn answer_text<I: Read, O: Write>(
+pub(crate) fn answer_text<I: Read, O: Write>(
     alloc: Global,
     config: Source<'_>,
     input: &mut I,
@@ -210,7 +211,7 @@ pub fn answer_text<I: Read, O: Write>(
 /// Answers the frames of the input, those of one connection, by a configuration, on the output, and says how that ended: `Done`, a
 /// fault of the connection, or the verdict where the configuration has a fault or memory was refused while it was read; then nothing
 /// was read of the input, and nothing written.
-pub fn answer_frames<I: Read, O: Write>(
+pub(crate) fn answer_frames<I: Read, O: Write>(
     alloc: Global,
     config: Source<'_>,
     input: &mut I,
@@ -228,7 +229,7 @@ pub fn answer_frames<I: Read, O: Write>(
 
 /// Answers the lines of the input by a configuration as `answer_text` does, and tells of each on the error stream, once it is
 /// answered: what it asked, what was answered and what changed, in words.
-pub fn answer_aloud<I: Read, O: Write, E: Write>(
+pub(crate) fn answer_aloud<I: Read, O: Write, E: Write>(
     alloc: Global,
     config: Source<'_>,
     input: &mut I,
@@ -265,7 +266,7 @@ fn run_aloud<I: Read, O: Write, E: Write>(
 
 /// Writes the edges of a configuration on the output, and says how that ended: `Done`, a fault of the list, or the verdict where
 /// the configuration has a fault or memory was refused while it was read; then nothing was written.
-pub fn list_edges<O: Write>(alloc: Global, config: Source<'_>, output: &mut O) -> Outcome
+pub(crate) fn list_edges<O: Write>(alloc: Global, config: Source<'_>, output: &mut O) -> Outcome
     ensures { ListsEdges config.entry (config_of config.entry.text.now) (O.contents output.old) (O.contents output.new) result }
 {
     match read_config(alloc, config.text) {
@@ -275,7 +276,7 @@ pub fn list_edges<O: Write>(alloc: Global, config: Source<'_>, output: &mut O) -
 }
 
 /// Writes the least labels of a configuration on the output, and says how that ended, as `list_edges` does.
-pub fn list_labels<O: Write>(alloc: Global, config: Source<'_>, output: &mut O) -> Outcome
+pub(crate) fn list_labels<O: Write>(alloc: Global, config: Source<'_>, output: &mut O) -> Outcome
     ensures { ListsLabels config.entry (config_of config.entry.text.now) (O.contents output.old) (O.contents output.new) result }
 {
     match read_config(alloc, config.text) {
@@ -286,7 +287,7 @@ pub fn list_labels<O: Write>(alloc: Global, config: Source<'_>, output: &mut O) 
 
 /// What explains a verdict on the configuration in a file and the labels in another, in whole lines; nothing where they are
 /// accepted (own profile). The error is that memory was refused.
-pub fn explain_verdict(
+pub(crate) fn explain_verdict(
     alloc: Global,
     config: Source<'_>,
     labels: Source<'_>,

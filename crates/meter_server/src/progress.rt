@@ -2,15 +2,15 @@
 ghost use Rattle.std.specs.Prelude.{◌≡◌};
 
 use crate::auditing::is_accepted;
-use fleet_audit::verdict::Verdict;
 use fleet_audit::watch::Watch;
-use frame_server::writing::write_whole;
 use std::alloc::Global;
 use std::fmt;
 use std::io::Write;
 use std::sync::Mutex;
 use std::sync::atomic::{AtomicUsize, Ordering};
 use std::time::{Clock, Duration, Instant};
+use verdict::Verdict;
+use whole_writes::write_whole;
 
 /// The least time between two lines, in milliseconds: nobody reads more than ten a second, and each is a write that holds a worker.
 const PAUSE: u64 = 100;

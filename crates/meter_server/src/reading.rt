@@ -28,7 +28,7 @@ pub enum FleetFault {
 ///
 /// # Errors
 /// The first file, in this order, that isn't read; or memory was refused.
-pub fn read_fleet<H: AllocGlobal + Threads + Sync, F: TextFiles + Sync>(
+pub(crate) fn read_fleet<H: AllocGlobal + Threads + Sync, F: TextFiles + Sync>(
     rt: &H,
     files: &F,
     names: &[&str],

@@ -5,12 +5,12 @@ ghost use Rattle.meter_server.specs.Translating as spec;
 ghost use Rattle.meter_server.specs.Translating.{ReadsAll, Translates};
 
 use cosem_data::memory::Memory;
-use frame_server::writing::write_whole;
 use std::alloc::Global;
 use std::io::{ErrorKind, Read, Write};
 use step_words::fault::TextFault;
 use step_words::texts::{decode_text, encode_text};
 use thiserror::Error;
+use whole_writes::write_whole;
 
 /// Which way a text is translated (own profile).
 #[derive(Clone, Copy, Debug)]

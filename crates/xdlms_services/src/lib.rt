@@ -1,13 +1,17 @@
-//! The services of IEC 62056-5-3 with logical names: what clients ask of the meter, and what it
-//! replies, as APDUs.
+//! The services of IEC 62056-5-3 with logical names: what clients ask of the meter, and what it replies, as APDUs.
+//!
+//! - [`asking::Asking`] is a request as a step that is asked, and [`asker::Asker`] what takes such steps: [`solo::Solo`] is a meter alone
+//!   that does.
 #![tactic(auto)]
 
+pub mod asker;
 pub mod asking;
 pub mod blocks;
 pub mod laws;
 pub mod reading;
 pub mod request;
 pub mod requests;
+pub mod solo;
 pub mod writing;
 
 pub use asking::{Asking, Exception, write_exception};

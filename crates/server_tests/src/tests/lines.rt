@@ -1,8 +1,9 @@
 use super::samples::{TEXT, plan_of};
 use super::slow::{SlowReader, SlowWriter};
 use cosem_data::memory::Memory;
+use line_server::fault::LineFault;
 use line_server::reason::Reason;
-use line_server::running::{LineFault, run_lines};
+use line_server::running::run_lines;
 use object_model::plan::Plan;
 use std::alloc::Global;
 use std::process::Abort;

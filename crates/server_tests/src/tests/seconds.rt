@@ -3,7 +3,8 @@
 use super::samples::plan_of;
 use civil_moment::moment::Moment;
 use cosem_data::memory::Memory;
-use line_server::running::{LineFault, run_lines};
+use line_server::fault::LineFault;
+use line_server::running::run_lines;
 use object_model::plan::Plan;
 use std::alloc::{AllocError, Global};
 use std::process::Abort;

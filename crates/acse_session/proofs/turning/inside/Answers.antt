@@ -4,7 +4,7 @@ use Rattle.xdlms_services.specs.Reading.{Reads, request_at}
 use Rattle.xdlms_services.specs.declared.reading.ApduFault.{ApduFault}
 use Rattle.xdlms_services.specs.declared.request.Request.{Request}
 use Rattle.acse_session.specs.Answering.{unknown}
-use Rattle.acse_session.specs.Conversation.{Exchange, answered}
+use Rattle.xdlms_services.specs.Conversation.{Exchange, answered}
 use Rattle.acse_session.proofs.OneTurn.{inside_says, inside-next, inside-unreadable, inside-asked, not-named, on_err_from}
 use Rattle.acse_session.proofs.turning.inside.Goals as goal
 

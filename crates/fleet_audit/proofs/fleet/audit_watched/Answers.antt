@@ -2,10 +2,9 @@ use Rattle.std.proofs.Common.{◌≡◌, ℕ, ◌+◌, ◌<◌, List, length, ma
 use Rattle.fleet_audit.specs.declared.fleet.AuditFault.{AuditFault}
 use Rattle.fleet_audit.specs.declared.fleet.AuditFault.TheVariants.{Memory}
 use Rattle.fleet_audit.specs.declared.fleet.Text.{Text}
-use Rattle.fleet_audit.specs.declared.verdict.Verdict.{Verdict}
-use Rattle.fleet_audit.specs.Audits.{Audits}
+use Rattle.verdict.specs.declared.Verdict.{Verdict}
+use Rattle.fleet_audit.specs.Audits.{Audits, IsVerdictOf}
 use Rattle.fleet_audit.specs.Giving.{IsFaultAt}
-use Rattle.fleet_audit.specs.Judging.{IsVerdictOf}
 use Rattle.fleet_audit.specs.Turns.{every, turns}
 use Rattle.fleet_audit.proofs.Dealt.{Shared, shared, taken, ok-then, err-then, ok-part}
 use Rattle.fleet_audit.proofs.fleet.audit_watched.Goals as goal

@@ -1,5 +1,5 @@
 use Rattle.std.proofs.Common.{◌-◌, ◌++◌, List, drop, length}
-use Rattle.fleet_audit.specs.declared.verdict.Verdict.{Verdict}
+use Rattle.verdict.specs.declared.Verdict.{Verdict}
 use Rattle.fleet_audit.specs.Audits.{Audits}
 use Rattle.fleet_audit.specs.Turns.{every}
 use Rattle.fleet_audit.proofs.worker.work.Given as goal

@@ -2,7 +2,7 @@ use Rattle.std.proofs.Common.{◌≡◌, ◌++◌, ℕ, List, Some, None, Result
 use Rattle.cosem_data.specs.declared.memory.Memory.{Memory}
 use Rattle.xdlms_services.specs.declared.asking.Exception.TheVariants.{Unknown}
 use Rattle.xdlms_services.specs.Asking.{Asked, asked, asking_at, exception_bytes}
-use Rattle.acse_session.specs.Conversation.{Answers, PutsReply, LosesReply}
+use Rattle.xdlms_services.specs.Conversation.{Answers, PutsReply, LosesReply}
 use Rattle.line_server.specs.Asking.{Ask}
 use Rattle.line_server.specs.Doing.{AnswersAsk, FailsAsk}
 use Rattle.line_server.proofs.Doing.{answers_ask-at, fails_ask-at, fails_ask-first}

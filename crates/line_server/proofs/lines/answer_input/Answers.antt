@@ -2,7 +2,7 @@ use Rattle.std.proofs.Common.{◌≡◌, List, ℕ, [], take, length, refl, subs
 use Rattle.std.proofs.lemmas.Result.{err_from_is_err_and}
 use Rattle.std.proofs.KnownBytes.{Consumes-kept, Consumes-nil}
 use Rattle.std.specs.Io.KnownBytes.{Consumes}
-use Rattle.line_server.specs.declared.running.LineFault.TheVariants.{Read}
+use Rattle.line_server.specs.declared.fault.LineFault.TheVariants.{Read}
 use Rattle.line_server.proofs.Taking.{stands-init, stands-written, stands-kept, stands-fed, stands-few, halts-breaks, halts-between}
 use Rattle.line_server.proofs.lines.answer_input.Goals as goal
 

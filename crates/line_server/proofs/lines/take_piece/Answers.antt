@@ -1,6 +1,6 @@
 use Rattle.std.proofs.Common.{List, ℕ, length, ap, inl, arith, length-append}
 use Rattle.std.proofs.lemmas.Result.{err_from_is_err_and}
-use Rattle.line_server.specs.declared.running.LineFault.TheVariants.{Memory}
+use Rattle.line_server.specs.declared.fault.LineFault.TheVariants.{Memory}
 use Rattle.line_server.proofs.Taking.{stands-answered, stands-passed, halts-between, halts-at, halts-breaks, split-shorter}
 use Rattle.line_server.proofs.lines.take_piece.Goals as goal
 

@@ -2,8 +2,8 @@ use Rattle.std.proofs.Common.{inl, inr, sym, subst, ◌∙◌}
 use Rattle.std.proofs.lemmas.Result.{err_from_is_err_and}
 use Rattle.config_reader.specs.ConfigOf.{config_of}
 use Rattle.config_rules.specs.Faultless.{IsPolicyOf}
-use Rattle.fleet_audit.specs.declared.verdict.Verdict.TheVariants.{Accepted}
-use Rattle.fleet_audit.proofs.Judged.{judged}
+use Rattle.verdict.specs.declared.Verdict.TheVariants.{Accepted}
+use Rattle.verdict.proofs.Judged.{judged}
 use Rattle.meter_server.proofs.Answered.{file-read, refusal-accepts-nothing, unread-accepts-nothing}
 use Rattle.meter_server.proofs.Made.{said-of}
 use Rattle.meter_server.proofs.answering.accepted_of_files.Goals as goal

@@ -3,7 +3,7 @@ use denote.Ref.{Bor}
 use Rattle.std.specs.Iterator.Adapters.{zip_first, zip_second}
 use Rattle.std.specs.Slice.Iter.{iter_rest}
 use Rattle.std.proofs.lemmas.Slice.Zip.{Zip-more, either_empty_from_Zip}
-use Rattle.fleet_audit.specs.declared.verdict.Verdict.{Verdict}
+use Rattle.verdict.specs.declared.Verdict.{Verdict}
 use Rattle.meter_server.specs.Auditing.{named_line, verdicts_text}
 use Rattle.meter_server.proofs.auditing.text_of.Goals as goal
 

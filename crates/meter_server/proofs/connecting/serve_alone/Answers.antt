@@ -6,7 +6,7 @@ use Rattle.meter_theory.specs.Plan.{Plan, start}
 use Rattle.meter_theory.specs.State.{State}
 use Rattle.meter_theory.specs.States.{IsState}
 use Rattle.meter_theory.proofs.Start.{start-is-state}
-use Rattle.acse_session.specs.Solo.{Alone, AnswersAlone}
+use Rattle.xdlms_services.specs.Solo.{Alone, AnswersAlone}
 use Rattle.frame_server.specs.Serving.{Serves}
 use Rattle.frame_server.specs.declared.fault.ServeFault.TheVariants.{Memory}
 use Rattle.meter_server.specs.Connecting.{ServesAlone, connected}

@@ -5,12 +5,12 @@ use super::samples::{
     AARE, CAPTURE, IS_CAPTURED, IS_SET, MANAGER, MANAGER_AARQ, READER, SET, TEXT, is_answered,
 };
 use acse_session::session::Session;
-use acse_session::solo::Solo;
 use cosem_data::memory::Memory;
 use object_model::plan::Plan;
 use std::alloc::Global;
 use std::process::Abort;
 use std::test::Fail;
+use xdlms_services::solo::Solo;
 
 /// A GET of the profile's buffer.
 const GET_BUFFER: &[u8] = &[0xC0, 1, 0xC1, 0, 7, 1, 0, 0x63, 1, 0, 0xFF, 2, 0];

@@ -1,7 +1,6 @@
 use super::super::samples::{plan_of, started};
 use super::super::slow::{SlowReader, SlowWriter};
 use super::samples::TEXT;
-use acse_session::solo::Solo;
 use cosem_data::memory::Memory;
 use frame_server::fault::ServeFault;
 use frame_server::serving::{Seat, serve, serve_gated};
@@ -13,6 +12,7 @@ use std::io::Write;
 use std::process::Abort;
 use std::sync::atomic::{AtomicU64, Ordering};
 use std::test::Fail;
+use xdlms_services::solo::Solo;
 
 /// The public opens an association, gets the register's name and releases the association: frames of 39, 21 and 13 bytes. Behind them,
 /// the beginning of a fourth.

@@ -7,9 +7,7 @@ use super::samples::{
     AARE, CAPTURE, GET_REGISTER, IS_SET, MANAGER, MANAGER_AARQ, REGISTER, SET, TEXT, answered,
     is_answered,
 };
-use acse_session::asker::Asker;
 use acse_session::session::Session;
-use acse_session::solo::Solo;
 use cosem_data::memory::Memory;
 use frame_server::fault::ServeFault;
 use meter_core::reply::Reply;
@@ -18,6 +16,8 @@ use object_model::plan::Plan;
 use std::alloc::Global;
 use std::process::Abort;
 use std::test::Fail;
+use xdlms_services::asker::Asker;
+use xdlms_services::solo::Solo;
 
 /// The responses of temporary-failure to GET, SET and ACTION.
 const GET_FAILS: &[u8] = &[0xC4, 1, 0xC1, 1, 2];

@@ -1,10 +1,10 @@
 ghost use Rattle.std.specs.Prelude.{◌≡◌};
 
-use acse_session::asker::Asker;
 use acse_session::session::Session;
 use cosem_data::memory::Memory;
 use std::alloc::Global;
 use std::process::Abort;
+use xdlms_services::asker::Asker;
 
 /// The wPorts of two clients of `TEXT`.
 pub const READER: u16 = 32;

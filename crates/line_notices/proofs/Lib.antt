@@ -1,0 +1,2 @@
+pub mod LookedOn
+pub mod Seeing

@@ -1,0 +1,2 @@
+pub mod Onlooking
+pub mod Seen

@@ -1,0 +1,26 @@
+-- What a verdict says of a configuration's text and of one of labels.
+use Rattle.std.specs.Prelude.{◌≡◌, ℕ, List, Result, Ok}
+use Rattle.config_rules.specs.Faultless.{IsPolicyOf}
+use Rattle.config_rules.specs.PlanOf.{plan_of}
+use Rattle.config_text.specs.Fault.{Fault as ConfigFault, Fails}
+use Rattle.config_text.specs.Parts.{ConfigText}
+use Rattle.flow_checker.specs.Answer.{IsRefusedAs}
+use Rattle.label_certificate.specs.Faults as label_faults
+use Rattle.label_certificate.specs.LabelText.{labels_of_text}
+use Rattle.meter_theory.specs.Labels as theory
+use Rattle.meter_theory.specs.Labels.{Admits, Policy, labelling_of_policy}
+use Rattle.meter_theory.specs.Plan.{Plan}
+use Rattle.verdict.specs.declared.Verdict.{Verdict}
+use Rattle.verdict.specs.declared.Verdict.TheVariants.{Accepted, Config, Labels, Refused}
+
+-- what a verdict says of the labels that a text holds for a plan and its policy: they are admitted; or the text has this fault; or the first clause that fails is told, and what fails it first (own profile)
+abbrev pub IsVerdictOn : Plan → Policy → List ℕ → Verdict → Type 0
+IsVerdictOn P policy text Accepted = (labels : theory.Labels) × (labels_of_text P text ≡ Ok labels) × Admits P (labelling_of_policy P policy) labels
+IsVerdictOn P policy text (Labels fault) = label_faults.Fails fault (labels_of_text P text)
+IsVerdictOn P policy text (Refused refused) = (labels : theory.Labels) × (labels_of_text P text ≡ Ok labels) × IsRefusedAs P (labelling_of_policy P policy) labels refused
+IsVerdictOn P policy text (Config fault) = ⊥
+
+-- what a verdict says of a configuration's text and of one of labels: the first has this fault, or it says what the second is judged by (own profile)
+abbrev pub IsVerdict : Result ConfigText ConfigFault → List ℕ → Verdict → Type 0
+IsVerdict said text (Config fault) = Fails fault said
+IsVerdict said text verdict = (c : ConfigText) × (policy : Policy) × (said ≡ Ok c) × IsPolicyOf c policy × IsVerdictOn (plan_of c) policy text verdict
