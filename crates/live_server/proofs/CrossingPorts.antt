@@ -16,9 +16,15 @@ use Rattle.live_server.specs.contracts.driver.Driver as drivers
 use Rattle.live_server.specs.contracts.driver.Taker as takers
 use Rattle.live_server.specs.contracts.driver.Taker.TheInside as takers_inside
 use Rattle.live_server.specs.contracts.notices.Notices as notices
+use Rattle.live_server.specs.contracts.output.SharedOutput as outputs
 
 notices_send : (F : RattleType) → IsSend F → IsSend (notices.the_row F)
 notices_send F f = declared_send (notices.the_type F) (search (crosses, sendable) depth 20, (as_row_send (row_field F) f, tt))
+
+-- the output of faults, under its lock
+pub output_send : (a : NamedLft) (F R : RattleType) → IsSend F → IsSync R → IsSend (outputs.the_row a F R)
+output_send a F R f y = let shared : IsSync (mutexes.the_row F) = search (f, crosses, sendable) depth 12 in
+    declared_send (outputs.the_type a F R) (shr_send a.mir a.lft R y, (shr_send a.mir a.lft (mutexes.the_row F) shared, tt))
 
 module _ (N S C W : RattleType) (g : naming.Ghosts N.Denot) (h : ledgers.Ghosts S.Denot) (k : ledgers.Ghosts C.Denot)
     (n : IsSend N) (s : IsSend S) (c : IsSend C) (w : IsSend W) (a : NamedLft) (R : RattleType) (y : IsSync R) where

@@ -8,8 +8,8 @@ use Rattle.meter_theory.proofs.Start.{start-is-state}
 use Rattle.meter_theory.proofs.KeepSteps.{run-keeps}
 use Rattle.xdlms_services.specs.declared.writing.Service.{Service}
 use Rattle.xdlms_services.specs.declared.writing.Service.TheVariants as services
-use Rattle.acse_session.specs.Conversation.{CanSend, IsSendable}
-use Rattle.acse_session.proofs.Sendable.{reply-sendable}
+use Rattle.xdlms_services.specs.Conversation.{CanSend, IsSendable}
+use Rattle.xdlms_services.proofs.Sendable.{reply-sendable}
 use Rattle.meter_live.specs.Changes.{Answers}
 
 -- what a port answers

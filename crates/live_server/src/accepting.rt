@@ -3,10 +3,11 @@ ghost use Rattle.std.specs.Prelude.{◌≡◌, ◌||◌};
 ghost use Rattle.std.specs.IoError.{error_kind, raw_os_error};
 ghost use Rattle.live_server.specs.Accepting as spec;
 
-use std::io::{self, ErrorKind};
+use std::io::{self, ErrorKind, Write};
 use std::sync::Wait;
 use std::thread::Parker;
 use std::time::Duration;
+use whole_writes::write_whole;
 
 /// Whether a connection that couldn't be taken says nothing of the next: its other side gave it up, it isn't let in or its
 /// network failed, or the system is short of files or memory for now. Any other error is of the listening itself.
@@ -52,10 +53,40 @@ fn is_passing_code(number: u32) -> bool
     matches!(number, 23 | 24 | 64 | 71 | 92 | 105 | 112)
 }
 
-/// How long the next connection is waited for where one can't be taken: a shortage may last, and isn't asked about without a pause.
+/// How many milliseconds the next connection is waited for where one can't be taken: a shortage may last, and isn't asked about
+/// without a pause.
 const PAUSE: u64 = 10;
 
-/// Waits so many milliseconds, or less.
-pub(crate) fn pause<R: Wait>(rt: &R) {
-    Parker::new().park_timeout(rt, Duration::from_millis(PAUSE));
+/// What is told of connections that can't be taken.
+const NOTICE: &str = "cosem-flow: a connection can't be taken\n";
+
+/// Connections that can't be taken, and where that is told: once, until one is taken again.
+#[derive(Drop)]
+pub(crate) struct Untaken<F: Write + Drop> {
+    output: F,
+    is_told: bool,
+}
+
+impl<F: Write + Drop> Untaken<F> {
+    /// None is told there yet.
+    pub(crate) fn new(output: F) -> Self {
+        Untaken {
+            output,
+            is_told: false,
+        }
+    }
+
+    /// Passes over a connection, and waits a while. That it can't be told is passed over too.
+    pub(crate) fn pass_over<R: Wait>(&mut self, rt: &R) {
+        if !self.is_told {
+            let _ = write_whole(&mut self.output, NOTICE.as_bytes());
+            self.is_told = true;
+        }
+        Parker::new().park_timeout(rt, Duration::from_millis(PAUSE));
+    }
+
+    /// A connection is taken again.
+    pub(crate) fn end(&mut self) {
+        self.is_told = false;
+    }
 }

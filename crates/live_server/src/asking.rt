@@ -8,11 +8,10 @@ ghost use Rattle.meter_live.specs.Tally.{HasSeen, counted, nothing};
 ghost use Rattle.meter_theory.specs.Plan.{start};
 ghost use Rattle.meter_theory.specs.Replies.{reply_to, run};
 ghost use Rattle.meter_core.specs.StepView.{reply_of, step_of};
-ghost use Rattle.acse_session.specs.Conversation.{answered, IsSendable};
+ghost use Rattle.xdlms_services.specs.Conversation.{answered, IsSendable};
 ghost use Rattle.live_server.specs.Asking as spec;
 ghost use Rattle.live_server.specs.Asking.{AnswersLive, SeesOn};
 
-use acse_session::asker::Asker;
 use association_views::permits::permit_get;
 use cosem_data::memory::Memory;
 use meter_core::reply::Reply;
@@ -26,6 +25,7 @@ use object_model::plan::Plan;
 use std::alloc::Global;
 use std::sync::Wait;
 use std::sync::ledger::Ledger;
+use xdlms_services::asker::Asker;
 
 /// A place at a live meter, for one session after another: a port, its share, and its reader, where it got one.
 ///
@@ -94,7 +94,7 @@ impl<'b, N: Naming, S: Ledger, C: Ledger, W: Wait + Drop, R: Wait> PortAsker<'b,
     }
 
     /// Its share.
-    pub fn into_share(self) -> Share<S, C>
+    pub(crate) fn into_share(self) -> Share<S, C>
         ensures { result ≡ self.entry.share }
     {
         self.share
@@ -198,30 +198,30 @@ fn read<N: Naming, S: Ledger, C: Ledger, W: Wait + Drop, R: Wait>(
     ensures noted { is_behind.new ≡ false → HasSeen share.new reader.new }
 {
     port.plan().known();
-    let is_granted = is_granted(port.plan(), step);
-    catch_up(rt, port, share, reader, is_behind, is_granted)?;
+    catch_up(rt, port, share, reader, is_behind, step)?;
     match reader.get(alloc, step) {
         Ok(reply) => Ok(reply),
         Err(_) => Err(Memory),
     }
 }
 
-/// Where that is asked for, the reader is told of the steps that it wasn't told of yet.
+/// Where the plan grants a GET, the reader is told of the steps that it wasn't told of yet.
 fn catch_up<N: Naming, S: Ledger, C: Ledger, W: Wait + Drop, R: Wait>(
     rt: &R,
     port: &Port<'_, N, S, C, W>,
     share: &mut Share<S, C>,
     reader: &mut BoardReader<N>,
     is_behind: &mut bool,
-    is_asked: bool,
+    step: &Step,
 ) -> Result<(), Memory>
     requires { is_behind.old ≡ false → HasSeen share.old reader.old }
     ensures later { IsPrefix reader.old reader.new }
     ensures share { share.new ≡ share.old }
-    ensures seen { OnOk result (is_asked ≡ true → HasSeen share.old reader.new) }
+    ensures seen { OnOk result (spec.is_granted N.accepted.plan (step_of step.now) ≡ true → HasSeen share.old reader.new) }
     ensures noted { is_behind.new ≡ false → HasSeen share.new reader.new }
 {
-    if is_asked && *is_behind {
+    // The permit is judged here only where it decides: the reader judges it for its answer.
+    if *is_behind && is_granted(port.plan(), step) {
         port.tell(rt, share, reader)?;
         *is_behind = false;
     }

@@ -5,12 +5,11 @@ ghost use Rattle.live_server.specs.Driving.{Drives, DrivesLine};
 use crate::asking::PortAsker;
 use crate::by_line::ByLine;
 use crate::notices::Notices;
-use acse_session::asker::Asker;
 use cosem_data::memory::Memory;
 use line_server::driving::{take_moment, take_ticks};
+use line_server::fault::LineFault;
 use line_server::line::{Line, read_line};
 use line_server::lines::{AnswersLines, answer_lines};
-use line_server::running::LineFault;
 use meter_core::reply::Reply;
 use meter_core::step::Step;
 use meter_live::names::Naming;
@@ -21,6 +20,7 @@ use std::io::{self, Read, Write};
 use std::marker::Model;
 use std::sync::Wait;
 use std::sync::ledger::Ledger;
+use xdlms_services::asker::Asker;
 
 /// Takes the steps of a line at a seat, which is told of none of them. A step that is refused for memory is told, and passed
 /// over. Contracts see what the share counts, what was told, and the number of the line.

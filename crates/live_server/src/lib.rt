@@ -1,5 +1,6 @@
 //! A live meter that many connections over TCP ask at once, and that a driver's lines move.
 //!
+//! - [`serving::serve_at`] binds a place, and answers connections there.
 //! - [`sessions::serve_sessions`] answers connections, each in a thread of its own, on one board.
 //! - [`asking::PortAsker`] is what a session asks: a port of the board, with its share and its reader.
 //! - [`driver::Driver`] takes the meter's own steps from lines, and tells of those that are refused by its [`notices::Notices`].
@@ -11,5 +12,7 @@ mod by_line;
 pub mod driver;
 pub mod fault;
 pub mod notices;
+mod output;
 mod seats;
+pub mod serving;
 pub mod sessions;

@@ -5,9 +5,9 @@ ghost use Rattle.line_server.specs.Spelling.{unreadable_text};
 ghost use Rattle.live_server.specs.Driving.{Tells, memory_text};
 
 use cosem_data::memory::Memory;
-use frame_server::writing::write_whole;
 use std::alloc::Global;
 use std::io::Write;
+use whole_writes::write_whole;
 
 /// No notice is longer than this many bytes: a number has at most 20 digits.
 const ROOM: usize = 64;
@@ -31,7 +31,7 @@ impl<F: Write + Drop> Notices<F> {
     }
 
     /// Tells that the line with this number is no step of the meter itself, and says whether that was written whole.
-    pub fn tell_unreadable(&mut self, number: u64) -> bool
+    pub(crate) fn tell_unreadable(&mut self, number: u64) -> bool
         ensures { Tells (F.contents self.old.faults) (F.contents self.new.faults) (unreadable_text number) result }
     {
         self.text.clear();
@@ -42,7 +42,7 @@ impl<F: Write + Drop> Notices<F> {
     }
 
     /// Tells that memory was refused for the line with this number, or for a step of it, and says whether that was written whole.
-    pub fn tell_memory(&mut self, number: u64) -> bool
+    pub(crate) fn tell_memory(&mut self, number: u64) -> bool
         ensures { Tells (F.contents self.old.faults) (F.contents self.new.faults) (memory_text number) result }
     {
         self.text.clear();

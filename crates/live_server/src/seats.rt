@@ -1,5 +1,5 @@
 //! The seats of a board, and which are taken.
-ghost use Rattle.std.specs.Prelude.{◌≡◌, ◌<◌, ◌⊎◌, true, IfErr, IfSome};
+ghost use Rattle.std.specs.Prelude.{◌≡◌, ◌<◌, ◌⊎◌, ◌↔◌, true, false, Some, IfErr, IfSome, IsTrue, MatchOption, slice_get, slice_set};
 ghost use Rattle.live_server.specs.Faults.{IsFaultBy, MayGiveUp};
 
 use crate::asking::PortAsker;
@@ -114,11 +114,22 @@ impl<'g, G: Gate> Taken<'g, G> {
 
     /// Takes the lowest free seat.
     pub(crate) fn take(&mut self) -> Option<usize>
-        ensures { IfSome result (λ seat. seat < 64) }
+        ensures within { IfSome result (λ seat. seat < 64) }
+        ensures taken { MatchOption result (self.new.is_taken ≡ self.old.is_taken)
+            (λ seat. (slice_get self.old.is_taken seat ≡ Some false) × (self.new.is_taken ≡ slice_set self.old.is_taken seat true)) }
+    {
+        let seat = self.lowest_free()?;
+        self.is_taken[seat] = true;
+        Some(seat)
+    }
+
+    /// The lowest free seat.
+    fn lowest_free(&self) -> Option<usize>
+        ensures within { IfSome result (λ seat. seat < 64) }
+        ensures free { IfSome result (λ seat. slice_get self.now.is_taken seat ≡ Some false) }
     {
         for seat in 0..SEATS {
             if !self.is_taken[seat] {
-                self.is_taken[seat] = true;
                 return Some(seat);
             }
         }
@@ -128,7 +139,16 @@ impl<'g, G: Gate> Taken<'g, G> {
     /// Frees a seat.
     pub(crate) fn free(&mut self, seat: usize)
         requires { seat < 64 }
+        ensures { self.new.is_taken ≡ slice_set self.old.is_taken seat false }
     {
         self.is_taken[seat] = false;
     }
+}
+
+/// Whether a connection was the last of so many (0 for no end).
+pub(crate) fn is_last(count: u64, sessions: u64) -> bool
+    requires { 0 < count }
+    ensures { IsTrue result ↔ (count ≡ sessions) }
+{
+    count == sessions
 }

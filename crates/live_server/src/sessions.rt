@@ -4,13 +4,14 @@ ghost use denote.Param.Send.{IsSend, IsSync};
 ghost use Rattle.meter_theory.specs.States.{IsState};
 ghost use Rattle.live_server.specs.Faults.{IsFaultBy};
 
-use crate::accepting::{is_passing, pause};
+use crate::accepting::{Untaken, is_passing};
 use crate::asking::PortAsker;
 use crate::by_line::ByLine;
 use crate::driver::Driver;
 use crate::fault::ServerFault;
 use crate::notices::Notices;
-use crate::seats::{Taken, open_seat, open_seats, shares_of};
+use crate::output::SharedOutput;
+use crate::seats::{Taken, is_last, open_seat, open_seats, shares_of};
 use flow_checker::check::Checked;
 use frame_server::fault::ServeFault;
 use frame_server::serving::{Seat, serve_gated};
@@ -44,7 +45,7 @@ pub struct Driven<I: Read + Drop, F: Write + Drop> {
 
 /// Answers so many connections, each in a thread of its own at the lowest free seat, and takes the meter's own steps from the
 /// driver's lines; then closes the board. A connection that finds no free seat, or no thread, is closed, and counts; one that
-/// can't be taken is passed over, and doesn't.
+/// can't be taken is told and passed over, and doesn't.
 ///
 /// # Errors
 /// The listening itself fails, memory was refused, a seat gave up at its gate, or the board had no port for a seat. The board
@@ -106,17 +107,21 @@ where
     ensures { IfErr result (λ fault. IsFaultBy G.may_give_up fault) }
 {
     let Driven { steps, faults } = driven;
+    let output = Mutex::new(faults);
     let lines = ByLine::new(alloc, steps).map_err(|_| ServerFault::Memory)?;
-    let notices = Notices::new(alloc, faults).map_err(|_| ServerFault::Memory)?;
+    let notices = Notices::new(alloc, SharedOutput::new(rt, &output)).map_err(
+        |_| ServerFault::Memory,
+    )?;
     let driver = Driver::new(alloc, open_seat(rt, board)?, notices);
     let seats = open_seats(rt, alloc, board)?;
     let taken = Mutex::new(Taken::new(service.gate));
     let lent = seats.as_slice();
     let shared = &taken;
+    let told = &output;
     let (driver, ended) = thread::join(
         rt,
         move || drive(alloc, driver, lines),
-        || accept_all(rt, alloc, lent, shared, &service),
+        || accept_all(rt, alloc, lent, shared, &service, told),
     );
     ended.map_err(|_| ServerFault::Listen)?;
     taken.into_inner().ended()?;
@@ -143,13 +148,14 @@ where
 }
 
 /// Takes connections until there were so many, or the listening fails, and waits for their threads. One that can't be taken is
-/// passed over, and doesn't count.
-fn accept_all<'g, N, S, C, W, R, G>(
+/// told and passed over, and doesn't count.
+fn accept_all<'g, N, S, C, W, R, G, F>(
     rt: &R,
     alloc: Global,
     seats: &[Mutex<PortAsker<'_, N, S, C, W, R>>],
     taken: &Mutex<Taken<'g, G>>,
     service: &Service<'g, G>,
+    output: &Mutex<F>,
 ) -> io::Result<()>
 where
     N: Naming + Send + Sync,
@@ -158,6 +164,7 @@ where
     W: Wait + Drop + Send + Sync,
     R: Threads + Wait + Sync,
     G: Gate + Sync,
+    F: Write + Drop,
 {
     thread::scope(
         thread::scope_env(),
@@ -166,16 +173,18 @@ where
             requires send { IsSend N.row × IsSend S.row × IsSend C.row × IsSend W.row }
             requires sync { IsSync R.row × IsSync G.row }
         {
+            let mut untaken = Untaken::new(SharedOutput::new(rt, output));
             let mut count = 0u64;
             for stream in service.listener.incoming() {
                 let stream = match stream {
                     Ok(stream) => stream,
                     Err(error) if is_passing(&error) => {
-                        pause(rt);
+                        untaken.pass_over(rt);
                         continue;
                     }
                     Err(error) => return Err(error),
                 };
+                untaken.end();
                 let free = taken.lock(rt).take();
                 if let Some(number) = free {
                     if let Some(seat) = seats.get(number) {
@@ -186,8 +195,11 @@ where
                         }
                     }
                 }
-                count = count.wrapping_add(1);
-                if count == service.sessions {
+                let Some(next) = count.checked_add(1) else {
+                    break;
+                };
+                count = next;
+                if is_last(count, service.sessions) {
                     break;
                 }
             }

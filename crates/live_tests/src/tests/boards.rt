@@ -118,11 +118,7 @@ fn use_port<N: Naming, S: Ledger, C: Ledger, W: Wait + Drop, R: Wait + Abort>(
     alloc: Global,
     board: &Board<N, S, C, W>,
 ) -> Result<Share<S, C>, Fail> {
-    let opened = match board.port(rt) {
-        Err(PortFault::Memory) => board.port(rt),
-        opened => opened,
-    };
-    let (port, mut share) = opened?;
+    let (port, mut share) = opened(rt, board)?;
     let mut reader = port.reader(rt)?;
     assert!(rt; port.reader(rt).is_err());
     use_reader(rt, alloc, board, &port, &mut share, &mut reader)?;
@@ -188,21 +184,41 @@ fn a_board_is_opened_used_and_closed(rt: HostRuntime) -> Result<(), Fail> {
 /// How many ports a board has.
 const PORTS: usize = 256;
 
-/// Opens a port, where memory is refused at most once, and keeps its share.
-fn opens<N: Naming, S: Ledger, C: Ledger, W: Wait + Drop, R: Wait>(
+/// Opens a port, where memory is refused at most once.
+fn opened<'b, N: Naming, S: Ledger, C: Ledger, W: Wait + Drop, R: Wait>(
     rt: &R,
-    board: &Board<N, S, C, W>,
-    shares: &mut Vec<Share<S, C>>,
-) -> Result<(), Fail> {
-    let opened = match board.port(rt) {
+    board: &'b Board<N, S, C, W>,
+) -> Result<(Port<'b, N, S, C, W>, Share<S, C>), PortFault> {
+    match board.port(rt) {
         Err(PortFault::Memory) => board.port(rt),
         opened => opened,
-    };
-    let (_port, share) = opened?;
-    Ok(shares.push(share)?)
+    }
 }
 
-/// A board opens so many ports and no more, and is closed with their shares, which count no step.
+/// Opens so many ports, of which the last one puts a value that the reader of the first one sees then; and no more. Gives the shares.
+fn use_all_ports<N: Naming, S: Ledger, C: Ledger, W: Wait + Drop, R: Wait + Abort>(
+    rt: &R,
+    alloc: Global,
+    board: &Board<N, S, C, W>,
+) -> Result<Vec<Share<S, C>>, Fail> {
+    let mut shares = Vec::with_capacity(alloc, PORTS)?;
+    let (first, share) = opened(rt, board)?;
+    let mut reader = first.reader(rt)?;
+    shares.push(share)?;
+    for _ in 2..PORTS {
+        shares.push(opened(rt, board)?.1)?;
+    }
+    let (last, mut share) = opened(rt, board)?;
+    let mut own = last.reader(rt)?;
+    put_and_read(rt, alloc, &last, &mut share, &mut own, ENERGY, 5)?;
+    sees(rt, alloc, &mut reader, 5);
+    shares.push(share)?;
+    let refused = board.port(rt).err();
+    assert!(rt; refused == Some(PortFault::NoPort));
+    Ok(shares)
+}
+
+/// A board opens so many ports and no more, and is closed with their shares.
 fn fill_board<N: Naming, S: Ledger, C: Ledger, W: Wait + Drop, R: Wait + Abort>(
     rt: &R,
     keep: W,
@@ -218,16 +234,11 @@ fn fill_board<N: Naming, S: Ledger, C: Ledger, W: Wait + Drop, R: Wait + Abort>(
     let Ok(board) = Board::<N, S, C, W>::open(keep, alloc, checked, blanks) else {
         return Err("not opened".into());
     };
-    let mut shares = Vec::with_capacity(alloc, PORTS)?;
-    for _ in 0..PORTS {
-        opens(rt, &board, &mut shares)?;
-    }
-    let refused = board.port(rt).err();
-    assert!(rt; refused == Some(PortFault::NoPort));
+    let shares = use_all_ports(rt, alloc, &board)?;
     let Ok(closed) = board.close(rt, shares) else {
         return Err("not closed".into());
     };
-    assert!(rt; (closed.count, closed.changes) == (0, 0));
+    assert!(rt; (closed.count, closed.changes) == (1, 1));
     Ok(())
 }
 
@@ -236,6 +247,7 @@ fn fill_named<R: Wait + Abort>(rt: &R, alloc: Global, checked: Checked) -> Resul
     fill_board::<Brand, Brand, Brand, &R, R>(rt, rt, alloc, checked, blanks)
 }
 
+/// What is put at the last of them is seen at the first.
 #[test]
 fn a_board_has_256_ports(rt: HostRuntime) -> Result<(), Fail> {
     let checked = accepted(rt.alloc(), TEXT)?;

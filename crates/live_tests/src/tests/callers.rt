@@ -10,7 +10,7 @@ ghost use Rattle.meter_server.specs.Outcomes.{output_of, status_of};
 ghost use Rattle.meter_server.specs.Program.{AreMistaken};
 
 use cosem_data::memory::Memory;
-use line_server::running::LineFault;
+use line_server::fault::LineFault;
 use meter_live::desk::BoardReader;
 use meter_live::live::Live;
 use meter_live::names::Naming;

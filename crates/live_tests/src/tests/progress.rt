@@ -1,7 +1,6 @@
 use super::closing::Full;
 use super::fleets::samples::{configs, workers};
 use config_text::fault::ConfigFault;
-use fleet_audit::verdict::Verdict;
 use fleet_audit::watch::Watch;
 use meter_server::auditing::audit_texts_aloud;
 use meter_server::outcome::Outcome;
@@ -12,6 +11,7 @@ use std::io::{ErrorKind, Write};
 use std::sync::atomic::{AtomicUsize, Ordering};
 use std::test::Fail;
 use std::time::{Clock, Duration};
+use verdict::Verdict;
 
 /// A clock that has these times, in milliseconds, one each time that it is read, and can't be read behind them.
 #[derive(Drop)]

@@ -1,6 +1,6 @@
 //! The public calls and types, each in the crate and under the name by which it is known there. Where one is lost this
 //! doesn't compile.
-use acse_session::asker::Asker;
+use acse_session::Asker;
 use acse_session::session::Session;
 use association_views::permits::{permit_action, permit_get, permit_set};
 use association_views::view::View;
@@ -25,7 +25,6 @@ use cosem_data::kind::Kind;
 use cosem_data::memory::Memory;
 use cosem_data::name::{BadName, LogicalName};
 use fleet_audit::fleet::{AuditFault, Text, audit};
-use fleet_audit::verdict::Verdict;
 use fleet_audit::{Gate, Go};
 use flow_checker::check::{Checked, Refused, check};
 use flow_checker::notice::quiet;
@@ -62,6 +61,7 @@ use std::test::Fail;
 use tcp_wrapper::fault::WrapFault;
 use tcp_wrapper::feeder::{Fed, Feeder};
 use tcp_wrapper::framing::frame;
+use verdict::Verdict;
 use xdlms_services::blocks::LongGet;
 use xdlms_services::reading::{ApduFault, read_apdu};
 use xdlms_services::request::Request;

@@ -1,10 +1,10 @@
 use super::samples::{is_want_of_memory, text, workers};
 use fleet_audit::fleet::{AuditFault, Text, audit};
-use fleet_audit::verdict::{Verdict, verdict_text};
 use gates::Open;
 use std::alloc::Global;
 use std::process::Abort;
 use std::test::Fail;
+use verdict::{Verdict, verdict_text};
 
 /// A configuration of one object.
 const SMALL: &str = r#"version = 1

@@ -1,7 +1,6 @@
 //! Texts, and the lines of their verdicts.
 use config_text::fault::ConfigFault;
 use fleet_audit::fleet::{Text, audit};
-use fleet_audit::verdict::{Verdict, verdict_text};
 use flow_checker::check::Refused;
 use gates::Gate;
 use label_certificate::fault::LabelFault;
@@ -11,6 +10,7 @@ use std::num::NonZeroUsize;
 use std::process::Abort;
 use std::test::Fail;
 use std::thread::Threads;
+use verdict::{Verdict, verdict_text};
 
 /// The least labels of the demo configuration.
 pub const LABELS: &str = "\

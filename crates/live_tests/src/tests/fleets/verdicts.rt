@@ -1,13 +1,13 @@
 use super::samples::{are_told, configs, four_are_judged, workers};
 use config_text::fault::ConfigFault;
 use fleet_audit::fleet::audit;
-use fleet_audit::verdict::{Verdict, verdict_text};
 use flow_checker::check::Refused;
 use gates::Open;
 use label_certificate::fault::LabelFault;
 use std::alloc::Global;
 use std::process::Abort;
 use std::test::Fail;
+use verdict::{Verdict, verdict_text};
 
 #[test]
 fn as_many_verdicts_are_told_as_texts(rt: HostRuntime) -> Result<(), Fail> {

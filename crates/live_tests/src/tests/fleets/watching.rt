@@ -1,13 +1,13 @@
 use super::giving_up::count;
 use super::samples::{VERDICTS, are_told, four, workers};
 use fleet_audit::fleet::audit_watched;
-use fleet_audit::verdict::Verdict;
 use fleet_audit::watch::Watch;
 use gates::Open;
 use std::process::Abort;
 use std::sync::atomic::{AtomicU64, Ordering};
 use std::test::Fail;
 use std::thread::Threads;
+use verdict::Verdict;
 
 /// A watch that counts of which seats it was told, and at which of them the labels were accepted.
 #[derive(Drop)]

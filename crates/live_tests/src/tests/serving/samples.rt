@@ -130,6 +130,11 @@ impl Client {
         self.is_sent(want)
     }
 
+    /// Sends these bytes, which needn't be a frame, unless the server has closed the connection.
+    pub(super) fn breaks_off(mut self, bytes: &[u8]) {
+        let _ = self.stream.write_all(bytes);
+    }
+
     /// The server has closed the connection.
     pub(super) fn is_closed(&mut self) -> bool {
         let mut byte = [0u8; 1];

@@ -23,7 +23,8 @@ use std::{io, thread};
 
 /// What clients ask of a meter.
 #[derive(Clone, Copy)]
-pub(super) enum Clients {
+pub(super) enum Clients<'a> {
+    ComeLate(&'a AtomicU64),
     Two,
     Write,
     Fill,
@@ -37,9 +38,10 @@ fn ask<R: Net<Stream = TcpStream>>(
     rt: &R,
     alloc: Global,
     address: SocketAddr,
-    clients: Clients,
+    clients: Clients<'_>,
 ) -> Option<()> {
     match clients {
+        Clients::ComeLate(told) => come_late(rt, alloc, address, told),
         Clients::Two => ask_two(rt, alloc, address),
         Clients::Write => write(rt, alloc, address),
         Clients::Fill => fill(rt, alloc, address),
@@ -53,7 +55,7 @@ fn ask<R: Net<Stream = TcpStream>>(
 /// faults. Whether the answers to them are right is asserted; how the serving ended is told.
 fn ends_driven<R, G, I, F>(
     rt: &R,
-    clients: Clients,
+    clients: Clients<'_>,
     sessions: u64,
     gate: &G,
     steps: I,
@@ -72,6 +74,7 @@ where
 {
     let alloc = rt.alloc();
     let listener = TcpListener::bind(rt, "127.0.0.1:0")?;
+    listener.set_nonblocking(matches!(clients, Clients::ComeLate(_)))?;
     let address = listener.local_addr()?;
     let checked = accepted(alloc, TEXT)?;
     let (answered, served) = thread::join(
@@ -93,7 +96,7 @@ where
 /// So many steps and changes are counted then.
 fn serves_driven<R, G, I, F>(
     rt: &R,
-    clients: Clients,
+    clients: Clients<'_>,
     sessions: u64,
     gate: &G,
     steps: I,
@@ -122,7 +125,7 @@ where
 /// The same without lines.
 pub(super) fn serves<R, G>(
     rt: &R,
-    clients: Clients,
+    clients: Clients<'_>,
     sessions: u64,
     gate: &G,
     counted: (u64, u64),
@@ -226,15 +229,25 @@ fn is_turned_away<R: Net<Stream = TcpStream>>(
     late.is_closed().then_some(())
 }
 
-/// A client is answered once a seat is free, at most so many connections later, by the reader that the seat has kept.
+/// What clients send that break off: half a header, half a frame, and a header that is wrong.
+const BROKEN: [&[u8]; 3] = [
+    &[0, 1, 0],
+    &[0, 1, 0, 32, 0, 1, 0, 9, 0xC0],
+    &[0, 2, 0, 32, 0, 1, 0, 1],
+];
+
+/// Clients that break off leave the seat to others: a client is answered once a seat is free, at most so many connections later,
+/// by the reader that the seat has kept.
 fn finds_a_seat<R: Net<Stream = TcpStream>>(
     rt: &R,
     alloc: Global,
     address: SocketAddr,
 ) -> Option<()> {
     let mut is_seated = false;
-    for _ in 0..135 {
-        if !is_seated {
+    for turn in 0..135usize {
+        if turn < 66 {
+            Client::connected(rt, alloc, address, READER)?.breaks_off(BROKEN[turn % 3]);
+        } else if !is_seated {
             if let Some(mut client) = Client::associated(rt, alloc, address, READER) {
                 client.is_answered(GET_REGISTER, REGISTER)?;
                 is_seated = true;
@@ -261,14 +274,18 @@ fn a_seat_is_free_again(rt: HostRuntime) -> Result<(), Fail> {
     serves(&rt, Clients::Fill, 200, &Open, (1, 1))
 }
 
-/// Two inputs, between them an APDU, a line that is none, two seconds, at each of which profile and monitor have their turn, and
+/// How long a line is that no step can be as long as.
+const LONG: usize = 70_000;
+
+/// The end of a line; two inputs, between them an APDU, a line that is none, two seconds, at each of which profile and monitor have their turn, and
 /// a moment that isn't one; then the monitor is evaluated, and a moment comes at which a capture is due.
 const LINES: &[u8] =
-    b"in 1.0.1.8.0.255 060000005A\nreader C001C100030100010800FF0200\n\nnothing\ntick 2\nat 2023-02-29T00:00:00\n\
+    b"\nin 1.0.1.8.0.255 060000005A\nreader C001C100030100010800FF0200\n\nnothing\ntick 2\nat 2023-02-29T00:00:00\n\
       in 1.0.1.8.0.255 0600000064\neval 0.0.16.1.0.255\nat 2024-02-29T00:00:00";
 
 /// What is told of the lines that are none.
-const TOLD: &[u8] = b"line 2: unreadable\nline 4: unreadable\nline 6: unreadable\n";
+const TOLD: &[u8] =
+    b"line 1: unreadable\nline 3: unreadable\nline 5: unreadable\nline 7: unreadable\n";
 
 /// The reader is answered the last of the inputs in the end, the manager the alarm that the monitor's script wrote, and the
 /// installer that an entry is in use.
@@ -306,8 +323,18 @@ fn sees(client: &mut Client, apdu: &str, want: &str) -> Option<()> {
 #[test]
 fn the_driver_brings_inputs(rt: HostRuntime) -> Result<(), Fail> {
     let mut faults = Vec::new(rt.alloc());
+    let mut lines = vec![in rt.alloc(); b'x'; LONG]?;
+    lines.extend_from_slice(LINES)?;
     let clients = Clients::SeeTheDriver;
-    serves_driven(&rt, clients, 3, &Open, LINES, &mut faults, (12, 12))?;
+    serves_driven(
+        &rt,
+        clients,
+        3,
+        &Open,
+        lines.as_slice(),
+        &mut faults,
+        (12, 12),
+    )?;
     assert!(rt; faults.as_slice() == TOLD);
     Ok(())
 }
@@ -382,4 +409,47 @@ fn a_seat_that_gives_up_ends_its_session_alone(rt: HostRuntime) -> Result<(), Fa
         Err(ServerFault::GaveUp) => Ok(()),
         _ => Err("it ended otherwise".into()),
     }
+}
+
+/// A writer that counts what is told there.
+#[derive(Drop)]
+struct Counting<'a>(&'a AtomicU64);
+
+impl Write for Counting<'_> {
+    fn write(&mut self, bytes: &[u8]) -> io::Result<usize> {
+        self.0.fetch_add(1, Ordering::SeqCst);
+        Ok(bytes.len())
+    }
+
+    fn flush(&mut self) -> io::Result<()> {
+        Ok(())
+    }
+}
+
+/// A reader connects once something is told, and gets the register.
+fn come_late<R: Net<Stream = TcpStream>>(
+    rt: &R,
+    alloc: Global,
+    address: SocketAddr,
+    told: &AtomicU64,
+) -> Option<()> {
+    for _ in 0..u64::MAX {
+        if told.load(Ordering::SeqCst) > 0 {
+            break;
+        }
+        thread::yield_now();
+    }
+    read(rt, alloc, address)
+}
+
+/// A connection that can't be taken, since nobody has connected yet and the listener doesn't wait, is told once and passed over;
+/// the next one is taken.
+#[test]
+fn a_connection_that_cant_be_taken_is_told(rt: HostRuntime) -> Result<(), Fail> {
+    let told = AtomicU64::new(0);
+    let none: &[u8] = b"";
+    let clients = Clients::ComeLate(&told);
+    serves_driven(&rt, clients, 1, &Open, none, Counting(&told), (0, 0))?;
+    assert!(rt; told.load(Ordering::SeqCst) == 1);
+    Ok(())
 }
