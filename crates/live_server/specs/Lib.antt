@@ -3,3 +3,4 @@ pub mod Ahead
 pub mod Asking
 pub mod Driving
 pub mod Faults
+pub mod Seats

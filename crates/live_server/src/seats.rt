@@ -1,5 +1,6 @@
 //! The seats of a board, and which are taken.
-ghost use Rattle.std.specs.Prelude.{◌≡◌, ◌<◌, ◌⊎◌, ◌↔◌, true, false, Some, IfErr, IfSome, IsTrue, MatchOption, slice_get, slice_set};
+ghost use Rattle.std.specs.Prelude.{◌≡◌, ◌<◌, ◌⊎◌, ◌↔◌, true, false, Some, IfErr, IfSome, IsTrue, MatchOption, slice_get, slice_set, unwrap_or};
+ghost use Rattle.live_server.specs.Seats.{AreTaken};
 ghost use Rattle.live_server.specs.Faults.{IsFaultBy, MayGiveUp};
 
 use crate::asking::PortAsker;
@@ -117,16 +118,19 @@ impl<'g, G: Gate> Taken<'g, G> {
         ensures within { IfSome result (λ seat. seat < 64) }
         ensures taken { MatchOption result (self.new.is_taken ≡ self.old.is_taken)
             (λ seat. (slice_get self.old.is_taken seat ≡ Some false) × (self.new.is_taken ≡ slice_set self.old.is_taken seat true)) }
+        // Those below it are taken, and where there is none, all are.
+        ensures lowest { AreTaken (unwrap_or result 64) self.old.is_taken }
     {
         let seat = self.lowest_free()?;
         self.is_taken[seat] = true;
         Some(seat)
     }
 
-    /// The lowest free seat.
+    /// The lowest free seat. None where all are taken.
     fn lowest_free(&self) -> Option<usize>
         ensures within { IfSome result (λ seat. seat < 64) }
         ensures free { IfSome result (λ seat. slice_get self.now.is_taken seat ≡ Some false) }
+        ensures lowest { AreTaken (unwrap_or result 64) self.now.is_taken }
     {
         for seat in 0..SEATS {
             if !self.is_taken[seat] {
