@@ -22,7 +22,9 @@ impl Flags for Conformance {
 
     ghost exact = { ⊤ };
 
-    ghost table = { (codes "BLOCK_TRANSFER_WITH_GET", 0x001000) ∷ (codes "GET", 0x000010) ∷ (codes "SET", 0x000008) ∷ (codes "SELECTIVE_ACCESS", 0x000004) ∷ (codes "ACTION", 0x000001) ∷ [] };
+    ghost table = { (codes "BLOCK_TRANSFER_WITH_GET", 0x001000)
+        ∷ (codes "GET", 0x000010) ∷ (codes "SET", 0x000008)
+        ∷ (codes "SELECTIVE_ACCESS", 0x000004) ∷ (codes "ACTION", 0x000001) ∷ [] };
 
     ghost set_of = { λ c. c.0 };
 

@@ -37,7 +37,12 @@ impl<'a> Model for Aarq<'a> {
 
     ghost Value = { Contents };
 
-    ghost view = { λ a. record { context = option_map (λ c. c.now) a.context; mechanism = option_map (λ c. c.now) a.mechanism; authentication = option_map (λ c. c.now) a.authentication; information = option_map (λ c. c.now) a.information } };
+    ghost view = { λ a. record {
+      context = option_map (λ c. c.now) a.context;
+      mechanism = option_map (λ c. c.now) a.mechanism;
+      authentication = option_map (λ c. c.now) a.authentication;
+      information = option_map (λ c. c.now) a.information;
+    } };
 }
 
 /// The tags of the fields that are looked at.

@@ -28,7 +28,8 @@ impl<'a> Model for Session<'a> {
 
     ghost coded = { kept_code };
 
-    ghost view = { λ s. record { plan = s.plan.now; association = s.association; transfer = s.transfer } };
+    ghost view = { λ s.
+        record { plan = s.plan.now; association = s.association; transfer = s.transfer } };
 
     ghost invariant = { λ s. IsKept s.association s.transfer };
 }
@@ -62,7 +63,8 @@ impl<'a> Session<'a> {
         requires { A.plan_of asker.old ≡ self.old.plan }
         ensures ok { IfOk result (λ answer. (asked : Option Exchange)
             × Leads A.answers asker.old (asked_list asked) asker.new
-            × Speaks self.old self.new (record { source = source; apdu = apdu.now; asked = asked; answer = answer.items })) }
+            × Speaks self.old self.new
+            (record { source = source; apdu = apdu.now; asked = asked; answer = answer.items })) }
         ensures err { OnErr result ((asked : Option Exchange)
             × Leads A.answers asker.old (asked_list asked) asker.new
             × (self.new ≡ kept_of self.old.plan [])) }

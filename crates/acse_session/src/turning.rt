@@ -52,9 +52,13 @@ pub(crate) fn turn<A: Asker>(
     requires kept { IsKept association transfer }
     ensures ok { IfOk result (λ after. (asked : Option Exchange)
         × Leads A.answers asker.old (asked_list asked) asker.new
-        × Steps plan.now association transfer (record { source = source; apdu = apdu.now; asked = asked; answer = after.answer.items }) after.association after.transfer) }
-    ensures err { OnErr result ((asked : Option Exchange) × Leads A.answers asker.old (asked_list asked) asker.new) }
-    ensures fits { IfOk result (λ after. (length after.answer.items ≤ 1024) × IsKept after.association after.transfer) }
+        × Steps plan.now association transfer
+        (record { source = source; apdu = apdu.now; asked = asked; answer = after.answer.items })
+        after.association after.transfer) }
+    ensures err { OnErr result ((asked : Option Exchange)
+        × Leads A.answers asker.old (asked_list asked) asker.new) }
+    ensures fits { IfOk result (λ after. (length after.answer.items ≤ 1024)
+        × IsKept after.association after.transfer) }
     ensures plan { A.plan_of asker.new ≡ A.plan_of asker.old }
 {
     if is_aarq(apdu) {
@@ -74,10 +78,13 @@ pub(crate) fn turn<A: Asker>(
 
 /// An AARQ is judged. What was kept is gone.
 fn opening(alloc: Global, plan: &Plan, source: u16, apdu: &[u8]) -> Result<After, Memory>
-    ensures association { IfOk result (λ after. after.association ≡ result_ok (associated plan.now source apdu.now)) }
+    ensures association { IfOk result (λ after. after.association
+        ≡ result_ok (associated plan.now source apdu.now)) }
     ensures transfer { IfOk result (λ after. after.transfer ≡ None) }
-    ensures answer { IfOk result (λ after. after.answer.items ≡ aare_bytes (associated plan.now source apdu.now)) }
-    ensures fits { IfOk result (λ after. (length after.answer.items ≤ 1024) × IsKept after.association after.transfer) }
+    ensures answer { IfOk result (λ after. after.answer.items
+        ≡ aare_bytes (associated plan.now source apdu.now)) }
+    ensures fits { IfOk result (λ after. (length after.answer.items ≤ 1024)
+        × IsKept after.association after.transfer) }
 {
     let judged = associate(plan, source, apdu);
     let mut answer = Vec::new(alloc);
@@ -99,7 +106,8 @@ fn outside(
     ensures association { IfOk result (λ after. after.association ≡ association) }
     ensures transfer { IfOk result (λ after. after.transfer ≡ transfer) }
     ensures answer { IfOk result (λ after. after.answer.items ≡ not_allowed) }
-    ensures fits { IfOk result (λ after. (length after.answer.items ≤ 1024) × IsKept after.association after.transfer) }
+    ensures fits { IfOk result (λ after. (length after.answer.items ≤ 1024)
+        × IsKept after.association after.transfer) }
 {
     let mut answer = Vec::new(alloc);
     write_exception(Exception::NotAllowed, &mut answer)?;
@@ -115,7 +123,8 @@ fn release(alloc: Global) -> Result<After, Memory>
     ensures association { IfOk result (λ after. after.association ≡ None) }
     ensures transfer { IfOk result (λ after. after.transfer ≡ None) }
     ensures answer { IfOk result (λ after. after.answer.items ≡ rlre_bytes) }
-    ensures fits { IfOk result (λ after. (length after.answer.items ≤ 1024) × IsKept after.association after.transfer) }
+    ensures fits { IfOk result (λ after. (length after.answer.items ≤ 1024)
+        × IsKept after.association after.transfer) }
 {
     let mut answer = Vec::new(alloc);
     write_rlre(&mut answer)?;
@@ -137,10 +146,14 @@ fn inside<A: Asker>(
     requires kept { IsKept (Some a) transfer }
     ensures ok { IfOk result (λ after. (asked : Option Exchange)
         × Leads A.answers asker.old (asked_list asked) asker.new
-        × StepsInside a transfer (record { source = a.source; apdu = apdu.now; asked = asked; answer = after.answer.items }) after.transfer) }
+        × StepsInside a transfer
+        (record { source = a.source; apdu = apdu.now; asked = asked; answer = after.answer.items })
+        after.transfer) }
     ensures association { IfOk result (λ after. after.association ≡ Some a) }
-    ensures err { OnErr result ((asked : Option Exchange) × Leads A.answers asker.old (asked_list asked) asker.new) }
-    ensures fits { IfOk result (λ after. (length after.answer.items ≤ 1024) × IsKept after.association after.transfer) }
+    ensures err { OnErr result ((asked : Option Exchange)
+        × Leads A.answers asker.old (asked_list asked) asker.new) }
+    ensures fits { IfOk result (λ after. (length after.answer.items ≤ 1024)
+        × IsKept after.association after.transfer) }
     ensures plan { A.plan_of asker.new ≡ A.plan_of asker.old }
 {
     match read_apdu(alloc, apdu) {
@@ -168,7 +181,8 @@ fn unreadable(alloc: Global, a: Association) -> Result<After, Memory>
     ensures association { IfOk result (λ after. after.association ≡ Some a) }
     ensures transfer { IfOk result (λ after. after.transfer ≡ None) }
     ensures answer { IfOk result (λ after. after.answer.items ≡ unknown) }
-    ensures fits { IfOk result (λ after. (length after.answer.items ≤ 1024) × IsKept after.association after.transfer) }
+    ensures fits { IfOk result (λ after. (length after.answer.items ≤ 1024)
+        × IsKept after.association after.transfer) }
 {
     let mut answer = Vec::new(alloc);
     write_exception(Exception::Unknown, &mut answer)?;
@@ -191,8 +205,10 @@ fn replied(
     requires sendable { IfOk reply (λ r. CanSend service (reply_of r)) }
     ensures association { IfOk result (λ after. after.association ≡ Some a) }
     ensures transfer { IfOk result (λ after. after.transfer ≡ begun a (long_value a (answered reply))) }
-    ensures answer { IfOk result (λ after. after.answer.items ≡ reply_answer a service invoke (answered reply)) }
-    ensures fits { IfOk result (λ after. (length after.answer.items ≤ 1024) × IsKept after.association after.transfer) }
+    ensures answer { IfOk result (λ after. after.answer.items
+        ≡ reply_answer a service invoke (answered reply)) }
+    ensures fits { IfOk result (λ after. (length after.answer.items ≤ 1024)
+        × IsKept after.association after.transfer) }
 {
     match reply {
         Ok(Reply::Value(value)) => value_answer(alloc, a, invoke, &value),
@@ -213,8 +229,10 @@ fn code_answer(
     requires kept { IsKept (Some a) None }
     ensures association { IfOk result (λ after. after.association ≡ Some a) }
     ensures transfer { IfOk result (λ after. after.transfer ≡ None) }
-    ensures answer { IfOk result (λ after. after.answer.items ≡ reply_bytes service invoke (answers.Code code)) }
-    ensures fits { IfOk result (λ after. (length after.answer.items ≤ 1024) × IsKept after.association after.transfer) }
+    ensures answer { IfOk result (λ after. after.answer.items
+        ≡ reply_bytes service invoke (answers.Code code)) }
+    ensures fits { IfOk result (λ after. (length after.answer.items ≤ 1024)
+        × IsKept after.association after.transfer) }
 {
     let mut answer = Vec::new(alloc);
     write_code(invoke, code, service, &mut answer)?;
@@ -233,9 +251,11 @@ fn value_answer(alloc: Global, a: Association, invoke: u8, value: &Data) -> Resu
     requires kept { IsKept (Some a) None }
     requires sendable { CanSend Service.Get (answers.Value (tree value.now)) }
     ensures association { IfOk result (λ after. after.association ≡ Some a) }
-    ensures transfer { IfOk result (λ after. after.transfer ≡ begun a (long_value a (Ok (answers.Value (tree value.now))))) }
+    ensures transfer { IfOk result (λ after. after.transfer
+        ≡ begun a (long_value a (Ok (answers.Value (tree value.now))))) }
     ensures answer { IfOk result (λ after. after.answer.items ≡ value_answer a invoke (tree value.now)) }
-    ensures fits { IfOk result (λ after. (length after.answer.items ≤ 1024) × IsKept after.association after.transfer) }
+    ensures fits { IfOk result (λ after. (length after.answer.items ≤ 1024)
+        × IsKept after.association after.transfer) }
 {
     if is_short(a.limit, value) {
         whole_value(alloc, a, invoke, value)
@@ -261,8 +281,10 @@ fn whole_value(alloc: Global, a: Association, invoke: u8, value: &Data) -> Resul
     requires short { is_within a.limit (tree value.now) ≡ true }
     ensures association { IfOk result (λ after. after.association ≡ Some a) }
     ensures transfer { IfOk result (λ after. after.transfer ≡ None) }
-    ensures answer { IfOk result (λ after. after.answer.items ≡ reply_bytes Service.Get invoke (answers.Value (tree value.now))) }
-    ensures fits { IfOk result (λ after. (length after.answer.items ≤ 1024) × IsKept after.association after.transfer) }
+    ensures answer { IfOk result (λ after. after.answer.items
+        ≡ reply_bytes Service.Get invoke (answers.Value (tree value.now))) }
+    ensures fits { IfOk result (λ after. (length after.answer.items ≤ 1024)
+        × IsKept after.association after.transfer) }
 {
     let mut answer = Vec::new(alloc);
     write_value(invoke, value, &mut answer)?;
@@ -279,9 +301,12 @@ fn first_block(alloc: Global, a: Association, invoke: u8, value: &Data) -> Resul
     requires sendable { CanSend Service.Get (answers.Value (tree value.now)) }
     requires long { is_within a.limit (tree value.now) ≡ false }
     ensures association { IfOk result (λ after. after.association ≡ Some a) }
-    ensures transfer { IfOk result (λ after. after.transfer ≡ if_left (behind (start (tree value.now) a.limit))) }
-    ensures answer { IfOk result (λ after. after.answer.items ≡ block_bytes invoke (next_block (start (tree value.now) a.limit))) }
-    ensures fits { IfOk result (λ after. (length after.answer.items ≤ 1024) × IsKept after.association after.transfer) }
+    ensures transfer { IfOk result (λ after. after.transfer
+        ≡ if_left (behind (start (tree value.now) a.limit))) }
+    ensures answer { IfOk result (λ after. after.answer.items
+        ≡ block_bytes invoke (next_block (start (tree value.now) a.limit))) }
+    ensures fits { IfOk result (λ after. (length after.answer.items ≤ 1024)
+        × IsKept after.association after.transfer) }
 {
     let long = LongGet::new(alloc, value, a.limit)?;
     send_block(alloc, a, long, invoke)
@@ -299,7 +324,8 @@ fn next_block(
     ensures association { IfOk result (λ after. after.association ≡ Some a) }
     ensures transfer { IfOk result (λ after. after.transfer ≡ advanced block transfer) }
     ensures answer { IfOk result (λ after. after.answer.items ≡ next_answer transfer invoke block) }
-    ensures fits { IfOk result (λ after. (length after.answer.items ≤ 1024) × IsKept after.association after.transfer) }
+    ensures fits { IfOk result (λ after. (length after.answer.items ≤ 1024)
+        × IsKept after.association after.transfer) }
 {
     let Some(long) = transfer else {
         return no_block(alloc, a, invoke, block, BlockFault::NoLongGet);
@@ -317,7 +343,8 @@ fn send_block(alloc: Global, a: Association, mut long: LongGet, invoke: u8) -> R
     ensures association { IfOk result (λ after. after.association ≡ Some a) }
     ensures transfer { IfOk result (λ after. after.transfer ≡ if_left (behind long)) }
     ensures answer { IfOk result (λ after. after.answer.items ≡ block_bytes invoke (next_block long)) }
-    ensures fits { IfOk result (λ after. (length after.answer.items ≤ 1024) × IsKept after.association after.transfer) }
+    ensures fits { IfOk result (λ after. (length after.answer.items ≤ 1024)
+        × IsKept after.association after.transfer) }
 {
     let answer = long.block(alloc, invoke)?;
     Ok(After {
@@ -346,7 +373,8 @@ fn no_block(
     ensures association { IfOk result (λ after. after.association ≡ Some a) }
     ensures transfer { IfOk result (λ after. after.transfer ≡ None) }
     ensures answer { IfOk result (λ after. after.answer.items ≡ fault_block_bytes invoke number fault) }
-    ensures fits { IfOk result (λ after. (length after.answer.items ≤ 1024) × IsKept after.association after.transfer) }
+    ensures fits { IfOk result (λ after. (length after.answer.items ≤ 1024)
+        × IsKept after.association after.transfer) }
 {
     let answer = fault_block(alloc, invoke, number, fault)?;
     Ok(After {

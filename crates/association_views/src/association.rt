@@ -43,7 +43,8 @@ pub fn fixed_attribute_at(
     client: u8,
     index: u8,
 ) -> Result<Data, Memory>
-    ensures { (class_id : ℕ) → IfOk result (λ value. tree value ≡ shapes.fixed instance.now.plan client (cell class_id instance.now.name index)) }
+    ensures { (class_id : ℕ) → IfOk result (λ value. tree value
+        ≡ shapes.fixed instance.now.plan client (cell class_id instance.now.name index)) }
 {
     let name = instance.name();
     if index == 1 {
@@ -97,7 +98,9 @@ fn push_objects(
     objects: &[Object],
     list: &mut Vec<Data>,
 ) -> Result<(), Memory>
-    ensures { OnOk result (map tree list.new.items ≡ map tree list.old.items ++ map (λ o. shapes.listed_object plan.now client o.name (interface_of o.part)) (filter (λ o. has_right plan.now client o.name (λ r. true)) objects.now)) }
+    ensures { OnOk result (map tree list.new.items ≡ map tree list.old.items
+        ++ map (λ o. shapes.listed_object plan.now client o.name (interface_of o.part))
+        (filter (λ o. has_right plan.now client o.name (λ r. true)) objects.now)) }
 {
     for object in objects {
         push_object(alloc, plan, client, object, list)?;
@@ -114,7 +117,10 @@ fn push_object(
     object: &Object,
     list: &mut Vec<Data>,
 ) -> Result<(), Memory>
-    ensures { OnOk result (map tree list.new.items ≡ map tree list.old.items ++ cond (has_right plan.now client object.now.name (λ r. true)) (shapes.listed_object plan.now client object.now.name (interface_of object.now.part) ∷ []) []) }
+    ensures { OnOk result (map tree list.new.items
+        ≡ map tree list.old.items ++ cond (has_right plan.now client object.now.name (λ r. true))
+        (shapes.listed_object plan.now client object.now.name (interface_of object.now.part) ∷ [])
+        []) }
 {
     let instance = plan.instance(&object.name());
     if instance.has_right(client) {
@@ -133,7 +139,8 @@ fn listed_object(
 ) -> Result<Data, Memory>
     requires attributes { interface.attributes < 128 }
     requires methods { interface.methods < 128 }
-    ensures { IfOk result (λ value. tree value ≡ shapes.listed_object instance.now.plan client instance.now.name interface) }
+    ensures { IfOk result (λ value. tree value
+        ≡ shapes.listed_object instance.now.plan client instance.now.name interface) }
 {
     structure(
         alloc,
@@ -156,7 +163,8 @@ fn access_rights(
 ) -> Result<Data, Memory>
     requires attributes { interface.attributes < 128 }
     requires methods { interface.methods < 128 }
-    ensures { IfOk result (λ value. tree value ≡ shapes.access_rights instance.now.plan client instance.now.name interface) }
+    ensures { IfOk result (λ value. tree value
+        ≡ shapes.access_rights instance.now.plan client instance.now.name interface) }
 {
     let attributes = attribute_accesses(alloc, instance, client, interface)?;
     let methods = method_accesses(alloc, instance, client, interface)?;
@@ -178,7 +186,10 @@ fn attribute_accesses(
     interface: Interface,
 ) -> Result<Vec<Data>, Memory>
     requires { interface.attributes < 128 }
-    ensures { IfOk result (λ all. map tree all.items ≡ map (λ k. shapes.attribute_access instance.now.plan client (cell interface.class_id instance.now.name k)) (range_with_len 1 interface.attributes)) }
+    ensures { IfOk result (λ all. map tree all.items
+        ≡ map (λ k. shapes.attribute_access instance.now.plan client
+        (cell interface.class_id instance.now.name k))
+        (range_with_len 1 interface.attributes)) }
 {
     let mut all = Vec::new(alloc);
     for place in 0..interface.attributes {
@@ -197,7 +208,9 @@ fn method_accesses(
     interface: Interface,
 ) -> Result<Vec<Data>, Memory>
     requires { interface.methods < 128 }
-    ensures { IfOk result (λ all. map tree all.items ≡ map (λ k. shapes.method_access instance.now.plan client (cell interface.class_id instance.now.name k)) (range_with_len 1 interface.methods)) }
+    ensures { IfOk result (λ all. map tree all.items ≡ map (λ k.
+        shapes.method_access instance.now.plan client (cell interface.class_id instance.now.name k))
+        (range_with_len 1 interface.methods)) }
 {
     let mut all = Vec::new(alloc);
     for place in 0..interface.methods {
@@ -215,7 +228,8 @@ fn attribute_access(
     index: u8,
 ) -> Result<Data, Memory>
     requires { index < 128 }
-    ensures { IfOk result (λ value. tree value ≡ shapes.attribute_access instance.now.plan client (cell class_id instance.now.name index)) }
+    ensures { IfOk result (λ value. tree value ≡ shapes.attribute_access instance.now.plan client
+        (cell class_id instance.now.name index)) }
 {
     structure(
         alloc,
@@ -229,7 +243,8 @@ fn attribute_access(
 
 /// access_mode: 0 no_access, 1 read_only, 2 write_only, 3 read_and_write.
 fn access_mode(instance: &Instance, client: u8, index: u8) -> u8
-    ensures { (class_id : ℕ) → result ≡ shapes.access_mode instance.now.plan client (cell class_id instance.now.name index) }
+    ensures { (class_id : ℕ) → result
+        ≡ shapes.access_mode instance.now.plan client (cell class_id instance.now.name index) }
 {
     match (
         instance.may_read(client, index),
@@ -250,7 +265,8 @@ fn access_selectors(
     class_id: u16,
     index: u8,
 ) -> Result<Data, Memory>
-    ensures { IfOk result (λ value. tree value ≡ shapes.access_selectors instance.now.plan client (cell class_id instance.now.name index)) }
+    ensures { IfOk result (λ value. tree value ≡ shapes.access_selectors instance.now.plan client
+        (cell class_id instance.now.name index)) }
 {
     let is_buffer = class_id == Profile::CLASS_ID && index == Profile::BUFFER;
     if is_buffer && instance.may_read(client, index) {
@@ -263,7 +279,8 @@ fn access_selectors(
 /// A method's index, and whether the client may call it.
 fn method_access(alloc: Global, instance: &Instance, client: u8, index: u8) -> Result<Data, Memory>
     requires { index < 128 }
-    ensures { (class_id : ℕ) → IfOk result (λ value. tree value ≡ shapes.method_access instance.now.plan client (cell class_id instance.now.name index)) }
+    ensures { (class_id : ℕ) → IfOk result (λ value. tree value
+        ≡ shapes.method_access instance.now.plan client (cell class_id instance.now.name index)) }
 {
     structure(
         alloc,
@@ -277,7 +294,8 @@ fn method_access(alloc: Global, instance: &Instance, client: u8, index: u8) -> R
 /// The client's service access point, and that of the server, 1.
 #[tactic(auto, using(crate::proofs::Shapes::sap_within))]
 fn partners(alloc: Global, plan: &Plan, client: u8) -> Result<Data, Memory>
-    ensures { IfOk result (λ value. tree value ≡ shapes.of_client (slice_get plan.now.clients client) shapes.partners) }
+    ensures { IfOk result (λ value. tree value
+        ≡ shapes.of_client (slice_get plan.now.clients client) shapes.partners) }
 {
     plan.known();
     match plan.client(client) {
@@ -291,7 +309,8 @@ fn partners(alloc: Global, plan: &Plan, client: u8) -> Result<Data, Memory>
 
 /// Low level security for a client with a password, else lowest level security.
 fn mechanism(alloc: Global, plan: &Plan, client: u8) -> Result<Data, Memory>
-    ensures { IfOk result (λ value. tree value ≡ shapes.of_client (slice_get plan.now.clients client) (λ c. shapes.mechanism_of c.password)) }
+    ensures { IfOk result (λ value. tree value ≡ shapes.of_client
+        (slice_get plan.now.clients client) (λ c. shapes.mechanism_of c.password)) }
 {
     match plan.client(client) {
         Some(found) => match found.password() {

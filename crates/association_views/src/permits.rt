@@ -41,7 +41,8 @@ fn class_is(instance: &Instance, class_id: u16) -> bool
 
 /// Whether the class of what stands at the name has an attribute with this index.
 fn has_attribute(instance: &Instance, descriptor: &Descriptor) -> bool
-    ensures { result ≡ rights.has_attribute descriptor.now.index (interface_at instance.now.plan instance.now.name) }
+    ensures { result ≡ rights.has_attribute descriptor.now.index
+        (interface_at instance.now.plan instance.now.name) }
 {
     match instance.interface() {
         Some(interface) => is_index(descriptor.index, interface.attributes),
@@ -51,7 +52,8 @@ fn has_attribute(instance: &Instance, descriptor: &Descriptor) -> bool
 
 /// Whether the class of what stands at the name has a method with this index.
 fn has_method(instance: &Instance, descriptor: &Descriptor) -> bool
-    ensures { result ≡ rights.has_method descriptor.now.index (interface_at instance.now.plan instance.now.name) }
+    ensures { result ≡ rights.has_method descriptor.now.index
+        (interface_at instance.now.plan instance.now.name) }
 {
     match instance.interface() {
         Some(interface) => is_index(descriptor.index, interface.methods),
@@ -91,7 +93,8 @@ pub fn permit_get(
     descriptor: &Descriptor,
     selection: &Option<(u8, Argument)>,
 ) -> Result<(), AccessCode>
-    ensures { result ≡ permitted (rights.get_answer plan.now client descriptor.now (selection_of selection.now)) }
+    ensures { result ≡ permitted (rights.get_answer plan.now client descriptor.now
+        (selection_of selection.now)) }
 {
     permit_get_at(
         &plan.instance(&descriptor.name),
@@ -109,7 +112,8 @@ pub fn permit_get_at(
     selection: &Option<(u8, Argument)>,
 ) -> Result<(), AccessCode>
     requires { descriptor.now.name ≡ instance.now.name }
-    ensures { result ≡ permitted (rights.get_answer instance.now.plan client descriptor.now (selection_of selection.now)) }
+    ensures { result ≡ permitted (rights.get_answer instance.now.plan client descriptor.now
+        (selection_of selection.now)) }
 {
     let cell = descriptor.attribute();
     if !instance.in_view(client) {
@@ -143,7 +147,8 @@ pub fn permit_set(
     selected: bool,
     value: &Argument,
 ) -> Result<(), AccessCode>
-    ensures { result ≡ permitted (rights.set_answer plan.now client descriptor.now selected (argument_of value.now)) }
+    ensures { result ≡ permitted (rights.set_answer plan.now client descriptor.now selected
+        (argument_of value.now)) }
 {
     permit_set_at(
         &plan.instance(&descriptor.name),
@@ -163,7 +168,8 @@ pub fn permit_set_at(
     value: &Argument,
 ) -> Result<(), AccessCode>
     requires { descriptor.now.name ≡ instance.now.name }
-    ensures { result ≡ permitted (rights.set_answer instance.now.plan client descriptor.now selected (argument_of value.now)) }
+    ensures { result ≡ permitted (rights.set_answer instance.now.plan client descriptor.now selected
+        (argument_of value.now)) }
 {
     let cell = descriptor.attribute();
     if !instance.in_view(client) {
@@ -187,7 +193,8 @@ pub fn permit_set_at(
 /// Whether the value may stand in the cell.
 fn permit_value(instance: &Instance, cell: &CellRef, value: &Argument) -> Result<(), AccessCode>
     requires { cell.now.name ≡ instance.now.name }
-    ensures { result ≡ permitted (value_code (rule_of instance.now.plan cell.now) (argument_of value.now)) }
+    ensures { result
+        ≡ permitted (value_code (rule_of instance.now.plan cell.now) (argument_of value.now)) }
 {
     match value {
         Argument::Value(value) => instance.rule(cell.class_id, cell.index, value),
@@ -207,7 +214,8 @@ fn executes(instance: &Instance) -> bool
 
 /// The parameter of execute is a script's number; that of reset and capture is absent or any readable value (own profile).
 fn valid_parameter(instance: &Instance, argument: &Argument) -> bool
-    ensures { result ≡ rights.valid_parameter (object_at instance.now.plan instance.now.name) (argument_of argument.now) }
+    ensures { result ≡ rights.valid_parameter (object_at instance.now.plan instance.now.name)
+        (argument_of argument.now) }
 {
     if executes(instance) {
         argument.script_number().is_some()
@@ -228,7 +236,8 @@ fn knows(part: &Part, id: u16) -> bool
 
 /// A number that is given to a script table is that of a script of it, or 0, that of the null script.
 fn known_script(instance: &Instance, argument: &Argument) -> bool
-    ensures { result ≡ rights.known_script (object_at instance.now.plan instance.now.name) (rights.script_number (argument_of argument.now)) }
+    ensures { result ≡ rights.known_script (object_at instance.now.plan instance.now.name)
+        (rights.script_number (argument_of argument.now)) }
 {
     match (instance.object(), argument.script_number()) {
         (Some(object), Some(id)) => knows(object.part(), id),
@@ -247,7 +256,8 @@ pub fn permit_action(
     descriptor: &Descriptor,
     argument: &Argument,
 ) -> Result<(), AccessCode>
-    ensures { result ≡ permitted (rights.act_answer plan.now client descriptor.now (argument_of argument.now)) }
+    ensures { result
+        ≡ permitted (rights.act_answer plan.now client descriptor.now (argument_of argument.now)) }
 {
     permit_action_at(
         &plan.instance(&descriptor.name),
@@ -265,7 +275,8 @@ pub fn permit_action_at(
     argument: &Argument,
 ) -> Result<(), AccessCode>
     requires { descriptor.now.name ≡ instance.now.name }
-    ensures { result ≡ permitted (rights.act_answer instance.now.plan client descriptor.now (argument_of argument.now)) }
+    ensures { result ≡ permitted (rights.act_answer instance.now.plan client descriptor.now
+        (argument_of argument.now)) }
 {
     let method = descriptor.method();
     if !instance.in_view(client) {

@@ -30,11 +30,32 @@ impl Model for Moment {
 
     ghost Value = { Moment };
 
-    ghost view = { λ m. record { year = m.year; month = m.month; day = m.day; hour = m.hour; minute = m.minute; second = m.second } };
+    ghost view = { λ m. record {
+      year = m.year;
+      month = m.month;
+      day = m.day;
+      hour = m.hour;
+      minute = m.minute;
+      second = m.second;
+    } };
 
-    ghost invariant = { λ m. IsMoment (record { year = m.year; month = m.month; day = m.day; hour = m.hour; minute = m.minute; second = m.second }) };
+    ghost invariant = { λ m. IsMoment (record {
+      year = m.year;
+      month = m.month;
+      day = m.day;
+      hour = m.hour;
+      minute = m.minute;
+      second = m.second;
+    }) };
 
-    ghost inverse = { λ m. record { year = m.year; month = m.month; day = m.day; hour = m.hour; minute = m.minute; second = m.second } };
+    ghost inverse = { λ m. record {
+      year = m.year;
+      month = m.month;
+      day = m.day;
+      hour = m.hour;
+      minute = m.minute;
+      second = m.second;
+    } };
 }
 
 /// A text that is no moment: not of the form YYYY-MM-DDTHH:MM:SS, or no moment of the years 2000 to 9999 that the
@@ -175,8 +196,30 @@ impl Moment {
     /// The moment of these numbers, if there is one: a day of the years 2000 to 9999 that the calendar has, an hour below 24, a
     /// minute and a second below 60 (own profile).
     pub fn of(year: u16, month: u8, day: u8, hour: u8, minute: u8, second: u8) -> Option<Moment>
-        ensures found { IfSome result (λ m. times.IsMoment m × (m ≡ record { year = year; month = month; day = day; hour = hour; minute = minute; second = second })) }
-        ensures exact { times.IsMoment (record { year = year; month = month; day = day; hour = hour; minute = minute; second = second }) → result ≡ Some (record { year = year; month = month; day = day; hour = hour; minute = minute; second = second }) }
+        ensures found { IfSome result (λ m. times.IsMoment m × (m ≡ record {
+          year = year;
+          month = month;
+          day = day;
+          hour = hour;
+          minute = minute;
+          second = second;
+        })) }
+        ensures exact { times.IsMoment (record {
+          year = year;
+          month = month;
+          day = day;
+          hour = hour;
+          minute = minute;
+          second = second;
+        }) →
+            result ≡ Some (record {
+              year = year;
+              month = month;
+              day = day;
+              hour = hour;
+              minute = minute;
+              second = second;
+            }) }
     {
         let numbers = Numbers {
             year,
@@ -267,8 +310,10 @@ impl Moment {
 
 /// The start of a day.
 fn midnight(year: u16, month: u8, day: u8) -> Moment
-    requires { times.IsMoment (record { year = year; month = month; day = day; hour = 0; minute = 0; second = 0 }) }
-    ensures { result ≡ record { year = year; month = month; day = day; hour = 0; minute = 0; second = 0 } }
+    requires { times.IsMoment
+        (record { year = year; month = month; day = day; hour = 0; minute = 0; second = 0 }) }
+    ensures { result
+        ≡ record { year = year; month = month; day = day; hour = 0; minute = 0; second = 0 } }
 {
     Moment {
         year,

@@ -142,7 +142,8 @@ fn push_rows(
     rows: &[Data],
     copies: &mut Vec<Data>,
 ) -> Result<(), Memory>
-    ensures { OnOk result (map tree copies.new.items ≡ map tree copies.old.items ++ map (shown columns) rows.now) }
+    ensures { OnOk result (map tree copies.new.items
+        ≡ map tree copies.old.items ++ map (shown columns) rows.now) }
 {
     for row in rows {
         copies.push(copy_of_row(alloc, columns, row)?)?;
@@ -182,7 +183,8 @@ fn put_entries(
     out: &mut Vec<u8>,
 ) -> Result<(), Memory>
     requires { HasLengths (entries_shown columns older.now newer.now) }
-    ensures ok { OnOk result (out.new.items ≡ out.old.items ++ canonical (entries_shown columns older.now newer.now)) }
+    ensures ok { OnOk result (out.new.items
+        ≡ out.old.items ++ canonical (entries_shown columns older.now newer.now)) }
     ensures ranges { OnOk result (HasRanges (entries_shown columns older.now newer.now)) }
     ensures err { OnErr result (Extends out.old.items out.new.items) }
 {
@@ -195,7 +197,8 @@ fn put_entries(
 /// The encodings of the rows, or of their columns, one after the other. What was put before a refusal stays.
 fn put_rows(columns: Option<(u16, u16)>, rows: &[Data], out: &mut Vec<u8>) -> Result<(), Memory>
     requires { HaveLengths (trees (map (shown columns) rows.now)) }
-    ensures ok { OnOk result (out.new.items ≡ out.old.items ++ all (trees (map (shown columns) rows.now))) }
+    ensures ok { OnOk result (out.new.items
+        ≡ out.old.items ++ all (trees (map (shown columns) rows.now))) }
     ensures ranges { OnOk result (HaveRanges (trees (map (shown columns) rows.now))) }
     ensures err { OnErr result (Extends out.old.items out.new.items) }
 {

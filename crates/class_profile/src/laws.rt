@@ -13,8 +13,9 @@ ghost use Rattle.class_profile.specs.Reversal.{dropped, buffer_before};
 /// What a state of a plan holds of a profile may stand in an object of class 7: its buffer, of the cells of one alternative, and
 /// its entries in use.
 pub fn states_hold_profiles()
-    ensures buffer { (P : Plan) (captured : Choice (List CellRef)) (cells : List CellRef) (entries : ℕ) (buffer : Tree) →
-        IsIn (alternatives captured) cells → IsBuffer P cells entries buffer → is_buffer captured entries buffer ≡ true }
+    ensures buffer { (P : Plan) (captured : Choice (List CellRef)) (cells : List CellRef)
+        (entries : ℕ) (buffer : Tree) → IsIn (alternatives captured) cells →
+        IsBuffer P cells entries buffer → is_buffer captured entries buffer ≡ true }
     ensures count { (entries : ℕ) (count : Tree) → IsCount entries count → is_count entries count ≡ true }
 {}
 

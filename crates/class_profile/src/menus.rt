@@ -80,7 +80,8 @@ pub fn alternative_of<'a>(menu: &'a [Vec<CellRef>], value: &Data) -> Option<&'a 
 
 /// Whether the value is the capture_objects of an alternative of a menu.
 pub fn has_alternative(menu: &[Vec<CellRef>], value: &Data) -> bool
-    ensures { result ≡ list_any (λ cells. same_tree (capture_objects_value cells.items) (tree value.now)) menu.now }
+    ensures { result ≡ list_any
+        (λ cells. same_tree (capture_objects_value cells.items) (tree value.now)) menu.now }
 {
     menu.iter().any(|cells| is_capture_objects(value, cells))
 }

@@ -65,7 +65,8 @@ impl ProfilePart {
     /// What is captured where attribute 3, capture_objects, has this value: one of the menu, or else what is captured at the
     /// start.
     pub fn chosen(&self, objects: &Data) -> &[CellRef]
-        ensures { result.now ≡ chosen capture_objects_value (captures_of_part self.now) (tree objects.now) }
+        ensures { result.now
+            ≡ chosen capture_objects_value (captures_of_part self.now) (tree objects.now) }
     {
         match alternative_of(&self.menu, objects) {
             Some(cells) => cells,
@@ -96,7 +97,8 @@ impl ProfilePart {
 
     /// The start of attribute 3, capture_objects, where it can be set.
     fn start_objects(&self, alloc: Global) -> Result<Option<Data>, Memory>
-        ensures { IfOk result (λ objects. option_map tree objects ≡ start_objects (captures_of_part self.now)) }
+        ensures { IfOk result (λ objects. option_map tree objects
+            ≡ start_objects (captures_of_part self.now)) }
     {
         if !self.has_menu() {
             return Ok(None);
@@ -337,7 +339,8 @@ impl Profile {
         part: &ProfilePart,
         row: Row,
     ) -> Result<Captured, Memory>
-        requires { is_buffer (captures_of_part part.now) part.now.profile_entries (array_of self.old.buffer) ≡ true }
+        requires { is_buffer (captures_of_part part.now) part.now.profile_entries
+            (array_of self.old.buffer) ≡ true }
         ensures same { self.new.capture_period ≡ self.old.capture_period }
         ensures objects { self.new.capture_objects ≡ self.old.capture_objects }
         ensures rows { OnOk result (array_of self.new.buffer
@@ -367,7 +370,8 @@ impl Profile {
 
     /// Method 1, reset: no entry is left (IEC 62056-6-2, Profile generic). What was there is moved out.
     pub fn clear(&mut self) -> Cleared
-        ensures cleared { (result.buffer ≡ self.old.buffer) × (result.entries_in_use ≡ self.old.entries_in_use) }
+        ensures cleared { (result.buffer ≡ self.old.buffer)
+            × (result.entries_in_use ≡ self.old.entries_in_use) }
         ensures empty { self.new ≡ with_entries [] 0 self.old }
     {
         Cleared {

@@ -62,8 +62,10 @@ impl Rows {
     ) -> Result<Option<Data>, Memory>
         requires has_entries { 1 ≤ entries }
         requires fits { length self.old ≤ entries }
-        ensures rows { OnOk result (array_of self.new ≡ buffer_after entries (array_of self.old) (tree row)) }
-        ensures dropped { IfOk result (λ dropped. option_map tree dropped ≡ reversal.dropped entries (array_of self.old)) }
+        ensures rows { OnOk result (array_of self.new
+            ≡ buffer_after entries (array_of self.old) (tree row)) }
+        ensures dropped { IfOk result (λ dropped. option_map tree dropped
+            ≡ reversal.dropped entries (array_of self.old)) }
         ensures err { OnErr result (self.new ≡ self.old) }
         ensures full { length self.old ≡ entries → IsOk result }
     {
@@ -171,7 +173,8 @@ fn push_last(ring: &mut HeapCircularBuffer<Data>, entries: usize, row: Data) -> 
     requires fits { length ring.old.items ≤ entries }
     requires room { entries ≤ ring.old.capacity }
     ensures rows { ring.new ≡ buffer (keep_last entries (ring.old.items ++ row ∷ [])) ring.old.capacity }
-    ensures dropped { result ≡ (if length ring.old.items == entries then slice_get ring.old.items 0 else None) }
+    ensures dropped { result
+        ≡ (if length ring.old.items == entries then slice_get ring.old.items 0 else None) }
 {
     let oldest = if ring.len() == entries {
         ring.pop_front()
@@ -184,7 +187,8 @@ fn push_last(ring: &mut HeapCircularBuffer<Data>, entries: usize, row: Data) -> 
 
 /// The newest row goes, and the dropped one comes back in front.
 fn put_back(ring: &mut HeapCircularBuffer<Data>, dropped: Option<Data>)
-    ensures { rows_in (Some ring.new) ≡ reversal.rows_before (option_map tree dropped) (rows_in (Some ring.old)) }
+    ensures { rows_in (Some ring.new)
+        ≡ reversal.rows_before (option_map tree dropped) (rows_in (Some ring.old)) }
 {
     // The newest row makes room for the dropped one.
     if ring.len() == 0 {

@@ -46,8 +46,10 @@ fn with<'a>(
     commands: Result<Command<'a>, AllocError>,
     added: Result<Command<'a>, AllocError>,
 ) -> Result<Command<'a>, AllocError>
-    ensures { (above below : App) → IfOk commands.entry (λ c. app_of c ≡ above) → IfOk added.entry (λ c. app_of c ≡ below)
-        → IfOk added.entry (λ c. (out-Command c).has_globals ≡ false) → IfOk result (λ c. app_of c ≡ with_subcommand above below.top) }
+    ensures { (above below : App) →
+        IfOk commands.entry (λ c. app_of c ≡ above) → IfOk added.entry (λ c. app_of c ≡ below) →
+        IfOk added.entry (λ c. (out-Command c).has_globals ≡ false) →
+        IfOk result (λ c. app_of c ≡ with_subcommand above below.top) }
 {
     commands?.subcommand(added?)
 }

@@ -31,7 +31,8 @@ fn time_or_none(alloc: Global, text: &str) -> Result<Data, Memory>
 
 /// The values that texts are.
 pub fn values_of(alloc: Global, texts: &[String]) -> Result<Vec<Data>, Memory>
-    ensures { IfOk result (λ values. map tree values.items ≡ map plan.value_of (map string_bytes texts.now)) }
+    ensures { IfOk result (λ values. map tree values.items
+        ≡ map plan.value_of (map string_bytes texts.now)) }
 {
     let mut values = Vec::new(alloc);
     for text in texts {
@@ -42,7 +43,8 @@ pub fn values_of(alloc: Global, texts: &[String]) -> Result<Vec<Data>, Memory>
 
 /// The times and dates that texts are.
 pub fn times_of(alloc: Global, texts: &[String]) -> Result<Vec<Data>, Memory>
-    ensures { IfOk result (λ times. map tree times.items ≡ map plan.time_of (map string_bytes texts.now)) }
+    ensures { IfOk result (λ times. map tree times.items
+        ≡ map plan.time_of (map string_bytes texts.now)) }
 {
     let mut times = Vec::new(alloc);
     for text in texts {

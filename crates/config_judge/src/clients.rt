@@ -22,7 +22,8 @@ fn known_client(
     key: &str,
     name: &str,
 ) -> Result<(), ConfigFault>
-    ensures { Gives (λ u. u) result (spec.known_client directory.now.config.now (at.now ++ key.now) name.now) }
+    ensures { Gives (λ u. u) result (spec.known_client directory.now.config.now
+        (at.now ++ key.now) name.now) }
 {
     let known = directory.has_client(name);
     fault_if(Code::ClientUnknown, at, key, !known)
@@ -56,7 +57,8 @@ impl<'d, 'c> Judge for RightClient<'d, 'c> {
 
     type Part = RightParts;
 
-    ghost judges = { λ all at r. known_client all.directory.now.config.now (at ++ codes ".client") r.client };
+    ghost judges = { λ all at r. known_client all.directory.now.config.now
+        (at ++ codes ".client") r.client };
 
     fn judge(&self, at: &Place<'_>, right: &RightParts) -> Result<(), ConfigFault> {
         known_client(self.directory, at, ".client", right.client.as_str())

@@ -26,8 +26,10 @@ pub struct Directory<'a> {
     pub config: &'a ConfigParts,
     objects: BTreeMap<&'a str, usize>,
     clients: BTreeMap<&'a str, usize>,
-    ghost object_places: { (q : List ℕ) → tree.get_by (λ k. slice_cmp nat_cmp q k.now) objects ≡ position_from (λ o. bytes_eq o.name q) 0 config.now.objects },
-    ghost client_places: { (q : List ℕ) → tree.get_by (λ k. slice_cmp nat_cmp q k.now) clients ≡ position_from (λ c. bytes_eq c.name q) 0 config.now.clients },
+    ghost object_places: { (q : List ℕ) → tree.get_by (λ k. slice_cmp nat_cmp q k.now) objects
+        ≡ position_from (λ o. bytes_eq o.name q) 0 config.now.objects },
+    ghost client_places: { (q : List ℕ) → tree.get_by (λ k. slice_cmp nat_cmp q k.now) clients
+        ≡ position_from (λ c. bytes_eq c.name q) 0 config.now.clients },
 }
 
 impl<'a> Directory<'a> {
@@ -57,7 +59,8 @@ impl<'a> Directory<'a> {
 
     /// Whether one of the objects before a place has this logical name.
     pub(crate) fn has_object_before(&self, name: &str, place: usize) -> bool
-        ensures { result ≡ list_any (λ o. bytes_eq o.name name.now) (take place self.now.config.now.objects) }
+        ensures { result
+            ≡ list_any (λ o. bytes_eq o.name name.now) (take place self.now.config.now.objects) }
     {
         match self.object_place(name) {
             Some(first) => first < place,

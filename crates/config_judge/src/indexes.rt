@@ -27,7 +27,8 @@ fn captured(
     at: &Place<'_>,
     target: &TargetParts,
 ) -> Result<(), ConfigFault>
-    ensures { Gives (λ u. u) result (spec.usable directory.now.config.now classes.is_capturable at.now target.now) }
+    ensures { Gives (λ u. u) result
+        (spec.usable directory.now.config.now classes.is_capturable at.now target.now) }
 {
     let class = directory.class(target.object.as_str());
     let usable = is_capturable(class, target.index);
@@ -40,7 +41,8 @@ fn monitored(
     at: &Place<'_>,
     target: &TargetParts,
 ) -> Result<(), ConfigFault>
-    ensures { Gives (λ u. u) result (spec.usable directory.now.config.now classes.is_monitorable (at.now ++ codes ".monitored") target.now) }
+    ensures { Gives (λ u. u) result (spec.usable directory.now.config.now classes.is_monitorable
+        (at.now ++ codes ".monitored") target.now) }
 {
     let class = directory.class(target.object.as_str());
     let usable = is_monitorable(class, target.index);
@@ -103,7 +105,8 @@ fn usable_indexes(
     at: &Place<'_>,
     body: &BodyParts,
 ) -> Result<(), ConfigFault>
-    ensures { Gives (λ u. u) result (spec.usable_indexes directory.now.config.now at.now (body_text body.now)) }
+    ensures { Gives (λ u. u) result (spec.usable_indexes directory.now.config.now at.now
+        (body_text body.now)) }
 {
     match body {
         BodyParts::ProfileGeneric { capture, menu, .. } => {

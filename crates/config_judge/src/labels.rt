@@ -32,7 +32,8 @@ fn has_label(labels: &[LabelParts], target: &TargetParts) -> bool
 
 /// Whether the target of a label is no cell, or one of the labels before is of it.
 fn is_wrong(directory: &Directory<'_>, earlier: &[LabelParts], label: &LabelParts) -> bool
-    ensures { result ≡ (not (names.passes_or_chosen directory.now.config.now classes.is_cell label.now.target.object label.now.target.index)
+    ensures { result ≡ (not (names.passes_or_chosen directory.now.config.now
+        classes.is_cell label.now.target.object label.now.target.index)
         || list_any (λ e. passes.same_target e.target label.now.target) earlier.now) }
 {
     let cell = directory.is_cell(label.target.object.as_str(), label.target.index);

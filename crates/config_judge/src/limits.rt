@@ -59,7 +59,8 @@ fn small_value(at: &Place<'_>, key: &str, text: &str) -> Result<(), ConfigFault>
 
 /// The value of an action, where it has one.
 fn small_parameter(at: &Place<'_>, value: &Option<String>) -> Result<(), ConfigFault>
-    ensures { Gives (λ u. u) result (passes.small_value (at.now ++ codes ".value") (option_map string_bytes value.now)) }
+    ensures { Gives (λ u. u) result
+        (passes.small_value (at.now ++ codes ".value") (option_map string_bytes value.now)) }
 {
     match value {
         Some(text) => small_value(at, ".value", text.as_str()),
@@ -104,7 +105,8 @@ impl Judge for ScriptLimits {
 
 /// The sizes of a register's value and default.
 fn register_limits(at: &Place<'_>, value: &str, default: &str) -> Result<(), ConfigFault>
-    ensures { Gives (λ u. u) result (followed_by (passes.small_value (at.now ++ codes ".value") (Some value.now))
+    ensures { Gives (λ u. u) result (followed_by
+        (passes.small_value (at.now ++ codes ".value") (Some value.now))
         (passes.small_value (at.now ++ codes ".default") (Some default.now))) }
 {
     small_value(at, ".value", value)?;
@@ -113,7 +115,8 @@ fn register_limits(at: &Place<'_>, value: &str, default: &str) -> Result<(), Con
 
 /// The number of alternatives of a menu, if it is there.
 fn menu_size<T: Drop>(at: &Place<'_>, key: &str, menu: &Option<Vec<T>>) -> Result<(), ConfigFault>
-    ensures { Gives (λ u. u) result (passes.menu_size (at.now ++ key.now) (option_map (λ v. v.items) menu.now)) }
+    ensures { Gives (λ u. u) result
+        (passes.menu_size (at.now ++ key.now) (option_map (λ v. v.items) menu.now)) }
 {
     match menu {
         Some(alternatives) => {
@@ -146,8 +149,10 @@ fn capture_menu_limits(
     at: &Place<'_>,
     menu: &Option<Vec<AlternativeParts>>,
 ) -> Result<(), ConfigFault>
-    ensures { Gives (λ u. u) result (followed_by (passes.menu_size (at.now ++ codes ".capture_menu") (option_map (λ v. v.items) menu.now))
-        (walks.each (passes.at_most CAPTURE_OBJECTS) (at.now ++ codes ".capture_menu") (unwrap_or (option_map (λ v. v.items) menu.now) []))) }
+    ensures { Gives (λ u. u) result (followed_by
+        (passes.menu_size (at.now ++ codes ".capture_menu") (option_map (λ v. v.items) menu.now))
+        (walks.each (passes.at_most CAPTURE_OBJECTS)
+        (at.now ++ codes ".capture_menu") (unwrap_or (option_map (λ v. v.items) menu.now) []))) }
 {
     menu_size(at, ".capture_menu", menu)?;
     each_below(&FewCaptures, at, ".capture_menu", menu_in(menu))
@@ -160,10 +165,14 @@ fn profile_limits(
     entries: u64,
     menu: &Option<Vec<AlternativeParts>>,
 ) -> Result<(), ConfigFault>
-    ensures { Gives (λ u. u) result (followed_by (faults.fault_if Limit (at.now ++ codes ".capture") (nat_lt CAPTURE_OBJECTS (length captures.now)))
-        (followed_by (faults.fault_if Limit (at.now ++ codes ".entries") (nat_lt PROFILE_ENTRIES entries))
-        (followed_by (passes.menu_size (at.now ++ codes ".capture_menu") (option_map (λ v. v.items) menu.now))
-        (walks.each (passes.at_most CAPTURE_OBJECTS) (at.now ++ codes ".capture_menu") (unwrap_or (option_map (λ v. v.items) menu.now) []))))) }
+    ensures { Gives (λ u. u) result (followed_by (faults.fault_if Limit
+        (at.now ++ codes ".capture") (nat_lt CAPTURE_OBJECTS (length captures.now)))
+        (followed_by
+        (faults.fault_if Limit (at.now ++ codes ".entries") (nat_lt PROFILE_ENTRIES entries))
+        (followed_by
+        (passes.menu_size (at.now ++ codes ".capture_menu") (option_map (λ v. v.items) menu.now))
+        (walks.each (passes.at_most CAPTURE_OBJECTS)
+        (at.now ++ codes ".capture_menu") (unwrap_or (option_map (λ v. v.items) menu.now) []))))) }
 {
     at_most(at, ".capture", CAPTURE_OBJECTS, captures.len())?;
     fault_if(Code::Limit, at, ".entries", PROFILE_ENTRIES < entries)?;
@@ -172,7 +181,8 @@ fn profile_limits(
 
 /// The sizes of a script table.
 fn script_table_limits(at: &Place<'_>, scripts: &[ScriptParts]) -> Result<(), ConfigFault>
-    ensures { Gives (λ u. u) result (followed_by (faults.fault_if Limit (at.now ++ codes ".script") (nat_lt SCRIPTS (length scripts.now)))
+    ensures { Gives (λ u. u) result (followed_by
+        (faults.fault_if Limit (at.now ++ codes ".script") (nat_lt SCRIPTS (length scripts.now)))
         (walks.each passes.script_limits (at.now ++ codes ".script") scripts.now)) }
 {
     at_most(at, ".script", SCRIPTS, scripts.len())?;
@@ -181,7 +191,8 @@ fn script_table_limits(at: &Place<'_>, scripts: &[ScriptParts]) -> Result<(), Co
 
 /// Whether thresholds are within the limits as one array.
 fn are_small_thresholds(alloc: Global, texts: &[String]) -> Result<bool, Memory>
-    ensures { IfOk result (λ small. small ≡ is_within_limits (thresholds_value (map string_bytes texts.now))) }
+    ensures { IfOk result (λ small. small
+        ≡ is_within_limits (thresholds_value (map string_bytes texts.now))) }
 {
     let array = Data::Array(Items::new(values_of(alloc, texts)?));
     Ok(keeps_limits(&array))
@@ -197,8 +208,9 @@ fn are_small_times(alloc: Global, texts: &[String]) -> Result<bool, Memory>
 
 /// The number and the size of thresholds.
 fn threshold_limits(at: &Place<'_>, texts: &[String]) -> Result<(), ConfigFault>
-    ensures { Gives (λ u. u) result (faults.fault_if Limit (at.now ++ codes ".thresholds")
-        (nat_lt THRESHOLDS (length (map string_bytes texts.now)) || not (is_within_limits (thresholds_value (map string_bytes texts.now))))) }
+    ensures { Gives (λ u. u) result (faults.fault_if Limit
+        (at.now ++ codes ".thresholds") (nat_lt THRESHOLDS (length (map string_bytes texts.now))
+        || not (is_within_limits (thresholds_value (map string_bytes texts.now))))) }
 {
     let small = are_small_thresholds(at.alloc(), texts)?;
     let many = THRESHOLDS < texts.len();
@@ -211,9 +223,12 @@ fn monitor_limits(
     thresholds: &[String],
     actions: &[UpDownParts],
 ) -> Result<(), ConfigFault>
-    ensures { Gives (λ u. u) result (followed_by (faults.fault_if Limit (at.now ++ codes ".thresholds")
-        (nat_lt THRESHOLDS (length (map string_bytes thresholds.now)) || not (is_within_limits (thresholds_value (map string_bytes thresholds.now)))))
-        (faults.fault_if Limit (at.now ++ codes ".action") (nat_lt THRESHOLDS (length actions.now)))) }
+    ensures { Gives (λ u. u) result (followed_by
+        (faults.fault_if Limit (at.now ++ codes ".thresholds")
+        (nat_lt THRESHOLDS (length (map string_bytes thresholds.now))
+        || not (is_within_limits (thresholds_value (map string_bytes thresholds.now)))))
+        (faults.fault_if Limit
+        (at.now ++ codes ".action") (nat_lt THRESHOLDS (length actions.now)))) }
 {
     threshold_limits(at, thresholds)?;
     at_most(at, ".action", THRESHOLDS, actions.len())
@@ -221,8 +236,9 @@ fn monitor_limits(
 
 /// The number and the size of times.
 fn time_limits(at: &Place<'_>, texts: &[String]) -> Result<(), ConfigFault>
-    ensures { Gives (λ u. u) result (faults.fault_if Limit (at.now ++ codes ".times")
-        (nat_lt EXECUTION_TIMES (length (map string_bytes texts.now)) || not (is_within_limits (times_value (map string_bytes texts.now))))) }
+    ensures { Gives (λ u. u) result (faults.fault_if Limit
+        (at.now ++ codes ".times") (nat_lt EXECUTION_TIMES (length (map string_bytes texts.now))
+        || not (is_within_limits (times_value (map string_bytes texts.now))))) }
 {
     let small = are_small_times(at.alloc(), texts)?;
     let many = EXECUTION_TIMES < texts.len();
@@ -235,8 +251,9 @@ fn schedule_limits(
     times: &[String],
     menu: &Option<Vec<ScriptRefParts>>,
 ) -> Result<(), ConfigFault>
-    ensures { Gives (λ u. u) result (followed_by (faults.fault_if Limit (at.now ++ codes ".times")
-        (nat_lt EXECUTION_TIMES (length (map string_bytes times.now)) || not (is_within_limits (times_value (map string_bytes times.now)))))
+    ensures { Gives (λ u. u) result (followed_by (faults.fault_if Limit
+        (at.now ++ codes ".times") (nat_lt EXECUTION_TIMES (length (map string_bytes times.now))
+        || not (is_within_limits (times_value (map string_bytes times.now)))))
         (passes.menu_size (at.now ++ codes ".script_menu") (option_map (λ v. v.items) menu.now))) }
 {
     time_limits(at, times)?;

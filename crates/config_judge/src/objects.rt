@@ -21,7 +21,8 @@ const CURRENT_ASSOCIATION: &str = "0.0.40.0.0.255";
 
 /// Whether the current association or an object before a place has the name.
 fn is_taken(directory: &Directory<'_>, name: &str, place: usize) -> bool
-    ensures { result ≡ (bytes_eq (codes "0.0.40.0.0.255") name.now || list_any (λ e. bytes_eq e.name name.now) (take place directory.now.config.now.objects)) }
+    ensures { result ≡ (bytes_eq (codes "0.0.40.0.0.255") name.now
+        || list_any (λ e. bytes_eq e.name name.now) (take place directory.now.config.now.objects)) }
 {
     CURRENT_ASSOCIATION == name || directory.has_object_before(name, place)
 }
@@ -33,7 +34,8 @@ fn new_object(
     i: usize,
     object: &ObjectParts,
 ) -> Result<(), ConfigFault>
-    ensures { Gives (λ u. u) result (spec.new_object (take i directory.now.config.now.objects) (element_place (codes "object") i) object.now) }
+    ensures { Gives (λ u. u) result (spec.new_object (take i directory.now.config.now.objects)
+        (element_place (codes "object") i) object.now) }
 {
     let taken = is_taken(directory, object.name.as_str(), i);
     fault_if(
@@ -74,7 +76,8 @@ impl Judge for KnownClass {
 
     type Part = ObjectParts;
 
-    ghost judges = { λ all at o. fault_if ClassUnknown (at ++ codes ".class") (not (is_known all.version o.class)) };
+    ghost judges = { λ all at o. fault_if ClassUnknown
+        (at ++ codes ".class") (not (is_known all.version o.class)) };
 
     fn judge(&self, at: &Place<'_>, object: &ObjectParts) -> Result<(), ConfigFault> {
         let known = is_known(self.version, object.class_id);

@@ -51,7 +51,8 @@ pub(crate) fn first_places<'a, P: Named>(
     parts: &'a [P],
 ) -> Result<BTreeMap<&'a str, usize>, ConfigFault>
     ensures places { IfOk result (λ places. (q : List ℕ) →
-        tree.get_by (λ k. slice_cmp nat_cmp q k.now) places ≡ position_from (λ p. bytes_eq (P.name_of p) q) 0 parts.now) }
+        tree.get_by (λ k. slice_cmp nat_cmp q k.now) places
+        ≡ position_from (λ p. bytes_eq (P.name_of p) q) 0 parts.now) }
     ensures memory { IfErr result (λ e. e ≡ Memory) }
 {
     let mut places = BTreeMap::new(alloc);

@@ -88,8 +88,8 @@ pub(crate) fn each_alternative<J: Judge<Part = CaptureParts>>(
     at: &Place<'_>,
     menu: &Option<Vec<AlternativeParts>>,
 ) -> Result<(), ConfigFault>
-    ensures { Gives (λ u. u) result (spec.each (spec.each (J.judges judge.now)) (at.now ++ codes ".capture_menu")
-        (unwrap_or (option_map (λ v. v.items) menu.now) [])) }
+    ensures { Gives (λ u. u) result (spec.each (spec.each (J.judges judge.now))
+        (at.now ++ codes ".capture_menu") (unwrap_or (option_map (λ v. v.items) menu.now) [])) }
 {
     each_below(&Alternative { judge }, at, ".capture_menu", menu_in(menu))
 }
@@ -208,8 +208,8 @@ fn each_of_menu<J: JudgeReferences>(
     at: &Place<'_>,
     menu: &Option<Vec<ScriptRefParts>>,
 ) -> Result<(), ConfigFault>
-    ensures { Gives (λ u. u) result (spec.each (J.scripts judge.now) (at.now ++ codes ".script_menu")
-        (unwrap_or (option_map (λ v. v.items) menu.now) [])) }
+    ensures { Gives (λ u. u) result (spec.each (J.scripts judge.now)
+        (at.now ++ codes ".script_menu") (unwrap_or (option_map (λ v. v.items) menu.now) [])) }
 {
     each_below(&Runs { judge }, at, ".script_menu", menu_in(menu))
 }
@@ -224,7 +224,8 @@ pub(crate) fn references<J: JudgeReferences>(
     at: &Place<'_>,
     body: &BodyParts,
 ) -> Result<(), ConfigFault>
-    ensures { Gives (λ u. u) result (spec.references (J.targets judge.now) (J.scripts judge.now) at.now (body_text body.now)) }
+    ensures { Gives (λ u. u) result
+        (spec.references (J.targets judge.now) (J.scripts judge.now) at.now (body_text body.now)) }
 {
     match body {
         BodyParts::ProfileGeneric { capture, menu, .. } => {

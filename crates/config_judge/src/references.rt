@@ -115,7 +115,9 @@ impl<'d, 'c> Judge for ObjectReferences<'d, 'c> {
 
     type Part = ObjectParts;
 
-    ghost judges = { λ all at o. references (λ at t. known_object all.directory.now.config.now at t.object) (known_script all.directory.now.config.now) at o.body };
+    ghost judges = { λ all at o.
+        references (λ at t. known_object all.directory.now.config.now at t.object)
+        (known_script all.directory.now.config.now) at o.body };
 
     fn judge(&self, at: &Place<'_>, object: &ObjectParts) -> Result<(), ConfigFault> {
         let directory = self.directory;
@@ -161,8 +163,10 @@ impl<'d, 'c> Judge for LabelObject<'d, 'c> {
 
 /// Judges the references of the objects.
 fn object_references(alloc: Global, directory: &Directory<'_>) -> Result<(), ConfigFault>
-    ensures { Gives (λ u. u) result
-        (walks.each (λ at o. walks.references (λ at t. spec.known_object directory.now.config.now at t.object) (spec.known_script directory.now.config.now) at o.body) (codes "object") directory.now.config.now.objects) }
+    ensures { Gives (λ u. u) result (walks.each
+        (λ at o. walks.references (λ at t. spec.known_object directory.now.config.now at t.object)
+        (spec.known_script directory.now.config.now) at o.body)
+        (codes "object") directory.now.config.now.objects) }
 {
     let config = directory.config;
     let object_place = Place::top(alloc, "object");
@@ -173,7 +177,8 @@ fn object_references(alloc: Global, directory: &Directory<'_>) -> Result<(), Con
 /// Judges the objects of the rights.
 fn right_objects(alloc: Global, directory: &Directory<'_>) -> Result<(), ConfigFault>
     ensures { Gives (λ u. u) result
-        (walks.each (λ at r. spec.known_object directory.now.config.now at r.object) (codes "right") directory.now.config.now.rights) }
+        (walks.each (λ at r. spec.known_object directory.now.config.now at r.object)
+        (codes "right") directory.now.config.now.rights) }
 {
     let config = directory.config;
     let right_place = Place::top(alloc, "right");

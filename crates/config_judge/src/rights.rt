@@ -52,8 +52,8 @@ impl<'d, 'c> Judge for SettableRights<'d, 'c> {
 
     type Part = RightParts;
 
-    ghost judges = { λ all at r. walks.each
-        (λ at index. fault_if NotSettable at (not (passes_or_chosen all.directory.now.config.now is_settable r.object index)))
+    ghost judges = { λ all at r. walks.each (λ at index. fault_if NotSettable at
+        (not (passes_or_chosen all.directory.now.config.now is_settable r.object index)))
         (at ++ codes ".set") r.sets };
 
     fn judge(&self, at: &Place<'_>, right: &RightParts) -> Result<(), ConfigFault> {

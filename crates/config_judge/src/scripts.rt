@@ -112,7 +112,8 @@ impl<'d, 'c> Judge for NoExecutes<'d, 'c> {
 
     type Part = ObjectParts;
 
-    ghost judges = { λ all at o. walks.each_action (no_execute all.directory.now.config.now) at (scripts_in o.body) };
+    ghost judges = { λ all at o. walks.each_action (no_execute all.directory.now.config.now) at
+        (scripts_in o.body) };
 
     fn judge(&self, at: &Place<'_>, object: &ObjectParts) -> Result<(), ConfigFault> {
         let directory = self.directory;

@@ -44,7 +44,8 @@ impl Judge for WholeCapture {
 
 /// Judges the parts that are captured.
 fn whole_captures(at: &Place<'_>, captures: &[CaptureParts]) -> Result<(), ConfigFault>
-    ensures { Gives (λ u. u) result (walks.each passes.whole_attribute (at.now ++ codes ".capture") captures.now) }
+    ensures { Gives (λ u. u) result (walks.each passes.whole_attribute
+        (at.now ++ codes ".capture") captures.now) }
 {
     each_below(&WholeCapture, at, ".capture", captures)
 }

@@ -53,7 +53,8 @@ pub fn cells_named(
     directory: &Directory,
     captures: &[CaptureParts],
 ) -> Result<Vec<CellRef>, Memory>
-    ensures cells { IfOk result (λ cells. cells.items ≡ plan.cells_named directory.now.config.now captures.now) }
+    ensures cells { IfOk result (λ cells. cells.items
+        ≡ plan.cells_named directory.now.config.now captures.now) }
     ensures indexes { IfOk result (λ cells. HaveAttributeIndexes cells.items) }
 {
     let mut cells = Vec::new(alloc);

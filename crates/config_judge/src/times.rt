@@ -21,7 +21,8 @@ use std::alloc::Global;
 
 /// Whether times fit the type of a schedule.
 fn do_fit(alloc: Global, execution_type: u8, texts: &[String]) -> Result<bool, Memory>
-    ensures { IfOk result (λ fit. fit ≡ are_execution_times execution_type (elements (times_value (map string_bytes texts.now)))) }
+    ensures { IfOk result (λ fit. fit ≡ are_execution_times execution_type
+        (elements (times_value (map string_bytes texts.now)))) }
 {
     let times = times_of(alloc, texts)?;
     Ok(are_execution_times(execution_type, times.as_slice()))
@@ -29,7 +30,9 @@ fn do_fit(alloc: Global, execution_type: u8, texts: &[String]) -> Result<bool, M
 
 /// Judges the times of a schedule of a type.
 fn valid_times_of(at: &Place<'_>, execution_type: u8, times: &[String]) -> Result<(), ConfigFault>
-    ensures { Gives (λ u. u) result (faults.fault_if Times (at.now ++ codes ".times") (not (are_execution_times execution_type (elements (times_value (map string_bytes times.now)))))) }
+    ensures { Gives (λ u. u) result (faults.fault_if Times
+        (at.now ++ codes ".times") (not (are_execution_times execution_type
+        (elements (times_value (map string_bytes times.now)))))) }
 {
     let fit = do_fit(at.alloc(), execution_type, times)?;
     fault_if(Code::Times, at, ".times", !fit)

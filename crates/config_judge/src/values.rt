@@ -58,7 +58,8 @@ fn are_of_kind(kind: Option<Kind>, values: &[Data]) -> bool
 
 /// Whether these are so many values of a kind.
 fn are_thresholds(number: usize, kind: Option<Kind>, values: &[Data]) -> bool
-    ensures { result ≡ ((length (map tree values.now) == number) && list_all (spec.has_kind kind) (map tree values.now)) }
+    ensures { result ≡ ((length (map tree values.now) == number)
+        && list_all (spec.has_kind kind) (map tree values.now)) }
 {
     values.len() == number && are_of_kind(kind, values)
 }
@@ -66,7 +67,8 @@ fn are_thresholds(number: usize, kind: Option<Kind>, values: &[Data]) -> bool
 /// Whether a value may be so many thresholds over a value of this kind, the limits left aside.
 fn may_be_thresholds(number: usize, kind: Option<Kind>, value: &Data) -> bool
     ensures { result ≡ (same_kind (kind_of (tree value.now)) Array
-        && ((length (elements (tree value.now)) == number) && list_all (spec.has_kind kind) (elements (tree value.now)))) }
+        && ((length (elements (tree value.now)) == number)
+        && list_all (spec.has_kind kind) (elements (tree value.now)))) }
 {
     value.kind() == Kind::Array && are_thresholds(number, kind, elements_of(value))
 }
@@ -79,8 +81,9 @@ fn may_be_of_monitor(
     value: &Data,
 ) -> bool
     ensures { result ≡ (same_kind (kind_of (tree value.now)) Array
-        && ((length (elements (tree value.now)) == length actions.now)
-        && list_all (spec.has_kind (spec.kind_named kinds.now.directory.now.config.now monitored.now.object)) (elements (tree value.now)))) }
+        && ((length (elements (tree value.now)) == length actions.now) && list_all
+        (spec.has_kind (spec.kind_named kinds.now.directory.now.config.now monitored.now.object))
+        (elements (tree value.now)))) }
 {
     let watched = kinds.named(monitored.object.as_str());
     may_be_thresholds(actions.len(), watched, value)
@@ -88,7 +91,8 @@ fn may_be_of_monitor(
 
 /// Whether a value may be the times of a schedule of this type, the limits left aside.
 fn may_be_times(execution_type: u8, value: &Data) -> bool
-    ensures { result ≡ (same_kind (kind_of (tree value.now)) Array && are_execution_times execution_type (elements (tree value.now))) }
+    ensures { result ≡ (same_kind (kind_of (tree value.now)) Array
+        && are_execution_times execution_type (elements (tree value.now))) }
 {
     value.kind() == Kind::Array && are_execution_times(execution_type, elements_of(value))
 }
@@ -108,7 +112,8 @@ fn is_capture_of(
     value: &Data,
 ) -> Result<bool, Memory>
     ensures { IfOk result (λ is. is
-        ≡ same_tree (capture_objects_value (plan.cells_named directory.now.config.now captures.now)) (tree value.now)) }
+        ≡ same_tree (capture_objects_value (plan.cells_named directory.now.config.now captures.now))
+        (tree value.now)) }
 {
     let cells = cells_named(alloc, directory, captures)?;
     Ok(is_capture_objects(value, &cells))
@@ -121,8 +126,9 @@ fn is_of_alternative(
     menu: &[AlternativeParts],
     value: &Data,
 ) -> Result<bool, Memory>
-    ensures { IfOk result (λ is. is
-        ≡ list_any (λ a. same_tree (capture_objects_value (plan.cells_named directory.now.config.now a)) (tree value.now)) menu.now) }
+    ensures { IfOk result (λ is. is ≡ list_any (λ a. same_tree
+        (capture_objects_value (plan.cells_named directory.now.config.now a)) (tree value.now))
+        menu.now) }
 {
     for alternative in menu {
         if is_capture_of(alloc, directory, &alternative.captures, value)? {
@@ -140,8 +146,10 @@ fn may_be_objects(
     menu: &Option<Vec<AlternativeParts>>,
     value: &Data,
 ) -> Result<bool, Memory>
-    ensures { IfOk result (λ may. may ≡ is_one_of (map capture_objects_value (alternatives (plan.captures_of directory.now.config.now
-        (record { start = capture.now; menu = option_map (λ v. v.items) menu.now })))) (tree value.now)) }
+    ensures { IfOk result (λ may. may ≡ is_one_of (map capture_objects_value
+        (alternatives (plan.captures_of directory.now.config.now
+        (record { start = capture.now; menu = option_map (λ v. v.items) menu.now }))))
+        (tree value.now)) }
 {
     if is_capture_of(alloc, directory, capture, value)? {
         return Ok(true);
@@ -159,7 +167,8 @@ fn may_be_script(script: &ScriptRefParts, menu: &Option<Vec<ScriptRefParts>>, va
 
 /// Whether a value is the executed_script of a menu.
 fn is_of_menu(menu: &[ScriptRefParts], value: &Data) -> bool
-    ensures { result ≡ list_any (λ r. same_tree (script_ref_value (plan.script_named r)) (tree value.now)) menu.now }
+    ensures { result ≡ list_any
+        (λ r. same_tree (script_ref_value (plan.script_named r)) (tree value.now)) menu.now }
 {
     menu.iter()
         .any(|script| is_executed_script(value, script_named(script)))
@@ -237,8 +246,8 @@ fn is_written(
 
 /// Whether an action has a value that it can write, or a parameter that is a value.
 fn action_value(alloc: Global, kinds: &Kinds<'_, '_>, action: &ActionParts) -> Result<bool, Memory>
-    ensures { IfOk result (λ right. right
-        ≡ passes.action_value kinds.now.directory.now.config.now action.now.service action.now.target action.now.value) }
+    ensures { IfOk result (λ right. right ≡ passes.action_value kinds.now.directory.now.config.now
+        action.now.service action.now.target action.now.value) }
 {
     match (action.service, &action.value) {
         (Service::Write, Some(text)) => is_written(alloc, kinds, &action.target, text.as_str()),
@@ -308,7 +317,8 @@ impl JudgeText for TimeText {
 
 /// The value of a data object.
 fn data_value(at: &Place<'_>, value: &str) -> Result<(), ConfigFault>
-    ensures { Gives (λ u. u) result (faults.fault_if Value (at.now ++ codes ".value") (not (is_some (value_in value.now)))) }
+    ensures { Gives (λ u. u) result (faults.fault_if Value
+        (at.now ++ codes ".value") (not (is_some (value_in value.now)))) }
 {
     let is_value = is_value(at.alloc(), value)?;
     fault_if(Code::Value, at, ".value", !is_value)
@@ -316,8 +326,10 @@ fn data_value(at: &Place<'_>, value: &str) -> Result<(), ConfigFault>
 
 /// The value and the default of a register.
 fn register_values(at: &Place<'_>, value: &str, default: &str) -> Result<(), ConfigFault>
-    ensures { Gives (λ u. u) result (followed_by (faults.fault_if Value (at.now ++ codes ".value") (not (spec.is_number (spec.kind_in value.now))))
-        (faults.fault_if Value (at.now ++ codes ".default") (not (spec.is_of_kind (spec.kind_in value.now) (value_in default.now))))) }
+    ensures { Gives (λ u. u) result (followed_by (faults.fault_if Value
+        (at.now ++ codes ".value") (not (spec.is_number (spec.kind_in value.now))))
+        (faults.fault_if Value (at.now ++ codes ".default")
+        (not (spec.is_of_kind (spec.kind_in value.now) (value_in default.now))))) }
 {
     let kind = kind_in(at.alloc(), value)?;
     fault_if(Code::Value, at, ".value", !is_number(kind))?;
@@ -327,14 +339,16 @@ fn register_values(at: &Place<'_>, value: &str, default: &str) -> Result<(), Con
 
 /// The time of a clock.
 fn clock_time(at: &Place<'_>, time: &str) -> Result<(), ConfigFault>
-    ensures { Gives (λ u. u) result (faults.fault_if Value (at.now ++ codes ".time") (not (is_some (moment_in time.now)))) }
+    ensures { Gives (λ u. u) result (faults.fault_if Value
+        (at.now ++ codes ".time") (not (is_some (moment_in time.now)))) }
 {
     fault_if(Code::Value, at, ".time", !is_moment_text(time))
 }
 
 /// Judges the thresholds of a monitor of a value of this kind.
 fn thresholds(at: &Place<'_>, kind: Option<Kind>, texts: &[String]) -> Result<(), ConfigFault>
-    ensures { Gives (λ u. u) result (walks.each (λ at text. faults.fault_if Value at (not (spec.is_of_kind kind (value_in text))))
+    ensures { Gives (λ u. u) result (walks.each (λ at text. faults.fault_if Value at
+        (not (spec.is_of_kind kind (value_in text))))
         (at.now ++ codes ".thresholds") (map string_bytes texts.now)) }
 {
     each_text_below(&Threshold { kind }, at, ".thresholds", texts)
@@ -347,8 +361,11 @@ fn monitor_values(
     monitored: &TargetParts,
     texts: &[String],
 ) -> Result<(), ConfigFault>
-    ensures { Gives (λ u. u) result (followed_by (faults.fault_if Value (at.now ++ codes ".monitored.index") (not (spec.may_be_number (spec.kind_named kinds.now.directory.now.config.now monitored.now.object))))
-        (walks.each (λ at text. faults.fault_if Value at (not (spec.is_of_kind (spec.kind_named kinds.now.directory.now.config.now monitored.now.object) (value_in text))))
+    ensures { Gives (λ u. u) result (followed_by
+        (faults.fault_if Value (at.now ++ codes ".monitored.index") (not (spec.may_be_number
+        (spec.kind_named kinds.now.directory.now.config.now monitored.now.object))))
+        (walks.each (λ at text. faults.fault_if Value at (not (spec.is_of_kind
+        (spec.kind_named kinds.now.directory.now.config.now monitored.now.object) (value_in text))))
         (at.now ++ codes ".thresholds") (map string_bytes texts.now))) }
 {
     let kind = kinds.named(monitored.object.as_str());
@@ -364,7 +381,8 @@ fn valid_values_in(
     at: &Place<'_>,
     body: &BodyParts,
 ) -> Result<(), ConfigFault>
-    ensures { Gives (λ u. u) result (passes.valid_values_in kinds.now.directory.now.config.now at.now (body_text body.now)) }
+    ensures { Gives (λ u. u) result
+        (passes.valid_values_in kinds.now.directory.now.config.now at.now (body_text body.now)) }
 {
     match body {
         BodyParts::Data { value } => data_value(at, value.as_str()),

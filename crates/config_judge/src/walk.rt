@@ -108,7 +108,8 @@ fn judge_new_element<J: JudgeNew>(
     earlier: &[J::Part],
     part: &J::Part,
 ) -> Result<(), ConfigFault>
-    ensures { Gives (λ u. u) result (J.judges judge.now earlier.now (spec.element_place name.now (length earlier.now)) part.now) }
+    ensures { Gives (λ u. u) result (J.judges judge.now earlier.now
+        (spec.element_place name.now (length earlier.now)) part.now) }
 {
     judge.judge(earlier, &name.element(earlier.len()), part)
 }
@@ -141,7 +142,8 @@ pub(crate) fn each_text<J: JudgeText>(
     name: &Place<'_>,
     texts: &[String],
 ) -> Result<(), ConfigFault>
-    ensures { Gives (λ u. u) result (spec.each (J.judges judge.now) name.now (map string_bytes texts.now)) }
+    ensures { Gives (λ u. u) result (spec.each (J.judges judge.now) name.now
+        (map string_bytes texts.now)) }
 {
     for (i, text) in texts.iter().enumerate() {
         judge.judge(&(&*name).element(i), text.as_str())?;
@@ -156,7 +158,8 @@ pub(crate) fn each_text_below<J: JudgeText>(
     key: &str,
     texts: &[String],
 ) -> Result<(), ConfigFault>
-    ensures { Gives (λ u. u) result (spec.each (J.judges judge.now) (at.now ++ key.now) (map string_bytes texts.now)) }
+    ensures { Gives (λ u. u) result
+        (spec.each (J.judges judge.now) (at.now ++ key.now) (map string_bytes texts.now)) }
 {
     each_text(judge, &at.below(key), texts)
 }

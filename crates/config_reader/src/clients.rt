@@ -70,7 +70,8 @@ pub(crate) fn rights_of(
     parts: &[RightParts],
 ) -> Result<Vec<Right>, Memory>
     requires few { length directory.now.config.now.clients ≤ CLIENTS }
-    ensures { IfOk result (λ rights. rights.items ≡ map (plan.right_of directory.now.config.now) parts.now) }
+    ensures { IfOk result (λ rights. rights.items
+        ≡ map (plan.right_of directory.now.config.now) parts.now) }
 {
     let mut rights = Vec::new(alloc);
     for part in parts {

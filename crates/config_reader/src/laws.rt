@@ -13,7 +13,8 @@ ghost use Rattle.config_reader.specs.Room.{has_room};
 /// its class asks for; it is without faults where no pass finds one.
 pub fn configurations_are_read()
     ensures read { (text : Text) (c : ConfigText) → tables_of text ≡ Ok c → IsRead c }
-    ensures faultless { (text : Text) (c : ConfigText) → tables_of text ≡ Ok c → judged c ≡ Ok tt → IsFaultless c }
+    ensures faultless { (text : Text) (c : ConfigText) → tables_of text ≡ Ok c →
+        judged c ≡ Ok tt → IsFaultless c }
 {
     // The proof is the function's contract.
 }
@@ -21,7 +22,8 @@ pub fn configurations_are_read()
 /// A configuration without faults has at most `CLIENTS` clients, and each profile keeps from 1 to `PROFILE_ENTRIES` entries.
 pub fn faultless_configurations_have_room()
     ensures clients { (c : ConfigText) → IsFaultless c → length c.clients ≤ CLIENTS }
-    ensures profiles { (c : ConfigText) → IsFaultless c → list_all (λ o. has_room o.body) c.objects ≡ true }
+    ensures profiles { (c : ConfigText) → IsFaultless c →
+        list_all (λ o. has_room o.body) c.objects ≡ true }
 {
     // The proof is the function's contract.
 }

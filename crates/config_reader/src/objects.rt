@@ -128,7 +128,8 @@ fn schedule(
 /// script table's part: no configuration without faults has one.
 fn part(alloc: Global, directory: &Directory, body: &BodyParts) -> Result<Part, Memory>
     requires { has_room (body_text body.now) ≡ true }
-    ensures { IfOk result (λ part. part_of part ≡ plan.part_of directory.now.config.now (body_text body.now)) }
+    ensures { IfOk result (λ part. part_of part
+        ≡ plan.part_of directory.now.config.now (body_text body.now)) }
 {
     match body {
         BodyParts::Data { value } => Ok(Part::Data(DataPart {
@@ -205,7 +206,8 @@ pub(crate) fn objects_of(
     parts: &[ObjectParts],
 ) -> Result<Vec<Object>, Memory>
     requires { list_all (λ o. has_room o.body) parts.now ≡ true }
-    ensures { IfOk result (λ objects. objects.items ≡ map (plan.object_of directory.now.config.now) parts.now) }
+    ensures { IfOk result (λ objects. objects.items
+        ≡ map (plan.object_of directory.now.config.now) parts.now) }
 {
     let mut objects = Vec::new(alloc);
     for part in parts {

@@ -19,7 +19,8 @@ use std::alloc::Global;
 
 /// An action's value, null-data where it has none.
 fn parameter_of(alloc: Global, value: &Option<String>) -> Result<Data, Memory>
-    ensures { IfOk result (λ parameter. tree parameter ≡ plan.parameter_of (option_map string_bytes value.now)) }
+    ensures { IfOk result (λ parameter. tree parameter
+        ≡ plan.parameter_of (option_map string_bytes value.now)) }
 {
     match value {
         Some(text) => value_or_null(alloc, text.as_str()),
@@ -63,7 +64,8 @@ fn actions(
 }
 
 fn script(alloc: Global, directory: &Directory, parts: &ScriptParts) -> Result<Script, Memory>
-    ensures { IfOk result (λ script. script_of script ≡ plan.script_of directory.now.config.now parts.now) }
+    ensures { IfOk result (λ script. script_of script
+        ≡ plan.script_of directory.now.config.now parts.now) }
 {
     let actions = actions(alloc, directory, parts.actions.as_slice())?;
     Ok(Script {
@@ -78,7 +80,8 @@ pub(crate) fn scripts_of(
     directory: &Directory,
     parts: &[ScriptParts],
 ) -> Result<Vec<Script>, Memory>
-    ensures { IfOk result (λ scripts. map script_of scripts.items ≡ map (plan.script_of directory.now.config.now) parts.now) }
+    ensures { IfOk result (λ scripts. map script_of scripts.items
+        ≡ map (plan.script_of directory.now.config.now) parts.now) }
 {
     let mut scripts = Vec::new(alloc);
     for part in parts {

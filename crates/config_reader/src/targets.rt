@@ -33,7 +33,8 @@ pub(crate) fn capture_menu(
     menu: &Option<Vec<AlternativeParts>>,
 ) -> Result<Vec<Vec<CellRef>>, Memory>
     ensures { IfOk result (λ lists. map (λ cells. cells.items) lists.items
-        ≡ map (plan.cells_named directory.now.config.now) (unwrap_or (option_map (λ menu. menu.items) menu.now) [])) }
+        ≡ map (plan.cells_named directory.now.config.now)
+        (unwrap_or (option_map (λ menu. menu.items) menu.now) [])) }
 {
     match menu {
         Some(alternatives) => alternatives_of(alloc, directory, alternatives.as_slice()),

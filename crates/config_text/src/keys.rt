@@ -52,7 +52,8 @@ fn unknown(at: &Place<'_>, key: &str) -> ConfigFault
 /// C2 at the first of them in byte order.
 #[tactic(auto, unfolding(crate::specs::Keys::only))]
 pub(crate) fn only(at: &Place<'_>, known: &[&str], table: &Table) -> Result<(), ConfigFault>
-    ensures { Gives (λ u. u) result (spec.only at.now (map (λ k. k.now) known.now) (table_view table.now)) }
+    ensures { Gives (λ u. u) result (spec.only at.now
+        (map (λ k. k.now) known.now) (table_view table.now)) }
 {
     for key in table.keys() {
         if !is_among(key.as_str(), known) {

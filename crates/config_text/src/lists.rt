@@ -29,7 +29,8 @@ pub(crate) fn array_at<'a>(
 
 /// One text of an array.
 fn text_of(name: &Place<'_>, i: usize, value: &Value) -> Result<String, ConfigFault>
-    ensures { Gives (λ s. string_bytes s) result (spec.text_of (spec.element_place name.now i) (view value.now)) }
+    ensures { Gives (λ s. string_bytes s) result
+        (spec.text_of (spec.element_place name.now i) (view value.now)) }
 {
     match value.as_str() {
         Some(text) => Ok(String::from_str(name.alloc(), text)?),
@@ -40,7 +41,8 @@ fn text_of(name: &Place<'_>, i: usize, value: &Value) -> Result<String, ConfigFa
 /// The texts of an array.
 #[tactic(auto, unfolding(crate::specs::Lists::each))]
 fn each_text(name: &Place<'_>, array: &Array) -> Result<Vec<String>, ConfigFault>
-    ensures { Gives (λ v. map string_bytes v.items) result (spec.each spec.text_of name.now 0 (array_view array.now)) }
+    ensures { Gives (λ v. map string_bytes v.items) result (spec.each spec.text_of name.now 0
+        (array_view array.now)) }
 {
     let mut all = Vec::with_capacity(name.alloc(), array.len())?;
     for (i, value) in array.iter().enumerate() {
@@ -55,7 +57,8 @@ fn each_text(name: &Place<'_>, array: &Array) -> Result<Vec<String>, ConfigFault
 /// C3 at the key where it is no array, and at the first element that is no text.
 #[tactic(auto, unfolding(crate::specs::Lists::texts_at))]
 pub(crate) fn texts_at(at: &Place<'_>, key: &str, table: &Table) -> Result<Vec<String>, ConfigFault>
-    ensures { Gives (λ v. map string_bytes v.items) result (spec.texts_at at.now key.now (table_view table.now)) }
+    ensures { Gives (λ v. map string_bytes v.items) result (spec.texts_at at.now key.now
+        (table_view table.now)) }
 {
     let items = array_at(at, key, table)?;
     let name = at.below(key);
@@ -70,7 +73,8 @@ fn natural_of(
     i: usize,
     value: &Value,
 ) -> Result<u8, ConfigFault>
-    ensures { Gives (λ n. n) result (spec.natural_of low high (spec.element_place name.now i) (view value.now)) }
+    ensures { Gives (λ n. n) result (spec.natural_of low high
+        (spec.element_place name.now i) (view value.now)) }
 {
     match natural(value.as_integer(), u64::from(low), u64::from(high)) {
         Some(number) => Ok(number as u8),
@@ -81,7 +85,8 @@ fn natural_of(
 /// The numbers of an array.
 #[tactic(auto, unfolding(crate::specs::Lists::each))]
 fn each_natural(low: u8, high: u8, name: &Place<'_>, array: &Array) -> Result<Vec<u8>, ConfigFault>
-    ensures { Gives (λ v. v.items) result (spec.each (spec.natural_of low high) name.now 0 (array_view array.now)) }
+    ensures { Gives (λ v. v.items) result (spec.each (spec.natural_of low high) name.now 0
+        (array_view array.now)) }
 {
     let mut all = Vec::with_capacity(name.alloc(), array.len())?;
     for (i, value) in array.iter().enumerate() {
@@ -102,7 +107,8 @@ pub(crate) fn optional_naturals_at(
     key: &str,
     table: &Table,
 ) -> Result<Vec<u8>, ConfigFault>
-    ensures { Gives (λ v. v.items) result (spec.optional_naturals_at low high at.now key.now (table_view table.now)) }
+    ensures { Gives (λ v. v.items) result (spec.optional_naturals_at low high at.now key.now
+        (table_view table.now)) }
 {
     match value_at(table, key) {
         Some(value) => match value.as_array() {

@@ -16,7 +16,8 @@ pub(crate) fn value_at<'a>(table: &'a Table, key: &str) -> Option<&'a Value>
 
 /// The text at a key, if it has one.
 pub(crate) fn text<'a>(table: &'a Table, key: &str) -> Option<&'a str>
-    ensures { option_map (λ s. s.now) result ≡ option_and_then as_str (get_member key.now (table_view table.now)) }
+    ensures { option_map (λ s. s.now) result
+        ≡ option_and_then as_str (get_member key.now (table_view table.now)) }
 {
     match value_at(table, key) {
         Some(value) => value.as_str(),
@@ -36,7 +37,8 @@ pub(crate) fn integer(table: &Table, key: &str) -> Option<i64>
 
 /// The array at a key, if it has one.
 pub(crate) fn array<'a>(table: &'a Table, key: &str) -> Option<&'a Array>
-    ensures { option_map (λ a. array_view a.now) result ≡ option_and_then as_array (get_member key.now (table_view table.now)) }
+    ensures { option_map (λ a. array_view a.now) result
+        ≡ option_and_then as_array (get_member key.now (table_view table.now)) }
 {
     match value_at(table, key) {
         Some(value) => value.as_array(),
@@ -46,7 +48,8 @@ pub(crate) fn array<'a>(table: &'a Table, key: &str) -> Option<&'a Array>
 
 /// The table at a key, if it has one.
 pub(crate) fn table_in<'a>(table: &'a Table, key: &str) -> Option<&'a Table>
-    ensures { option_map (λ t. table_view t.now) result ≡ option_and_then as_table (get_member key.now (table_view table.now)) }
+    ensures { option_map (λ t. table_view t.now) result
+        ≡ option_and_then as_table (get_member key.now (table_view table.now)) }
 {
     match value_at(table, key) {
         Some(value) => value.as_table(),

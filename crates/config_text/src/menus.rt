@@ -22,8 +22,8 @@ fn element_keys<T: TableForm>(
     i: usize,
     value: &Value,
 ) -> Result<(), ConfigFault>
-    ensures { Gives (λ u. u) result
-        (spec.each_keys (T.keys form.now) (element_place name.now i) 0 (spec.items_or_none (as_array (view value.now)))) }
+    ensures { Gives (λ u. u) result (spec.each_keys (T.keys form.now) (element_place name.now i) 0
+        (spec.items_or_none (as_array (view value.now)))) }
 {
     match value.as_array() {
         Some(items) => each_keys(form, &name.element(i), items),
@@ -38,7 +38,8 @@ fn each_list_keys<T: TableForm>(
     name: &Place<'_>,
     array: &Array,
 ) -> Result<(), ConfigFault>
-    ensures { Gives (λ u. u) result (spec.each_list_keys (T.keys form.now) name.now 0 (array_view array.now)) }
+    ensures { Gives (λ u. u) result (spec.each_list_keys (T.keys form.now) name.now 0
+        (array_view array.now)) }
 {
     for (i, value) in array.iter().enumerate() {
         element_keys(form, name, i, value)?;
@@ -57,7 +58,8 @@ pub(crate) fn lists_keys_at<T: TableForm>(
     key: &str,
     table: &Table,
 ) -> Result<(), ConfigFault>
-    ensures { Gives (λ u. u) result (spec.lists_keys_at (T.keys form.now) at.now key.now (table_view table.now)) }
+    ensures { Gives (λ u. u) result (spec.lists_keys_at (T.keys form.now) at.now key.now
+        (table_view table.now)) }
 {
     match array(table, key) {
         Some(items) => {
@@ -93,7 +95,8 @@ pub(crate) fn menu_at<T: TableForm>(
     key: &str,
     table: &Table,
 ) -> Result<Option<Vec<T::Parts>>, ConfigFault>
-    ensures { Gives (option_map (λ v. v.items)) result (spec.menu_at (T.says form.now) at.now key.now (table_view table.now)) }
+    ensures { Gives (option_map (λ v. v.items)) result
+        (spec.menu_at (T.says form.now) at.now key.now (table_view table.now)) }
 {
     match value_at(table, key) {
         Some(value) => Ok(Some(tables_of(form, &at.below(key), value)?)),

@@ -21,7 +21,11 @@ impl Model for ClientParts {
 
     ghost Value = { ClientText };
 
-    ghost view = { λ c. record { name = string_bytes c.name; sap = c.sap; password = option_map string_bytes c.password } };
+    ghost view = { λ c. record {
+      name = string_bytes c.name;
+      sap = c.sap;
+      password = option_map string_bytes c.password;
+    } };
 }
 
 /// An attribute or method of an object.
@@ -108,7 +112,11 @@ impl Model for ActionParts {
 
     ghost Value = { ActionText };
 
-    ghost view = { λ a. record { service = a.service; target = a.target; value = option_map string_bytes a.value } };
+    ghost view = { λ a. record {
+      service = a.service;
+      target = a.target;
+      value = option_map string_bytes a.value;
+    } };
 }
 
 /// A script (IEC 62056-6-2, Script table).
@@ -213,7 +221,12 @@ impl Model for ObjectParts {
 
     ghost use Rattle.config_text.specs.BodyView.{body_text};
 
-    ghost view = { λ o. record { class = o.class_id; name = string_bytes o.name; fed = o.fed; body = body_text o.body } };
+    ghost view = { λ o. record {
+      class = o.class_id;
+      name = string_bytes o.name;
+      fed = o.fed;
+      body = body_text o.body;
+    } };
 }
 
 /// What a client may do with an object.
@@ -237,7 +250,13 @@ impl Model for RightParts {
 
     ghost Value = { RightText };
 
-    ghost view = { λ r. record { client = string_bytes r.client; object = string_bytes r.object; gets = r.gets.items; sets = r.sets.items; acts = r.acts.items } };
+    ghost view = { λ r. record {
+      client = string_bytes r.client;
+      object = string_bytes r.object;
+      gets = r.gets.items;
+      sets = r.sets.items;
+      acts = r.acts.items;
+    } };
 }
 
 /// Sets of clients, by their names.
@@ -255,7 +274,10 @@ impl Model for SetsParts {
 
     ghost Value = { SetsText };
 
-    ghost view = { λ s. record { influence = map string_bytes s.influence.items; learn = map string_bytes s.learn.items } };
+    ghost view = { λ s. record {
+      influence = map string_bytes s.influence.items;
+      learn = map string_bytes s.learn.items;
+    } };
 }
 
 /// The sets of one cell, in place of the policy's.
@@ -291,5 +313,12 @@ impl Model for ConfigParts {
 
     ghost Value = { ConfigText };
 
-    ghost view = { λ c. record { version = c.version; clients = c.clients.items; objects = c.objects.items; rights = c.rights.items; policy = c.policy; labels = c.labels.items } };
+    ghost view = { λ c. record {
+      version = c.version;
+      clients = c.clients.items;
+      objects = c.objects.items;
+      rights = c.rights.items;
+      policy = c.policy;
+      labels = c.labels.items;
+    } };
 }

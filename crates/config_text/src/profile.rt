@@ -82,8 +82,9 @@ fn known_keys(menus: bool) -> &'static [&'static str]
 
 /// The keys of the alternatives of a profile, if it may have a menu.
 fn menu_keys(menus: bool, at: &Place<'_>, table: &Table) -> Result<(), ConfigFault>
-    ensures { Gives (λ u. u) result
-        (if menus then lists_keys_at spec.capture_keys at.now (codes "capture_menu") (table_view table.now) else Ok tt) }
+    ensures { Gives (λ u. u) result (if menus
+        then lists_keys_at spec.capture_keys at.now (codes "capture_menu") (table_view table.now)
+        else Ok tt) }
 {
     if menus {
         lists_keys_at(&CaptureTable, at, "capture_menu", table)
@@ -116,7 +117,8 @@ fn alternative_of(place: &Place<'_>, value: &Value) -> Result<AlternativeParts, 
 /// The alternatives in an array.
 #[tactic(auto, unfolding(crate::specs::Lists::each))]
 fn each_alternative(name: &Place<'_>, array: &Array) -> Result<Vec<AlternativeParts>, ConfigFault>
-    ensures { Gives (λ v. v.items) result (each (tables_of spec.capture_of) name.now 0 (array_view array.now)) }
+    ensures { Gives (λ v. v.items) result (each (tables_of spec.capture_of) name.now 0
+        (array_view array.now)) }
 {
     let mut all = Vec::with_capacity(name.alloc(), array.len())?;
     for (i, value) in array.iter().enumerate() {
@@ -158,8 +160,9 @@ fn menu_of(
     at: &Place<'_>,
     table: &Table,
 ) -> Result<Option<Vec<AlternativeParts>>, ConfigFault>
-    ensures { Gives (option_map (λ v. v.items)) result
-        (if menus then menu_of_lists_at spec.capture_of at.now (codes "capture_menu") (table_view table.now) else Ok None) }
+    ensures { Gives (option_map (λ v. v.items)) result (if menus
+        then menu_of_lists_at spec.capture_of at.now (codes "capture_menu") (table_view table.now)
+        else Ok None) }
 {
     if menus {
         menu_at(at, "capture_menu", table)

@@ -42,8 +42,9 @@ fn known_keys(menus: bool) -> &'static [&'static str]
 
 /// The keys of the alternatives of a schedule, if it may have a menu.
 fn menu_keys(menus: bool, at: &Place<'_>, table: &Table) -> Result<(), ConfigFault>
-    ensures { Gives (λ u. u) result
-        (if menus then list_keys_at script_ref_keys at.now (codes "script_menu") (table_view table.now) else Ok tt) }
+    ensures { Gives (λ u. u) result (if menus
+        then list_keys_at script_ref_keys at.now (codes "script_menu") (table_view table.now)
+        else Ok tt) }
 {
     if menus {
         list_keys_at(&ScriptRefTable, at, "script_menu", table)

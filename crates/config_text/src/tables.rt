@@ -53,7 +53,8 @@ fn element_keys<T: TableForm>(
     i: usize,
     value: &Value,
 ) -> Result<(), ConfigFault>
-    ensures { Gives (λ u. u) result (spec.keys_of (T.keys form.now) (element_place name.now i) (as_table (view value.now))) }
+    ensures { Gives (λ u. u) result
+        (spec.keys_of (T.keys form.now) (element_place name.now i) (as_table (view value.now))) }
 {
     match value.as_table() {
         Some(table) => {
@@ -91,7 +92,8 @@ pub(crate) fn list_keys_at<T: TableForm>(
     key: &str,
     table: &Table,
 ) -> Result<(), ConfigFault>
-    ensures { Gives (λ u. u) result (spec.list_keys_at (T.keys form.now) at.now key.now (table_view table.now)) }
+    ensures { Gives (λ u. u) result (spec.list_keys_at (T.keys form.now) at.now key.now
+        (table_view table.now)) }
 {
     match array(table, key) {
         Some(items) => {
@@ -113,7 +115,8 @@ pub(crate) fn table_keys_at<T: TableForm>(
     key: &str,
     table: &Table,
 ) -> Result<(), ConfigFault>
-    ensures { Gives (λ u. u) result (spec.table_keys_at (T.keys form.now) at.now key.now (table_view table.now)) }
+    ensures { Gives (λ u. u) result (spec.table_keys_at (T.keys form.now) at.now key.now
+        (table_view table.now)) }
 {
     match table_in(table, key) {
         Some(inner) => {
@@ -132,7 +135,8 @@ fn element<T: TableForm>(
     i: usize,
     value: &Value,
 ) -> Result<T::Parts, ConfigFault>
-    ensures { Gives (λ x. x) result (spec.table_of (T.says form.now) (element_place name.now i) (view value.now)) }
+    ensures { Gives (λ x. x) result
+        (spec.table_of (T.says form.now) (element_place name.now i) (view value.now)) }
 {
     match value.as_table() {
         Some(table) => {
@@ -151,7 +155,8 @@ pub(crate) fn each_table<T: TableForm>(
     name: &Place<'_>,
     array: &Array,
 ) -> Result<Vec<T::Parts>, ConfigFault>
-    ensures { Gives (λ v. v.items) result (each (spec.table_of (T.says form.now)) name.now 0 (array_view array.now)) }
+    ensures { Gives (λ v. v.items) result (each (spec.table_of (T.says form.now)) name.now 0
+        (array_view array.now)) }
 {
     let mut all = Vec::with_capacity(name.alloc(), array.len())?;
     for (i, value) in array.iter().enumerate() {
@@ -171,7 +176,8 @@ pub(crate) fn list_at<T: TableForm>(
     key: &str,
     table: &Table,
 ) -> Result<Vec<T::Parts>, ConfigFault>
-    ensures { Gives (λ v. v.items) result (spec.list_at (T.says form.now) at.now key.now (table_view table.now)) }
+    ensures { Gives (λ v. v.items) result (spec.list_at (T.says form.now) at.now key.now
+        (table_view table.now)) }
 {
     let items = array_at(at, key, table)?;
     let name = at.below(key);
@@ -189,7 +195,8 @@ pub(crate) fn optional_list_at<T: TableForm>(
     key: &str,
     table: &Table,
 ) -> Result<Vec<T::Parts>, ConfigFault>
-    ensures { Gives (λ v. v.items) result (spec.optional_list_at (T.says form.now) at.now key.now (table_view table.now)) }
+    ensures { Gives (λ v. v.items) result (spec.optional_list_at (T.says form.now) at.now key.now
+        (table_view table.now)) }
 {
     match value_at(table, key) {
         Some(value) => match value.as_array() {
@@ -214,7 +221,8 @@ pub(crate) fn table_at<T: TableForm>(
     key: &str,
     table: &Table,
 ) -> Result<T::Parts, ConfigFault>
-    ensures { Gives (λ x. x) result (spec.table_at (T.says form.now) at.now key.now (table_view table.now)) }
+    ensures { Gives (λ x. x) result (spec.table_at (T.says form.now) at.now key.now
+        (table_view table.now)) }
 {
     match table_in(table, key) {
         Some(inner) => {

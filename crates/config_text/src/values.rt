@@ -37,7 +37,8 @@ pub(crate) fn optional_text_at(
     key: &str,
     table: &Table,
 ) -> Result<Option<String>, ConfigFault>
-    ensures { Gives (λ s. option_map string_bytes s) result (spec.optional_text_at at.now key.now (table_view table.now)) }
+    ensures { Gives (λ s. option_map string_bytes s) result (spec.optional_text_at at.now key.now
+        (table_view table.now)) }
 {
     match value_at(table, key) {
         Some(value) => match value.as_str() {
@@ -74,7 +75,8 @@ pub(crate) fn optional_ascii_at(
     key: &str,
     table: &Table,
 ) -> Result<Option<String>, ConfigFault>
-    ensures { Gives (λ s. option_map string_bytes s) result (spec.optional_ascii_at low high at.now key.now (table_view table.now)) }
+    ensures { Gives (λ s. option_map string_bytes s) result
+        (spec.optional_ascii_at low high at.now key.now (table_view table.now)) }
 {
     match value_at(table, key) {
         Some(value) => match value.as_str() {
@@ -102,7 +104,8 @@ pub(crate) fn natural(found: Option<i64>, low: u64, high: u64) -> Option<u64>
 
 /// The whole number at a key, if it has one from `low` to `high`.
 pub(crate) fn natural_or_none(low: u64, high: u64, key: &str, table: &Table) -> Option<u64>
-    ensures value { result ≡ spec.natural_in low high (option_and_then as_integer (get_member key.now (table_view table.now))) }
+    ensures value { result ≡ spec.natural_in low high
+        (option_and_then as_integer (get_member key.now (table_view table.now))) }
     ensures range { IfSome result (λ n. (low ≤ n) × (n ≤ high)) }
 {
     natural(integer(table, key), low, high)
@@ -120,7 +123,8 @@ pub(crate) fn natural_at(
     key: &str,
     table: &Table,
 ) -> Result<u64, ConfigFault>
-    ensures value { Gives (λ n. n) result (spec.natural_at low high at.now key.now (table_view table.now)) }
+    ensures value { Gives (λ n. n) result (spec.natural_at low high at.now key.now
+        (table_view table.now)) }
     ensures range { IfOk result (λ n. (low ≤ n) × (n ≤ high)) }
 {
     match natural(integer(table, key), low, high) {
@@ -153,7 +157,8 @@ pub(crate) fn signed_at(
     key: &str,
     table: &Table,
 ) -> Result<i64, ConfigFault>
-    ensures value { Gives (λ n. n) result (spec.signed_at low high at.now key.now (table_view table.now)) }
+    ensures value { Gives (λ n. n) result (spec.signed_at low high at.now key.now
+        (table_view table.now)) }
     ensures range { IfOk result (λ n. (low ≤ℤ n) × (n ≤ℤ high)) }
 {
     match signed(integer(table, key), low, high) {

@@ -55,7 +55,8 @@ fn room_after(value: &Data, room: usize) -> Option<usize>
 /// The room that is left behind the count of the parts and each of them, where they fit.
 #[cycle(room)]
 fn room_after_parts(parts: &[Data], room: usize) -> Option<usize>
-    ensures { IsRoomAfter (length (shortest (length parts.now) ++ all (trees (map tree parts.now)))) room result }
+    ensures { IsRoomAfter
+        (length (shortest (length parts.now) ++ all (trees (map tree parts.now)))) room result }
 {
     let mut left = room_after_length(parts.len(), room)?;
     for part in parts {

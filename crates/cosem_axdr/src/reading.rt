@@ -240,7 +240,8 @@ fn parts_of(
     count: u32,
     bytes: &[u8],
 ) -> Result<(Vec<Data>, &[u8]), ReadFault>
-    ensures { Gives (λ x. (map tree x.0.items, x.1.now)) result (parts_at (data_at depth) count bytes.now) }
+    ensures { Gives (λ x. (map tree x.0.items, x.1.now)) result
+        (parts_at (data_at depth) count bytes.now) }
 {
     let mut parts = Vec::new(alloc);
     let mut rest = bytes;
@@ -272,10 +273,12 @@ fn front_of(alloc: Global, bytes: &[u8]) -> Result<(Data, &[u8]), ReadFault>
 pub fn read_data(alloc: Global, bytes: &[u8]) -> Result<(Data, usize), ReadFault>
     ensures used { IfOk result (λ x. x.1 ≤ length bytes.now) }
     // The bytes used are an encoding of the value, nested at most 16, and stand in front.
-    ensures found { IfOk result (λ x. BeginsWith bytes.now (tree x.0) (drop x.1 bytes.now) × IsEncoding (tree x.0) (take x.1 bytes.now)) }
+    ensures found { IfOk result (λ x. BeginsWith bytes.now (tree x.0) (drop x.1 bytes.now)
+        × IsEncoding (tree x.0) (take x.1 bytes.now)) }
     // An encoding in front of the bytes is read, unless memory runs out.
-    ensures only { (t : Tree) (front rest : List ℕ) → IsEncoding t front → depth t ≤ 16 → bytes.now ≡ front ++ rest →
-        MatchResult result (λ x. (tree x.0 ≡ t) × (x.1 ≡ length front)) (λ e. e ≡ ReadFault.Memory) }
+    ensures only { (t : Tree) (front rest : List ℕ) → IsEncoding t front → depth t ≤ 16 →
+        bytes.now ≡ front ++ rest → MatchResult result (λ x. (tree x.0 ≡ t) × (x.1 ≡ length front))
+        (λ e. e ≡ ReadFault.Memory) }
     // Where a fault is told, no encoding stands in front.
     ensures none { IfErr result (λ e. e ≢ ReadFault.Memory → BeginsWithNone bytes.now) }
     // The fault is that of the first bad byte from the left; Short is told where no byte is bad and some are missing.

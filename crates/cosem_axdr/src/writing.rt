@@ -36,7 +36,8 @@ fn put_length(n: u32, out: &mut Vec<u8>) -> Result<(), Memory>
 /// A string's length and its bytes.
 fn put_string(bytes: &[u8], out: &mut Vec<u8>) -> Result<(), Memory>
     requires { length bytes.now < 2 ^ 32 }
-    ensures ok { OnOk result (out.new.items ≡ out.old.items ++ (shortest (length bytes.now) ++ bytes.now)) }
+    ensures ok { OnOk result (out.new.items
+        ≡ out.old.items ++ (shortest (length bytes.now) ++ bytes.now)) }
     ensures letters { OnOk result (AllByRecursion (λ b. b < 256) bytes.now) }
     ensures err { OnErr result (Extends out.old.items out.new.items) }
 {
@@ -91,7 +92,8 @@ fn put_content(value: &Data, out: &mut Vec<u8>) -> Result<(), Memory>
 fn put_parts(parts: &[Data], out: &mut Vec<u8>) -> Result<(), Memory>
     requires few { length parts.now < 2 ^ 32 }
     requires lengths { HaveLengths (trees (map tree parts.now)) }
-    ensures ok { OnOk result (out.new.items ≡ out.old.items ++ (shortest (length parts.now) ++ all (trees (map tree parts.now)))) }
+    ensures ok { OnOk result (out.new.items
+        ≡ out.old.items ++ (shortest (length parts.now) ++ all (trees (map tree parts.now)))) }
     ensures ranges { OnOk result (HaveRanges (trees (map tree parts.now))) }
     ensures err { OnErr result (Extends out.old.items out.new.items) }
 {
@@ -142,7 +144,8 @@ pub fn put_array_front(count: u32, out: &mut Vec<u8>) -> Result<(), Memory>
 /// `Memory` where memory is refused; what was put before stays then.
 pub fn put_structure(parts: &[Data], out: &mut Vec<u8>) -> Result<(), Memory>
     requires { HasLengths (structure (trees (map tree parts.now))) }
-    ensures ok { OnOk result (out.new.items ≡ out.old.items ++ canonical (structure (trees (map tree parts.now)))) }
+    ensures ok { OnOk result (out.new.items
+        ≡ out.old.items ++ canonical (structure (trees (map tree parts.now)))) }
     ensures ranges { OnOk result (HasRanges (structure (trees (map tree parts.now)))) }
     ensures err { OnErr result (Extends out.old.items out.new.items) }
 {

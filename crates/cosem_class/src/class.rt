@@ -147,10 +147,13 @@ pub trait InterfaceClass<Lent> {
     /// Sets the value of an attribute, as the service SET does, and returns the previous one. `NoIndex` and `NotSettable`
     /// tell of the index, `Kind` and `Rule` of the value.
     fn write(&mut self, lent: Lent, index: u8, value: Data) -> Result<Data, ClassFault>
-        ensures refused { RefusedAs result (refusal (fixed self.old lent) (ops.Write index) (tree value)) }
+        ensures refused { RefusedAs result
+            (refusal (fixed self.old lent) (ops.Write index) (tree value)) }
         ensures fixed { fixed self.new lent ≡ fixed self.old lent }
         ensures ok { OnOk result ((i : ℕ) → cells self.new i
-            ≡ cells_after (touched (ops.Write index)) (new_value (fixed self.old lent) (ops.Write index) (tree value) []) (cells self.old) i) }
+            ≡ cells_after (touched (ops.Write index))
+            (new_value (fixed self.old lent) (ops.Write index) (tree value) [])
+            (cells self.old) i) }
         ensures previous { IfOk result (λ old. cells self.old index ≡ Some (tree old)) }
         ensures err { OnErr result (self.new ≡ self.old) }
         ensures no_memory { result ≡ Err ClassFault.Memory → ⊥ };
@@ -167,10 +170,13 @@ pub trait InterfaceClass<Lent> {
     ) -> Result<(), ClassFault>
         requires rules { (i : ℕ) → MeetsRule (fixed self.old lent) i (cells self.old i) }
         requires row { IsRow (fixed self.old lent) (ops.Invoke method) row }
-        ensures refused { RefusedAs result (refusal (fixed self.old lent) (ops.Invoke method) (tree argument.now)) }
+        ensures refused { RefusedAs result
+            (refusal (fixed self.old lent) (ops.Invoke method) (tree argument.now)) }
         ensures fixed { fixed self.new lent ≡ fixed self.old lent }
         ensures ok { OnOk result ((i : ℕ) → cells self.new i
-            ≡ cells_after (touched (ops.Invoke method)) (new_value (fixed self.old lent) (ops.Invoke method) (tree argument.now) row) (cells self.old) i) }
+            ≡ cells_after (touched (ops.Invoke method))
+            (new_value (fixed self.old lent) (ops.Invoke method) (tree argument.now) row)
+            (cells self.old) i) }
         ensures err { OnErr result (self.new ≡ self.old) };
 
     /// The cells that an operation may change.

@@ -19,7 +19,8 @@ pub fn put_into<Lent, C: InterfaceClass<Lent>>(
     ensures previous { C.cells object.old index ≡ Some (tree result) }
     ensures fixed { C.fixed object.new lent ≡ C.fixed object.old lent }
     ensures value { C.cells object.new index ≡ Some (C.kept (tree value)) }
-    ensures others { (i : ℕ) → C.touched (ops.Write index) i ≡ false → C.cells object.new i ≡ C.cells object.old i }
+    ensures others { (i : ℕ) → C.touched (ops.Write index) i ≡ false →
+        C.cells object.new i ≡ C.cells object.old i }
 {
     object.write(lent, index, value).unwrap()
 }

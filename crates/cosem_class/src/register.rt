@@ -148,7 +148,12 @@ impl<'a> InterfaceClass<Lent<'a, RegisterPart>> for Register {
 
     ghost Fixed = { RegisterFixed };
 
-    ghost fixed = { λ _ lent. record { name = lent.name; start = tree lent.part.now.start; default = tree lent.part.now.default; scaler_unit = lent.part.now.scaler_unit } };
+    ghost fixed = { λ _ lent. record {
+      name = lent.name;
+      start = tree lent.part.now.start;
+      default = tree lent.part.now.default;
+      scaler_unit = lent.part.now.scaler_unit;
+    } };
 
     ghost cells = { λ s. value_cells (tree s.value) };
 

@@ -61,7 +61,8 @@ pub(crate) fn mending_at(
     whole: &Value,
     place: &str,
 ) -> Result<String, Memory>
-    ensures { IfOk result (λ words. string_bytes words ≡ spec.mending_at code (view whole.now) place.now) }
+    ensures { IfOk result (λ words. string_bytes words
+        ≡ spec.mending_at code (view whole.now) place.now) }
 {
     let words = match code {
         Code::Kind if place == "version" => {

@@ -74,7 +74,8 @@ pub(crate) fn with_classes(
     told: ClassesTold,
     behind: &str,
 ) -> Result<String, Memory>
-    ensures { IfOk result (λ words. string_bytes words ≡ before.now ++ (spec.class_words told ++ behind.now)) }
+    ensures { IfOk result (λ words. string_bytes words
+        ≡ before.now ++ (spec.class_words told ++ behind.now)) }
 {
     let numbers = numbers_told(alloc, told, &CLASSES)?;
     let classes = listed(alloc, numbers.as_slice())?;

@@ -16,7 +16,8 @@ use toml::Value;
 
 /// The line that tells the name of an object, if there is one.
 fn object_line(alloc: Global, name: Option<&str>) -> Result<String, Memory>
-    ensures { IfOk result (λ line. string_bytes line ≡ spec.object_line (option_map (λ n. n.now) name.entry)) }
+    ensures { IfOk result (λ line. string_bytes line
+        ≡ spec.object_line (option_map (λ n. n.now) name.entry)) }
 {
     match name {
         Some(name) => {
@@ -29,7 +30,8 @@ fn object_line(alloc: Global, name: Option<&str>) -> Result<String, Memory>
 
 /// The line that tells a value, if there is one.
 fn value_line(alloc: Global, value: Option<&Value>) -> Result<String, Memory>
-    ensures { IfOk result (λ line. string_bytes line ≡ spec.value_line (option_map (λ v. view v.now) value.entry)) }
+    ensures { IfOk result (λ line. string_bytes line
+        ≡ spec.value_line (option_map (λ v. view v.now) value.entry)) }
 {
     match value {
         Some(value) => {
@@ -42,7 +44,8 @@ fn value_line(alloc: Global, value: Option<&Value>) -> Result<String, Memory>
 
 /// What is told of a fault at a place of a text that is this table.
 fn told(alloc: Global, file: &str, code: Code, place: &str, whole: &Value) -> Result<String, Memory>
-    ensures { IfOk result (λ told. string_bytes told ≡ spec.told file.now code place.now (view whole.now)) }
+    ensures { IfOk result (λ told. string_bytes told
+        ≡ spec.told file.now code place.now (view whole.now)) }
 {
     let object = object_line(alloc, object_name(whole, place))?;
     let value = value_line(alloc, shown_at(code, whole, place))?;

@@ -68,7 +68,8 @@ pub fn fault_of(kind: ErrorKind) -> FileFault
 
 /// The text that bytes are. The error tells the first byte that isn't UTF-8.
 pub fn text_of(bytes: Vec<u8>) -> Result<String, FileFault>
-    ensures { MatchResult result (λ text. string_bytes text ≡ bytes.items) (λ fault. fault ≡ NotText (utf8_valid_len bytes.items)) }
+    ensures { MatchResult result (λ text. string_bytes text ≡ bytes.items)
+        (λ fault. fault ≡ NotText (utf8_valid_len bytes.items)) }
 {
     match String::from_utf8(bytes) {
         Ok(text) => Ok(text),

@@ -41,7 +41,8 @@ fn step_in<'a>(value: &'a Value, step: &str) -> Option<&'a Value>
 
 /// What steps that are joined by dots lead to.
 fn follow<'a>(whole: &'a Value, steps: &str) -> Option<&'a Value>
-    ensures { option_map (λ found. view found.now) result ≡ spec.follow (view whole.now) (spec.parts 46 steps.now) }
+    ensures { option_map (λ found. view found.now) result
+        ≡ spec.follow (view whole.now) (spec.parts 46 steps.now) }
 {
     let mut found = whole;
     let mut left = Some(steps);
@@ -81,7 +82,8 @@ fn is_password(place: &str) -> bool
 /// The value at a place that may be shown for a code, if it leads to one. A password never is, nor what stands at a key that
 /// isn't known.
 pub(crate) fn shown_at<'a>(code: Code, whole: &'a Value, place: &str) -> Option<&'a Value>
-    ensures { option_map (λ found. view found.now) result ≡ spec.shown_at code (view whole.now) place.now }
+    ensures { option_map (λ found. view found.now) result
+        ≡ spec.shown_at code (view whole.now) place.now }
 {
     if code.number() == UNKNOWN_KEY || is_password(place) {
         None

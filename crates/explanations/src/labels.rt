@@ -74,7 +74,8 @@ fn shown_line(alloc: Global, line: &[u8]) -> Result<String, Memory>
 
 /// The line that tells a line of the labels, if it is there.
 fn line_line(alloc: Global, line: Option<&str>) -> Result<String, Memory>
-    ensures { IfOk result (λ told. string_bytes told ≡ spec.line_line (option_map (λ l. l.now) line.entry)) }
+    ensures { IfOk result (λ told. string_bytes told
+        ≡ spec.line_line (option_map (λ l. l.now) line.entry)) }
 {
     match line {
         Some(line) => {

@@ -7,7 +7,8 @@ pub(crate) fn first_part(separator: char, text: &str) -> (&str, Option<&str>)
     requires { separator < 128 }
     ensures front { result.0.now ≡ front separator text.now }
     ensures back { option_map (λ rest. rest.now) result.1 ≡ back separator text.now }
-    ensures split { parts separator text.now ≡ result.0.now ∷ parts_left separator (option_map (λ rest. rest.now) result.1) }
+    ensures split { parts separator text.now
+        ≡ result.0.now ∷ parts_left separator (option_map (λ rest. rest.now) result.1) }
     ensures shorter { IfSome result.1 (λ rest. length rest.now < length text.now) }
 {
     match text.split_once(separator) {

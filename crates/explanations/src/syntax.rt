@@ -34,7 +34,8 @@ fn no_toml_at(
     column: u64,
     message: &str,
 ) -> Result<String, Memory>
-    ensures { IfOk result (λ told. string_bytes told ≡ spec.no_toml_at file.now (line, column) message.now) }
+    ensures { IfOk result (λ told. string_bytes told
+        ≡ spec.no_toml_at file.now (line, column) message.now) }
 {
     let file = printable_text(alloc, file)?;
     let message = printable_text(alloc, message)?;
@@ -60,7 +61,8 @@ pub(crate) fn explain_no_toml(
     error: &Error,
 ) -> Result<String, Memory>
     requires { IsWithin text.now error.now }
-    ensures { IfOk result (λ told. ¬ IsMemory error.now × TellsNoToml file.now text.now (string_bytes told)) }
+    ensures { IfOk result (λ told. ¬ IsMemory error.now
+        × TellsNoToml file.now text.now (string_bytes told)) }
 {
     match error.span() {
         Some(span) => no_toml(alloc, file, &text.as_bytes()[..span.start], error.message()),

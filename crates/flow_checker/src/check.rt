@@ -67,10 +67,13 @@ impl Model for Checked {
 
     ghost coded = { Prim.hlevel (codes, plan_code) };
 
-    ghost view = { λ c. record { plan = (arc_value c.admitted).plan; policy = (arc_value c.admitted).policy } };
+    ghost view = { λ c.
+        record { plan = (arc_value c.admitted).plan; policy = (arc_value c.admitted).policy } };
 
-    ghost invariant = { λ c. IsAdmitted (record { plan = (arc_value c.admitted).plan; policy = (arc_value c.admitted).policy })
-        × AreAllowed (arc_value c.admitted).plan (arc_value c.admitted).policy (arc_value c.admitted).labels.items };
+    ghost invariant = { λ c. IsAdmitted
+        (record { plan = (arc_value c.admitted).plan; policy = (arc_value c.admitted).policy })
+        × AreAllowed (arc_value c.admitted).plan
+        (arc_value c.admitted).policy (arc_value c.admitted).labels.items };
 }
 
 impl Checked {
@@ -80,7 +83,8 @@ impl Checked {
     /// what its policy promises about who influences a cell and who learns it.
     pub fn known(&self)
         ensures admitted { IsAdmitted self.now }
-        ensures influence { Influence self.now.plan (labelling_of_policy self.now.plan self.now.policy) }
+        ensures influence { Influence self.now.plan
+            (labelling_of_policy self.now.plan self.now.policy) }
         ensures secrecy { Secrecy self.now.plan (labelling_of_policy self.now.plan self.now.policy) }
     {
         let admitted = &self.admitted;
@@ -139,10 +143,13 @@ pub fn check(
 ) -> Result<Checked, (Refused, Plan)>
     ensures admitted { OnOk result (Admits plan (labelling_of_policy plan policy.now) labels.now) }
     ensures kept { IfOk result (λ checked. checked ≡ record { plan = plan; policy = policy.now }) }
-    ensures refused { IfErr result (λ e. IsRefusedAs plan (labelling_of_policy plan policy.now) labels.now e.0) }
+    ensures refused { IfErr result (λ e. IsRefusedAs plan
+        (labelling_of_policy plan policy.now) labels.now e.0) }
     ensures returned { IfErr result (λ e. e.1 ≡ plan) }
-    ensures influence { OnOk result (Influence plan (labelling_of_policy plan policy.now) × Influence plan (labelling_of labels.now)) }
-    ensures secrecy { OnOk result (Secrecy plan (labelling_of_policy plan policy.now) × Secrecy plan (labelling_of labels.now)) }
+    ensures influence { OnOk result (Influence plan (labelling_of_policy plan policy.now)
+        × Influence plan (labelling_of labels.now)) }
+    ensures secrecy { OnOk result (Secrecy plan (labelling_of_policy plan policy.now)
+        × Secrecy plan (labelling_of labels.now)) }
 {
     plan.known();
     admitted_is_influence_safe();
@@ -171,10 +178,12 @@ fn judged(
     policy: &Policy,
     labels: &Labels,
 ) -> Result<(Policy, Vec<Label>), Refused>
-    ensures admitted { OnOk result (Admits plan.now (labelling_of_policy plan.now policy.now) labels.now) }
+    ensures admitted { OnOk result (Admits plan.now
+        (labelling_of_policy plan.now policy.now) labels.now) }
     ensures same { IfOk result (λ kept. kept.0 ≡ policy.now) }
     ensures allowed { IfOk result (λ kept. AreAllowed plan.now policy.now kept.1.items) }
-    ensures refused { IfErr result (λ e. IsRefusedAs plan.now (labelling_of_policy plan.now policy.now) labels.now e) }
+    ensures refused { IfErr result (λ e. IsRefusedAs plan.now
+        (labelling_of_policy plan.now policy.now) labels.now e) }
 {
     plan.known();
     tests_decide_admission();
@@ -196,7 +205,8 @@ fn kept(alloc: Global, plan: &Plan, policy: &Policy) -> Result<(Policy, Vec<Labe
 
 /// A refusal as it is told, with the name of its client.
 fn told(alloc: Global, plan: &Plan, refusal: Refusal) -> Refused
-    ensures { (policy : theory.Labelling) (labels : theory.Labels) → Refuses plan.now policy labels refusal → IsRefusedAs plan.now policy labels result }
+    ensures { (policy : theory.Labelling) (labels : theory.Labels) →
+        Refuses plan.now policy labels refusal → IsRefusedAs plan.now policy labels result }
 {
     match refusal {
         Refusal::NotLabelled(cell) => Refused::NotLabelled(cell),

@@ -38,7 +38,8 @@ pub(crate) fn first_past_policy(given: &[Label], allowed: &[Label]) -> Option<us
 /// The first client with a cell that it has a right to change, and whose label doesn't let it.
 pub(crate) fn first_changer(clients: u8, granted: &[Label], given: &[Label]) -> Option<(u8, usize)>
     requires { length granted.now ≡ length given.now }
-    ensures { IsFirstPair (λ client. lets_change client granted.now given.now) clients (length given.now) result }
+    ensures { IsFirstPair (λ client. lets_change client granted.now given.now) clients
+        (length given.now) result }
 {
     for client in 0..clients {
         if let Some(number) = first_changed(client, granted, given) {
@@ -64,7 +65,8 @@ fn first_changed(client: u8, granted: &[Label], given: &[Label]) -> Option<usize
 /// The first client with a cell that it may read, and whose label doesn't let it.
 pub(crate) fn first_reader(clients: u8, granted: &[Label], given: &[Label]) -> Option<(u8, usize)>
     requires { length granted.now ≡ length given.now }
-    ensures { IsFirstPair (λ client. lets_read client granted.now given.now) clients (length given.now) result }
+    ensures { IsFirstPair (λ client. lets_read client granted.now given.now) clients
+        (length given.now) result }
 {
     for client in 0..clients {
         if let Some(number) = first_read(client, granted, given) {
@@ -115,7 +117,8 @@ pub(crate) fn first_learn_lost(given: &[Label], links: &[Link]) -> Option<usize>
 
 /// Whether a label's sets lie within another's.
 fn lies_within(label: &Label, other: &Label) -> bool
-    ensures { result ≡ (within label.now.influence other.now.influence && within label.now.learn other.now.learn) }
+    ensures { result ≡ (within label.now.influence other.now.influence
+        && within label.now.learn other.now.learn) }
 {
     is_within(label.influence, other.influence) && is_within(label.learn, other.learn)
 }
@@ -124,7 +127,8 @@ fn lies_within(label: &Label, other: &Label) -> bool
 fn influence_passes(given: &[Label], link: &Link) -> bool
     requires source { link.now.source < length given.now }
     requires target { link.now.target < length given.now }
-    ensures { result ≡ within (label_in given.now link.now.source).influence (label_in given.now link.now.target).influence }
+    ensures { result ≡ within (label_in given.now link.now.source).influence
+        (label_in given.now link.now.target).influence }
 {
     is_within(given[link.source].influence, given[link.target].influence)
 }
@@ -133,7 +137,8 @@ fn influence_passes(given: &[Label], link: &Link) -> bool
 fn learn_passes(given: &[Label], link: &Link) -> bool
     requires source { link.now.source < length given.now }
     requires target { link.now.target < length given.now }
-    ensures { result ≡ within (label_in given.now link.now.target).learn (label_in given.now link.now.source).learn }
+    ensures { result ≡ within (label_in given.now link.now.target).learn
+        (label_in given.now link.now.source).learn }
 {
     is_within(given[link.target].learn, given[link.source].learn)
 }

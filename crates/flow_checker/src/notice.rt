@@ -71,7 +71,8 @@ pub fn first_notice(checked: &Checked, client: u8, step: &Step) -> Option<Notice
 /// Of a second that goes by: everybody may learn the inner clock, and of a clock of the plan the policy says it.
 fn ticked(checked: &Checked, client: u8) -> Option<Notice>
     ensures { option_map notice_of result ≡ option_map theory.Changed
-        (find (may_learn (labelling_of_policy checked.now.plan checked.now.policy) client) (may_put checked.now.plan steps.Tick)) }
+        (find (may_learn (labelling_of_policy checked.now.plan checked.now.policy) client)
+        (may_put checked.now.plan steps.Tick)) }
 {
     match checked.plan().clock() {
         Some(clock) => first_learned(checked, client, &[clock_time(clock)]).map(Notice::Cell),
@@ -81,8 +82,10 @@ fn ticked(checked: &Checked, client: u8) -> Option<Notice>
 
 /// Of a moment that is told to the meter: it goes to the inner clock, and nowhere where the plan has a clock.
 fn told_moment(checked: &Checked) -> Option<Notice>
-    ensures { (client : ℕ) (moment : Moment) → option_map notice_of result ≡ option_map theory.Changed
-        (find (may_learn (labelling_of_policy checked.now.plan checked.now.policy) client) (may_put checked.now.plan (steps.ClockAt moment))) }
+    ensures { (client : ℕ) (moment : Moment) → option_map notice_of result
+        ≡ option_map theory.Changed
+        (find (may_learn (labelling_of_policy checked.now.plan checked.now.policy) client)
+        (may_put checked.now.plan (steps.ClockAt moment))) }
 {
     match checked.plan().clock() {
         Some(_) => None,
@@ -92,8 +95,9 @@ fn told_moment(checked: &Checked) -> Option<Notice>
 
 /// The first cell that any other step may put and the client may learn.
 fn first_cell(checked: &Checked, client: u8, step: &Step) -> Option<CellRef>
-    ensures { sets_clock step.now ≡ false → result
-        ≡ find (may_learn (labelling_of_policy checked.now.plan checked.now.policy) client) (may_put checked.now.plan (step_of step.now)) }
+    ensures { sets_clock step.now ≡ false →
+        result ≡ find (may_learn (labelling_of_policy checked.now.plan checked.now.policy) client)
+        (may_put checked.now.plan (step_of step.now)) }
 {
     let plan = checked.plan();
     if !is_change(plan, step) {
@@ -120,7 +124,8 @@ fn first_cell(checked: &Checked, client: u8, step: &Step) -> Option<CellRef>
 
 /// The first of these cells that the client may learn.
 pub(crate) fn first_learned(checked: &Checked, client: u8, cells: &[CellRef]) -> Option<CellRef>
-    ensures { result ≡ find (may_learn (labelling_of_policy checked.now.plan checked.now.policy) client) cells.now }
+    ensures { result ≡ find
+        (may_learn (labelling_of_policy checked.now.plan checked.now.policy) client) cells.now }
 {
     cells
         .iter()
@@ -130,7 +135,8 @@ pub(crate) fn first_learned(checked: &Checked, client: u8, cells: &[CellRef]) ->
 
 /// Whether the client may learn the cell by the policy.
 fn learns(checked: &Checked, client: u8, cell: &CellRef) -> bool
-    ensures { result ≡ may_learn (labelling_of_policy checked.now.plan checked.now.policy) client cell.now }
+    ensures { result
+        ≡ may_learn (labelling_of_policy checked.now.plan checked.now.policy) client cell.now }
 {
     // No cell that has a name is the inner clock.
     is_named(cell);
@@ -144,7 +150,8 @@ fn first_by_set(
     attribute: &Descriptor,
     value: &Argument,
 ) -> Option<CellRef>
-    ensures { result ≡ find (may_learn (labelling_of_policy checked.now.plan checked.now.policy) client)
+    ensures { result
+        ≡ find (may_learn (labelling_of_policy checked.now.plan checked.now.policy) client)
         (steps.changed (steps.given_value (cell_of attribute.now) (argument_of value.now))) }
 {
     match value {
@@ -155,7 +162,8 @@ fn first_by_set(
 
 /// The first cell that an input puts and the client may learn: none where it isn't taken.
 fn first_by_input(checked: &Checked, client: u8, cell: &CellRef, value: &Data) -> Option<CellRef>
-    ensures { result ≡ find (may_learn (labelling_of_policy checked.now.plan checked.now.policy) client)
+    ensures { result
+        ≡ find (may_learn (labelling_of_policy checked.now.plan checked.now.policy) client)
         (may_put checked.now.plan (steps.Input cell.now (tree value.now))) }
 {
     if !takes_input(checked.plan(), cell, value) {
@@ -166,7 +174,9 @@ fn first_by_input(checked: &Checked, client: u8, cell: &CellRef, value: &Data) -
 
 /// The first cell that a write of this cell changes and the client may learn.
 fn first_by_write(checked: &Checked, client: u8, cell: CellRef) -> Option<CellRef>
-    ensures { result ≡ find (may_learn (labelling_of_policy checked.now.plan checked.now.policy) client) (steps.changed_by_write cell) }
+    ensures { result
+        ≡ find (may_learn (labelling_of_policy checked.now.plan checked.now.policy) client)
+        (steps.changed_by_write cell) }
 {
     first_learned(checked, client, changed_by_write(cell).as_slice())
 }
@@ -178,8 +188,10 @@ fn first_by_method(
     method: &MethodRef,
     argument: &Argument,
 ) -> Option<CellRef>
-    ensures { result ≡ find (may_learn (labelling_of_policy checked.now.plan checked.now.policy) client)
-        (steps.changed (steps.method_effects checked.now.plan method.now (argument_of argument.now))) }
+    ensures { result
+        ≡ find (may_learn (labelling_of_policy checked.now.plan checked.now.policy) client)
+        (steps.changed (steps.method_effects checked.now.plan method.now
+        (argument_of argument.now))) }
 {
     let mut looking = Looking::new(checked, client);
     let Ok(()) = each_of_method(checked.plan(), method, argument, &mut looking);
@@ -188,7 +200,8 @@ fn first_by_method(
 
 /// The first cell that a capture of the profile puts and the client may learn, where the plan has such a profile.
 fn first_by_capture(checked: &Checked, client: u8, profile: LogicalName) -> Option<CellRef>
-    ensures { result ≡ find (may_learn (labelling_of_policy checked.now.plan checked.now.policy) client)
+    ensures { result
+        ≡ find (may_learn (labelling_of_policy checked.now.plan checked.now.policy) client)
         (may_put checked.now.plan (steps.CaptureAt profile)) }
 {
     match checked.plan().object_at(&profile)?.part() {
@@ -202,7 +215,8 @@ fn first_by_capture(checked: &Checked, client: u8, profile: LogicalName) -> Opti
 /// The first cell that an evaluation of the register monitor may put and the client may learn: of the scripts of its actions,
 /// due or not, and then what it has seen.
 fn first_by_evaluation(checked: &Checked, client: u8, monitor: LogicalName) -> Option<CellRef>
-    ensures { result ≡ find (may_learn (labelling_of_policy checked.now.plan checked.now.policy) client)
+    ensures { result
+        ≡ find (may_learn (labelling_of_policy checked.now.plan checked.now.policy) client)
         (may_put checked.now.plan (steps.Evaluate monitor)) }
 {
     let Part::RegisterMonitor(part) = checked.plan().object_at(&monitor)?.part() else {
@@ -218,7 +232,8 @@ fn first_by_evaluation(checked: &Checked, client: u8, monitor: LogicalName) -> O
 
 /// The first cell that a script puts which the schedule may run, and the client may learn.
 fn first_by_schedule(checked: &Checked, client: u8, schedule: &LogicalName) -> Option<CellRef>
-    ensures { result ≡ find (may_learn (labelling_of_policy checked.now.plan checked.now.policy) client)
+    ensures { result
+        ≡ find (may_learn (labelling_of_policy checked.now.plan checked.now.policy) client)
         (may_put checked.now.plan (steps.ScheduleAt schedule.now)) }
 {
     let Part::SingleActionSchedule(part) = checked.plan().object_at(schedule)?.part() else {

@@ -33,7 +33,8 @@ pub(crate) fn labels_by_number(
 /// Puts the label of an entry in the place of its cell, unless one is there.
 fn put_first(plan: &Plan, entry: &(CellRef, Label), found: &mut Vec<Option<Label>>)
     requires { length found.old.items ≡ length (plans.cells plan.now) }
-    ensures { (before : theory.Labels) → found.old.items ≡ map (label_at before) (plans.cells plan.now) →
+    ensures { (before : theory.Labels) →
+        found.old.items ≡ map (label_at before) (plans.cells plan.now) →
         found.new.items ≡ map (label_at (before ++ entry.now ∷ [])) (plans.cells plan.now) }
 {
     plan.known();
@@ -49,7 +50,8 @@ fn put_first(plan: &Plan, entry: &(CellRef, Label), found: &mut Vec<Option<Label
 
 /// The label that each cell has; a cell without one is influenced and learned by nobody. The only error is want of memory.
 pub(crate) fn labels_or_nobody(alloc: Global, found: &[Option<Label>]) -> Result<Vec<Label>, Memory>
-    ensures { IfOk result (λ given. given.items ≡ map (or_else (record { influence = nobody; learn = nobody })) found.now) }
+    ensures { IfOk result (λ given. given.items
+        ≡ map (or_else (record { influence = nobody; learn = nobody })) found.now) }
 {
     let mut given = Vec::with_capacity(alloc, found.len())?;
     for label in found {
@@ -79,7 +81,8 @@ pub(crate) fn policy_labels(
     policy: &Policy,
 ) -> Result<Vec<Label>, Memory>
     requires { cells.now ≡ plans.cells plan.now }
-    ensures { IfOk result (λ allowed. allowed.items ≡ map (labelling_of_policy plan.now policy.now) (plans.cells plan.now)) }
+    ensures { IfOk result (λ allowed. allowed.items
+        ≡ map (labelling_of_policy plan.now policy.now) (plans.cells plan.now)) }
 {
     let own = labels_by_number(alloc, plan, cells.len(), policy.table())?;
     let mut allowed = Vec::with_capacity(alloc, cells.len())?;

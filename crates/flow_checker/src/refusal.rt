@@ -32,7 +32,8 @@ pub fn first_refusal(
     policy: &Policy,
     labels: &Labels,
 ) -> Result<Option<Refusal>, Memory>
-    ensures { IfOk result (λ found. IsAnswer plan.now (labelling_of_policy plan.now policy.now) labels.now found) }
+    ensures { IfOk result (λ found. IsAnswer plan.now
+        (labelling_of_policy plan.now policy.now) labels.now found) }
 {
     plan.known();
     let table = edge_table(alloc, plan)?;
@@ -59,7 +60,8 @@ fn refused_cell(
     requires given { length given.now ≡ length (plans.cells plan.now) }
     requires allowed { length allowed.now ≡ length (plans.cells plan.now) }
     requires granted { length granted.now ≡ length (plans.cells plan.now) }
-    ensures { (policy : theory.Labelling) (labels : theory.Labels) → AreNumbered plan.now policy labels given.now allowed.now granted.now →
+    ensures { (policy : theory.Labelling) (labels : theory.Labels) →
+        AreNumbered plan.now policy labels given.now allowed.now granted.now →
         Pass (is_labelled labels) (plans.cells plan.now) → IsAnswer plan.now policy labels result }
 {
     if let Some(number) = first_past_policy(given, allowed) {
@@ -78,8 +80,11 @@ fn refused_right(
     requires table { table.now ≡ record { cells = plans.cells plan.now; edges = flows.edges plan.now } }
     requires given { length given.now ≡ length (plans.cells plan.now) }
     requires granted { length granted.now ≡ length (plans.cells plan.now) }
-    ensures { (policy : theory.Labelling) (labels : theory.Labels) → given.now ≡ map (theory.labelling_of labels) (plans.cells plan.now) → AreGranted plan.now granted.now →
-        Pass (is_labelled labels) (plans.cells plan.now) → Pass (keeps_policy policy labels) (plans.cells plan.now) → IsAnswer plan.now policy labels result }
+    ensures { (policy : theory.Labelling) (labels : theory.Labels) →
+        given.now ≡ map (theory.labelling_of labels) (plans.cells plan.now) →
+        AreGranted plan.now granted.now → Pass (is_labelled labels) (plans.cells plan.now) →
+        Pass (keeps_policy policy labels) (plans.cells plan.now) →
+        IsAnswer plan.now policy labels result }
 {
     let clients = plan.client_count();
     if let Some((client, number)) = first_changer(clients, granted, given) {
@@ -95,9 +100,13 @@ fn refused_right(
 fn refused_edge(plan: &Plan, table: &EdgeTable, given: &[Label]) -> Option<Refusal>
     requires table { table.now ≡ record { cells = plans.cells plan.now; edges = flows.edges plan.now } }
     requires given { length given.now ≡ length (plans.cells plan.now) }
-    ensures { (policy : theory.Labelling) (labels : theory.Labels) → given.now ≡ map (theory.labelling_of labels) (plans.cells plan.now) →
-        Pass (is_labelled labels) (plans.cells plan.now) → Pass (keeps_policy policy labels) (plans.cells plan.now) →
-        Pass (admits_changer plan.now labels) (clients_with_cells plan.now) → Pass (admits_reader plan.now labels) (clients_with_cells plan.now) → IsAnswer plan.now policy labels result }
+    ensures { (policy : theory.Labelling) (labels : theory.Labels) →
+        given.now ≡ map (theory.labelling_of labels) (plans.cells plan.now) →
+        Pass (is_labelled labels) (plans.cells plan.now) →
+        Pass (keeps_policy policy labels) (plans.cells plan.now) →
+        Pass (admits_changer plan.now labels) (clients_with_cells plan.now) →
+        Pass (admits_reader plan.now labels) (clients_with_cells plan.now) →
+        IsAnswer plan.now policy labels result }
 {
     let (cells, links) = (table.cells(), table.links());
     if let Some(number) = first_influence_lost(given, links) {

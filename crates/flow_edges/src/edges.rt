@@ -36,7 +36,8 @@ pub fn edges(alloc: Global, plan: &Plan) -> Result<Vec<Edge>, Memory>
 
 /// The edges of a plan between the numbers of its cells. The only error is want of memory.
 pub fn edge_table(alloc: Global, plan: &Plan) -> Result<EdgeTable, Memory>
-    ensures { IfOk result (λ table. table ≡ record { cells = plans.cells plan.now; edges = theory.edges plan.now }) }
+    ensures { IfOk result (λ table. table
+        ≡ record { cells = plans.cells plan.now; edges = theory.edges plan.now }) }
 {
     plan.known();
     let mut table = EdgeTable::new(alloc, plan.cells(alloc)?)?;
@@ -55,7 +56,8 @@ fn add_object(
 ) -> Result<(), Memory>
     requires cells { table.old.cells ≡ plans.cells plan.now }
     requires object { IsIn plan.now.objects object.now }
-    ensures { OnOk result (IsGathered table.old table.new (theory.edges_in plan.now object.now.name object.now.part)) }
+    ensures { OnOk result (IsGathered table.old table.new
+        (theory.edges_in plan.now object.now.name object.now.part)) }
 {
     let name = object.name();
     match object.part() {
@@ -76,7 +78,8 @@ fn add_profile(
 ) -> Result<(), Memory>
     requires cells { table.old.cells ≡ plans.cells plan.now }
     requires part { HasPart plan.now name (profile_part_of part.now) }
-    ensures { OnOk result (IsGathered table.old table.new (theory.edges_in plan.now name (profile_part_of part.now))) }
+    ensures { OnOk result (IsGathered table.old table.new
+        (theory.edges_in plan.now name (profile_part_of part.now))) }
 {
     plan.known();
     let rows = number_of(plan, &buffer(name));
@@ -103,7 +106,8 @@ fn add_menu_to_both(
     requires first { first < length table.old.cells }
     requires second { second < length table.old.cells }
     ensures { OnOk result (IsGathered table.old table.new
-        (theory.menu_edges (captures_of_part part.now) (plans.capture_objects name) (both_at table.old.cells first second))) }
+        (theory.menu_edges (captures_of_part part.now)
+        (plans.capture_objects name) (both_at table.old.cells first second))) }
 {
     if !part.has_menu() {
         return Ok(());
@@ -125,8 +129,8 @@ fn add_menu_to_each(
     requires part { HasPart plan.now name (schedule_part_of part.now) }
     requires targets { length targets.now ≡ length table.old.cells }
     ensures { (p : CellValue → Bool) → targets.now ≡ map p table.old.cells →
-        OnOk result (IsGathered table.old table.new
-        (theory.menu_edges (scripts_of_part part.now) (plans.executed_script name) (filter p table.old.cells))) }
+        OnOk result (IsGathered table.old table.new (theory.menu_edges (scripts_of_part part.now)
+        (plans.executed_script name) (filter p table.old.cells))) }
 {
     if !part.has_menu() {
         return Ok(());
@@ -161,7 +165,8 @@ fn add_clock_to_each(plan: &Plan, targets: &[bool], table: &mut EdgeTable) -> Re
     requires cells { table.old.cells ≡ plans.cells plan.now }
     requires targets { length targets.now ≡ length table.old.cells }
     ensures { (p : CellValue → Bool) → targets.now ≡ map p table.old.cells →
-        OnOk result (IsGathered table.old table.new (theory.edges_from_clock plan.now (filter p table.old.cells))) }
+        OnOk result (IsGathered table.old table.new
+        (theory.edges_from_clock plan.now (filter p table.old.cells))) }
 {
     let Some(name) = plan.clock() else {
         return Ok(());
@@ -216,7 +221,8 @@ fn add_captured(
     requires cells { table.old.cells ≡ plans.cells plan.now }
     requires captured { AreOfPlan plan.now captured.now }
     requires buffer { buffer < length table.old.cells }
-    ensures { OnOk result (IsGathered table.old table.new (captures_into (cell_at table.old.cells buffer) captured.now)) }
+    ensures { OnOk result (IsGathered table.old table.new
+        (captures_into (cell_at table.old.cells buffer) captured.now)) }
 {
     for source in captured {
         let source = number_of(plan, source);
@@ -236,7 +242,8 @@ fn add_schedule(
 ) -> Result<(), Memory>
     requires cells { table.old.cells ≡ plans.cells plan.now }
     requires part { HasPart plan.now name (schedule_part_of part.now) }
-    ensures { OnOk result (IsGathered table.old table.new (theory.edges_in plan.now name (schedule_part_of part.now))) }
+    ensures { OnOk result (IsGathered table.old table.new
+        (theory.edges_in plan.now name (schedule_part_of part.now))) }
 {
     plan.known();
     let times = number_of(plan, &execution_time(name));
@@ -257,7 +264,8 @@ fn add_monitor(
 ) -> Result<(), Memory>
     requires cells { table.old.cells ≡ plans.cells plan.now }
     requires part { HasPart plan.now name (monitor_part_of part.now) }
-    ensures { OnOk result (IsGathered table.old table.new (theory.edges_in plan.now name (monitor_part_of part.now))) }
+    ensures { OnOk result (IsGathered table.old table.new
+        (theory.edges_in plan.now name (monitor_part_of part.now))) }
 {
     plan.known();
     let monitored = number_of(plan, &part.monitored_value);
@@ -289,8 +297,10 @@ fn add_all(
 ) -> Result<(), Memory>
     requires sources { (s : ℕ) → IsIn sources.now s → s < length table.old.cells }
     requires targets { length targets.now ≡ length table.old.cells }
-    ensures { (p : CellValue → Bool) → targets.now ≡ map p table.old.cells → OnOk result (IsGathered table.old table.new
-        (flat_map (λ y. map (λ s. theory.edge cause (cell_at table.old.cells s) y) sources.now) (filter p table.old.cells))) }
+    ensures { (p : CellValue → Bool) → targets.now ≡ map p table.old.cells →
+        OnOk result (IsGathered table.old table.new
+        (flat_map (λ y. map (λ s. theory.edge cause (cell_at table.old.cells s) y) sources.now)
+        (filter p table.old.cells))) }
 {
     for (target, is_target) in targets.iter().enumerate() {
         if *is_target {
@@ -309,7 +319,9 @@ fn add_each(
 ) -> Result<(), Memory>
     requires sources { (s : ℕ) → IsIn sources.now s → s < length table.old.cells }
     requires target { target < length table.old.cells }
-    ensures { OnOk result (IsGathered table.old table.new (map (λ s. theory.edge cause (cell_at table.old.cells s) (cell_at table.old.cells target)) sources.now)) }
+    ensures { OnOk result (IsGathered table.old table.new (map
+        (λ s. theory.edge cause (cell_at table.old.cells s) (cell_at table.old.cells target))
+        sources.now)) }
 {
     for source in sources {
         table.add(cause, *source, target)?;

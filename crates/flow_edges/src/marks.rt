@@ -43,7 +43,8 @@ impl<'a> Marks<'a> {
     fn new(alloc: Global, plan: &'a Plan, cells: usize) -> Result<Self, Memory>
         requires { cells ≡ length (plans.cells plan.now) }
         ensures plan { IfOk result (λ made. made.plan.now ≡ plan.now) }
-        ensures marks { IfOk result (λ made. made.marks.items ≡ map (theory.among []) (plans.cells plan.now)) }
+        ensures marks { IfOk result (λ made. made.marks.items
+            ≡ map (theory.among []) (plans.cells plan.now)) }
     {
         let marks = vec![in alloc; false; cells]?;
         Ok(Marks { plan, marks })
@@ -59,7 +60,8 @@ pub(crate) fn changed_by_monitor(
     actions: &[UpDown],
 ) -> Result<Vec<bool>, Memory>
     requires { cells ≡ length (plans.cells plan.now) }
-    ensures { IfOk result (λ marks. marks.items ≡ map (theory.among (theory.monitor_changes plan.now actions.now)) (plans.cells plan.now)) }
+    ensures { IfOk result (λ marks. marks.items
+        ≡ map (theory.among (theory.monitor_changes plan.now actions.now)) (plans.cells plan.now)) }
 {
     let mut marks = Marks::new(alloc, plan, cells)?;
     let Ok(()) = each_of_monitor(plan, actions, &mut marks);
@@ -76,7 +78,8 @@ pub(crate) fn changed_by_schedule(
 ) -> Result<Vec<bool>, Memory>
     requires { cells ≡ length (plans.cells plan.now) }
     ensures { IfOk result (λ marks. marks.items
-        ≡ map (theory.among (theory.schedule_changes plan.now (scripts_of_part part.now))) (plans.cells plan.now)) }
+        ≡ map (theory.among (theory.schedule_changes plan.now (scripts_of_part part.now)))
+        (plans.cells plan.now)) }
 {
     let mut marks = Marks::new(alloc, plan, cells)?;
     let Ok(()) = each_of_schedule(plan, part, &mut marks);
@@ -87,7 +90,8 @@ pub(crate) fn changed_by_schedule(
 fn mark(plan: &Plan, cell: &CellRef, marks: &mut Vec<bool>)
     requires { length marks.old.items ≡ length (plans.cells plan.now) }
     ensures size { length marks.new.items ≡ length marks.old.items }
-    ensures marked { (before : List CellValue) → marks.old.items ≡ map (theory.among before) (plans.cells plan.now) →
+    ensures marked { (before : List CellValue) →
+        marks.old.items ≡ map (theory.among before) (plans.cells plan.now) →
         marks.new.items ≡ map (theory.among (before ++ cell.now ∷ [])) (plans.cells plan.now) }
 {
     plan.known();

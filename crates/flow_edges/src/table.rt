@@ -39,7 +39,8 @@ impl Model for EdgeTable {
     ghost use Rattle.std.specs.Prelude.{map};
     ghost use Rattle.flow_edges.specs.Table.{edge_at, IsMarked};
 
-    ghost view = { λ t. record { cells = t.cells.items; edges = map (edge_at t.cells.items) t.links.items } };
+    ghost view = { λ t.
+        record { cells = t.cells.items; edges = map (edge_at t.cells.items) t.links.items } };
 
     ghost invariant = { λ t. IsMarked t.cells.items t.links.items t.marks.items };
 }
@@ -93,7 +94,11 @@ impl EdgeTable {
     pub(crate) fn add(&mut self, cause: Cause, source: usize, target: usize) -> Result<(), Memory>
         requires source { source < length self.old.cells }
         requires target { target < length self.old.cells }
-        ensures ok { OnOk result (self.new ≡ record { cells = self.old.cells; edges = add_edge self.old.edges (edge_at self.old.cells (record { source = source; target = target; cause = cause })) }) }
+        ensures ok { OnOk result (self.new ≡ record {
+          cells = self.old.cells;
+          edges = add_edge self.old.edges (edge_at self.old.cells
+              (record { source = source; target = target; cause = cause }));
+        }) }
         ensures err { OnErr result (self.new ≡ self.old) }
     {
         let place = source * self.cells.len() + target;

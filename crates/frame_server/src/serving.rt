@@ -51,16 +51,17 @@ pub fn serve<R: Read, W: Write, A: Asker>(
         (record { asker = asker.old; unread = R.remaining reader.old; written = W.contents writer.old })
         (record { asker = asker.new; unread = R.remaining reader.new; written = W.contents writer.new }) result }
     // Where a wrong header stands in a frame's place, that is the end.
-    ensures wrong_header { (input : List ℕ) (frames : List MessageValue) (rest : List ℕ) (fault : FaultValue) →
-        R.remaining reader.old ≡ Some input → Splits input frames rest → Refuses fault rest →
-        (result ≡ Err (ServeFault.Wrap fault)) ⊎ IsOther result }
+    ensures wrong_header { (input : List ℕ) (frames : List MessageValue) (rest : List ℕ)
+        (fault : FaultValue) → R.remaining reader.old ≡ Some input → Splits input frames rest →
+        Refuses fault rest → (result ≡ Err (ServeFault.Wrap fault)) ⊎ IsOther result }
     // Where the input ends inside a frame, that is the end.
     ensures cut { (input : List ℕ) (frames : List MessageValue) (rest : List ℕ) →
         R.remaining reader.old ≡ Some input → Splits input frames rest → IsPartial rest → 0 < length rest →
         (result ≡ Err ServeFault.Cut) ⊎ IsOther result }
     // Where the input is whole frames, all are answered.
     ensures whole { (input : List ℕ) (frames : List MessageValue) →
-        R.remaining reader.old ≡ Some input → Splits input frames [] → (result ≡ Ok (length frames)) ⊎ IsOther result }
+        R.remaining reader.old ≡ Some input → Splits input frames [] →
+        (result ≡ Ok (length frames)) ⊎ IsOther result }
     ensures goes_on { result ≢ Err ServeFault.GaveUp }
     ensures plan { A.plan_of asker.new ≡ plan.now }
 {
@@ -90,16 +91,17 @@ pub fn serve_gated<R: Read, W: Write, A: Asker, G: Gate>(
         (record { asker = asker.old; unread = R.remaining reader.old; written = W.contents writer.old })
         (record { asker = asker.new; unread = R.remaining reader.new; written = W.contents writer.new }) result }
     // Where a wrong header stands in a frame's place, that is the end.
-    ensures wrong_header { (input : List ℕ) (frames : List MessageValue) (rest : List ℕ) (fault : FaultValue) →
-        R.remaining reader.old ≡ Some input → Splits input frames rest → Refuses fault rest →
-        (result ≡ Err (ServeFault.Wrap fault)) ⊎ IsOther result }
+    ensures wrong_header { (input : List ℕ) (frames : List MessageValue) (rest : List ℕ)
+        (fault : FaultValue) → R.remaining reader.old ≡ Some input → Splits input frames rest →
+        Refuses fault rest → (result ≡ Err (ServeFault.Wrap fault)) ⊎ IsOther result }
     // Where the input ends inside a frame, that is the end.
     ensures cut { (input : List ℕ) (frames : List MessageValue) (rest : List ℕ) →
         R.remaining reader.old ≡ Some input → Splits input frames rest → IsPartial rest → 0 < length rest →
         (result ≡ Err ServeFault.Cut) ⊎ IsOther result }
     // Where the input is whole frames, all are answered.
     ensures whole { (input : List ℕ) (frames : List MessageValue) →
-        R.remaining reader.old ≡ Some input → Splits input frames [] → (result ≡ Ok (length frames)) ⊎ IsOther result }
+        R.remaining reader.old ≡ Some input → Splits input frames [] →
+        (result ≡ Ok (length frames)) ⊎ IsOther result }
     ensures gave_up { result ≡ Err ServeFault.GaveUp → G.may_give_up seat.now.gate.now seat.now.number }
     ensures plan { A.plan_of asker.new ≡ plan.now }
 {
@@ -119,7 +121,8 @@ fn answer_input<R: Read, W: Write, A: Asker, G: Gate>(
     ensures serves { Serves A.answers plan.now
         (record { asker = asker.old; unread = R.remaining reader.old; written = W.contents writer.old })
         (record { asker = asker.new; unread = R.remaining reader.new; written = W.contents writer.new }) result }
-    ensures gave_up { result ≡ Err ServeFault.GaveUp → G.may_give_up seat.now.gate.now seat.now.number }
+    ensures gave_up { result ≡ Err ServeFault.GaveUp →
+        G.may_give_up seat.now.gate.now seat.now.number }
     ensures plan { A.plan_of asker.new ≡ plan.now }
 {
     let mut feeder = Feeder::new(alloc);
@@ -172,8 +175,10 @@ fn answer_all<W: Write, A: Asker, G: Gate>(
     seat: &Seat<'_, G>,
 ) -> Result<(), ServeFault>
     requires { A.plan_of asker.old ≡ session.old.plan }
-    ensures gave_up { result ≡ Err ServeFault.GaveUp → G.may_give_up seat.now.gate.now seat.now.number }
-    ensures all { AnswersAll A.answers asker.old asker.new (W.contents writer.old) (W.contents writer.new) session.old session.new messages.now result }
+    ensures gave_up { result ≡ Err ServeFault.GaveUp →
+        G.may_give_up seat.now.gate.now seat.now.number }
+    ensures all { AnswersAll A.answers asker.old asker.new (W.contents writer.old)
+        (W.contents writer.new) session.old session.new messages.now result }
     ensures plan { A.plan_of asker.new ≡ A.plan_of asker.old }
     ensures same_plan { session.new.plan ≡ session.old.plan }
 {
@@ -193,8 +198,10 @@ fn answer_one<W: Write, A: Asker, G: Gate>(
     seat: &Seat<'_, G>,
 ) -> Result<(), ServeFault>
     requires { A.plan_of asker.old ≡ session.old.plan }
-    ensures gave_up { result ≡ Err ServeFault.GaveUp → G.may_give_up seat.now.gate.now seat.now.number }
-    ensures one { AnswersOne A.answers asker.old asker.new (W.contents writer.old) (W.contents writer.new) session.old session.new message.now result }
+    ensures gave_up { result ≡ Err ServeFault.GaveUp →
+        G.may_give_up seat.now.gate.now seat.now.number }
+    ensures one { AnswersOne A.answers asker.old asker.new
+        (W.contents writer.old) (W.contents writer.new) session.old session.new message.now result }
     ensures plan { A.plan_of asker.new ≡ A.plan_of asker.old }
     ensures same_plan { session.new.plan ≡ session.old.plan }
 {

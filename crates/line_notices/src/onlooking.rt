@@ -66,7 +66,8 @@ impl<'a, E: Write + Drop> Onlooker<'a, E> {
 
 /// Tells of a line that is seen, and says whether all of it was told: memory may be refused, and a write fail.
 fn tell_seen<E: Write>(alloc: Global, number: u64, line: &[u8], seen: &Seen, errors: &mut E) -> bool
-    ensures { spec.TellsSeen (told.seen_text number line.now seen.now) (E.contents errors.old) (E.contents errors.new) }
+    ensures { spec.TellsSeen (told.seen_text number line.now seen.now)
+        (E.contents errors.old) (E.contents errors.new) }
 {
     match seen_text(alloc, number, line, seen) {
         Ok(text) => write_whole(errors, &text).is_ok(),
@@ -116,7 +117,8 @@ fn answer_said(
     said: Line<'_>,
     waiting: &mut Vec<u8>,
 ) -> Result<Option<Seen>, Memory>
-    ensures ok { OnOk result (waiting.new.items ≡ waiting.old.items ++ spec.said_text (onlooker sight.entry.checked.now sight.entry.client) said.entry) }
+    ensures ok { OnOk result (waiting.new.items ≡ waiting.old.items
+        ++ spec.said_text (onlooker sight.entry.checked.now sight.entry.client) said.entry) }
     ensures err { OnErr result (waiting.new.items ≡ waiting.old.items) }
 {
     if let Line::Skipped = said {

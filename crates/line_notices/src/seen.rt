@@ -40,8 +40,8 @@ pub(crate) fn line_seen(
     sight: Sight<'_>,
     line: Line<'_>,
 ) -> Result<Option<Seen>, Memory>
-    ensures { IfOk result (λ seen. option_map seen_of seen
-        ≡ first_seen sight.entry.checked.now sight.entry.client (steps_of (tasks_in sight.entry.checked.now.plan line.entry))) }
+    ensures { IfOk result (λ seen. option_map seen_of seen ≡ first_seen sight.entry.checked.now
+        sight.entry.client (steps_of (tasks_in sight.entry.checked.now.plan line.entry))) }
 {
     match line {
         Line::Skipped | Line::Unreadable(_) => Ok(None),
@@ -58,7 +58,8 @@ pub(crate) fn line_seen(
 
 /// The first step that is seen of so many seconds.
 fn seconds_seen(sight: Sight<'_>, seconds: u16) -> Option<Seen>
-    ensures { option_map seen_of result ≡ first_seen sight.entry.checked.now sight.entry.client (tick_steps sight.entry.checked.now.plan seconds) }
+    ensures { option_map seen_of result ≡ first_seen sight.entry.checked.now sight.entry.client
+        (tick_steps sight.entry.checked.now.plan seconds) }
 {
     if seconds == 0 {
         return None;
@@ -68,7 +69,8 @@ fn seconds_seen(sight: Sight<'_>, seconds: u16) -> Option<Seen>
 
 /// The first step that is seen of one that moves the clock, and of those that are then offered to the objects.
 fn seen_behind(sight: Sight<'_>, step: Step) -> Option<Seen>
-    ensures { option_map seen_of result ≡ first_seen sight.entry.checked.now sight.entry.client (step_of step ∷ driven sight.entry.checked.now.plan) }
+    ensures { option_map seen_of result ≡ first_seen sight.entry.checked.now sight.entry.client
+        (step_of step ∷ driven sight.entry.checked.now.plan) }
 {
     match step_seen(sight, step) {
         Some(seen) => Some(seen),
@@ -78,7 +80,8 @@ fn seen_behind(sight: Sight<'_>, step: Step) -> Option<Seen>
 
 /// The first step that is seen of those that are offered to the objects when the clock has moved.
 fn driven_seen(sight: Sight<'_>) -> Option<Seen>
-    ensures { option_map seen_of result ≡ first_seen sight.entry.checked.now sight.entry.client (driven sight.entry.checked.now.plan) }
+    ensures { option_map seen_of result ≡ first_seen sight.entry.checked.now sight.entry.client
+        (driven sight.entry.checked.now.plan) }
 {
     for object in sight.checked.plan().objects() {
         if let Some(seen) = object_seen(sight, object) {
@@ -90,14 +93,16 @@ fn driven_seen(sight: Sight<'_>) -> Option<Seen>
 
 /// The step that is offered to an object when the clock has moved, if it is seen.
 fn object_seen(sight: Sight<'_>, object: &Object) -> Option<Seen>
-    ensures { option_map seen_of result ≡ first_seen sight.entry.checked.now sight.entry.client (option_to_list (moments.offered object.now)) }
+    ensures { option_map seen_of result ≡ first_seen sight.entry.checked.now sight.entry.client
+        (option_to_list (moments.offered object.now)) }
 {
     step_seen(sight, offered(object)?)
 }
 
 /// The step, if it is seen.
 fn step_seen(sight: Sight<'_>, step: Step) -> Option<Seen>
-    ensures { option_map seen_of result ≡ spec.seen_in sight.entry.checked.now sight.entry.client (step_of step) }
+    ensures { option_map seen_of result
+        ≡ spec.seen_in sight.entry.checked.now sight.entry.client (step_of step) }
 {
     let notice = first_notice(sight.checked, sight.client, &step)?;
     Some(Seen { step, notice })
@@ -138,7 +143,8 @@ fn push_notice(alloc: Global, notice: Notice, text: &mut Vec<u8>) -> Result<(), 
 
 /// Puts the words of a step of a line behind a text: those of the line, or where the line has more steps its own.
 fn push_words(alloc: Global, line: &[u8], step: &Step, text: &mut Vec<u8>) -> Result<(), Memory>
-    ensures { OnOk result (text.new.items ≡ text.old.items ++ spec.step_words line.now (step_of step.now)) }
+    ensures { OnOk result (text.new.items
+        ≡ text.old.items ++ spec.step_words line.now (step_of step.now)) }
 {
     match step {
         Step::CaptureAt { profile } => {

@@ -74,7 +74,8 @@ fn told_of(
     words: &[u8],
     changes: &[u8],
 ) -> Result<Vec<u8>, Memory>
-    ensures { IfOk result (λ told. told.items ≡ line_text answered.entry.number words.now ++ (answered_text answered.entry.reply.now ++ or_nothing changes.now)) }
+    ensures { IfOk result (λ told. told.items ≡ line_text answered.entry.number words.now
+        ++ (answered_text answered.entry.reply.now ++ or_nothing changes.now)) }
 {
     let mut told = Vec::new(alloc);
     told.extend_from_slice(format!(in alloc; "line {}: ", answered.number)?.as_bytes())?;
@@ -93,7 +94,8 @@ fn push_line(
     changes: &[u8],
     text: &mut Vec<u8>,
 ) -> Result<(), Memory>
-    ensures ok { OnOk result (text.new.items ≡ text.old.items ++ told_with answered.entry.number (decoded_step answered.entry.line.now) answered.entry.reply.now changes.now) }
+    ensures ok { OnOk result (text.new.items ≡ text.old.items ++ told_with answered.entry.number
+        (decoded_step answered.entry.line.now) answered.entry.reply.now changes.now) }
     ensures err { OnErr result (text.new.items ≡ text.old.items) }
 {
     let mut words = Vec::new(alloc);
@@ -121,7 +123,9 @@ pub(crate) fn push_told(
 ) -> Result<(), Memory>
     requires of_plan { IsState plan.now meter.now }
     requires watched { keys watch.old ≡ cells plan.now }
-    ensures told { OnOk result (text.new.items ≡ text.old.items ++ told_text answered.entry.number (decoded_step answered.entry.line.now) answered.entry.reply.now watch.old (told_part plan.now meter.now)) }
+    ensures told { OnOk result (text.new.items
+        ≡ text.old.items ++ told_text answered.entry.number (decoded_step answered.entry.line.now)
+        answered.entry.reply.now watch.old (told_part plan.now meter.now)) }
     ensures kept { OnOk result (watch.new ≡ told_part plan.now meter.now) }
     ensures err { OnErr result (text.new.items ≡ text.old.items) }
 {

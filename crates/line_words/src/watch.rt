@@ -88,7 +88,8 @@ impl Watch {
     ) -> Result<Vec<u8>, Memory>
         requires of_plan { IsState plan.now meter.now }
         requires watched { keys self.old ≡ cells plan.now }
-        ensures told { IfOk result (λ lines. lines.items ≡ change_lines self.old (told_part plan.now meter.now)) }
+        ensures told { IfOk result (λ lines. lines.items
+            ≡ change_lines self.old (told_part plan.now meter.now)) }
         ensures kept { OnOk result (self.new ≡ told_part plan.now meter.now) }
     {
         plan.known();
@@ -138,7 +139,8 @@ fn look_at(
     lines: &mut Vec<u8>,
 ) -> Result<(), Memory>
     requires { IsState plan.now meter.now }
-    ensures told { OnOk result (lines.new.items ≡ lines.old.items ++ change_of kept.old.0 kept.old.1 (value meter.now kept.old.0)) }
+    ensures told { OnOk result (lines.new.items
+        ≡ lines.old.items ++ change_of kept.old.0 kept.old.1 (value meter.now kept.old.0)) }
     ensures kept { OnOk result (kept.new ≡ (kept.old.0, value meter.now kept.old.0)) }
 {
     let instance = plan.instance(&kept.cell.name);
@@ -158,7 +160,8 @@ fn look_at_all(
     lines: &mut Vec<u8>,
 ) -> Result<(), Memory>
     requires { IsState plan.now meter.now }
-    ensures told { OnOk result (lines.new.items ≡ lines.old.items ++ flat_map (λ e. change_of e.0 e.1 (value meter.now e.0)) kept.old) }
+    ensures told { OnOk result (lines.new.items
+        ≡ lines.old.items ++ flat_map (λ e. change_of e.0 e.1 (value meter.now e.0)) kept.old) }
     ensures kept { OnOk result (kept.new ≡ map (λ e. (e.0, value meter.now e.0)) kept.old) }
 {
     for one in kept.iter_mut() {

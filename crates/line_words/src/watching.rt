@@ -99,7 +99,8 @@ fn tell<E: Write>(
     errors: &mut E,
 ) -> Option<Watch>
     requires { keys watch ≡ cells solo.now.plan }
-    ensures { Tells (told_text answered.entry.number (decoded_step answered.entry.line.now) answered.entry.reply.now watch (shown solo.now))
+    ensures { Tells (told_text answered.entry.number
+        (decoded_step answered.entry.line.now) answered.entry.reply.now watch (shown solo.now))
         (shown solo.now) (Some watch) result (E.contents errors.old) (E.contents errors.new) }
 {
     solo.known();
@@ -131,7 +132,8 @@ pub fn run_watched<R: Read, W: Write, E: Write + Drop>(
         (record { unread = R.remaining reader.old; written = W.contents writer.old })
         (record { unread = R.remaining reader.new; written = W.contents writer.new }) result }
     // Where all lines are answered, what was told is a beginning of what there is to tell of them.
-    ensures told { OnOk result (TellsAll watched.old.solo.plan (R.remaining reader.old) (R.remaining reader.new) watched.old.told watched.new.told) }
+    ensures told { OnOk result (TellsAll watched.old.solo.plan
+        (R.remaining reader.old) (R.remaining reader.new) watched.old.told watched.new.told) }
 {
     answer_lines(alloc, watched, reader, writer)
 }

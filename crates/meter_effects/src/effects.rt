@@ -24,7 +24,8 @@ pub fn apply_all(
 ) -> Result<(), Memory>
     requires of_plan { IsState plan.now meter.old }
     requires fits { MayTakeAll plan.now effects.items }
-    ensures ok { OnOk result (meter.new ≡ theory.effects plan.now meter.old (map effect_of effects.items)) }
+    ensures ok { OnOk result (meter.new
+        ≡ theory.effects plan.now meter.old (map effect_of effects.items)) }
     ensures err { OnErr result (meter.new ≡ meter.old) }
     ensures none { effects.items ≡ [] → IsOk result }
 {

@@ -49,12 +49,18 @@ pub fn puts_are_writes<Lent, C: InterfaceClass<Lent>>()
 /// a register monitor saw it remembers, a capture is method 2 of a profile, over the row of its captured cells, and a clear
 /// is method 1. A put of a register's default is its method 1.
 pub fn effects_are_operations()
-    ensures put { (P : Plan) (x : CellRef) (v : Tree) → MayStand P x v → IsAcceptedOperation P (ops.Write x.index) v (λ s. effect P s (Put x v)) }
-    ensures remember { (P : Plan) (o : Object) (x : CellRef) (v : Tree) → IsRemembered P o.name o.part x v → IsOperationOf P o ops.Remember v (λ s. effect P s (Put x v)) }
-    ensures capture { (P : Plan) (n : LogicalName) (argument : Tree) → IsProfile P n → IsAcceptedOperation P (ops.Invoke 2) argument (λ s. effect P s (Capture n)) }
-    ensures clear { (P : Plan) (n : LogicalName) (argument : Tree) → IsProfile P n → IsAcceptedOperation P (ops.Invoke 1) argument (λ s. effect P s (Clear n)) }
-    ensures reset { (P : Plan) (o : Object) (first default argument : Tree) (unit : ScalerUnit) → o.part ≡ plans.Register first default unit →
-        IsOperationOf P o (ops.Invoke 1) argument (λ s. effect P s (Put (plans.register_value o.name) default)) }
+    ensures put { (P : Plan) (x : CellRef) (v : Tree) → MayStand P x v →
+        IsAcceptedOperation P (ops.Write x.index) v (λ s. effect P s (Put x v)) }
+    ensures remember { (P : Plan) (o : Object) (x : CellRef) (v : Tree) →
+        IsRemembered P o.name o.part x v →
+        IsOperationOf P o ops.Remember v (λ s. effect P s (Put x v)) }
+    ensures capture { (P : Plan) (n : LogicalName) (argument : Tree) → IsProfile P n →
+        IsAcceptedOperation P (ops.Invoke 2) argument (λ s. effect P s (Capture n)) }
+    ensures clear { (P : Plan) (n : LogicalName) (argument : Tree) → IsProfile P n →
+        IsAcceptedOperation P (ops.Invoke 1) argument (λ s. effect P s (Clear n)) }
+    ensures reset { (P : Plan) (o : Object) (first default argument : Tree) (unit : ScalerUnit) →
+        o.part ≡ plans.Register first default unit → IsOperationOf P o
+        (ops.Invoke 1) argument (λ s. effect P s (Put (plans.register_value o.name) default)) }
 {
     puts_are_writes::<Lent<'static, DataPart>, Data1>();
     puts_are_writes::<Lent<'static, RegisterPart>, Register>();
@@ -67,9 +73,11 @@ pub fn effects_are_operations()
 /// States that agree on a closed set of cells agree on it after each operation of an object of the plan, by the object's
 /// class, and so after each effect.
 pub fn closed_sets_keep_agreement()
-    ensures operation { (P : Plan) (S : CellRef → Bool) → IsClosed P S → (o : Object) (op : Op) (argument : Tree) (change : State → State) →
-        IsIn P.objects o → IsOperationOf P o op argument change → KeepsAgreementOn S change }
-    ensures effect { (P : Plan) (S : CellRef → Bool) → IsClosed P S → (e : Effect) → KeepsAgreementOn S (λ s. effect P s e) }
+    ensures operation { (P : Plan) (S : CellRef → Bool) → IsClosed P S →
+        (o : Object) (op : Op) (argument : Tree) (change : State → State) → IsIn P.objects o →
+        IsOperationOf P o op argument change → KeepsAgreementOn S change }
+    ensures effect { (P : Plan) (S : CellRef → Bool) → IsClosed P S → (e : Effect) →
+        KeepsAgreementOn S (λ s. effect P s e) }
 {
     operations_keep_agreement::<Lent<'static, DataPart>, Data1>();
     operations_keep_agreement::<Lent<'static, RegisterPart>, Register>();

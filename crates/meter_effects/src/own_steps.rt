@@ -40,8 +40,10 @@ pub fn input_effects(
     cell: &CellRef,
     given: &Data,
 ) -> Result<Vec<Effect>, Memory>
-    ensures ok { IfOk result (λ list. (s : State) → StandsFor plan.now (theory.effects_of plan.now s (theory.Input cell.now (tree given.now))) list.items) }
-    ensures none { (s : State) → theory.effects_of plan.now s (theory.Input cell.now (tree given.now)) ≡ [] → IsOk result }
+    ensures ok { IfOk result (λ list. (s : State) → StandsFor plan.now
+        (theory.effects_of plan.now s (theory.Input cell.now (tree given.now))) list.items) }
+    ensures none { (s : State) →
+        theory.effects_of plan.now s (theory.Input cell.now (tree given.now)) ≡ [] → IsOk result }
 {
     let mut effects = Vec::new(alloc);
     if !takes_input(plan, cell, given) {
@@ -53,7 +55,8 @@ pub fn input_effects(
 
 /// Whether the cell is the value of a fed object, and the value may stand there.
 pub fn takes_input(plan: &Plan, cell: &CellRef, given: &Data) -> bool
-    ensures { result ≡ (theory.is_fed plan.now cell.now && theory.meets_some (rule_of plan.now cell.now) (tree given.now)) }
+    ensures { result ≡ (theory.is_fed plan.now cell.now
+        && theory.meets_some (rule_of plan.now cell.now) (tree given.now)) }
 {
     let instance = plan.instance(&cell.name);
     is_fed(&instance, cell) && instance.rule(cell.class_id, cell.index, given).is_ok()
@@ -83,7 +86,8 @@ pub fn capture_effects(
 ) -> Result<Vec<Effect>, Memory>
     requires of_plan { IsState plan.now meter.now }
     requires present { moment ≡ theory.present plan.now meter.now }
-    ensures ok { IfOk result (λ list. StandsFor plan.now (theory.effects_of plan.now meter.now (theory.CaptureAt profile)) list.items) }
+    ensures ok { IfOk result (λ list. StandsFor plan.now
+        (theory.effects_of plan.now meter.now (theory.CaptureAt profile)) list.items) }
     ensures none { theory.effects_of plan.now meter.now (theory.CaptureAt profile) ≡ [] → IsOk result }
 {
     let mut effects = Vec::new(alloc);
@@ -101,7 +105,8 @@ pub fn capture_effects(
 /// Whether the capture_period of a profile divides the seconds of the moment.
 fn is_period_over(meter: &Meter, instance: &Instance<'_>, moment: Moment) -> bool
     requires { IsState instance.now.plan meter.now }
-    ensures { result ≡ is_capture_due (count_of (value meter.now (plans.capture_period instance.now.name))) moment }
+    ensures { result ≡ is_capture_due
+        (count_of (value meter.now (plans.capture_period instance.now.name))) moment }
 {
     match meter.held(instance, &capture_period(instance.name())) {
         Some(period) => is_capture_due(period.count(), moment),
@@ -120,7 +125,8 @@ pub fn schedule_effects(
 ) -> Result<Vec<Effect>, Memory>
     requires of_plan { IsState plan.now meter.now }
     requires present { moment ≡ theory.present plan.now meter.now }
-    ensures ok { IfOk result (λ list. StandsFor plan.now (theory.effects_of plan.now meter.now (theory.ScheduleAt schedule)) list.items) }
+    ensures ok { IfOk result (λ list. StandsFor plan.now
+        (theory.effects_of plan.now meter.now (theory.ScheduleAt schedule)) list.items) }
     ensures none { theory.effects_of plan.now meter.now (theory.ScheduleAt schedule) ≡ [] → IsOk result }
 {
     let mut effects = Vec::new(alloc);
@@ -147,9 +153,11 @@ fn push_present(
     effects: &mut Vec<Effect>,
 ) -> Result<(), Memory>
     requires of_plan { IsState schedule.now.plan meter.now }
-    requires part { option_map (λ o. o.part) (plans.object_at schedule.now.plan schedule.now.name) ≡ Some (schedule_part_of part.now) }
+    requires part { option_map (λ o. o.part) (plans.object_at schedule.now.plan schedule.now.name)
+        ≡ Some (schedule_part_of part.now) }
     ensures ok { OnOk result (Adds schedule.now.plan (theory.effects_of_script schedule.now.plan
-        (theory.script_now meter.now schedule.now.name (scripts_of_part part.now))) effects.old.items effects.new.items) }
+        (theory.script_now meter.now schedule.now.name (scripts_of_part part.now)))
+        effects.old.items effects.new.items) }
     ensures none { theory.effects_of_script schedule.now.plan
         (theory.script_now meter.now schedule.now.name (scripts_of_part part.now)) ≡ [] → IsOk result }
 {
@@ -160,7 +168,8 @@ fn push_present(
 /// Whether the moment is one of the execution_time of a schedule.
 fn is_time(meter: &Meter, instance: &Instance<'_>, moment: Moment) -> bool
     requires { IsState instance.now.plan meter.now }
-    ensures { result ≡ is_schedule_due (elements (value meter.now (plans.execution_time instance.now.name))) moment }
+    ensures { result ≡ is_schedule_due
+        (elements (value meter.now (plans.execution_time instance.now.name))) moment }
 {
     match meter.held(instance, &execution_time(instance.name())) {
         Some(Held::Value(times)) => is_schedule_due(times, moment),
@@ -178,7 +187,8 @@ pub fn evaluation_effects(
     name: LogicalName,
 ) -> Result<Vec<Effect>, Memory>
     requires { IsState plan.now meter.now }
-    ensures ok { IfOk result (λ list. StandsFor plan.now (theory.effects_of plan.now meter.now (theory.Evaluate name)) list.items) }
+    ensures ok { IfOk result (λ list. StandsFor plan.now
+        (theory.effects_of plan.now meter.now (theory.Evaluate name)) list.items) }
     ensures none { theory.effects_of plan.now meter.now (theory.Evaluate name) ≡ [] → IsOk result }
 {
     plan.known();
@@ -210,7 +220,8 @@ fn push_scripts(
     scripts: &[ScriptRef],
     effects: &mut Vec<Effect>,
 ) -> Result<(), Memory>
-    ensures { OnOk result (Adds plan.now (flat_map (theory.effects_of_script plan.now) scripts.now) effects.old.items effects.new.items) }
+    ensures { OnOk result (Adds plan.now (flat_map (theory.effects_of_script plan.now) scripts.now)
+        effects.old.items effects.new.items) }
 {
     for script in scripts {
         push_script(alloc, &plan.instance(&script.table), script.script, effects)?;

@@ -29,7 +29,8 @@ pub fn effects_are_lawful()
 
 /// States that agree on a closed set of cells agree on it after each step.
 pub fn steps_keep_agreement()
-    ensures { (P : Plan) (S : CellRef → Bool) → IsClosed P S → (step : Step) → KeepsAgreementOn S (λ s. next P s step) }
+    ensures { (P : Plan) (S : CellRef → Bool) → IsClosed P S → (step : Step) →
+        KeepsAgreementOn S (λ s. next P s step) }
 {
     effects_are_lawful();
     lawful_effects_keep_agreement();
@@ -37,8 +38,10 @@ pub fn steps_keep_agreement()
 
 /// A sound plan that is admitted keeps what its policy promises about who influences a cell, and what its labels promise.
 pub fn admitted_is_influence_safe()
-    ensures policy { (P : Plan) (policy : Labelling) (labels : Labels) → IsSound P → Admits P policy labels → Influence P policy }
-    ensures labels { (P : Plan) (policy : Labelling) (labels : Labels) → IsSound P → Admits P policy labels → Influence P (labelling_of labels) }
+    ensures policy { (P : Plan) (policy : Labelling) (labels : Labels) → IsSound P →
+        Admits P policy labels → Influence P policy }
+    ensures labels { (P : Plan) (policy : Labelling) (labels : Labels) → IsSound P →
+        Admits P policy labels → Influence P (labelling_of labels) }
 {
     effects_are_lawful();
     lawful_effects_keep_promises();
@@ -46,8 +49,10 @@ pub fn admitted_is_influence_safe()
 
 /// A sound plan that is admitted keeps from each client what its policy, and what its labels, hide from it.
 pub fn admitted_is_secret()
-    ensures policy { (P : Plan) (policy : Labelling) (labels : Labels) → IsSound P → Admits P policy labels → Secrecy P policy }
-    ensures labels { (P : Plan) (policy : Labelling) (labels : Labels) → IsSound P → Admits P policy labels → Secrecy P (labelling_of labels) }
+    ensures policy { (P : Plan) (policy : Labelling) (labels : Labels) → IsSound P →
+        Admits P policy labels → Secrecy P policy }
+    ensures labels { (P : Plan) (policy : Labelling) (labels : Labels) → IsSound P →
+        Admits P policy labels → Secrecy P (labelling_of labels) }
 {
     effects_are_lawful();
     lawful_effects_keep_promises();
@@ -56,10 +61,12 @@ pub fn admitted_is_secret()
 /// A step changes only cells that it may put, so that a step of which a client could notice nothing is quiet for it, in states
 /// of any values; and the first notice is told exactly where there is one.
 pub fn steps_are_noticed()
-    ensures changed { (P : Plan) (s : State) (step : Step) (x : CellRef) → value (next P s step) x ≢ value s x → IsIn (may_put P step) x }
+    ensures changed { (P : Plan) (s : State) (step : Step) (x : CellRef) →
+        value (next P s step) x ≢ value s x → IsIn (may_put P step) x }
     ensures quiet { (P : Plan) (Q : Labelling) (c : ℕ) (step : Step) → (MayNotice P Q c step → ⊥) →
         IsQuiet (HasCells P) P Q c step × IsQuiet (IsState P) P Q c step }
-    ensures told { (P : Plan) (Q : Labelling) (c : ℕ) (step : Step) → (is_some (first_notice P Q c step) ≡ true ↔ MayNotice P Q c step) }
+    ensures told { (P : Plan) (Q : Labelling) (c : ℕ) (step : Step) →
+        (is_some (first_notice P Q c step) ≡ true ↔ MayNotice P Q c step) }
 {
     effects_are_lawful();
     steps_change_what_they_may_put();

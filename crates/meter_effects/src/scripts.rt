@@ -57,8 +57,11 @@ pub fn push_method(
     argument: &Argument,
     effects: &mut Vec<Effect>,
 ) -> Result<(), Memory>
-    ensures ok { OnOk result (Adds plan.now (theory.method_effects plan.now method.now (argument_of argument.now)) effects.old.items effects.new.items) }
-    ensures none { theory.method_effects plan.now method.now (argument_of argument.now) ≡ [] → IsOk result }
+    ensures ok { OnOk result (Adds plan.now
+        (theory.method_effects plan.now method.now (argument_of argument.now))
+        effects.old.items effects.new.items) }
+    ensures none { theory.method_effects plan.now method.now (argument_of argument.now) ≡ [] →
+        IsOk result }
 {
     plan.known();
     let mut copies = Copies::behind(alloc, effects);
@@ -75,8 +78,11 @@ pub(crate) fn push_script(
     script: u16,
     effects: &mut Vec<Effect>,
 ) -> Result<(), Memory>
-    ensures ok { OnOk result (Adds table.now.plan (theory.effects_of_script table.now.plan (record { table = table.now.name; script = script })) effects.old.items effects.new.items) }
-    ensures none { theory.effects_of_script table.now.plan (record { table = table.now.name; script = script }) ≡ [] → IsOk result }
+    ensures ok { OnOk result (Adds table.now.plan (theory.effects_of_script table.now.plan
+        (record { table = table.now.name; script = script }))
+        effects.old.items effects.new.items) }
+    ensures none { theory.effects_of_script table.now.plan
+        (record { table = table.now.name; script = script }) ≡ [] → IsOk result }
 {
     table.plan().known();
     let mut copies = Copies::behind(alloc, effects);
@@ -88,7 +94,8 @@ pub(crate) fn push_script(
 /// A copy of an effect, which owns what it puts. The only error is that memory was refused.
 fn copied(alloc: Global, effect: &Planned<'_>) -> Result<Effect, Memory>
     ensures same { IfOk result (λ copy. effect_of copy ≡ planned_of effect.now) }
-    ensures may { IfOk result (λ copy. (P : plans.Plan) → MayBePlanned P (planned_of effect.now) → MayTake P copy) }
+    ensures may { IfOk result (λ copy. (P : plans.Plan) →
+        MayBePlanned P (planned_of effect.now) → MayTake P copy) }
 {
     match effect {
         Planned::Put(cell, value) => Ok(Effect::Put(*cell, value.try_clone(alloc)?)),
@@ -99,7 +106,8 @@ fn copied(alloc: Global, effect: &Planned<'_>) -> Result<Effect, Memory>
 
 /// Adds one effect.
 pub(crate) fn push_effect(effects: &mut Vec<Effect>, effect: Effect) -> Result<(), Memory>
-    ensures { OnOk result ((P : plans.Plan) → MayTake P effect → Adds P (effect_of effect ∷ []) effects.old.items effects.new.items) }
+    ensures { OnOk result ((P : plans.Plan) → MayTake P effect →
+        Adds P (effect_of effect ∷ []) effects.old.items effects.new.items) }
 {
     effects.push(effect)?;
     Ok(())

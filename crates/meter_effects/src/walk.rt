@@ -77,9 +77,11 @@ pub fn each_of_script<V: Visitor>(
     script: u16,
     visitor: &mut V,
 ) -> Result<(), V::Stop>
-    ensures ok { OnOk result (FoldsTo V.meets visitor.old
-        (theory.effects_of_script table.now.plan (record { table = table.now.name; script = script })) visitor.new) }
-    ensures none { theory.effects_of_script table.now.plan (record { table = table.now.name; script = script }) ≡ [] → IsOk result }
+    ensures ok { OnOk result (FoldsTo V.meets visitor.old (theory.effects_of_script table.now.plan
+        (record { table = table.now.name; script = script }))
+        visitor.new) }
+    ensures none { theory.effects_of_script table.now.plan
+        (record { table = table.now.name; script = script }) ≡ [] → IsOk result }
 {
     match script_at(table, script) {
         Some((start, found)) => each_of_actions(table, start, &found.actions, visitor),
@@ -95,8 +97,10 @@ pub fn each_of_method<V: Visitor>(
     argument: &Argument,
     visitor: &mut V,
 ) -> Result<(), V::Stop>
-    ensures ok { OnOk result (FoldsTo V.meets visitor.old (theory.method_effects plan.now method.now (argument_of argument.now)) visitor.new) }
-    ensures none { theory.method_effects plan.now method.now (argument_of argument.now) ≡ [] → IsOk result }
+    ensures ok { OnOk result (FoldsTo V.meets visitor.old
+        (theory.method_effects plan.now method.now (argument_of argument.now)) visitor.new) }
+    ensures none { theory.method_effects plan.now method.now (argument_of argument.now) ≡ [] →
+        IsOk result }
 {
     let instance = plan.instance(&method.name);
     let Some(object) = instance.object() else {
@@ -138,7 +142,8 @@ pub fn each_of_monitor<V: Visitor>(
     actions: &[UpDown],
     visitor: &mut V,
 ) -> Result<(), V::Stop>
-    ensures { OnOk result (FoldsTo V.meets visitor.old (scripts_effects plan.now (scripts_named actions.now)) visitor.new) }
+    ensures { OnOk result (FoldsTo V.meets visitor.old
+        (scripts_effects plan.now (scripts_named actions.now)) visitor.new) }
 {
     for action in actions {
         each_of_named(plan, &action.up, visitor)?;
@@ -154,7 +159,8 @@ pub fn each_of_schedule<V: Visitor>(
     part: &SchedulePart,
     visitor: &mut V,
 ) -> Result<(), V::Stop>
-    ensures { OnOk result (FoldsTo V.meets visitor.old (scripts_effects plan.now (alternatives (scripts_of_part part.now))) visitor.new) }
+    ensures { OnOk result (FoldsTo V.meets visitor.old
+        (scripts_effects plan.now (alternatives (scripts_of_part part.now))) visitor.new) }
 {
     each_of_named(plan, &part.executed_script, visitor)?;
     each_of_scripts(plan, &part.menu, visitor)
@@ -166,7 +172,8 @@ fn each_of_scripts<V: Visitor>(
     scripts: &[ScriptRef],
     visitor: &mut V,
 ) -> Result<(), V::Stop>
-    ensures { OnOk result (FoldsTo V.meets visitor.old (scripts_effects plan.now scripts.now) visitor.new) }
+    ensures { OnOk result (FoldsTo V.meets visitor.old
+        (scripts_effects plan.now scripts.now) visitor.new) }
 {
     for script in scripts {
         each_of_named(plan, script, visitor)?;
@@ -180,7 +187,8 @@ fn each_of_named<V: Visitor>(
     script: &ScriptRef,
     visitor: &mut V,
 ) -> Result<(), V::Stop>
-    ensures { OnOk result (FoldsTo V.meets visitor.old (theory.effects_of_script plan.now script.now) visitor.new) }
+    ensures { OnOk result (FoldsTo V.meets visitor.old
+        (theory.effects_of_script plan.now script.now) visitor.new) }
 {
     each_of_script(&plan.instance(&script.table), script.script, visitor)
 }
@@ -188,8 +196,10 @@ fn each_of_named<V: Visitor>(
 /// The script of a table with this number, and where its targets begin among those to which the table refers; None for the
 /// null script and where there is no such script.
 fn script_at<'a>(table: &Instance<'a>, script: u16) -> Option<(usize, &'a Script)>
-    ensures found { option_map (λ s. script_of s.1.now) result ≡ named_script table.now.plan (record { table = table.now.name; script = script }) }
-    ensures targets { IfSome result (λ s. AreTargets table.now s.0 (map action_of s.1.now.actions.items)) }
+    ensures found { option_map (λ s. script_of s.1.now) result
+        ≡ named_script table.now.plan (record { table = table.now.name; script = script }) }
+    ensures targets { IfSome result (λ s. AreTargets table.now s.0
+        (map action_of s.1.now.actions.items)) }
     ensures few { IfSome result (λ s. s.0 ≤ 2048) }
 {
     table.plan().known();
@@ -223,8 +233,10 @@ fn each_of_table<V: Visitor>(
     visitor: &mut V,
 ) -> Result<(), V::Stop>
     requires few { AreFew scripts.now }
-    requires targets { AreTargets table.now 0 (flat_map (λ s. map action_of s.actions.items) scripts.now) }
-    ensures { OnOk result (FoldsTo V.meets visitor.old (all_scripts table.now.plan (map script_of scripts.now)) visitor.new) }
+    requires targets { AreTargets table.now 0
+        (flat_map (λ s. map action_of s.actions.items) scripts.now) }
+    ensures { OnOk result (FoldsTo V.meets visitor.old
+        (all_scripts table.now.plan (map script_of scripts.now)) visitor.new) }
 {
     let mut first = 0;
     for script in scripts {
@@ -243,7 +255,8 @@ fn each_of_actions<V: Visitor>(
 ) -> Result<(), V::Stop>
     requires targets { AreTargets table.now start (map action_of actions.now) }
     requires few { start ≤ 2048 }
-    ensures ok { OnOk result (FoldsTo V.meets visitor.old (theory.actions_effects table.now.plan (map action_of actions.now)) visitor.new) }
+    ensures ok { OnOk result (FoldsTo V.meets visitor.old
+        (theory.actions_effects table.now.plan (map action_of actions.now)) visitor.new) }
     ensures none { theory.actions_effects table.now.plan (map action_of actions.now) ≡ [] → IsOk result }
 {
     for (place, action) in actions.iter().enumerate() {
@@ -259,8 +272,10 @@ fn each_of_action<V: Visitor>(
     action: &Action,
     visitor: &mut V,
 ) -> Result<(), V::Stop>
-    requires { slice_get (references_at table.now.plan table.now.name) place ≡ Some (target (action_of action.now)) }
-    ensures ok { OnOk result (FoldsTo V.meets visitor.old (theory.action_effects table.now.plan (action_of action.now)) visitor.new) }
+    requires { slice_get (references_at table.now.plan table.now.name) place
+        ≡ Some (target (action_of action.now)) }
+    ensures ok { OnOk result (FoldsTo V.meets visitor.old
+        (theory.action_effects table.now.plan (action_of action.now)) visitor.new) }
     ensures none { theory.action_effects table.now.plan (action_of action.now) ≡ [] → IsOk result }
 {
     match action {
@@ -283,7 +298,8 @@ fn each_of_plain_method<V: Visitor>(
     method: u8,
     visitor: &mut V,
 ) -> Result<(), V::Stop>
-    ensures ok { OnOk result (FoldsTo V.meets visitor.old (theory.plain_method object.now.name object.now.part method) visitor.new) }
+    ensures ok { OnOk result (FoldsTo V.meets visitor.old
+        (theory.plain_method object.now.name object.now.part method) visitor.new) }
     ensures none { theory.plain_method object.now.name object.now.part method ≡ [] → IsOk result }
 {
     match plain_effect(object, method) {
@@ -294,7 +310,8 @@ fn each_of_plain_method<V: Visitor>(
 
 /// The effect of reset or capture of an object, or None where it has no such method.
 fn plain_effect(object: &Object, method: u8) -> Option<Planned<'_>>
-    ensures { for_some result (λ effect. planned_of effect ∷ []) ≡ theory.plain_method object.now.name object.now.part method }
+    ensures { for_some result (λ effect. planned_of effect ∷ [])
+        ≡ theory.plain_method object.now.name object.now.part method }
 {
     let name = object.name();
     match object.part() {

@@ -63,7 +63,8 @@ where
     ensures answers { Answers (F.may_read files.now) (asked_by command.entry)
         (record { unread = I.remaining input.old; written = O.contents output.old })
         (record { unread = I.remaining input.new; written = O.contents output.new }) result }
-    ensures quiet { is_quiet (Some (asked_by command.entry)) ≡ true → E.contents errors.new ≡ E.contents errors.old }
+    ensures quiet { is_quiet (Some (asked_by command.entry)) ≡ true →
+        E.contents errors.new ≡ E.contents errors.old }
 {
     let alloc = rt.alloc();
     match command {
@@ -201,7 +202,8 @@ fn list_edges_of_file<F: TextFiles, O: Write>(
     file: &str,
     output: &mut O,
 ) -> Outcome
-    ensures { ListsFile ListsEdges (F.may_read files.now) file.now (O.contents output.old) (O.contents output.new) result }
+    ensures { ListsFile ListsEdges
+        (F.may_read files.now) file.now (O.contents output.old) (O.contents output.new) result }
 {
     match text_of_file(alloc, files, file) {
         Ok(text) => list_edges(alloc, source_of(file, &text), output),
@@ -216,7 +218,8 @@ fn list_labels_of_file<F: TextFiles, O: Write>(
     file: &str,
     output: &mut O,
 ) -> Outcome
-    ensures { ListsFile ListsLabels (F.may_read files.now) file.now (O.contents output.old) (O.contents output.new) result }
+    ensures { ListsFile ListsLabels
+        (F.may_read files.now) file.now (O.contents output.old) (O.contents output.new) result }
 {
     match text_of_file(alloc, files, file) {
         Ok(text) => list_labels(alloc, source_of(file, &text), output),
@@ -249,7 +252,8 @@ where
     F: TextFiles,
     I: Read + Send,
     E: Write + Send,
-    ensures { ServesFiles (F.may_read files.now) config.now labels.now (I.remaining input.old) (I.remaining input.new) result }
+    ensures { ServesFiles (F.may_read files.now) config.now labels.now
+        (I.remaining input.old) (I.remaining input.new) result }
 {
     match accepted_of_files(rt.alloc(), files, config, labels) {
         Ok(checked) => ended(serve_at(rt, checked, place, input, errors)),
@@ -267,7 +271,8 @@ fn notice_files<F: TextFiles, I: Read, O: Write, E: Write>(
     output: &mut O,
     errors: &mut E,
 ) -> Outcome
-    ensures notices { NoticesFiles (F.may_read files.now) look.entry.config.now look.entry.labels.now look.entry.client.now
+    ensures notices { NoticesFiles (F.may_read files.now) look.entry.config.now
+        look.entry.labels.now look.entry.client.now
         (record { unread = I.remaining input.old; written = O.contents output.old })
         (record { unread = I.remaining input.new; written = O.contents output.new }) result }
     ensures quiet { look.entry.is_verbose ≡ false → E.contents errors.new ≡ E.contents errors.old }

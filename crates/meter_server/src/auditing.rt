@@ -88,7 +88,8 @@ pub(crate) fn is_accepted(verdict: &Verdict) -> bool
 
 /// The lines of these verdicts, each behind its name.
 fn text_of(alloc: Global, names: &[&str], verdicts: &[Verdict]) -> Result<String, Memory>
-    ensures { IfOk result (λ text. string_bytes text ≡ verdicts_text (map (λ name. name.now) names.now) verdicts.now) }
+    ensures { IfOk result (λ text. string_bytes text
+        ≡ verdicts_text (map (λ name. name.now) names.now) verdicts.now) }
 {
     let mut text = String::new(alloc);
     for (name, verdict) in names.iter().zip(verdicts) {
@@ -99,7 +100,8 @@ fn text_of(alloc: Global, names: &[&str], verdicts: &[Verdict]) -> Result<String
 
 /// Puts the line of a verdict, behind its name, behind the lines that are there.
 fn push_line(alloc: Global, name: &str, verdict: &Verdict, text: &mut String) -> Result<(), Memory>
-    ensures { OnOk result (string_bytes text.new ≡ string_bytes text.old ++ named_line name.now verdict.now) }
+    ensures { OnOk result (string_bytes text.new
+        ≡ string_bytes text.old ++ named_line name.now verdict.now) }
 {
     let line = verdict_text(alloc, verdict)?;
     text.push_str(name)?;

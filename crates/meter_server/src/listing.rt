@@ -53,7 +53,8 @@ pub(crate) fn write_edges<W: Write>(
     plan: &Plan,
     writer: &mut W,
 ) -> Result<(), ListFault>
-    ensures { WritesText (edges_text (edges plan.now)) (W.contents writer.old) (W.contents writer.new) result }
+    ensures { WritesText (edges_text (edges plan.now))
+        (W.contents writer.old) (W.contents writer.new) result }
 {
     let Ok(table) = edge_table(alloc, plan) else {
         return Err(ListFault::Memory);
@@ -85,7 +86,8 @@ fn write_links<W: Write>(
     writer: &mut W,
 ) -> Result<(), ListFault>
     requires { AreLinks (length texts.now) links.now }
-    ensures { WritesText (links_text (map (λ text. text.items) texts.now) links.now) (W.contents writer.old) (W.contents writer.new) result }
+    ensures { WritesText (links_text (map (λ text. text.items) texts.now) links.now)
+        (W.contents writer.old) (W.contents writer.new) result }
 {
     let mut waiting = Vec::new(alloc);
     for link in links {
@@ -106,7 +108,8 @@ fn write_links<W: Write>(
 fn push_link(texts: &[Vec<u8>], link: Link, waiting: &mut Vec<u8>) -> Result<(), Memory>
     requires source { link.source < length texts.now }
     requires target { link.target < length texts.now }
-    ensures { OnOk result (waiting.new.items ≡ waiting.old.items ++ link_text (map (λ text. text.items) texts.now) link) }
+    ensures { OnOk result (waiting.new.items
+        ≡ waiting.old.items ++ link_text (map (λ text. text.items) texts.now) link) }
 {
     waiting.extend_from_slice(&texts[link.source])?;
     waiting.extend_from_slice(b" -> ")?;

@@ -35,7 +35,8 @@ pub(crate) fn notice_lines<I: Read, O: Write, E: Write>(
     output: &mut O,
     errors: &mut E,
 ) -> Outcome
-    ensures notices { NoticesAs checked.now look.entry.client.now (client_named checked.now.plan look.entry.client.now)
+    ensures notices { NoticesAs checked.now look.entry.client.now
+        (client_named checked.now.plan look.entry.client.now)
         (record { unread = I.remaining input.old; written = O.contents output.old })
         (record { unread = I.remaining input.new; written = O.contents output.new }) result }
     ensures quiet { look.entry.is_verbose ≡ false → E.contents errors.new ≡ E.contents errors.old }

@@ -135,7 +135,8 @@ where
     // A wrong command line has status 2, unless memory was refused.
     ensures mistaken { AreMistaken (map string_bytes words.now) → (result ≡ 2) ⊎ (result ≡ 3) }
     // Help and the version have status 0, unless memory was refused or they can't be written.
-    ensures helped { AskForHelp (map string_bytes words.now) → (result ≡ 0) ⊎ (result ≡ 3) ⊎ (result ≡ 141) }
+    ensures helped { AskForHelp (map string_bytes words.now) →
+        (result ≡ 0) ⊎ (result ≡ 3) ⊎ (result ≡ 141) }
 {
     let outcome = asked(rt, files, words, input, output, errors);
     let outcome = with_verdict(rt.alloc(), outcome, output);
@@ -167,7 +168,8 @@ where
     ensures does { Does (F.may_read files.now) (map string_bytes words.now)
         (record { unread = I.remaining input.old; written = O.contents output.old })
         (record { unread = I.remaining input.new; written = O.contents output.new }) result }
-    ensures quiet { is_quiet (command_of (map string_bytes words.now)) ≡ true → E.contents errors.new ≡ E.contents errors.old }
+    ensures quiet { is_quiet (command_of (map string_bytes words.now)) ≡ true →
+        E.contents errors.new ≡ E.contents errors.old }
 {
     let Ok(texts) = texts_of(rt.alloc(), words) else {
         return Outcome::Words(WordsFault::Memory);
@@ -267,7 +269,8 @@ fn run_aloud<I: Read, O: Write, E: Write>(
 /// Writes the edges of a configuration on the output, and says how that ended: `Done`, a fault of the list, or the verdict where
 /// the configuration has a fault or memory was refused while it was read; then nothing was written.
 pub(crate) fn list_edges<O: Write>(alloc: Global, config: Source<'_>, output: &mut O) -> Outcome
-    ensures { ListsEdges config.entry (config_of config.entry.text.now) (O.contents output.old) (O.contents output.new) result }
+    ensures { ListsEdges config.entry
+        (config_of config.entry.text.now) (O.contents output.old) (O.contents output.new) result }
 {
     match read_config(alloc, config.text) {
         Ok((plan, _policy)) => listed(write_edges(alloc, &plan, output)),
@@ -277,7 +280,8 @@ pub(crate) fn list_edges<O: Write>(alloc: Global, config: Source<'_>, output: &m
 
 /// Writes the least labels of a configuration on the output, and says how that ended, as `list_edges` does.
 pub(crate) fn list_labels<O: Write>(alloc: Global, config: Source<'_>, output: &mut O) -> Outcome
-    ensures { ListsLabels config.entry (config_of config.entry.text.now) (O.contents output.old) (O.contents output.new) result }
+    ensures { ListsLabels config.entry
+        (config_of config.entry.text.now) (O.contents output.old) (O.contents output.new) result }
 {
     match read_config(alloc, config.text) {
         Ok((plan, _policy)) => listed(write_least_labels(alloc, &plan, output)),
@@ -293,7 +297,8 @@ pub(crate) fn explain_verdict(
     labels: Source<'_>,
     verdict: &Verdict,
 ) -> Result<String, Memory>
-    ensures { IfOk result (λ text. ExplainsVerdict config.entry labels.entry verdict.now (string_bytes text)) }
+    ensures { IfOk result (λ text. ExplainsVerdict config.entry labels.entry verdict.now
+        (string_bytes text)) }
 {
     match verdict {
         Verdict::Accepted => Ok(String::new(alloc)),

@@ -45,9 +45,10 @@ pub(crate) fn read_fleet<H: AllocGlobal + Threads + Sync, F: TextFiles + Sync>(
         alloc,
         names.len().div_ceil(each),
         &|number| -> Result<Vec<Text>, FleetFault>
-            ensures { MatchResult result
-                (λ texts. AllZip (AreTextsOf (F.may_read files.entry.now)) (map (λ name. name.now) (part names.entry.now each number)) texts.items)
-                (TellsFirst (F.may_read files.entry.now) (map (λ name. name.now) (part names.entry.now each number))) }
+            ensures { MatchResult result (λ texts. AllZip (AreTextsOf (F.may_read files.entry.now))
+                (map (λ name. name.now) (part names.entry.now each number)) texts.items)
+                (TellsFirst (F.may_read files.entry.now)
+                (map (λ name. name.now) (part names.entry.now each number))) }
         { read_part(alloc, files, part_of(names, each, number)) },
     ) else {
         return Err(FleetFault::Memory);
@@ -96,7 +97,8 @@ fn read_part<F: TextFiles>(
 
 /// The texts of the two files that a name stands for.
 fn read_named<F: TextFiles>(alloc: Global, files: &F, name: &str) -> Result<Text, FleetFault>
-    ensures { MatchResult result (AreTextsOf (F.may_read files.now) name.now) (TellsName (F.may_read files.now) name.now) }
+    ensures { MatchResult result (AreTextsOf (F.may_read files.now) name.now)
+        (TellsName (F.may_read files.now) name.now) }
 {
     let Ok(path) = format!(in alloc; "{name}.toml") else {
         return Err(FleetFault::Memory);

@@ -43,7 +43,8 @@ impl<'a, F: TextFiles> Sources<'a, F> {
         is_named: bool,
     ) -> Sources<'a, F>
         ensures files { result.files.now ≡ files.now }
-        ensures given { ReadsWhere is_named (I.remaining input.old) (I.remaining input.new) (option_map (given_of string_bytes) result.given) }
+        ensures given { ReadsWhere is_named (I.remaining input.old)
+            (I.remaining input.new) (option_map (given_of string_bytes) result.given) }
     {
         let given = if is_named {
             Some(read_input(alloc, input))
@@ -62,7 +63,8 @@ impl<'a, F: TextFiles> TextFiles for Sources<'a, F> {
     ghost use Rattle.std.specs.Prelude.{option_map, string_bytes};
     ghost use Rattle.meter_server.specs.Sources.{MayGive, given_of};
 
-    ghost may_read = { λ sources. MayGive (F.may_read sources.files.now) (option_map (given_of string_bytes) sources.given) };
+    ghost may_read = { λ sources. MayGive (F.may_read sources.files.now)
+        (option_map (given_of string_bytes) sources.given) };
 
     fn read(&self, path: &str) -> Result<String, FileFault> {
         let Some(given) = &self.given else {
@@ -78,7 +80,8 @@ impl<'a, F: TextFiles> TextFiles for Sources<'a, F> {
 
 /// The whole input as a text.
 fn read_input<I: Read>(alloc: Global, input: &mut I) -> Result<String, FileFault>
-    ensures { IfOk result (λ text. ReadsAll (string_bytes text) (I.remaining input.old) (I.remaining input.new)) }
+    ensures { IfOk result
+        (λ text. ReadsAll (string_bytes text) (I.remaining input.old) (I.remaining input.new)) }
 {
     let mut bytes = Vec::new(alloc);
     match input.read_to_end(&mut bytes) {
@@ -89,7 +92,8 @@ fn read_input<I: Read>(alloc: Global, input: &mut I) -> Result<String, FileFault
 
 /// A copy of what was given, or that memory was refused.
 fn copy_of(alloc: Global, given: &Result<String, FileFault>) -> Result<String, FileFault>
-    ensures { (given_of string_bytes result ≡ given_of string_bytes given.now) ⊎ (given_of string_bytes result ≡ Err FileFault.Memory) }
+    ensures { (given_of string_bytes result ≡ given_of string_bytes given.now)
+        ⊎ (given_of string_bytes result ≡ Err FileFault.Memory) }
 {
     match given {
         Ok(text) => match String::from_str(alloc, text.as_str()) {

@@ -79,7 +79,8 @@ pub fn translate<R: Read, W: Write>(
 
 /// All that the reader gives.
 fn read_all<R: Read>(alloc: Global, reader: &mut R) -> Result<Vec<u8>, TranslationFault>
-    ensures all { IfOk result (λ text. ReadsAll text.items (R.remaining reader.old) (R.remaining reader.new)) }
+    ensures all { IfOk result (λ text. ReadsAll text.items
+        (R.remaining reader.old) (R.remaining reader.new)) }
     ensures err { spec.IsUnread result }
 {
     let mut text = Vec::new(alloc);

@@ -32,10 +32,11 @@ ghost use Rattle.meter_theory.specs.Notice.{behind_guards, may_put, MayNotice, f
 /// Where the effects of a sound plan keep their laws, and it is admitted, it keeps what its policy, and what its labels, promise
 /// about who influences a cell, and keeps from each client what they hide from it.
 pub fn lawful_effects_keep_promises()
-    ensures influence { (P : Plan) (policy : Labelling) (labels : Labels) → IsSound P → EffectLaws P → Admits P policy labels →
+    ensures influence { (P : Plan) (policy : Labelling) (labels : Labels) →
+        IsSound P → EffectLaws P → Admits P policy labels →
         Influence P policy × Influence P (labelling_of labels) }
-    ensures secrecy { (P : Plan) (policy : Labelling) (labels : Labels) → IsSound P → EffectLaws P → Admits P policy labels →
-        Secrecy P policy × Secrecy P (labelling_of labels) }
+    ensures secrecy { (P : Plan) (policy : Labelling) (labels : Labels) → IsSound P → EffectLaws P →
+        Admits P policy labels → Secrecy P policy × Secrecy P (labelling_of labels) }
 {}
 
 /// Where the effects of a plan keep their laws, states that agree on a closed set of cells agree on it after each step.
@@ -48,17 +49,20 @@ pub fn lawful_effects_keep_agreement()
 /// has the same effects.
 pub fn guards_lie_in_closed_sets()
     ensures { (P : Plan) (S : CellRef → Bool) → IsClosed P S → (s t : State) → Agree S s t →
-        (step : Step) (x : CellRef) → IsIn (behind_guards P step) x → S x ≡ true → effects_of P s step ≡ effects_of P t step }
+        (step : Step) (x : CellRef) → IsIn (behind_guards P step) x → S x ≡ true →
+        effects_of P s step ≡ effects_of P t step }
 {}
 
 /// Where the effects of a plan keep their laws, a step changes only cells that it may put, so that a step of which a client could
 /// notice nothing is quiet for it, in states of any values; and the first notice is told exactly where there is one.
 pub fn steps_change_what_they_may_put()
-    ensures changed { (P : Plan) (s : State) (step : Step) (x : CellRef) → EffectLaws P → value (next P s step) x ≢ value s x →
-        IsIn (may_put P step) x }
-    ensures quiet { (P : Plan) (Q : Labelling) (c : ℕ) (step : Step) → EffectLaws P → (MayNotice P Q c step → ⊥) →
+    ensures changed { (P : Plan) (s : State) (step : Step) (x : CellRef) → EffectLaws P →
+        value (next P s step) x ≢ value s x → IsIn (may_put P step) x }
+    ensures quiet { (P : Plan) (Q : Labelling) (c : ℕ) (step : Step) →
+        EffectLaws P → (MayNotice P Q c step → ⊥) →
         IsQuiet (HasCells P) P Q c step × IsQuiet (IsState P) P Q c step }
-    ensures told { (P : Plan) (Q : Labelling) (c : ℕ) (step : Step) → (is_some (first_notice P Q c step) ≡ true ↔ MayNotice P Q c step) }
+    ensures told { (P : Plan) (Q : Labelling) (c : ℕ) (step : Step) →
+        (is_some (first_notice P Q c step) ≡ true ↔ MayNotice P Q c step) }
 {}
 
 /// Lists of one length that differ, place by place, only in what is hidden from a client are alike to it.
@@ -77,58 +81,68 @@ pub fn edges_are_listed()
 pub fn tests_decide_admission()
     ensures decided { (P : Plan) (policy : Labelling) (labels : Labels) → IsSound P →
         (AllPass P policy labels ↔ Admits P policy labels) }
-    ensures refused { (P : Plan) (policy : Labelling) (labels : Labels) (r : Refusal) → IsSound P → Refuses P policy labels r →
-        Admits P policy labels → ⊥ }
-    ensures unique { (P : Plan) (policy : Labelling) (labels : Labels) (r q : Refusal) → Refuses P policy labels r →
-        Refuses P policy labels q → r ≡ q }
+    ensures refused { (P : Plan) (policy : Labelling) (labels : Labels) (r : Refusal) → IsSound P →
+        Refuses P policy labels r → Admits P policy labels → ⊥ }
+    ensures unique { (P : Plan) (policy : Labelling) (labels : Labels) (r q : Refusal) →
+        Refuses P policy labels r → Refuses P policy labels q → r ≡ q }
 {}
 
 /// Where the least labels of a plan are refused for a policy, no labels are admitted for it: the configuration or the policy
 /// has to change.
 pub fn least_labels_decide()
-    ensures admits { (P : Plan) (policy : Labelling) (least labels : Labels) → AreLeast P least → Admits P policy labels →
-        Admits P policy least }
-    ensures refused { (P : Plan) (policy : Labelling) (least labels : Labels) (r : Refusal) → IsSound P → AreLeast P least →
-        Refuses P policy least r → Admits P policy labels → ⊥ }
+    ensures admits { (P : Plan) (policy : Labelling) (least labels : Labels) → AreLeast P least →
+        Admits P policy labels → Admits P policy least }
+    ensures refused { (P : Plan) (policy : Labelling) (least labels : Labels) (r : Refusal) →
+        IsSound P → AreLeast P least → Refuses P policy least r → Admits P policy labels → ⊥ }
 {}
 
 /// The test of the rights that change a cell tells who has one, and a right to a method changes cells of the plan alone.
 pub fn rights_to_change_are_tested()
-    ensures tested { (P : Plan) (c : ℕ) (x : CellRef) → IsIn (cells P) x → (may_change P c x ≡ true ↔ MayChange P c x) }
-    ensures cells { (P : Plan) (m : MethodRef) (x : CellRef) → IsSound P → IsIn (method_changes_of P m) x → IsIn (cells P) x }
+    ensures tested { (P : Plan) (c : ℕ) (x : CellRef) → IsIn (cells P) x →
+        (may_change P c x ≡ true ↔ MayChange P c x) }
+    ensures cells { (P : Plan) (m : MethodRef) (x : CellRef) → IsSound P →
+        IsIn (method_changes_of P m) x → IsIn (cells P) x }
 {}
 
 /// A state is a map with fixed cells.
 pub fn states_are_maps()
     ensures itself { (s : State) (x : CellRef) → put s x (value s x) ≡ s }
     ensures twice { (s : State) (x : CellRef) (v w : Tree) → put (put s x v) x w ≡ put s x w }
-    ensures swap { (s : State) (x y : CellRef) (v w : Tree) → same_cell x y ≡ false → put (put s x v) y w ≡ put (put s y w) x v }
+    ensures swap { (s : State) (x y : CellRef) (v w : Tree) → same_cell x y ≡ false →
+        put (put s x v) y w ≡ put (put s y w) x v }
     ensures cells { (s : State) (x : CellRef) (v : Tree) → keys (put s x v) ≡ keys s }
 {}
 
 /// A sound plan's cells start with values of the declared kinds, and each step and each run keeps them.
 pub fn states_are_kept()
     ensures start { (P : Plan) → IsSound P → IsState P (start P) }
-    ensures step { (P : Plan) (s : State) (step : Step) → IsSound P → IsState P s → IsState P (next P s step) }
-    ensures run { (P : Plan) (s : State) (l : List Step) → IsSound P → IsState P s → IsState P (run P s l) }
+    ensures step { (P : Plan) (s : State) (step : Step) → IsSound P → IsState P s →
+        IsState P (next P s step) }
+    ensures run { (P : Plan) (s : State) (l : List Step) → IsSound P → IsState P s →
+        IsState P (run P s l) }
 {}
 
 /// Every value that a sound plan's meter answers can be written: its lengths and counts fit four bytes.
 pub fn replies_can_be_written()
-    ensures { (P : Plan) (s : State) (step : Step) (v : Tree) → IsSound P → IsState P s → reply_to P s step ≡ Value v →
-        HasLengths v }
+    ensures { (P : Plan) (s : State) (step : Step) (v : Tree) → IsSound P → IsState P s →
+        reply_to P s step ≡ Value v → HasLengths v }
 {}
 
 /// The inner clock is looked at: behind a moment that it is set to, a profile captures and a schedule runs its script exactly where
 /// the one is due at that moment, and no cell of the plan has changed. Where a plan has a clock, nothing sets an inner one.
 pub fn moments_are_looked_at()
-    ensures capture { (P : Plan) (s : State) (t : Moment) (n : LogicalName) → clock_object P ≡ None → HasCells P s → IsMoment t →
-        effects_of P (next P s (ClockAt t)) (CaptureAt n) ≡ for_some (object_at P n) (λ o. captured_at s n t o.part) }
-    ensures schedule { (P : Plan) (s : State) (t : Moment) (n : LogicalName) → clock_object P ≡ None → HasCells P s → IsMoment t →
-        effects_of P (next P s (ClockAt t)) (ScheduleAt n) ≡ for_some (object_at P n) (λ o. scheduled_at P s n t o.part) }
+    ensures capture { (P : Plan) (s : State) (t : Moment) (n : LogicalName) →
+        clock_object P ≡ None → HasCells P s → IsMoment t →
+        effects_of P (next P s (ClockAt t)) (CaptureAt n)
+        ≡ for_some (object_at P n) (λ o. captured_at s n t o.part) }
+    ensures schedule { (P : Plan) (s : State) (t : Moment) (n : LogicalName) →
+        clock_object P ≡ None → HasCells P s → IsMoment t →
+        effects_of P (next P s (ClockAt t)) (ScheduleAt n)
+        ≡ for_some (object_at P n) (λ o. scheduled_at P s n t o.part) }
     ensures cells { (P : Plan) (s : State) (t : Moment) (x : CellRef) → IsIn (cells P) x →
         value (next P s (ClockAt t)) x ≡ value s x }
-    ensures clock { (P : Plan) (s : State) (t : Moment) (o : Object) → clock_object P ≡ Some o → next P s (ClockAt t) ≡ s }
+    ensures clock { (P : Plan) (s : State) (t : Moment) (o : Object) → clock_object P ≡ Some o →
+        next P s (ClockAt t) ≡ s }
 {}
 
 /// The time of a clock says its moment, and what is kept is kept as it is.
@@ -140,36 +154,43 @@ pub fn clocks_keep_moments()
 /// A tick leads from a moment to the one a second later, and leaves the last.
 pub fn ticks_add_a_second()
     ensures moment { (t : Moment) → IsMoment t → IsMoment (next_second t) }
-    ensures second { (t : Moment) → IsMoment t → t ≢ last_moment → seconds_since_2000 (next_second t) ≡ seconds_since_2000 t + 1 }
+    ensures second { (t : Moment) → IsMoment t → t ≢ last_moment →
+        seconds_since_2000 (next_second t) ≡ seconds_since_2000 t + 1 }
     ensures last { next_second last_moment ≡ last_moment }
 {}
 
 /// Where there is no menu all is as if there were none at all: the attribute is no cell and takes no value, what it holds is
 /// what is configured, no edge has it as its source, and a write of a cell changes that cell alone.
 pub fn attributes_without_menus_are_fixed()
-    ensures captures { (s : State) (n : LogicalName) (c : Choice (List CellRef)) → has_menu c ≡ false →
-        captured_in s n c ≡ c.configured }
-    ensures runs { (s : State) (n : LogicalName) (c : Choice ScriptRef) → has_menu c ≡ false → script_now s n c ≡ c.configured }
-    ensures profile { (n : LogicalName) (c : Choice (List CellRef)) (period entries : ℕ) → has_menu c ≡ false →
-        plans.start_of n (plans.ProfileGeneric c period entries)
-        ≡ (plans.buffer n, array no_trees) ∷ (plans.capture_period n, counter period)
-        ∷ (plans.entries_in_use n, counter 0) ∷ [] }
-    ensures schedule { (n : LogicalName) (c : Choice ScriptRef) (type : ℕ) (times : Tree) → has_menu c ≡ false →
-        plans.start_of n (plans.SingleActionSchedule c type times) ≡ (plans.execution_time n, times) ∷ [] }
-    ensures objects_rule { (P : Plan) (c : Choice (List CellRef)) (period entries : ℕ) → has_menu c ≡ false →
-        plans.rule_in P (plans.ProfileGeneric c period entries) 3 ≡ None }
-    ensures script_rule { (P : Plan) (c : Choice ScriptRef) (type : ℕ) (times : Tree) → has_menu c ≡ false →
-        plans.rule_in P (plans.SingleActionSchedule c type times) 2 ≡ None }
-    ensures profile_edges { (P : Plan) (n : LogicalName) (c : Choice (List CellRef)) (period entries : ℕ) → has_menu c ≡ false →
+    ensures captures { (s : State) (n : LogicalName) (c : Choice (List CellRef)) →
+        has_menu c ≡ false → captured_in s n c ≡ c.configured }
+    ensures runs { (s : State) (n : LogicalName) (c : Choice ScriptRef) → has_menu c ≡ false →
+        script_now s n c ≡ c.configured }
+    ensures profile { (n : LogicalName) (c : Choice (List CellRef)) (period entries : ℕ) →
+        has_menu c ≡ false →
+        plans.start_of n (plans.ProfileGeneric c period entries) ≡ (plans.buffer n, array no_trees)
+        ∷ (plans.capture_period n, counter period) ∷ (plans.entries_in_use n, counter 0) ∷ [] }
+    ensures schedule { (n : LogicalName) (c : Choice ScriptRef) (type : ℕ) (times : Tree) →
+        has_menu c ≡ false → plans.start_of n (plans.SingleActionSchedule c type times)
+        ≡ (plans.execution_time n, times) ∷ [] }
+    ensures objects_rule { (P : Plan) (c : Choice (List CellRef)) (period entries : ℕ) →
+        has_menu c ≡ false → plans.rule_in P (plans.ProfileGeneric c period entries) 3 ≡ None }
+    ensures script_rule { (P : Plan) (c : Choice ScriptRef) (type : ℕ) (times : Tree) →
+        has_menu c ≡ false → plans.rule_in P (plans.SingleActionSchedule c type times) 2 ≡ None }
+    ensures profile_edges { (P : Plan) (n : LogicalName) (c : Choice (List CellRef))
+        (period entries : ℕ) → has_menu c ≡ false →
         edges_in P n (plans.ProfileGeneric c period entries)
         ≡ map (λ x. edge causes.Captured x (plans.buffer n)) c.configured
         ++ edge causes.Period (plans.capture_period n) (plans.buffer n)
         ∷ edge causes.Period (plans.capture_period n) (plans.entries_in_use n)
         ∷ edges_from_clock P (plans.buffer n ∷ plans.entries_in_use n ∷ []) }
-    ensures schedule_edges { (P : Plan) (n : LogicalName) (c : Choice ScriptRef) (type : ℕ) (times : Tree) → has_menu c ≡ false →
+    ensures schedule_edges { (P : Plan) (n : LogicalName) (c : Choice ScriptRef)
+        (type : ℕ) (times : Tree) → has_menu c ≡ false →
         edges_in P n (plans.SingleActionSchedule c type times)
-        ≡ map (λ y. edge causes.Schedule (plans.execution_time n) y) (in_plan_order P (script_changes P c.configured))
+        ≡ map (λ y. edge causes.Schedule (plans.execution_time n) y)
+        (in_plan_order P (script_changes P c.configured))
         ++ edges_from_clock P (in_plan_order P (script_changes P c.configured)) }
-    ensures writes { (P : Plan) → HasNoMenus P → (x : CellRef) → IsIn (cells P) x → (s : State) (v : Tree) →
+    ensures writes { (P : Plan) → HasNoMenus P →
+        (x : CellRef) → IsIn (cells P) x → (s : State) (v : Tree) →
         (write s x v ≡ put s x (kept x v)) × (changed_by_write x ≡ x ∷ []) }
 {}

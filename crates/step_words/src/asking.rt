@@ -72,7 +72,8 @@ fn entries_of(text: &[u8]) -> Result<(EntryDescriptor, &[u8]), Stop<Asked>>
 
 /// The parameter of a selection by entry.
 fn parameter_of(alloc: Global, entries: EntryDescriptor) -> Result<Argument, Memory>
-    ensures is { IfOk result (λ x. x ≡ Argument.Value (data_of (spec.parameter_of (descriptor_view entries)))) }
+    ensures is { IfOk result (λ x. x
+        ≡ Argument.Value (data_of (spec.parameter_of (descriptor_view entries)))) }
     ensures sent { IfOk result (λ x. IsWritableValue x × IsArgumentInRange x) }
 {
     let parts = vec![in alloc;

@@ -77,7 +77,8 @@ fn service_words(code: u8) -> Option<&'static [u8]>
 
 /// A copy of words, if there are any.
 fn copied(alloc: Global, words: Option<&[u8]>) -> Result<Option<Vec<u8>>, Memory>
-    ensures { IfOk result (λ found. option_map (λ x. x.items) found ≡ option_map (λ x. x.now) words.entry) }
+    ensures { IfOk result (λ found. option_map (λ x. x.items) found
+        ≡ option_map (λ x. x.now) words.entry) }
 {
     let Some(words) = words else {
         return Ok(None);
@@ -89,7 +90,8 @@ fn copied(alloc: Global, words: Option<&[u8]>) -> Result<Option<Vec<u8>>, Memory
 
 /// An exception-response by the names of its two errors.
 fn exception_words(alloc: Global, state: u8, service: u8) -> Result<Option<Vec<u8>>, Memory>
-    ensures { IfOk result (λ found. option_map (λ x. x.items) found ≡ spec.exception_words state service) }
+    ensures { IfOk result (λ found. option_map (λ x. x.items) found
+        ≡ spec.exception_words state service) }
 {
     let (Some(state), Some(service)) = (state_words(state), service_words(service)) else {
         return Ok(None);
@@ -180,7 +182,8 @@ fn answer_words(alloc: Global, tag: u8, rest: &[u8]) -> Result<Option<Vec<u8>>, 
 
 /// The invoke byte behind words, if there are any.
 fn invoked(alloc: Global, invoke: u8, words: Option<Vec<u8>>) -> Result<Option<Vec<u8>>, Memory>
-    ensures { IfOk result (λ found. option_map (λ x. x.items) found ≡ spec.invoked invoke (option_map (λ x. x.items) words)) }
+    ensures { IfOk result (λ found. option_map (λ x. x.items) found
+        ≡ spec.invoked invoke (option_map (λ x. x.items) words)) }
 {
     let Some(mut words) = words else {
         return Ok(None);

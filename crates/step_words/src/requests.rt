@@ -40,7 +40,8 @@ fn push_named(
 
 /// The entries and the columns that are asked for.
 fn push_entries(alloc: Global, entries: EntryDescriptor, text: &mut Vec<u8>) -> Result<(), Memory>
-    ensures { OnOk result (text.new.items ≡ text.old.items ++ spec.entries_words (descriptor_view entries)) }
+    ensures { OnOk result (text.new.items
+        ≡ text.old.items ++ spec.entries_words (descriptor_view entries)) }
 {
     let EntryDescriptor {
         from_entry,
@@ -90,7 +91,8 @@ fn get_words(
     attribute: &Descriptor,
     selection: &Option<(u8, Argument)>,
 ) -> Result<Option<Vec<u8>>, Memory>
-    ensures { IfOk result (λ found. option_map (λ words. words.items) found ≡ spec.get_words invoke attribute.now selection.now) }
+    ensures { IfOk result (λ found. option_map (λ words. words.items) found
+        ≡ spec.get_words invoke attribute.now selection.now) }
 {
     let mut words = Vec::new(alloc);
     push_named(alloc, b"get ", attribute, &mut words)?;
@@ -112,7 +114,9 @@ fn given_words(
     value: &Data,
     invoke: u8,
 ) -> Result<Vec<u8>, Memory>
-    ensures { IfOk result (λ words. words.items ≡ (spec.named_words service.now named.now ++ spec.given_words (tree value.now)) ++ spec.invoke_words invoke) }
+    ensures { IfOk result (λ words. words.items
+        ≡ (spec.named_words service.now named.now ++ spec.given_words (tree value.now))
+        ++ spec.invoke_words invoke) }
 {
     let mut words = Vec::new(alloc);
     push_named(alloc, service, named, &mut words)?;
@@ -123,7 +127,8 @@ fn given_words(
 
 /// The words of a request, if it has any.
 pub(crate) fn request_words(alloc: Global, request: &Request) -> Result<Option<Vec<u8>>, Memory>
-    ensures { IfOk result (λ found. option_map (λ words. words.items) found ≡ spec.request_words request.now) }
+    ensures { IfOk result (λ found. option_map (λ words. words.items) found
+        ≡ spec.request_words request.now) }
 {
     match request {
         Request::Get {

@@ -171,7 +171,8 @@ pub(crate) fn decoded_step(alloc: Global, text: &[u8]) -> Result<Vec<u8>, Stop<A
 /// `Memory` where memory is refused; the text is then as it was.
 pub fn push_step(alloc: Global, line: &[u8], text: &mut Vec<u8>) -> Result<bool, Memory>
     ensures told { IfOk result (λ told. told ≡ is_ok (spec.decoded_step line.now)) }
-    ensures ok { OnOk result (text.new.items ≡ text.old.items ++ result_unwrap_or (spec.decoded_step line.now) []) }
+    ensures ok { OnOk result (text.new.items
+        ≡ text.old.items ++ result_unwrap_or (spec.decoded_step line.now) []) }
     ensures err { OnErr result (text.new.items ≡ text.old.items) }
 {
     match decoded_step(alloc, line) {

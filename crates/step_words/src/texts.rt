@@ -121,7 +121,8 @@ fn line_of(alloc: Global, way: Way, text: &[u8]) -> Result<Vec<u8>, Stop<Asked>>
 
 /// What is made of the line with this number.
 fn numbered(alloc: Global, way: Way, number: u64, line: &[u8]) -> Result<Vec<u8>, TextFault>
-    ensures { Gives (λ x. x.items) result (spec.placed number (length line.now) (spec.line_at way line.now)) }
+    ensures { Gives (λ x. x.items) result (spec.placed number
+        (length line.now) (spec.line_at way line.now)) }
 {
     match line_of(alloc, way, line) {
         Ok(made) => Ok(made),
@@ -145,7 +146,8 @@ fn end_of_line(text: &[u8]) -> Option<usize>
 /// The first line and what stands behind its newline, where it has one.
 fn first_line(text: &[u8]) -> Option<(&[u8], &[u8])>
     ensures last { IfNone result (slice_split (λ b. b == 10) text.now ≡ text.now ∷ []) }
-    ensures more { IfSome result (λ x. slice_split (λ b. b == 10) text.now ≡ x.0.now ∷ slice_split (λ b. b == 10) x.1.now) }
+    ensures more { IfSome result (λ x. slice_split (λ b. b == 10) text.now
+        ≡ x.0.now ∷ slice_split (λ b. b == 10) x.1.now) }
     ensures shorter { IfSome result (λ x. length x.1.now < length text.now) }
 {
     let Some(end) = end_of_line(text) else {

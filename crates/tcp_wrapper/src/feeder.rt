@@ -68,10 +68,12 @@ impl Feeder {
         // Whatever came before: the frames given so far are the whole frames of all bytes fed so far, and then less than a frame is
         // held, or a fault stands next.
         ensures so_far { IfSome self.old (λ held. (before : List ℕ) (given : List MessageValue) →
-            Splits before given held → Reads (before ++ piece.now) (given ++ result.frames.items) result.fault self.new) }
+            Splits before given held →
+            Reads (before ++ piece.now) (given ++ result.frames.items) result.fault self.new) }
 
         // Where a wrong header stands next, that is the fault, unless memory runs out.
-        ensures exact { IfSome self.old (λ held. (frames : List MessageValue) (rest : List ℕ) (fault : FaultValue) →
+        ensures exact { IfSome self.old (λ held.
+            (frames : List MessageValue) (rest : List ℕ) (fault : FaultValue) →
             Splits (held ++ piece.now) frames rest → Refuses fault rest →
             (result.fault ≡ Some fault) ⊎ (result.fault ≡ Some WrapFault.Memory)) }
 
@@ -85,7 +87,9 @@ impl Feeder {
             Splits (held ++ piece.now) frames rest → IsPartial rest →
             ((self.new ≡ Some rest) × (result.fault ≡ None)) ⊎ (result.fault ≡ Some WrapFault.Memory)) }
 
-        ensures failed { IsNone self.old → (self.new ≡ None) × (result.frames.items ≡ []) × (result.fault ≡ Some WrapFault.Failed) }
+        ensures failed { IsNone self.old → (self.new ≡ None)
+            × (result.frames.items ≡ [])
+            × (result.fault ≡ Some WrapFault.Failed) }
     {
         let mut frames = Vec::new(alloc);
         let fault = self.take_messages(alloc, piece, &mut frames).err();
@@ -99,10 +103,12 @@ impl Feeder {
         piece: &[u8],
         messages: &mut Vec<Message>,
     ) -> Result<(), WrapFault>
-        ensures so_far { IfSome self.old (λ held. (before : List ℕ) → Splits before messages.old.items held →
+        ensures so_far { IfSome self.old (λ held. (before : List ℕ) →
+            Splits before messages.old.items held →
             Reads (before ++ piece.now) messages.new.items (result_err result) self.new) }
-        ensures failed { IsNone self.old →
-            (self.new ≡ None) × (messages.new.items ≡ messages.old.items) × (result_err result ≡ Some WrapFault.Failed) }
+        ensures failed { IsNone self.old → (self.new ≡ None)
+            × (messages.new.items ≡ messages.old.items)
+            × (result_err result ≡ Some WrapFault.Failed) }
     {
         if self.is_failed {
             return Err(WrapFault::Failed);
@@ -127,8 +133,10 @@ fn take_all(
     ensures partial { OnOk result (IsPartial held.new.items) }
     ensures ok { OnOk result ((before : List ℕ) → Splits before messages.old.items held.old.items →
         Splits (before ++ piece.now) messages.new.items held.new.items) }
-    ensures err { IfErr result (λ fault. (before : List ℕ) → Splits before messages.old.items held.old.items →
-        (rest : List ℕ) × Splits (before ++ piece.now) messages.new.items rest × Causes fault rest) }
+    ensures err { IfErr result (λ fault. (before : List ℕ) →
+        Splits before messages.old.items held.old.items →
+        (rest : List ℕ) × Splits (before ++ piece.now) messages.new.items rest
+        × Causes fault rest) }
 {
     let mut rest = piece;
     while !rest.is_empty() {

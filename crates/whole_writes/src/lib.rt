@@ -17,7 +17,9 @@ pub struct WriteFailed;
 pub fn write_whole<W: Write>(writer: &mut W, bytes: &[u8]) -> Result<(), WriteFailed>
     ensures ok { OnOk result (Appends (W.contents writer.old) (W.contents writer.new) bytes.now) }
     // A beginning was written, and something is left.
-    ensures err { OnErr result ((front : List ℕ) × (left : List ℕ) × (bytes.now ≡ front ++ left) × Appends (W.contents writer.old) (W.contents writer.new) front × (0 < length left)) }
+    ensures err { OnErr result ((front : List ℕ) × (left : List ℕ) × (bytes.now ≡ front ++ left)
+        × Appends (W.contents writer.old) (W.contents writer.new) front
+        × (0 < length left)) }
 {
     let mut rest = bytes;
     while !rest.is_empty() {
@@ -32,9 +34,13 @@ pub fn write_whole<W: Write>(writer: &mut W, bytes: &[u8]) -> Result<(), WriteFa
 /// Writes the texts that wait, and none waits then: what a write that fails leaves is lost, and is not tried again.
 pub fn write_waiting<W: Write>(waiting: &mut Vec<u8>, writer: &mut W) -> Result<(), WriteFailed>
     ensures emptied { waiting.new.items ≡ [] }
-    ensures ok { OnOk result (Appends (W.contents writer.old) (W.contents writer.new) waiting.old.items) }
+    ensures ok { OnOk result
+        (Appends (W.contents writer.old) (W.contents writer.new) waiting.old.items) }
     // A beginning was written, and something is left.
-    ensures err { OnErr result ((front : List ℕ) × (left : List ℕ) × (waiting.old.items ≡ front ++ left) × Appends (W.contents writer.old) (W.contents writer.new) front × (0 < length left)) }
+    ensures err { OnErr result ((front : List ℕ)
+        × (left : List ℕ) × (waiting.old.items ≡ front ++ left)
+        × Appends (W.contents writer.old) (W.contents writer.new) front
+        × (0 < length left)) }
 {
     let written = write_whole(writer, waiting);
     waiting.clear();
@@ -44,10 +50,15 @@ pub fn write_waiting<W: Write>(waiting: &mut Vec<u8>, writer: &mut W) -> Result<
 /// Writes the texts that wait, where they are more than 64 KiB.
 pub fn write_full<W: Write>(waiting: &mut Vec<u8>, writer: &mut W) -> Result<(), WriteFailed>
     // A front was written, and what is left waits.
-    ensures ok { OnOk result ((front : List ℕ) × Appends (W.contents writer.old) (W.contents writer.new) front × (waiting.old.items ≡ front ++ waiting.new.items)) }
+    ensures ok { OnOk result ((front : List ℕ)
+        × Appends (W.contents writer.old) (W.contents writer.new) front
+        × (waiting.old.items ≡ front ++ waiting.new.items)) }
     ensures few { OnOk result (length waiting.new.items ≤ 65536) }
     // A beginning was written, and something is left, which is lost.
-    ensures err { OnErr result ((front : List ℕ) × (left : List ℕ) × (waiting.old.items ≡ front ++ left) × Appends (W.contents writer.old) (W.contents writer.new) front × (0 < length left)) }
+    ensures err { OnErr result ((front : List ℕ)
+        × (left : List ℕ) × (waiting.old.items ≡ front ++ left)
+        × Appends (W.contents writer.old) (W.contents writer.new) front
+        × (0 < length left)) }
     ensures emptied { OnErr result (waiting.new.items ≡ []) }
 {
     if waiting.len() > FULL {

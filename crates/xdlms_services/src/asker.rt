@@ -39,7 +39,8 @@ pub trait Asker {
     /// `Memory` where memory is refused. Where it was refused to the APDU, the step was taken, and its reply is lost.
     fn put_reply(&mut self, alloc: Global, asking: Asking, out: &mut Vec<u8>) -> Result<(), Memory>
         requires { IsServiceOf (step_of asking.step) asking.service }
-        ensures reply_put { OnOk result (PutsReply answers self.old self.new (asked asking) out.old.items out.new.items) }
+        ensures reply_put { OnOk result (PutsReply answers self.old self.new
+            (asked asking) out.old.items out.new.items) }
         ensures reply_lost { OnErr result (LosesReply answers self.old self.new (asked asking)) }
         ensures same_plan { plan_of self.new ≡ plan_of self.old }
     {

@@ -62,7 +62,8 @@ impl Model for LongGet {
 
     ghost Value = { Transfer };
 
-    ghost view = { λ a. record { unsent = drop a.sent a.encoding.items; number = a.number; limit = a.limit } };
+    ghost view = { λ a.
+        record { unsent = drop a.sent a.encoding.items; number = a.number; limit = a.limit } };
 
     ghost invariant = { λ a. IsLongGet a.encoding.items a.sent a.number a.limit };
 }

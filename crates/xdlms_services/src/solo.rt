@@ -106,9 +106,11 @@ fn put_answer(
     requires state { IsState plan.now meter.old }
     requires service { IsServiceOf (step_of asking.now.step) asking.now.service }
     ensures state { IsState plan.now meter.new }
-    ensures reply { OnOk result (out.new.items ≡ out.old.items ++ apdu_of (asked asking.now) (reply_to plan.now meter.old (step_of asking.now.step))) }
+    ensures reply { OnOk result (out.new.items ≡ out.old.items
+        ++ apdu_of (asked asking.now) (reply_to plan.now meter.old (step_of asking.now.step))) }
     ensures next { OnOk result (meter.new ≡ next plan.now meter.old (step_of asking.now.step)) }
-    ensures err { OnErr result ((meter.new ≡ meter.old) ⊎ (meter.new ≡ next plan.now meter.old (step_of asking.now.step))) }
+    ensures err { OnErr result ((meter.new ≡ meter.old)
+        ⊎ (meter.new ≡ next plan.now meter.old (step_of asking.now.step))) }
 {
     plan.known();
     match &asking.step {

@@ -58,8 +58,10 @@ pub fn write_reply(
 ) -> Result<(), Memory>
     requires { CanWrite service reply.now }
     // Of the forms of the reply it is the shortest.
-    ensures shortest { OnOk result (out.new.items ≡ out.old.items ++ canonical_reply service invoke reply.now) }
-    ensures form { OnOk result (IsReply service invoke reply.now (canonical_reply service invoke reply.now)) }
+    ensures shortest { OnOk result (out.new.items
+        ≡ out.old.items ++ canonical_reply service invoke reply.now) }
+    ensures form { OnOk result (IsReply service invoke reply.now
+        (canonical_reply service invoke reply.now)) }
     ensures err { OnErr result (out.new.items ≡ out.old.items) }
 {
     match (service, reply) {
@@ -76,8 +78,10 @@ pub fn write_reply(
 /// `Memory` where memory is refused; the vector then has what it had before.
 pub fn write_shown(invoke: u8, shown: &Shown<'_>, out: &mut Vec<u8>) -> Result<(), Memory>
     requires { CanReply Service.Get (shown_of shown.now) }
-    ensures shortest { OnOk result (out.new.items ≡ out.old.items ++ reply_bytes Service.Get invoke (shown_of shown.now)) }
-    ensures form { OnOk result (IsResponse Service.Get invoke (shown_of shown.now) (reply_bytes Service.Get invoke (shown_of shown.now))) }
+    ensures shortest { OnOk result (out.new.items
+        ≡ out.old.items ++ reply_bytes Service.Get invoke (shown_of shown.now)) }
+    ensures form { OnOk result (IsResponse Service.Get invoke
+        (shown_of shown.now) (reply_bytes Service.Get invoke (shown_of shown.now))) }
     ensures err { OnErr result (out.new.items ≡ out.old.items) }
 {
     match shown {
@@ -92,8 +96,10 @@ pub fn write_shown(invoke: u8, shown: &Shown<'_>, out: &mut Vec<u8>) -> Result<(
 #[tactic(auto, using(cosem_axdr::proofs::Prefixes::canonical_is_encoding))]
 fn write_entries(invoke: u8, entries: &Entries<'_>, out: &mut Vec<u8>) -> Result<(), Memory>
     requires { HasLengths entries.now }
-    ensures shortest { OnOk result (out.new.items ≡ out.old.items ++ reply_bytes Service.Get invoke (answers.Value entries.now)) }
-    ensures form { OnOk result (IsResponse Service.Get invoke (answers.Value entries.now) (reply_bytes Service.Get invoke (answers.Value entries.now))) }
+    ensures shortest { OnOk result (out.new.items
+        ≡ out.old.items ++ reply_bytes Service.Get invoke (answers.Value entries.now)) }
+    ensures form { OnOk result (IsResponse Service.Get invoke
+        (answers.Value entries.now) (reply_bytes Service.Get invoke (answers.Value entries.now))) }
     ensures err { OnErr result (out.new.items ≡ out.old.items) }
 {
     let len = out.len();
@@ -113,8 +119,10 @@ fn write_entries(invoke: u8, entries: &Entries<'_>, out: &mut Vec<u8>) -> Result
 #[tactic(auto, using(cosem_axdr::proofs::Prefixes::canonical_is_encoding))]
 pub fn write_value(invoke: u8, value: &Data, out: &mut Vec<u8>) -> Result<(), Memory>
     requires { HasLengths (tree value.now) }
-    ensures shortest { OnOk result (out.new.items ≡ out.old.items ++ canonical_reply Service.Get invoke (Reply.Value value.now)) }
-    ensures form { OnOk result (IsReply Service.Get invoke (Reply.Value value.now) (canonical_reply Service.Get invoke (Reply.Value value.now))) }
+    ensures shortest { OnOk result (out.new.items
+        ≡ out.old.items ++ canonical_reply Service.Get invoke (Reply.Value value.now)) }
+    ensures form { OnOk result (IsReply Service.Get invoke
+        (Reply.Value value.now) (canonical_reply Service.Get invoke (Reply.Value value.now))) }
     ensures err { OnErr result (out.new.items ≡ out.old.items) }
 {
     let len = out.len();
@@ -137,8 +145,10 @@ pub fn write_code(
     service: Service,
     out: &mut Vec<u8>,
 ) -> Result<(), Memory>
-    ensures shortest { OnOk result (out.new.items ≡ out.old.items ++ canonical_reply service invoke (Reply.Code code)) }
-    ensures form { IsReply service invoke (Reply.Code code) (canonical_reply service invoke (Reply.Code code)) }
+    ensures shortest { OnOk result (out.new.items
+        ≡ out.old.items ++ canonical_reply service invoke (Reply.Code code)) }
+    ensures form { IsReply service invoke
+        (Reply.Code code) (canonical_reply service invoke (Reply.Code code)) }
     ensures err { OnErr result (out.new.items ≡ out.old.items) }
 {
     let code = code.code();

@@ -100,7 +100,8 @@ pub(super) fn capture_into_full(
     part: &ProfilePart,
     row: Row,
 ) -> Result<Captured, Memory>
-    requires rows { is_buffer (captures_of_part part.now) part.now.profile_entries (array_of profile.old.buffer) ≡ true }
+    requires rows { is_buffer (captures_of_part part.now) part.now.profile_entries
+        (array_of profile.old.buffer) ≡ true }
     requires full { length profile.old.buffer ≡ part.now.profile_entries }
     ensures { IsOk result }
 {
@@ -145,8 +146,10 @@ pub(super) fn run_through(
     requires { IsState plan.now meter.old }
     ensures state { IsState plan.now meter.new }
     ensures ok { OnOk result (meter.new ≡ run_of plan.now meter.old (map step_of steps.now)) }
-    ensures replies { IfOk result (λ all. map reply_of all.items ≡ replies plan.now meter.old (map step_of steps.now)) }
-    ensures stopped { IfErr result (λ stopped. IsStopped plan.now meter.old meter.new (map step_of steps.now) (map reply_of stopped.replies.items)) }
+    ensures replies { IfOk result (λ all. map reply_of all.items
+        ≡ replies plan.now meter.old (map step_of steps.now)) }
+    ensures stopped { IfErr result (λ stopped. IsStopped plan.now meter.old meter.new
+        (map step_of steps.now) (map reply_of stopped.replies.items)) }
 {
     run(alloc, plan, meter, steps)
 }
@@ -202,7 +205,8 @@ pub(super) fn objects_listed(view: &View<'_>, alloc: Global) -> Result<Data, Mem
 
 /// An operation of an object of a plan, by the object's class, keeps agreement on each closed set of cells.
 pub(super) fn operations_of_a_plan_keep_agreement()
-    ensures { (P : theory.Plan) (S : Cell → Bool) → IsClosed P S → (o : theory.Object) (op : Op) (argument : Tree) (change : State → State) →
+    ensures { (P : theory.Plan) (S : Cell → Bool) → IsClosed P S →
+        (o : theory.Object) (op : Op) (argument : Tree) (change : State → State) →
         IsIn P.objects o → IsOperationOf P o op argument change → KeepsAgreementOn S change }
 {
     closed_sets_keep_agreement();

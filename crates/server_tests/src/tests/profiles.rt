@@ -83,8 +83,9 @@ fn row(alloc: Global, value: u8) -> Result<Row, Fail>
 
 /// Whether capture_objects is as the part has it: one of the menu, or fixed.
 fn fits(part: &ProfilePart, object: &Profile) -> bool
-    ensures { result ≡ true
-        → (not (has_menu (captures_of_part part.now)) || meets (OneOf Array (offered part.now)) (tree_or_null object.now.capture_objects)) ≡ true }
+    ensures { result ≡ true → (not (has_menu (captures_of_part part.now))
+        || meets (OneOf Array (offered part.now)) (tree_or_null object.now.capture_objects))
+        ≡ true }
 {
     match &object.capture_objects {
         Some(objects) => part.judge_objects(objects).is_ok(),
