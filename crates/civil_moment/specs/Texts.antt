@@ -3,6 +3,11 @@ use Rattle.std.specs.Prelude.{ℕ, ◌+◌, ◌-◌, ◌*◌, ◌/◌, ◌%◌, 
 use Rattle.std.specs.Char.{is_ascii_digit}
 use Rattle.meter_theory.specs.Times.{Moment}
 
+-- the moment of these numbers, whether or not the calendar has it
+abbrev pub moment_from : (year month day hour minute second : ℕ) → Moment
+moment_from year month day hour minute second =
+    record { year = year; month = month; day = day; hour = hour; minute = minute; second = second }
+
 -- two decimal digits
 abbrev pub two_digits : ℕ → List ℕ
 two_digits n = (48 + n / 10) ∷ (48 + n % 10) ∷ []

@@ -1,6 +1,6 @@
 ghost use Rattle.std.specs.Prelude.{◌≡◌, IfOk, IfSome, Ok, Some, option_map};
 ghost use Rattle.meter_theory.specs.Times as times;
-ghost use Rattle.civil_moment.specs.Texts.{pair_at, marked_at, numbers_at, moment_text};
+ghost use Rattle.civil_moment.specs.Texts.{pair_at, marked_at, moment_from, numbers_at, moment_text};
 
 use crate::days;
 use std::fmt;
@@ -196,30 +196,10 @@ impl Moment {
     /// The moment of these numbers, if there is one: a day of the years 2000 to 9999 that the calendar has, an hour below 24, a
     /// minute and a second below 60 (own profile).
     pub fn of(year: u16, month: u8, day: u8, hour: u8, minute: u8, second: u8) -> Option<Moment>
-        ensures found { IfSome result (λ m. times.IsMoment m × (m ≡ record {
-          year = year;
-          month = month;
-          day = day;
-          hour = hour;
-          minute = minute;
-          second = second;
-        })) }
-        ensures exact { times.IsMoment (record {
-          year = year;
-          month = month;
-          day = day;
-          hour = hour;
-          minute = minute;
-          second = second;
-        }) →
-            result ≡ Some (record {
-              year = year;
-              month = month;
-              day = day;
-              hour = hour;
-              minute = minute;
-              second = second;
-            }) }
+        ensures found { IfSome result (λ m. times.IsMoment m
+            × (m ≡ moment_from year month day hour minute second)) }
+        ensures exact { times.IsMoment (moment_from year month day hour minute second) →
+            result ≡ Some (moment_from year month day hour minute second) }
     {
         let numbers = Numbers {
             year,
@@ -310,10 +290,8 @@ impl Moment {
 
 /// The start of a day.
 fn midnight(year: u16, month: u8, day: u8) -> Moment
-    requires { times.IsMoment
-        (record { year = year; month = month; day = day; hour = 0; minute = 0; second = 0 }) }
-    ensures { result
-        ≡ record { year = year; month = month; day = day; hour = 0; minute = 0; second = 0 } }
+    requires { times.IsMoment (moment_from year month day 0 0 0) }
+    ensures { result ≡ moment_from year month day 0 0 0 }
 {
     Moment {
         year,
