@@ -188,8 +188,7 @@ fn attribute_accesses(
     requires { interface.attributes < 128 }
     ensures { IfOk result (λ all. map tree all.items
         ≡ map (λ k. shapes.attribute_access instance.now.plan client
-        (cell interface.class_id instance.now.name k))
-        (range_with_len 1 interface.attributes)) }
+        (cell interface.class_id instance.now.name k)) (range_with_len 1 interface.attributes)) }
 {
     let mut all = Vec::new(alloc);
     for place in 0..interface.attributes {
@@ -208,9 +207,9 @@ fn method_accesses(
     interface: Interface,
 ) -> Result<Vec<Data>, Memory>
     requires { interface.methods < 128 }
-    ensures { IfOk result (λ all. map tree all.items ≡ map (λ k.
-        shapes.method_access instance.now.plan client (cell interface.class_id instance.now.name k))
-        (range_with_len 1 interface.methods)) }
+    ensures { IfOk result (λ all. map tree all.items
+        ≡ map (λ k. shapes.method_access instance.now.plan client
+        (cell interface.class_id instance.now.name k)) (range_with_len 1 interface.methods)) }
 {
     let mut all = Vec::new(alloc);
     for place in 0..interface.methods {
