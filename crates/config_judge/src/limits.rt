@@ -10,7 +10,9 @@ ghost use Rattle.config_rules.specs.Passes as passes;
 ghost use Rattle.config_rules.specs.PlanOf.{thresholds_value, times_value};
 ghost use Rattle.value_text.specs.Texts.{value_in};
 ghost use Rattle.config_rules.specs.Walks as walks;
+ghost use Rattle.config_judge.specs.Limits as spec;
 ghost use Rattle.config_judge.specs.Lines.{followed_by};
+ghost use Rattle.config_judge.specs.Menus.{menu_of};
 
 use crate::arrays::{times_of, values_of};
 use crate::judged::fault_if;
@@ -115,8 +117,7 @@ fn register_limits(at: &Place<'_>, value: &str, default: &str) -> Result<(), Con
 
 /// The number of alternatives of a menu, if it is there.
 fn menu_size<T: Drop>(at: &Place<'_>, key: &str, menu: &Option<Vec<T>>) -> Result<(), ConfigFault>
-    ensures { Gives (λ u. u) result
-        (passes.menu_size (at.now ++ key.now) (option_map (λ v. v.items) menu.now)) }
+    ensures { Gives (λ u. u) result (passes.menu_size (at.now ++ key.now) (menu_of menu.now)) }
 {
     match menu {
         Some(alternatives) => {
@@ -149,10 +150,7 @@ fn capture_menu_limits(
     at: &Place<'_>,
     menu: &Option<Vec<AlternativeParts>>,
 ) -> Result<(), ConfigFault>
-    ensures { Gives (λ u. u) result (followed_by
-        (passes.menu_size (at.now ++ codes ".capture_menu") (option_map (λ v. v.items) menu.now))
-        (walks.each (passes.at_most CAPTURE_OBJECTS)
-        (at.now ++ codes ".capture_menu") (unwrap_or (option_map (λ v. v.items) menu.now) []))) }
+    ensures { Gives (λ u. u) result (spec.capture_menu_limits at.now (menu_of menu.now)) }
 {
     menu_size(at, ".capture_menu", menu)?;
     each_below(&FewCaptures, at, ".capture_menu", menu_in(menu))
@@ -165,14 +163,10 @@ fn profile_limits(
     entries: u64,
     menu: &Option<Vec<AlternativeParts>>,
 ) -> Result<(), ConfigFault>
-    ensures { Gives (λ u. u) result (followed_by (faults.fault_if Limit
-        (at.now ++ codes ".capture") (nat_lt CAPTURE_OBJECTS (length captures.now)))
-        (followed_by
+    ensures { Gives (λ u. u) result (followed_by
+        (passes.at_most CAPTURE_OBJECTS (at.now ++ codes ".capture") captures.now) (followed_by
         (faults.fault_if Limit (at.now ++ codes ".entries") (nat_lt PROFILE_ENTRIES entries))
-        (followed_by
-        (passes.menu_size (at.now ++ codes ".capture_menu") (option_map (λ v. v.items) menu.now))
-        (walks.each (passes.at_most CAPTURE_OBJECTS)
-        (at.now ++ codes ".capture_menu") (unwrap_or (option_map (λ v. v.items) menu.now) []))))) }
+        (spec.capture_menu_limits at.now (menu_of menu.now)))) }
 {
     at_most(at, ".capture", CAPTURE_OBJECTS, captures.len())?;
     fault_if(Code::Limit, at, ".entries", PROFILE_ENTRIES < entries)?;
@@ -182,7 +176,7 @@ fn profile_limits(
 /// The sizes of a script table.
 fn script_table_limits(at: &Place<'_>, scripts: &[ScriptParts]) -> Result<(), ConfigFault>
     ensures { Gives (λ u. u) result (followed_by
-        (faults.fault_if Limit (at.now ++ codes ".script") (nat_lt SCRIPTS (length scripts.now)))
+        (passes.at_most SCRIPTS (at.now ++ codes ".script") scripts.now)
         (walks.each passes.script_limits (at.now ++ codes ".script") scripts.now)) }
 {
     at_most(at, ".script", SCRIPTS, scripts.len())?;
@@ -208,9 +202,7 @@ fn are_small_times(alloc: Global, texts: &[String]) -> Result<bool, Memory>
 
 /// The number and the size of thresholds.
 fn threshold_limits(at: &Place<'_>, texts: &[String]) -> Result<(), ConfigFault>
-    ensures { Gives (λ u. u) result (faults.fault_if Limit
-        (at.now ++ codes ".thresholds") (nat_lt THRESHOLDS (length (map string_bytes texts.now))
-        || not (is_within_limits (thresholds_value (map string_bytes texts.now))))) }
+    ensures { Gives (λ u. u) result (spec.threshold_limits at.now (map string_bytes texts.now)) }
 {
     let small = are_small_thresholds(at.alloc(), texts)?;
     let many = THRESHOLDS < texts.len();
@@ -224,11 +216,8 @@ fn monitor_limits(
     actions: &[UpDownParts],
 ) -> Result<(), ConfigFault>
     ensures { Gives (λ u. u) result (followed_by
-        (faults.fault_if Limit (at.now ++ codes ".thresholds")
-        (nat_lt THRESHOLDS (length (map string_bytes thresholds.now))
-        || not (is_within_limits (thresholds_value (map string_bytes thresholds.now)))))
-        (faults.fault_if Limit
-        (at.now ++ codes ".action") (nat_lt THRESHOLDS (length actions.now)))) }
+        (spec.threshold_limits at.now (map string_bytes thresholds.now))
+        (passes.at_most THRESHOLDS (at.now ++ codes ".action") actions.now)) }
 {
     threshold_limits(at, thresholds)?;
     at_most(at, ".action", THRESHOLDS, actions.len())
@@ -236,9 +225,7 @@ fn monitor_limits(
 
 /// The number and the size of times.
 fn time_limits(at: &Place<'_>, texts: &[String]) -> Result<(), ConfigFault>
-    ensures { Gives (λ u. u) result (faults.fault_if Limit
-        (at.now ++ codes ".times") (nat_lt EXECUTION_TIMES (length (map string_bytes texts.now))
-        || not (is_within_limits (times_value (map string_bytes texts.now))))) }
+    ensures { Gives (λ u. u) result (spec.time_limits at.now (map string_bytes texts.now)) }
 {
     let small = are_small_times(at.alloc(), texts)?;
     let many = EXECUTION_TIMES < texts.len();
@@ -251,10 +238,9 @@ fn schedule_limits(
     times: &[String],
     menu: &Option<Vec<ScriptRefParts>>,
 ) -> Result<(), ConfigFault>
-    ensures { Gives (λ u. u) result (followed_by (faults.fault_if Limit
-        (at.now ++ codes ".times") (nat_lt EXECUTION_TIMES (length (map string_bytes times.now))
-        || not (is_within_limits (times_value (map string_bytes times.now)))))
-        (passes.menu_size (at.now ++ codes ".script_menu") (option_map (λ v. v.items) menu.now))) }
+    ensures { Gives (λ u. u) result (followed_by
+        (spec.time_limits at.now (map string_bytes times.now))
+        (passes.menu_size (at.now ++ codes ".script_menu") (menu_of menu.now))) }
 {
     time_limits(at, times)?;
     menu_size(at, ".script_menu", menu)

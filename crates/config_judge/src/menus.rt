@@ -7,6 +7,7 @@ ghost use Rattle.config_text.specs.Fault.{Gives};
 ghost use Rattle.config_rules.specs.Names as names;
 ghost use Rattle.config_rules.specs.Passes as passes;
 ghost use Rattle.config_rules.specs.Walks as walks;
+ghost use Rattle.config_judge.specs.Menus.{menu_of};
 
 use crate::judged::fault_if;
 use crate::labels::same_target;
@@ -31,7 +32,7 @@ pub(crate) fn has_menu(body: &BodyParts) -> bool
 
 /// The alternatives of a menu beside what is configured; none without one.
 pub(crate) fn menu_in<T: Drop>(menu: &Option<Vec<T>>) -> &[T]
-    ensures { result.now ≡ unwrap_or (option_map (λ v. v.items) menu.now) [] }
+    ensures { result.now ≡ unwrap_or (menu_of menu.now) [] }
 {
     match menu {
         Some(alternatives) => alternatives.as_slice(),

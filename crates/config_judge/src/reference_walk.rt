@@ -5,6 +5,7 @@ ghost use Rattle.std.specs.Option.{unwrap_or};
 ghost use Rattle.config_text.specs.BodyView.{body_text};
 ghost use Rattle.config_text.specs.Fault.{Gives};
 ghost use Rattle.config_rules.specs.Walks as spec;
+ghost use Rattle.config_judge.specs.Menus.{menu_of, with_menu};
 
 use crate::menus::menu_in;
 use crate::walk::{Judge, each, each_below};
@@ -76,7 +77,7 @@ pub(crate) fn each_capture<J: Judge<Part = CaptureParts>>(
     menu: &Option<Vec<AlternativeParts>>,
 ) -> Result<(), ConfigFault>
     ensures { Gives (λ u. u) result (spec.each_capture (J.judges judge.now) at.now
-        (record { start = capture.now; menu = option_map (λ v. v.items) menu.now })) }
+        (with_menu capture.now menu.now)) }
 {
     each_below(judge, at, ".capture", capture)?;
     each_alternative(judge, at, menu)
@@ -89,7 +90,7 @@ pub(crate) fn each_alternative<J: Judge<Part = CaptureParts>>(
     menu: &Option<Vec<AlternativeParts>>,
 ) -> Result<(), ConfigFault>
     ensures { Gives (λ u. u) result (spec.each (spec.each (J.judges judge.now))
-        (at.now ++ codes ".capture_menu") (unwrap_or (option_map (λ v. v.items) menu.now) [])) }
+        (at.now ++ codes ".capture_menu") (unwrap_or (menu_of menu.now) [])) }
 {
     each_below(&Alternative { judge }, at, ".capture_menu", menu_in(menu))
 }
@@ -196,7 +197,7 @@ fn each_run<J: JudgeReferences>(
     menu: &Option<Vec<ScriptRefParts>>,
 ) -> Result<(), ConfigFault>
     ensures { Gives (λ u. u) result (spec.each_run (J.scripts judge.now) at.now
-        (record { start = script.now; menu = option_map (λ v. v.items) menu.now })) }
+        (with_menu script.now menu.now)) }
 {
     judge.judge_script(&at.below(".script"), script)?;
     each_of_menu(judge, at, menu)
@@ -209,7 +210,7 @@ fn each_of_menu<J: JudgeReferences>(
     menu: &Option<Vec<ScriptRefParts>>,
 ) -> Result<(), ConfigFault>
     ensures { Gives (λ u. u) result (spec.each (J.scripts judge.now)
-        (at.now ++ codes ".script_menu") (unwrap_or (option_map (λ v. v.items) menu.now) [])) }
+        (at.now ++ codes ".script_menu") (unwrap_or (menu_of menu.now) [])) }
 {
     each_below(&Runs { judge }, at, ".script_menu", menu_in(menu))
 }

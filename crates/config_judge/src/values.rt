@@ -22,6 +22,8 @@ ghost use Rattle.config_rules.specs.Walks as walks;
 ghost use Rattle.config_rules.specs.Written as written;
 ghost use Rattle.config_rules.specs.Written.{is_one_of};
 ghost use Rattle.config_judge.specs.Lines.{followed_by};
+ghost use Rattle.config_judge.specs.Menus.{with_menu};
+ghost use Rattle.config_judge.specs.Values.{config_of, kind_at, may_be_thresholds, of_kind};
 
 use crate::directory::Directory;
 use crate::judged::fault_if;
@@ -66,9 +68,7 @@ fn are_thresholds(number: usize, kind: Option<Kind>, values: &[Data]) -> bool
 
 /// Whether a value may be so many thresholds over a value of this kind, the limits left aside.
 fn may_be_thresholds(number: usize, kind: Option<Kind>, value: &Data) -> bool
-    ensures { result ≡ (same_kind (kind_of (tree value.now)) Array
-        && ((length (elements (tree value.now)) == number)
-        && list_all (spec.has_kind kind) (elements (tree value.now)))) }
+    ensures { result ≡ may_be_thresholds number kind (tree value.now) }
 {
     value.kind() == Kind::Array && are_thresholds(number, kind, elements_of(value))
 }
@@ -80,10 +80,8 @@ fn may_be_of_monitor(
     actions: &[UpDownParts],
     value: &Data,
 ) -> bool
-    ensures { result ≡ (same_kind (kind_of (tree value.now)) Array
-        && ((length (elements (tree value.now)) == length actions.now) && list_all
-        (spec.has_kind (spec.kind_named kinds.now.directory.now.config.now monitored.now.object))
-        (elements (tree value.now)))) }
+    ensures { result ≡ may_be_thresholds (length actions.now)
+        (kind_at kinds.now monitored.now) (tree value.now) }
 {
     let watched = kinds.named(monitored.object.as_str());
     may_be_thresholds(actions.len(), watched, value)
@@ -147,8 +145,7 @@ fn may_be_objects(
     value: &Data,
 ) -> Result<bool, Memory>
     ensures { IfOk result (λ may. may ≡ is_one_of (map capture_objects_value
-        (alternatives (plan.captures_of directory.now.config.now
-        (record { start = capture.now; menu = option_map (λ v. v.items) menu.now }))))
+        (alternatives (plan.captures_of directory.now.config.now (with_menu capture.now menu.now))))
         (tree value.now)) }
 {
     if is_capture_of(alloc, directory, capture, value)? {
@@ -159,8 +156,9 @@ fn may_be_objects(
 
 /// Whether a value may be the executed_script of a schedule.
 fn may_be_script(script: &ScriptRefParts, menu: &Option<Vec<ScriptRefParts>>, value: &Data) -> bool
-    ensures { result ≡ is_one_of (map script_ref_value (alternatives (plan.scripts_of
-        (record { start = script.now; menu = option_map (λ v. v.items) menu.now })))) (tree value.now) }
+    ensures { result ≡ is_one_of (map script_ref_value
+        (alternatives (plan.scripts_of (with_menu script.now menu.now))))
+        (tree value.now) }
 {
     is_executed_script(value, script_named(script)) || is_of_menu(menu_in(menu), value)
 }
@@ -186,7 +184,7 @@ fn may_stand(
 ) -> Result<bool, Memory>
     requires { own ≡ spec.start_kind_in (body_text body.now) }
     ensures { IfOk result (λ may. may
-        ≡ written.may_stand kinds.now.directory.now.config.now (body_text body.now) index (tree value.now)) }
+        ≡ written.may_stand (config_of kinds.now) (body_text body.now) index (tree value.now)) }
 {
     match body {
         BodyParts::Data { .. } | BodyParts::Register { .. } => Ok(has_kind(own, value)),
@@ -215,8 +213,8 @@ fn may_stand_at(
     target: &TargetParts,
     value: &Data,
 ) -> Result<bool, Memory>
-    ensures { IfOk result (λ may. may ≡ written.may_stand_at kinds.now.directory.now.config.now
-        (object_named kinds.now.directory.now.config.now target.now.object) target.now.index (tree value.now)) }
+    ensures { IfOk result (λ may. may ≡ written.may_stand_at (config_of kinds.now)
+        (object_named (config_of kinds.now) target.now.object) target.now.index (tree value.now)) }
 {
     let name = target.object.as_str();
     match kinds.directory.object(name) {
@@ -236,7 +234,7 @@ fn is_written(
     text: &str,
 ) -> Result<bool, Memory>
     ensures { IfOk result (λ right. right
-        ≡ passes.written_value kinds.now.directory.now.config.now target.now (value_in text.now)) }
+        ≡ passes.written_value (config_of kinds.now) target.now (value_in text.now)) }
 {
     match value_in(alloc, text.as_bytes())? {
         Some(value) => may_stand_at(alloc, kinds, target, &value),
@@ -246,7 +244,7 @@ fn is_written(
 
 /// Whether an action has a value that it can write, or a parameter that is a value.
 fn action_value(alloc: Global, kinds: &Kinds<'_, '_>, action: &ActionParts) -> Result<bool, Memory>
-    ensures { IfOk result (λ right. right ≡ passes.action_value kinds.now.directory.now.config.now
+    ensures { IfOk result (λ right. right ≡ passes.action_value (config_of kinds.now)
         action.now.service action.now.target action.now.value) }
 {
     match (action.service, &action.value) {
@@ -265,10 +263,11 @@ struct ActionValue<'k, 'd, 'c> {
 
 impl<'k, 'd, 'c> Judge for ActionValue<'k, 'd, 'c> {
     ghost use Rattle.config_rules.specs.Passes.{valid_action_value};
+    ghost use Rattle.config_judge.specs.Values.{config_of};
 
     type Part = ActionParts;
 
-    ghost judges = { λ all. valid_action_value all.kinds.now.directory.now.config.now };
+    ghost judges = { λ all. valid_action_value (config_of all.kinds.now) };
 
     fn judge(&self, at: &Place<'_>, action: &ActionParts) -> Result<(), ConfigFault> {
         let right = action_value(at.alloc(), self.kinds, action)?;
@@ -347,9 +346,8 @@ fn clock_time(at: &Place<'_>, time: &str) -> Result<(), ConfigFault>
 
 /// Judges the thresholds of a monitor of a value of this kind.
 fn thresholds(at: &Place<'_>, kind: Option<Kind>, texts: &[String]) -> Result<(), ConfigFault>
-    ensures { Gives (λ u. u) result (walks.each (λ at text. faults.fault_if Value at
-        (not (spec.is_of_kind kind (value_in text))))
-        (at.now ++ codes ".thresholds") (map string_bytes texts.now)) }
+    ensures { Gives (λ u. u) result
+        (walks.each (of_kind kind) (at.now ++ codes ".thresholds") (map string_bytes texts.now)) }
 {
     each_text_below(&Threshold { kind }, at, ".thresholds", texts)
 }
@@ -362,10 +360,9 @@ fn monitor_values(
     texts: &[String],
 ) -> Result<(), ConfigFault>
     ensures { Gives (λ u. u) result (followed_by
-        (faults.fault_if Value (at.now ++ codes ".monitored.index") (not (spec.may_be_number
-        (spec.kind_named kinds.now.directory.now.config.now monitored.now.object))))
-        (walks.each (λ at text. faults.fault_if Value at (not (spec.is_of_kind
-        (spec.kind_named kinds.now.directory.now.config.now monitored.now.object) (value_in text))))
+        (faults.fault_if Value (at.now ++ codes ".monitored.index")
+        (not (spec.may_be_number (kind_at kinds.now monitored.now))))
+        (walks.each (of_kind (kind_at kinds.now monitored.now))
         (at.now ++ codes ".thresholds") (map string_bytes texts.now))) }
 {
     let kind = kinds.named(monitored.object.as_str());
@@ -381,8 +378,8 @@ fn valid_values_in(
     at: &Place<'_>,
     body: &BodyParts,
 ) -> Result<(), ConfigFault>
-    ensures { Gives (λ u. u) result
-        (passes.valid_values_in kinds.now.directory.now.config.now at.now (body_text body.now)) }
+    ensures { Gives (λ u. u) result (passes.valid_values_in (config_of kinds.now) at.now
+        (body_text body.now)) }
 {
     match body {
         BodyParts::Data { value } => data_value(at, value.as_str()),
@@ -413,10 +410,11 @@ struct ObjectValues<'k, 'd, 'c> {
 
 impl<'k, 'd, 'c> Judge for ObjectValues<'k, 'd, 'c> {
     ghost use Rattle.config_rules.specs.Passes.{valid_values_in};
+    ghost use Rattle.config_judge.specs.Values.{config_of};
 
     type Part = ObjectParts;
 
-    ghost judges = { λ all at o. valid_values_in all.kinds.now.directory.now.config.now at o.body };
+    ghost judges = { λ all at o. valid_values_in (config_of all.kinds.now) at o.body };
 
     fn judge(&self, at: &Place<'_>, object: &ObjectParts) -> Result<(), ConfigFault> {
         valid_values_in(self.kinds, at, &object.body)
