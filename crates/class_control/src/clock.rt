@@ -4,7 +4,7 @@ ghost use Rattle.meter_theory.specs.Times as theory;
 ghost use Rattle.meter_theory.specs.Times.{clock_bytes, clock_moment, clock_value, octets_of};
 ghost use Rattle.meter_theory.specs.Value.{ClockTime, meets, valid_tag};
 ghost use Rattle.cosem_class.specs.CellSets.{has};
-ghost use Rattle.cosem_class.specs.Judged.{judged};
+ghost use Rattle.cosem_class.specs.Judged.{judged, rule_answer};
 ghost use Rattle.class_control.specs.ClockClass.{ClockFixed, IsJudged, clock_cells, clock_reading, clock_refusal, clock_new_value, clock_touched, ClockMeetsRule};
 ghost use Rattle.class_control.specs.ClockLaws.{clock_depends_only_on_sources, clock_writes_its_value, clock_keeps_rules};
 
@@ -17,10 +17,13 @@ use cosem_class::cell_set::CellSet;
 use cosem_class::class::{ClassFault, InterfaceClass, Lent, Op, Row};
 use cosem_class::generic::put_into;
 use cosem_class::judge::keeps_limits;
+use cosem_class::part::ClassPart;
 use cosem_data::bytes::Bytes;
 use cosem_data::data::Data;
 use cosem_data::kind::Kind;
 use cosem_data::memory::Memory;
+use cosem_data::name::LogicalName;
+use meter_theory::access::AccessCode;
 use meter_theory::refs::Interface;
 use std::alloc::Global;
 use std::mem;
@@ -32,6 +35,9 @@ pub struct Clock {
     /// Attribute 2, time, the one cell.
     pub time: Moment,
 }
+
+/// The indexes of the cells.
+static CELLS: [u8; 1] = [Clock::TIME];
 
 impl Clock {
     /// Class 8, Clock, version 0, with nine attributes and six methods (IEC 62056-6-2), of which none is offered (own profile).
@@ -134,7 +140,8 @@ fn time_in(value: Data, moment: Moment) -> Data
 /// The moment that the bytes of a time say, if the calendar has it.
 fn moment_in(bytes: &[u8]) -> Option<Moment>
     ensures found { IfSome result (λ m. theory.IsMoment m × (m ≡ theory.moment_of_bytes bytes.now)) }
-    ensures exact { theory.IsMoment (theory.moment_of_bytes bytes.now) → result ≡ Some (theory.moment_of_bytes bytes.now) }
+    ensures exact { theory.IsMoment (theory.moment_of_bytes bytes.now)
+        → result ≡ Some (theory.moment_of_bytes bytes.now) }
 {
     Moment::of(
         year_of(bytes),
@@ -146,9 +153,9 @@ fn moment_in(bytes: &[u8]) -> Option<Moment>
     )
 }
 
-/// The moment to which a value sets a clock: twelve bytes of a date of the years 2000 to 9999 that the calendar has and of a time of
-/// day, with hundredths up to 99 or not specified. Weekday, deviation and status may be anything (own profile). Another tag
-/// than that of an octet-string is `Kind`, anything else `Rule`.
+/// The moment to which a value sets a clock: twelve bytes of a date of the years 2000 to 9999 that the calendar has and of a
+/// time of day, with hundredths up to 99 or not specified. Weekday, deviation and status may be anything (own profile). Another
+/// tag than that of an octet-string is `Kind`, anything else `Rule`.
 pub fn judge_time(value: &Data) -> Result<Moment, ClassFault>
     ensures { IsJudged (tree value.now) result }
 {
@@ -165,6 +172,62 @@ pub fn judge_time(value: &Data) -> Result<Moment, ClassFault>
     match moment_in(bytes) {
         Some(moment) => Ok(moment),
         None => Err(ClassFault::Rule),
+    }
+}
+
+/// The same as `judge_time`, with the code of the fault.
+fn clock_answer(value: &Data) -> Result<(), AccessCode>
+    ensures { result ≡ rule_answer (Some ClockTime) (tree value.now) }
+{
+    match judge_time(value) {
+        Ok(_) => Ok(()),
+        Err(fault) => Err(AccessCode::from(fault)),
+    }
+}
+
+impl ClassPart for ClockPart {
+    ghost use Rattle.class_control.specs.PartView.{clock_part_of};
+
+    ghost part = { clock_part_of };
+
+    fn interface(&self) -> Interface {
+        Clock::INTERFACE
+    }
+
+    fn cells(&self) -> &'static [u8] {
+        &CELLS
+    }
+
+    fn start_kind(&self, index: u8) -> Kind {
+        match index {
+            Clock::TIME => Kind::OctetString,
+            _ => Kind::NullData,
+        }
+    }
+
+    /// 3 to 9, of a clock whose time zone says nothing and that knows no daylight saving (IEC 62056-6-2, Clock; own profile).
+    #[tactic(auto, unfolding(meter_theory::specs::Fixed::fixed_in))]
+    fn fixed(&self, alloc: Global, index: u8) -> Result<Data, Memory> {
+        match index {
+            3 => Ok(Data::Long(0)),
+            4 => Ok(Data::Unsigned(0)),
+            5 | 6 => no_date_time(alloc),
+            7 => Ok(Data::Integer(0)),
+            8 => Ok(Data::Boolean(false)),
+            9 => Ok(Data::Enumerated(0)),
+            _ => Ok(Data::NullData),
+        }
+    }
+
+    fn judge(&self, _monitored: Kind, index: u8, value: &Data) -> Result<(), AccessCode> {
+        match index {
+            Clock::TIME => clock_answer(value),
+            _ => Err(AccessCode::TypeUnmatched),
+        }
+    }
+
+    fn push_references(&self, _names: &mut Vec<LogicalName>) -> Result<(), Memory> {
+        Ok(())
     }
 }
 

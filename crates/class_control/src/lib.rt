@@ -1,5 +1,5 @@
-//! Interface classes that control (IEC 62056-6-2): class 8 Clock, class 9 Script table, class 21 Register monitor and class 22 Single
-//! action schedule, each over what its plan lends, with the laws of `cosem_class::class::InterfaceClass`.
+//! Interface classes that control (IEC 62056-6-2): class 8 Clock, class 9 Script table, class 21 Register monitor and class 22
+//! Single action schedule, each over what its plan lends, with the laws of `cosem_class::class::InterfaceClass`.
 #![tactic(auto)]
 
 pub mod action;

@@ -35,7 +35,8 @@ pub fn is_executed_script(value: &Data, script: ScriptRef) -> bool
 
 /// Where the script of a menu stands whose executed_script the value is, counted from 0.
 pub fn place_of(menu: &[ScriptRef], value: &Data) -> Option<usize>
-    ensures { result ≡ position_from (λ script. same_tree (script_ref_value script) (tree value.now)) 0 menu.now }
+    ensures { result
+        ≡ position_from (λ script. same_tree (script_ref_value script) (tree value.now)) 0 menu.now }
 {
     menu.iter()
         .position(|script| is_executed_script(value, *script))

@@ -2,8 +2,10 @@ ghost use Rattle.std.specs.Prelude.{◌≡◌, ℕ, is_some, true, false, ⊤, [
 ghost use Rattle.cosem_data.specs.Tree.{null_data};
 ghost use Rattle.cosem_data.specs.View.{tree};
 ghost use Rattle.meter_theory.specs.Value.{Thresholds, elements, meets};
+ghost use Rattle.meter_theory.specs.Fixed.{monitored_value};
 ghost use Rattle.meter_theory.specs.Steps.{due_scripts};
 ghost use Rattle.cosem_class.specs.CellSets.{has};
+ghost use Rattle.cosem_class.specs.Judged.{rule_answer};
 ghost use Rattle.cosem_class.specs.Objects.{cells_after};
 ghost use Rattle.cosem_class.specs.declared.class.Op.TheVariants as ops;
 ghost use Rattle.class_control.specs.MonitorClass.{MonitorFixed, monitor_fixed, monitor_cells, monitor_reading, monitor_refusal, monitor_new_value, monitor_touched, MonitorMeetsRule};
@@ -13,14 +15,19 @@ ghost use Rattle.class_control.specs.MonitorLaws.{monitor_depends_only_on_source
 use crate::due::due_scripts;
 use crate::judge::{elements_of, judge_thresholds};
 use crate::parts::MonitorPart;
-use crate::shapes::{actions_data, monitored_data};
+use crate::references::push_tables;
+use crate::shapes::{actions_data, index_data};
 use cosem_class::cell_set::CellSet;
 use cosem_class::class::{ClassFault, InterfaceClass, Op, Row};
 use cosem_class::generic::put_into;
+use cosem_class::judge::coded;
+use cosem_class::part::ClassPart;
+use cosem_class::shapes::structure;
 use cosem_data::data::Data;
 use cosem_data::kind::Kind;
 use cosem_data::memory::Memory;
 use cosem_data::name::LogicalName;
+use meter_theory::access::AccessCode;
 use meter_theory::refs::{Interface, ScriptRef};
 use std::alloc::Global;
 use std::mem;
@@ -55,6 +62,9 @@ pub enum MonitorChange {
     /// What it saw last before.
     Seen(Data),
 }
+
+/// The indexes of the cells.
+static CELLS: [u8; 2] = [Monitor::THRESHOLDS, Monitor::SEEN];
 
 impl Monitor {
     /// Class 21, Register monitor, version 0, with four attributes and no method (IEC 62056-6-2).
@@ -101,7 +111,8 @@ impl Monitor {
 
     /// Whether there is a cell at this index: the thresholds, and what was seen.
     pub fn has(&self, index: u8) -> bool
-        ensures { result ≡ is_some (monitor_cells (tree self.now.seen) (tree self.now.thresholds) index) }
+        ensures { result
+            ≡ is_some (monitor_cells (tree self.now.seen) (tree self.now.thresholds) index) }
     {
         matches!(index, Monitor::SEEN | Monitor::THRESHOLDS)
     }
@@ -120,7 +131,8 @@ impl Monitor {
     /// Puts thresholds that fit the actions and the monitored kind. The previous ones are returned. It takes no memory.
     pub fn put(&mut self, watch: Watch, index: u8, given: Data) -> Data
         requires index { index ≡ 2 }
-        requires fits { meets (Thresholds (length watch.part.now.actions.items) watch.kind) (tree given) ≡ true }
+        requires fits { meets (Thresholds (length watch.part.now.actions.items) watch.kind)
+            (tree given) ≡ true }
         ensures thresholds { tree self.new.thresholds ≡ tree given }
         ensures seen { tree self.new.seen ≡ tree self.old.seen }
         ensures previous { tree result ≡ tree self.old.thresholds }
@@ -145,7 +157,8 @@ impl Monitor {
         ensures previous { tree result ≡ tree self.old.seen }
         ensures seen { tree self.new.seen ≡ tree now }
         ensures thresholds { tree self.new.thresholds ≡ tree self.old.thresholds }
-        ensures cells { (fixed : MonitorFixed) (i : ℕ) → monitor_cells (tree self.new.seen) (tree self.new.thresholds) i
+        ensures cells { (fixed : MonitorFixed) (i : ℕ)
+            → monitor_cells (tree self.new.seen) (tree self.new.thresholds) i
             ≡ cells_after (monitor_touched ops.Remember) (monitor_new_value fixed ops.Remember (tree now) [])
             (monitor_cells (tree self.old.seen) (tree self.old.thresholds)) i }
     {
@@ -172,6 +185,67 @@ impl Monitor {
             &self.seen,
             now,
         )
+    }
+}
+
+/// Monitored_value of a register monitor: a structure of class_id, logical_name and attribute_index (IEC 62056-6-2,
+/// Register monitor, value_definition).
+fn monitored_data(alloc: Global, part: &MonitorPart) -> Result<Data, Memory>
+    ensures { IfOk result (λ value. tree value ≡ monitored_value part.now.monitored_value) }
+{
+    let cell = &part.monitored_value;
+    let name = cell.name.as_octets(alloc)?;
+    let index = index_data(cell.index);
+    structure(alloc, [Data::LongUnsigned(cell.class_id), name, index])
+}
+
+/// The same as `judge_thresholds`, with the code of the fault.
+fn thresholds_answer(number: usize, kind: Kind, value: &Data) -> Result<(), AccessCode>
+    ensures { result ≡ rule_answer (Some (Thresholds number kind)) (tree value.now) }
+{
+    coded(judge_thresholds(number, kind, value))
+}
+
+impl ClassPart for MonitorPart {
+    ghost use Rattle.class_control.specs.PartView.{monitor_part_of};
+
+    ghost part = { monitor_part_of };
+
+    fn interface(&self) -> Interface {
+        Monitor::INTERFACE
+    }
+
+    fn cells(&self) -> &'static [u8] {
+        &CELLS
+    }
+
+    fn start_kind(&self, index: u8) -> Kind {
+        match index {
+            Monitor::THRESHOLDS => self.start.kind(),
+            _ => Kind::NullData,
+        }
+    }
+
+    /// 3, monitored_value, and 4, actions (IEC 62056-6-2, Register monitor).
+    #[tactic(auto, unfolding(meter_theory::specs::Fixed::fixed_in))]
+    fn fixed(&self, alloc: Global, index: u8) -> Result<Data, Memory> {
+        match index {
+            Monitor::MONITORED_VALUE => monitored_data(alloc, self),
+            Monitor::ACTIONS => actions_data(alloc, &self.actions),
+            _ => Ok(Data::NullData),
+        }
+    }
+
+    fn judge(&self, monitored: Kind, index: u8, value: &Data) -> Result<(), AccessCode> {
+        match index {
+            Monitor::THRESHOLDS => thresholds_answer(self.actions.len(), monitored, value),
+            _ => Err(AccessCode::TypeUnmatched),
+        }
+    }
+
+    fn push_references(&self, names: &mut Vec<LogicalName>) -> Result<(), Memory> {
+        names.push(self.monitored_value.name)?;
+        push_tables(&self.actions, names)
     }
 }
 

@@ -13,7 +13,8 @@ use meter_theory::refs::{ScriptRef, UpDown};
 
 /// Adds the targets of scripts.
 pub(crate) fn push_scripts(scripts: &[Script], names: &mut Vec<LogicalName>) -> Result<(), Memory>
-    ensures { OnOk result (names.new.items ≡ names.old.items ++ flat_map (λ s. map target s.actions) (map script_of scripts.now)) }
+    ensures { OnOk result (names.new.items
+        ≡ names.old.items ++ flat_map (λ s. map target s.actions) (map script_of scripts.now)) }
 {
     for script in scripts {
         push_targets(&script.actions, names)?;
@@ -43,7 +44,8 @@ fn target_of(action: &Action) -> LogicalName
 
 /// Adds the script tables of a monitor's actions.
 pub(crate) fn push_tables(actions: &[UpDown], names: &mut Vec<LogicalName>) -> Result<(), Memory>
-    ensures { OnOk result (names.new.items ≡ names.old.items ++ map (λ r. r.table) (scripts_named actions.now)) }
+    ensures { OnOk result (names.new.items
+        ≡ names.old.items ++ map (λ r. r.table) (scripts_named actions.now)) }
 {
     for action in actions {
         names.push(action.up.table)?;

@@ -1,10 +1,13 @@
-ghost use Rattle.std.specs.Prelude.{◌≡◌, ◌==◌, ℕ, cond, is_some, option_map, true, false, ⊤, None, Some, IfOk};
+ghost use Rattle.std.specs.Prelude.{◌≡◌, ◌==◌, ℕ, cond, is_some, map, option_map, true, false, ⊤, None, Some, IfOk};
 ghost use Rattle.cosem_data.specs.View.{tree};
+ghost use Rattle.cosem_data.specs.declared.kind.Kind.TheVariants.{Structure};
 ghost use Rattle.meter_theory.specs.Times.{is_schedule_due};
-ghost use Rattle.meter_theory.specs.Menus.{has_menu, script_ref_value};
-ghost use Rattle.meter_theory.specs.Value.{elements, meets};
+ghost use Rattle.meter_theory.specs.Menus.{alternatives, has_menu, script_ref_value};
+ghost use Rattle.meter_theory.specs.Value.{ExecutionTimes, OneOf, elements, meets};
 ghost use Rattle.cosem_class.specs.CellSets.{has};
+ghost use Rattle.cosem_class.specs.Judged.{rule_answer};
 ghost use Rattle.cosem_class.specs.Objects.{tree_or_null};
+ghost use Rattle.class_control.specs.PartView.{scripts_of_part};
 ghost use Rattle.class_control.specs.ScheduleClass.{ScheduleFixed, is_settable, schedule_cells, schedule_fixed, schedule_held, schedule_reading, schedule_refusal, schedule_rule, schedule_new_value, schedule_touched, ScheduleMeetsRule};
 ghost use Rattle.class_control.specs.ScheduleChanges.{index_changed, script_before, times_before};
 ghost use Rattle.class_control.specs.ScheduleLaws.{schedule_depends_only_on_sources, schedule_writes_its_value, schedule_keeps_rules};
@@ -12,14 +15,20 @@ ghost use Rattle.class_control.specs.ScheduleLaws.{schedule_depends_only_on_sour
 use crate::judge::judge_times;
 use crate::matching;
 use crate::parts::SchedulePart;
+use crate::references::push_named_tables;
 use crate::shapes::script_ref_data;
 use civil_moment::moment::Moment;
 use cosem_class::cell_set::CellSet;
 use cosem_class::class::{ClassFault, InterfaceClass, Lent, Op, Row};
 use cosem_class::generic::put_into;
+use cosem_class::judge::coded;
+use cosem_class::part::ClassPart;
 use cosem_class::shapes::{copy_if, copy_or_null};
 use cosem_data::data::Data;
+use cosem_data::kind::Kind;
 use cosem_data::memory::Memory;
+use cosem_data::name::LogicalName;
+use meter_theory::access::AccessCode;
 use meter_theory::refs::Interface;
 use std::alloc::Global;
 use std::mem;
@@ -43,9 +52,13 @@ pub enum ScheduleChange {
     Times(Data),
 }
 
-impl Schedule {
-    ghost use Rattle.class_control.specs.PartView.{scripts_of_part};
+/// The indexes of the cells where the script is fixed.
+static CELLS: [u8; 1] = [Schedule::EXECUTION_TIME];
 
+/// The same where the script can be set.
+static CELLS_WITH_MENU: [u8; 2] = [Schedule::EXECUTED_SCRIPT, Schedule::EXECUTION_TIME];
+
+impl Schedule {
     /// Class 22, Single action schedule, version 0, with four attributes and no method (IEC 62056-6-2).
     pub const INTERFACE: Interface = Interface {
         class_id: 22,
@@ -87,7 +100,8 @@ impl Schedule {
 
     /// Whether there is a cell at this index: the script where it can be set, and the times.
     pub fn has(&self, index: u8) -> bool
-        ensures { result ≡ is_some (schedule_held (option_map tree self.now.executed_script) (tree self.now.times) index) }
+        ensures { result
+            ≡ is_some (schedule_held (option_map tree self.now.executed_script) (tree self.now.times) index) }
     {
         match index {
             Schedule::EXECUTED_SCRIPT => self.executed_script.is_some(),
@@ -98,8 +112,10 @@ impl Schedule {
 
     /// The value in the cell at this index.
     pub fn held(&self, index: u8) -> &Data
-        requires { is_some (schedule_held (option_map tree self.now.executed_script) (tree self.now.times) index) ≡ true }
-        ensures { schedule_held (option_map tree self.now.executed_script) (tree self.now.times) index ≡ Some (tree result.now) }
+        requires { is_some (schedule_held (option_map tree self.now.executed_script) (tree self.now.times) index)
+            ≡ true }
+        ensures { schedule_held (option_map tree self.now.executed_script) (tree self.now.times) index
+            ≡ Some (tree result.now) }
     {
         match (index, &self.executed_script) {
             (Schedule::EXECUTED_SCRIPT, Some(script)) => script,
@@ -109,9 +125,11 @@ impl Schedule {
 
     /// Puts a script of the menu, or times that fit the type. What is returned takes it back. It takes no memory.
     pub fn put(&mut self, lent: Lent<SchedulePart>, index: u8, given: Data) -> ScheduleChange
-        requires held { is_some (schedule_held (option_map tree self.old.executed_script) (tree self.old.times) index) ≡ true }
+        requires held { is_some (schedule_held (option_map tree self.old.executed_script) (tree self.old.times) index)
+            ≡ true }
         requires settable { is_settable (schedule_fixed lent.name lent.part.now) index ≡ true }
-        requires fits { meets (schedule_rule (schedule_fixed lent.name lent.part.now) index) (tree given) ≡ true }
+        requires fits { meets (schedule_rule (schedule_fixed lent.name lent.part.now) index)
+            (tree given) ≡ true }
         ensures script { option_map tree self.new.executed_script
             ≡ cond (index == 2) (Some (tree given)) (option_map tree self.old.executed_script) }
         ensures times { tree self.new.times ≡ cond (index == 2) (tree self.old.times) (tree given) }
@@ -148,6 +166,71 @@ impl Schedule {
         ensures { result ≡ is_schedule_due (elements (tree self.now.times)) moment }
     {
         matching::is_due(&self.times, moment)
+    }
+}
+
+/// The same as `judge_script`, with the code of the fault.
+fn script_answer(part: &SchedulePart, value: &Data) -> Result<(), AccessCode>
+    ensures { result
+        ≡ rule_answer (Some (OneOf Structure (map script_ref_value (alternatives (scripts_of_part part.now)))))
+        (tree value.now) }
+{
+    coded(part.judge_script(value))
+}
+
+/// The same as `judge_times`, with the code of the fault.
+fn times_answer(execution_type: u8, value: &Data) -> Result<(), AccessCode>
+    ensures { result ≡ rule_answer (Some (ExecutionTimes execution_type)) (tree value.now) }
+{
+    coded(judge_times(execution_type, value))
+}
+
+impl ClassPart for SchedulePart {
+    ghost use Rattle.class_control.specs.PartView.{schedule_part_of};
+
+    ghost part = { schedule_part_of };
+
+    fn interface(&self) -> Interface {
+        Schedule::INTERFACE
+    }
+
+    fn cells(&self) -> &'static [u8] {
+        if self.has_menu() {
+            &CELLS_WITH_MENU
+        } else {
+            &CELLS
+        }
+    }
+
+    fn start_kind(&self, index: u8) -> Kind {
+        match index {
+            Schedule::EXECUTED_SCRIPT if self.has_menu() => Kind::Structure,
+            Schedule::EXECUTION_TIME => self.start.kind(),
+            _ => Kind::NullData,
+        }
+    }
+
+    /// 2, executed_script, and 3, type (IEC 62056-6-2, Single action schedule).
+    #[tactic(auto, unfolding(meter_theory::specs::Fixed::fixed_in))]
+    fn fixed(&self, alloc: Global, index: u8) -> Result<Data, Memory> {
+        match index {
+            Schedule::EXECUTED_SCRIPT => script_ref_data(alloc, self.executed_script),
+            Schedule::TYPE => Ok(Data::Enumerated(self.execution_type)),
+            _ => Ok(Data::NullData),
+        }
+    }
+
+    fn judge(&self, _monitored: Kind, index: u8, value: &Data) -> Result<(), AccessCode> {
+        match index {
+            Schedule::EXECUTED_SCRIPT if self.has_menu() => script_answer(self, value),
+            Schedule::EXECUTION_TIME => times_answer(self.execution_type, value),
+            _ => Err(AccessCode::TypeUnmatched),
+        }
+    }
+
+    fn push_references(&self, names: &mut Vec<LogicalName>) -> Result<(), Memory> {
+        names.push(self.executed_script.table)?;
+        push_named_tables(&self.menu, names)
     }
 }
 

@@ -8,11 +8,17 @@ ghost use Rattle.class_control.specs.ScriptTableClass.{ScriptTableFixed, script_
 ghost use Rattle.class_control.specs.ScriptTableLaws.{script_table_depends_only_on_sources, script_table_writes_its_value, script_table_keeps_rules};
 
 use crate::parts::ScriptTablePart;
+use crate::references::push_scripts;
 use crate::script::Script;
 use crate::shapes::scripts_data;
 use cosem_class::cell_set::CellSet;
 use cosem_class::class::{ClassFault, InterfaceClass, Lent, Op, Row};
+use cosem_class::part::ClassPart;
 use cosem_data::data::Data;
+use cosem_data::kind::Kind;
+use cosem_data::memory::Memory;
+use cosem_data::name::LogicalName;
+use meter_theory::access::AccessCode;
 use meter_theory::refs::Interface;
 use std::alloc::Global;
 
@@ -20,6 +26,9 @@ use std::alloc::Global;
 /// version 0).
 #[derive(Clone, Copy, Drop)]
 pub struct ScriptTable;
+
+/// The indexes of the cells, of which there are none.
+static CELLS: [u8; 0] = [];
 
 impl ScriptTable {
     /// Class 9, Script table, version 0, with two attributes and one method, execute (IEC 62056-6-2).
@@ -49,6 +58,41 @@ fn has_script(scripts: &[Script], id: u16) -> bool
     ensures { result ≡ list_any (λ s. s.id == id) (map script_of scripts.now) }
 {
     scripts.iter().any(|script| script.id == id)
+}
+
+impl ClassPart for ScriptTablePart {
+    ghost use Rattle.class_control.specs.PartView.{script_table_part_of};
+
+    ghost part = { script_table_part_of };
+
+    fn interface(&self) -> Interface {
+        ScriptTable::INTERFACE
+    }
+
+    fn cells(&self) -> &'static [u8] {
+        &CELLS
+    }
+
+    fn start_kind(&self, _index: u8) -> Kind {
+        Kind::NullData
+    }
+
+    /// 2, scripts (IEC 62056-6-2, Script table).
+    #[tactic(auto, unfolding(meter_theory::specs::Fixed::fixed_in))]
+    fn fixed(&self, alloc: Global, index: u8) -> Result<Data, Memory> {
+        match index {
+            ScriptTable::SCRIPTS => scripts_data(alloc, &self.scripts),
+            _ => Ok(Data::NullData),
+        }
+    }
+
+    fn judge(&self, _monitored: Kind, _index: u8, _value: &Data) -> Result<(), AccessCode> {
+        Err(AccessCode::TypeUnmatched)
+    }
+
+    fn push_references(&self, names: &mut Vec<LogicalName>) -> Result<(), Memory> {
+        push_scripts(&self.scripts, names)
+    }
 }
 
 impl<'a> InterfaceClass<Lent<'a, ScriptTablePart>> for ScriptTable {

@@ -3,12 +3,11 @@ ghost use Rattle.std.specs.Prelude.{◌≡◌, ◌<◌, map, IfOk, true};
 ghost use Rattle.cosem_data.specs.View.{tree};
 ghost use Rattle.meter_theory.specs.Value.{array_of};
 ghost use Rattle.meter_theory.specs.Fixed as fixed;
-ghost use Rattle.meter_theory.specs.Fixed.{action_value, index_value, monitored_value, script_ref_value, script_value, up_down_value};
+ghost use Rattle.meter_theory.specs.Fixed.{action_value, index_value, script_ref_value, script_value, up_down_value};
 ghost use Rattle.class_control.specs.ActionView.{action_of, has_index};
 ghost use Rattle.class_control.specs.ScriptView.{script_of};
 
 use crate::action::Action;
-use crate::parts::MonitorPart;
 use crate::script::Script;
 use cosem_class::shapes::structure;
 use cosem_data::bytes::Bytes;
@@ -25,7 +24,7 @@ pub fn no_date_time(alloc: Global) -> Result<Data, Memory>
 }
 
 /// The index of an attribute or a method, an integer.
-fn index_data(index: u8) -> Data
+pub(crate) fn index_data(index: u8) -> Data
     requires { index < 128 }
     ensures { tree result ≡ index_value index }
 {
@@ -80,17 +79,6 @@ pub fn scripts_data(alloc: Global, scripts: &[Script]) -> Result<Data, Memory>
         elements.push(script_data(alloc, script)?)?;
     }
     Ok(Data::Array(Items::new(elements)))
-}
-
-/// Monitored_value of a register monitor: a structure of class_id, logical_name and attribute_index (IEC 62056-6-2,
-/// Register monitor, value_definition).
-pub fn monitored_data(alloc: Global, part: &MonitorPart) -> Result<Data, Memory>
-    ensures { IfOk result (λ value. tree value ≡ monitored_value part.now.monitored_value) }
-{
-    let cell = &part.monitored_value;
-    let name = cell.name.as_octets(alloc)?;
-    let index = index_data(cell.index);
-    structure(alloc, [Data::LongUnsigned(cell.class_id), name, index])
 }
 
 /// A script of a table: a structure of the table's logical_name and script_selector (IEC 62056-6-2, Register monitor,

@@ -5,7 +5,7 @@ use Rattle.cosem_axdr.specs.declared.fault.ReadFault.{ReadFault}
 use Rattle.cosem_axdr.specs.declared.fault.ReadFault.TheVariants as faults
 use Rattle.cosem_axdr.specs.Grammar.{IsEncoding, BeginsWith, BeginsWithNone}
 use Rattle.cosem_axdr.specs.Canonical.{canonical}
-use Rattle.codec_bench.specs.declared.input.TheConstants.{MOST_BYTES}
+use Rattle.codec_bench.specs.declared.limits.TheConstants.{MOST_BYTES}
 use Rattle.codec_bench.specs.declared.command.Pass.{Pass}
 use Rattle.codec_bench.specs.declared.command.Pass.TheVariants.{Copy, Read, Write}
 use Rattle.codec_bench.specs.declared.fault.Fault.{Fault}

@@ -29,7 +29,8 @@ impl Command {
     /// digits, below 2^32.
     pub fn read(name: &str, count: &str) -> Option<Command>
         ensures found { IfSome result (λ command. IsCommand command name.now count.now) }
-        ensures only { (command : Command) → IsCommand command name.now count.now → result ≡ Some command }
+        ensures only { (command : Command) → IsCommand command name.now count.now
+            → result ≡ Some command }
     {
         let pass = match name {
             "copy" => Pass::Copy,

@@ -1,6 +1,6 @@
 ghost use Rattle.std.specs.Prelude.{◌≡◌};
 
-use crate::input::MOST_BYTES;
+use crate::limits::MOST_BYTES;
 use cosem_axdr::fault::ReadFault;
 use cosem_data::memory::Memory;
 use std::fmt;

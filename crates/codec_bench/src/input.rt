@@ -1,11 +1,9 @@
 ghost use Rattle.std.specs.Prelude.{◌≡◌, ◌≤◌, ◌<◌, List, ℕ, Some, IfOk, MatchResult, length, vec_len};
 
 use crate::fault::Fault;
+use crate::limits::MOST_BYTES;
 use std::alloc::Global;
 use std::io::{ErrorKind, Read};
-
-/// How many bytes an input may have.
-pub const MOST_BYTES: usize = 0x100_0000;
 
 /// All bytes that the reader has left.
 ///

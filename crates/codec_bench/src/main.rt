@@ -9,6 +9,7 @@
 mod command;
 mod fault;
 mod input;
+mod limits;
 mod passes;
 
 use command::{Command, Outcome};

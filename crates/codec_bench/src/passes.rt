@@ -8,7 +8,7 @@ ghost use Rattle.codec_bench.specs.Passes.{OfFront, Handles, FailsBy};
 
 use crate::command::{Command, Pass};
 use crate::fault::Fault;
-use crate::input::MOST_BYTES;
+use crate::limits::MOST_BYTES;
 use cosem_axdr::fault::ReadFault;
 use cosem_axdr::limits::is_encoded_within;
 use cosem_axdr::reading::read_data;
@@ -86,7 +86,8 @@ pub fn write_passes(alloc: Global, value: &Data, times: u32) -> Result<u64, Memo
 pub fn run(alloc: Global, command: Command, bytes: &[u8]) -> Result<u64, Fault>
     requires { length bytes.now ≤ MOST_BYTES }
     ensures ok { IfOk result (Handles command.pass command.times bytes.now) }
-    ensures none { BeginsWithNone bytes.now → command.pass ≢ Pass.Copy → 0 < command.times → IsErr result }
+    ensures none { BeginsWithNone bytes.now → command.pass ≢ Pass.Copy → 0 < command.times
+        → IsErr result }
     ensures err { IfErr result (FailsBy command.pass bytes.now) }
 {
     match command.pass {

@@ -1,5 +1,5 @@
 -- What the stored objects of a meter stand for.
-use Rattle.std.specs.Prelude.{ℕ, ◌==◌, is_some, Bool, true, false, List, [], ◌∷◌, ◌++◌, Option, Some, None, option_map}
+use Rattle.std.specs.Prelude.{ℕ, ◌==◌, is_some, Bool, true, false, List, [], ◌∷◌, ◌++◌, flat_map, Option, Some, None, option_map}
 use Rattle.std.specs.List.{list_any}
 use Rattle.cosem_data.specs.View.{tree}
 use Rattle.cosem_data.specs.Tree.{Tree}
@@ -44,6 +44,10 @@ pairs_of n (cells.SingleActionSchedule object) =
 -- the same of a stored object: own profile
 abbrev pub stored_pairs : Stored → State
 stored_pairs o = pairs_of o.name o.cells
+
+-- the same of stored objects, those of one behind those of the other: own profile
+abbrev pub all_pairs : List Stored → State
+all_pairs objects = flat_map stored_pairs objects
 
 -- the same of an object that has cells, and none of one that has not: own profile
 abbrev pub pairs_if : Option Stored → State

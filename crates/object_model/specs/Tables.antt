@@ -1,6 +1,8 @@
 -- What a plan keeps beside its parts, so that nothing is looked for twice.
 use Rattle.std.specs.Prelude.{◌≡◌, ◌==◌, ◌<◌, ℕ, Bool, not, List, length, map, filter, take, flat_map, Option, Some, option_map}
-use Rattle.std.specs.List.{slice_index_or}
+use Rattle.std.specs.List.{position_from, slice_index_or}
+use Rattle.cosem_data.specs.Cells.{same_name}
+use Rattle.cosem_data.specs.declared.cell.CellRef.{CellRef}
 use Rattle.cosem_data.specs.declared.name.LogicalName.{LogicalName}
 use Rattle.cosem_class.specs.Parts.{references}
 use Rattle.meter_theory.specs.Lists.{for_some}
@@ -10,6 +12,10 @@ use Rattle.meter_theory.specs.State.{keys}
 use Rattle.object_model.specs.Grants.{AreGrants, place_in}
 use Rattle.object_model.specs.declared.grants.Grants.{Grants}
 use Rattle.object_model.specs.declared.place.Place.{Place}
+
+-- the number of the first object with this name, counted from 0, if one has it: own profile
+abbrev pub number_at : List Object → LogicalName → Option ℕ
+number_at objects name = position_from (λ o. same_name o.name name) 0 objects
 
 -- a script table has no cells, and any other object has some: own profile
 abbrev pub has_cells : Object → Bool
@@ -38,6 +44,10 @@ references_at P n = for_some (object_at P n) (λ o. references o.part)
 -- numbers of these names, each that of the first object with its name: own profile
 abbrev pub AreNumbers : Plan → List LogicalName → List ℕ → Type 0
 AreNumbers P names numbers = map Some numbers ≡ map (place_in (map (λ o. o.name) P.objects)) names
+
+-- the same of the objects whose these cells are: own profile
+abbrev pub AreNumbersOf : Plan → List CellRef → List ℕ → Type 0
+AreNumbersOf P xs numbers = AreNumbers P (map (λ x. x.name) xs) numbers
 
 -- for each object the numbers of those to which it refers: own profile
 abbrev pub AreReferences : List LogicalName → List Object → List (List ℕ) → Type 0

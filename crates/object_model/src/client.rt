@@ -22,13 +22,18 @@ impl Model for Client {
 
     ghost coded = { client_code };
 
-    ghost view = { λ c. record { name = string_bytes c.name; sap = c.sap; password = option_map string_bytes c.password } };
+    ghost view = { λ c. record {
+      name = string_bytes c.name;
+      sap = c.sap;
+      password = option_map string_bytes c.password;
+    } };
 }
 
 impl Client {
     /// A client with this name, service access point and password.
     pub fn new(name: String, sap: u8, password: Option<String>) -> Self
-        ensures { result ≡ record { name = string_bytes name; sap = sap; password = option_map string_bytes password } }
+        ensures { result
+            ≡ record { name = string_bytes name; sap = sap; password = option_map string_bytes password } }
     {
         Client {
             name,

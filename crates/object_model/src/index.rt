@@ -74,7 +74,8 @@ impl Index {
 /// Where the number of a name stands, or else where it would have to; and how many names were compared.
 fn search(names: &[LogicalName], numbers: &[u16], name: &LogicalName) -> (Result<usize, usize>, u32)
     requires { IsSorted names.now numbers.now }
-    ensures found { IfOk result.0 (λ i. (i < length numbers.now) × (order (entry names.now numbers.now i) name.now ≡ Equal)) }
+    ensures found { IfOk result.0 (λ i. (i < length numbers.now)
+        × (order (entry names.now numbers.now i) name.now ≡ Equal)) }
     ensures absent { IfErr result.0 (λ i. (i ≤ length numbers.now)
         × ((j : ℕ) → j < i → order (entry names.now numbers.now j) name.now ≡ Less)
         × ((j : ℕ) → i ≤ j → j < length numbers.now → order (entry names.now numbers.now j) name.now ≡ Greater)) }

@@ -2,7 +2,7 @@
 ghost use Rattle.std.specs.Prelude.{◌≡◌, ℕ, true, option_map, slice_get, IfOk, Some};
 ghost use Rattle.cosem_data.specs.View.{tree};
 ghost use Rattle.std.specs.List.{position_from};
-ghost use Rattle.cosem_data.specs.Cells.{cell, same_cell, same_name};
+ghost use Rattle.cosem_data.specs.Cells.{cell, same_cell};
 ghost use Rattle.cosem_data.specs.Kinds.{kind_of};
 ghost use Rattle.cosem_data.specs.declared.name.LogicalName.{LogicalName as NameValue};
 ghost use Rattle.cosem_class.specs.Judged.{rule_answer};
@@ -14,7 +14,7 @@ ghost use Rattle.meter_theory.specs.Steps.{captures_of};
 ghost use Rattle.class_profile.specs.PartView.{captures_of_part};
 ghost use Rattle.object_model.specs.Grants.{listed};
 ghost use Rattle.object_model.specs.PartView.{part_of, monitored_kind};
-ghost use Rattle.object_model.specs.Tables.{AreNumbers, place_of, references_at};
+ghost use Rattle.object_model.specs.Tables.{AreNumbers, number_at, place_of, references_at};
 
 use crate::grants::is_granted;
 use crate::object::Object;
@@ -44,9 +44,8 @@ pub struct Instance<'a> {
 
 impl<'a> Model for Instance<'a> {
     ghost use Rattle.std.specs.Prelude.{◌≡◌};
-    ghost use Rattle.std.specs.List.{position_from};
-    ghost use Rattle.cosem_data.specs.Cells.{same_name};
     ghost use Rattle.object_model.specs.InstanceView.{AtName, at_name_code};
+    ghost use Rattle.object_model.specs.Tables.{number_at};
 
     ghost Value = { AtName };
 
@@ -54,7 +53,7 @@ impl<'a> Model for Instance<'a> {
 
     ghost view = { λ i. record { plan = i.plan.now; name = i.name } };
 
-    ghost invariant = { λ i. i.number ≡ position_from (λ o. same_name o.name i.name) 0 i.plan.now.objects };
+    ghost invariant = { λ i. i.number ≡ number_at i.plan.now.objects i.name };
 }
 
 impl<'a> Instance<'a> {
@@ -95,7 +94,8 @@ impl<'a> Instance<'a> {
 
     /// What the plan fixes of the profile with this name, or None where it has none.
     pub fn profile(&self) -> Option<&'a ProfilePart>
-        ensures { option_map (λ part. record { captured = captures_of_part part.now; entries = part.now.profile_entries }) result
+        ensures { option_map
+            (λ part. record { captured = captures_of_part part.now; entries = part.now.profile_entries }) result
             ≡ captures_of (object_at self.now.plan self.now.name) }
     {
         match self.object()?.part() {
@@ -106,7 +106,8 @@ impl<'a> Instance<'a> {
 
     /// Where the object has its cells, or None where the plan has no object with this name.
     pub(crate) fn place(&self) -> Option<Place>
-        ensures { result ≡ option_map (place_of self.now.plan.objects) (position_from (λ o. same_name o.name self.now.name) 0 self.now.plan.objects) }
+        ensures { result
+            ≡ option_map (place_of self.now.plan.objects) (number_at self.now.plan.objects self.now.name) }
     {
         match self.number {
             Some(number) => Some(self.plan.place(number)),
@@ -118,7 +119,8 @@ impl<'a> Instance<'a> {
     /// profile to the cells that it may capture, a script table to the targets of its scripts' actions, a register monitor to its
     /// monitored value and then to the scripts of its actions, a schedule to the scripts that it may run. It takes no search.
     pub fn referred(&self, place: usize) -> Option<Instance<'a>>
-        ensures { result ≡ option_map (λ name. record { plan = self.now.plan; name = name }) (slice_get (references_at self.now.plan self.now.name) place) }
+        ensures { result ≡ option_map (λ name. record { plan = self.now.plan; name = name })
+            (slice_get (references_at self.now.plan self.now.name) place) }
     {
         let number = self.plan.reference(self.number?, place)?;
         Some(Instance::numbered(self.plan, number))
@@ -136,9 +138,9 @@ impl<'a> Instance<'a> {
 
     /// What a plan has under this number, the first with its name.
     pub(crate) fn numbered(plan: &'a Plan, number: u16) -> Self
-        requires { (name : NameValue) × (position_from (λ o. same_name o.name name) 0 plan.now.objects ≡ Some number) }
-        ensures { (name : NameValue) → position_from (λ o. same_name o.name name) 0 plan.now.objects ≡ Some number →
-            result ≡ record { plan = plan.now; name = name } }
+        requires { (name : NameValue) × (number_at plan.now.objects name ≡ Some number) }
+        ensures { (name : NameValue) → number_at plan.now.objects name ≡ Some number
+            → result ≡ record { plan = plan.now; name = name } }
     {
         Instance {
             plan,
@@ -149,7 +151,8 @@ impl<'a> Instance<'a> {
 
     /// The kind of the value that the register monitor here watches, which is kept; that of null-data for any other object.
     pub(crate) fn monitored_kind(&self, part: &Part) -> Kind
-        requires { option_map (λ o. o.part) (object_at self.now.plan self.now.name) ≡ Some (part_of part.now) }
+        requires { option_map (λ o. o.part) (object_at self.now.plan self.now.name)
+            ≡ Some (part_of part.now) }
         ensures { result ≡ monitored_kind self.now.plan (part_of part.now) }
     {
         match (part.monitored(), self.referred(0)) {
@@ -208,7 +211,8 @@ impl<'a> Instance<'a> {
     /// Whether the client may read this attribute of what its view has: the logical name, the attributes of the current
     /// association but 5 and 7, user information and secret (own profile), and what a right allows.
     pub fn may_read(&self, client: u8, index: u8) -> bool
-        ensures { (class_id : ℕ) → result ≡ may_read self.now.plan client (cell class_id self.now.name index) }
+        ensures { (class_id : ℕ)
+            → result ≡ may_read self.now.plan client (cell class_id self.now.name index) }
     {
         if self.name == ASSOCIATION {
             matches!(index, 1..=4 | 6 | 8)
@@ -219,7 +223,8 @@ impl<'a> Instance<'a> {
 
     /// Whether a right of the client lists this index for this access.
     fn is_granted(&self, access: Access, client: u8, index: u8) -> bool
-        ensures { result ≡ has_right self.now.plan client self.now.name (λ r. lists (listed access r) index) }
+        ensures { result
+            ≡ has_right self.now.plan client self.now.name (λ r. lists (listed access r) index) }
     {
         is_granted(self.plan.masks(access), self.number, client, index)
     }
@@ -241,7 +246,8 @@ impl<'a> Instance<'a> {
     /// The number, from 0 in plan order, of the cell with this class_id and index of the object with this name, or None where
     /// it is no cell.
     pub fn cell_number(&self, class_id: u16, index: u8) -> Option<u16>
-        ensures { result ≡ position_from (same_cell (cell class_id self.now.name index)) 0 (cells self.now.plan) }
+        ensures { result ≡ position_from (same_cell (cell class_id self.now.name index)) 0
+            (cells self.now.plan) }
     {
         self.plan.known();
         let object = self.object()?;
@@ -254,7 +260,8 @@ impl<'a> Instance<'a> {
 
     /// The kind of the value with which a cell starts; that of null-data for what is no cell.
     pub fn start_kind(&self, class_id: u16, index: u8) -> Kind
-        ensures { result ≡ kind_of (value (start_values self.now.plan) (cell class_id self.now.name index)) }
+        ensures { result
+            ≡ kind_of (value (start_values self.now.plan) (cell class_id self.now.name index)) }
     {
         self.plan.known();
         match self.object() {
@@ -269,7 +276,8 @@ impl<'a> Instance<'a> {
     /// `OtherReason` for the right tag against the rest of the cell's rule (own profile; the codes are those of
     /// IEC 62056-5-3, Data-Access-Result).
     pub fn rule(&self, class_id: u16, index: u8, value: &Data) -> Result<(), AccessCode>
-        ensures { result ≡ rule_answer (rule_of self.now.plan (cell class_id self.now.name index)) (tree value.now) }
+        ensures { result ≡ rule_answer (rule_of self.now.plan (cell class_id self.now.name index))
+            (tree value.now) }
     {
         let Some(object) = self.object() else {
             return Err(AccessCode::TypeUnmatched);
@@ -283,7 +291,8 @@ impl<'a> Instance<'a> {
 
     /// A copy of a fixed attribute of the object, other than its logical name; null-data where there is none.
     pub fn fixed(&self, alloc: Global, index: u8) -> Result<Data, Memory>
-        ensures { IfOk result (λ value. tree value ≡ fixed_of (object_at self.now.plan self.now.name) index) }
+        ensures { IfOk result (λ value. tree value
+            ≡ fixed_of (object_at self.now.plan self.now.name) index) }
     {
         match self.object() {
             Some(object) => object.part().fixed(alloc, index),
@@ -300,5 +309,52 @@ impl<'a> Instance<'a> {
             name: self.name,
             index,
         }
+    }
+}
+
+impl Plan {
+    /// What the plan has at this logical name.
+    pub fn instance(&self, name: &LogicalName) -> Instance<'_>
+        ensures { result ≡ record { plan = self.now; name = name.now } }
+    {
+        Instance::of(self, *name)
+    }
+
+    /// The object with this logical name, or None where there is none.
+    pub fn object_at(&self, name: &LogicalName) -> Option<&Object>
+        ensures { option_map (λ o. o.now) result ≡ object_at self.now name.now }
+    {
+        self.instance(name).object()
+    }
+
+    /// The kind of the value with which a cell starts; that of null-data for what is no cell.
+    pub fn start_kind(&self, cell: &CellRef) -> Kind
+        ensures { result ≡ kind_of (value (start_values self.now) cell.now) }
+    {
+        self.instance(&cell.name)
+            .start_kind(cell.class_id, cell.index)
+    }
+
+    /// Whether the value may be put into a cell, as [`Instance::rule`] says of what stands at its name.
+    pub fn rule(&self, cell: &CellRef, value: &Data) -> Result<(), AccessCode>
+        ensures { result ≡ rule_answer (rule_of self.now cell.now) (tree value.now) }
+    {
+        self.instance(&cell.name)
+            .rule(cell.class_id, cell.index, value)
+    }
+
+    /// The number, from 0 in plan order, of a cell, or None for what is no cell of this plan.
+    pub fn cell_number(&self, cell: &CellRef) -> Option<u16>
+        ensures { result ≡ position_from (same_cell cell.now) 0 (cells self.now) }
+    {
+        self.instance(&cell.name)
+            .cell_number(cell.class_id, cell.index)
+    }
+
+    /// Whether it is a cell of this plan.
+    pub fn is_cell(&self, cell: &CellRef) -> bool
+        ensures { result ≡ is_cell self.now cell.now }
+    {
+        self.instance(&cell.name).is_cell(cell.class_id, cell.index)
     }
 }

@@ -1,6 +1,6 @@
 //! The alternatives that are present: which cells a profile captures and which script a schedule runs. The plan has the
 //! numbers of the objects to which they refer, so no name is looked for.
-ghost use Rattle.std.specs.Prelude.{◌≡◌, ℕ, map, option_map, Some};
+ghost use Rattle.std.specs.Prelude.{◌≡◌, ℕ, option_map, Some};
 ghost use Rattle.cosem_data.specs.View.{tree};
 ghost use Rattle.meter_theory.specs.Menus.{capture_objects_value, chosen, script_ref_value};
 ghost use Rattle.meter_theory.specs.Plan.{object_at};
@@ -8,7 +8,7 @@ ghost use Rattle.meter_theory.specs.Steps.{captures_of};
 ghost use Rattle.class_profile.specs.PartView.{captures_of_part};
 ghost use Rattle.class_control.specs.PartView.{scripts_of_part};
 ghost use Rattle.object_model.specs.Present.{IsPlaced};
-ghost use Rattle.object_model.specs.Tables.{AreNumbers};
+ghost use Rattle.object_model.specs.Tables.{AreNumbersOf};
 
 use crate::instance::Instance;
 use class_control::menus::place_of;
@@ -44,7 +44,7 @@ pub(crate) fn configured_columns<'a>(profile: &Instance<'a>, part: &'a ProfilePa
     requires { captures_of (object_at profile.now.plan profile.now.name)
         ≡ Some (record { captured = captures_of_part part.now; entries = part.now.profile_entries }) }
     ensures cells { result.cells.now ≡ (captures_of_part part.now).configured }
-    ensures numbers { AreNumbers profile.now.plan (map (λ x. x.name) result.cells.now) result.numbers.now }
+    ensures numbers { AreNumbersOf profile.now.plan result.cells.now result.numbers.now }
 {
     let (numbers, _) = profile.references().split_at(part.captured.len());
     Columns {
@@ -61,8 +61,9 @@ pub(crate) fn chosen_columns<'a>(
 ) -> Columns<'a>
     requires { captures_of (object_at profile.now.plan profile.now.name)
         ≡ Some (record { captured = captures_of_part part.now; entries = part.now.profile_entries }) }
-    ensures cells { result.cells.now ≡ chosen capture_objects_value (captures_of_part part.now) (tree objects.now) }
-    ensures numbers { AreNumbers profile.now.plan (map (λ x. x.name) result.cells.now) result.numbers.now }
+    ensures cells { result.cells.now
+        ≡ chosen capture_objects_value (captures_of_part part.now) (tree objects.now) }
+    ensures numbers { AreNumbersOf profile.now.plan result.cells.now result.numbers.now }
 {
     let (configured, mut others) = profile.references().split_at(part.captured.len());
     for cells in &part.menu {
@@ -90,7 +91,8 @@ pub(crate) fn configured_script(part: &SchedulePart) -> PlacedScript
 
 /// What a schedule runs where its executed_script has this value.
 pub(crate) fn chosen_script(part: &SchedulePart, value: &Data) -> PlacedScript
-    ensures { IsPlaced (scripts_of_part part.now) (chosen script_ref_value (scripts_of_part part.now) (tree value.now)) result }
+    ensures { IsPlaced (scripts_of_part part.now)
+        (chosen script_ref_value (scripts_of_part part.now) (tree value.now)) result }
 {
     match place_of(&part.menu, value) {
         // The first is that at the start.

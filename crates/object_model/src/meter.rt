@@ -6,7 +6,7 @@ ghost use Rattle.cosem_data.specs.Tree.{null_data};
 ghost use Rattle.cosem_data.specs.declared.name.LogicalName.{LogicalName as NameValue};
 ghost use Rattle.meter_theory.specs.Lists.{IsIn, some_passes};
 ghost use Rattle.meter_theory.specs.Plan as plans;
-ghost use Rattle.meter_theory.specs.Plan.{cells, class_of, clock_object, held, is_cell, object_at};
+ghost use Rattle.meter_theory.specs.Plan.{cells, class_of, clock_object, held, is_cell, object_at, start, start_of};
 ghost use Rattle.meter_theory.specs.State as state;
 ghost use Rattle.meter_theory.specs.State.{keys, value};
 ghost use Rattle.meter_theory.specs.States.{IsState, MayStand, Fits};
@@ -21,9 +21,9 @@ ghost use Rattle.class_control.specs.PartView.{schedule_part_of, scripts_of_part
 ghost use Rattle.object_model.specs.EffectView.{effect_of, IsProfile, MayTake};
 ghost use Rattle.cosem_class.specs.Parts.{rule_watching};
 ghost use Rattle.object_model.specs.PartView.{part_of};
-ghost use Rattle.object_model.specs.Stored.{captured, held_tree, inner_pairs, is_rows, is_value, stored_pairs, stores};
+ghost use Rattle.object_model.specs.Stored.{all_pairs, captured, held_tree, inner_pairs, is_rows, is_value, stores};
 ghost use Rattle.object_model.specs.Present.{IsPlaced};
-ghost use Rattle.object_model.specs.Tables.{AreNumbers};
+ghost use Rattle.object_model.specs.Tables.{AreNumbersOf};
 ghost use Rattle.object_model.specs.Undone.{cell_changed, change_undone, profile_undone, undone};
 
 use crate::cells::{buffer, capture_objects, clock_time, empties, executed_script, is_named, seen};
@@ -34,6 +34,7 @@ use crate::menus::{
     Columns, PlacedScript, PresentScript, chosen_columns, chosen_script, configured_columns,
     configured_script,
 };
+use crate::object::Object;
 use crate::part::Part;
 use crate::plan::Plan;
 use crate::stored::Stored;
@@ -61,22 +62,22 @@ pub struct Meter {
 }
 
 impl Model for Meter {
-    ghost use Rattle.std.specs.Prelude.{flat_map, ◌++◌};
+    ghost use Rattle.std.specs.Prelude.{◌++◌};
     ghost use Rattle.meter_theory.specs.State.{State};
     ghost use Rattle.meter_theory.specs.PlanCode.{state_code};
-    ghost use Rattle.object_model.specs.Stored.{inner_pairs, stored_pairs};
+    ghost use Rattle.object_model.specs.Stored.{all_pairs, inner_pairs};
 
     ghost Value = { State };
 
     ghost coded = { state_code };
 
-    ghost view = { λ m. flat_map stored_pairs m.objects.items ++ inner_pairs m.inner_clock };
+    ghost view = { λ m. all_pairs m.objects.items ++ inner_pairs m.inner_clock };
 }
 
 impl Meter {
     /// A meter of these objects, with an inner clock or without.
     pub(crate) fn new(objects: Vec<Stored>, inner_clock: Option<Moment>) -> Self
-        ensures { result ≡ flat_map stored_pairs objects.items ++ inner_pairs inner_clock }
+        ensures { result ≡ all_pairs objects.items ++ inner_pairs inner_clock }
     {
         Meter {
             objects,
@@ -116,8 +117,10 @@ impl Meter {
         ensures cell { is_some result ≡ is_cell instance.now.plan cell.now }
         ensures found { IfSome result (λ held. held_tree held ≡ value self.now cell.now) }
         ensures rows { IfSome result (λ held. is_rows held ≡ true → cell.now.class_id ≡ 7) }
-        ensures buffer { IfSome result (λ held. cell.now.class_id ≡ 7 → cell.now.index ≡ 2 → is_rows held ≡ true) }
-        ensures objects { IfSome result (λ held. cell.now.class_id ≡ 7 → cell.now.index ≡ 3 → is_value held ≡ true) }
+        ensures buffer { IfSome result (λ held. cell.now.class_id ≡ 7 → cell.now.index ≡ 2
+            → is_rows held ≡ true) }
+        ensures objects { IfSome result (λ held. cell.now.class_id ≡ 7 → cell.now.index ≡ 3
+            → is_value held ≡ true) }
         ensures schedule { IfSome result (λ held. cell.now.class_id ≡ 22 → is_value held ≡ true) }
         ensures none { IfNone result (value self.now cell.now ≡ null_data) }
     {
@@ -220,7 +223,8 @@ impl Meter {
     fn choose(&mut self, plan: &Plan, profile: LogicalName, objects: Data) -> Undo
         requires of_plan { keys self.old ≡ held plan.now }
         requires there { IsIn (cells plan.now) (plans.capture_objects profile) }
-        ensures put { self.new ≡ theory.write self.old (plans.capture_objects profile) (tree objects) }
+        ensures put { self.new
+            ≡ theory.write self.old (plans.capture_objects profile) (tree objects) }
         ensures before { undone result self.new ≡ self.old }
     {
         let emptied = self.empty(plan, profile);
@@ -269,7 +273,8 @@ impl Meter {
     fn capture(&mut self, alloc: Global, plan: &Plan, profile: LogicalName) -> Result<Undo, Memory>
         requires of_plan { IsState plan.now self.old }
         requires fits { IsProfile plan.now profile }
-        ensures ok { OnOk result (self.new ≡ theory.capture self.old profile (captures_of (object_at plan.now profile))) }
+        ensures ok { OnOk result (self.new
+            ≡ theory.capture self.old profile (captures_of (object_at plan.now profile))) }
         ensures before { IfOk result (λ undo. undone undo self.new ≡ self.old) }
         ensures err { OnErr result (self.new ≡ self.old) }
     {
@@ -295,8 +300,9 @@ impl Meter {
         requires of_plan { IsState profile.now.plan self.now }
         requires part { captures_of (object_at profile.now.plan profile.now.name)
             ≡ Some (record { captured = captures_of_part part.now; entries = part.now.profile_entries }) }
-        ensures cells { result.cells.now ≡ captured_in self.now profile.now.name (captures_of_part part.now) }
-        ensures numbers { AreNumbers profile.now.plan (map (λ x. x.name) result.cells.now) result.numbers.now }
+        ensures cells { result.cells.now
+            ≡ captured_in self.now profile.now.name (captures_of_part part.now) }
+        ensures numbers { AreNumbersOf profile.now.plan result.cells.now result.numbers.now }
     {
         if !part.has_menu() {
             return configured_columns(profile, part);
@@ -310,7 +316,8 @@ impl Meter {
         requires of_plan { IsState instance.now.plan self.now }
         requires named { cell.now.name ≡ instance.now.name }
         requires there { is_cell instance.now.plan cell.now ≡ true }
-        requires attribute { ((cell.now.class_id ≡ 7) × (cell.now.index ≡ 3)) ⊎ (cell.now.class_id ≡ 22) }
+        requires attribute { ((cell.now.class_id ≡ 7) × (cell.now.index ≡ 3))
+            ⊎ (cell.now.class_id ≡ 22) }
         ensures { tree result.now ≡ value self.now cell.now }
     {
         let Some(held) = self.held(instance, cell) else {
@@ -331,7 +338,7 @@ impl Meter {
         numbers: &[u16],
     ) -> Result<Row, Memory>
         requires of_plan { IsState plan.now self.now }
-        requires numbers { AreNumbers plan.now (map (λ x. x.name) cells.now) numbers.now }
+        requires numbers { AreNumbersOf plan.now cells.now numbers.now }
         ensures { IfOk result (λ row. row ≡ map (value self.now) cells.now) }
     {
         let mut values = Vec::with_capacity(alloc, cells.len())?;
@@ -349,7 +356,8 @@ impl Meter {
             ≡ Some (schedule_part_of part.now) }
         ensures table { result.table
             ≡ record { plan = schedule.now.plan; name = (script_now self.now schedule.now.name (scripts_of_part part.now)).table } }
-        ensures script { result.script ≡ (script_now self.now schedule.now.name (scripts_of_part part.now)).script }
+        ensures script { result.script
+            ≡ (script_now self.now schedule.now.name (scripts_of_part part.now)).script }
     {
         let present = self.placed_script(schedule, part);
         let Some(table) = schedule.referred(present.place) else {
@@ -366,7 +374,8 @@ impl Meter {
         requires of_plan { IsState schedule.now.plan self.now }
         requires part { option_map (λ o. o.part) (object_at schedule.now.plan schedule.now.name)
             ≡ Some (schedule_part_of part.now) }
-        ensures { IsPlaced (scripts_of_part part.now) (script_now self.now schedule.now.name (scripts_of_part part.now)) result }
+        ensures { IsPlaced (scripts_of_part part.now)
+            (script_now self.now schedule.now.name (scripts_of_part part.now)) result }
     {
         if !part.has_menu() {
             return configured_script(part);
@@ -483,9 +492,36 @@ impl Meter {
     }
 }
 
+impl Plan {
+    /// A meter of this plan, with the start values.
+    pub fn start(&self, alloc: Global) -> Result<Meter, Memory>
+        ensures { IfOk result (λ meter. meter ≡ start self.now) }
+    {
+        let inner_clock = match self.clock() {
+            Some(_) => None,
+            None => Some(Moment::first()),
+        };
+        Ok(Meter::new(start_objects(alloc, self.objects())?, inner_clock))
+    }
+}
+
+/// The objects that have cells, with their start values.
+fn start_objects(alloc: Global, objects: &[Object]) -> Result<Vec<Stored>, Memory>
+    ensures { IfOk result (λ stored. all_pairs stored.items
+        ≡ flat_map (λ o. start_of o.name o.part) objects.now) }
+{
+    let mut stored = Vec::new(alloc);
+    for object in objects {
+        if let Some(object) = Stored::start(alloc, object)? {
+            stored.push(object)?;
+        }
+    }
+    Ok(stored)
+}
+
 /// Where the object with this cell stands, which is of what the plan has at its name.
 fn place_of(instance: &Instance<'_>, objects: &[Stored], cell: &CellRef) -> Option<usize>
-    requires of_plan { keys (flat_map stored_pairs objects.now) ≡ cells instance.now.plan }
+    requires of_plan { keys (all_pairs objects.now) ≡ cells instance.now.plan }
     requires named { cell.now.name ≡ instance.now.name }
     ensures { result ≡ position_from (stores cell.now) 0 objects.now }
 {
@@ -497,7 +533,8 @@ fn place_of(instance: &Instance<'_>, objects: &[Stored], cell: &CellRef) -> Opti
 
 /// This place, if the object there has the cell.
 fn if_stored(objects: &[Stored], owner: usize, cell: &CellRef) -> Option<usize>
-    ensures { result ≡ cond (some_passes (stores cell.now) (slice_get objects.now owner)) (Some owner) None }
+    ensures { result
+        ≡ cond (some_passes (stores cell.now) (slice_get objects.now owner)) (Some owner) None }
 {
     match objects.get(owner) {
         Some(object) if object.has(cell) => Some(owner),
@@ -519,10 +556,10 @@ fn write_in(
     requires other { theory.empties cell.now ≡ false }
     requires fits { (rule : Rule) × (rule_watching monitored (part_of part.now) cell.now.index ≡ Some rule)
         × (meets rule (tree given) ≡ true) }
-    ensures put { flat_map stored_pairs objects.new.items
-        ≡ state.put (flat_map stored_pairs objects.old.items) cell.now (kept cell.now (tree given)) }
-    ensures before { change_undone cell.now.name result (flat_map stored_pairs objects.new.items)
-        ≡ flat_map stored_pairs objects.old.items }
+    ensures put { all_pairs objects.new.items
+        ≡ state.put (all_pairs objects.old.items) cell.now (kept cell.now (tree given)) }
+    ensures before { change_undone cell.now.name result (all_pairs objects.new.items)
+        ≡ all_pairs objects.old.items }
 {
     objects[place].write(part, monitored, cell.index, given)
 }
@@ -534,10 +571,12 @@ fn put_objects_in(
     name: LogicalName,
     captured: Data,
 ) -> Change
-    requires place { position_from (stores (plans.capture_objects name)) 0 objects.old.items ≡ Some place }
-    ensures put { flat_map stored_pairs objects.new.items
-        ≡ state.put (flat_map stored_pairs objects.old.items) (plans.capture_objects name) (tree captured) }
-    ensures before { change_undone name result (flat_map stored_pairs objects.new.items) ≡ flat_map stored_pairs objects.old.items }
+    requires place { position_from (stores (plans.capture_objects name)) 0 objects.old.items
+        ≡ Some place }
+    ensures put { all_pairs objects.new.items
+        ≡ state.put (all_pairs objects.old.items) (plans.capture_objects name) (tree captured) }
+    ensures before { change_undone name result (all_pairs objects.new.items)
+        ≡ all_pairs objects.old.items }
 {
     objects[place].put_objects(captured)
 }
@@ -545,9 +584,10 @@ fn put_objects_in(
 /// The register monitor at this place remembers a value.
 fn remember_in(objects: &mut Vec<Stored>, place: usize, name: LogicalName, now: Data) -> Change
     requires place { position_from (stores (plans.seen name)) 0 objects.old.items ≡ Some place }
-    ensures put { flat_map stored_pairs objects.new.items
-        ≡ state.put (flat_map stored_pairs objects.old.items) (plans.seen name) (tree now) }
-    ensures before { change_undone name result (flat_map stored_pairs objects.new.items) ≡ flat_map stored_pairs objects.old.items }
+    ensures put { all_pairs objects.new.items
+        ≡ state.put (all_pairs objects.old.items) (plans.seen name) (tree now) }
+    ensures before { change_undone name result (all_pairs objects.new.items)
+        ≡ all_pairs objects.old.items }
 {
     objects[place].remember(now)
 }
@@ -563,12 +603,12 @@ fn capture_in(
 ) -> Result<Change, Memory>
     requires place { position_from (stores (plans.buffer name)) 0 objects.old.items ≡ Some place }
     requires rows { is_buffer (captures_of_part part.now) part.now.profile_entries
-        (value (flat_map stored_pairs objects.old.items) (plans.buffer name)) ≡ true }
-    ensures ok { OnOk result (flat_map stored_pairs objects.new.items
-        ≡ captured name part.now.profile_entries row (flat_map stored_pairs objects.old.items)) }
-    ensures before { IfOk result (λ change. change_undone name change (flat_map stored_pairs objects.new.items)
-        ≡ flat_map stored_pairs objects.old.items) }
-    ensures err { OnErr result (flat_map stored_pairs objects.new.items ≡ flat_map stored_pairs objects.old.items) }
+        (value (all_pairs objects.old.items) (plans.buffer name)) ≡ true }
+    ensures ok { OnOk result (all_pairs objects.new.items
+        ≡ captured name part.now.profile_entries row (all_pairs objects.old.items)) }
+    ensures before { IfOk result (λ change. change_undone name change (all_pairs objects.new.items)
+        ≡ all_pairs objects.old.items) }
+    ensures err { OnErr result (all_pairs objects.new.items ≡ all_pairs objects.old.items) }
 {
     objects[place].capture(alloc, part, row)
 }
@@ -576,32 +616,37 @@ fn capture_in(
 /// The profile at this place is emptied.
 fn clear_in(objects: &mut Vec<Stored>, place: usize, name: LogicalName) -> Cleared
     requires place { position_from (stores (plans.buffer name)) 0 objects.old.items ≡ Some place }
-    ensures cleared { flat_map stored_pairs objects.new.items ≡ theory.clear (flat_map stored_pairs objects.old.items) name }
-    ensures before { profile_undone name (profiles.Cleared result) (flat_map stored_pairs objects.new.items)
-        ≡ flat_map stored_pairs objects.old.items }
+    ensures cleared { all_pairs objects.new.items
+        ≡ theory.clear (all_pairs objects.old.items) name }
+    ensures before { profile_undone name (profiles.Cleared result) (all_pairs objects.new.items)
+        ≡ all_pairs objects.old.items }
 {
     objects[place].clear()
 }
 
 /// The clock at this place goes on by a second.
 fn tick_in(objects: &mut Vec<Stored>, place: usize, name: LogicalName)
-    requires place { position_from (stores (plans.clock_time name)) 0 objects.old.items ≡ Some place }
-    ensures { flat_map stored_pairs objects.new.items
-        ≡ state.put (flat_map stored_pairs objects.old.items) (plans.clock_time name) (clock_value (next_second (clock_moment (value (flat_map stored_pairs objects.old.items) (plans.clock_time name))))) }
+    requires place { position_from (stores (plans.clock_time name)) 0 objects.old.items
+        ≡ Some place }
+    ensures { all_pairs objects.new.items
+        ≡ state.put (all_pairs objects.old.items) (plans.clock_time name)
+        (clock_value (next_second (clock_moment (value (all_pairs objects.old.items) (plans.clock_time name))))) }
 {
     objects[place].tick();
 }
 
 /// Takes a change of the object at this place back.
 fn restore_in(objects: &mut Vec<Stored>, place: usize, name: LogicalName, change: Change)
-    requires place { position_from (stores (cell_changed name change)) 0 objects.old.items ≡ Some place }
-    ensures { flat_map stored_pairs objects.new.items ≡ change_undone name change (flat_map stored_pairs objects.old.items) }
+    requires place { position_from (stores (cell_changed name change)) 0 objects.old.items
+        ≡ Some place }
+    ensures { all_pairs objects.new.items
+        ≡ change_undone name change (all_pairs objects.old.items) }
 {
     objects[place].restore(change);
 }
 
 fn copy_of(alloc: Global, objects: &[Stored]) -> Result<Vec<Stored>, Memory>
-    ensures { IfOk result (λ copy. flat_map stored_pairs copy.items ≡ flat_map stored_pairs objects.now) }
+    ensures { IfOk result (λ copy. all_pairs copy.items ≡ all_pairs objects.now) }
 {
     let mut copy = Vec::with_capacity(alloc, objects.len())?;
     for object in objects {

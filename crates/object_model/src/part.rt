@@ -103,7 +103,8 @@ impl Part {
 
     /// How many cells an object with this part has, what a register monitor has seen among them.
     pub(crate) fn number_of_cells(&self) -> u16
-        ensures number { (name : LogicalNameValue) → result ≡ length (start_of name (part_of self.now)) }
+        ensures number { (name : LogicalNameValue)
+            → result ≡ length (start_of name (part_of self.now)) }
         ensures few { result ≤ 4 }
     {
         self.cells().len() as u16
@@ -115,7 +116,8 @@ impl Part {
         name: LogicalName,
         cells: &mut Vec<CellRef>,
     ) -> Result<(), Memory>
-        ensures { OnOk result (cells.new.items ≡ cells.old.items ++ keys (start_of name (part_of self.now))) }
+        ensures { OnOk result (cells.new.items
+            ≡ cells.old.items ++ keys (start_of name (part_of self.now))) }
     {
         let class_id = self.class_id();
         let indexes = self.cells();
@@ -140,7 +142,8 @@ impl Part {
     /// Where a cell stands among those of an object with this part and name, counted from 0, or None where it is none of
     /// them.
     pub(crate) fn cell_place(&self, name: LogicalName, cell: &CellRef) -> Option<u16>
-        ensures { result ≡ position_from (same_cell cell.now) 0 (keys (start_of name (part_of self.now))) }
+        ensures { result
+            ≡ position_from (same_cell cell.now) 0 (keys (start_of name (part_of self.now))) }
     {
         if !self.is_attribute(name, cell) {
             return None;
@@ -161,7 +164,8 @@ impl Part {
 
     /// Whether the cell is named as one of an object with this part and name.
     fn is_attribute(&self, name: LogicalName, cell: &CellRef) -> bool
-        ensures { result ≡ ((cell.now.class_id == class_of (part_of self.now)) && same_name cell.now.name name) }
+        ensures { result
+            ≡ ((cell.now.class_id == class_of (part_of self.now)) && same_name cell.now.name name) }
     {
         cell.class_id == self.class_id() && cell.name == name
     }
@@ -170,7 +174,8 @@ impl Part {
     /// another tag and for an index without a settable cell, `OtherReason` for the right tag against the rest of the cell's
     /// rule (own profile; the codes are those of IEC 62056-5-3, Data-Access-Result).
     pub fn judge(&self, monitored: Kind, index: u8, value: &Data) -> Result<(), AccessCode>
-        ensures { result ≡ rule_answer (rule_watching monitored (part_of self.now) index) (tree value.now) }
+        ensures { result
+            ≡ rule_answer (rule_watching monitored (part_of self.now) index) (tree value.now) }
     {
         of_part!(self, part => part.judge(monitored, index, value))
     }

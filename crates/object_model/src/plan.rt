@@ -1,38 +1,26 @@
-ghost use Rattle.std.specs.Prelude.{◌≡◌, ◌==◌, ◌<◌, ◌≤◌, ◌+◌, ◌^◌, ℕ, find, length, option_map, option_and_then, map, flat_map, IfOk, IfSome, Some, slice_get};
+ghost use Rattle.std.specs.Prelude.{◌≡◌, ◌==◌, ◌<◌, ◌≤◌, ◌+◌, ◌^◌, find, length, option_map, option_and_then, map, IfOk, IfSome, Some, slice_get};
 ghost use Rattle.std.specs.List.{position_from};
 ghost use Rattle.std.specs.Str.{bytes_eq};
-ghost use Rattle.cosem_data.specs.Cells.{same_cell, same_name};
-ghost use Rattle.cosem_data.specs.View.{tree};
-ghost use Rattle.cosem_class.specs.Judged.{rule_answer};
-ghost use Rattle.cosem_data.specs.Kinds.{kind_of};
-ghost use Rattle.meter_theory.specs.Plan.{cells, class_of, client_named, clock_object, is_cell, object_at, rule_of, start, start_of, start_values};
+ghost use Rattle.cosem_data.specs.Cells.{same_name};
+ghost use Rattle.meter_theory.specs.Plan.{cells, class_of, client_named, clock_object};
 ghost use Rattle.meter_theory.specs.Rights.{is_client};
-ghost use Rattle.meter_theory.specs.State.{value};
 ghost use Rattle.meter_theory.specs.Sound.{IsSound};
 ghost use Rattle.object_model.specs.Grants.{AreMasksOf};
 ghost use Rattle.object_model.specs.PlanView.{plan_of};
-ghost use Rattle.object_model.specs.Stored.{stored_pairs};
 ghost use Rattle.cosem_class.specs.Parts.{references};
-ghost use Rattle.object_model.specs.Tables.{AreNumbers, place_of};
+ghost use Rattle.object_model.specs.Tables.{AreNumbers, number_at, place_of};
 
 use crate::client::Client;
 use crate::grants::Grants;
 use crate::index::Index;
-use crate::instance::Instance;
-use crate::meter::Meter;
 use crate::object::Object;
 use crate::place::{Place, places_of};
 use crate::references::References;
 use crate::right::{Access, Right};
-use crate::stored::Stored;
-use civil_moment::moment::Moment;
 use class_control::clock::Clock;
 use cosem_data::cell::CellRef;
-use cosem_data::data::Data;
-use cosem_data::kind::Kind;
 use cosem_data::memory::Memory;
 use cosem_data::name::LogicalName;
-use meter_theory::access::AccessCode;
 use meter_theory::refs::Interface;
 use std::alloc::Global;
 use std::marker::Model;
@@ -86,9 +74,21 @@ impl Model for Plan {
 
     ghost coded = { plan_code };
 
-    ghost view = { λ p. record { version = p.version; clients = p.clients.items; objects = p.objects.items; rights = p.rights.items } };
+    ghost view = { λ p. record {
+      version = p.version;
+      clients = p.clients.items;
+      objects = p.objects.items;
+      rights = p.rights.items;
+    } };
 
-    ghost invariant = { λ p. AreTables (record { version = p.version; clients = p.clients.items; objects = p.objects.items; rights = p.rights.items }) p.index p.grants p.places.items p.references p.clock };
+    ghost invariant = { λ p. AreTables
+        (record {
+          version = p.version;
+          clients = p.clients.items;
+          objects = p.objects.items;
+          rights = p.rights.items;
+        })
+        p.index p.grants p.places.items p.references p.clock };
 }
 
 impl Plan {
@@ -182,24 +182,10 @@ impl Plan {
 
     /// The number of the object with this name.
     pub(crate) fn number_of(&self, name: &LogicalName) -> Option<u16>
-        ensures { result ≡ position_from (λ o. same_name o.name name.now) 0 self.now.objects }
+        ensures { result ≡ number_at self.now.objects name.now }
     {
         let (number, _) = self.index.find(name);
         number
-    }
-
-    /// What the plan has at this logical name.
-    pub fn instance(&self, name: &LogicalName) -> Instance<'_>
-        ensures { result ≡ record { plan = self.now; name = name.now } }
-    {
-        Instance::of(self, *name)
-    }
-
-    /// The object with this logical name, or None where there is none.
-    pub fn object_at(&self, name: &LogicalName) -> Option<&Object>
-        ensures { option_map (λ o. o.now) result ≡ object_at self.now name.now }
-    {
-        self.instance(name).object()
     }
 
     /// The masks of what is granted for an access.
@@ -220,7 +206,8 @@ impl Plan {
     /// The number of that to which the object with this number refers at this place.
     pub(crate) fn reference(&self, object: u16, place: usize) -> Option<u16>
         ensures { option_map (λ number. Some number) result
-            ≡ option_map (λ name. position_from (λ o. same_name o.name name) 0 self.now.objects) (option_and_then (λ o. slice_get (references o.part) place) (slice_get self.now.objects object)) }
+            ≡ option_map (λ name. number_at self.now.objects name)
+            (option_and_then (λ o. slice_get (references o.part) place) (slice_get self.now.objects object)) }
     {
         self.references.at(object, place)
     }
@@ -228,7 +215,8 @@ impl Plan {
     /// The numbers of all to which the object with this number refers.
     pub(crate) fn references(&self, object: u16) -> &[u16]
         requires { object < length self.now.objects }
-        ensures { IfSome (slice_get self.now.objects object) (λ o. AreNumbers self.now (references o.part) result.now) }
+        ensures { IfSome (slice_get self.now.objects object)
+            (λ o. AreNumbers self.now (references o.part) result.now) }
     {
         self.references.of(object)
     }
@@ -245,33 +233,6 @@ impl Plan {
         ensures { result.now ≡ self.now.rights }
     {
         &self.rights
-    }
-
-    /// The kind of the value with which a cell starts; that of null-data for what is no cell.
-    pub fn start_kind(&self, cell: &CellRef) -> Kind
-        ensures { result ≡ kind_of (value (start_values self.now) cell.now) }
-    {
-        self.instance(&cell.name)
-            .start_kind(cell.class_id, cell.index)
-    }
-
-    /// Whether the value may be put into a cell, as [`Instance::rule`] says of what stands at its name.
-    pub fn rule(&self, cell: &CellRef, value: &Data) -> Result<(), AccessCode>
-        ensures { result ≡ rule_answer (rule_of self.now cell.now) (tree value.now) }
-    {
-        self.instance(&cell.name)
-            .rule(cell.class_id, cell.index, value)
-    }
-
-    /// A meter of this plan, with the start values.
-    pub fn start(&self, alloc: Global) -> Result<Meter, Memory>
-        ensures { IfOk result (λ meter. meter ≡ start self.now) }
-    {
-        let inner_clock = match self.clock() {
-            Some(_) => None,
-            None => Some(Moment::first()),
-        };
-        Ok(Meter::new(start_objects(alloc, &self.objects)?, inner_clock))
     }
 
     /// The version of the configuration, 1 or 2 (own profile).
@@ -297,21 +258,6 @@ impl Plan {
             object.part().push_cells(object.name(), &mut cells)?;
         }
         Ok(cells)
-    }
-
-    /// The number, from 0 in plan order, of a cell, or None for what is no cell of this plan.
-    pub fn cell_number(&self, cell: &CellRef) -> Option<u16>
-        ensures { result ≡ position_from (same_cell cell.now) 0 (cells self.now) }
-    {
-        self.instance(&cell.name)
-            .cell_number(cell.class_id, cell.index)
-    }
-
-    /// Whether it is a cell of this plan.
-    pub fn is_cell(&self, cell: &CellRef) -> bool
-        ensures { result ≡ is_cell self.now cell.now }
-    {
-        self.instance(&cell.name).is_cell(cell.class_id, cell.index)
     }
 }
 
@@ -340,17 +286,4 @@ fn names_of(alloc: Global, objects: &[Object]) -> Result<Vec<LogicalName>, Memor
         names.push(object.name())?;
     }
     Ok(names)
-}
-
-/// The objects that have cells, with their start values.
-fn start_objects(alloc: Global, objects: &[Object]) -> Result<Vec<Stored>, Memory>
-    ensures { IfOk result (λ stored. flat_map stored_pairs stored.items ≡ flat_map (λ o. start_of o.name o.part) objects.now) }
-{
-    let mut stored = Vec::new(alloc);
-    for object in objects {
-        if let Some(object) = Stored::start(alloc, object)? {
-            stored.push(object)?;
-        }
-    }
-    Ok(stored)
 }

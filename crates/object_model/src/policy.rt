@@ -86,7 +86,8 @@ impl Policy {
 
 /// The first entry of a cell.
 fn first_entry<'a>(table: &'a [(CellRef, Label)], cell: &CellRef) -> Option<&'a (CellRef, Label)>
-    ensures { option_map (λ entry. entry.now) result ≡ find (λ entry. same_cell entry.0 cell.now) table.now }
+    ensures { option_map (λ entry. entry.now) result
+        ≡ find (λ entry. same_cell entry.0 cell.now) table.now }
 {
     table.iter().find(|entry| entry.0 == *cell)
 }

@@ -37,8 +37,8 @@ impl References {
         index: &Index,
         objects: &[Object],
     ) -> Result<References, Memory>
-        requires { (o : theory.Object) → IsIn objects.now o → (name : NameValue) → IsIn (references o.part) name → (number : ℕ)
-            × (place_in index.now name ≡ Some number) }
+        requires { (o : theory.Object) → IsIn objects.now o → (name : NameValue) → IsIn (references o.part) name
+            → (number : ℕ) × (place_in index.now name ≡ Some number) }
         ensures { IfOk result (λ numbers. AreReferences index.now objects.now numbers) }
     {
         let mut numbers = Vec::with_capacity(alloc, objects.len())?;
@@ -51,7 +51,8 @@ impl References {
 
     /// The number of that to which the object with this number refers at this place.
     pub(crate) fn at(&self, object: u16, place: usize) -> Option<u16>
-        ensures { result ≡ option_and_then (λ numbers. slice_get numbers place) (slice_get self.now object) }
+        ensures { result
+            ≡ option_and_then (λ numbers. slice_get numbers place) (slice_get self.now object) }
     {
         self.numbers.get(usize::from(object))?.get(place).copied()
     }
@@ -67,7 +68,8 @@ impl References {
 
 /// The numbers of these names.
 fn numbers_in(alloc: Global, index: &Index, names: &[LogicalName]) -> Result<Vec<u16>, Memory>
-    requires { (name : NameValue) → IsIn names.now name → (number : ℕ) × (place_in index.now name ≡ Some number) }
+    requires { (name : NameValue) → IsIn names.now name
+        → (number : ℕ) × (place_in index.now name ≡ Some number) }
     ensures { IfOk result (λ numbers. map Some numbers.items ≡ map (place_in index.now) names.now) }
 {
     let mut numbers = Vec::with_capacity(alloc, names.len())?;

@@ -36,14 +36,26 @@ impl Model for Right {
 
     ghost coded = { right_code };
 
-    ghost view = { λ r. record { client = r.client; object = r.object; gets = r.gets.items; sets = r.sets.items; acts = r.acts.items } };
+    ghost view = { λ r. record {
+      client = r.client;
+      object = r.object;
+      gets = r.gets.items;
+      sets = r.sets.items;
+      acts = r.acts.items;
+    } };
 }
 
 impl Right {
     /// A right of the client at this place, counted from 0, on the object with this name: the attributes of `gets` may be
     /// read, those of `sets` written, and the methods of `acts` called.
     pub fn new(client: u8, object: LogicalName, gets: Vec<u8>, sets: Vec<u8>, acts: Vec<u8>) -> Self
-        ensures { result ≡ record { client = client; object = object; gets = gets.items; sets = sets.items; acts = acts.items } }
+        ensures { result ≡ record {
+          client = client;
+          object = object;
+          gets = gets.items;
+          sets = sets.items;
+          acts = acts.items;
+        } }
     {
         Right {
             client,

@@ -56,7 +56,8 @@ pub(crate) struct Stored {
 impl Stored {
     /// The object with its start values, if it has cells.
     pub(crate) fn start(alloc: Global, object: &Object) -> Result<Option<Stored>, Memory>
-        ensures { IfOk result (λ stored. pairs_if stored ≡ start_of object.now.name object.now.part) }
+        ensures { IfOk result (λ stored. pairs_if stored
+            ≡ start_of object.now.name object.now.part) }
     {
         let cells = match object.part() {
             Part::Data(part) => Cells::Data(Data1::start(alloc, part)?),
@@ -104,7 +105,8 @@ impl Stored {
 
     /// Whether the cell is named as one of the object.
     fn is_attribute(&self, cell: &CellRef) -> bool
-        ensures { result ≡ ((cell.now.class_id == class_stored self.now.cells) && same_name cell.now.name self.now.name) }
+        ensures { result ≡ ((cell.now.class_id == class_stored self.now.cells)
+            && same_name cell.now.name self.now.name) }
     {
         cell.class_id == self.class_id() && cell.name == self.name
     }
@@ -162,13 +164,17 @@ impl Stored {
     pub(crate) fn write(&mut self, part: &Part, monitored: Kind, index: u8, given: Data) -> Change
         requires fits { (rule : Rule) × (rule_watching monitored (part_of part.now) index ≡ Some rule)
             × (meets rule (tree given) ≡ true) }
-        requires stored { stores (cell (class_of (part_of part.now)) self.old.name index) self.old ≡ true }
+        requires stored { stores (cell (class_of (part_of part.now)) self.old.name index) self.old
+            ≡ true }
         requires other { empties (cell (class_of (part_of part.now)) self.old.name index) ≡ false }
         ensures name { self.new.name ≡ self.old.name }
         ensures put { stored_pairs self.new
-            ≡ put (stored_pairs self.old) (cell (class_of (part_of part.now)) self.old.name index) (kept (cell (class_of (part_of part.now)) self.old.name index) (tree given)) }
-        ensures cell { cell_changed self.old.name result ≡ cell (class_of (part_of part.now)) self.old.name index }
-        ensures before { change_undone self.old.name result (stored_pairs self.new) ≡ stored_pairs self.old }
+            ≡ put (stored_pairs self.old) (cell (class_of (part_of part.now)) self.old.name index)
+            (kept (cell (class_of (part_of part.now)) self.old.name index) (tree given)) }
+        ensures cell { cell_changed self.old.name result
+            ≡ cell (class_of (part_of part.now)) self.old.name index }
+        ensures before { change_undone self.old.name result (stored_pairs self.new)
+            ≡ stored_pairs self.old }
     {
         let name = self.name;
         match (&mut self.cells, part) {
@@ -206,7 +212,8 @@ impl Stored {
     /// The moment at which a clock stands.
     pub(crate) fn moment(&self) -> Moment
         requires { stores (theory.clock_time self.now.name) self.now ≡ true }
-        ensures { result ≡ clock_moment (value (stored_pairs self.now) (theory.clock_time self.now.name)) }
+        ensures { result
+            ≡ clock_moment (value (stored_pairs self.now) (theory.clock_time self.now.name)) }
     {
         match &self.cells {
             Cells::Clock(object) => object.time,
@@ -219,7 +226,8 @@ impl Stored {
         requires { stores (theory.clock_time self.old.name) self.old ≡ true }
         ensures name { self.new.name ≡ self.old.name }
         ensures put { stored_pairs self.new
-            ≡ put (stored_pairs self.old) (theory.clock_time self.old.name) (clock_value (next_second (clock_moment (value (stored_pairs self.old) (theory.clock_time self.old.name))))) }
+            ≡ put (stored_pairs self.old) (theory.clock_time self.old.name)
+            (clock_value (next_second (clock_moment (value (stored_pairs self.old) (theory.clock_time self.old.name))))) }
     {
         match &mut self.cells {
             Cells::Clock(object) => object.tick(),
@@ -231,9 +239,11 @@ impl Stored {
     pub(crate) fn put_objects(&mut self, objects: Data) -> Change
         requires { stores (theory.capture_objects self.old.name) self.old ≡ true }
         ensures name { self.new.name ≡ self.old.name }
-        ensures put { stored_pairs self.new ≡ put (stored_pairs self.old) (theory.capture_objects self.old.name) (tree objects) }
+        ensures put { stored_pairs self.new
+            ≡ put (stored_pairs self.old) (theory.capture_objects self.old.name) (tree objects) }
         ensures cell { cell_changed self.old.name result ≡ theory.capture_objects self.old.name }
-        ensures before { change_undone self.old.name result (stored_pairs self.new) ≡ stored_pairs self.old }
+        ensures before { change_undone self.old.name result (stored_pairs self.new)
+            ≡ stored_pairs self.old }
     {
         match &mut self.cells {
             Cells::ProfileGeneric(object) => {
@@ -247,9 +257,11 @@ impl Stored {
     pub(crate) fn remember(&mut self, now: Data) -> Change
         requires { stores (theory.seen self.old.name) self.old ≡ true }
         ensures name { self.new.name ≡ self.old.name }
-        ensures put { stored_pairs self.new ≡ put (stored_pairs self.old) (theory.seen self.old.name) (tree now) }
+        ensures put { stored_pairs self.new
+            ≡ put (stored_pairs self.old) (theory.seen self.old.name) (tree now) }
         ensures cell { cell_changed self.old.name result ≡ theory.seen self.old.name }
-        ensures before { change_undone self.old.name result (stored_pairs self.new) ≡ stored_pairs self.old }
+        ensures before { change_undone self.old.name result (stored_pairs self.new)
+            ≡ stored_pairs self.old }
     {
         match &mut self.cells {
             Cells::RegisterMonitor(object) => {
@@ -275,7 +287,8 @@ impl Stored {
             ≡ captured self.old.name part.now.profile_entries row (stored_pairs self.old)) }
         ensures before { IfOk result (λ change. change_undone self.old.name change (stored_pairs self.new)
             ≡ stored_pairs self.old) }
-        ensures cell { IfOk result (λ change. cell_changed self.old.name change ≡ theory.buffer self.old.name) }
+        ensures cell { IfOk result (λ change. cell_changed self.old.name change
+            ≡ theory.buffer self.old.name) }
         ensures err { OnErr result (stored_pairs self.new ≡ stored_pairs self.old) }
         ensures full { length (elements (value (stored_pairs self.old) (theory.buffer self.old.name)))
             ≡ part.now.profile_entries → IsOk result }
@@ -294,7 +307,8 @@ impl Stored {
         requires { stores (theory.buffer self.old.name) self.old ≡ true }
         ensures name { self.new.name ≡ self.old.name }
         ensures pairs { stored_pairs self.new ≡ clear (stored_pairs self.old) self.old.name }
-        ensures before { profile_undone self.old.name (profiles.Cleared result) (stored_pairs self.new) ≡ stored_pairs self.old }
+        ensures before { profile_undone self.old.name (profiles.Cleared result)
+            (stored_pairs self.new) ≡ stored_pairs self.old }
     {
         match &mut self.cells {
             Cells::ProfileGeneric(object) => object.clear(),
@@ -306,7 +320,8 @@ impl Stored {
     pub(crate) fn restore(&mut self, change: Change)
         requires { stores (cell_changed self.old.name change) self.old ≡ true }
         ensures name { self.new.name ≡ self.old.name }
-        ensures pairs { stored_pairs self.new ≡ change_undone self.old.name change (stored_pairs self.old) }
+        ensures pairs { stored_pairs self.new
+            ≡ change_undone self.old.name change (stored_pairs self.old) }
     {
         match (&mut self.cells, change) {
             (Cells::Data(object), Change::Data(held)) => object.undo(held),
