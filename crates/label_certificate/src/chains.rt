@@ -3,7 +3,7 @@ ghost use Rattle.std.specs.Prelude.{◌≡◌, length, IfOk};
 ghost use Rattle.label_certificate.specs.Chains.{AreChained};
 ghost use Rattle.label_certificate.specs.Closing.{AreArrows};
 
-use crate::closing::Arrow;
+use crate::arrow::Arrow;
 use cosem_data::memory::Memory;
 use std::alloc::Global;
 

@@ -4,20 +4,12 @@ ghost use Rattle.cosem_data.specs.declared.clients.ClientSet.{ClientSet};
 ghost use Rattle.label_certificate.specs.Chains.{AreChained};
 ghost use Rattle.label_certificate.specs.Closing.{AreArrows, Below, IsSub, IsClosedBut, IsClosedBy, missing, set_at};
 
+use crate::arrow::Arrow;
 use crate::chains::Chains;
 use crate::waiting::Waiting;
 use cosem_data::clients::ClientSet;
 use cosem_data::memory::Memory;
 use std::alloc::Global;
-
-/// From a set to one that has at least its clients: each by its place in a list of sets, counted from 0 (own profile).
-#[derive(Clone, Copy, Debug, Drop)]
-pub struct Arrow {
-    /// The set whose clients flow.
-    pub from: usize,
-    /// The set to which they flow.
-    pub to: usize,
-}
 
 /// Gives each set the clients of each set from which there is a way to it: what comes out are the least sets above these in
 /// which no client is lost along an arrow. An arrow is passed again only where its first set has grown since. The only error is

@@ -4,7 +4,8 @@ ghost use Rattle.meter_theory.specs.Labels.{AreLeast};
 ghost use Rattle.meter_theory.specs.Plan as theory;
 ghost use Rattle.label_certificate.specs.Least.{AreClosed, AreLinks, against, along, labels_of_sets};
 
-use crate::closing::{Arrow, close};
+use crate::arrow::Arrow;
+use crate::closing::close;
 use crate::granted::granted_to_cells;
 use crate::labels::Labels;
 use cosem_data::cell::CellRef;
