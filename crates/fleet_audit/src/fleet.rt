@@ -46,8 +46,8 @@ impl AuditFault {
 }
 
 /// The verdicts on texts, in their order, by so many workers (own profile): worker w, counted from 0, judges the texts w,
-/// w + workers and so on: worker 0, who has as many texts as any other, in the caller's thread, and each other in one of its own, or in
-/// the caller's too where none can be started. The gate is asked before each text, and told behind it.
+/// w + workers and so on: worker 0, who has as many texts as any other, in the caller's thread, and each other in one of its
+/// own, or in the caller's too where none can be started. The gate is asked before each text, and told behind it.
 ///
 /// # Errors
 /// That memory was refused for a list, or that the gate gave up: the fault of the first worker that has one. The others judge all
@@ -60,7 +60,8 @@ pub fn audit<R: Threads + AllocGlobal + Sync, G: Gate + Sync>(
 ) -> Result<Vec<Verdict>, AuditFault>
     ensures verdicts { IfOk result (λ verdicts. Audits texts.items verdicts.items) }
     // The gate gave up only where it may.
-    ensures fault { IfErr result (λ fault. IsFaultAt (G.may_give_up gate.now) (length texts.items) fault) }
+    ensures fault { IfErr result (λ fault.
+        IsFaultAt (G.may_give_up gate.now) (length texts.items) fault) }
 {
     audit_watched(rt, texts, workers, gate, &Unwatched)
 }
@@ -78,7 +79,8 @@ pub fn audit_watched<R: Threads + AllocGlobal + Sync, G: Gate + Sync, W: Watch +
 ) -> Result<Vec<Verdict>, AuditFault>
     ensures verdicts { IfOk result (λ verdicts. Audits texts.items verdicts.items) }
     // The gate gave up only where it may.
-    ensures fault { IfErr result (λ fault. IsFaultAt (G.may_give_up gate.now) (length texts.items) fault) }
+    ensures fault { IfErr result (λ fault.
+        IsFaultAt (G.may_give_up gate.now) (length texts.items) fault) }
 {
     let alloc = rt.alloc();
     let workers = workers.get().min(texts.len());
@@ -89,7 +91,9 @@ pub fn audit_watched<R: Threads + AllocGlobal + Sync, G: Gate + Sync, W: Watch +
         workers,
         &|first| -> Result<Vec<Verdict>, AuditFault>
             requires { (first < workers) × (workers ≤ length lent.now) }
-            ensures { MatchResult result (λ verdicts. Audits (every workers first lent.entry.now) verdicts.items) (λ fault. IsFaultAt (G.may_give_up gate.entry.now) (length lent.entry.now) fault) }
+            ensures { MatchResult result
+                (λ verdicts. Audits (every workers first lent.entry.now) verdicts.items)
+                (λ fault. IsFaultAt (G.may_give_up gate.entry.now) (length lent.entry.now) fault) }
         { work(alloc, lent, first, workers, gate, watch) },
     ) else {
         return Err(AuditFault::Memory);

@@ -7,8 +7,8 @@ ghost use denote.Param.Send.{IsSend, IsSync};
 use std::alloc::{AllocError, Global};
 use std::thread::{Threads, join};
 
-/// What `work` gives at each number below `count`, in the order of the numbers. The caller starts a thread for each number but 0 and
-/// then calls `work` at 0 itself, and behind that at each number for which no thread could be started.
+/// What `work` gives at each number below `count`, in the order of the numbers. The caller starts a thread for each number but 0
+/// and then calls `work` at 0 itself, and behind that at each number for which no thread could be started.
 ///
 /// `std::thread::map_indices` does the same by halves: each thread starts one more before its own work, and number 0 is the last to
 /// begin, where here it is begun as soon as all threads are started.
@@ -54,8 +54,10 @@ fn below<R: Threads + Sync, X: Send + Drop, F: Fn(usize) -> X + Sync>(
         ensures { FnReturns F.Fn work.entry.now (last, tt) result }
     { work(last) };
     let others = move || -> Result<Vec<X>, AllocError>
-        requires { IsSync R.row × IsSync F.row × IsSend X.row × (none.items ≡ []) × ((number : ℕ) → number < last → F.pre work.now number) }
-        ensures { IfOk result (λ given. (vec_len given ≡ last) × GivesEach F.Fn work.entry.now last given.items) }
+        requires { IsSync R.row × IsSync F.row × IsSend X.row × (none.items ≡ [])
+            × ((number : ℕ) → number < last → F.pre work.now number) }
+        ensures { IfOk result (λ given. (vec_len given ≡ last)
+            × GivesEach F.Fn work.entry.now last given.items) }
     { below(rt, none, last, work) };
     let (behind, before) = join(rt, one, others);
     let mut given = before?;

@@ -15,7 +15,8 @@ pub(crate) fn all_done(
     alloc: Global,
     shares: Vec<Result<Vec<Verdict>, AuditFault>>,
 ) -> Result<VecDeque<VecDeque<Verdict>>, AuditFault>
-    ensures lists { IfOk result (λ lists. AllZip (λ share list. IsOkAnd share (λ verdicts. verdicts.items ≡ list.items)) shares.items lists.items) }
+    ensures lists { IfOk result (λ lists.
+        AllZip (λ share list. IsOkAnd share (λ verdicts. verdicts.items ≡ list.items)) shares.items lists.items) }
     ensures fault { IfErr result (λ fault. IsFaultOf shares.items fault) }
 {
     let Ok(mut lists) = VecDeque::with_capacity(alloc, shares.len()) else {
@@ -35,7 +36,8 @@ pub(crate) fn in_turn(
     mut lists: VecDeque<VecDeque<Verdict>>,
     count: usize,
 ) -> Result<Vec<Verdict>, AuditFault>
-    ensures verdicts { IfOk result (λ verdicts. verdicts.items ≡ turns count (map (λ list. list.items) lists.items)) }
+    ensures verdicts { IfOk result (λ verdicts. verdicts.items
+        ≡ turns count (map (λ list. list.items) lists.items)) }
     ensures fault { IfErr result (λ fault. fault ≡ Memory) }
 {
     let Ok(mut verdicts) = Vec::with_capacity(alloc, count) else {

@@ -23,7 +23,9 @@ pub(crate) fn work<G: Gate, W: Watch>(
 ) -> Result<Vec<Verdict>, AuditFault>
     requires some { 0 < workers }
     requires few { workers ≤ length texts.now }
-    ensures { MatchResult result (λ verdicts. Audits (every workers first texts.now) verdicts.items) (λ fault. IsFaultAt (G.may_give_up gate.now) (length texts.now) fault) }
+    ensures { MatchResult result
+        (λ verdicts. Audits (every workers first texts.now) verdicts.items)
+        (λ fault. IsFaultAt (G.may_give_up gate.now) (length texts.now) fault) }
 {
     let Ok(mut verdicts) = Vec::with_capacity(alloc, texts.len() / workers + 1) else {
         return Err(AuditFault::Memory);

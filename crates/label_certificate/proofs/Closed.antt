@@ -25,7 +25,7 @@ use Rattle.flow_edges.specs.Table.{AreCells, AreWithin, IsLink, cell_at, edge_at
 use Rattle.label_certificate.specs.Closing.{Below, IsClosedBy, set_at}
 use Rattle.label_certificate.proofs.Members.{nobody_in}
 use Rattle.std.proofs.lemmas.Bool.{false≢true}
-use Rattle.label_certificate.specs.declared.closing.Arrow.{Arrow}
+use Rattle.label_certificate.specs.declared.arrow.Arrow.{Arrow}
 use Rattle.label_certificate.specs.Granted.{AreGranted, label_in}
 use Rattle.label_certificate.specs.Least.{AreClosed, against, along, labels_of_sets}
 

@@ -6,7 +6,7 @@ use Rattle.meter_theory.specs.Labels.{Labels}
 use Rattle.meter_theory.specs.Lists.{IsIn}
 use Rattle.flow_edges.specs.declared.table.Link.{Link}
 use Rattle.label_certificate.specs.Closing.{Below, IsClosedBy}
-use Rattle.label_certificate.specs.declared.closing.Arrow.{Arrow}
+use Rattle.label_certificate.specs.declared.arrow.Arrow.{Arrow}
 
 -- who influences the source of an edge influences its target: own profile
 abbrev pub along : Link → Arrow

@@ -3,7 +3,7 @@ ghost use Rattle.std.specs.Prelude.{◌≡◌, length, IfOk};
 ghost use Rattle.label_certificate.specs.Chains.{AreChained};
 ghost use Rattle.label_certificate.specs.Closing.{AreArrows};
 
-use crate::closing::Arrow;
+use crate::arrow::Arrow;
 use cosem_data::memory::Memory;
 use std::alloc::Global;
 
@@ -21,7 +21,8 @@ impl Chains {
     /// The chains of arrows between this many sets. The only error is want of memory.
     pub(crate) fn new(alloc: Global, arrows: &[Arrow], sets: usize) -> Result<Chains, Memory>
         requires { AreArrows sets arrows.now }
-        ensures chained { IfOk result (λ chains. AreChained arrows.now chains.lasts.items chains.earlier.items) }
+        ensures chained { IfOk result
+            (λ chains. AreChained arrows.now chains.lasts.items chains.earlier.items) }
         ensures lasts { IfOk result (λ chains. length chains.lasts.items ≡ sets) }
         ensures earlier { IfOk result (λ chains. length chains.earlier.items ≡ length arrows.now) }
     {

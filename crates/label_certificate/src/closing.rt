@@ -4,20 +4,12 @@ ghost use Rattle.cosem_data.specs.declared.clients.ClientSet.{ClientSet};
 ghost use Rattle.label_certificate.specs.Chains.{AreChained};
 ghost use Rattle.label_certificate.specs.Closing.{AreArrows, Below, IsSub, IsClosedBut, IsClosedBy, missing, set_at};
 
+use crate::arrow::Arrow;
 use crate::chains::Chains;
 use crate::waiting::Waiting;
 use cosem_data::clients::ClientSet;
 use cosem_data::memory::Memory;
 use std::alloc::Global;
-
-/// From a set to one that has at least its clients: each by its place in a list of sets, counted from 0 (own profile).
-#[derive(Clone, Copy, Debug, Drop)]
-pub struct Arrow {
-    /// The set whose clients flow.
-    pub from: usize,
-    /// The set to which they flow.
-    pub to: usize,
-}
 
 /// Gives each set the clients of each set from which there is a way to it: what comes out are the least sets above these in
 /// which no client is lost along an arrow. An arrow is passed again only where its first set has grown since. The only error is
@@ -26,7 +18,8 @@ pub fn close(alloc: Global, arrows: &[Arrow], sets: &mut [ClientSet]) -> Result<
     requires { AreArrows (length sets.old) arrows.now }
     ensures above { OnOk result (Below sets.old sets.new) }
     ensures closed { OnOk result (IsClosedBy arrows.now sets.new) }
-    ensures least { OnOk result ((f : List ClientSet) → IsClosedBy arrows.now f → Below sets.old f → Below sets.new f) }
+    ensures least { OnOk result ((f : List ClientSet)
+        → IsClosedBy arrows.now f → Below sets.old f → Below sets.new f) }
 {
     let chains = Chains::new(alloc, arrows, sets.len())?;
     let mut waiting = Waiting::all(alloc, sets.len())?;
@@ -51,9 +44,12 @@ fn pass_all(
     requires earlier { length chains.now.earlier.items ≡ length arrows.now }
     requires bound { waiting.old.bound ≡ length sets.old }
     ensures above { OnOk result (Below sets.old sets.new) }
-    ensures least { OnOk result ((f : List ClientSet) → IsClosedBy arrows.now f → Below sets.old f → Below sets.new f) }
-    ensures passed { OnOk result (IsClosedBut (from ∷ waiting.old.waiting) arrows.now sets.old → IsClosedBut waiting.new.waiting arrows.now sets.new) }
-    ensures less { OnOk result (missing sets.new + length waiting.new.waiting ≤ missing sets.old + length waiting.old.waiting) }
+    ensures least { OnOk result ((f : List ClientSet)
+        → IsClosedBy arrows.now f → Below sets.old f → Below sets.new f) }
+    ensures passed { OnOk result (IsClosedBut (from ∷ waiting.old.waiting) arrows.now sets.old
+        → IsClosedBut waiting.new.waiting arrows.now sets.new) }
+    ensures less { OnOk result (missing sets.new + length waiting.new.waiting
+        ≤ missing sets.old + length waiting.old.waiting) }
     ensures bound { OnOk result (waiting.new.bound ≡ waiting.old.bound) }
 {
     let mut next = chains.lasts[from];
@@ -74,7 +70,8 @@ fn pass(sets: &mut [ClientSet], from: usize, to: usize) -> bool
     ensures above { Below sets.old sets.new }
     ensures others { (k : ℕ) → k ≢ to → set_at sets.new k ≡ set_at sets.old k }
     ensures passed { IsSub (set_at sets.new from) (set_at sets.new to) }
-    ensures least { (f : List ClientSet) → IsSub (set_at f from) (set_at f to) → Below sets.old f → Below sets.new f }
+    ensures least { (f : List ClientSet)
+        → IsSub (set_at f from) (set_at f to) → Below sets.old f → Below sets.new f }
     ensures still { result ≡ false → sets.new ≡ sets.old }
     ensures grown { result ≡ true → missing sets.new < missing sets.old }
 {

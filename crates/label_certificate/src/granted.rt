@@ -70,7 +70,8 @@ fn own_label(plan: &Plan, cell: &CellRef) -> Label
 
 /// The clients that may set the attribute with this index.
 fn setters(instance: &Instance<'_>, index: u8) -> ClientSet
-    ensures { (class_id c : ℕ) → has result c ≡ may_set instance.now.plan c (cell class_id instance.now.name index) }
+    ensures { (class_id c : ℕ)
+        → has result c ≡ may_set instance.now.plan c (cell class_id instance.now.name index) }
 {
     instance.plan().known();
     let mut clients = ClientSet::new();
@@ -84,7 +85,8 @@ fn setters(instance: &Instance<'_>, index: u8) -> ClientSet
 
 /// The clients that may read the attribute with this index.
 fn readers(instance: &Instance<'_>, index: u8) -> ClientSet
-    ensures { (class_id c : ℕ) → has result c ≡ may_get instance.now.plan c (cell class_id instance.now.name index) }
+    ensures { (class_id c : ℕ)
+        → has result c ≡ may_get instance.now.plan c (cell class_id instance.now.name index) }
 {
     instance.plan().known();
     let mut clients = ClientSet::new();
@@ -138,7 +140,8 @@ fn join_methods(plan: &Plan, object: &Object, labels: &mut [Label])
 
 /// The clients that may call the method with this index.
 fn callers(instance: &Instance<'_>, index: u8) -> ClientSet
-    ensures { (class_id c : ℕ) → has result c ≡ may_act instance.now.plan c (record { class_id = class_id; name = instance.now.name; index = index }) }
+    ensures { (class_id c : ℕ) → has result c
+        ≡ may_act instance.now.plan c (record { class_id = class_id; name = instance.now.name; index = index }) }
 {
     instance.plan().known();
     let mut clients = ClientSet::new();

@@ -37,7 +37,8 @@ impl<'a> Visitor for Joining<'a> {
 /// Lets these clients influence the cells that calls of a method may change. Where there are none, the method isn't looked at.
 pub(crate) fn join_method(plan: &Plan, method: &MethodRef, clients: ClientSet, labels: &mut [Label])
     requires { length labels.old ≡ length (theory.cells plan.now) }
-    ensures { AreJoined plan.now (by_clients clients (method_changes_of plan.now method.now)) labels.old labels.new }
+    ensures { AreJoined plan.now
+        (by_clients clients (method_changes_of plan.now method.now)) labels.old labels.new }
 {
     if clients.within(ClientSet::new()) {
         return;

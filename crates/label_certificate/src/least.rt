@@ -4,7 +4,8 @@ ghost use Rattle.meter_theory.specs.Labels.{AreLeast};
 ghost use Rattle.meter_theory.specs.Plan as theory;
 ghost use Rattle.label_certificate.specs.Least.{AreClosed, AreLinks, against, along, labels_of_sets};
 
-use crate::closing::{Arrow, close};
+use crate::arrow::Arrow;
+use crate::closing::close;
 use crate::granted::granted_to_cells;
 use crate::labels::Labels;
 use cosem_data::cell::CellRef;
@@ -37,7 +38,8 @@ pub fn make_labels(alloc: Global, plan: &Plan) -> Result<Labels, Memory>
 /// The least sets above those that may influence, in which no client is lost from the source of an edge to its target.
 fn flow_along(alloc: Global, links: &[Link], granted: &[Label]) -> Result<Vec<ClientSet>, Memory>
     requires { AreLinks (length granted.now) links.now }
-    ensures { IfOk result (λ sets. AreClosed (map along links.now) (map (λ label. label.influence) granted.now) sets.items) }
+    ensures { IfOk result (λ sets. AreClosed (map along links.now)
+        (map (λ label. label.influence) granted.now) sets.items) }
 {
     let mut sets = influence_sets(alloc, granted)?;
     close(alloc, &arrows_along(alloc, links)?, &mut sets)?;
@@ -47,7 +49,8 @@ fn flow_along(alloc: Global, links: &[Link], granted: &[Label]) -> Result<Vec<Cl
 /// The least sets above those that may learn, in which no client is lost from the target of an edge to its source.
 fn flow_against(alloc: Global, links: &[Link], granted: &[Label]) -> Result<Vec<ClientSet>, Memory>
     requires { AreLinks (length granted.now) links.now }
-    ensures { IfOk result (λ sets. AreClosed (map against links.now) (map (λ label. label.learn) granted.now) sets.items) }
+    ensures { IfOk result (λ sets. AreClosed (map against links.now)
+        (map (λ label. label.learn) granted.now) sets.items) }
 {
     let mut sets = learn_sets(alloc, granted)?;
     close(alloc, &arrows_against(alloc, links)?, &mut sets)?;

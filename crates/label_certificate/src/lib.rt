@@ -5,6 +5,7 @@
 //! (`Members`), and faults (`Faults`). The theorems are the functions of [`laws`].
 #![tactic(auto)]
 
+pub mod arrow;
 mod chains;
 pub mod closing;
 pub mod fault;

@@ -65,7 +65,8 @@ pub(crate) fn first_part(separator: u8, text: &[u8]) -> (&[u8], Option<&[u8]>)
 
 /// The parts of a text that is three with a separator between them.
 fn three(separator: u8, text: &[u8]) -> Option<(&[u8], &[u8], &[u8])>
-    ensures { option_map (λ p. (p.0.now, p.1.now, p.2.now)) result ≡ spec.three (parts separator text.now) }
+    ensures { option_map (λ p. (p.0.now, p.1.now, p.2.now)) result
+        ≡ spec.three (parts separator text.now) }
 {
     let (first, rest) = first_part(separator, text);
     let (second, rest) = first_part(separator, rest?);

@@ -45,7 +45,8 @@ impl Waiting {
     /// Lets a number wait behind the others, unless it waits already. The only error is want of memory.
     pub(crate) fn add(&mut self, number: usize) -> Result<(), Memory>
         requires { number < self.old.bound }
-        ensures { OnOk result (self.new ≡ record { bound = self.old.bound; waiting = with_number self.old.waiting number }) }
+        ensures { OnOk result (self.new
+            ≡ record { bound = self.old.bound; waiting = with_number self.old.waiting number }) }
     {
         if self.marks[number] {
             return Ok(());

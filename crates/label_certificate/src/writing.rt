@@ -33,7 +33,8 @@ fn push_line(
     label: &Label,
     text: &mut Vec<u8>,
 ) -> Result<(), Memory>
-    ensures { OnOk result (text.new.items ≡ text.old.items ++ (line_text (label_line plan.now (cell.now, label.now)) ++ 10 ∷ [])) }
+    ensures { OnOk result (text.new.items
+        ≡ text.old.items ++ (line_text (label_line plan.now (cell.now, label.now)) ++ 10 ∷ [])) }
 {
     push_cell(alloc, cell, text)?;
     text.extend_from_slice(b" influence=")?;
