@@ -1,5 +1,5 @@
 -- What the permits say of a reply and of the state after it.
-use Rattle.std.specs.Prelude.{◌≡◌, Bool, true, false, not, cond, ℕ, List, [], length, ◌==◌, Option, Some, None, Ok, Err}
+use Rattle.std.specs.Prelude.{◌≡◌, Bool, true, false, not, cond, ℕ, List, [], length, ◌==◌, Option, Some, None, Result, Ok, Err, OnOk, OnErr}
 use Rattle.std.proofs.lemmas.Bool.{eqb-true, false≢true, and_parts}
 use Rattle.std.specs.Prelude.{is_some, unsigned_abs}
 use Rattle.std.specs.Option.{option_map}
@@ -10,7 +10,6 @@ use Rattle.std.proofs.lemmas.List.{nil_from_length}
 use Rattle.std.proofs.Common.{refl, sym, ap, subst, ◌∙◌, inl, inr}
 use Rattle.cosem_data.specs.Tree.{Tree, array, no_trees}
 use Rattle.cosem_data.specs.declared.cell.CellRef.{CellRef}
-use Rattle.cosem_data.specs.declared.cell.MethodRef.{MethodRef}
 use Rattle.cosem_data.specs.declared.name.LogicalName.{LogicalName}
 use Rattle.meter_theory.specs.declared.access.AccessCode.{AccessCode}
 use Rattle.meter_theory.specs.declared.access.AccessCode.TheVariants as codes
@@ -23,7 +22,9 @@ use Rattle.meter_theory.specs.Value.{Rule}
 use Rattle.meter_theory.specs.Rights.{Argument, Given, Selection, cell_of, class_is, method_of, get_answer, get_places, set_answer, act_answer, set_places, meets_rule, takes_selection}
 use Rattle.meter_theory.specs.Steps.{Step, Get, Set, Act, Input, CaptureAt, Evaluate, ScheduleAt, Tick, ClockAt, client_of, effects, effects_of, given_value, method_effects, next}
 use Rattle.meter_theory.specs.Replies.{Value, Code, Quiet, attribute, selected, reply_to}
-use Rattle.meter_theory.specs.States.{MayStand}
+use Rattle.meter_theory.specs.Sound.{IsSound}
+use Rattle.meter_theory.specs.States.{IsState, MayStand}
+use Rattle.meter_theory.proofs.KeepSteps.{step-keeps}
 use Rattle.meter_theory.proofs.Lists.{none_in}
 use Rattle.meter_theory.proofs.Rights.{place_passed, cell_of_found, get_class}
 use Rattle.cosem_data.specs.declared.data.Data.{Data}
@@ -32,6 +33,7 @@ use Rattle.object_model.specs.declared.argument.Argument.TheVariants as argument
 use Rattle.object_model.specs.ArgumentView.{argument_of, selection_of}
 use Rattle.association_views.specs.Permits.{permitted}
 use Rattle.meter_core.specs.Copies.{shows_value}
+use Rattle.meter_core.specs.Judging.{refused_by, refusal, MayBeSet}
 use Rattle.meter_core.specs.Memory.{needs_no_memory}
 use Rattle.meter_core.specs.StepView.{shown_of}
 use Rattle.meter_core.specs.declared.shown.Shown.{Shown}
@@ -135,55 +137,62 @@ code_shown P s c d selection answer is needs = at (is_success (get_answer P c d 
     at false (shown.Made v) n e = cc
     at false (shown.Code code) n e = refl
 
--- SET
+-- what a plan refuses
 
-pub granted_set_takes_memory : {b : Bool} (P : Plan) (s : State) (c : ℕ) (d : Descriptor) (chosen : Bool) (v : Argument) (unit : Unit {0}) → Ok unit ≡ permitted (set_answer P c d chosen v)
-    → needs_no_memory P s (Set c d chosen v) ≡ true → b ≡ true
-granted_set_takes_memory P s c d chosen v unit h = not_refused (set_answer P c d chosen v) unit h
+some_refused : (code given : AccessCode) → Some given ≡ refused_by code → (given ≡ code) × (is_success code ≡ false)
+some_refused codes.Success given h = cc
+some_refused _ given h = (cc, refl)
 
-pub refused_set : (P : Plan) (s : State) (c : ℕ) (d : Descriptor) (chosen : Bool) (v : Argument) (code : AccessCode) → Err code ≡ permitted (set_answer P c d chosen v)
-    → Code code ≡ reply_to P s (Set c d chosen v)
-refused_set P s c d chosen v code h = ap Code (refused (set_answer P c d chosen v) code h).0
+none_refused : (code : AccessCode) → None ≡ refused_by code → code ≡ codes.Success
+none_refused codes.Success h = refl
+none_refused _ h = cc
 
-pub refused_set_stays : (P : Plan) (s : State) (c : ℕ) (d : Descriptor) (chosen : Bool) (v : Argument) (code : AccessCode) → Err code ≡ permitted (set_answer P c d chosen v)
-    → s ≡ next P s (Set c d chosen v)
-refused_set_stays P s c d chosen v code h =
-    ap (λ b. effects P s (cond b (given_value (cell_of d) v) [])) (sym (refused (set_answer P c d chosen v) code h).1)
+pub refused_replies : (P : Plan) (s : State) (step : Step) (code : AccessCode) → Some code ≡ refusal P step → Code code ≡ reply_to P s step
+refused_replies P s (Set c d chosen v) code h = ap Code (some_refused (set_answer P c d chosen v) code h).0
+refused_replies P s (Act c d argument) code h = ap Code (some_refused (act_answer P c d argument) code h).0
+refused_replies P s _ code h = cc
 
-pub granted_set : (P : Plan) (s : State) (c : ℕ) (d : Descriptor) (chosen : Bool) (v : Argument) (unit : Unit {0}) → Ok unit ≡ permitted (set_answer P c d chosen v)
-    → Code codes.Success ≡ reply_to P s (Set c d chosen v)
-granted_set P s c d chosen v unit h = ap Code (sym (granted (set_answer P c d chosen v) unit h))
+pub refused_stays : (P : Plan) (s : State) (step : Step) (code : AccessCode) → Some code ≡ refusal P step → s ≡ next P s step
+refused_stays P s (Set c d chosen v) code h =
+    ap (λ b. effects P s (cond b (given_value (cell_of d) v) [])) (sym (some_refused (set_answer P c d chosen v) code h).1)
+refused_stays P s (Act c d argument) code h =
+    ap (λ b. effects P s (cond b (method_effects P (method_of d) argument) [])) (sym (some_refused (act_answer P c d argument) code h).1)
+refused_stays P s _ code h = cc
 
-pub granted_set_puts : (P : Plan) (s : State) (c : ℕ) (d : Descriptor) (chosen : Bool) (v : Argument) (unit : Unit {0}) → Ok unit ≡ permitted (set_answer P c d chosen v)
+-- whether a step is taken or refused for memory, the state is one of the plan
+pub applied_keeps : {A E : Type 0} (P : Plan) (s t : State) (step : Step) (r : Result A E) → IsSound P → IsState P s → OnOk r (t ≡ next P s step) → OnErr r (t ≡ s) → IsState P t
+applied_keeps P s t step (Ok x) sound is taken refused = subst (IsState P) (sym taken) (step-keeps P sound s step is)
+applied_keeps P s t step (Err e) sound is taken refused = subst (IsState P) (sym refused) is
+
+-- a granted SET
+
+pub set_replies : (P : Plan) (s : State) (c : ℕ) (d : Descriptor) (chosen : Bool) (v : Argument) → None ≡ refusal P (Set c d chosen v) → Code codes.Success ≡ reply_to P s (Set c d chosen v)
+set_replies P s c d chosen v h = ap Code (sym (none_refused (set_answer P c d chosen v) h))
+
+pub set_puts : (P : Plan) (s : State) (c : ℕ) (d : Descriptor) (chosen : Bool) (v : Argument) → None ≡ refusal P (Set c d chosen v)
     → effects P s (given_value (cell_of d) v) ≡ next P s (Set c d chosen v)
-granted_set_puts P s c d chosen v unit h =
-    ap (λ code. effects P s (cond (is_success code) (given_value (cell_of d) v) [])) (sym (granted (set_answer P c d chosen v) unit h))
+set_puts P s c d chosen v h =
+    ap (λ code. effects P s (cond (is_success code) (given_value (cell_of d) v) [])) (sym (none_refused (set_answer P c d chosen v) h))
 
--- ACTION
+pub set_takes_memory : {b : Bool} (P : Plan) (s : State) (c : ℕ) (d : Descriptor) (chosen : Bool) (v : Argument) → None ≡ refusal P (Set c d chosen v)
+    → needs_no_memory P s (Set c d chosen v) ≡ true → b ≡ true
+set_takes_memory P s c d chosen v h needs =
+    absurd (false≢true (ap (λ code. not (is_success code)) (sym (none_refused (set_answer P c d chosen v) h)) ∙ needs))
 
-pub refused_act : (P : Plan) (s : State) (c : ℕ) (d : Descriptor) (argument : Argument) (code : AccessCode) → Err code ≡ permitted (act_answer P c d argument)
-    → Code code ≡ reply_to P s (Act c d argument)
-refused_act P s c d argument code h = ap Code (refused (act_answer P c d argument) code h).0
+-- a granted ACTION
 
-pub refused_act_stays : (P : Plan) (s : State) (c : ℕ) (d : Descriptor) (argument : Argument) (code : AccessCode) → Err code ≡ permitted (act_answer P c d argument)
-    → s ≡ next P s (Act c d argument)
-refused_act_stays P s c d argument code h =
-    ap (λ b. effects P s (cond b (method_effects P (method_of d) argument) [])) (sym (refused (act_answer P c d argument) code h).1)
+pub act_replies : (P : Plan) (s : State) (c : ℕ) (d : Descriptor) (argument : Argument) → None ≡ refusal P (Act c d argument) → Code codes.Success ≡ reply_to P s (Act c d argument)
+act_replies P s c d argument h = ap Code (sym (none_refused (act_answer P c d argument) h))
 
-pub granted_act : (P : Plan) (s : State) (c : ℕ) (d : Descriptor) (argument : Argument) (unit : Unit {0}) → Ok unit ≡ permitted (act_answer P c d argument)
-    → Code codes.Success ≡ reply_to P s (Act c d argument)
-granted_act P s c d argument unit h = ap Code (sym (granted (act_answer P c d argument) unit h))
+-- its effects are those of the method that is called
+pub act_calls : (P : Plan) (s : State) (c : ℕ) (d : Descriptor) (argument : Argument) → None ≡ refusal P (Act c d argument)
+    → method_effects P (method_of d) argument ≡ effects_of P s (Act c d argument)
+act_calls P s c d argument h =
+    ap (λ code. cond (is_success code) (method_effects P (method_of d) argument) []) (sym (none_refused (act_answer P c d argument) h))
 
--- the effects of the method that is called
-pub called_effects : (P : Plan) (s : State) (c : ℕ) (d : Descriptor) (argument : Argument) (method : MethodRef) (unit : Unit {0}) → method ≡ method_of d →
-    Ok unit ≡ permitted (act_answer P c d argument) → method_effects P method argument ≡ effects_of P s (Act c d argument)
-called_effects P s c d argument method unit is h =
-    ap (λ m. method_effects P m argument) is
-    ∙ ap (λ code. cond (is_success code) (method_effects P (method_of d) argument) []) (sym (granted (act_answer P c d argument) unit h))
-
-pub called_none : (P : Plan) (s : State) (c : ℕ) (d : Descriptor) (argument : Argument) (method : MethodRef) (unit : Unit {0}) → method ≡ method_of d →
-    Ok unit ≡ permitted (act_answer P c d argument) → needs_no_memory P s (Act c d argument) ≡ true → method_effects P method argument ≡ []
-called_none P s c d argument method unit is h needs = called_effects P s c d argument method unit is h ∙ no_effects (effects_of P s (Act c d argument)) needs
+pub act_calls_none : (P : Plan) (s : State) (c : ℕ) (d : Descriptor) (argument : Argument) → None ≡ refusal P (Act c d argument) → needs_no_memory P s (Act c d argument) ≡ true
+    → method_effects P (method_of d) argument ≡ []
+act_calls_none P s c d argument h needs = act_calls P s c d argument h ∙ no_effects (effects_of P s (Act c d argument)) needs
 
 -- the meter's own steps
 
@@ -206,12 +215,13 @@ stands : (P : Plan) (x : CellRef) (v : Tree) (r : Option Rule) → rule_of P x �
 stands P x v None is h = cc
 stands P x v (Some rule) is h = (rule, is, h)
 
-pub granted_fits : (P : Plan) (c : ℕ) (d : Descriptor) (chosen : Bool) (v : Tree) (unit : Unit {0}) → Ok unit ≡ permitted (set_answer P c d chosen (Given v)) → MayStand P (cell_of d) v
-granted_fits P c d chosen v unit h =
+pub set_fits : (P : Plan) (c : ℕ) (d : Descriptor) (chosen : Bool) (v : Argument) → None ≡ refusal P (Set c d chosen v) → MayBeSet P (cell_of d) v
+set_fits P c d chosen (Given v) h =
     stands P (cell_of d) v (rule_of P (cell_of d)) refl
     (not-false (meets_rule (rule_of P (cell_of d)) (Given v))
     (place_passed (set_places P c d chosen (Given v)) (not (meets_rule (rule_of P (cell_of d)) (Given v)), codes.OtherReason)
-    (inr (inr (inr (inr (inr (inr (inl refl))))))) refl (ap is_success (granted (set_answer P c d chosen (Given v)) unit h))))
+    (inr (inr (inr (inr (inr (inr (inl refl))))))) refl (ap is_success (none_refused (set_answer P c d chosen (Given v)) h))))
+set_fits P c d chosen _ h = tt
 
 -- nothing is put where no value was given
 pub nothing_given : (P : Plan) (s : State) (x : CellRef) (v : code.Argument) → ((value : Data) → v ≡ arguments.Value value → ⊥) → s ≡ effects P s (given_value x (argument_of v))

@@ -2,3 +2,4 @@ pub mod Crossing
 pub mod Answered
 pub mod Permitted
 pub mod Runs
+mod Clocks

@@ -2,18 +2,26 @@
 ghost use Rattle.std.specs.Prelude.{◌≡◌, true, false, [], None, OnOk, OnErr, IfOk, IsOk};
 ghost use Rattle.cosem_data.specs.View.{tree};
 ghost use Rattle.cosem_data.specs.declared.cell.CellRef.{CellRef};
+ghost use Rattle.meter_theory.specs.declared.access.AccessCode.TheVariants as codes;
+ghost use Rattle.meter_theory.specs.Rights.{cell_of, method_of};
 ghost use Rattle.meter_theory.specs.Steps as steps;
-ghost use Rattle.meter_theory.specs.Steps.{client_of, next};
+ghost use Rattle.meter_theory.specs.Steps.{client_of, effects, given_value, method_effects, next};
+ghost use Rattle.meter_theory.specs.Replies as answers;
 ghost use Rattle.meter_theory.specs.Replies.{reply_to};
 ghost use Rattle.meter_theory.specs.States.{IsState, MayStand};
 ghost use Rattle.meter_effects.specs.Adds.{StandsFor};
+ghost use Rattle.object_model.specs.Undone.{undone};
+ghost use Rattle.meter_core.specs.Back.{taken_back};
+ghost use Rattle.meter_core.specs.Judging as spec;
+ghost use Rattle.meter_core.specs.Judging.{IsJudged, MayBeSet};
 ghost use Rattle.meter_core.specs.Memory.{needs_no_memory};
 ghost use Rattle.meter_core.specs.StepView.{argument_of, reply_of, sets_clock, step_of};
 
+use crate::back::Back;
+use crate::judged::{Judged, refusal};
 use crate::reply::Reply;
 use crate::shown::show;
 use crate::step::Step;
-use association_views::permits::{permit_action, permit_set};
 use civil_moment::moment::Moment;
 use cosem_data::cell::CellRef;
 use cosem_data::data::Data;
@@ -29,7 +37,15 @@ use object_model::argument::Argument;
 use object_model::effect::Effect;
 use object_model::meter::Meter;
 use object_model::plan::Plan;
+use object_model::undo::Undo;
 use std::alloc::Global;
+
+/// What a step was answered, and what takes it back.
+#[derive(Drop)]
+pub struct Applied {
+    pub reply: Reply,
+    pub back: Back,
+}
 
 /// Takes one step, and answers it. The only error is that memory was refused, and then the meter is as it was; a request
 /// that the plan denies is answered without memory.
@@ -37,7 +53,72 @@ pub fn apply(alloc: Global, plan: &Plan, meter: &mut Meter, step: &Step) -> Resu
     requires { IsState plan.now meter.old }
     ensures state { IsState plan.now meter.new }
     ensures ok { OnOk result (meter.new ≡ next plan.now meter.old (step_of step.now)) }
-    ensures reply { IfOk result (λ reply. reply_of reply ≡ reply_to plan.now meter.old (step_of step.now)) }
+    ensures reply { IfOk result (λ reply. reply_of reply
+        ≡ reply_to plan.now meter.old (step_of step.now)) }
+    ensures err { OnErr result (meter.new ≡ meter.old) }
+    ensures denied { needs_no_memory plan.now meter.old (step_of step.now) ≡ true → IsOk result }
+{
+    plan.known();
+    let applied = apply_by(alloc, plan, meter, step, refusal(plan, step))?;
+    Ok(applied.reply)
+}
+
+/// The same of a step that the plan has judged, which isn't judged again.
+pub fn apply_judged(
+    alloc: Global,
+    plan: &Plan,
+    meter: &mut Meter,
+    judged: &Judged,
+) -> Result<Applied, Memory>
+    requires of_plan { IsState plan.now meter.old }
+    requires judged { IsJudged plan.now judged.now }
+    ensures state { IsState plan.now meter.new }
+    ensures ok { OnOk result (meter.new ≡ next plan.now meter.old (step_of judged.now.step)) }
+    ensures reply { IfOk result (λ applied. reply_of applied.reply
+        ≡ reply_to plan.now meter.old (step_of judged.now.step)) }
+    ensures before { IfOk result (λ applied. taken_back plan.now applied.back meter.new ≡ meter.old) }
+    ensures err { OnErr result (meter.new ≡ meter.old) }
+{
+    plan.known();
+    apply_by(alloc, plan, meter, &judged.step, judged.refusal)
+}
+
+/// Takes one step, which the plan refuses by this code, if it does.
+fn apply_by(
+    alloc: Global,
+    plan: &Plan,
+    meter: &mut Meter,
+    step: &Step,
+    refusal: Option<AccessCode>,
+) -> Result<Applied, Memory>
+    requires of_plan { IsState plan.now meter.old }
+    requires judged { refusal ≡ spec.refusal plan.now (step_of step.now) }
+    ensures ok { OnOk result (meter.new ≡ next plan.now meter.old (step_of step.now)) }
+    ensures reply { IfOk result (λ applied. reply_of applied.reply
+        ≡ reply_to plan.now meter.old (step_of step.now)) }
+    ensures before { IfOk result (λ applied. taken_back plan.now applied.back meter.new ≡ meter.old) }
+    ensures err { OnErr result (meter.new ≡ meter.old) }
+    ensures denied { needs_no_memory plan.now meter.old (step_of step.now) ≡ true → IsOk result }
+{
+    match refusal {
+        Some(code) => Ok(unchanged(Reply::Code(code))),
+        None => apply_granted(alloc, plan, meter, step),
+    }
+}
+
+/// Takes one step, which the plan doesn't refuse: a GET may still be refused.
+fn apply_granted(
+    alloc: Global,
+    plan: &Plan,
+    meter: &mut Meter,
+    step: &Step,
+) -> Result<Applied, Memory>
+    requires of_plan { IsState plan.now meter.old }
+    requires granted { None ≡ spec.refusal plan.now (step_of step.now) }
+    ensures ok { OnOk result (meter.new ≡ next plan.now meter.old (step_of step.now)) }
+    ensures reply { IfOk result (λ applied. reply_of applied.reply
+        ≡ reply_to plan.now meter.old (step_of step.now)) }
+    ensures before { IfOk result (λ applied. taken_back plan.now applied.back meter.new ≡ meter.old) }
     ensures err { OnErr result (meter.new ≡ meter.old) }
     ensures denied { needs_no_memory plan.now meter.old (step_of step.now) ≡ true → IsOk result }
 {
@@ -46,126 +127,150 @@ pub fn apply(alloc: Global, plan: &Plan, meter: &mut Meter, step: &Step) -> Resu
             client,
             attribute,
             selection,
-        } => show(alloc, plan, meter, *client, attribute, selection)?.into_reply(alloc),
+        } => {
+            let shown = show(alloc, plan, meter, *client, attribute, selection)?;
+            Ok(unchanged(shown.into_reply(alloc)?))
+        }
         Step::Set {
-            client,
             attribute,
-            selected,
             value,
-        } => set(alloc, plan, meter, *client, attribute, *selected, value),
+            ..
+        } => set(alloc, plan, meter, attribute, value),
         Step::Act {
-            client,
             method,
             argument,
-        } => act(alloc, plan, meter, *client, method, argument),
+            ..
+        } => act(alloc, plan, meter, method, argument),
         Step::Tick => Ok(tick(plan, meter)),
         Step::ClockAt { moment } => Ok(clock_at(plan, meter, *moment)),
         _ => own(alloc, plan, meter, step),
     }
 }
 
-/// A second goes by.
-fn tick(plan: &Plan, meter: &mut Meter) -> Reply
-    requires { IsState plan.now meter.old }
-    ensures state { IsState plan.now meter.new }
-    ensures ok { meter.new ≡ next plan.now meter.old steps.Tick }
-    ensures reply { reply_of result ≡ reply_to plan.now meter.old steps.Tick }
+/// What changed nothing.
+fn unchanged(reply: Reply) -> Applied
+    ensures { (result.reply ≡ reply) × (result.back ≡ Back.Nothing) }
 {
-    plan.known();
+    Applied {
+        reply,
+        back: Back::Nothing,
+    }
+}
+
+/// A second goes by.
+fn tick(plan: &Plan, meter: &mut Meter) -> Applied
+    requires { IsState plan.now meter.old }
+    ensures ok { meter.new ≡ next plan.now meter.old steps.Tick }
+    ensures reply { reply_of result.reply ≡ reply_to plan.now meter.old steps.Tick }
+    ensures before { taken_back plan.now result.back meter.new ≡ meter.old }
+{
+    let stood = meter.present(plan);
     meter.tick(plan);
-    Reply::Quiet
+    Applied {
+        reply: Reply::Quiet,
+        back: Back::Clock(stood),
+    }
 }
 
 /// A moment is told to the meter.
-fn clock_at(plan: &Plan, meter: &mut Meter, moment: Moment) -> Reply
+fn clock_at(plan: &Plan, meter: &mut Meter, moment: Moment) -> Applied
     requires { IsState plan.now meter.old }
-    ensures state { IsState plan.now meter.new }
     ensures ok { meter.new ≡ next plan.now meter.old (steps.ClockAt moment) }
-    ensures reply { reply_of result ≡ reply_to plan.now meter.old (steps.ClockAt moment) }
+    ensures reply { reply_of result.reply ≡ reply_to plan.now meter.old (steps.ClockAt moment) }
+    ensures before { taken_back plan.now result.back meter.new ≡ meter.old }
 {
-    plan.known();
+    let stood = meter.present(plan);
     meter.set_clock(plan, moment);
-    Reply::Quiet
+    Applied {
+        reply: Reply::Quiet,
+        back: Back::Clock(stood),
+    }
 }
 
-/// The answer to a SET (IEC 62056-5-3), and the value in its cell where the answer is success.
+/// A granted SET (IEC 62056-5-3): its value, if it brings one, is put in its cell. The only error is that memory was refused.
 fn set(
     alloc: Global,
     plan: &Plan,
     meter: &mut Meter,
-    client: u8,
     attribute: &Descriptor,
-    selected: bool,
     value: &Argument,
-) -> Result<Reply, Memory>
-    requires { IsState plan.now meter.old }
-    ensures state { IsState plan.now meter.new }
-    ensures ok { OnOk result (meter.new ≡ next plan.now meter.old (steps.Set client attribute.now selected (argument_of value.now))) }
-    ensures reply { IfOk result (λ reply. reply_of reply ≡ reply_to plan.now meter.old (steps.Set client attribute.now selected (argument_of value.now))) }
+) -> Result<Applied, Memory>
+    requires of_plan { IsState plan.now meter.old }
+    requires fits { MayBeSet plan.now (cell_of attribute.now) (argument_of value.now) }
+    ensures ok { OnOk result (meter.new ≡ effects plan.now meter.old
+        (given_value (cell_of attribute.now) (argument_of value.now))) }
+    ensures reply { IfOk result (λ applied. reply_of applied.reply ≡ answers.Code codes.Success) }
+    ensures before { IfOk result (λ applied. taken_back plan.now applied.back meter.new ≡ meter.old) }
     ensures err { OnErr result (meter.new ≡ meter.old) }
-    ensures denied { needs_no_memory plan.now meter.old (steps.Set client attribute.now selected (argument_of value.now)) ≡ true → IsOk result }
 {
-    plan.known();
-    if let Err(code) = permit_set(plan, client, attribute, selected, value) {
-        return Ok(Reply::Code(code));
-    }
-    if let Argument::Value(value) = value {
-        let given = value.try_clone(alloc)?;
-        put(alloc, plan, meter, attribute.attribute(), given);
-    }
-    Ok(Reply::Code(AccessCode::Success))
+    let Argument::Value(value) = value else {
+        return Ok(unchanged(Reply::Code(AccessCode::Success)));
+    };
+    let given = value.try_clone(alloc)?;
+    let undo = put(alloc, plan, meter, attribute.attribute(), given);
+    Ok(Applied {
+        reply: Reply::Code(AccessCode::Success),
+        back: Back::Effect(undo),
+    })
 }
 
 /// Puts a value that may stand in its cell.
-fn put(alloc: Global, plan: &Plan, meter: &mut Meter, cell: CellRef, given: Data)
+fn put(alloc: Global, plan: &Plan, meter: &mut Meter, cell: CellRef, given: Data) -> Undo
     requires of_plan { IsState plan.now meter.old }
     requires fits { MayStand plan.now cell (tree given) }
-    ensures { meter.new ≡ steps.write meter.old cell (tree given) }
+    ensures put { meter.new ≡ steps.write meter.old cell (tree given) }
+    ensures before { undone result meter.new ≡ meter.old }
 {
-    let _undo = meter.take(alloc, plan, Effect::Put(cell, given)).unwrap();
+    meter.take(alloc, plan, Effect::Put(cell, given)).unwrap()
 }
 
-/// The answer to an ACTION (IEC 62056-5-3), and what its method does where the answer is success.
+/// A granted ACTION (IEC 62056-5-3): its method does what it does. The only error is that memory was refused, which without
+/// effects it isn't.
 fn act(
     alloc: Global,
     plan: &Plan,
     meter: &mut Meter,
-    client: u8,
     method: &Descriptor,
     argument: &Argument,
-) -> Result<Reply, Memory>
+) -> Result<Applied, Memory>
     requires { IsState plan.now meter.old }
-    ensures state { IsState plan.now meter.new }
-    ensures ok { OnOk result (meter.new ≡ next plan.now meter.old (steps.Act client method.now (argument_of argument.now))) }
-    ensures reply { IfOk result (λ reply. reply_of reply ≡ reply_to plan.now meter.old (steps.Act client method.now (argument_of argument.now))) }
+    ensures ok { OnOk result (meter.new ≡ effects plan.now meter.old
+        (method_effects plan.now (method_of method.now) (argument_of argument.now))) }
+    ensures reply { IfOk result (λ applied. reply_of applied.reply ≡ answers.Code codes.Success) }
+    ensures before { IfOk result (λ applied. taken_back plan.now applied.back meter.new ≡ meter.old) }
     ensures err { OnErr result (meter.new ≡ meter.old) }
-    ensures denied { needs_no_memory plan.now meter.old (steps.Act client method.now (argument_of argument.now)) ≡ true → IsOk result }
+    ensures none { method_effects plan.now (method_of method.now) (argument_of argument.now) ≡ []
+        → IsOk result }
 {
     plan.known();
-    if let Err(code) = permit_action(plan, client, method, argument) {
-        return Ok(Reply::Code(code));
-    }
     let mut effects = Vec::new(alloc);
     push_method(alloc, plan, &method.method(), argument, &mut effects)?;
-    apply_all(alloc, plan, meter, effects)?;
-    Ok(Reply::Code(AccessCode::Success))
+    let undos = apply_all(alloc, plan, meter, effects)?;
+    Ok(Applied {
+        reply: Reply::Code(AccessCode::Success),
+        back: Back::Effects(undos),
+    })
 }
 
 /// A step that the meter takes by itself, without an answer.
-fn own(alloc: Global, plan: &Plan, meter: &mut Meter, step: &Step) -> Result<Reply, Memory>
+fn own(alloc: Global, plan: &Plan, meter: &mut Meter, step: &Step) -> Result<Applied, Memory>
     requires of_plan { IsState plan.now meter.old }
     requires own { client_of (step_of step.now) ≡ None }
     requires clock { sets_clock step.now ≡ false }
-    ensures state { IsState plan.now meter.new }
     ensures ok { OnOk result (meter.new ≡ next plan.now meter.old (step_of step.now)) }
-    ensures reply { IfOk result (λ reply. reply_of reply ≡ reply_to plan.now meter.old (step_of step.now)) }
+    ensures reply { IfOk result (λ applied. reply_of applied.reply
+        ≡ reply_to plan.now meter.old (step_of step.now)) }
+    ensures before { IfOk result (λ applied. taken_back plan.now applied.back meter.new ≡ meter.old) }
     ensures err { OnErr result (meter.new ≡ meter.old) }
     ensures denied { needs_no_memory plan.now meter.old (step_of step.now) ≡ true → IsOk result }
 {
     plan.known();
     let effects = own_effects(alloc, plan, meter, step)?;
-    apply_all(alloc, plan, meter, effects)?;
-    Ok(Reply::Quiet)
+    let undos = apply_all(alloc, plan, meter, effects)?;
+    Ok(Applied {
+        reply: Reply::Quiet,
+        back: Back::Effects(undos),
+    })
 }
 
 /// The effects of a step that the meter takes by itself. The only error is that memory was refused, which without effects
@@ -179,7 +284,8 @@ fn own_effects(
     requires of_plan { IsState plan.now meter.now }
     requires own { client_of (step_of step.now) ≡ None }
     requires clock { sets_clock step.now ≡ false }
-    ensures ok { IfOk result (λ list. StandsFor plan.now (steps.effects_of plan.now meter.now (step_of step.now)) list.items) }
+    ensures ok { IfOk result (λ list. StandsFor plan.now
+        (steps.effects_of plan.now meter.now (step_of step.now)) list.items) }
     ensures none { steps.effects_of plan.now meter.now (step_of step.now) ≡ [] → IsOk result }
 {
     match step {

@@ -2,7 +2,9 @@
 #![tactic(auto)]
 
 pub mod apply;
+pub mod back;
 pub mod changing;
+pub mod judged;
 pub mod moments;
 pub mod reply;
 pub mod run;

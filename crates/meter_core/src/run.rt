@@ -29,8 +29,10 @@ pub fn run(
     requires { IsState plan.now meter.old }
     ensures state { IsState plan.now meter.new }
     ensures ok { OnOk result (meter.new ≡ run plan.now meter.old (map step_of steps.now)) }
-    ensures replies { IfOk result (λ all. map reply_of all.items ≡ replies plan.now meter.old (map step_of steps.now)) }
-    ensures stopped { IfErr result (λ stopped. IsStopped plan.now meter.old meter.new (map step_of steps.now) (map reply_of stopped.replies.items)) }
+    ensures replies { IfOk result (λ all. map reply_of all.items
+        ≡ replies plan.now meter.old (map step_of steps.now)) }
+    ensures stopped { IfErr result (λ stopped. IsStopped plan.now meter.old meter.new
+        (map step_of steps.now) (map reply_of stopped.replies.items)) }
 {
     if steps.is_empty() {
         return Ok(Vec::new(alloc));

@@ -70,8 +70,10 @@ pub fn show<'a>(
     selection: &Option<(u8, Argument)>,
 ) -> Result<Shown<'a>, Memory>
     requires { IsState plan.now meter.now }
-    ensures reply { IfOk result (λ shown. shown_of shown ≡ reply_to plan.now meter.now (steps.Get client attribute.now (selection_of selection.now))) }
-    ensures denied { needs_no_memory plan.now meter.now (steps.Get client attribute.now (selection_of selection.now)) ≡ true → IsOk result }
+    ensures reply { IfOk result (λ shown. shown_of shown ≡ reply_to plan.now meter.now
+        (steps.Get client attribute.now (selection_of selection.now))) }
+    ensures denied { needs_no_memory plan.now meter.now
+        (steps.Get client attribute.now (selection_of selection.now)) ≡ true → IsOk result }
 {
     let instance = plan.instance(&attribute.name);
     if let Err(code) = permit_get_at(&instance, client, attribute, selection) {
@@ -92,7 +94,8 @@ fn show_held<'a>(
     selection: &Option<(u8, Argument)>,
 ) -> Result<Shown<'a>, Memory>
     requires { is_some selection.now ≡ true → is_rows held ≡ true }
-    ensures { IfOk result (λ shown. shown_of shown ≡ answers.Value (selected (selection_of selection.now) (held_tree held.entry))) }
+    ensures { IfOk result (λ shown. shown_of shown
+        ≡ answers.Value (selected (selection_of selection.now) (held_tree held.entry))) }
 {
     Ok(match held {
         Held::Value(value) => Shown::Value(value),

@@ -1,5 +1,5 @@
 //! The effects of a step, one after another, wholly or not at all.
-ghost use Rattle.std.specs.Prelude.{◌≡◌, [], map, OnOk, OnErr, IsOk};
+ghost use Rattle.std.specs.Prelude.{◌≡◌, [], map, IfOk, OnOk, OnErr, IsOk};
 ghost use Rattle.meter_theory.specs.Plan.{held};
 ghost use Rattle.meter_theory.specs.State.{keys};
 ghost use Rattle.meter_theory.specs.States.{IsState};
@@ -14,23 +14,24 @@ use object_model::plan::Plan;
 use object_model::undo::Undo;
 use std::alloc::Global;
 
-/// Takes the effects of a step in their order, all or none: where memory is refused, those that were taken are taken back,
-/// and the meter is as it was. Without effects it takes no memory.
+/// Takes the effects of a step in their order, all or none, and hands out what takes them back: where memory is refused, those
+/// that were taken are taken back, and the meter is as it was. Without effects it takes no memory.
 pub fn apply_all(
     alloc: Global,
     plan: &Plan,
     meter: &mut Meter,
     effects: Vec<Effect>,
-) -> Result<(), Memory>
+) -> Result<Vec<Undo>, Memory>
     requires of_plan { IsState plan.now meter.old }
     requires fits { MayTakeAll plan.now effects.items }
     ensures ok { OnOk result (meter.new
         ≡ theory.effects plan.now meter.old (map effect_of effects.items)) }
+    ensures before { IfOk result (λ undos. all_undone undos.items meter.new ≡ meter.old) }
     ensures err { OnErr result (meter.new ≡ meter.old) }
     ensures none { effects.items ≡ [] → IsOk result }
 {
     if effects.is_empty() {
-        return Ok(());
+        return Ok(Vec::new(alloc));
     }
     plan.known();
     let mut undos = Vec::with_capacity(alloc, effects.len())?;
@@ -44,7 +45,7 @@ pub fn apply_all(
             }
         }
     }
-    Ok(())
+    Ok(undos)
 }
 
 /// Takes effects back, given in their order, the last one first.

@@ -1,7 +1,5 @@
-use Rattle.std.proofs.Common.{ap, sym, subst, ◌∙◌}
-use Rattle.meter_theory.specs.States.{IsState}
+use Rattle.std.proofs.Common.{ap, ◌∙◌}
 use Rattle.meter_theory.specs.Steps.{effects}
-use Rattle.meter_theory.proofs.KeepSteps.{step-keeps}
 use Rattle.meter_core.specs.StepView.{step_of}
 use Rattle.meter_effects.proofs.Added.{none_stands}
 use Rattle.meter_core.proofs.Answered.{own_reply, own_memory}
@@ -12,12 +10,8 @@ apply_all-requires-clause-fits c = c.in_ok-effects.ensures.ok.fits
 
 pub returns-clause-ok : goal.returns-clause-ok
 returns-clause-ok c =
-    c.in_ok-apply_all.ensures.ok
+    c.in_ok-undos.ensures.ok
     ∙ ap (effects c.args.plan.now c.args.meter.now) c.in_ok-effects.ensures.ok.effects
-
-pub returns-clause-state : goal.returns-clause-state
-returns-clause-state c =
-    subst (IsState c.args.plan.now) (sym (returns-clause-ok c)) (step-keeps c.args.plan.now c.known.ensures.sound c.args.meter.now (step_of c.args.step.now) c.requires.of_plan)
 
 pub returns-clause-reply : goal.returns-clause-reply
 returns-clause-reply c = own_reply c.args.plan.now c.args.meter.now (step_of c.args.step.now) c.requires.own
@@ -26,8 +20,8 @@ pub returns-in_err-effects-clause-denied : goal.returns-in_err-effects-clause-de
 returns-in_err-effects-clause-denied c = λ needs.
     let is_ok = c.in_err-effects.ensures.none (own_memory c.args.plan.now c.args.meter.now (step_of c.args.step.now) c.requires.own needs) in cc
 
-pub returns-in_err-apply_all-clause-denied : goal.returns-in_err-apply_all-clause-denied
-returns-in_err-apply_all-clause-denied c = λ needs.
-    let is_ok = c.in_err-apply_all.ensures.none
+pub returns-in_err-undos-clause-denied : goal.returns-in_err-undos-clause-denied
+returns-in_err-undos-clause-denied c = λ needs.
+    let is_ok = c.in_err-undos.ensures.none
     (none_stands c.in_ok-effects.effects.items
     (c.in_ok-effects.ensures.ok.effects ∙ own_memory c.args.plan.now c.args.meter.now (step_of c.args.step.now) c.requires.own needs)) in cc

@@ -1,0 +1,7 @@
+use Rattle.meter_core.specs.StepView.{step_of}
+use Rattle.meter_core.proofs.Answered.{applied_keeps}
+use Rattle.meter_core.proofs.apply.apply_judged.Goals as goal
+
+pub returns-clause-state : goal.returns-clause-state
+returns-clause-state c =
+    applied_keeps c.args.plan.now c.args.meter.now c.apply_by.new.meter (step_of c.args.judged.now.step) c.apply_by.result c.known.ensures.sound c.requires.of_plan c.apply_by.ensures.ok c.apply_by.ensures.err
