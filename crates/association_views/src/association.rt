@@ -117,8 +117,8 @@ fn push_object(
     object: &Object,
     list: &mut Vec<Data>,
 ) -> Result<(), Memory>
-    ensures { OnOk result (map tree list.new.items
-        ≡ map tree list.old.items ++ cond (has_right plan.now client object.now.name (λ r. true))
+    ensures { OnOk result (map tree list.new.items ≡ map tree list.old.items
+        ++ cond (has_right plan.now client object.now.name (λ r. true))
         (shapes.listed_object plan.now client object.now.name (interface_of object.now.part) ∷ [])
         []) }
 {

@@ -10,7 +10,7 @@ use Rattle.meter_theory.specs.declared.flow.Label.{Label}
 use Rattle.flow_edges.specs.Table.{no_cell}
 use Rattle.flow_edges.proofs.Sources.{numbered}
 use Rattle.cosem_data.specs.declared.cell.CellRef.{CellRef}
-use Rattle.meter_theory.specs.Labels.{Policy, Labelling, labelling_of_policy, may_learn}
+use Rattle.meter_theory.specs.Labels.{Policy, Labelling, labelling_of_policy}
 use Rattle.meter_theory.specs.Notice.{may_put, MayNotice, first_notice}
 use Rattle.cosem_data.specs.declared.name.LogicalName.{LogicalName}
 use Rattle.meter_theory.specs.Lists.{for_some}
@@ -19,13 +19,9 @@ use Rattle.meter_theory.specs.Rights.{cell_of, method_of}
 use Rattle.meter_theory.specs.Steps.{Effect, changed_by, changed, given_value, method_effects, Step, Get, Set, Act, Input, CaptureAt, Evaluate, ScheduleAt, Tick, ClockAt}
 use Rattle.meter_core.specs.Changing.{is_changing}
 use Rattle.flow_checker.specs.Accepted.{Accepted, AreAllowed}
-use Rattle.flow_checker.specs.Notices.{notice_of, LooksOn}
+use Rattle.flow_checker.specs.Notices.{learns, notice_of, LooksOn}
 use Rattle.flow_checker.specs.declared.notice.Notice.{Notice}
 use Rattle.flow_checker.specs.declared.looking.Looking.{Looking}
-
--- what the client may learn of an accepted plan
-abbrev pub learns : Accepted → ℕ → CellRef → Bool
-learns a c = may_learn (labelling_of_policy a.plan a.policy) c
 
 or_none : {A : Type 0} (o : Option A) → option_or o None ≡ o
 or_none None = refl

@@ -72,8 +72,8 @@ impl Model for Checked {
 
     ghost invariant = { λ c. IsAdmitted
         (record { plan = (arc_value c.admitted).plan; policy = (arc_value c.admitted).policy })
-        × AreAllowed (arc_value c.admitted).plan
-        (arc_value c.admitted).policy (arc_value c.admitted).labels.items };
+        × AreAllowed (arc_value c.admitted).plan (arc_value c.admitted).policy
+        (arc_value c.admitted).labels.items };
 }
 
 impl Checked {

@@ -10,7 +10,7 @@ ghost use Rattle.meter_theory.specs.Notice.{MayNotice, may_put};
 ghost use Rattle.meter_theory.specs.Safety.{HasCells, IsQuiet};
 ghost use Rattle.meter_theory.specs.States.{IsState};
 ghost use Rattle.meter_theory.specs.Steps as steps;
-ghost use Rattle.flow_checker.specs.Notices.{notice_of};
+ghost use Rattle.flow_checker.specs.Notices.{learns, notice_of};
 
 use crate::check::Checked;
 use crate::looking::Looking;
@@ -71,8 +71,7 @@ pub fn first_notice(checked: &Checked, client: u8, step: &Step) -> Option<Notice
 /// Of a second that goes by: everybody may learn the inner clock, and of a clock of the plan the policy says it.
 fn ticked(checked: &Checked, client: u8) -> Option<Notice>
     ensures { option_map notice_of result ≡ option_map theory.Changed
-        (find (may_learn (labelling_of_policy checked.now.plan checked.now.policy) client)
-        (may_put checked.now.plan steps.Tick)) }
+        (find (learns checked.now client) (may_put checked.now.plan steps.Tick)) }
 {
     match checked.plan().clock() {
         Some(clock) => first_learned(checked, client, &[clock_time(clock)]).map(Notice::Cell),
@@ -84,8 +83,7 @@ fn ticked(checked: &Checked, client: u8) -> Option<Notice>
 fn told_moment(checked: &Checked) -> Option<Notice>
     ensures { (client : ℕ) (moment : Moment) → option_map notice_of result
         ≡ option_map theory.Changed
-        (find (may_learn (labelling_of_policy checked.now.plan checked.now.policy) client)
-        (may_put checked.now.plan (steps.ClockAt moment))) }
+        (find (learns checked.now client) (may_put checked.now.plan (steps.ClockAt moment))) }
 {
     match checked.plan().clock() {
         Some(_) => None,
@@ -96,8 +94,7 @@ fn told_moment(checked: &Checked) -> Option<Notice>
 /// The first cell that any other step may put and the client may learn.
 fn first_cell(checked: &Checked, client: u8, step: &Step) -> Option<CellRef>
     ensures { sets_clock step.now ≡ false →
-        result ≡ find (may_learn (labelling_of_policy checked.now.plan checked.now.policy) client)
-        (may_put checked.now.plan (step_of step.now)) }
+        result ≡ find (learns checked.now client) (may_put checked.now.plan (step_of step.now)) }
 {
     let plan = checked.plan();
     if !is_change(plan, step) {
@@ -124,8 +121,7 @@ fn first_cell(checked: &Checked, client: u8, step: &Step) -> Option<CellRef>
 
 /// The first of these cells that the client may learn.
 pub(crate) fn first_learned(checked: &Checked, client: u8, cells: &[CellRef]) -> Option<CellRef>
-    ensures { result ≡ find
-        (may_learn (labelling_of_policy checked.now.plan checked.now.policy) client) cells.now }
+    ensures { result ≡ find (learns checked.now client) cells.now }
 {
     cells
         .iter()
@@ -135,8 +131,7 @@ pub(crate) fn first_learned(checked: &Checked, client: u8, cells: &[CellRef]) ->
 
 /// Whether the client may learn the cell by the policy.
 fn learns(checked: &Checked, client: u8, cell: &CellRef) -> bool
-    ensures { result
-        ≡ may_learn (labelling_of_policy checked.now.plan checked.now.policy) client cell.now }
+    ensures { result ≡ learns checked.now client cell.now }
 {
     // No cell that has a name is the inner clock.
     is_named(cell);
@@ -150,8 +145,7 @@ fn first_by_set(
     attribute: &Descriptor,
     value: &Argument,
 ) -> Option<CellRef>
-    ensures { result
-        ≡ find (may_learn (labelling_of_policy checked.now.plan checked.now.policy) client)
+    ensures { result ≡ find (learns checked.now client)
         (steps.changed (steps.given_value (cell_of attribute.now) (argument_of value.now))) }
 {
     match value {
@@ -162,8 +156,7 @@ fn first_by_set(
 
 /// The first cell that an input puts and the client may learn: none where it isn't taken.
 fn first_by_input(checked: &Checked, client: u8, cell: &CellRef, value: &Data) -> Option<CellRef>
-    ensures { result
-        ≡ find (may_learn (labelling_of_policy checked.now.plan checked.now.policy) client)
+    ensures { result ≡ find (learns checked.now client)
         (may_put checked.now.plan (steps.Input cell.now (tree value.now))) }
 {
     if !takes_input(checked.plan(), cell, value) {
@@ -174,9 +167,7 @@ fn first_by_input(checked: &Checked, client: u8, cell: &CellRef, value: &Data) -
 
 /// The first cell that a write of this cell changes and the client may learn.
 fn first_by_write(checked: &Checked, client: u8, cell: CellRef) -> Option<CellRef>
-    ensures { result
-        ≡ find (may_learn (labelling_of_policy checked.now.plan checked.now.policy) client)
-        (steps.changed_by_write cell) }
+    ensures { result ≡ find (learns checked.now client) (steps.changed_by_write cell) }
 {
     first_learned(checked, client, changed_by_write(cell).as_slice())
 }
@@ -188,10 +179,8 @@ fn first_by_method(
     method: &MethodRef,
     argument: &Argument,
 ) -> Option<CellRef>
-    ensures { result
-        ≡ find (may_learn (labelling_of_policy checked.now.plan checked.now.policy) client)
-        (steps.changed (steps.method_effects checked.now.plan method.now
-        (argument_of argument.now))) }
+    ensures { result ≡ find (learns checked.now client) (steps.changed
+        (steps.method_effects checked.now.plan method.now (argument_of argument.now))) }
 {
     let mut looking = Looking::new(checked, client);
     let Ok(()) = each_of_method(checked.plan(), method, argument, &mut looking);
@@ -201,8 +190,7 @@ fn first_by_method(
 /// The first cell that a capture of the profile puts and the client may learn, where the plan has such a profile.
 fn first_by_capture(checked: &Checked, client: u8, profile: LogicalName) -> Option<CellRef>
     ensures { result
-        ≡ find (may_learn (labelling_of_policy checked.now.plan checked.now.policy) client)
-        (may_put checked.now.plan (steps.CaptureAt profile)) }
+        ≡ find (learns checked.now client) (may_put checked.now.plan (steps.CaptureAt profile)) }
 {
     match checked.plan().object_at(&profile)?.part() {
         Part::ProfileGeneric(_) => {
@@ -216,8 +204,7 @@ fn first_by_capture(checked: &Checked, client: u8, profile: LogicalName) -> Opti
 /// due or not, and then what it has seen.
 fn first_by_evaluation(checked: &Checked, client: u8, monitor: LogicalName) -> Option<CellRef>
     ensures { result
-        ≡ find (may_learn (labelling_of_policy checked.now.plan checked.now.policy) client)
-        (may_put checked.now.plan (steps.Evaluate monitor)) }
+        ≡ find (learns checked.now client) (may_put checked.now.plan (steps.Evaluate monitor)) }
 {
     let Part::RegisterMonitor(part) = checked.plan().object_at(&monitor)?.part() else {
         return None;
@@ -232,8 +219,7 @@ fn first_by_evaluation(checked: &Checked, client: u8, monitor: LogicalName) -> O
 
 /// The first cell that a script puts which the schedule may run, and the client may learn.
 fn first_by_schedule(checked: &Checked, client: u8, schedule: &LogicalName) -> Option<CellRef>
-    ensures { result
-        ≡ find (may_learn (labelling_of_policy checked.now.plan checked.now.policy) client)
+    ensures { result ≡ find (learns checked.now client)
         (may_put checked.now.plan (steps.ScheduleAt schedule.now)) }
 {
     let Part::SingleActionSchedule(part) = checked.plan().object_at(schedule)?.part() else {

@@ -3,7 +3,8 @@ use Rattle.class_control.specs.PartView.{monitor_part_of}
 use Rattle.meter_theory.specs.Plan.{seen}
 use Rattle.meter_theory.specs.Edges.{scripts_effects, scripts_named, monitor_changes}
 use Rattle.meter_theory.specs.Notice.{put_by_evaluation}
-use Rattle.flow_checker.proofs.Looked.{learns, looked_anew, found_part, found_behind, found_first}
+use Rattle.flow_checker.specs.Notices.{learns}
+use Rattle.flow_checker.proofs.Looked.{looked_anew, found_part, found_behind, found_first}
 use Rattle.flow_checker.proofs.notice.first_by_evaluation.Goals as goal
 
 pub returns-in-None : goal.returns-in-None

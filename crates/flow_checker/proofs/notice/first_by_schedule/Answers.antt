@@ -3,7 +3,8 @@ use Rattle.class_control.specs.PartView.{schedule_part_of, scripts_of_part}
 use Rattle.meter_theory.specs.Menus.{alternatives}
 use Rattle.meter_theory.specs.Edges.{scripts_effects}
 use Rattle.meter_theory.specs.Notice.{put_by_schedule}
-use Rattle.flow_checker.proofs.Looked.{learns, looked_anew, found_part}
+use Rattle.flow_checker.specs.Notices.{learns}
+use Rattle.flow_checker.proofs.Looked.{looked_anew, found_part}
 use Rattle.flow_checker.proofs.notice.first_by_schedule.Goals as goal
 
 pub returns : goal.returns
