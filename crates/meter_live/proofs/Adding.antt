@@ -10,13 +10,13 @@ use Rattle.meter_theory.specs.Steps.{Step}
 use Rattle.meter_live.specs.Marks.{IsCounted, Adds}
 use Rattle.meter_live.proofs.Fronts.{prefix_whole}
 
-abbrev pub shown : List (List Step) → List (List Step)
+abbrev pub shown : List Step → List Step
 shown log = []
 
-abbrev pub moved : List (List Step) → List (List Step) → ℕ → Type 0
+abbrev pub moved : List Step → List Step → ℕ → Type 0
 moved xs ys n = Unit {0}
 
-pub adds_goes : (log v : List (List Step)) (e : List Step) (old : ℕ) → length v ≡ old → IsPrefix v log
+pub adds_goes : (log v : List Step) (e : Step) (old : ℕ) → length v ≡ old → IsPrefix v log
     → (b : Bool) → (length log == old) ≡ b
     → Goes IsCounted shown moved 0 (v, (no_nib, None)) (λ n. either (n == old) (old + 1) n) (Adds (step 0 old (old + 1) e) (v, (no_nib, None))) ((length log, true) ∷ (0, true) ∷ []) log
 adds_goes log v e old len pre true is =
@@ -44,7 +44,7 @@ adds_goes log v e old len pre false is =
     )
 
 -- whatever the book is, the exchange adds the step to all that was seen, or finds that the history is longer
-pub adds_moves : (v : List (List Step)) (e : List Step) (old : ℕ) → length v ≡ old
+pub adds_moves : (v : List Step) (e : Step) (old : ℕ) → length v ≡ old
     → Moves IsCounted shown moved 0 (v, (no_nib, None)) (λ n. either (n == old) (old + 1) n) (Adds (step 0 old (old + 1) e) (v, (no_nib, None)))
 adds_moves v e old len cs log kept pre away =
     let P : List Cell → Type 0 = λ c. (0 < length c) × ((cell c 0).1 ≡ true) × Goes IsCounted shown moved 0 (v, (no_nib, None)) (λ n. either (n == old) (old + 1) n) (Adds (step 0 old (old + 1) e) (v, (no_nib, None))) c log in

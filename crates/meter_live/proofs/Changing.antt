@@ -1,15 +1,9 @@
 -- Steps that change nothing, and what a port answers.
-use Rattle.std.proofs.Common.{◌≡◌, ◌≤◌, Bool, true, false, refl, sym, arith}
+use Rattle.std.proofs.Common.{◌≡◌, ◌≤◌, Bool, true, false, refl, arith}
 use Rattle.std.specs.Prelude.{cond, List, []}
-use Rattle.cosem_data.specs.Tree.{Tree}
-use Rattle.cosem_data.specs.View.{tree}
-use Rattle.meter_core.specs.Copies.{has_value}
-use Rattle.meter_core.specs.StepView.{reply_of}
-use Rattle.meter_core.specs.declared.reply.Reply.{Reply as CodeReply}
-use Rattle.meter_core.specs.declared.reply.Reply.TheVariants as kinds
 use Rattle.meter_theory.specs.Access.{is_success}
 use Rattle.meter_theory.specs.Plan.{Plan}
-use Rattle.meter_theory.specs.Replies.{Reply, Value, reply_to}
+use Rattle.meter_theory.specs.Replies.{Reply, reply_to}
 use Rattle.meter_theory.specs.Rights.{set_answer, act_answer, method_of, cell_of}
 use Rattle.meter_theory.specs.State.{State}
 use Rattle.meter_theory.specs.States.{IsState}
@@ -33,24 +27,6 @@ unchanged P s (Evaluate n) is = absurd (cc is)
 unchanged P s (ScheduleAt n) is = absurd (cc is)
 unchanged P s Tick is = absurd (cc is)
 unchanged P s (ClockAt m) is = absurd (cc is)
-
--- what is answered with a value changes nothing
-pub valued : (P : Plan) (s : State) (step : Step) (v : Tree) → reply_to P s step ≡ Value v → next P s step ≡ s
-valued P s (Get c d selection) v is = refl
-valued P s (Set c d selected w) v is = absurd (cc is)
-valued P s (Act c d argument) v is = absurd (cc is)
-valued P s (Input x w) v is = absurd (cc is)
-valued P s (CaptureAt n) v is = absurd (cc is)
-valued P s (Evaluate n) v is = absurd (cc is)
-valued P s (ScheduleAt n) v is = absurd (cc is)
-valued P s Tick v is = absurd (cc is)
-valued P s (ClockAt m) v is = absurd (cc is)
-
--- what is answered with a reply whose copy takes memory changes nothing
-pub copied : (P : Plan) (s : State) (step : Step) (reply : CodeReply) → reply_of reply ≡ reply_to P s step → ¬ (has_value reply ≡ false) → next P s step ≡ s
-copied P s step (kinds.Value v) is held = valued P s step (tree v) (sym is)
-copied P s step (kinds.Code code) is held = absurd (held refl)
-copied P s step kinds.Quiet is held = absurd (held refl)
 
 -- the reply in a state of the plan is one that a port may answer
 pub answers : (P : Plan) (s : State) (step : Step) (reply : Reply) → IsState P s → reply ≡ reply_to P s step → Answers P step reply

@@ -1,10 +1,10 @@
 pub mod Crossing
 pub mod Adding
 pub mod Changing
+mod Counts
 pub mod Fronts
 pub mod Kept
 pub mod Lasts
 pub mod Notes
-pub mod Posted
 pub mod Telling
 pub mod Trails

@@ -1,25 +1,17 @@
 -- Notes to the copies, and beginnings of the history.
-use Rattle.std.proofs.Common.{Ok, subst, ◌≡◌, List, [], ◌∷◌, ◌++◌, length, drop, fold, refl, ap, sym, ◌∙◌, append_assoc}
+use Rattle.std.proofs.Common.{Ok, subst, ◌≡◌, List, [], ◌∷◌, ◌++◌, fold, refl, ap, sym, ◌∙◌}
 use Rattle.std.specs.Prelude.{Option, None, Some, MatchResult}
 use Rattle.std.specs.declared.result.Result.{Result}
 use Rattle.std.proofs.lemmas.List.{append-nil}
-use mathlib.Core.List.{IsPrefix}
 use Rattle.meter_theory.specs.Plan.{Plan}
 use Rattle.meter_theory.specs.Replies.{run}
 use Rattle.meter_theory.specs.State.{State}
 use Rattle.meter_theory.specs.Steps.{Step, next}
-use Rattle.meter_live.specs.Marks.{Mark, joined}
+use Rattle.meter_live.specs.Marks.{Mark}
 use Rattle.meter_live.specs.Copies.{absorbed, last_mark}
 use Rattle.meter_live.specs.Outgoing.{steps_in, list_of}
 use Rattle.meter_live.specs.declared.shown.Note.{Note}
 use Rattle.meter_live.specs.declared.shown.Note.TheVariants.{Made, UpTo}
-
-pub joined-append : (xs ys : List (List Step)) → joined (xs ++ ys) ≡ joined xs ++ joined ys
-joined-append [] ys = refl
-joined-append (b ∷ xs) ys = ap (λ r. b ++ r) (joined-append xs ys) ∙ sym (append_assoc b (joined xs) (joined ys))
-
-pub joined_begins : (xs ys : List (List Step)) → IsPrefix xs ys → IsPrefix (joined xs) (joined ys)
-joined_begins xs ys p = (joined p.0, sym (joined-append xs p.0) ∙ ap joined p.1)
 
 pub run-append : (p : Plan) (s : State) (xs ys : List Step) → run p s (xs ++ ys) ≡ run p (run p s xs) ys
 run-append p s [] ys = refl
@@ -41,16 +33,13 @@ fold_absorbed p s f [] = refl
 fold_absorbed p s f (Made step ∷ notes) = fold_absorbed p (next p s step) f notes
 fold_absorbed p s f (UpTo mark ∷ notes) = fold_absorbed p s mark notes
 
--- what a beginning lacks of the whole stands behind it
-pub begins_drop : (xs ys : List Step) → IsPrefix xs ys → xs ++ drop (length xs) ys ≡ ys
-begins_drop [] ys p = refl
-begins_drop (x ∷ xs) [] p = absurd (cc (p.1))
-begins_drop (x ∷ xs) (y ∷ ys) p = let rest = begins_drop xs ys (p.0, cc (p.1)) in cc (p.1, rest)
+-- a step is sent
+pub sent : (old new : List Note) (step : Step) → new ≡ old ++ Made step ∷ [] → steps_in new ≡ steps_in old ++ step ∷ []
+sent old new step is = ap steps_in is ∙ steps_in-append old (Made step ∷ [])
 
 -- the late step is handed over
-pub handed : (old new : List Note) (step : Step) (late late' : Option Step) → new ≡ old ++ Made step ∷ [] → late ≡ Some step → late' ≡ None → steps_in new ++ list_of late' ≡ steps_in old ++ list_of late
-handed old new step late late' is was none =
-    ap (λ l. steps_in new ++ list_of l) none ∙ append-nil (steps_in new) ∙ ap steps_in is ∙ steps_in-append old (Made step ∷ []) ∙ ap (λ l. steps_in old ++ list_of l) (sym was)
+pub handed : (old new : List Step) (step : Step) (late late' : Option Step) → new ≡ old ++ step ∷ [] → late ≡ Some step → late' ≡ None → new ++ list_of late' ≡ old ++ list_of late
+handed old new step late late' is was none = ap (λ l. new ++ list_of l) none ∙ append-nil new ∙ is ∙ ap (λ l. old ++ list_of l) (sym was)
 
 -- a mark adds no step
 pub marked : (old new : List Note) (mark : Mark) → new ≡ old ++ UpTo mark ∷ [] → steps_in new ≡ steps_in old

@@ -10,7 +10,8 @@ use Rattle.meter_live.proofs.Changing.{unchanged}
 use Rattle.meter_live.proofs.Trails.{run-push}
 use Rattle.meter_core.specs.Changing.{is_changing}
 use Rattle.meter_live.specs.Changes.{changes_of}
-use Rattle.meter_live.specs.Told.{Told, IsPublished, IsTold, acted}
+use Rattle.meter_live.specs.Marks.{Mark, longer}
+use Rattle.meter_live.specs.Told.{Told, IsPublished, IsTold, acted, written_of}
 use Rattle.meter_live.specs.Trail.{Traced, after}
 
 both_pass : (b c d : Bool) → (b && c) ≡ true → (c ≡ true → d ≡ true) → (b && d) ≡ true
@@ -64,3 +65,11 @@ loud_is t port step meter book published pending loud is book_is published_is pe
 pub told_made : (P P' : Plan) (t : Told) (port : ℕ) (step : Step) (made : Told) → IsTold P t → P' ≡ P → acted t port step ≡ made → IsTold P' made
 told_made P P' t port step made told plan_is is =
     subst (λ (Q : Plan). IsTold Q made) (sym plan_is) (subst (λ (m : Told). IsTold P m) is (told_after P t port step told))
+
+-- the history is longer by a step that is put behind the pending ones
+pub written_more : (t : Told) (step : Step) (old new : Mark) (book : Book) (published pending : List Step) → old ≡ written_of t → new ≡ longer old step
+    → book ≡ t.book → published ≡ t.published → pending ≡ t.pending ++ step ∷ [] → new ≡ record { book = book; steps = published ++ pending }
+written_more t step old new book published pending old_is new_is book_is published_is pending_is =
+    let steps : (t.published ++ t.pending) ++ step ∷ [] ≡ published ++ pending
+    = append_assoc t.published t.pending (step ∷ []) ∙ (λ i. sym published_is i ++ sym pending_is i) in
+    new_is ∙ ap (λ m. longer m step) old_is ∙ (λ i. record { book = sym book_is i; steps = steps i })

@@ -87,13 +87,13 @@ pub after_is : (t : Traced) (port : ℕ) (step : Step) (reply : Reply) (closed :
     → state ≡ next t.accepted.plan t.state step
     → reply ≡ reply_to t.accepted.plan t.state step
     → trail ≡ cond (is_some closed) (record { port = port; step = step; reply = reply } ∷ []) (t.trail ++ record { port = port; step = step; reply = reply } ∷ [])
-    → changes ≡ changes_of t.accepted.plan step
-    → after t port step ≡ record { accepted = t.accepted; opening = opening; state = state; trail = trail; count = t.count + 1; changes = t.changes + changes }
+    → changes ≡ t.changes + changes_of t.accepted.plan step
+    → after t port step ≡ record { accepted = t.accepted; opening = opening; state = state; trail = trail; count = t.count + 1; changes = changes }
 after_is t port step reply closed opening state trail changes is opens nexts replied put changed =
     let entry : Reply → Taken = λ r. record { port = port; step = step; reply = r } in
     let p = opens ∙ opening_is (has_room t) closed t.opening t.state is in
     let q = put ∙ ap (λ r. cond (is_some closed) (entry r ∷ []) (t.trail ++ entry r ∷ [])) replied ∙ trail_is (has_room t) closed t.state t.trail (taken t port step) is in
-    λ i. record { accepted = t.accepted; opening = sym p i; state = sym nexts i; trail = sym q i; count = t.count + 1; changes = t.changes + sym changed i }
+    λ i. record { accepted = t.accepted; opening = sym p i; state = sym nexts i; trail = sym q i; count = t.count + 1; changes = sym changed i }
 
 -- and keep what a traced meter keeps
 pub traced_made : (t : Traced) (port : ℕ) (step : Step) (made : Traced) → IsTraced t → IsState t.accepted.plan (next t.accepted.plan t.state step) → after t port step ≡ made → IsTraced made

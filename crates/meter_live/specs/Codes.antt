@@ -16,6 +16,7 @@ use Rattle.meter_theory.specs.declared.refs.Descriptor.{Descriptor}
 use Rattle.meter_theory.specs.Steps.{Step, Get, Set, Act, Input, CaptureAt, Evaluate, ScheduleAt, Tick, ClockAt}
 use Rattle.meter_theory.specs.Times.{Moment}
 use Rattle.meter_live.specs.Marks.{Mark}
+use Rattle.meter_live.specs.Tally.{Tally}
 use Rattle.meter_live.specs.Trail.{Taken}
 
 abbrev pub descriptor_code : Coded Descriptor
@@ -142,3 +143,6 @@ mark_code = code_by (Book × List Step) (coded× book_coded (coded_list step_cod
 
 abbrev pub taken_code : Coded Taken
 taken_code = code_by (ℕ × (Step × Reply)) (coded× coded_ℕ (coded× step_code reply_code)) (λ e. (e.port, (e.step, e.reply))) (λ p. record { port = p.0; step = p.1.0; reply = p.1.1 }) (λ _. refl)
+
+abbrev pub tally_code : Coded Tally
+tally_code = code_by (ℕ × (ℕ × List Step)) (coded× coded_ℕ (coded× coded_ℕ (coded_list step_code))) (λ t. (t.steps, (t.changes, t.written))) (λ p. record { steps = p.0; changes = p.1.0; written = p.1.1 }) (λ _. refl)

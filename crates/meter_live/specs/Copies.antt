@@ -7,7 +7,7 @@ use Rattle.meter_theory.specs.Plan.{Plan, start}
 use Rattle.meter_theory.specs.Replies.{run}
 use Rattle.meter_theory.specs.State.{State}
 use Rattle.meter_theory.specs.Steps.{next}
-use Rattle.meter_live.specs.Marks.{Mark}
+use Rattle.meter_live.specs.Marks.{Mark, empty_book, empty_plan}
 use Rattle.meter_live.specs.declared.shown.Note.{Note}
 use Rattle.meter_live.specs.declared.shown.Note.TheVariants.{Made, UpTo}
 use Rattle.meter_live.specs.declared.rule.Names.{Names}
@@ -18,7 +18,7 @@ named P front = record { known = true; plan = P; front = front }
 
 -- it knows nothing
 abbrev pub unknown : Names
-unknown = record { known = false; plan = record { version = 1; clients = []; objects = []; rights = [] }; front = record { book = record { number = 0; log_name = 0; cells_name = 0 }; steps = [] } }
+unknown = record { known = false; plan = empty_plan; front = record { book = empty_book; steps = [] } }
 
 -- who knows a plan and a mark knows the copy's plan, and a mark in its history that the copy's begins with
 abbrev pub Agrees : Plan → Mark → Names → Type 0

@@ -25,6 +25,11 @@ pub record Traced : Type 0 where
   pub count : ℕ
   pub changes : ℕ
 
+-- these parts of it
+abbrev pub traced : Accepted → State → State → List Taken → ℕ → ℕ → Traced
+traced accepted opening state trail count changes =
+    record { accepted = accepted; opening = opening; state = state; trail = trail; count = count; changes = changes }
+
 -- the steps of a trail
 abbrev pub steps_of : List Taken → List Step
 steps_of trail = map (λ e. e.step) trail
@@ -44,9 +49,13 @@ pub record IsTraced (t : Traced) : Type 0 where
   pub short : length t.trail ≤ limits.TRAIL
   pub fewer : t.changes ≤ t.count
 
+-- what a step is answered now
+abbrev pub reply_now : Traced → Step → Reply
+reply_now t step = reply_to t.accepted.plan t.state step
+
 -- a step that is taken now, with its reply
 abbrev pub taken : Traced → ℕ → Step → Taken
-taken t port step = record { port = port; step = step; reply = reply_to t.accepted.plan t.state step }
+taken t port step = record { port = port; step = step; reply = reply_now t step }
 
 -- there is room in the trail
 abbrev pub has_room : Traced → Bool

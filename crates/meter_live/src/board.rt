@@ -1,16 +1,15 @@
 //! A live meter that many threads use.
-ghost use Rattle.std.specs.Prelude.{◌≡◌, ◌<◌, ◌++◌, ◌∷◌, [], List, true, IfOk, IfErr, OnOk, OnErr, MatchBool, ◌+◌, sum_by, vec_len};
+ghost use Rattle.std.specs.Prelude.{◌≡◌, ◌<◌, [], true, IfOk, IfErr, OnOk, OnErr, ◌+◌, sum_by, vec_len};
 ghost use Rattle.std.specs.Coded.{codes};
 ghost use mathlib.Core.List.{IsPrefix};
 ghost use Rattle.logbook.specs.Pages.{book_coded};
+ghost use Rattle.meter_core.specs.Judging.{IsJudged};
 ghost use Rattle.meter_core.specs.StepView.{reply_of, step_of};
-ghost use Rattle.meter_theory.specs.PlanCode.{plan_code};
 ghost use Rattle.meter_theory.specs.States.{IsState};
-ghost use Rattle.meter_theory.specs.Steps as steps;
-ghost use Rattle.meter_core.specs.Changing.{is_changing};
-ghost use Rattle.meter_live.specs.Changes.{Answers, changes_of};
+ghost use Rattle.meter_live.specs.Changes.{Answers};
 ghost use Rattle.meter_live.specs.Codes.{step_code};
-ghost use Rattle.meter_live.specs.Tally.{HasSeen, counted, nothing};
+ghost use Rattle.meter_live.specs.Tally.{Counts, HasSeen, IsUnused};
+ghost use Rattle.meter_live.specs.Told.{IsToldOf};
 
 use crate::desk::{BoardReader, Desk};
 use crate::fault::{LiveFault, PortFault, ReaderFault};
@@ -20,13 +19,14 @@ use crate::names::Naming;
 use crate::share::Share;
 use cosem_data::memory::Memory;
 use flow_checker::check::Checked;
+use meter_core::judged::Judged;
 use meter_core::reply::Reply;
 use meter_core::step::Step;
 use object_model::meter::Meter;
 use object_model::plan::Plan;
 use std::alloc::Global;
 use std::marker::Model;
-use std::sync::ledger::{Blank, Ledger};
+use std::sync::ledger::Blank;
 use std::sync::{Mutex, MutexGuard, Wait};
 
 /// A board has at most so many ports, numbered from 0, each with a reader (own profile).
@@ -56,18 +56,32 @@ impl Blanks {
     }
 }
 
-/// A live meter under a lock, with its plan beside the lock.
+/// A live meter under a lock, with its plan beside the lock. Contracts see what was accepted.
 #[derive(Drop)]
-pub struct Board<N: Naming, S: Ledger, C: Ledger, W: Wait + Drop> {
-    desk: Mutex<Desk<N, S, C, W>>,
+pub struct Board<N: Naming, W: Wait + Drop> {
+    desk: Mutex<Desk<N, W>>,
     checked: Checked,
-    ghost plan_is: { checked ≡ N.accepted } by { Prim.hlevel (codes, plan_code) },
+}
+
+impl<N: Naming, W: Wait + Drop> Model for Board<N, W> {
+    ghost use Rattle.std.specs.Prelude.{◌≡◌};
+    ghost use Rattle.std.specs.Coded.{codes};
+    ghost use Rattle.flow_checker.specs.Accepted.{Accepted};
+    ghost use Rattle.meter_theory.specs.PlanCode.{plan_code};
+
+    ghost Value = { Accepted };
+
+    ghost coded = { Prim.hlevel (codes, plan_code) };
+
+    ghost view = { λ b. b.checked };
+
+    ghost invariant = { λ b. b.checked ≡ N.accepted };
 }
 
 /// What a thread asks by. It borrows the board, so that none outlives it.
 #[derive(Drop)]
-pub struct Port<'b, N: Naming, S: Ledger, C: Ledger, W: Wait + Drop> {
-    board: &'b Board<N, S, C, W>,
+pub struct Port<'b, N: Naming, W: Wait + Drop> {
+    board: &'b Board<N, W>,
     number: u8,
 }
 
@@ -87,33 +101,37 @@ pub struct Closed {
 /// A board that wasn't closed, since there were fewer shares than opened ports. Both are handed back. Contracts see the shares, how
 /// many ports were opened, and how many could still be opened.
 #[derive(Drop)]
-pub struct NotAll<N: Naming, S: Ledger, C: Ledger, W: Wait + Drop> {
-    desk: Desk<N, S, C, W>,
+pub struct NotAll<N: Naming, W: Wait + Drop> {
+    desk: Desk<N, W>,
     checked: Checked,
-    shares: Vec<Share<S, C>>,
+    shares: Vec<Share<N>>,
 }
 
-impl<N: Naming, S: Ledger, C: Ledger, W: Wait + Drop> Model for NotAll<N, S, C, W> {
+impl<N: Naming, W: Wait + Drop> Model for NotAll<N, W> {
     ghost use Rattle.std.specs.Prelude.{◌≡◌, ◌<◌, vec_len};
+    ghost use Rattle.std.specs.Coded.{codes};
+    ghost use Rattle.meter_live.specs.Codes.{tally_code};
     ghost use Rattle.meter_live.specs.Tally.{Unclosed};
 
     ghost Value = { Unclosed };
 
-    ghost view = { λ n. record { shares = n.shares.items; opened = vec_len n.desk.ports; left = n.desk.left } };
+    ghost coded = { Prim.hlevel (codes, tally_code) };
 
-    ghost invariant = { λ n. (n.checked ≡ N.accepted) × (vec_len n.shares < vec_len n.desk.ports) };
+    ghost view = { λ n. record { shares = n.shares.items; opened = n.desk.opened; left = n.desk.left } };
+
+    ghost invariant = { λ n. (n.checked ≡ N.accepted) × (vec_len n.shares < n.desk.opened) };
 }
 
-impl<N: Naming, S: Ledger, C: Ledger, W: Wait + Drop> NotAll<N, S, C, W> {
+impl<N: Naming, W: Wait + Drop> NotAll<N, W> {
     /// How many ports were opened.
     pub fn opened(&self) -> usize
         ensures { result ≡ self.now.opened }
     {
-        self.desk.ports.len()
+        self.desk.opened()
     }
 
     /// The board, which isn't closed, and the shares that were given.
-    pub fn into_parts(self) -> (Board<N, S, C, W>, Vec<Share<S, C>>)
+    pub fn into_parts(self) -> (Board<N, W>, Vec<Share<N>>)
         ensures { result.1.items ≡ self.shares }
     {
         let NotAll {
@@ -129,18 +147,18 @@ impl<N: Naming, S: Ledger, C: Ledger, W: Wait + Drop> NotAll<N, S, C, W> {
     }
 }
 
-impl<N: Naming, S: Ledger, C: Ledger, W: Wait + Drop> Board<N, S, C, W> {
+impl<N: Naming, W: Wait + Drop> Board<N, W> {
     /// Opens a board of a meter that no step has reached. Where memory is refused, what was accepted is given back.
     pub fn open(
         rt: W,
         alloc: Global,
         checked: Checked,
         blanks: Blanks,
-    ) -> Result<Board<N, S, C, W>, Checked>
+    ) -> Result<Board<N, W>, Checked>
         requires plan { checked ≡ N.accepted }
         requires book { blanks.history ≡ N.book }
-        requires steps { (blanks.steps.name ≡ S.name) × (S.parts ≡ 256) }
-        requires changes { (blanks.changes.name ≡ C.name) × (C.parts ≡ 256) }
+        requires steps { blanks.steps.name ≡ N.steps }
+        requires changes { blanks.changes.name ≡ N.changes }
         ensures err { IfErr result (λ given. given ≡ checked) }
     {
         let Ok(beside) = checked.share() else {
@@ -174,13 +192,13 @@ impl<N: Naming, S: Ledger, C: Ledger, W: Wait + Drop> Board<N, S, C, W> {
     }
 
     /// Holds the lock, to look at the meter with its trail: until the guard is let go no step is taken. Readers go on.
-    pub fn lock<R: Wait>(&self, rt: &R) -> MutexGuard<'_, Desk<N, S, C, W>> {
+    pub fn lock<R: Wait>(&self, rt: &R) -> MutexGuard<'_, Desk<N, W>> {
         self.desk.lock(rt)
     }
 
     /// A new port, and the share that counts what it takes.
-    pub fn port<R: Wait>(&self, rt: &R) -> Result<(Port<'_, N, S, C, W>, Share<S, C>), PortFault>
-        ensures { IfOk result (λ r. r.1 ≡ nothing) }
+    pub fn port<R: Wait>(&self, rt: &R) -> Result<(Port<'_, N, W>, Share<N>), PortFault>
+        ensures { IfOk result (λ r. IsUnused r.1) }
     {
         let (number, share) = self.desk.lock(rt).open_port()?;
         Ok((
@@ -194,11 +212,7 @@ impl<N: Naming, S: Ledger, C: Ledger, W: Wait + Drop> Board<N, S, C, W> {
 
     /// Closes the board, once the shares of all opened ports are back: the numbers of steps and changes are their sums. It waits
     /// for the readers. The only error is that there are fewer shares than ports that were opened.
-    pub fn close<R: Wait>(
-        self,
-        rt: &R,
-        shares: Vec<Share<S, C>>,
-    ) -> Result<Closed, NotAll<N, S, C, W>>
+    pub fn close<R: Wait>(self, rt: &R, shares: Vec<Share<N>>) -> Result<Closed, NotAll<N, W>>
         ensures count { IfOk result (λ c. c.count ≡ sum_by (λ s. s.steps) shares.items) }
         ensures changes { IfOk result (λ c. c.changes ≡ sum_by (λ s. s.changes) shares.items) }
         ensures plan { IfOk result (λ c. c.plan ≡ N.accepted) }
@@ -209,7 +223,7 @@ impl<N: Naming, S: Ledger, C: Ledger, W: Wait + Drop> Board<N, S, C, W> {
     {
         let Board { desk, checked } = self;
         let desk = desk.into_inner();
-        if shares.len() < desk.ports.len() {
+        if shares.len() < desk.opened() {
             return Err(NotAll {
                 desk,
                 checked,
@@ -235,7 +249,7 @@ impl<N: Naming, S: Ledger, C: Ledger, W: Wait + Drop> Board<N, S, C, W> {
     }
 }
 
-impl<'b, N: Naming, S: Ledger, C: Ledger, W: Wait + Drop> Port<'b, N, S, C, W> {
+impl<'b, N: Naming, W: Wait + Drop> Port<'b, N, W> {
     /// The plan, without the lock.
     pub fn plan(&self) -> &'b Plan
         ensures { result.now ≡ N.accepted.plan }
@@ -245,25 +259,32 @@ impl<'b, N: Naming, S: Ledger, C: Ledger, W: Wait + Drop> Port<'b, N, S, C, W> {
 
     /// The reader of this port, which has seen what is published. A port gives one.
     pub fn reader<R: Wait>(&self, rt: &R) -> Result<BoardReader<N>, ReaderFault> {
-        self.board.desk.lock(rt).give_reader(self.number)
+        self.board.lock(rt).give_reader(self.number)
     }
 
-    /// One step under the lock, which the share counts. Where it is refused, nothing changes.
+    /// A step, judged by the plan before the lock is held.
+    fn judged(&self, step: Step) -> Judged
+        ensures step { result.step ≡ step }
+        ensures judged { IsJudged N.accepted.plan result }
+    {
+        Judged::by(self.plan(), step)
+    }
+
+    /// One step under the lock, which the share counts; one that may change the meter is the last step of the history then.
+    /// Where it is refused, nothing changes.
     pub fn act<R: Wait>(
         &self,
         rt: &R,
         alloc: Global,
-        share: &mut Share<S, C>,
+        share: &mut Share<N>,
         step: Step,
     ) -> Result<Reply, LiveFault>
         ensures reply { IfOk result (λ reply. Answers N.accepted.plan (step_of step) (reply_of reply)) }
-        ensures share { OnOk result (share.new ≡ counted share.old (changes_of N.accepted.plan (step_of step))) }
+        ensures share { OnOk result (Counts N.accepted.plan share.old (step_of step) share.new) }
         ensures err { OnErr result (share.new ≡ share.old) }
     {
-        self.board
-            .desk
-            .lock(rt)
-            .act(alloc, self.number, share, &step)
+        let judged = self.judged(step);
+        self.board.lock(rt).act(alloc, self.number, share, judged)
     }
 
     /// One step and its telling, under one lock. With true the reader has seen it, and all steps before it; with false its telling
@@ -272,29 +293,31 @@ impl<'b, N: Naming, S: Ledger, C: Ledger, W: Wait + Drop> Port<'b, N, S, C, W> {
         &self,
         rt: &R,
         alloc: Global,
-        share: &mut Share<S, C>,
+        share: &mut Share<N>,
         reader: &mut BoardReader<N>,
         step: Step,
     ) -> Result<(Reply, bool), LiveFault>
         ensures reply { IfOk result (λ r. Answers N.accepted.plan (step_of step) (reply_of r.0)) }
-        ensures share { OnOk result (share.new ≡ counted share.old (changes_of N.accepted.plan (step_of step))) }
-        ensures told { IfOk result (λ r. MatchBool r.1 (IsPrefix reader.old reader.new × (is_changing N.accepted.plan (step_of step) ≡ true → (l : List steps.Step) × (reader.new ≡ l ++ step_of step ∷ []))) (reader.new ≡ reader.old)) }
+        ensures share { OnOk result (Counts N.accepted.plan share.old (step_of step) share.new) }
+        ensures told { IfOk result
+            (λ r. IsToldOf N.accepted.plan (step_of step) r.1 reader.old reader.new) }
         // The reader has seen as many changes as the share counts, or more.
         ensures seen { IfOk result (λ r. r.1 ≡ true → HasSeen share.new reader.new) }
         ensures err { OnErr result ((share.new ≡ share.old) × (reader.new ≡ reader.old)) }
     {
+        let judged = self.judged(step);
         self.board
-            .desk
             .lock(rt)
-            .put(rt, alloc, self.number, share, reader, &step)
+            .put(rt, alloc, self.number, share, reader, judged)
     }
 
-    /// Publishes all pending steps in order, and tells the reader, which has then seen as many changes as the share of this port counts,
-    /// or more. The share is lent to compare it with the books, and stays. Where memory is refused, the reader is as it was.
+    /// Publishes all pending steps in order, and tells the reader, which has then seen as many changes as the share of this
+    /// port counts, or more. The share is lent to compare it with the books, and stays. Where memory is refused, the reader is
+    /// as it was.
     pub fn tell<R: Wait>(
         &self,
         rt: &R,
-        share: &mut Share<S, C>,
+        share: &mut Share<N>,
         reader: &mut BoardReader<N>,
     ) -> Result<(), Memory>
         ensures later { IsPrefix reader.old reader.new }
@@ -302,6 +325,6 @@ impl<'b, N: Naming, S: Ledger, C: Ledger, W: Wait + Drop> Port<'b, N, S, C, W> {
         ensures share { share.new ≡ share.old }
         ensures err { OnErr result (reader.new ≡ reader.old) }
     {
-        self.board.desk.lock(rt).tell(rt, share, reader)
+        self.board.lock(rt).tell(rt, share, reader)
     }
 }

@@ -1,16 +1,13 @@
-//! Steps that are published.
+//! Steps that may have changed a meter.
 ghost use Rattle.std.specs.Prelude.{◌≡◌, IfOk};
 ghost use Rattle.meter_core.specs.StepView.{step_of};
-ghost use Rattle.meter_live.specs.Changes.{changes_of};
 
 use cosem_data::memory::Memory;
-use meter_core::changing::is_change;
 use meter_core::step::Step;
-use object_model::plan::Plan;
 use std::alloc::Global;
 use std::marker::Model;
 
-/// A step that is published. Contracts see the step of the theory.
+/// A step that may have changed a meter, on its way to the readers. Contracts see the step of the theory.
 #[derive(Drop)]
 pub struct Change {
     step: Step,
@@ -44,11 +41,4 @@ impl Change {
     {
         &self.step
     }
-}
-
-/// How many changes a step is: one where it may change a meter of the plan, else none.
-pub(crate) fn changes_in(plan: &Plan, step: &Step) -> u64
-    ensures { result ≡ changes_of plan.now (step_of step.now) }
-{
-    if is_change(plan, step) { 1 } else { 0 }
 }

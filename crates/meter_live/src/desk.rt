@@ -2,32 +2,32 @@
 ghost use Rattle.std.specs.Prelude.{◌≡◌, ◌≢◌, ◌⊎◌, ◌+◌, ◌++◌, ◌∷◌, [], ◌≤◌, ◌↔◌, List, true, Err, IfOk, IfErr, OnOk, OnErr, MatchBool, sum_by, vec_len};
 ghost use Rattle.std.specs.Coded.{codes};
 ghost use mathlib.Core.List.{IsPrefix};
+ghost use Rattle.meter_core.specs.Judging.{IsJudged};
 ghost use Rattle.meter_core.specs.StepView.{reply_of, step_of};
 ghost use Rattle.meter_theory.specs.PlanCode.{plan_code};
 ghost use Rattle.meter_theory.specs.States.{IsState};
 ghost use Rattle.meter_theory.specs.Steps as steps;
-ghost use Rattle.meter_core.specs.Changing.{is_changing};
-ghost use Rattle.meter_live.specs.Changes.{Answers, answer_after, changes_of, is_get, takes_none};
+ghost use Rattle.meter_live.specs.Changes.{Answers, answer_after, is_get, takes_none};
 ghost use Rattle.meter_live.specs.Marks.{LieOnOne};
-ghost use Rattle.meter_live.specs.Tally.{HasSeen, counted, nothing};
-ghost use Rattle.meter_live.specs.Told.{acted, posted};
+ghost use Rattle.meter_live.specs.Tally.{Counts, HasSeen, IsUnused};
+ghost use Rattle.meter_live.specs.Told.{IsToldOf, acted, posted, put_by};
 
-use crate::change::changes_in;
 use crate::fault::{LiveFault, PortFault, ReadRefused, ReaderFault};
 use crate::live::Live;
-use crate::names::Naming;
+use crate::names::{ChangeLedger, Naming, StepLedger};
 use crate::reader::Reader;
 use crate::share::{Rest, Share};
 use crate::traced::TracedMeter;
 use cosem_data::memory::Memory;
 use flow_checker::check::Checked;
+use meter_core::judged::Judged;
 use meter_core::reply::Reply;
 use meter_core::step::Step;
 use object_model::meter::Meter;
 use std::alloc::Global;
 use std::marker::{Model, PhantomData};
-use std::sync::ledger::{Blank, Book, Ledger};
-use std::sync::{Wait, ledger};
+use std::sync::Wait;
+use std::sync::ledger::{Blank, Book};
 
 /// A reader of the published copies of a board's meter. Contracts see the steps that it has seen.
 #[derive(Drop)]
@@ -57,8 +57,10 @@ impl<N: Naming> BoardReader<N> {
     pub fn get(&mut self, alloc: Global, step: &Step) -> Result<Reply, ReadRefused>
         requires { is_get (step_of step.now) ≡ true }
         ensures later { IsPrefix self.old self.new }
-        ensures reply { IfOk result (λ reply. reply_of reply ≡ answer_after N.accepted.plan self.new (step_of step.now)) }
-        ensures denied { takes_none N.accepted.plan self.new (step_of step.now) ≡ true → result ≢ Err ReadRefused.Memory }
+        ensures reply { IfOk result (λ reply. reply_of reply
+            ≡ answer_after N.accepted.plan self.new (step_of step.now)) }
+        ensures denied { takes_none N.accepted.plan self.new (step_of step.now) ≡ true
+            → result ≢ Err ReadRefused.Memory }
     {
         self.reader.get(alloc, step)
     }
@@ -73,42 +75,49 @@ impl<N: Naming> BoardReader<N> {
     }
 }
 
-/// A live meter and the books of what was taken. It keeps a handle, since its drop waits for the readers.
-pub struct Desk<N: Naming, S: Ledger, C: Ledger, W: Wait + Drop> {
-    pub(crate) live: Live,
+/// A live meter and the books of what was taken. It keeps a handle, since its drop waits for the readers. Contracts see the meter, how
+/// many ports were opened, and how many could still be opened.
+pub struct Desk<N: Naming, W: Wait + Drop> {
+    live: Live,
     rt: W,
-    steps: Book<S>,
-    changes: Book<C>,
+    steps: Book<StepLedger<N>>,
+    changes: Book<ChangeLedger<N>>,
     // What no port has.
-    pub(crate) left: Rest<S, C>,
+    left: Rest<N>,
     // Whether each port was given a reader.
-    pub(crate) ports: Vec<bool>,
+    ports: Vec<bool>,
     of: PhantomData<N>,
-    ghost plan_is: { live.meter.accepted ≡ N.accepted } by { Prim.hlevel (codes, plan_code) },
-    ghost book_is: { live.book ≡ N.book },
-    ghost counted: { live.meter.count ≡ steps.total },
-    ghost changed: { live.meter.changes ≡ changes.total },
-    // By the books: each of 256 parts is left, or its port was opened.
-    ghost parts: { left + vec_len ports ≡ 256 },
 }
 
-impl<N: Naming, S: Ledger, C: Ledger, W: Wait + Drop> Desk<N, S, C, W> {
+impl<N: Naming, W: Wait + Drop> Model for Desk<N, W> {
+    ghost use Rattle.std.specs.Prelude.{◌≡◌, ◌+◌, vec_len};
+    ghost use Rattle.std.specs.Coded.{codes};
+    ghost use Rattle.logbook.specs.Pages.{book_coded};
+    ghost use Rattle.meter_theory.specs.PlanCode.{plan_code, state_code};
+    ghost use Rattle.meter_live.specs.Codes.{step_code, taken_code};
+    ghost use Rattle.meter_live.specs.Told.{Desked, Keeps};
+
+    ghost Value = { Desked };
+
+    ghost coded = { Prim.hlevel (codes, plan_code, state_code, book_coded, step_code, taken_code) };
+
+    ghost view = { λ d. record { live = d.live; opened = vec_len d.ports; left = d.left } };
+
+    ghost invariant = { λ d. (d.live.meter.accepted ≡ N.accepted) × (d.live.book ≡ N.book)
+        × Keeps d.live d.steps.total d.changes.total × (d.left + vec_len d.ports ≡ 256) };
+}
+
+impl<N: Naming, W: Wait + Drop> Desk<N, W> {
     /// A desk of a meter that no step has reached, without ports.
-    pub(crate) fn new(
-        rt: W,
-        alloc: Global,
-        live: Live,
-        steps: Blank,
-        changes: Blank,
-    ) -> Desk<N, S, C, W>
+    pub(crate) fn new(rt: W, alloc: Global, live: Live, steps: Blank, changes: Blank) -> Desk<N, W>
         requires plan { live.meter.accepted ≡ N.accepted }
         requires book { live.book ≡ N.book }
         requires unused { (live.meter.count ≡ 0) × (live.meter.changes ≡ 0) }
-        requires steps { (steps.name ≡ S.name) × (steps.parts ≡ 256) × (S.parts ≡ 256) }
-        requires changes { (changes.name ≡ C.name) × (changes.parts ≡ 256) × (C.parts ≡ 256) }
+        requires steps { (steps.name ≡ N.steps) × (steps.parts ≡ 256) }
+        requires changes { (changes.name ≡ N.changes) × (changes.parts ≡ 256) }
     {
-        let (steps, all_steps) = steps.open::<S>();
-        let (changes, all_changes) = changes.open::<C>();
+        let (steps, all_steps) = steps.open::<StepLedger<N>>();
+        let (changes, all_changes) = changes.open::<ChangeLedger<N>>();
         Desk {
             live,
             rt,
@@ -118,6 +127,13 @@ impl<N: Naming, S: Ledger, C: Ledger, W: Wait + Drop> Desk<N, S, C, W> {
             ports: Vec::new(alloc),
             of: PhantomData,
         }
+    }
+
+    /// How many ports were opened.
+    pub(crate) fn opened(&self) -> usize
+        ensures { result ≡ self.now.opened }
+    {
+        self.ports.len()
     }
 
     /// The meter with its trail.
@@ -132,12 +148,14 @@ impl<N: Naming, S: Ledger, C: Ledger, W: Wait + Drop> Desk<N, S, C, W> {
         &mut self,
         alloc: Global,
         port: u8,
-        share: &mut Share<S, C>,
-        step: &Step,
+        share: &mut Share<N>,
+        judged: Judged,
     ) -> Result<Reply, LiveFault>
-        ensures reply { IfOk result (λ reply. Answers N.accepted.plan (step_of step.now) (reply_of reply)) }
-        ensures live { OnOk result (self.new.live ≡ acted self.old.live port (step_of step.now)) }
-        ensures share { OnOk result (share.new ≡ counted share.old (changes_of N.accepted.plan (step_of step.now))) }
+        requires { IsJudged N.accepted.plan judged }
+        ensures reply { IfOk result
+            (λ reply. Answers N.accepted.plan (step_of judged.step) (reply_of reply)) }
+        ensures live { OnOk result (self.new.live ≡ acted self.old.live port (step_of judged.step)) }
+        ensures share { OnOk result (Counts N.accepted.plan share.old (step_of judged.step) share.new) }
         ensures err { OnErr result ((share.new ≡ share.old) × (self.new.live ≡ self.old.live)) }
     {
         let Desk {
@@ -150,22 +168,26 @@ impl<N: Naming, S: Ledger, C: Ledger, W: Wait + Drop> Desk<N, S, C, W> {
             of: _,
         } = self;
         live.known();
-        let changed = changes_in(live.plan(), step);
-        let reply = live.act(alloc, port, step)?;
+        let is_change = judged.is_change();
+        let reply = live.act(alloc, port, judged)?;
         steps.add(&mut share.steps, 1);
-        changes.add(&mut share.changes, changed);
+        if !is_change {
+            return Ok(reply);
+        }
+        count_change(live, changes, share);
         Ok(reply)
     }
 
-    /// Publishes all pending steps in order, and tells the reader of the whole list, which is no shorter than the changes that the share
-    /// counts.
+    /// Publishes all pending steps in order, and tells the reader of the whole list, which is no shorter than the changes that
+    /// the share counts.
     pub(crate) fn tell<R: Wait>(
         &mut self,
         rt: &R,
-        share: &mut Share<S, C>,
+        share: &mut Share<N>,
         reader: &mut BoardReader<N>,
     ) -> Result<(), Memory>
-        ensures ok { OnOk result ((self.new.live ≡ posted self.old.live) × (reader.new ≡ self.new.live.published) × IsPrefix reader.old reader.new) }
+        ensures ok { OnOk result ((self.new.live ≡ posted self.old.live)
+            × (reader.new ≡ self.new.live.published) × IsPrefix reader.old reader.new) }
         ensures seen { OnOk result (HasSeen share.old reader.new) }
         ensures share { share.new ≡ share.old }
         ensures err { OnErr result ((self.new.live ≡ self.old.live) × (reader.new ≡ reader.old)) }
@@ -191,17 +213,23 @@ impl<N: Naming, S: Ledger, C: Ledger, W: Wait + Drop> Desk<N, S, C, W> {
         rt: &R,
         alloc: Global,
         port: u8,
-        share: &mut Share<S, C>,
+        share: &mut Share<N>,
         reader: &mut BoardReader<N>,
-        step: &Step,
+        judged: Judged,
     ) -> Result<(Reply, bool), LiveFault>
-        ensures reply { IfOk result (λ r. Answers N.accepted.plan (step_of step.now) (reply_of r.0)) }
-        ensures share { OnOk result (share.new ≡ counted share.old (changes_of N.accepted.plan (step_of step.now))) }
-        ensures told { IfOk result (λ r. MatchBool r.1 (IsPrefix reader.old reader.new × (is_changing N.accepted.plan (step_of step.now) ≡ true → (l : List steps.Step) × (reader.new ≡ l ++ step_of step.now ∷ []))) (reader.new ≡ reader.old)) }
+        requires { IsJudged N.accepted.plan judged }
+        ensures reply { IfOk result (λ r. Answers N.accepted.plan (step_of judged.step) (reply_of r.0)) }
+        ensures live { IfOk result (λ r. self.new.live
+            ≡ put_by self.old.live port (step_of judged.step) r.1) }
+        ensures share { OnOk result (Counts N.accepted.plan share.old (step_of judged.step) share.new) }
+        ensures told { IfOk result
+            (λ r. IsToldOf N.accepted.plan (step_of judged.step) r.1 reader.old reader.new) }
         ensures seen { IfOk result (λ r. r.1 ≡ true → HasSeen share.new reader.new) }
-        ensures err { OnErr result ((share.new ≡ share.old) × (reader.new ≡ reader.old) × (self.new.live ≡ self.old.live)) }
+        ensures err { OnErr result ((share.new ≡ share.old) × (reader.new ≡ reader.old)
+            × (self.new.live ≡ self.old.live)) }
     {
-        let reply = self.act(alloc, port, share, step)?;
+        let _live = &self.live;
+        let reply = self.act(alloc, port, share, judged)?;
         match self.tell(rt, share, reader) {
             Ok(()) => Ok((reply, true)),
             Err(_) => Ok((reply, false)),
@@ -209,12 +237,12 @@ impl<N: Naming, S: Ledger, C: Ledger, W: Wait + Drop> Desk<N, S, C, W> {
     }
 
     /// The number of a new port, and its share. None is opened where all 256 are, and else only memory is refused.
-    pub(crate) fn open_port(&mut self) -> Result<(u8, Share<S, C>), PortFault>
-        ensures number { IfOk result (λ r. r.0 ≡ vec_len self.old.ports) }
+    pub(crate) fn open_port(&mut self) -> Result<(u8, Share<N>), PortFault>
+        ensures number { IfOk result (λ r. r.0 ≡ self.old.opened) }
         ensures opened { OnOk result (self.new.left + 1 ≡ self.old.left) }
         ensures no_port { (result ≡ Err PortFault.NoPort) ↔ (self.old.left ≡ 0) }
         ensures err { OnErr result (self.new.left ≡ self.old.left) }
-        ensures share { IfOk result (λ r. r.1 ≡ nothing) }
+        ensures share { IfOk result (λ r. IsUnused r.1) }
         ensures live { self.new.live ≡ self.old.live }
     {
         let Ok(number) = u8::try_from(self.ports.len()) else {
@@ -224,7 +252,7 @@ impl<N: Naming, S: Ledger, C: Ledger, W: Wait + Drop> Desk<N, S, C, W> {
             return Err(PortFault::Memory);
         }
         self.ports.push_reserved(false);
-        Ok((number, self.left.hand_out()))
+        Ok((number, self.left.hand_out(self.live.written().again())))
     }
 
     /// The reader of a port that was given none, which has seen what is published.
@@ -247,12 +275,8 @@ impl<N: Naming, S: Ledger, C: Ledger, W: Wait + Drop> Desk<N, S, C, W> {
     }
 
     /// Takes the shares of all ports in: then the numbers of steps and changes are their sums. It waits for the readers.
-    pub(crate) fn settle<R: Wait>(
-        self,
-        rt: &R,
-        shares: Vec<Share<S, C>>,
-    ) -> (Checked, Meter, u64, u64)
-        requires { vec_len self.ports ≤ vec_len shares }
+    pub(crate) fn settle<R: Wait>(self, rt: &R, shares: Vec<Share<N>>) -> (Checked, Meter, u64, u64)
+        requires { self.opened ≤ vec_len shares }
         ensures plan { (result.0 ≡ N.accepted) × IsState N.accepted.plan result.1 }
         ensures counted { result.2 ≡ sum_by (λ s. s.steps) shares.items }
         ensures changed { result.3 ≡ sum_by (λ s. s.changes) shares.items }
@@ -287,7 +311,7 @@ impl<N: Naming, S: Ledger, C: Ledger, W: Wait + Drop> Desk<N, S, C, W> {
     }
 }
 
-impl<N: Naming, S: Ledger, C: Ledger, W: Wait + Drop> Drop for Desk<N, S, C, W> {
+impl<N: Naming, W: Wait + Drop> Drop for Desk<N, W> {
     fn drop(self) {
         let Self {
             live,
@@ -300,4 +324,21 @@ impl<N: Naming, S: Ledger, C: Ledger, W: Wait + Drop> Drop for Desk<N, S, C, W> 
         } = self;
         live.end(&rt);
     }
+}
+
+/// Counts a change of a live meter on a share, which knows the whole history then.
+fn count_change<N: Naming>(live: &Live, changes: &mut Book<ChangeLedger<N>>, share: &mut Share<N>)
+    requires book { live.now.book ≡ N.book }
+    requires kept { live.now.meter.changes ≡ changes.old.total + 1 }
+    ensures total { changes.new.total ≡ changes.old.total + 1 }
+    ensures steps { share.new.steps ≡ share.old.steps }
+    ensures changes { share.new.changes ≡ share.old.changes + 1 }
+    ensures written { share.new.written ≡ live.now.published ++ live.now.pending }
+    ensures seen { HasSeen share.new share.new.written }
+{
+    live.known();
+    changes.add(&mut share.changes, 1);
+    // No share counts more than there were changes.
+    changes.audit(&mut share.changes);
+    share.written = live.written().again();
 }

@@ -1,20 +1,15 @@
-//! The one history of the steps that are published. It exists in proofs alone: in memory it is the number of its batches.
-ghost use Rattle.std.specs.Prelude.{◌≡◌, ◌++◌, [], length, IsTrue};
+//! The one history of the steps that may have changed a meter. It exists in proofs alone: in memory it is the number of its steps.
+ghost use Rattle.std.specs.Prelude.{◌≡◌, ◌++◌, ◌∷◌, [], length, IsTrue};
 ghost use Rattle.meter_live.specs.Marks.{LieOnOne};
 
 use crate::change::Change;
-use crate::names::Lot;
 use logbook::{Gain, Offer, Plain, Play, Rule, Seen, Start, Word};
-use std::collections::LinkedList;
-use std::marker::{Model, PhantomData};
+use std::marker::Model;
 
-/// Steps that are published at once. No value of it is made.
-pub type Batch = LinkedList<Change>;
-
-/// The rule of the history: its word is the number of its batches.
+/// The rule of the history: its word is the number of its steps.
 pub struct Law;
 
-impl Rule<Batch, u64> for Law {
+impl Rule<Change, u64> for Law {
     ghost use Rattle.std.specs.Prelude.{[]};
     ghost use base.Fml.{ftrue};
     ghost use Rattle.meter_live.specs.Marks.{IsCounted};
@@ -32,36 +27,36 @@ impl Rule<Batch, u64> for Law {
     ghost moves = { λ ask before after answer. Unit {0} };
 }
 
-/// Who adds a batch trades nothing for it.
+/// Who adds a step trades nothing for it.
 pub struct Nothing;
 
-impl Gain<Batch, u64> for Nothing {
+impl Gain<Change, u64> for Nothing {
     ghost use base.Fml.{ftrue};
 
     ghost after = { λ names about answer. ftrue };
 }
 
-/// A lot is added as a batch.
-pub struct Add<L: Lot>(PhantomData<L>);
+/// A step is added.
+pub struct Add;
 
-impl<L: Lot> Play<Batch, u64> for Add<L> {
+impl Play<Change, u64> for Add {
     ghost use Rattle.meter_live.specs.Marks.{Adds};
 
     ghost then = { Adds };
 }
 
-impl<L: Lot> Plain<(), Batch, u64> for Add<L> {
+impl Plain<Change, Change, u64> for Add {
     ghost use Rattle.std.specs.Prelude.{None};
 
-    ghost ask = { λ _. L.steps };
+    ghost ask = { λ change. change };
 
     ghost state = { λ _. None };
 }
 
-/// The number of batches of the one history. Contracts see which history it is.
+/// The number of steps of the one history. Contracts see which history it is.
 #[derive(Drop)]
 pub struct History {
-    head: Word<Batch, u64, Law>,
+    head: Word<Change, u64, Law>,
 }
 
 impl Model for History {
@@ -79,22 +74,22 @@ impl Model for History {
 /// A beginning of the history. Contracts see which history it is, and the steps.
 #[derive(Drop)]
 pub struct Front {
-    batches: u64,
-    seen: Seen<Batch, u64, Law>,
+    count: u64,
+    seen: Seen<Change, u64, Law>,
 }
 
 impl Model for Front {
     ghost use Rattle.std.specs.Prelude.{◌≡◌, length};
     ghost use Rattle.meter_live.specs.Codes.{mark_code};
-    ghost use Rattle.meter_live.specs.Marks.{Mark, joined};
+    ghost use Rattle.meter_live.specs.Marks.{Mark};
 
     ghost Value = { Mark };
 
     ghost coded = { mark_code };
 
-    ghost view = { λ f. record { book = f.seen.book; steps = joined f.seen.log } };
+    ghost view = { λ f. record { book = f.seen.book; steps = f.seen.log } };
 
-    ghost invariant = { λ f. f.batches ≡ length f.seen.log };
+    ghost invariant = { λ f. f.count ≡ length f.seen.log };
 }
 
 impl History {
@@ -104,7 +99,7 @@ impl History {
     {
         let (seen, mut first, _second) = Seen::open(Start::alone(), 0, 0);
         let head = Word::tracked(0, &mut first);
-        (History { head }, Front { batches: 0, seen })
+        (History { head }, Front { count: 0, seen })
     }
 }
 
@@ -114,19 +109,19 @@ impl Front {
         ensures { result ≡ self.now }
     {
         Front {
-            batches: self.batches,
+            count: self.count,
             seen: self.seen.again(),
         }
     }
 
-    /// Whether another beginning has as many batches: then it has the same steps.
+    /// Whether another beginning has as many steps: then it has the same.
     pub fn equals(&self, other: &Front) -> bool
         requires { other.now.book ≡ self.now.book }
         ensures { IsTrue result → self.now.steps ≡ other.now.steps }
     {
         let mut both = self.seen.again();
         both.learn(&other.seen);
-        if self.batches == other.batches {
+        if self.count == other.count {
             return true;
         }
         false
@@ -141,30 +136,30 @@ impl Front {
         both.learn(&other.seen);
     }
 
-    /// Adds a lot to the steps of this beginning, where the history has no others, and says whether it did.
-    pub fn add<L: Lot>(&mut self, history: &History) -> bool
+    /// Adds a step to those of this beginning, where the history has no others, and says whether it did.
+    pub fn add(&mut self, history: &History, change: &Change) -> bool
         requires { history.now ≡ self.old.book }
         ensures book { self.new.book ≡ self.old.book }
-        ensures added { IsTrue result → self.new.steps ≡ self.old.steps ++ L.steps }
+        ensures added { IsTrue result → self.new.steps ≡ self.old.steps ++ change.now ∷ [] }
     {
-        let batches = self.batches;
-        if batches == u64::MAX {
+        let count = self.count;
+        if count == u64::MAX {
             return false;
         }
-        let mut offer: Offer<Batch, u64, Law, Nothing> = self
+        let mut offer: Offer<Change, u64, Law, Nothing> = self
             .seen
-            .plain::<Nothing, (), Add<L>>(&());
+            .plain::<Nothing, Change, Add>(change);
         let mut pen = self.seen.no_pen();
         let found = history
             .head
-            .compare_exchange::<Add<L>, Nothing>(
-                batches,
-                batches + 1,
+            .compare_exchange::<Add, Nothing>(
+                count,
+                count + 1,
                 &mut self.seen,
                 &mut offer,
                 &mut pen,
             );
-        self.batches = if found == batches { batches + 1 } else { found };
-        found == batches
+        self.count = if found == count { count + 1 } else { found };
+        found == count
     }
 }

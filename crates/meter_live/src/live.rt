@@ -1,8 +1,8 @@
 //! A live meter: its steps are taken one after another, and published to readers.
-ghost use Rattle.std.specs.Prelude.{◌≡◌, ◌-◌, ◌^◌, ◌<◌, ◌↔◌, ◌⊎◌, ◌++◌, [], IfOk, IfErr, IfSome, OnOk, OnErr};
+ghost use Rattle.std.specs.Prelude.{◌≡◌, ◌-◌, ◌^◌, ◌<◌, ◌↔◌, ◌⊎◌, ◌++◌, [], IfOk, IfErr, IfSome, Err, OnOk, OnErr};
 ghost use mathlib.Core.List.{IsPrefix};
+ghost use Rattle.meter_core.specs.Judging.{IsJudged};
 ghost use Rattle.meter_core.specs.StepView.{reply_of, step_of};
-ghost use Rattle.meter_theory.specs.Replies.{reply_to};
 ghost use Rattle.meter_theory.specs.States.{IsState};
 ghost use Rattle.meter_live.specs.Marks.{LieOnOne};
 
@@ -14,9 +14,8 @@ use crate::reader::Reader;
 use crate::traced::TracedMeter;
 use cosem_data::memory::Memory;
 use flow_checker::check::Checked;
-use meter_core::changing::is_change;
+use meter_core::judged::Judged;
 use meter_core::reply::Reply;
-use meter_core::step::Step;
 use object_model::meter::Meter;
 use object_model::plan::Plan;
 use std::alloc::Global;
@@ -28,27 +27,31 @@ use std::sync::Wait;
 pub struct Live {
     meter: TracedMeter,
     outbox: Outbox,
+    history: History,
+    written: Front,
 }
 
 impl Model for Live {
+    ghost use Rattle.std.specs.Prelude.{◌≡◌};
     ghost use Rattle.std.specs.Coded.{codes};
     ghost use Rattle.logbook.specs.Pages.{book_coded};
     ghost use Rattle.meter_theory.specs.PlanCode.{plan_code, state_code};
     ghost use Rattle.meter_live.specs.Codes.{step_code, taken_code};
-    ghost use Rattle.meter_live.specs.Told.{Told, IsTold};
+    ghost use Rattle.meter_live.specs.Told.{Told, IsTold, told_by, written_of};
 
     ghost Value = { Told };
 
     ghost coded = { Prim.hlevel (codes, plan_code, state_code, book_coded, step_code, taken_code) };
 
-    ghost view = { λ l. record { meter = l.meter; book = l.outbox.book; published = l.outbox.published; pending = l.outbox.pending } };
+    ghost view = { λ l. told_by l.meter l.outbox };
 
-    ghost invariant = { λ l. IsTold l.outbox.plan (record { meter = l.meter; book = l.outbox.book; published = l.outbox.published; pending = l.outbox.pending }) };
+    ghost invariant = { λ l. IsTold l.outbox.plan (told_by l.meter l.outbox)
+        × (l.history ≡ l.outbox.book) × (l.written ≡ written_of (told_by l.meter l.outbox)) };
 }
 
 impl Live {
-    ghost use Rattle.meter_live.specs.Trail.{IsTraced, unstepped};
-    ghost use Rattle.meter_live.specs.Told.{Told, IsPublished, acted, posted};
+    ghost use Rattle.meter_live.specs.Trail.{IsTraced, reply_now, unstepped};
+    ghost use Rattle.meter_live.specs.Told.{Told, IsPublished, acted, posted, written_of};
 
     /// A meter that no step has reached, with room for so many readers at once. Where memory is refused, what was accepted is given
     /// back.
@@ -59,7 +62,8 @@ impl Live {
         readers: usize,
     ) -> Result<Live, Checked>
         requires { (0 < readers) × (readers < 2 ^ 32) }
-        ensures ok { IfOk result (λ l. (l.meter ≡ unstepped checked) × (l.published ≡ []) × (l.pending ≡ [])) }
+        ensures ok { IfOk result (λ l. (l.meter ≡ unstepped checked) × (l.published ≡ [])
+            × (l.pending ≡ [])) }
         ensures err { IfErr result (λ given. given ≡ checked) }
     {
         let (history, written) = History::open();
@@ -77,18 +81,24 @@ impl Live {
     ) -> Result<Live, Checked>
         requires readers { (0 < readers) × (readers < 2 ^ 32) }
         requires empty { (written.book ≡ history) × (written.steps ≡ []) }
-        ensures ok { IfOk result (λ l. l ≡ record { meter = unstepped checked; book = history; published = []; pending = [] }) }
+        ensures ok { IfOk result (λ l. l
+            ≡ record { meter = unstepped checked; book = history; published = []; pending = [] }) }
         ensures err { IfErr result (λ given. given ≡ checked) }
     {
         let meter = TracedMeter::new(alloc, checked)?;
-        match Outbox::new(rt, alloc, meter.checked(), history, written, readers) {
-            Ok(outbox) => Ok(Live { meter, outbox }),
+        match Outbox::new(rt, alloc, meter.checked(), &written, readers) {
+            Ok(outbox) => Ok(Live {
+                meter,
+                outbox,
+                history,
+                written,
+            }),
             Err(_) => Err(meter.into_parts().0),
         }
     }
 
-    /// What the type keeps, for callers: the plan was accepted, the state and the replies are the run of the trail, the trail has at
-    /// most 4,096 entries, and the run from the start over the published and the pending steps is the state.
+    /// What the type keeps, for callers: the plan was accepted, the state and the replies are the run of the trail, the trail
+    /// has at most 4,096 entries, and the run from the start over the published and the pending steps is the state.
     pub fn known(&self)
         ensures traced { IsTraced self.now.meter }
         ensures published { IsPublished self.now }
@@ -111,10 +121,18 @@ impl Live {
         &self.meter
     }
 
+    /// The whole history of the steps that may have changed the meter.
+    pub(crate) fn written(&self) -> &Front
+        ensures { result.now ≡ written_of self.now }
+    {
+        &self.written
+    }
+
     /// A reader that has seen what is published. None where `left_right` gave no reading end, as where all its room is taken.
     pub fn reader(&mut self) -> Option<Reader>
         ensures same { self.new ≡ self.old }
-        ensures reader { IfSome result (λ r. r ≡ record { plan = self.old.meter.accepted.plan; book = self.old.book; seen = self.old.published }) }
+        ensures reader { IfSome result (λ r. r
+            ≡ record { plan = self.old.meter.accepted.plan; book = self.old.book; seen = self.old.published }) }
     {
         self.outbox.reader()
     }
@@ -123,7 +141,8 @@ impl Live {
     /// this meter. So one of the two has seen all that the other has, in the same order. It does nothing when it runs.
     pub fn beside(&self, one: &Reader, other: &Reader)
         requires { (one.now.book ≡ self.now.book) × (other.now.book ≡ self.now.book) }
-        ensures published { LieOnOne one.now.seen self.now.published × LieOnOne other.now.seen self.now.published }
+        ensures published { LieOnOne one.now.seen self.now.published
+            × LieOnOne other.now.seen self.now.published }
         ensures one_list { LieOnOne one.now.seen other.now.seen }
         ensures begins { IsPrefix one.now.seen other.now.seen ⊎ IsPrefix other.now.seen one.now.seen }
     {
@@ -132,24 +151,32 @@ impl Live {
         one.beside(other);
     }
 
-    /// Takes one step of a port, and answers it: the state afterwards and the reply are those of the old state, the step stands
-    /// behind the trail, and one that may change the meter behind the pending ones. Where it is refused, nothing changes.
-    pub fn act(&mut self, alloc: Global, port: u8, step: &Step) -> Result<Reply, LiveFault>
-        ensures reply { IfOk result (λ reply. reply_of reply ≡ reply_to self.old.meter.accepted.plan self.old.meter.state (step_of step.now)) }
-        ensures live { OnOk result (self.new ≡ acted self.old port (step_of step.now)) }
+    /// Takes one step of a port, which the plan has judged, and answers it: the state afterwards and the reply are those of the
+    /// old state, the step stands behind the trail, and one that may change the meter in the history, behind the pending ones.
+    /// Where it is refused, nothing changes.
+    pub fn act(&mut self, alloc: Global, port: u8, judged: Judged) -> Result<Reply, LiveFault>
+        requires { IsJudged self.old.meter.accepted.plan judged }
+        ensures reply { IfOk result (λ reply. reply_of reply
+            ≡ reply_now self.old.meter (step_of judged.step)) }
+        ensures live { OnOk result (self.new ≡ acted self.old port (step_of judged.step)) }
         ensures full { (result ≡ Err LiveFault.Full) ↔ (self.old.meter.count ≡ 2 ^ 64 - 1) }
         ensures err { OnErr result (self.new ≡ self.old) }
     {
-        let Live { meter, outbox } = self;
-        if !is_change(meter.checked().plan(), step) {
-            return meter.act(alloc, port, step);
+        let Live {
+            meter,
+            outbox,
+            history,
+            written,
+        } = self;
+        if !judged.is_change() {
+            return meter.pass(alloc, port, judged);
         }
         if meter.is_full() {
             return Err(LiveFault::Full);
         }
         outbox.make_room()?;
-        let change = Change::of(alloc, step)?;
-        let reply = meter.act(alloc, port, step)?;
+        let change = Change::of(alloc, &judged.step)?;
+        let reply = meter.act(alloc, port, judged, history, written, &change)?;
         outbox.put(change);
         Ok(reply)
     }
@@ -159,18 +186,25 @@ impl Live {
     pub fn tell<R: Wait>(&mut self, rt: &R, reader: &mut Reader) -> Result<(), Memory>
         requires { reader.old.book ≡ self.old.book }
         ensures ok { OnOk result (self.new ≡ posted self.old) }
-        ensures told { OnOk result ((reader.new ≡ record reader.old { seen = self.new.published }) × IsPrefix reader.old.seen reader.new.seen) }
+        ensures told { OnOk result ((reader.new ≡ record reader.old { seen = self.new.published })
+            × IsPrefix reader.old.seen reader.new.seen) }
         ensures err { OnErr result ((self.new ≡ self.old) × (reader.new ≡ reader.old)) }
     {
-        self.outbox.tell(rt, reader)
+        self.outbox.tell(rt, &self.written, reader)
     }
 
     /// Waits for the readers, and leaves what was accepted, the state, and the numbers of steps and changes.
     pub(crate) fn into_parts<R: Wait>(self, rt: &R) -> (Checked, Meter, u64, u64)
-        ensures parts { (result.0 ≡ self.meter.accepted) × (result.1 ≡ self.meter.state) × (result.2 ≡ self.meter.count) × (result.3 ≡ self.meter.changes) }
+        ensures parts { (result.0 ≡ self.meter.accepted) × (result.1 ≡ self.meter.state)
+            × (result.2 ≡ self.meter.count) × (result.3 ≡ self.meter.changes) }
         ensures fits { IsState self.meter.accepted.plan self.meter.state }
     {
-        let Live { meter, outbox } = self;
+        let Live {
+            meter,
+            outbox,
+            history: _history,
+            written: _written,
+        } = self;
         outbox.end(rt);
         meter.into_parts()
     }

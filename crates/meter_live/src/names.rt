@@ -1,30 +1,48 @@
 //! What proofs name a board by. No value of it is made.
-ghost use Rattle.std.specs.Prelude.{List, []};
+ghost use Rattle.std.specs.Prelude.{ℕ};
 ghost use Rattle.flow_checker.specs.Accepted.{Accepted};
 ghost use Rattle.logbook.specs.Pages.{Book};
-ghost use Rattle.meter_theory.specs.Labels.{nobody};
-ghost use Rattle.meter_theory.specs.Steps.{Step};
+ghost use Rattle.meter_live.specs.Marks.{empty_accepted, empty_book};
 
-use std::marker::Brand;
+use std::marker::{Brand, PhantomData};
+use std::sync::ledger::Ledger;
 
-/// Which steps are published at once: each call picks them.
-pub trait Lot {
-    ghost steps: { List Step };
-}
-
-impl Lot for Brand {
-    ghost steps = { [] };
-}
-
-/// Which accepted plan a board serves, and which history its readers read: each program picks them where it opens the board.
+/// Which accepted plan a board serves, which history its readers read, and by which ledgers it counts steps and changes: each
+/// program picks them where it opens the board.
 pub trait Naming {
     ghost accepted: { Accepted };
 
     ghost book: { Book };
+
+    ghost steps: { ℕ };
+
+    ghost changes: { ℕ };
 }
 
 impl Naming for Brand {
-    ghost accepted = { record { plan = record { version = 1; clients = []; objects = []; rights = [] }; policy = record { table = []; default = record { influence = nobody; learn = nobody } } } };
+    ghost accepted = { empty_accepted };
 
-    ghost book = { record { number = 0; log_name = 0; cells_name = 0 } };
+    ghost book = { empty_book };
+
+    ghost steps = { 0 };
+
+    ghost changes = { 0 };
+}
+
+/// The ledger by which a board counts steps: it has a part for each of 256 ports.
+pub struct StepLedger<N: Naming>(PhantomData<N>);
+
+impl<N: Naming> Ledger for StepLedger<N> {
+    ghost name = { N.steps };
+
+    ghost parts = { 256 };
+}
+
+/// The ledger by which a board counts changes: it has a part for each of 256 ports.
+pub struct ChangeLedger<N: Naming>(PhantomData<N>);
+
+impl<N: Naming> Ledger for ChangeLedger<N> {
+    ghost name = { N.changes };
+
+    ghost parts = { 256 };
 }

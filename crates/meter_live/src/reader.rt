@@ -43,7 +43,8 @@ impl Model for Reader {
 
     ghost view = { λ r. seer (sides.view r.end.place) };
 
-    ghost invariant = { λ r. ((sides.view r.end.place).known ≡ true) × (r.front ≡ (sides.view r.end.place).front) };
+    ghost invariant = { λ r. ((sides.view r.end.place).known ≡ true)
+        × (r.front ≡ (sides.view r.end.place).front) };
 }
 
 impl Reader {
@@ -64,8 +65,10 @@ impl Reader {
         requires { is_get (step_of step.now) ≡ true }
         ensures same { (self.new.plan ≡ self.old.plan) × (self.new.book ≡ self.old.book) }
         ensures later { IsPrefix self.old.seen self.new.seen }
-        ensures reply { IfOk result (λ reply. reply_of reply ≡ answer_after self.old.plan self.new.seen (step_of step.now)) }
-        ensures denied { takes_none self.old.plan self.new.seen (step_of step.now) ≡ true → result ≢ Err ReadRefused.Memory }
+        ensures reply { IfOk result (λ reply. reply_of reply
+            ≡ answer_after self.old.plan self.new.seen (step_of step.now)) }
+        ensures denied { takes_none self.old.plan self.new.seen (step_of step.now) ≡ true
+            → result ≢ Err ReadRefused.Memory }
     {
         let (front, reply) = replace_with(
             &mut self.end,
@@ -123,8 +126,10 @@ fn look(
     requires get { is_get (step_of step.now) ≡ true }
     ensures seen { Follows (view end.place) (view result.0.place) }
     ensures front { result.1.0 ≡ (view result.0.place).front }
-    ensures reply { IfOk result.1.1 (λ reply. reply_of reply ≡ answer_after (view end.place).plan (view result.0.place).front.steps (step_of step.now)) }
-    ensures denied { takes_none (view end.place).plan (view result.0.place).front.steps (step_of step.now) ≡ true → result.1.1 ≢ Err ReadRefused.Memory }
+    ensures reply { IfOk result.1.1 (λ reply. reply_of reply
+        ≡ answer_after (view end.place).plan (view result.0.place).front.steps (step_of step.now)) }
+    ensures denied { takes_none (view end.place).plan (view result.0.place).front.steps
+        (step_of step.now) ≡ true → result.1.1 ≢ Err ReadRefused.Memory }
 {
     match end.enter_as::<Enters>() {
         Ok(reading) => {

@@ -78,8 +78,10 @@ impl Shown {
     /// memory.
     pub(crate) fn answer(&self, alloc: Global, step: &Step) -> Result<Reply, Memory>
         requires { is_get (step_of step.now) ≡ true }
-        ensures ok { IfOk result (λ reply. reply_of reply ≡ reply_to self.now.accepted.plan self.now.state (step_of step.now)) }
-        ensures denied { needs_no_memory self.now.accepted.plan self.now.state (step_of step.now) ≡ true → IsOk result }
+        ensures ok { IfOk result (λ reply. reply_of reply
+            ≡ reply_to self.now.accepted.plan self.now.state (step_of step.now)) }
+        ensures denied { needs_no_memory self.now.accepted.plan self.now.state (step_of step.now)
+            ≡ true → IsOk result }
     {
         match step {
             Step::Get {

@@ -1,16 +1,22 @@
 //! A meter with the trail of its last steps.
-ghost use Rattle.std.specs.Prelude.{◌≡◌, ◌+◌, ◌-◌, ◌^◌, ◌↔◌, ◌<◌, ◌∷◌, ◌++◌, [], length, vec_len, vec_capacity, cond, nat_lt, is_some, unwrap_or, None, Some, MatchOption, IsTrue, IfOk, IfErr, OnOk, OnErr};
+ghost use Rattle.std.specs.Prelude.{◌≡◌, ◌+◌, ◌-◌, ◌^◌, ◌↔◌, ◌<◌, ◌∷◌, ◌++◌, [], true, false, length, vec_len, vec_capacity, cond, nat_lt, is_some, unwrap_or, None, Some, Err, MatchOption, IsTrue, IfOk, IfErr, OnOk, OnErr};
+ghost use Rattle.meter_core.specs.Changing.{is_changing};
+ghost use Rattle.meter_core.specs.Judging.{IsJudged};
 ghost use Rattle.meter_core.specs.StepView.{reply_of, step_of};
 ghost use Rattle.meter_theory.specs.Replies.{reply_to};
 ghost use Rattle.meter_theory.specs.States.{IsState};
 ghost use Rattle.meter_theory.specs.Steps.{next};
+ghost use Rattle.meter_live.specs.Marks.{longer};
 ghost use Rattle.meter_live.specs.declared.traced.TheConstants as limits;
 
-use crate::change::changes_in;
+use crate::change::Change;
 use crate::fault::LiveFault;
+use crate::history::{Front, History};
 use cosem_data::memory::Memory;
 use flow_checker::check::Checked;
-use meter_core::apply::apply;
+use meter_core::apply::{Applied, apply_judged};
+use meter_core::back::take_back;
+use meter_core::judged::Judged;
 use meter_core::reply::Reply;
 use meter_core::step::Step;
 use meter_theory::laws::states_are_kept;
@@ -43,6 +49,14 @@ impl Model for Entry {
 }
 
 impl Entry {
+    /// A step that this port took, with what was answered.
+    fn new(port: u8, judged: Judged, reply: Reply) -> Entry
+        ensures { result ≡ record { port = port; step = step_of judged.step; reply = reply_of reply } }
+    {
+        let Judged { step, refusal: _ } = judged;
+        Entry { port, step, reply }
+    }
+
     /// The port that took the step.
     pub fn port(&self) -> u8
         ensures { result ≡ self.now.port }
@@ -80,19 +94,20 @@ impl Model for TracedMeter {
     ghost use Rattle.std.specs.Coded.{codes};
     ghost use Rattle.meter_theory.specs.PlanCode.{plan_code, state_code};
     ghost use Rattle.meter_live.specs.Codes.{taken_code};
-    ghost use Rattle.meter_live.specs.Trail.{Traced, IsTraced};
+    ghost use Rattle.meter_live.specs.Trail.{Traced, IsTraced, traced};
 
     ghost Value = { Traced };
 
     ghost coded = { Prim.hlevel (codes, plan_code, state_code, taken_code) };
 
-    ghost view = { λ t. record { accepted = t.checked; opening = t.opening; state = t.state; trail = t.trail.items; count = t.count; changes = t.changes } };
+    ghost view = { λ t. traced t.checked t.opening t.state t.trail.items t.count t.changes };
 
-    ghost invariant = { λ t. IsTraced (record { accepted = t.checked; opening = t.opening; state = t.state; trail = t.trail.items; count = t.count; changes = t.changes }) };
+    ghost invariant = { λ t. IsTraced
+        (traced t.checked t.opening t.state t.trail.items t.count t.changes) };
 }
 
 impl TracedMeter {
-    ghost use Rattle.meter_live.specs.Trail.{Traced, IsTraced, after, unstepped};
+    ghost use Rattle.meter_live.specs.Trail.{IsTraced, after, reply_now, unstepped};
 
     /// A meter that no step has reached. Where memory is refused, what was accepted is given back.
     pub(crate) fn new(alloc: Global, checked: Checked) -> Result<TracedMeter, Checked>
@@ -177,7 +192,8 @@ impl TracedMeter {
 
     /// What was accepted, the state, and the numbers of steps and changes.
     pub(crate) fn into_parts(self) -> (Checked, Meter, u64, u64)
-        ensures parts { (result.0 ≡ self.accepted) × (result.1 ≡ self.state) × (result.2 ≡ self.count) × (result.3 ≡ self.changes) }
+        ensures parts { (result.0 ≡ self.accepted) × (result.1 ≡ self.state)
+            × (result.2 ≡ self.count) × (result.3 ≡ self.changes) }
         ensures kept { IsTraced self }
     {
         let TracedMeter {
@@ -191,55 +207,143 @@ impl TracedMeter {
         (checked, state, count, changes)
     }
 
-    /// Takes one step, and answers it. Where it is refused, nothing changes.
-    pub(crate) fn act(&mut self, alloc: Global, port: u8, step: &Step) -> Result<Reply, LiveFault>
-        ensures reply { IfOk result (λ reply. reply_of reply ≡ reply_to self.old.accepted.plan self.old.state (step_of step.now)) }
-        ensures live { OnOk result (self.new ≡ after self.old port (step_of step.now)) }
+    /// Takes a step that may not change the meter, and answers it. Where it is refused, nothing changes.
+    pub(crate) fn pass(
+        &mut self,
+        alloc: Global,
+        port: u8,
+        judged: Judged,
+    ) -> Result<Reply, LiveFault>
+        requires judged { IsJudged self.old.accepted.plan judged }
+        requires quiet { is_changing self.old.accepted.plan (step_of judged.step) ≡ false }
+        ensures reply { IfOk result (λ reply. reply_of reply
+            ≡ reply_now self.old (step_of judged.step)) }
+        ensures live { OnOk result (self.new ≡ after self.old port (step_of judged.step)) }
         ensures full { (result ≡ Err LiveFault.Full) ↔ (self.old.count ≡ 2 ^ 64 - 1) }
         ensures err { OnErr result (self.new ≡ self.old) }
     {
         if self.count == u64::MAX {
             return Err(LiveFault::Full);
         }
-        // All that can be refused comes before the first change that stays.
-        let step = step.try_clone(alloc)?;
         let closed = make_room(alloc, &mut self.trail, &self.state)?;
         let plan = self.checked.plan();
-        let changed = changes_in(plan, &step);
-        let (reply, told) = apply_twice(alloc, plan, &mut self.state, &step)?;
-        let entry = Entry { port, step, reply };
+        let reply = answer(alloc, plan, &mut self.state, &judged)?;
+        // Only a GET is answered with a value, whose copy takes memory.
+        let told = reply.try_clone(alloc)?;
+        let entry = Entry::new(port, judged, reply);
         put_entry(&mut self.trail, &mut self.opening, closed, entry);
         self.count += 1;
-        self.changes += changed;
+        Ok(told)
+    }
+
+    /// Takes a step that may change the meter, writes it into the history, and answers it. Where it is refused, nothing changes.
+    pub(crate) fn act(
+        &mut self,
+        alloc: Global,
+        port: u8,
+        judged: Judged,
+        history: &History,
+        written: &mut Front,
+        change: &Change,
+    ) -> Result<Reply, LiveFault>
+        requires judged { IsJudged self.old.accepted.plan judged }
+        requires loud { is_changing self.old.accepted.plan (step_of judged.step) ≡ true }
+        requires book { history.now ≡ written.old.book }
+        requires change { change.now ≡ step_of judged.step }
+        ensures reply { IfOk result (λ reply. reply_of reply
+            ≡ reply_now self.old (step_of judged.step)) }
+        ensures live { OnOk result (self.new ≡ after self.old port (step_of judged.step)) }
+        ensures written { OnOk result (written.new ≡ longer written.old (step_of judged.step)) }
+        ensures full { (result ≡ Err LiveFault.Full) ↔ (self.old.count ≡ 2 ^ 64 - 1) }
+        ensures err { OnErr result ((self.new ≡ self.old) × (written.new ≡ written.old)) }
+    {
+        if self.count == u64::MAX {
+            return Err(LiveFault::Full);
+        }
+        // All that can be refused comes before the first change that stays.
+        let closed = make_room(alloc, &mut self.trail, &self.state)?;
+        let plan = self.checked.plan();
+        let (reply, told) = apply_written(
+            alloc,
+            plan,
+            &mut self.state,
+            &judged,
+            history,
+            written,
+            change,
+        )?;
+        let entry = Entry::new(port, judged, reply);
+        put_entry(&mut self.trail, &mut self.opening, closed, entry);
+        self.count += 1;
+        self.changes += 1;
         Ok(told)
     }
 }
 
-/// Takes one step, and answers it twice: for the trail and for who asked. Where memory is refused the meter is as it was.
-fn apply_twice(
+/// Answers a step that may not change the meter.
+fn answer(alloc: Global, plan: &Plan, meter: &mut Meter, judged: &Judged) -> Result<Reply, Memory>
+    requires of_plan { IsState plan.now meter.old }
+    requires judged { IsJudged plan.now judged.now }
+    requires quiet { is_changing plan.now (step_of judged.now.step) ≡ false }
+    ensures same { meter.new ≡ meter.old }
+    ensures reply { IfOk result (λ reply. reply_of reply ≡ reply_to plan.now meter.old (step_of judged.now.step)) }
+{
+    let Applied { reply, back: _back } = apply_judged(alloc, plan, meter, judged)?;
+    Ok(reply)
+}
+
+/// Takes a step and writes it into the history, and answers it twice: for the trail and for who asked. The only error is that
+/// memory was refused, or that the history had others; then the meter and the beginning are as they were.
+fn apply_written(
     alloc: Global,
     plan: &Plan,
     meter: &mut Meter,
-    step: &Step,
+    judged: &Judged,
+    history: &History,
+    written: &mut Front,
+    change: &Change,
 ) -> Result<(Reply, Reply), Memory>
-    requires { IsState plan.now meter.old }
+    requires of_plan { IsState plan.now meter.old }
+    requires judged { IsJudged plan.now judged.now }
+    requires book { history.now ≡ written.old.book }
     ensures state { IsState plan.now meter.new }
-    ensures ok { OnOk result (meter.new ≡ next plan.now meter.old (step_of step.now)) }
-    ensures replies { IfOk result (λ r. (reply_of r.0 ≡ reply_to plan.now meter.old (step_of step.now)) × (r.1 ≡ r.0)) }
-    ensures err { OnErr result (meter.new ≡ meter.old) }
+    ensures ok { OnOk result (meter.new ≡ next plan.now meter.old (step_of judged.now.step)) }
+    ensures replies { IfOk result (λ r. (reply_of r.0
+        ≡ reply_to plan.now meter.old (step_of judged.now.step)) × (r.1 ≡ r.0)) }
+    ensures written { OnOk result (written.new ≡ longer written.old change.now) }
+    ensures err { OnErr result ((meter.new ≡ meter.old) × (written.new ≡ written.old)) }
 {
-    let reply = apply(alloc, plan, meter, step)?;
-    // A copy takes memory where it has a value, which only a GET is answered with, and a GET changes nothing.
-    let told = reply.try_clone(alloc)?;
-    Ok((reply, told))
+    let Applied { reply, back } = apply_judged(alloc, plan, meter, judged)?;
+    if let Ok(told) = reply.try_clone(alloc) {
+        if write(history, written, change) {
+            return Ok((reply, told));
+        }
+    }
+    take_back(plan, meter, back);
+    Err(Memory)
+}
+
+/// Writes a step into the history, behind a beginning of it, and says whether the history had no others there.
+fn write(history: &History, written: &mut Front, change: &Change) -> bool
+    requires { history.now ≡ written.old.book }
+    ensures { written.new ≡ cond result (longer written.old change.now) written.old }
+{
+    let mut front = written.again();
+    if !front.add(history, change) {
+        return false;
+    }
+    *written = front;
+    true
 }
 
 /// Makes room for an entry. Where the trail is full it is to be closed, and a copy of the state is given. The only error is that
 /// memory was refused.
 fn make_room(alloc: Global, trail: &mut Vec<Entry>, state: &Meter) -> Result<Option<Meter>, Memory>
     ensures same { trail.new.items ≡ trail.old.items }
-    ensures room { IfOk result (λ closed. MatchOption closed (vec_len trail.new < vec_capacity trail.new) (λ _. 0 < vec_capacity trail.new)) }
-    ensures closed { IfOk result (λ closed. closed ≡ cond (nat_lt (length trail.old.items) limits.TRAIL) None (Some state.now)) }
+    ensures room { IfOk result (λ closed. MatchOption closed (vec_len trail.new
+        < vec_capacity trail.new) (λ _. 0 < vec_capacity trail.new)) }
+    ensures closed { IfOk result (λ closed. closed
+        ≡ cond (nat_lt (length trail.old.items) limits.TRAIL) None (Some state.now)) }
 {
     if trail.len() < TRAIL {
         trail.reserve(1)?;
@@ -250,8 +354,10 @@ fn make_room(alloc: Global, trail: &mut Vec<Entry>, state: &Meter) -> Result<Opt
 
 /// Puts an entry behind the trail, which is closed first where that is due.
 fn put_entry(trail: &mut Vec<Entry>, opening: &mut Meter, closed: Option<Meter>, entry: Entry)
-    requires { MatchOption closed (vec_len trail.old < vec_capacity trail.old) (λ _. 0 < vec_capacity trail.old) }
-    ensures trail { trail.new.items ≡ cond (is_some closed) (entry ∷ []) (trail.old.items ++ entry ∷ []) }
+    requires { MatchOption closed (vec_len trail.old < vec_capacity trail.old) (λ _. 0
+        < vec_capacity trail.old) }
+    ensures trail { trail.new.items
+        ≡ cond (is_some closed) (entry ∷ []) (trail.old.items ++ entry ∷ []) }
     ensures opening { opening.new ≡ unwrap_or closed opening.old }
 {
     if let Some(state) = closed {

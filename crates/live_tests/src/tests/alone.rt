@@ -6,6 +6,7 @@ use super::samples::{
     ALARM_CELL, ENERGY, TEXT, energy_is, get_energy, is_quiet, number_in, set_alarm,
 };
 use cosem_data::data::Data;
+use meter_core::judged::Judged;
 use meter_core::reply::Reply;
 use meter_core::step::Step;
 use meter_live::fault::{LiveFault, ReadRefused};
@@ -34,10 +35,12 @@ fn taken(rt: &impl Abort, alloc: Global, live: &mut Live, step: &Step) -> Result
 {
     let count = live.meter().count();
     let entries = live.meter().trail().len();
-    match live.act(alloc, 7, step) {
+    let judged = Judged::by(live.plan(), step.try_clone(alloc)?);
+    match live.act(alloc, 7, judged) {
         Err(LiveFault::Memory) => {
             has_taken(rt, live, count, entries);
-            Ok(live.act(alloc, 7, step)?)
+            let judged = Judged::by(live.plan(), step.try_clone(alloc)?);
+            Ok(live.act(alloc, 7, judged)?)
         }
         taken => Ok(taken?),
     }

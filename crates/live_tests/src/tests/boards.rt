@@ -15,7 +15,6 @@ use std::alloc::Global;
 use std::marker::Brand;
 use std::process::Abort;
 use std::sync::Wait;
-use std::sync::ledger::Ledger;
 use std::test::Fail;
 
 /// The register as the reader sees it.
@@ -35,11 +34,11 @@ fn sees<N: Naming>(rt: &impl Abort, alloc: Global, reader: &mut BoardReader<N>, 
 
 /// A value comes into the register, and has no answer. Where the step is refused for memory, it is taken once more. Whether the
 /// reader is told of it.
-fn put<N: Naming, S: Ledger, C: Ledger, W: Wait + Drop, R: Wait + Abort>(
+fn put<N: Naming, W: Wait + Drop, R: Wait + Abort>(
     rt: &R,
     alloc: Global,
-    port: &Port<'_, N, S, C, W>,
-    share: &mut Share<S, C>,
+    port: &Port<'_, N, W>,
+    share: &mut Share<N>,
     reader: &mut BoardReader<N>,
     value: u32,
 ) -> Result<bool, Fail> {
@@ -54,11 +53,11 @@ fn put<N: Naming, S: Ledger, C: Ledger, W: Wait + Drop, R: Wait + Abort>(
 
 /// A value comes into the register, and is read back without the lock. Where its telling is refused for memory, the reader sees the
 /// old value until it is told. Whether the step itself was told.
-fn put_and_read<N: Naming, S: Ledger, C: Ledger, W: Wait + Drop, R: Wait + Abort>(
+fn put_and_read<N: Naming, W: Wait + Drop, R: Wait + Abort>(
     rt: &R,
     alloc: Global,
-    port: &Port<'_, N, S, C, W>,
-    share: &mut Share<S, C>,
+    port: &Port<'_, N, W>,
+    share: &mut Share<N>,
     reader: &mut BoardReader<N>,
     old: u32,
     new: u32,
@@ -73,11 +72,11 @@ fn put_and_read<N: Naming, S: Ledger, C: Ledger, W: Wait + Drop, R: Wait + Abort
 }
 
 /// A step is denied, where memory is refused at most once.
-fn is_denied<N: Naming, S: Ledger, C: Ledger, W: Wait + Drop, R: Wait + Abort>(
+fn is_denied<N: Naming, W: Wait + Drop, R: Wait + Abort>(
     rt: &R,
     alloc: Global,
-    port: &Port<'_, N, S, C, W>,
-    share: &mut Share<S, C>,
+    port: &Port<'_, N, W>,
+    share: &mut Share<N>,
 ) {
     let denied = match port.act(rt, alloc, share, set_denied()) {
         Err(LiveFault::Memory) => port.act(rt, alloc, share, set_denied()),
@@ -92,12 +91,12 @@ fn is_denied<N: Naming, S: Ledger, C: Ledger, W: Wait + Drop, R: Wait + Abort>(
 
 /// Takes three values in, of which at most one isn't told at once, for want of memory; reads while the lock is held (a reader that
 /// took it would wait for ever), and is denied once.
-fn use_reader<N: Naming, S: Ledger, C: Ledger, W: Wait + Drop, R: Wait + Abort>(
+fn use_reader<N: Naming, W: Wait + Drop, R: Wait + Abort>(
     rt: &R,
     alloc: Global,
-    board: &Board<N, S, C, W>,
-    port: &Port<'_, N, S, C, W>,
-    share: &mut Share<S, C>,
+    board: &Board<N, W>,
+    port: &Port<'_, N, W>,
+    share: &mut Share<N>,
     reader: &mut BoardReader<N>,
 ) -> Result<(), Fail> {
     let first = put_and_read(rt, alloc, port, share, reader, ENERGY, 5)?;
@@ -113,11 +112,11 @@ fn use_reader<N: Naming, S: Ledger, C: Ledger, W: Wait + Drop, R: Wait + Abort>(
 }
 
 /// Opens a port and its reader, where memory is refused at most once, and uses both. A second reader isn't given.
-fn use_port<N: Naming, S: Ledger, C: Ledger, W: Wait + Drop, R: Wait + Abort>(
+fn use_port<N: Naming, W: Wait + Drop, R: Wait + Abort>(
     rt: &R,
     alloc: Global,
-    board: &Board<N, S, C, W>,
-) -> Result<Share<S, C>, Fail> {
+    board: &Board<N, W>,
+) -> Result<Share<N>, Fail> {
     let (port, mut share) = opened(rt, board)?;
     let mut reader = port.reader(rt)?;
     assert!(rt; port.reader(rt).is_err());
@@ -128,7 +127,7 @@ fn use_port<N: Naming, S: Ledger, C: Ledger, W: Wait + Drop, R: Wait + Abort>(
 /// A board isn't closed without the share of its port, and with it counts four steps and three changes. Where the board
 /// isn't opened
 /// for want of memory, what was accepted is given back.
-fn hold_day<N: Naming, S: Ledger, C: Ledger, W: Wait + Drop, R: Wait + Abort>(
+fn hold_day<N: Naming, W: Wait + Drop, R: Wait + Abort>(
     rt: &R,
     keep: W,
     alloc: Global,
@@ -137,10 +136,10 @@ fn hold_day<N: Naming, S: Ledger, C: Ledger, W: Wait + Drop, R: Wait + Abort>(
 ) -> Result<Option<Checked>, Fail>
     requires plan { checked ≡ N.accepted }
     requires book { blanks.history ≡ N.book }
-    requires steps { (blanks.steps.name ≡ S.name) × (S.parts ≡ 256) }
-    requires changes { (blanks.changes.name ≡ C.name) × (C.parts ≡ 256) }
+    requires steps { blanks.steps.name ≡ N.steps }
+    requires changes { blanks.changes.name ≡ N.changes }
 {
-    let board = match Board::<N, S, C, W>::open(keep, alloc, checked, blanks) {
+    let board = match Board::<N, W>::open(keep, alloc, checked, blanks) {
         Ok(board) => board,
         Err(checked) => return Ok(Some(checked)),
     };
@@ -167,7 +166,7 @@ fn try_day<R: Wait + Abort>(
     checked: Checked,
 ) -> Result<Option<Checked>, Fail> {
     let blanks = Blanks::new();
-    hold_day::<Brand, Brand, Brand, &R, R>(rt, rt, alloc, checked, blanks)
+    hold_day::<Brand, &R, R>(rt, rt, alloc, checked, blanks)
 }
 
 #[test]
@@ -185,10 +184,10 @@ fn a_board_is_opened_used_and_closed(rt: HostRuntime) -> Result<(), Fail> {
 const PORTS: usize = 256;
 
 /// Opens a port, where memory is refused at most once.
-fn opened<'b, N: Naming, S: Ledger, C: Ledger, W: Wait + Drop, R: Wait>(
+fn opened<'b, N: Naming, W: Wait + Drop, R: Wait>(
     rt: &R,
-    board: &'b Board<N, S, C, W>,
-) -> Result<(Port<'b, N, S, C, W>, Share<S, C>), PortFault> {
+    board: &'b Board<N, W>,
+) -> Result<(Port<'b, N, W>, Share<N>), PortFault> {
     match board.port(rt) {
         Err(PortFault::Memory) => board.port(rt),
         opened => opened,
@@ -196,11 +195,11 @@ fn opened<'b, N: Naming, S: Ledger, C: Ledger, W: Wait + Drop, R: Wait>(
 }
 
 /// Opens so many ports, of which the last one puts a value that the reader of the first one sees then; and no more. Gives the shares.
-fn use_all_ports<N: Naming, S: Ledger, C: Ledger, W: Wait + Drop, R: Wait + Abort>(
+fn use_all_ports<N: Naming, W: Wait + Drop, R: Wait + Abort>(
     rt: &R,
     alloc: Global,
-    board: &Board<N, S, C, W>,
-) -> Result<Vec<Share<S, C>>, Fail> {
+    board: &Board<N, W>,
+) -> Result<Vec<Share<N>>, Fail> {
     let mut shares = Vec::with_capacity(alloc, PORTS)?;
     let (first, share) = opened(rt, board)?;
     let mut reader = first.reader(rt)?;
@@ -219,7 +218,7 @@ fn use_all_ports<N: Naming, S: Ledger, C: Ledger, W: Wait + Drop, R: Wait + Abor
 }
 
 /// A board opens so many ports and no more, and is closed with their shares.
-fn fill_board<N: Naming, S: Ledger, C: Ledger, W: Wait + Drop, R: Wait + Abort>(
+fn fill_board<N: Naming, W: Wait + Drop, R: Wait + Abort>(
     rt: &R,
     keep: W,
     alloc: Global,
@@ -228,10 +227,10 @@ fn fill_board<N: Naming, S: Ledger, C: Ledger, W: Wait + Drop, R: Wait + Abort>(
 ) -> Result<(), Fail>
     requires plan { checked ≡ N.accepted }
     requires book { blanks.history ≡ N.book }
-    requires steps { (blanks.steps.name ≡ S.name) × (S.parts ≡ 256) }
-    requires changes { (blanks.changes.name ≡ C.name) × (C.parts ≡ 256) }
+    requires steps { blanks.steps.name ≡ N.steps }
+    requires changes { blanks.changes.name ≡ N.changes }
 {
-    let Ok(board) = Board::<N, S, C, W>::open(keep, alloc, checked, blanks) else {
+    let Ok(board) = Board::<N, W>::open(keep, alloc, checked, blanks) else {
         return Err("not opened".into());
     };
     let shares = use_all_ports(rt, alloc, &board)?;
@@ -244,7 +243,7 @@ fn fill_board<N: Naming, S: Ledger, C: Ledger, W: Wait + Drop, R: Wait + Abort>(
 
 fn fill_named<R: Wait + Abort>(rt: &R, alloc: Global, checked: Checked) -> Result<(), Fail> {
     let blanks = Blanks::new();
-    fill_board::<Brand, Brand, Brand, &R, R>(rt, rt, alloc, checked, blanks)
+    fill_board::<Brand, &R, R>(rt, rt, alloc, checked, blanks)
 }
 
 /// What is put at the last of them is seen at the first.

@@ -13,7 +13,6 @@ use std::marker::Brand;
 use std::process::Abort;
 use std::sync::Wait;
 use std::sync::atomic::{AtomicBool, Ordering};
-use std::sync::ledger::Ledger;
 use std::test::Fail;
 use std::thread;
 use std::thread::Threads;
@@ -53,27 +52,21 @@ fn reads<N: Naming>(alloc: Global, mut reader: BoardReader<N>, steps: &Steps) ->
 }
 
 /// Holds the lock until the other thread has read, and says whether it has.
-fn holds<N: Naming, S: Ledger, C: Ledger, W: Wait + Drop, R: Wait>(
-    rt: &R,
-    board: &Board<N, S, C, W>,
-    steps: &Steps,
-) -> bool {
+fn holds<N: Naming, W: Wait + Drop, R: Wait>(rt: &R, board: &Board<N, W>, steps: &Steps) -> bool {
     let _guard = board.lock(rt);
     steps.is_locked.store(true, Ordering::SeqCst);
     is_set(&steps.is_read)
 }
 
 /// Another thread reads while this one holds the lock.
-fn is_read_while_held<N, S, C, W, R>(
+fn is_read_while_held<N, W, R>(
     rt: &R,
     alloc: Global,
-    board: &Board<N, S, C, W>,
+    board: &Board<N, W>,
     reader: BoardReader<N>,
 ) -> bool
 where
     N: Naming + Send,
-    S: Ledger,
-    C: Ledger,
     W: Wait + Drop,
     R: Threads + Wait + Sync,
 {
@@ -91,15 +84,9 @@ where
 }
 
 /// Opens a port, whose reader reads while the lock is held.
-fn use_port<N, S, C, W, R>(
-    rt: &R,
-    alloc: Global,
-    board: &Board<N, S, C, W>,
-) -> Result<Share<S, C>, Fail>
+fn use_port<N, W, R>(rt: &R, alloc: Global, board: &Board<N, W>) -> Result<Share<N>, Fail>
 where
     N: Naming + Send,
-    S: Ledger,
-    C: Ledger,
     W: Wait + Drop,
     R: Threads + Wait + Abort + Sync,
 {
@@ -110,7 +97,7 @@ where
 }
 
 /// A board whose port's reader reads while the lock is held, which is no step.
-fn hold_board<N, S, C, W, R>(
+fn hold_board<N, W, R>(
     rt: &R,
     keep: W,
     alloc: Global,
@@ -119,16 +106,14 @@ fn hold_board<N, S, C, W, R>(
 ) -> Result<(), Fail>
 where
     N: Naming + Send,
-    S: Ledger,
-    C: Ledger,
     W: Wait + Drop,
     R: Threads + Wait + Abort + Sync,
     requires plan { checked ≡ N.accepted }
     requires book { blanks.history ≡ N.book }
-    requires steps { (blanks.steps.name ≡ S.name) × (S.parts ≡ 256) }
-    requires changes { (blanks.changes.name ≡ C.name) × (C.parts ≡ 256) }
+    requires steps { blanks.steps.name ≡ N.steps }
+    requires changes { blanks.changes.name ≡ N.changes }
 {
-    let Ok(board) = Board::<N, S, C, W>::open(keep, alloc, checked, blanks) else {
+    let Ok(board) = Board::<N, W>::open(keep, alloc, checked, blanks) else {
         return Err("not opened".into());
     };
     let share = use_port(rt, alloc, &board)?;
@@ -146,7 +131,7 @@ fn hold_in_threads<R: Threads + Wait + Abort + Sync>(
     checked: Checked,
 ) -> Result<(), Fail> {
     let blanks = Blanks::new();
-    hold_board::<Brand, Brand, Brand, &R, R>(rt, rt, alloc, checked, blanks)
+    hold_board::<Brand, &R, R>(rt, rt, alloc, checked, blanks)
 }
 
 /// A GET is answered while another thread holds the lock: a reader that took it would wait for ever.

@@ -1,5 +1,5 @@
 use Rattle.meter_live.proofs.Kept.{admits, forks, merges}
-use Rattle.meter_live.proofs.outbox.Outbox.reader.Goals as goal
+use Rattle.meter_live.proofs.pen.Pen.reader.Goals as goal
 
 pub reader-requires : goal.reader-requires
 reader-requires c x views h = admits x.accepted.plan x.state x.front views h
