@@ -68,7 +68,7 @@ stops-push answers old mid new xs ys more t s = (
 )
 
 -- memory was refused for the first step
-pub stops-first : {A : Type 0} (answers : Answers A) (old new : A) (found : Option Step) (step : Step) (refused : NoMemory) (r : Result (Unit {0}) NoMemory)
+pub stops-first : {A B : Type 0} (answers : Answers A) (old new : A) (found : Option Step) (step : Step) (refused : NoMemory) (r : Result B NoMemory)
     → found ≡ Some step → answers old step (Err refused) new → OnErr r (StopsBehind answers old (option_to_list found) new)
 stops-first answers old new found step refused (Ok u) is a = tt
 stops-first answers old new found step refused (Err e) is a =

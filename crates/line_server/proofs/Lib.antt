@@ -5,3 +5,4 @@ pub mod Taking
 pub mod Telling
 pub mod Alone
 pub mod Exact
+mod Lefts

@@ -1,6 +1,7 @@
 pub mod Answering
 pub mod Asking
 pub mod Doing
+pub mod Driving
 pub mod Faults
 pub mod Feeding
 pub mod LineMeter

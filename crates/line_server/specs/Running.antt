@@ -22,15 +22,18 @@ IsReadable plan line = (why : Reason) → line_of plan line ≢ Unreadable why
 
 -- A run
 
--- what a line gives the meter to do, in order: an APDU is answered; an input, an evaluation, and what a moment or seconds that pass offer are steps of the meter's own (own profile)
+-- the steps of the meter itself that a line brings, in order: an input, an evaluation, or what a moment or seconds that pass offer (own profile)
+abbrev pub own_steps : Plan → LineValue → List steps.Step
+own_steps plan (Input cell value) = steps.Input cell (tree value) ∷ []
+own_steps plan (Evaluate monitor) = steps.Evaluate monitor ∷ []
+own_steps plan (At moment) = moment_steps plan moment
+own_steps plan (Ticks seconds) = tick_steps plan seconds
+own_steps plan _ = []
+
+-- what a line gives the meter to do, in order: an APDU is answered, and the steps of the meter itself are taken (own profile)
 abbrev pub tasks_in : Plan → LineValue → List Task
-tasks_in plan Skipped = []
 tasks_in plan (Ask ask) = Answer ask ∷ []
-tasks_in plan (Input cell value) = Take (steps.Input cell (tree value)) ∷ []
-tasks_in plan (Evaluate monitor) = Take (steps.Evaluate monitor) ∷ []
-tasks_in plan (At moment) = map Take (moment_steps plan moment)
-tasks_in plan (Ticks seconds) = map Take (tick_steps plan seconds)
-tasks_in plan (Unreadable why) = []
+tasks_in plan line = map Take (own_steps plan line)
 
 -- what the lines give it to do, in order (own profile)
 abbrev pub tasks_of : Plan → List (List ℕ) → List Task

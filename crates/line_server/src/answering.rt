@@ -39,8 +39,10 @@ impl<'a> Ask<'a> {
     /// What the APDU asks of the meter, or `None` where it is no GET or SET of one attribute and no ACTION of one method. The only
     /// error is want of memory.
     pub fn asking(&self, alloc: Global) -> Result<Option<Asking>, Memory>
-        ensures asking { IfOk result (λ x. option_map asked x ≡ asking_at self.now.client self.now.apdu) }
-        ensures service { IfOk result (λ x. IfSome x (λ asking. IsServiceOf (step_of asking.step) asking.service)) }
+        ensures asking { IfOk result (λ x. option_map asked x
+            ≡ asking_at self.now.client self.now.apdu) }
+        ensures service { IfOk result
+            (λ x. IfSome x (λ asking. IsServiceOf (step_of asking.step) asking.service)) }
     {
         match read_apdu(alloc, self.apdu) {
             Ok(request) => Ok(request.into_asking(self.client)),
@@ -60,7 +62,9 @@ pub fn answer<A: Asker>(
     ask: &Ask<'_>,
     out: &mut Vec<u8>,
 ) -> Result<(), Memory>
-    ensures reply { OnOk result ((apdu : List ℕ) × AnswersAsk A.answers asker.old ask.now apdu asker.new × (out.new.items ≡ out.old.items ++ apdu)) }
+    ensures reply { OnOk result ((apdu : List ℕ)
+        × AnswersAsk A.answers asker.old ask.now apdu asker.new
+        × (out.new.items ≡ out.old.items ++ apdu)) }
     ensures err { OnErr result (FailsAsk A.answers asker.old ask.now asker.new) }
 {
     match ask.asking(alloc)? {

@@ -1,9 +1,14 @@
 //! The steps that a meter takes by itself.
-ghost use Rattle.std.specs.Prelude.{◌≡◌, option_to_list, OnOk, OnErr};
+ghost use Rattle.std.specs.Prelude.{◌≡◌, option_to_list, IfOk, OnOk, OnErr};
 ghost use Rattle.line_server.specs.Doing.{TakesAll, StopsBehind};
+ghost use Rattle.line_server.specs.Driving.{left_of};
+ghost use Rattle.line_server.specs.Running.{own_steps};
 ghost use Rattle.meter_core.specs.Moments as spec;
 ghost use Rattle.meter_core.specs.Moments.{driven, moment_steps, second_steps, tick_steps};
 
+use crate::answering::Ask;
+use crate::line::Line;
+use crate::reason::Reason;
 use civil_moment::moment::Moment;
 use cosem_data::memory::Memory;
 use meter_core::moments::offered;
@@ -13,16 +18,58 @@ use object_model::plan::Plan;
 use std::alloc::Global;
 use xdlms_services::asker::Asker;
 
+/// What a line says beside the steps of the meter itself that it brings.
+#[derive(Debug, Drop)]
+pub enum Left<'a> {
+    /// Nothing.
+    Nothing,
+    /// A client sends an APDU.
+    Ask(Ask<'a>),
+    /// It is no line, and why.
+    Unreadable(Reason),
+}
+
+/// The asker takes the steps of the meter itself that a line brings, and what else it says is handed out. The error is that
+/// memory was refused for one of them, and then those before it were taken.
+pub fn take_own<'a, A: Asker>(
+    alloc: Global,
+    plan: &Plan,
+    asker: &mut A,
+    line: Line<'a>,
+) -> Result<Left<'a>, Memory>
+    ensures left { IfOk result (λ left. left ≡ left_of line.entry) }
+    ensures taken { OnOk result
+        (TakesAll A.answers asker.old (own_steps plan.now line.entry) asker.new) }
+    ensures err { OnErr result
+        (StopsBehind A.answers asker.old (own_steps plan.now line.entry) asker.new) }
+{
+    match line {
+        Line::Skipped => {}
+        Line::Ask(ask) => return Ok(Left::Ask(ask)),
+        Line::Input { cell, value } => {
+            asker.ask(alloc, Step::Input { cell, value })?;
+        }
+        Line::Evaluate(monitor) => {
+            asker.ask(alloc, Step::Evaluate { monitor })?;
+        }
+        Line::At(moment) => take_moment(alloc, plan, asker, moment)?,
+        Line::Ticks(seconds) => take_ticks(alloc, plan, asker, seconds)?,
+        Line::Unreadable(why) => return Ok(Left::Unreadable(why)),
+    }
+    Ok(Left::Nothing)
+}
+
 /// The asker takes the steps of a moment: the clock is set to it, and each object is offered its step (own profile). The error is
 /// that memory was refused for one of them, and then those before it were taken.
-pub fn take_moment<A: Asker>(
+fn take_moment<A: Asker>(
     alloc: Global,
     plan: &Plan,
     asker: &mut A,
     moment: Moment,
 ) -> Result<(), Memory>
     ensures taken { OnOk result (TakesAll A.answers asker.old (moment_steps plan.now moment) asker.new) }
-    ensures err { OnErr result (StopsBehind A.answers asker.old (moment_steps plan.now moment) asker.new) }
+    ensures err { OnErr result
+        (StopsBehind A.answers asker.old (moment_steps plan.now moment) asker.new) }
 {
     asker.ask(alloc, Step::ClockAt { moment })?;
     take_driven(alloc, plan, asker)
@@ -30,14 +77,15 @@ pub fn take_moment<A: Asker>(
 
 /// The asker takes the steps of so many seconds, one after another: the clock ticks, and each object is offered its step (own
 /// profile). The error is that memory was refused for one of them, and then those before it were taken.
-pub fn take_ticks<A: Asker>(
+fn take_ticks<A: Asker>(
     alloc: Global,
     plan: &Plan,
     asker: &mut A,
     seconds: u16,
 ) -> Result<(), Memory>
     ensures taken { OnOk result (TakesAll A.answers asker.old (tick_steps plan.now seconds) asker.new) }
-    ensures err { OnErr result (StopsBehind A.answers asker.old (tick_steps plan.now seconds) asker.new) }
+    ensures err { OnErr result
+        (StopsBehind A.answers asker.old (tick_steps plan.now seconds) asker.new) }
 {
     for _second in 0..seconds {
         take_second(alloc, plan, asker)?;
@@ -69,8 +117,10 @@ fn take_driven<A: Asker>(alloc: Global, plan: &Plan, asker: &mut A) -> Result<()
 
 /// The asker takes the step that is offered to an object, if there is one.
 fn take_offered<A: Asker>(alloc: Global, asker: &mut A, object: &Object) -> Result<(), Memory>
-    ensures taken { OnOk result (TakesAll A.answers asker.old (option_to_list (spec.offered object.now)) asker.new) }
-    ensures err { OnErr result (StopsBehind A.answers asker.old (option_to_list (spec.offered object.now)) asker.new) }
+    ensures taken { OnOk result
+        (TakesAll A.answers asker.old (option_to_list (spec.offered object.now)) asker.new) }
+    ensures err { OnErr result
+        (StopsBehind A.answers asker.old (option_to_list (spec.offered object.now)) asker.new) }
 {
     if let Some(step) = offered(object) {
         asker.ask(alloc, step)?;

@@ -285,7 +285,8 @@ fn digits_fault(text: &[u8]) -> Reason
 
 /// Decodes hex digits in either case into the room, whatever it holds, and says whether they are that.
 fn decode(text: &[u8], room: &mut Vec<u8>) -> Result<bool, Memory>
-    ensures { IfOk result (λ read. cond read (Some room.new.items) None ≡ result_ok (decode_of text.now)) }
+    ensures { IfOk result (λ read. cond read (Some room.new.items) None
+        ≡ result_ok (decode_of text.now)) }
 {
     room.resize(text.len() / 2, 0)?;
     Ok(hex::decode_to_slice(text, room.as_mut_slice()).is_ok())

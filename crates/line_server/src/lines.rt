@@ -30,8 +30,10 @@ pub trait AnswersLines {
         line: &[u8],
         waiting: &mut Vec<u8>,
     ) -> Result<(), LineFault>
-        ensures ok { OnOk result (Puts waiting.old.items waiting.new.items (λ text. answers self.old number line.now text self.new)) }
-        ensures err { IfErr result (λ fault. Puts waiting.old.items waiting.new.items (λ text. stops self.old number line.now text fault)) };
+        ensures ok { OnOk result (Puts waiting.old.items waiting.new.items
+            (λ text. answers self.old number line.now text self.new)) }
+        ensures err { IfErr result (λ fault. Puts waiting.old.items waiting.new.items
+            (λ text. stops self.old number line.now text fault)) };
 }
 
 /// What has begun of a line, how many lines have ended, and the texts that wait to be written.

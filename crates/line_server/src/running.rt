@@ -10,14 +10,13 @@ ghost use Rattle.line_server.specs.LineMeter.{TellsUnreadable};
 ghost use Rattle.line_server.specs.Spelling.{reply_text};
 
 use crate::answering::{Ask, answer};
-use crate::driving::{take_moment, take_ticks};
+use crate::driving::{Left, take_own};
 use crate::fault::LineFault;
-use crate::line::{Line, read_line};
+use crate::line::read_line;
 use crate::lines::{AnswersLines, answer_lines};
 use crate::reason::Reason;
 use crate::text::{put_reply, put_unreadable};
 use cosem_data::memory::Memory;
-use meter_core::step::Step;
 use object_model::meter::Meter;
 use object_model::plan::Plan;
 use std::alloc::Global;
@@ -129,36 +128,19 @@ fn take_line<A: Asker>(
     let Ok(line) = read_line(alloc, plan, line, &mut room.apdu) else {
         return Err(LineFault::Memory);
     };
-    match line {
-        Line::Skipped => {}
-        Line::Ask(ask) => {
+    let Ok(left) = take_own(alloc, plan, asker, line) else {
+        return Err(LineFault::Memory);
+    };
+    match left {
+        Left::Nothing => Ok(()),
+        Left::Ask(ask) => {
             let Ok(()) = answer_ask(alloc, asker, &ask, &mut room.reply, waiting) else {
                 return Err(LineFault::Memory);
             };
+            Ok(())
         }
-        Line::Input { cell, value } => {
-            let Ok(_) = asker.ask(alloc, Step::Input { cell, value }) else {
-                return Err(LineFault::Memory);
-            };
-        }
-        Line::Evaluate(monitor) => {
-            let Ok(_) = asker.ask(alloc, Step::Evaluate { monitor }) else {
-                return Err(LineFault::Memory);
-            };
-        }
-        Line::At(moment) => {
-            let Ok(()) = take_moment(alloc, plan, asker, moment) else {
-                return Err(LineFault::Memory);
-            };
-        }
-        Line::Ticks(seconds) => {
-            let Ok(()) = take_ticks(alloc, plan, asker, seconds) else {
-                return Err(LineFault::Memory);
-            };
-        }
-        Line::Unreadable(why) => return Err(unreadable(alloc, number, why, waiting)),
+        Left::Unreadable(why) => Err(unreadable(alloc, number, why, waiting)),
     }
-    Ok(())
 }
 
 /// Ends a run at an unreadable line: its number is told behind the texts that wait, and the fault says why. Where memory is refused
@@ -180,7 +162,9 @@ fn answer_ask<A: Asker>(
     reply: &mut Vec<u8>,
     waiting: &mut Vec<u8>,
 ) -> Result<(), Memory>
-    ensures told { OnOk result ((apdu : List ℕ) × AnswersAsk A.answers asker.old ask.now apdu asker.new × (waiting.new.items ≡ waiting.old.items ++ reply_text apdu)) }
+    ensures told { OnOk result ((apdu : List ℕ)
+        × AnswersAsk A.answers asker.old ask.now apdu asker.new
+        × (waiting.new.items ≡ waiting.old.items ++ reply_text apdu)) }
     ensures err { OnErr result (waiting.new.items ≡ waiting.old.items) }
 {
     reply.clear();
@@ -216,7 +200,8 @@ pub fn run_lines<R: Read, W: Write>(
     ensures readable { (input : List ℕ) (lines : List (List ℕ)) (last : List ℕ) → R.remaining reader.old ≡ Some input →
         IsAllReadable plan.now input lines last → (result ≡ Ok (length (with_last lines last))) ⊎ IsOther result }
     // Where an unreadable line stands first, that is the end.
-    ensures unreadable { (input : List ℕ) (lines : List (List ℕ)) (line rest : List ℕ) (why : Why) → R.remaining reader.old ≡ Some input →
+    ensures unreadable { (input : List ℕ) (lines : List (List ℕ)) (line rest : List ℕ) (why : Why) →
+        R.remaining reader.old ≡ Some input →
         IsFirstBad plan.now input lines line rest why → (result ≡ Err (LineFault.Line (length lines + 1) why)) ⊎ IsOther result }
 {
     let Ok(mut meter) = LineMeter::start(alloc, plan) else {

@@ -1,5 +1,5 @@
 -- What was read ahead, as it is given.
-use Rattle.std.proofs.Common.{◌≡◌, ℕ, ◌+◌, ◌-◌, ◌<◌, ◌≤◌, List, [], ◌++◌, take, drop, length, slice_range, Option, None, Some, sym, ap, subst, ◌∙◌, append_assoc, arith, drop-drop, length-take, length-drop}
+use Rattle.std.proofs.Common.{◌≡◌, ℕ, ◌+◌, ◌-◌, ◌≤◌, List, [], ◌++◌, take, drop, length, slice_range, Option, None, Some, sym, ap, ◌∙◌, append_assoc, arith, drop-drop, length-take, length-drop}
 use Rattle.std.proofs.lemmas.List.{drop-take, take-append-drop}
 use Rattle.std.specs.Io.KnownBytes.{Consumes, IsAtEnd, Keeps, prepend_known}
 use Rattle.live_server.specs.Ahead.{unread}

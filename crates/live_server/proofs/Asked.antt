@@ -6,13 +6,14 @@ use Rattle.meter_theory.specs.Plan.{Plan, start}
 use Rattle.meter_theory.specs.Replies.{Reply, reply_to, run}
 use Rattle.meter_theory.specs.Steps.{Step, Get, Set, Act, Input, CaptureAt, Evaluate, ScheduleAt, Tick, ClockAt}
 use Rattle.meter_live.proofs.Fronts.{prefix_self}
-use Rattle.meter_live.specs.Changes.{Answers, changes_of, is_get}
-use Rattle.meter_live.specs.Tally.{Tally, HasSeen, counted}
-use Rattle.live_server.specs.Asking.{AnswersLive, is_granted}
+use Rattle.meter_live.specs.Changes.{Answers, is_get}
+use Rattle.meter_live.specs.Tally.{Tally, Counts, HasSeen}
+use Rattle.meter_core.specs.Judging.{grants_get}
+use Rattle.live_server.specs.Asking.{AnswersLive}
 
 -- a GET that the reader answers
 pub answers-read : (P : Plan) (old new : List Step) (t t' : Tally) (step : Step) (reply : Reply) → is_get step ≡ true → IsPrefix old new
-    → reply ≡ reply_to P (run P (start P) new) step → t' ≡ t → (is_granted P step ≡ true → HasSeen t new)
+    → reply ≡ reply_to P (run P (start P) new) step → t' ≡ t → (grants_get P step ≡ true → HasSeen t new)
     → AnswersLive P (record { seen = Some old; share = t }) step (Ok reply) (record { seen = Some new; share = t' })
 answers-read P old new t t' (Get c d selection) reply get later is same seen = (later, (is, same, seen))
 answers-read P old new t t' (Set c d selected v) reply get later is same seen = absurd (cc get)
@@ -26,7 +27,7 @@ answers-read P old new t t' (ClockAt m) reply get later is same seen = absurd (c
 
 -- any other step, which is taken under the lock
 pub answers-put : (P : Plan) (old new : List Step) (t t' : Tally) (step : Step) (reply : Reply) → is_get step ≡ false → IsPrefix old new
-    → Answers P step reply → t' ≡ counted t (changes_of P step)
+    → Answers P step reply → Counts P t step t'
     → AnswersLive P (record { seen = Some old; share = t }) step (Ok reply) (record { seen = Some new; share = t' })
 answers-put P old new t t' (Get c d selection) reply other later is counts = absurd (cc other)
 answers-put P old new t t' (Set c d selected v) reply other later is counts = (later, (is, counts))

@@ -6,7 +6,6 @@ use denote.Param.Send.{IsSend, IsSync, shr_send, view_send, sendable}
 use denote.Param.SendFields.{as_row_send, declared_send}
 use Rattle.std.proofs.Crossing.{crosses}
 use Rattle.std.specs.declared.io.Write as writes
-use Rattle.core.specs.declared.ledger.Ledger as ledgers
 use Rattle.core.specs.contracts.sync.Mutex as mutexes
 use Rattle.meter_live.specs.declared.names.Naming as naming
 use Rattle.meter_live.specs.contracts.desk.BoardReader as board_readers
@@ -26,24 +25,23 @@ pub output_send : (a : NamedLft) (F R : RattleType) → IsSend F → IsSync R �
 output_send a F R f y = let shared : IsSync (mutexes.the_row F) = search (f, crosses, sendable) depth 12 in
     declared_send (outputs.the_type a F R) (shr_send a.mir a.lft R y, (shr_send a.mir a.lft (mutexes.the_row F) shared, tt))
 
-module _ (N S C W : RattleType) (g : naming.Ghosts N.Denot) (h : ledgers.Ghosts S.Denot) (k : ledgers.Ghosts C.Denot)
-    (n : IsSend N) (s : IsSend S) (c : IsSend C) (w : IsSend W) (a : NamedLft) (R : RattleType) (y : IsSync R) where
+module _ (N W : RattleType) (g : naming.Ghosts N.Denot) (n : IsSend N) (w : IsSend W) (a : NamedLft) (R : RattleType) (y : IsSync R) where
   seat_reader_send : IsSend (board_readers.the_row N g)
   seat_reader_send = board_reader_send N g n
 
-  pub asker_send : IsSend (askers.the_row a N S C W R g h k)
-  asker_send = let p = port_send N S C W g h k n s c w a in
-      let share = share_send N S C W g h k n s c w in
-      declared_send (askers.the_type a N S C W R g h k)
+  pub asker_send : IsSend (askers.the_row a N W R g)
+  asker_send = let p = port_send N W g n w a in
+      let share = share_send N g in
+      declared_send (askers.the_type a N W R g)
       (shr_send a.mir a.lft R y, (p, (share, (search (seat_reader_send, sendable) depth 12, (search sendable depth 12, tt)))))
 
-  taker_send : (F : RattleType) (t : writes.Ghosts F.Denot) → IsSend F → IsSend (takers.the_row a N S C W R F g h k t)
+  taker_send : (F : RattleType) (t : writes.Ghosts F.Denot) → IsSend F → IsSend (takers.the_row a N W R F g t)
   taker_send F t f = let told = notices_send F f in
-      view_send _ _ _ _ _ (declared_send (takers_inside.the_type a N S C W R F g h k t) (asker_send, (told, (search sendable depth 12, tt))))
+      view_send _ _ _ _ _ (declared_send (takers_inside.the_type a N W R F g t) (asker_send, (told, (search sendable depth 12, tt))))
 
-  pub driver_send : (F : RattleType) (t : writes.Ghosts F.Denot) → IsSend F → IsSend (drivers.the_row a N S C W R F g h k t)
+  pub driver_send : (F : RattleType) (t : writes.Ghosts F.Denot) → IsSend F → IsSend (drivers.the_row a N W R F g t)
   driver_send F t f = let taken = taker_send F t f in
-      declared_send (drivers.the_type a N S C W R F g h k t) (taken, (search (crosses, sendable) depth 20, tt))
+      declared_send (drivers.the_type a N W R F g t) (taken, (search (crosses, sendable) depth 20, tt))
 
-  pub seat_sync : IsSync (mutexes.the_row (askers.the_row a N S C W R g h k))
+  pub seat_sync : IsSync (mutexes.the_row (askers.the_row a N W R g))
   seat_sync = search (asker_send, crosses, sendable) depth 12

@@ -1,19 +1,20 @@
 -- How a driver takes the steps of its lines. All of it is own profile.
-use Rattle.std.specs.Prelude.{◌≡◌, ◌⊎◌, ℕ, ◌+◌, ◌%◌, ◌^◌, Bool, true, false, List, [], ◌∷◌, ◌++◌, codes, Option, Result, Ok, Err}
+use Rattle.std.specs.Prelude.{◌≡◌, ◌⊎◌, ℕ, ◌+◌, ◌%◌, ◌^◌, Bool, true, false, List, ◌++◌, codes, Option, Result, Ok, Err}
 use Rattle.std.specs.Fmt.{decimal}
 use Rattle.std.specs.Io.KnownBytes.{Appends}
-use Rattle.cosem_data.specs.View.{tree}
 use Rattle.cosem_data.specs.declared.memory.Memory.{Memory}
 use Rattle.meter_theory.specs.Plan.{Plan}
 use Rattle.meter_theory.specs.Replies.{Reply}
 use Rattle.meter_theory.specs.Steps as steps
-use Rattle.meter_core.specs.Moments.{moment_steps, tick_steps}
-use Rattle.meter_live.specs.Changes.{Answers, changes_of}
-use Rattle.meter_live.specs.Tally.{Tally, counted}
+use Rattle.meter_live.specs.Changes.{Answers}
+use Rattle.meter_live.specs.Tally.{Tally, Counts}
 use Rattle.line_server.specs.Doing.{TakesAll}
 use Rattle.line_server.specs.Spelling.{line_of, unreadable_text}
+use Rattle.line_server.specs.Driving.{left_of}
+use Rattle.line_server.specs.Running.{own_steps}
+use Rattle.line_server.specs.declared.driving.Left.{Left}
+use Rattle.line_server.specs.declared.driving.Left.TheVariants.{Nothing, Ask, Unreadable}
 use Rattle.line_server.specs.declared.line.Line.{Line}
-use Rattle.line_server.specs.declared.line.Line.TheVariants.{Skipped, Ask, Input, Evaluate, At, Ticks, Unreadable}
 
 -- what is told of a line for which memory was refused, or of a step of it
 abbrev pub memory_text : ℕ → List ℕ
@@ -36,7 +37,7 @@ following old = record { share = old.share; told = old.told; number = (old.numbe
 
 -- a step is taken under the lock, and the share counts it
 abbrev pub IsCounted : Plan → Hand → steps.Step → Reply → Hand → Type 0
-IsCounted P old step reply new = Answers P step reply × (new.share ≡ counted old.share (changes_of P step)) × (new.told ≡ old.told)
+IsCounted P old step reply new = Answers P step reply × Counts P old.share step new.share × (new.told ≡ old.told)
 
 -- a step is refused for memory, which is told, and nothing else changes
 abbrev pub IsTold : Hand → List ℕ → Hand → Type 0
@@ -47,15 +48,15 @@ abbrev pub TakesOrTells : Plan → Hand → steps.Step → Result Reply Memory �
 TakesOrTells P old step (Ok reply) new = (new.number ≡ old.number) × (IsCounted P old step reply new ⊎ IsTold old (memory_text old.number) new)
 TakesOrTells P old step (Err refused) new = ⊥
 
--- what a line does: its steps are taken one after another; a line that is no step of the meter itself, as the APDU of a client, is told
+-- that a line is no step of the meter itself, as the APDU of a client, is told
+abbrev pub TellsOf : Left → Hand → Hand → Type 0
+TellsOf Nothing old new = new ≡ old
+TellsOf (Ask ask) old new = IsTold old (unreadable_text old.number) new
+TellsOf (Unreadable why) old new = IsTold old (unreadable_text old.number) new
+
+-- what a line does: its steps are taken one after another, and it is told where it is something else
 abbrev pub Drives : Plan → Hand → Line → Hand → Type 0
-Drives P old Skipped new = new ≡ old
-Drives P old (Input cell value) new = TakesAll (TakesOrTells P) old (steps.Input cell (tree value) ∷ []) new
-Drives P old (Evaluate monitor) new = TakesAll (TakesOrTells P) old (steps.Evaluate monitor ∷ []) new
-Drives P old (At moment) new = TakesAll (TakesOrTells P) old (moment_steps P moment) new
-Drives P old (Ticks seconds) new = TakesAll (TakesOrTells P) old (tick_steps P seconds) new
-Drives P old (Ask ask) new = IsTold old (unreadable_text old.number) new
-Drives P old (Unreadable why) new = IsTold old (unreadable_text old.number) new
+Drives P old line new = (mid : Hand) × TakesAll (TakesOrTells P) old (own_steps P line) mid × TellsOf (left_of line) mid new
 
 -- the same of the text of a line, unless memory was refused to read it, which is told
 abbrev pub DrivesLine : Plan → Hand → List ℕ → Hand → Type 0

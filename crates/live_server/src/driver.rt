@@ -1,47 +1,47 @@
 //! The driver of a live meter: inputs, evaluations and moments come as lines (own profile).
 ghost use Rattle.std.specs.Prelude.{◌≡◌};
-ghost use Rattle.live_server.specs.Driving.{Drives, DrivesLine};
+ghost use Rattle.live_server.specs.Driving.{DrivesLine, TellsOf};
 
 use crate::asking::PortAsker;
 use crate::by_line::ByLine;
 use crate::notices::Notices;
 use cosem_data::memory::Memory;
-use line_server::driving::{take_moment, take_ticks};
+use line_server::driving::{Left, take_own};
 use line_server::fault::LineFault;
-use line_server::line::{Line, read_line};
+use line_server::line::read_line;
 use line_server::lines::{AnswersLines, answer_lines};
 use meter_core::reply::Reply;
 use meter_core::step::Step;
 use meter_live::names::Naming;
 use meter_theory::access::AccessCode;
-use object_model::plan::Plan;
 use std::alloc::Global;
 use std::io::{self, Read, Write};
 use std::marker::Model;
 use std::sync::Wait;
-use std::sync::ledger::Ledger;
 use xdlms_services::asker::Asker;
 
 /// Takes the steps of a line at a seat, which is told of none of them. A step that is refused for memory is told, and passed
 /// over. Contracts see what the share counts, what was told, and the number of the line.
 #[derive(Drop)]
-struct Taker<'b, N: Naming, S: Ledger, C: Ledger, W: Wait + Drop, R: Wait, F: Write + Drop> {
-    seat: PortAsker<'b, N, S, C, W, R>,
+struct Taker<'b, N: Naming, W: Wait + Drop, R: Wait, F: Write + Drop> {
+    seat: PortAsker<'b, N, W, R>,
     notices: Notices<F>,
     number: u64,
 }
 
-impl<'b, N: Naming, S: Ledger, C: Ledger, W: Wait + Drop, R: Wait, F: Write + Drop> Model
-    for Taker<'b, N, S, C, W, R, F> {
+impl<'b, N: Naming, W: Wait + Drop, R: Wait, F: Write + Drop> Model for Taker<'b, N, W, R, F> {
+    ghost use Rattle.std.specs.Coded.{codes};
+    ghost use Rattle.meter_live.specs.Codes.{tally_code};
     ghost use Rattle.live_server.specs.Driving.{Hand};
 
     ghost Value = { Hand };
 
+    ghost coded = { Prim.hlevel (codes, tally_code) };
+
     ghost view = { λ t. record { share = t.seat.share; told = F.contents t.notices.faults; number = t.number } };
 }
 
-impl<'b, N: Naming, S: Ledger, C: Ledger, W: Wait + Drop, R: Wait, F: Write + Drop> Asker
-    for Taker<'b, N, S, C, W, R, F> {
+impl<'b, N: Naming, W: Wait + Drop, R: Wait, F: Write + Drop> Asker for Taker<'b, N, W, R, F> {
     ghost use Rattle.live_server.specs.Driving.{TakesOrTells};
 
     ghost plan_of = { λ _. N.accepted.plan };
@@ -64,23 +64,16 @@ impl<'b, N: Naming, S: Ledger, C: Ledger, W: Wait + Drop, R: Wait, F: Write + Dr
 /// and so the APDU of a client too, is told as `line N: unreadable`, and each step that is refused for memory as
 /// `line N: memory`, and so is a line that is refused memory before its steps; then the next goes on. What is told takes no memory.
 #[derive(Drop)]
-pub struct Driver<'b, N: Naming, S: Ledger, C: Ledger, W: Wait + Drop, R: Wait, F: Write + Drop> {
-    taker: Taker<'b, N, S, C, W, R, F>,
+pub struct Driver<'b, N: Naming, W: Wait + Drop, R: Wait, F: Write + Drop> {
+    taker: Taker<'b, N, W, R, F>,
     apdu: Vec<u8>,
 }
 
-impl<'b, N: Naming, S: Ledger, C: Ledger, W: Wait + Drop, R: Wait, F: Write + Drop> Driver<
-    'b,
-    N,
-    S,
-    C,
-    W,
-    R,
-    F,
-> {
+impl<'b, N: Naming, W: Wait + Drop, R: Wait, F: Write + Drop> Driver<'b, N, W, R, F> {
     /// A driver at this seat, with what it tells by. No line is taken yet.
-    pub fn new(alloc: Global, seat: PortAsker<'b, N, S, C, W, R>, notices: Notices<F>) -> Self
-        ensures { result.taker ≡ record { share = seat.entry.share; told = F.contents notices.faults; number = 0 } }
+    pub fn new(alloc: Global, seat: PortAsker<'b, N, W, R>, notices: Notices<F>) -> Self
+        ensures { result.taker
+            ≡ record { share = seat.entry.share; told = F.contents notices.faults; number = 0 } }
     {
         let taker = Taker {
             seat,
@@ -94,7 +87,7 @@ impl<'b, N: Naming, S: Ledger, C: Ledger, W: Wait + Drop, R: Wait, F: Write + Dr
     }
 
     /// Its seat, once all lines were taken.
-    pub fn into_seat(self) -> PortAsker<'b, N, S, C, W, R>
+    pub fn into_seat(self) -> PortAsker<'b, N, W, R>
         ensures { result.share ≡ self.entry.taker.share }
     {
         let Driver { taker, apdu: _apdu } = self;
@@ -132,8 +125,8 @@ impl<'b, N: Naming, S: Ledger, C: Ledger, W: Wait + Drop, R: Wait, F: Write + Dr
     }
 }
 
-impl<'b, N: Naming, S: Ledger, C: Ledger, W: Wait + Drop, R: Wait, F: Write + Drop> AnswersLines
-    for Driver<'b, N, S, C, W, R, F> {
+impl<'b, N: Naming, W: Wait + Drop, R: Wait, F: Write + Drop> AnswersLines
+    for Driver<'b, N, W, R, F> {
     ghost use Rattle.std.specs.Prelude.{◌≡◌, []};
     ghost use Rattle.live_server.specs.Driving.{DrivesLine, following};
 
@@ -159,49 +152,36 @@ impl<'b, N: Naming, S: Ledger, C: Ledger, W: Wait + Drop, R: Wait, F: Write + Dr
 }
 
 /// Takes the steps of a line, or tells that it has none, or that memory was refused to read it. The room is for an APDU.
-fn take_line<N: Naming, S: Ledger, C: Ledger, W: Wait + Drop, R: Wait, F: Write + Drop>(
+fn take_line<N: Naming, W: Wait + Drop, R: Wait, F: Write + Drop>(
     alloc: Global,
-    taker: &mut Taker<'_, N, S, C, W, R, F>,
+    taker: &mut Taker<'_, N, W, R, F>,
     room: &mut Vec<u8>,
     line: &[u8],
 )
     ensures { DrivesLine N.accepted.plan taker.old line.now taker.new }
 {
     let plan = taker.seat.plan();
-    match read_line(alloc, plan, line, room) {
-        Ok(line) => take_steps(alloc, plan, taker, line),
-        Err(_) => {
-            taker.notices.tell_memory(taker.number);
-        }
-    }
+    let Ok(line) = read_line(alloc, plan, line, room) else {
+        taker.notices.tell_memory(taker.number);
+        return;
+    };
+    let Ok(left) = take_own(alloc, plan, taker, line) else {
+        // No step is an error: the taker tells of those that are refused.
+        unreachable!();
+    };
+    tell_left(taker, &left);
 }
 
-/// Takes the steps of a line, or tells that it has none.
-fn take_steps<N: Naming, S: Ledger, C: Ledger, W: Wait + Drop, R: Wait, F: Write + Drop>(
-    alloc: Global,
-    plan: &Plan,
-    taker: &mut Taker<'_, N, S, C, W, R, F>,
-    line: Line<'_>,
+/// Tells that a line is no step of the meter itself, where it isn't.
+fn tell_left<N: Naming, W: Wait + Drop, R: Wait, F: Write + Drop>(
+    taker: &mut Taker<'_, N, W, R, F>,
+    left: &Left<'_>,
 )
-    requires { plan.now ≡ N.accepted.plan }
-    ensures { Drives N.accepted.plan taker.old line.entry taker.new }
+    ensures { TellsOf left.now taker.old taker.new }
 {
-    // No step is an error: the taker tells of those that are refused.
-    match line {
-        Line::Skipped => {}
-        Line::Input { cell, value } => {
-            let _ = taker.ask(alloc, Step::Input { cell, value });
-        }
-        Line::Evaluate(monitor) => {
-            let _ = taker.ask(alloc, Step::Evaluate { monitor });
-        }
-        Line::At(moment) => {
-            let _ = take_moment(alloc, plan, taker, moment);
-        }
-        Line::Ticks(seconds) => {
-            let _ = take_ticks(alloc, plan, taker, seconds);
-        }
-        Line::Ask(_) | Line::Unreadable(_) => {
+    match left {
+        Left::Nothing => {}
+        Left::Ask(_) | Left::Unreadable(_) => {
             taker.notices.tell_unreadable(taker.number);
         }
     }

@@ -32,7 +32,8 @@ impl<F: Write + Drop> Notices<F> {
 
     /// Tells that the line with this number is no step of the meter itself, and says whether that was written whole.
     pub(crate) fn tell_unreadable(&mut self, number: u64) -> bool
-        ensures { Tells (F.contents self.old.faults) (F.contents self.new.faults) (unreadable_text number) result }
+        ensures { Tells (F.contents self.old.faults) (F.contents self.new.faults)
+            (unreadable_text number) result }
     {
         self.text.clear();
         let Ok(()) = write!(self.text, "line {number}: unreadable\n") else {
@@ -43,7 +44,8 @@ impl<F: Write + Drop> Notices<F> {
 
     /// Tells that memory was refused for the line with this number, or for a step of it, and says whether that was written whole.
     pub(crate) fn tell_memory(&mut self, number: u64) -> bool
-        ensures { Tells (F.contents self.old.faults) (F.contents self.new.faults) (memory_text number) result }
+        ensures { Tells (F.contents self.old.faults) (F.contents self.new.faults)
+            (memory_text number) result }
     {
         self.text.clear();
         let Ok(()) = write!(self.text, "line {number}: memory\n") else {
@@ -54,7 +56,8 @@ impl<F: Write + Drop> Notices<F> {
 
     /// Writes the text that is there.
     fn write(&mut self) -> bool
-        ensures { Tells (F.contents self.old.faults) (F.contents self.new.faults) (string_bytes self.old.text) result }
+        ensures { Tells (F.contents self.old.faults) (F.contents self.new.faults)
+            (string_bytes self.old.text) result }
     {
         match write_whole(&mut self.faults, self.text.as_bytes()) {
             Ok(()) => true,

@@ -11,17 +11,16 @@ use meter_live::fault::PortFault;
 use meter_live::names::Naming;
 use meter_live::share::Share;
 use std::alloc::Global;
-use std::sync::ledger::Ledger;
 use std::sync::{Mutex, Wait};
 
 /// How many connections are answered at once (own profile).
 pub(crate) const SEATS: usize = 64;
 
 /// Opens a seat at a port of its own.
-pub(crate) fn open_seat<'b, N: Naming, S: Ledger, C: Ledger, W: Wait + Drop, R: Wait>(
+pub(crate) fn open_seat<'b, N: Naming, W: Wait + Drop, R: Wait>(
     rt: &'b R,
-    board: &'b Board<N, S, C, W>,
-) -> Result<PortAsker<'b, N, S, C, W, R>, ServerFault>
+    board: &'b Board<N, W>,
+) -> Result<PortAsker<'b, N, W, R>, ServerFault>
     ensures { IfErr result (λ fault. (fault ≡ ServerFault.Board) ⊎ (fault ≡ ServerFault.Memory)) }
 {
     PortAsker::open(rt, board).map_err(fault_of_port)
@@ -39,11 +38,11 @@ fn fault_of_port(fault: PortFault) -> ServerFault
 }
 
 /// Opens a seat for each connection that is answered at once, under a lock of its own.
-pub(crate) fn open_seats<'b, N: Naming, S: Ledger, C: Ledger, W: Wait + Drop, R: Wait>(
+pub(crate) fn open_seats<'b, N: Naming, W: Wait + Drop, R: Wait>(
     rt: &'b R,
     alloc: Global,
-    board: &'b Board<N, S, C, W>,
-) -> Result<Vec<Mutex<PortAsker<'b, N, S, C, W, R>>>, ServerFault>
+    board: &'b Board<N, W>,
+) -> Result<Vec<Mutex<PortAsker<'b, N, W, R>>>, ServerFault>
     ensures { IfErr result (λ fault. (fault ≡ ServerFault.Board) ⊎ (fault ≡ ServerFault.Memory)) }
 {
     let mut seats = Vec::new(alloc);
@@ -57,11 +56,11 @@ pub(crate) fn open_seats<'b, N: Naming, S: Ledger, C: Ledger, W: Wait + Drop, R:
 }
 
 /// The shares of all seats, and of the driver's.
-pub(crate) fn shares_of<N: Naming, S: Ledger, C: Ledger, W: Wait + Drop, R: Wait>(
+pub(crate) fn shares_of<N: Naming, W: Wait + Drop, R: Wait>(
     alloc: Global,
-    driver: PortAsker<'_, N, S, C, W, R>,
-    seats: Vec<Mutex<PortAsker<'_, N, S, C, W, R>>>,
-) -> Result<Vec<Share<S, C>>, ServerFault>
+    driver: PortAsker<'_, N, W, R>,
+    seats: Vec<Mutex<PortAsker<'_, N, W, R>>>,
+) -> Result<Vec<Share<N>>, ServerFault>
     ensures { IfErr result (λ fault. fault ≡ ServerFault.Memory) }
 {
     let mut shares = Vec::new(alloc);
@@ -117,7 +116,8 @@ impl<'g, G: Gate> Taken<'g, G> {
     pub(crate) fn take(&mut self) -> Option<usize>
         ensures within { IfSome result (λ seat. seat < 64) }
         ensures taken { MatchOption result (self.new.is_taken ≡ self.old.is_taken)
-            (λ seat. (slice_get self.old.is_taken seat ≡ Some false) × (self.new.is_taken ≡ slice_set self.old.is_taken seat true)) }
+            (λ seat. (slice_get self.old.is_taken seat ≡ Some false)
+            × (self.new.is_taken ≡ slice_set self.old.is_taken seat true)) }
         // Those below it are taken, and where there is none, all are.
         ensures lowest { AreTaken (unwrap_or result 64) self.old.is_taken }
     {

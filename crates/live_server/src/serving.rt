@@ -24,8 +24,9 @@ pub struct Place<'a> {
     pub sessions: u64,
 }
 
-/// Takes connections at a place, tells there on the error stream where that is, and answers them as `serve_sessions` does, by a live meter
-/// of what was accepted, whose own steps come as lines. Lines that are no such steps are told on the error stream too.
+/// Takes connections at a place, tells there on the error stream where that is, and answers them as `serve_sessions` does, by a
+/// live meter of what was accepted, whose own steps come as lines. Lines that are no such steps are told on the error stream
+/// too.
 ///
 /// # Errors
 /// The place can't be bound, or as `serve_sessions`.

@@ -23,7 +23,6 @@ use std::alloc::Global;
 use std::io::{self, Read, Write};
 use std::marker::Brand;
 use std::net::{TcpListener, TcpStream};
-use std::sync::ledger::Ledger;
 use std::sync::{Mutex, Wait};
 use std::thread;
 use std::thread::Threads;
@@ -50,17 +49,15 @@ pub struct Driven<I: Read + Drop, F: Write + Drop> {
 /// # Errors
 /// The listening itself fails, memory was refused, a seat gave up at its gate, or the board had no port for a seat. The board
 /// has ended then.
-pub fn serve_sessions<N, S, C, W, R, I, F, G>(
+pub fn serve_sessions<N, W, R, I, F, G>(
     rt: &R,
     alloc: Global,
-    board: Board<N, S, C, W>,
+    board: Board<N, W>,
     service: Service<'_, G>,
     driven: Driven<I, F>,
 ) -> Result<Closed, ServerFault>
 where
     N: Naming + Send + Sync,
-    S: Ledger + Send + Sync,
-    C: Ledger + Send + Sync,
     W: Wait + Drop + Send + Sync,
     R: Threads + Wait + Sync,
     I: Read + Send + Drop,
@@ -88,17 +85,15 @@ where
 }
 
 /// Answers the connections, takes the driver's lines, and gives the shares of all seats.
-fn run_sessions<N, S, C, W, R, I, F, G>(
+fn run_sessions<N, W, R, I, F, G>(
     rt: &R,
     alloc: Global,
-    board: &Board<N, S, C, W>,
+    board: &Board<N, W>,
     service: Service<'_, G>,
     driven: Driven<I, F>,
-) -> Result<Vec<Share<S, C>>, ServerFault>
+) -> Result<Vec<Share<N>>, ServerFault>
 where
     N: Naming + Send + Sync,
-    S: Ledger + Send + Sync,
-    C: Ledger + Send + Sync,
     W: Wait + Drop + Send + Sync,
     R: Threads + Wait + Sync,
     I: Read + Send + Drop,
@@ -107,37 +102,76 @@ where
     ensures { IfErr result (λ fault. IsFaultBy G.may_give_up fault) }
 {
     let Driven { steps, faults } = driven;
-    let output = Mutex::new(faults);
     let lines = ByLine::new(alloc, steps).map_err(|_| ServerFault::Memory)?;
-    let notices = Notices::new(alloc, SharedOutput::new(rt, &output)).map_err(
+    run_lent(rt, alloc, board, &service, lines, &Mutex::new(faults))
+}
+
+/// The same, where the output of faults is lent: the driver and who takes the connections share it.
+fn run_lent<N, W, R, I, F, G>(
+    rt: &R,
+    alloc: Global,
+    board: &Board<N, W>,
+    service: &Service<'_, G>,
+    lines: ByLine<I>,
+    output: &Mutex<F>,
+) -> Result<Vec<Share<N>>, ServerFault>
+where
+    N: Naming + Send + Sync,
+    W: Wait + Drop + Send + Sync,
+    R: Threads + Wait + Sync,
+    I: Read + Send + Drop,
+    F: Write + Send + Drop,
+    G: Gate + Sync,
+    ensures { IfErr result (λ fault. IsFaultBy G.may_give_up fault) }
+{
+    let notices = Notices::new(alloc, SharedOutput::new(rt, output)).map_err(
         |_| ServerFault::Memory,
     )?;
     let driver = Driver::new(alloc, open_seat(rt, board)?, notices);
     let seats = open_seats(rt, alloc, board)?;
-    let taken = Mutex::new(Taken::new(service.gate));
-    let lent = seats.as_slice();
-    let shared = &taken;
-    let told = &output;
-    let (driver, ended) = thread::join(
-        rt,
-        move || drive(alloc, driver, lines),
-        || accept_all(rt, alloc, lent, shared, &service, told),
-    );
-    ended.map_err(|_| ServerFault::Listen)?;
-    taken.into_inner().ended()?;
+    let driver = run_threads(rt, alloc, service, driver, lines, seats.as_slice(), output)?;
     shares_of(alloc, driver.into_seat(), seats)
 }
 
-/// The driver takes its lines.
-fn drive<N, S, C, W, R, I, F>(
+/// Answers the connections at the seats while the driver takes its lines.
+fn run_threads<'b, N, W, R, I, F, G>(
+    rt: &'b R,
     alloc: Global,
-    mut driver: Driver<'_, N, S, C, W, R, F>,
+    service: &Service<'_, G>,
+    driver: Driver<'b, N, W, R, SharedOutput<'b, F, R>>,
+    lines: ByLine<I>,
+    seats: &[Mutex<PortAsker<'b, N, W, R>>],
+    output: &Mutex<F>,
+) -> Result<Driver<'b, N, W, R, SharedOutput<'b, F, R>>, ServerFault>
+where
+    N: Naming + Send + Sync,
+    W: Wait + Drop + Send + Sync,
+    R: Threads + Wait + Sync,
+    I: Read + Send + Drop,
+    F: Write + Send + Drop,
+    G: Gate + Sync,
+    ensures { IfErr result (λ fault. IsFaultBy G.may_give_up fault) }
+{
+    let taken = Mutex::new(Taken::new(service.gate));
+    let shared = &taken;
+    let (driver, ended) = thread::join(
+        rt,
+        move || drive(alloc, driver, lines),
+        || accept_all(rt, alloc, seats, shared, service, output),
+    );
+    ended.map_err(|_| ServerFault::Listen)?;
+    taken.into_inner().ended()?;
+    Ok(driver)
+}
+
+/// The driver takes its lines.
+fn drive<N, W, R, I, F>(
+    alloc: Global,
+    mut driver: Driver<'_, N, W, R, F>,
     mut lines: ByLine<I>,
-) -> Driver<'_, N, S, C, W, R, F>
+) -> Driver<'_, N, W, R, F>
 where
     N: Naming,
-    S: Ledger,
-    C: Ledger,
     W: Wait + Drop,
     R: Wait,
     I: Read + Drop,
@@ -149,18 +183,16 @@ where
 
 /// Takes connections until there were so many, or the listening fails, and waits for their threads. One that can't be taken is
 /// told and passed over, and doesn't count.
-fn accept_all<'g, N, S, C, W, R, G, F>(
+fn accept_all<'g, N, W, R, G, F>(
     rt: &R,
     alloc: Global,
-    seats: &[Mutex<PortAsker<'_, N, S, C, W, R>>],
+    seats: &[Mutex<PortAsker<'_, N, W, R>>],
     taken: &Mutex<Taken<'g, G>>,
     service: &Service<'g, G>,
     output: &Mutex<F>,
 ) -> io::Result<()>
 where
     N: Naming + Send + Sync,
-    S: Ledger + Send + Sync,
-    C: Ledger + Send + Sync,
     W: Wait + Drop + Send + Sync,
     R: Threads + Wait + Sync,
     G: Gate + Sync,
@@ -170,7 +202,7 @@ where
         thread::scope_env(),
         rt,
         move |scope| -> io::Result<()>
-            requires send { IsSend N.row × IsSend S.row × IsSend C.row × IsSend W.row }
+            requires send { IsSend N.row × IsSend W.row }
             requires sync { IsSync R.row × IsSync G.row }
         {
             let mut untaken = Untaken::new(SharedOutput::new(rt, output));
@@ -209,11 +241,11 @@ where
 }
 
 /// One connection at a seat, which is free again afterwards. What ends the connection is no fault of the others.
-fn sit<'g, N: Naming, S: Ledger, C: Ledger, W: Wait + Drop, R: Wait, G: Gate>(
+fn sit<'g, N: Naming, W: Wait + Drop, R: Wait, G: Gate>(
     rt: &R,
     alloc: Global,
     stream: &TcpStream,
-    asker: &Mutex<PortAsker<'_, N, S, C, W, R>>,
+    asker: &Mutex<PortAsker<'_, N, W, R>>,
     taken: &Mutex<Taken<'g, G>>,
     number: usize,
     gate: &'g G,
@@ -239,11 +271,11 @@ fn is_given_up(fault: ServeFault) -> bool
 }
 
 /// The frames of one connection, answered at a seat.
-fn converse<N: Naming, S: Ledger, C: Ledger, W: Wait + Drop, R: Wait, G: Gate>(
+fn converse<N: Naming, W: Wait + Drop, R: Wait, G: Gate>(
     rt: &R,
     alloc: Global,
     stream: &TcpStream,
-    asker: &Mutex<PortAsker<'_, N, S, C, W, R>>,
+    asker: &Mutex<PortAsker<'_, N, W, R>>,
     seat: &Seat<'_, G>,
 ) -> Result<u64, ServeFault>
     ensures { result ≡ Err ServeFault.GaveUp → G.may_give_up seat.now.gate.now seat.now.number }
@@ -277,13 +309,11 @@ where
     ensures fault { IfErr result (λ fault. IsFaultBy G.may_give_up fault) }
 {
     let blanks = Blanks::new();
-    open_and_serve::<Brand, Brand, Brand, &R, R, I, F, G>(
-        rt, rt, alloc, checked, blanks, service, driven,
-    )
+    open_and_serve::<Brand, &R, R, I, F, G>(rt, rt, alloc, checked, blanks, service, driven)
 }
 
 /// The same, with what names the board.
-fn open_and_serve<N, S, C, W, R, I, F, G>(
+fn open_and_serve<N, W, R, I, F, G>(
     rt: &R,
     keep: W,
     alloc: Global,
@@ -294,8 +324,6 @@ fn open_and_serve<N, S, C, W, R, I, F, G>(
 ) -> Result<Closed, ServerFault>
 where
     N: Naming + Send + Sync,
-    S: Ledger + Send + Sync,
-    C: Ledger + Send + Sync,
     W: Wait + Drop + Send + Sync,
     R: Threads + Wait + Sync,
     I: Read + Send + Drop,
@@ -303,13 +331,13 @@ where
     G: Gate + Sync,
     requires plan { checked ≡ N.accepted }
     requires book { blanks.history ≡ N.book }
-    requires steps { (blanks.steps.name ≡ S.name) × (S.parts ≡ 256) }
-    requires changes { (blanks.changes.name ≡ C.name) × (C.parts ≡ 256) }
+    requires steps { blanks.steps.name ≡ N.steps }
+    requires changes { blanks.changes.name ≡ N.changes }
     ensures plan { IfOk result (λ closed. closed.plan ≡ checked) }
     ensures meter { IfOk result (λ closed. IsState checked.plan closed.meter) }
     ensures fault { IfErr result (λ fault. IsFaultBy G.may_give_up fault) }
 {
-    match Board::<N, S, C, W>::open(keep, alloc, checked, blanks) {
+    match Board::<N, W>::open(keep, alloc, checked, blanks) {
         Ok(board) => serve_sessions(rt, alloc, board, service, driven),
         Err(_) => Err(ServerFault::Memory),
     }

@@ -11,6 +11,6 @@ use Rattle.live_server.proofs.sessions.fn.accept_all.scope.Goals as goal
 pub spawn-requires-send-F : goal.spawn-requires-send-F
 spawn-requires-send-F g c κs within =
     let b = c.requires in param_send 1 _ (arg_send _ no _ (seven_send _ _ _ _ _ _ _ _
-    (shr_send _ _ (param 4 g.row.R) b.sync.0) send streams.the_send
-    (shr_send _ _ _ (seat_sync (param 0 g.row.N) (param 1 g.row.S) (param 2 g.row.C) (param 3 g.row.W) g.N.Naming g.S.Ledger g.C.Ledger b.send.0 b.send.1 b.send.2 b.send.3 _ (param 4 g.row.R) b.sync.0))
-    (shr_send _ _ _ (taken_sync _ (param 5 g.row.G) g.G.Gate b.sync.1)) number_send (shr_send _ _ (param 5 g.row.G) b.sync.1)))
+    (shr_send _ _ (param 2 g.row.R) b.sync.0) send streams.the_send
+    (shr_send _ _ _ (seat_sync (param 0 g.row.N) (param 1 g.row.W) g.N.Naming b.send.0 b.send.1 _ (param 2 g.row.R) b.sync.0))
+    (shr_send _ _ _ (taken_sync _ (param 3 g.row.G) g.G.Gate b.sync.1)) number_send (shr_send _ _ (param 3 g.row.G) b.sync.1)))
