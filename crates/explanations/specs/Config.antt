@@ -67,9 +67,13 @@ no_toml_at file place message = concat (
 abbrev pub no_toml : List ℕ → List ℕ → List ℕ → List ℕ
 no_toml file before message = no_toml_at file (place_behind 1 1 before) message
 
--- the explanation tells some place of the text, and something that the reader of TOML says of it (own profile)
+-- the explanation tells this place of the text, and something that the reader of TOML says of it (own profile)
+abbrev pub TellsStop : List ℕ → List ℕ → ℕ → List ℕ → Type 0
+TellsStop file text start explanation = (message : List ℕ) × (start ≤ length text) × (explanation ≡ no_toml file (take start text) message)
+
+-- it tells some place of the text (own profile)
 abbrev pub TellsNoToml : List ℕ → List ℕ → List ℕ → Type 0
-TellsNoToml file text explanation = (start : ℕ) × (message : List ℕ) × (start ≤ length text) × (explanation ≡ no_toml file (take start text) message)
+TellsNoToml file text explanation = (start : ℕ) × TellsStop file text start explanation
 
 -- what is told of want of memory (own profile)
 abbrev pub no_memory : List ℕ → List ℕ

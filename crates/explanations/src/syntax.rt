@@ -1,8 +1,8 @@
 //! What is told of a text that isn't TOML (own profile).
 ghost use Rattle.std.specs.Prelude.{◌≡◌, IfOk, string_bytes};
-ghost use Rattle.toml.specs.Errors.{IsMemory, IsWithin};
+ghost use Rattle.toml.specs.Errors.{IsMemory, IsWithin, span_start};
 ghost use Rattle.explanations.specs.Config as spec;
-ghost use Rattle.explanations.specs.Config.{TellsNoToml, place_behind};
+ghost use Rattle.explanations.specs.Config.{TellsStop, place_behind};
 
 use crate::printable::printable_text;
 use cosem_data::memory::Memory;
@@ -62,7 +62,7 @@ pub(crate) fn explain_no_toml(
 ) -> Result<String, Memory>
     requires { IsWithin text.now error.now }
     ensures { IfOk result (λ told. ¬ IsMemory error.now
-        × TellsNoToml file.now text.now (string_bytes told)) }
+        × TellsStop file.now text.now (span_start error.now) (string_bytes told)) }
 {
     match error.span() {
         Some(span) => no_toml(alloc, file, &text.as_bytes()[..span.start], error.message()),

@@ -11,5 +11,5 @@ returns-in-Some c =
     let text = c.args.text.now in
     let within : start ≤ length text = omega (arith, c.in-Some.ensures.range, c.requires) in
     IfOk-weaker c.no_toml.result _ _
-    (λ x is. (λ memory. true≢false (c.in-Some.ensures.none.1 memory), (start, message, within, is ∙ ap (λ bytes. no_toml c.args.file.now (take start bytes) message) c.as_bytes.ensures.value)))
+    (λ x is. (λ memory. true≢false (c.in-Some.ensures.none.1 memory), rw (← c.in-Some.ensures.range.0) (message, within, is ∙ ap (λ bytes. no_toml c.args.file.now (take start bytes) message) c.as_bytes.ensures.value)))
     c.no_toml.ensures
