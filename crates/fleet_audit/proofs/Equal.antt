@@ -35,7 +35,7 @@ use Rattle.label_certificate.proofs.Members.{same_members}
 use Rattle.flow_checker.specs.Answer.{IsRefusedAs, IsToldAs, name_at}
 use Rattle.flow_checker.specs.declared.check.Refused.{Refused as RefusedTold}
 use Rattle.flow_checker.specs.declared.check.Refused.TheVariants as told
-use Rattle.fleet_audit.specs.declared.fleet.Text.{Text}
+use Rattle.fleet_audit.specs.declared.text.Text.{Text}
 use Rattle.verdict.specs.declared.Verdict.{Verdict}
 use Rattle.verdict.specs.declared.Verdict.TheVariants.{Accepted, Config, Labels, Refused}
 use Rattle.verdict.specs.Judging.{IsVerdict, IsVerdictOn}

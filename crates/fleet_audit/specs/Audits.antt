@@ -2,7 +2,7 @@
 use Rattle.std.specs.Prelude.{List, string_bytes}
 use Rattle.std.specs.List.{AllZip}
 use Rattle.config_reader.specs.ConfigOf.{config_of}
-use Rattle.fleet_audit.specs.declared.fleet.Text.{Text}
+use Rattle.fleet_audit.specs.declared.text.Text.{Text}
 use Rattle.verdict.specs.declared.Verdict.{Verdict}
 use Rattle.verdict.specs.Judging.{IsVerdict}
 

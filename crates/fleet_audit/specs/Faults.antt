@@ -1,7 +1,7 @@
 -- What is said of an audit that ended early.
 use Rattle.std.specs.Prelude.{ℕ, List, codes}
-use Rattle.fleet_audit.specs.declared.fleet.AuditFault.{AuditFault}
-use Rattle.fleet_audit.specs.declared.fleet.AuditFault.TheVariants as faults
+use Rattle.fleet_audit.specs.declared.fault.AuditFault.{AuditFault}
+use Rattle.fleet_audit.specs.declared.fault.AuditFault.TheVariants as faults
 
 -- what is said of a fault (own profile)
 abbrev pub fault_words : AuditFault → List ℕ

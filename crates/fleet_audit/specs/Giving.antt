@@ -1,7 +1,7 @@
 -- Where a gate gave up.
 use Rattle.std.specs.Prelude.{◌≡◌, ℕ, ◌<◌, List, Some, slice_get, Result, Err}
-use Rattle.fleet_audit.specs.declared.fleet.AuditFault.{AuditFault}
-use Rattle.fleet_audit.specs.declared.fleet.AuditFault.TheVariants as faults
+use Rattle.fleet_audit.specs.declared.fault.AuditFault.{AuditFault}
+use Rattle.fleet_audit.specs.declared.fault.AuditFault.TheVariants as faults
 
 -- what a fault says of a gate and so many seats: where the gate gave up, it may do so at one of them (own profile)
 abbrev pub IsFaultAt : (ℕ → Type 0) → ℕ → AuditFault → Type 0

@@ -4,7 +4,7 @@ use Rattle.std.specs.List.{AllZip, list_any}
 use Rattle.config_text.specs.declared.fault.ConfigFault.TheVariants as config
 use Rattle.label_certificate.specs.declared.fault.LabelFault.TheVariants as labels
 use Rattle.flow_checker.specs.declared.check.Refused.TheVariants as refusals
-use Rattle.fleet_audit.specs.declared.fleet.Text.{Text}
+use Rattle.fleet_audit.specs.declared.text.Text.{Text}
 use Rattle.verdict.specs.declared.Verdict.{Verdict}
 use Rattle.verdict.specs.declared.Verdict.TheVariants.{Config, Labels, Refused}
 use Rattle.fleet_audit.specs.Audits.{Audits}

@@ -1,9 +1,11 @@
 //! The verdicts on a fleet of configurations, by many workers.
-ghost use Rattle.std.specs.Prelude.{◌≡◌, ◌<◌, ◌≤◌, IfErr, IfOk, MatchResult, length};
+ghost use Rattle.std.specs.Prelude.{◌<◌, ◌≤◌, IfErr, IfOk, MatchResult, length};
 ghost use Rattle.fleet_audit.specs.Audits.{Audits};
 ghost use Rattle.fleet_audit.specs.Giving.{IsFaultAt};
 ghost use Rattle.fleet_audit.specs.Turns.{every};
 
+pub use crate::fault::AuditFault;
+pub use crate::text::Text;
 use crate::threads::in_threads;
 use crate::turns::{all_done, in_turn};
 use crate::watch::{Unwatched, Watch};
@@ -11,39 +13,7 @@ use crate::worker::work;
 use gates::Gate;
 use std::num::NonZeroUsize;
 use std::thread::Threads;
-use thiserror::Error;
 use verdict::Verdict;
-
-/// A configuration and labels for it, as texts.
-#[derive(Debug, Drop)]
-pub struct Text {
-    pub config: String,
-    pub labels: String,
-}
-
-/// Why an audit ended early (own profile).
-#[derive(Clone, Copy, Debug, PartialEq, Eq, Drop, Error)]
-#[error("{}", self.words())]
-pub enum AuditFault {
-    /// 1: memory was refused for the list of verdicts. Where it is refused in a judgement, the verdict says so.
-    Memory,
-    /// 2: the gate gave up.
-    GaveUp,
-}
-
-impl AuditFault {
-    ghost use Rattle.fleet_audit.specs.Faults.{fault_words};
-
-    /// The fault as it is told (own profile).
-    pub fn words(self) -> &'static str
-        ensures { result.now ≡ fault_words self }
-    {
-        match self {
-            AuditFault::Memory => "out of memory",
-            AuditFault::GaveUp => "the gate gave up",
-        }
-    }
-}
 
 /// The verdicts on texts, in their order, by so many workers (own profile): worker w, counted from 0, judges the texts w,
 /// w + workers and so on: worker 0, who has as many texts as any other, in the caller's thread, and each other in one of its

@@ -6,8 +6,10 @@
 //! - [`laws`] has the law that lists of verdicts may be cut and joined, and that one text has one verdict.
 #![tactic(auto)]
 
+pub mod fault;
 pub mod fleet;
 pub mod laws;
+pub mod text;
 pub mod threads;
 mod turns;
 pub mod watch;

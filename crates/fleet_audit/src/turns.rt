@@ -1,11 +1,11 @@
 //! The verdicts of many workers, one from each in turn.
 ghost use Rattle.std.specs.Prelude.{◌≡◌, IfErr, IfOk, IsOkAnd, map};
 ghost use Rattle.std.specs.List.{AllZip};
-ghost use Rattle.fleet_audit.specs.declared.fleet.AuditFault.TheVariants.{Memory};
+ghost use Rattle.fleet_audit.specs.declared.fault.AuditFault.TheVariants.{Memory};
 ghost use Rattle.fleet_audit.specs.Giving.{IsFaultOf};
 ghost use Rattle.fleet_audit.specs.Turns.{turns};
 
-use crate::fleet::AuditFault;
+use crate::fault::AuditFault;
 use std::alloc::Global;
 use std::collections::VecDeque;
 use verdict::Verdict;

@@ -4,7 +4,8 @@ ghost use Rattle.fleet_audit.specs.Audits.{Audits, IsVerdictOf};
 ghost use Rattle.fleet_audit.specs.Giving.{IsFaultAt};
 ghost use Rattle.fleet_audit.specs.Turns.{every};
 
-use crate::fleet::{AuditFault, Text};
+use crate::fault::AuditFault;
+use crate::text::Text;
 use crate::watch::Watch;
 use gates::{Gate, Go};
 use std::alloc::Global;

@@ -11,7 +11,7 @@ use Rattle.meter_server.specs.Program.{IsJudged}
 use Rattle.meter_server.specs.Reading.{MayRead}
 use Rattle.meter_server.specs.declared.outcome.Outcome.{Outcome}
 use Rattle.meter_server.specs.declared.outcome.Outcome.TheVariants.{Done, Judged, Words, Unread, Stranger, Fault, Broken, Unserved, Audited, Unaudited, Unwritten, Untranslated, Closed}
-use Rattle.meter_server.specs.declared.program.Source.{Source}
+use Rattle.meter_server.specs.declared.texts.Source.{Source}
 
 -- a file that was read, as a source
 pub file-read : (reads : MayRead) (path text : List ℕ) (source : Source) → source.file.now ≡ path → source.text.now ≡ text → reads path (Ok text) → IsFile reads path source

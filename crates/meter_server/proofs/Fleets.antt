@@ -8,7 +8,7 @@ use Rattle.std.proofs.lemmas.Slice.Zip.{all_zipped_more}
 use mathlib.Core.Logic.{⊎_elim}
 use native.Mathlib.Nat.{add-mul, one-mul, suc-mul}
 use denote.Ref.{Bor}
-use Rattle.fleet_audit.specs.declared.fleet.Text.{Text}
+use Rattle.fleet_audit.specs.declared.text.Text.{Text}
 use Rattle.fleet_audit.proofs.Joined.{joined}
 use Rattle.meter_server.specs.declared.reading.FleetFault.{FleetFault}
 use Rattle.meter_server.specs.declared.reading.FleetFault.TheVariants.{Unread, Memory}

@@ -12,7 +12,7 @@ use Rattle.line_server.specs.Lines.{Moment}
 use Rattle.line_server.specs.Running.{RunsLines}
 use Rattle.meter_server.specs.Outcomes.{outcome_of}
 use Rattle.meter_server.specs.Program.{AnswersText}
-use Rattle.meter_server.specs.declared.program.Source.{Source}
+use Rattle.meter_server.specs.declared.texts.Source.{Source}
 
 -- what was read is what the text says
 pub said-of : (made : Plan × Policy) (said : Result ConfigText ConfigFault) → Reads (Ok made) said → (c : ConfigText) × (said ≡ Ok c) × (made.0 ≡ plan_of c) × IsPolicyOf c made.1

@@ -13,8 +13,8 @@ use Rattle.config_text.specs.Parts.{ConfigText}
 use Rattle.config_text.specs.declared.fault.ConfigFault.{ConfigFault}
 use Rattle.explanations.specs.declared.file.FileFault.{FileFault}
 use Rattle.verdict.specs.Judging.{IsVerdict}
-use Rattle.fleet_audit.specs.declared.fleet.AuditFault.TheVariants as audits
-use Rattle.fleet_audit.specs.declared.fleet.Text.{Text}
+use Rattle.fleet_audit.specs.declared.fault.AuditFault.TheVariants as audits
+use Rattle.fleet_audit.specs.declared.text.Text.{Text}
 use Rattle.verdict.specs.declared.Verdict.{Verdict}
 use Rattle.verdict.specs.declared.Verdict.TheVariants.{Accepted}
 use Rattle.flow_checker.specs.declared.check.Checked.{Checked}
@@ -35,7 +35,7 @@ use Rattle.meter_server.specs.declared.listing.ListFault.{ListFault}
 use Rattle.meter_server.specs.declared.listing.ListFault.TheVariants as lists
 use Rattle.meter_server.specs.declared.outcome.Outcome.{Outcome}
 use Rattle.meter_server.specs.declared.outcome.Outcome.TheVariants.{Done, Judged, Words, Unread, Fault, Unaudited, Unserved}
-use Rattle.meter_server.specs.declared.program.Source.{Source}
+use Rattle.meter_server.specs.declared.texts.Source.{Source}
 use Rattle.meter_server.specs.declared.reading.FleetFault.{FleetFault}
 use Rattle.meter_server.specs.declared.reading.FleetFault.TheVariants as fleets
 use Rattle.meter_server.specs.declared.translating.TranslationFault.{TranslationFault}

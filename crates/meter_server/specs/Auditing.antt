@@ -3,8 +3,8 @@ use Rattle.std.specs.Prelude.{◌≡◌, ℕ, List, [], ◌∷◌, ◌++◌, Boo
 use Rattle.std.specs.List.{list_all}
 use Rattle.fleet_audit.specs.Audits.{Audits}
 use Rattle.verdict.specs.Lines.{verdict_line}
-use Rattle.fleet_audit.specs.declared.fleet.AuditFault.TheVariants as faults
-use Rattle.fleet_audit.specs.declared.fleet.Text.{Text}
+use Rattle.fleet_audit.specs.declared.fault.AuditFault.TheVariants as faults
+use Rattle.fleet_audit.specs.declared.text.Text.{Text}
 use Rattle.verdict.specs.declared.Verdict.{Verdict}
 use Rattle.verdict.specs.declared.Verdict.TheVariants.{Accepted}
 use Rattle.meter_server.specs.declared.outcome.Outcome.{Outcome}

@@ -11,7 +11,7 @@ use Rattle.line_server.specs.Lines.{Moment}
 use Rattle.meter_server.specs.Program.{ExplainsFault, IsTold}
 use Rattle.meter_server.specs.declared.outcome.Outcome.{Outcome}
 use Rattle.meter_server.specs.declared.outcome.Outcome.TheVariants.{Done, Judged, Broken}
-use Rattle.meter_server.specs.declared.program.Source.{Source}
+use Rattle.meter_server.specs.declared.texts.Source.{Source}
 use Rattle.verdict.specs.declared.Verdict.TheVariants.{Config}
 
 -- a connection to a meter alone, with what is unread and what is written

@@ -21,7 +21,7 @@ use Rattle.line_server.specs.Running.{RunsLines}
 use Rattle.meter_server.specs.declared.listing.ListFault.{ListFault}
 use Rattle.meter_server.specs.declared.outcome.Outcome.{Outcome}
 use Rattle.meter_server.specs.declared.outcome.Outcome.TheVariants.{Done, Judged, Words, Fault, Unwritten}
-use Rattle.meter_server.specs.declared.program.Source.{Source}
+use Rattle.meter_server.specs.declared.texts.Source.{Source}
 use Rattle.verdict.specs.declared.Verdict.{Verdict}
 use Rattle.verdict.specs.declared.Verdict.TheVariants.{Accepted, Config, Labels, Refused}
 

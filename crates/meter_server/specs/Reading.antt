@@ -2,7 +2,7 @@
 use Rattle.std.specs.Prelude.{◌≡◌, ℕ, ◌*◌, List, ◌∷◌, ◌++◌, ◌⊎◌, take, drop, codes, string_bytes, Result, Ok, Err}
 use Rattle.std.specs.List.{AllZip}
 use Rattle.explanations.specs.declared.file.FileFault.{FileFault}
-use Rattle.fleet_audit.specs.declared.fleet.Text.{Text}
+use Rattle.fleet_audit.specs.declared.text.Text.{Text}
 use Rattle.meter_server.specs.declared.reading.FleetFault.{FleetFault}
 use Rattle.meter_server.specs.declared.reading.FleetFault.TheVariants.{Unread, Memory}
 

@@ -9,13 +9,12 @@ use crate::auditing::{audit_texts, audit_texts_aloud};
 use crate::demo::DEMO;
 use crate::files::TextFiles;
 use crate::noticing::{Look, notice_lines};
-use crate::outcome::Outcome;
-use crate::program::{
-    Source, answer_aloud, answer_frames, answer_text, ended, faulty, judged, list_edges,
-    list_labels, translated,
-};
+use crate::outcome::{Outcome, ended, translated};
 use crate::reading::{FleetFault, read_fleet};
 use crate::sources::{Sources, is_either_input, is_input};
+use crate::texts::{
+    Source, answer_aloud, answer_frames, answer_text, faulty, judged, list_edges, list_labels,
+};
 use crate::translating::{Way, translate};
 use command_words::Command;
 use config_reader::read_config;

@@ -4,7 +4,7 @@ ghost use Rattle.std.specs.List.{list_all};
 ghost use Rattle.meter_server.specs.Auditing as spec;
 ghost use Rattle.meter_server.specs.Auditing.{AuditsTexts, named_line, verdicts_text};
 
-use crate::outcome::Outcome;
+use crate::outcome::{Outcome, is_accepted};
 use crate::progress::Progress;
 use cosem_data::memory::Memory;
 use fleet_audit::fleet::{AuditFault, Text, audit_watched};
@@ -73,16 +73,6 @@ fn audited(alloc: Global, names: &[&str], verdicts: &[Verdict]) -> Outcome
             is_accepted: verdicts.iter().all(is_accepted),
         },
         Err(_) => Outcome::Unaudited(AuditFault::Memory),
-    }
-}
-
-/// Whether the verdict accepts.
-pub(crate) fn is_accepted(verdict: &Verdict) -> bool
-    ensures { result ≡ spec.is_accepted verdict.now }
-{
-    match verdict {
-        Verdict::Accepted => true,
-        Verdict::Config(_) | Verdict::Labels(_) | Verdict::Refused(_) => false,
     }
 }
 

@@ -15,6 +15,7 @@ pub mod program;
 pub mod progress;
 pub mod reading;
 mod sources;
+mod texts;
 pub mod translating;
 
 pub use command_words::{Command as Line, WordsFault, read_words};

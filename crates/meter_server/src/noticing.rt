@@ -4,8 +4,7 @@ ghost use Rattle.meter_theory.specs.Plan.{client_named};
 ghost use Rattle.meter_server.specs.Noticing as spec;
 ghost use Rattle.meter_server.specs.Noticing.{NoticesAs, TellsStranger};
 
-use crate::outcome::Outcome;
-use crate::program::outcome_of;
+use crate::outcome::{Outcome, outcome_of};
 use cosem_data::memory::Memory;
 use explanations::printable::printable_text;
 use flow_checker::check::Checked;

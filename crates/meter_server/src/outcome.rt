@@ -1,5 +1,6 @@
 //! How a command ended, and what is told of it (own profile).
 ghost use Rattle.std.specs.Prelude.{◌≡◌, IfOk, string_bytes};
+ghost use Rattle.meter_server.specs.Auditing as audits;
 ghost use Rattle.meter_server.specs.Outcomes as outcomes;
 ghost use Rattle.meter_server.specs.Outcomes.{error_of, line, output_of, status_of, unread_line};
 
@@ -13,6 +14,7 @@ use fleet_audit::fleet::AuditFault;
 use frame_server::fault::ServeFault;
 use line_server::fault::LineFault;
 use live_server::fault::ServerFault;
+use meter_live::board::Closed;
 use std::alloc::Global;
 use verdict::{Verdict, verdict_text};
 
@@ -152,4 +154,64 @@ fn unread_text(alloc: Global, file: &str, why: FileFault) -> Result<String, Memo
     let file = printable_text(alloc, file)?;
     let why = why.told(alloc)?;
     Ok(format!(in alloc; "cosem-flow: {file}: {why}\n")?)
+}
+
+/// How a command ended whose lines were answered so.
+pub fn outcome_of(answer: Result<u64, LineFault>) -> Outcome
+    ensures { result ≡ outcomes.outcome_of answer }
+{
+    match answer {
+        Ok(_) => Outcome::Done,
+        Err(fault) => Outcome::Fault(fault),
+    }
+}
+
+/// How a command ended whose connection was served so.
+pub fn served(answer: Result<u64, ServeFault>) -> Outcome
+    ensures { result ≡ outcomes.served answer }
+{
+    match answer {
+        Ok(_) => Outcome::Done,
+        Err(fault) => Outcome::Broken(fault),
+    }
+}
+
+/// How a command ended whose live meter ended so.
+pub fn ended(answer: Result<Closed, ServerFault>) -> Outcome
+    ensures { result ≡ outcomes.ended answer }
+{
+    match answer {
+        Ok(_) => Outcome::Done,
+        Err(fault) => Outcome::Unserved(fault),
+    }
+}
+
+/// How a command ended whose input was translated so.
+pub fn translated(answer: Result<(), TranslationFault>) -> Outcome
+    ensures { result ≡ outcomes.translated answer }
+{
+    match answer {
+        Ok(_) => Outcome::Done,
+        Err(fault) => Outcome::Untranslated(fault),
+    }
+}
+
+/// How a command ended whose list was written so.
+pub fn listed(answer: Result<(), ListFault>) -> Outcome
+    ensures { result ≡ outcomes.listed answer }
+{
+    match answer {
+        Ok(()) => Outcome::Done,
+        Err(fault) => Outcome::Unwritten(fault),
+    }
+}
+
+/// Whether the verdict accepts.
+pub(crate) fn is_accepted(verdict: &Verdict) -> bool
+    ensures { result ≡ audits.is_accepted verdict.now }
+{
+    match verdict {
+        Verdict::Accepted => true,
+        Verdict::Config(_) | Verdict::Labels(_) | Verdict::Refused(_) => false,
+    }
 }

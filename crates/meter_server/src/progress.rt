@@ -1,7 +1,7 @@
 //! How far an audit is, told in a line that is written over and over while the audit goes on (own profile).
 ghost use Rattle.std.specs.Prelude.{◌≡◌};
 
-use crate::auditing::is_accepted;
+use crate::outcome::is_accepted;
 use fleet_audit::watch::Watch;
 use std::alloc::Global;
 use std::fmt;

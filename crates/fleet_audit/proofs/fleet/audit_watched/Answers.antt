@@ -1,7 +1,7 @@
 use Rattle.std.proofs.Common.{◌≡◌, ℕ, ◌+◌, ◌<◌, List, length, map, get_or, sym, subst, arith, Result, IfOk, MatchResult, Vec, Global}
-use Rattle.fleet_audit.specs.declared.fleet.AuditFault.{AuditFault}
-use Rattle.fleet_audit.specs.declared.fleet.AuditFault.TheVariants.{Memory}
-use Rattle.fleet_audit.specs.declared.fleet.Text.{Text}
+use Rattle.fleet_audit.specs.declared.fault.AuditFault.{AuditFault}
+use Rattle.fleet_audit.specs.declared.fault.AuditFault.TheVariants.{Memory}
+use Rattle.fleet_audit.specs.declared.text.Text.{Text}
 use Rattle.verdict.specs.declared.Verdict.{Verdict}
 use Rattle.fleet_audit.specs.Audits.{Audits, IsVerdictOf}
 use Rattle.fleet_audit.specs.Giving.{IsFaultAt}

@@ -2,7 +2,7 @@ use Rattle.std.proofs.Common.{codes, refl, subst, option_map, string_bytes}
 use Rattle.meter_server.specs.Answering.{JudgesFiles}
 use Rattle.meter_server.specs.Sources.{MayGive, ReadsWhere, given_of}
 use Rattle.meter_server.specs.declared.demo.TheConstants.{DEMO}
-use Rattle.meter_server.specs.declared.program.Source.{Source}
+use Rattle.meter_server.specs.declared.texts.Source.{Source}
 use Rattle.meter_server.proofs.answering.answer.Goals as goal
 
 -- the text of the demo, under the name of its file

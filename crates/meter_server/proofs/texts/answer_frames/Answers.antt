@@ -8,9 +8,9 @@ use Rattle.frame_server.specs.declared.fault.ServeFault.{ServeFault}
 use Rattle.meter_server.specs.Connecting.{AnswersFrames, ServesAlone}
 use Rattle.line_server.specs.Lines.{Moment}
 use Rattle.meter_server.specs.Outcomes.{served}
-use Rattle.meter_server.specs.declared.program.Source.{Source}
+use Rattle.meter_server.specs.declared.texts.Source.{Source}
 use Rattle.meter_server.proofs.Made.{said-of}
-use Rattle.meter_server.proofs.program.answer_frames.Goals as goal
+use Rattle.meter_server.proofs.texts.answer_frames.Goals as goal
 
 -- a connection to a meter of what the text says
 answers : (config : Source) (made : Plan × Policy) (said : Result ConfigText ConfigFault) (before after : Moment) (r : Result ℕ ServeFault) → Reads (Ok made) said → ServesAlone made.0 before after r

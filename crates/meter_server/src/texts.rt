@@ -1,0 +1,173 @@
+//! What commands do by the texts of their files: lines and frames are answered by a configuration, lists are written, a verdict is
+//! explained (own profile).
+ghost use Rattle.std.specs.Prelude.{◌≡◌, IfOk, string_bytes};
+ghost use Rattle.config_reader.specs.ConfigOf.{config_of};
+ghost use Rattle.meter_server.specs.Connecting.{AnswersFrames};
+ghost use Rattle.line_server.specs.Running.{RunsLines};
+ghost use Rattle.meter_server.specs.Program.{AnswersText, ExplainsVerdict, IsFaulty, IsJudged, ListsEdges, ListsLabels};
+
+use crate::connecting::serve_alone;
+use crate::listing::{write_edges, write_least_labels};
+use crate::outcome::{Outcome, listed, outcome_of, served};
+use config_reader::read_config;
+use config_text::fault::ConfigFault;
+use cosem_data::memory::Memory;
+use explanations::config::explain_config;
+use explanations::labels::explain_labels;
+use explanations::refusal::explain_refusal;
+use line_server::fault::LineFault;
+use line_server::running::run_lines;
+use line_words::watching::{Watched, run_watched};
+use object_model::plan::Plan;
+use std::alloc::Global;
+use std::io::{Read, Write};
+use verdict::Verdict;
+
+/// A file by its path, with its text.
+#[derive(Clone, Copy, Debug)]
+pub(crate) struct Source<'a> {
+    pub file: &'a str,
+    pub text: &'a str,
+}
+
+/// Answers the lines of the input by a configuration, on the output, and says how that ended: `Done`, a fault of the run, or the
+/// verdict where the configuration has a fault or memory was refused while it was read; then nothing was read of the input, and
+/// nothing written.
+pub(crate) fn answer_text<I: Read, O: Write>(
+    alloc: Global,
+    config: Source<'_>,
+    input: &mut I,
+    output: &mut O,
+) -> Outcome
+    ensures { AnswersText config.entry (config_of config.entry.text.now)
+        (record { unread = I.remaining input.old; written = O.contents output.old })
+        (record { unread = I.remaining input.new; written = O.contents output.new }) result }
+{
+    match read_config(alloc, config.text) {
+        Ok((plan, _policy)) => outcome_of(run_lines(alloc, &plan, input, output)),
+        Err(fault) => faulty(alloc, config, fault),
+    }
+}
+
+/// Answers the frames of the input, those of one connection, by a configuration, on the output, and says how that ended: `Done`, a
+/// fault of the connection, or the verdict where the configuration has a fault or memory was refused while it was read; then nothing
+/// was read of the input, and nothing written.
+pub(crate) fn answer_frames<I: Read, O: Write>(
+    alloc: Global,
+    config: Source<'_>,
+    input: &mut I,
+    output: &mut O,
+) -> Outcome
+    ensures { AnswersFrames config.entry (config_of config.entry.text.now)
+        (record { unread = I.remaining input.old; written = O.contents output.old })
+        (record { unread = I.remaining input.new; written = O.contents output.new }) result }
+{
+    match read_config(alloc, config.text) {
+        Ok((plan, _policy)) => served(serve_alone(alloc, &plan, input, output)),
+        Err(fault) => faulty(alloc, config, fault),
+    }
+}
+
+/// Answers the lines of the input by a configuration as `answer_text` does, and tells of each on the error stream, once it is
+/// answered: what it asked, what was answered and what changed, in words.
+pub(crate) fn answer_aloud<I: Read, O: Write, E: Write>(
+    alloc: Global,
+    config: Source<'_>,
+    input: &mut I,
+    output: &mut O,
+    errors: &mut E,
+) -> Outcome
+    ensures { AnswersText config.entry (config_of config.entry.text.now)
+        (record { unread = I.remaining input.old; written = O.contents output.old })
+        (record { unread = I.remaining input.new; written = O.contents output.new }) result }
+{
+    match read_config(alloc, config.text) {
+        Ok((plan, _policy)) => outcome_of(run_aloud(alloc, &plan, input, output, errors)),
+        Err(fault) => faulty(alloc, config, fault),
+    }
+}
+
+/// Answers the lines of the input by a meter of the plan that begins at its start, and tells of each on the error stream.
+fn run_aloud<I: Read, O: Write, E: Write>(
+    alloc: Global,
+    plan: &Plan,
+    input: &mut I,
+    output: &mut O,
+    errors: &mut E,
+) -> Result<u64, LineFault>
+    ensures { RunsLines plan.now
+        (record { unread = I.remaining input.old; written = O.contents output.old })
+        (record { unread = I.remaining input.new; written = O.contents output.new }) result }
+{
+    let Ok(mut watched) = Watched::start(alloc, plan, errors) else {
+        return Err(LineFault::Memory);
+    };
+    run_watched(alloc, &mut watched, input, output)
+}
+
+/// Writes the edges of a configuration on the output, and says how that ended: `Done`, a fault of the list, or the verdict where
+/// the configuration has a fault or memory was refused while it was read; then nothing was written.
+pub(crate) fn list_edges<O: Write>(alloc: Global, config: Source<'_>, output: &mut O) -> Outcome
+    ensures { ListsEdges config.entry
+        (config_of config.entry.text.now) (O.contents output.old) (O.contents output.new) result }
+{
+    match read_config(alloc, config.text) {
+        Ok((plan, _policy)) => listed(write_edges(alloc, &plan, output)),
+        Err(fault) => faulty(alloc, config, fault),
+    }
+}
+
+/// Writes the least labels of a configuration on the output, and says how that ended, as `list_edges` does.
+pub(crate) fn list_labels<O: Write>(alloc: Global, config: Source<'_>, output: &mut O) -> Outcome
+    ensures { ListsLabels config.entry
+        (config_of config.entry.text.now) (O.contents output.old) (O.contents output.new) result }
+{
+    match read_config(alloc, config.text) {
+        Ok((plan, _policy)) => listed(write_least_labels(alloc, &plan, output)),
+        Err(fault) => faulty(alloc, config, fault),
+    }
+}
+
+/// What explains a verdict on the configuration in a file and the labels in another, in whole lines; nothing where they are
+/// accepted (own profile). The error is that memory was refused.
+pub(crate) fn explain_verdict(
+    alloc: Global,
+    config: Source<'_>,
+    labels: Source<'_>,
+    verdict: &Verdict,
+) -> Result<String, Memory>
+    ensures { IfOk result (λ text. ExplainsVerdict config.entry labels.entry verdict.now
+        (string_bytes text)) }
+{
+    match verdict {
+        Verdict::Accepted => Ok(String::new(alloc)),
+        Verdict::Config(fault) => explain_config(alloc, config.file, config.text, fault),
+        Verdict::Labels(fault) => explain_labels(alloc, labels.file, labels.text, fault),
+        Verdict::Refused(refused) => explain_refusal(alloc, refused),
+    }
+}
+
+/// A command that came to a verdict on the configuration in a file and the labels in another, with what explains it.
+pub(crate) fn judged(
+    alloc: Global,
+    config: Source<'_>,
+    labels: Source<'_>,
+    verdict: Verdict,
+) -> Outcome
+    ensures { IsJudged config.entry labels.entry verdict result }
+{
+    match explain_verdict(alloc, config, labels, &verdict) {
+        Ok(text) => Outcome::Judged(verdict, text),
+        Err(_) => Outcome::Judged(verdict, String::new(alloc)),
+    }
+}
+
+/// A command whose configuration has a fault, with what explains it.
+pub(crate) fn faulty(alloc: Global, config: Source<'_>, fault: ConfigFault) -> Outcome
+    ensures { IsFaulty config.entry fault result }
+{
+    match explain_config(alloc, config.file, config.text, &fault) {
+        Ok(text) => Outcome::Judged(Verdict::Config(fault), text),
+        Err(_) => Outcome::Judged(Verdict::Config(fault), String::new(alloc)),
+    }
+}
