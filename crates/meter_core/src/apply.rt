@@ -78,6 +78,7 @@ pub fn apply_judged(
         ≡ reply_to plan.now meter.old (step_of judged.now.step)) }
     ensures before { IfOk result (λ applied. taken_back plan.now applied.back meter.new ≡ meter.old) }
     ensures err { OnErr result (meter.new ≡ meter.old) }
+    ensures denied { needs_no_memory plan.now meter.old (step_of judged.now.step) ≡ true → IsOk result }
 {
     plan.known();
     apply_by(alloc, plan, meter, &judged.step, judged.refusal)
