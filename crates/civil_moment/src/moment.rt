@@ -1,5 +1,7 @@
 ghost use Rattle.std.specs.Prelude.{◌≡◌, IfOk, IfSome, Ok, Some, option_map};
+ghost use Rattle.std.specs.Result.{result_ok};
 ghost use Rattle.meter_theory.specs.Times as times;
+ghost use Rattle.civil_moment.specs.MomentText.{moment_in};
 ghost use Rattle.civil_moment.specs.Texts.{pair_at, marked_at, moment_from, numbers_at, moment_text};
 
 use crate::days;
@@ -164,6 +166,7 @@ impl Moment {
     /// The moment that a text is: YYYY-MM-DDTHH:MM:SS, a day of the years 2000 to 9999 that the calendar has, an hour
     /// below 24, a minute and a second below 60 (own profile). Any other text is a `BadMoment`.
     pub fn read(text: &str) -> Result<Moment, BadMoment>
+        ensures value { result_ok result ≡ moment_in text.now }
         // What is read is a moment with this text.
         ensures found { IfOk result (λ m. times.IsMoment m × (text.now ≡ moment_text m)) }
         // The text of a moment is read.
@@ -174,6 +177,7 @@ impl Moment {
 
     /// As `Moment::read`, of bytes that need be no text.
     pub fn read_bytes(text: &[u8]) -> Result<Moment, BadMoment>
+        ensures value { result_ok result ≡ moment_in text.now }
         ensures found { IfOk result (λ m. times.IsMoment m × (text.now ≡ moment_text m)) }
         ensures exact { (t : times.Moment) → times.IsMoment t → text.now ≡ moment_text t → result ≡ Ok t }
     {

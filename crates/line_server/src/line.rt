@@ -5,7 +5,6 @@ ghost use Rattle.cosem_data.specs.View.{tree};
 ghost use Rattle.meter_theory.specs.Plan.{clock_object, object_at};
 ghost use Rattle.line_server.specs.Spelling as spec;
 ghost use Rattle.line_server.specs.Spelling.{line_of};
-ghost use Rattle.civil_moment.specs.MomentText as moments;
 ghost use Rattle.line_server.specs.Words as words;
 
 use crate::answering::Ask;
@@ -136,7 +135,7 @@ fn said_by<'a>(
     } else if word == EVALUATE {
         Ok(evaluation_of(name_in(text)))
     } else if word == AT {
-        Ok(moment_at(plan, moment_in(text)))
+        Ok(moment_at(plan, Moment::read_bytes(text).ok()))
     } else if begins_ticks(plan, word) {
         Ok(ticks_of(seconds_in(text)))
     } else {
@@ -200,13 +199,6 @@ fn evaluation_of(name: Option<LogicalName>) -> Line<'static>
         Some(name) => Line::Evaluate(name),
         None => Line::Unreadable(Reason::Name),
     }
-}
-
-/// The moment that a word is, written YYYY-MM-DDTHH:MM:SS, if it is one.
-fn moment_in(word: &[u8]) -> Option<Moment>
-    ensures { result ≡ moments.moment_in word.now }
-{
-    Moment::read_bytes(word).ok()
 }
 
 /// What is said by a moment, if it is there.

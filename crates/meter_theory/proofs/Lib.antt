@@ -22,6 +22,5 @@ pub mod Start
 pub mod InnerClock
 pub mod Ticks
 pub mod Unique
-pub mod Lengths
 pub mod MenuSizes
 mod MenuExamples

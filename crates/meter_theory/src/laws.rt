@@ -5,7 +5,6 @@ ghost use Rattle.cosem_data.specs.Tree.{Tree, array, no_trees};
 ghost use Rattle.cosem_data.specs.declared.cell.CellRef.{CellRef};
 ghost use Rattle.cosem_data.specs.declared.name.LogicalName.{LogicalName};
 ghost use Rattle.cosem_data.specs.declared.cell.MethodRef.{MethodRef};
-ghost use Rattle.cosem_axdr.specs.Canonical.{HasLengths};
 ghost use Rattle.meter_theory.specs.Lists.{IsIn, AreDistinct, for_some};
 ghost use Rattle.meter_theory.specs.State.{State, keys, value, put};
 ghost use Rattle.meter_theory.specs.declared.refs.ScriptRef.{ScriptRef};
@@ -17,7 +16,7 @@ ghost use Rattle.meter_theory.specs.Plan as plans;
 ghost use Rattle.meter_theory.specs.Plan.{Plan, Object, HasNoMenus, cells, start, object_at, clock_object};
 ghost use Rattle.cosem_data.specs.declared.name.LogicalName.{LogicalName};
 ghost use Rattle.meter_theory.specs.Steps.{Step, CaptureAt, ScheduleAt, ClockAt, captured_at, captured_in, script_now, scheduled_at, effects_of, kept, next, write, changed_by_write};
-ghost use Rattle.meter_theory.specs.Replies.{Value, reply_to, run};
+ghost use Rattle.meter_theory.specs.Replies.{run};
 ghost use Rattle.meter_theory.specs.declared.flow.Edge.{Edge};
 ghost use Rattle.meter_theory.specs.declared.flow.Refusal.{Refusal};
 ghost use Rattle.meter_theory.specs.Edges.{Agree, IsEdge, edge, edges_in, edges_from_clock, in_plan_order, script_changes, edges, IsClosed};
@@ -120,12 +119,6 @@ pub fn states_are_kept()
         IsState P (next P s step) }
     ensures run { (P : Plan) (s : State) (l : List Step) → IsSound P → IsState P s →
         IsState P (run P s l) }
-{}
-
-/// Every value that a sound plan's meter answers can be written: its lengths and counts fit four bytes.
-pub fn replies_can_be_written()
-    ensures { (P : Plan) (s : State) (step : Step) (v : Tree) → IsSound P → IsState P s →
-        reply_to P s step ≡ Value v → HasLengths v }
 {}
 
 /// The inner clock is looked at: behind a moment that it is set to, a profile captures and a schedule runs its script exactly where

@@ -11,9 +11,11 @@ use Rattle.cosem_data.specs.Kinds.{kind_of}
 use Rattle.cosem_data.specs.Cells.{same_name, cell}
 use Rattle.cosem_data.specs.declared.name.LogicalName.{LogicalName}
 use Rattle.cosem_data.specs.declared.cell.CellRef.{CellRef}
+use Rattle.cosem_data.specs.declared.kind.Kind.{Kind}
 use Rattle.cosem_data.specs.declared.kind.Kind.TheVariants.{Array, Structure, DoubleLongUnsigned}
-use Rattle.meter_theory.specs.Menus.{alternatives, capture_objects_value}
-use Rattle.cosem_axdr.specs.Canonical.{canonical, shortest}
+use Rattle.meter_theory.specs.Menus.{Choice, alternatives, has_menu, capture_objects_value}
+use Rattle.cosem_axdr.specs.Canonical.{HasLengths, canonical, shortest}
+use Rattle.cosem_axdr.proofs.Room.{small_has_lengths}
 use Rattle.meter_theory.specs.Lists.{IsIn}
 use Rattle.meter_theory.specs.declared.limits.TheConstants as limits
 use Rattle.meter_theory.specs.Value.{Rule, OfKind, Thresholds, ExecutionTimes, ClockTime, OneOf, array_of, structure_of, counter, valid_tag, valid_content, is_within_limits, meets}
@@ -23,7 +25,7 @@ use Rattle.meter_theory.specs.declared.refs.ScalerUnit.{ScalerUnit}
 use Rattle.meter_theory.specs.declared.refs.ScriptRef.{ScriptRef}
 use Rattle.meter_theory.specs.declared.refs.UpDown.{UpDown}
 use Rattle.meter_theory.specs.declared.refs.Interface.{Interface}
-use Rattle.meter_theory.specs.Plan.{Plan, Client, Object, Part, Data1, Register, ProfileGeneric, Clock, ScriptTable, RegisterMonitor, SingleActionSchedule, Script, Action, Write, Invoke, association, association_name, interface_of, interface_at, object_at, class_of, cells, start_values, start_of, is_cell, rule_in, rule_of, clock_time, data_value, register_value, buffer, capture_objects, capture_period, thresholds, seen, executed_script, execution_time}
+use Rattle.meter_theory.specs.Plan.{Plan, Client, Object, Part, Data1, Register, ProfileGeneric, Clock, ScriptTable, RegisterMonitor, SingleActionSchedule, Script, Action, Write, Invoke, association, association_name, interface_of, interface_at, object_at, class_of, cells, start_values, start_of, is_cell, rule_in, rule_of, rule_of_choice, clock_time, data_value, register_value, buffer, capture_objects, capture_period, thresholds, seen, executed_script, execution_time}
 use Rattle.meter_theory.specs.Rights.{cell_of, Selection, class_is, descriptor_in, get_answer, has_right, may_read, may_act}
 use Rattle.meter_theory.specs.Fixed.{name_value, index_value, scaler_unit_value, capture_object, fifo, no_sort_object, action_value, script_value, monitored_value, script_ref_value, up_down_value, no_date_time, fixed_in, fixed_of, attribute_access, access_mode, method_access, access_selectors, access_rights, listed_object, objects_of, object_list, partners, application_context, mechanism_of, of_client, association_attribute, fixed}
 use Rattle.meter_theory.specs.Access.{is_success}
@@ -33,7 +35,6 @@ use Rattle.meter_theory.specs.Sound.{IsSound, is_name, has_action_sizes, has_scr
 use Rattle.meter_theory.specs.States.{IsCaptured, AreCaptured, AreRows, IsBuffer, IsSeen, Holds, IsState}
 use Rattle.meter_theory.proofs.Lists.{from_map, from_filter, from_flat_map, none_found}
 use Rattle.meter_theory.proofs.Menus.{chosen-in, profile_entry, schedule_entry}
-use Rattle.meter_theory.proofs.Lengths.{profile_sizes, ruled_choice}
 use Rattle.meter_theory.proofs.Agreement.{object-found, one_named}
 use Rattle.meter_theory.proofs.Rights.{get_class}
 use Rattle.meter_theory.proofs.Held.{cell_held}
@@ -121,6 +122,15 @@ brief ts few h = structure_within 5 1024 ts few h
 
 part_of_sizes : (P : Plan) → IsSound P → (o : Object) → IsIn P.objects o → (is_name o.name ≡ true) × (has_part_sizes o.part ≡ true)
 part_of_sizes P sound o there = and_parts (is_name o.name) (has_part_sizes o.part) (sound.sizes o there)
+
+-- each alternative of a profile has few cells, and it has few entries
+profile_sizes : (captured : Choice (List CellRef)) (period entries : ℕ) → has_part_sizes (ProfileGeneric captured period entries) ≡ true →
+    ((xs : List CellRef) → IsIn (alternatives captured) xs → has_capture_sizes xs ≡ true) × (entries ≤ limits.PROFILE_ENTRIES)
+profile_sizes captured period entries h =
+    let a = and_parts (nat_le (length captured.menu) limits.MENU) (list_all has_capture_sizes (alternatives captured) && (nat_le 1 entries && nat_le entries limits.PROFILE_ENTRIES)) h in
+    let b = and_parts (list_all has_capture_sizes (alternatives captured)) (nat_le 1 entries && nat_le entries limits.PROFILE_ENTRIES) a.1 in
+    let d = and_parts (nat_le 1 entries) (nat_le entries limits.PROFILE_ENTRIES) b.1 in
+    (λ xs i. all_at has_capture_sizes (alternatives captured) xs b.0 i, leb-true entries limits.PROFILE_ENTRIES d.1)
 
 scaler_unit_brief : (u : ScalerUnit) → IsBrief (scaler_unit_value u)
 scaler_unit_brief u =
@@ -357,6 +367,10 @@ found_by_name P sound o there = at (object_at P o.name) refl
         let q = object-found P o.name p is in
         is ∙ ap Some (one_named P sound p o q.0 there q.1)
 
+-- the rule of an attribute that has a menu
+ruled_choice : {A : Type 0} (kind : Kind) (value_of : A → Tree) (c : Choice A) → has_menu c ≡ true → rule_of_choice kind value_of c ≡ Some (OneOf kind (map value_of (alternatives c)))
+ruled_choice kind value_of c h = ap (λ b. cond b (Some (OneOf kind (map value_of (alternatives c)))) None) h
+
 cell_reply : (P : Plan) → IsSound P → (s : State) → IsState P s → (x : CellRef) → IsIn (cells P) x → IsReply (value s x)
 cell_reply P sound s k x i =
     let entry = from_map (λ z. z.0) (start_values P) x i in
@@ -487,3 +501,7 @@ reply-length P sound s k (Get c d selection) v e = at (is_success (get_answer P 
         omega (arith, few)
     at false ok is = cc
 reply-length P sound s k _ v e = cc
+
+-- so each such value can be written
+pub reply-writable : (P : Plan) → IsSound P → (s : State) → IsState P s → (step : Step) (v : Tree) → reply_to P s step ≡ Value v → HasLengths v
+reply-writable P sound s k step v e = small_has_lengths v (length (canonical v)) (omega arith) (reply-length P sound s k step v e)

@@ -1,7 +1,7 @@
 -- How long the values are that a meter replies.
 use Rattle.std.specs.Prelude.{◌≡◌, ◌<◌, ◌^◌, length}
 use Rattle.cosem_data.specs.Tree.{Tree}
-use Rattle.cosem_axdr.specs.Canonical.{canonical}
+use Rattle.cosem_axdr.specs.Canonical.{HasLengths, canonical}
 use Rattle.meter_theory.specs.State.{State}
 use Rattle.meter_theory.specs.Plan.{Plan}
 use Rattle.meter_theory.specs.Steps.{Step}
@@ -14,3 +14,7 @@ use Rattle.meter_theory.specs.States.{IsState}
 abbrev pub ReplyLengthsFitFourBytes : Type 0
 ReplyLengthsFitFourBytes =
     (P : Plan) (s : State) (step : Step) (v : Tree) → IsSound P → IsState P s → reply_to P s step ≡ Value v → length (canonical v) < 2 ^ 32
+
+-- each value that a sound plan's meter replies can be written: its lengths and counts fit four bytes (A-XDR)
+abbrev pub RepliesCanBeWritten : Type 0
+RepliesCanBeWritten = (P : Plan) (s : State) (step : Step) (v : Tree) → IsSound P → IsState P s → reply_to P s step ≡ Value v → HasLengths v

@@ -1,6 +1,5 @@
 //! Reading names, moments and values, and the end of a line.
 ghost use Rattle.std.specs.Prelude.{◌≡◌, [], IfOk};
-ghost use Rattle.civil_moment.specs.MomentText as moments;
 ghost use Rattle.cosem_data.specs.View.{tree};
 ghost use Rattle.value_words.specs.Stopping.{Reads};
 ghost use Rattle.step_words.specs.Parts as spec;
@@ -30,19 +29,12 @@ pub(crate) fn name_of(text: &[u8]) -> Result<(LogicalName, &[u8]), Stop<Asked>>
     }
 }
 
-/// The moment that a text is, if it is one.
-fn moment_in(text: &[u8]) -> Option<Moment>
-    ensures { result ≡ moments.moment_in text.now }
-{
-    Moment::read_bytes(text).ok()
-}
-
 /// A moment, to the end of the line.
 #[tactic(auto, unfolding(crate::specs::Parts::moment_at))]
 pub(crate) fn moment_of(text: &[u8]) -> Result<Moment, Stop<Asked>>
     ensures { Reads (λ x. (x, [])) result (moment_at text.now) }
 {
-    match moment_in(text) {
+    match Moment::read_bytes(text).ok() {
         Some(moment) => Ok(moment),
         None => Err(stop_at(text, Asked::Moment)),
     }

@@ -10,8 +10,7 @@ use Rattle.meter_theory.specs.Sound.{IsSound}
 use Rattle.meter_theory.specs.State.{State}
 use Rattle.meter_theory.specs.States.{IsState}
 use Rattle.meter_theory.specs.Steps.{Step, Get, Set, Act, Input, CaptureAt, Evaluate, ScheduleAt, Tick, ClockAt}
-use Rattle.meter_theory.proofs.Lengths.{reply-writable}
-use Rattle.reply_sizes.proofs.Replies.{reply-length}
+use Rattle.reply_sizes.proofs.Replies.{reply-length, reply-writable}
 use Rattle.meter_core.specs.StepView.{reply_of}
 use Rattle.meter_core.specs.declared.reply.Reply.{Reply as CodeReply}
 use Rattle.xdlms_services.specs.declared.writing.Service.{Service}

@@ -1,5 +1,0 @@
-use Rattle.meter_theory.proofs.Lengths.{reply-writable}
-use Rattle.meter_theory.proofs.laws.replies_can_be_written.Goals as goal
-
-pub returns : goal.returns
-returns c = λ P s step v sound k e. reply-writable P sound s k step v e
