@@ -80,7 +80,7 @@ pub fn association_attribute(
 /// The current association first, then the objects on which the client has a right, each with the client's rights
 /// (IEC 62056-6-2, Association LN, object_list).
 #[tactic(auto, unfolding(meter_theory::specs::Fixed::object_list))]
-pub fn object_list(alloc: Global, plan: &Plan, client: u8) -> Result<Data, Memory>
+pub(crate) fn object_list(alloc: Global, plan: &Plan, client: u8) -> Result<Data, Memory>
     ensures { IfOk result (λ value. tree value ≡ shapes.object_list plan.now client) }
 {
     let mut list = Vec::new(alloc);

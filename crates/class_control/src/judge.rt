@@ -40,7 +40,7 @@ fn are_thresholds(number: usize, kind: Kind, values: &[Data]) -> bool
 /// Whether a value may be the thresholds of a register monitor with so many actions, over a monitored value of this kind:
 /// an array of one value of the kind for each action, within the limits of a cell (IEC 62056-6-2, Register monitor,
 /// thresholds; the limits are own profile). Another tag than that of an array is `Kind`, anything else `Rule`.
-pub fn judge_thresholds(number: usize, kind: Kind, value: &Data) -> Result<(), ClassFault>
+pub(crate) fn judge_thresholds(number: usize, kind: Kind, value: &Data) -> Result<(), ClassFault>
     ensures { result ≡ answer_of (judged (Thresholds number kind) (tree value.now)) }
 {
     if value.kind() != Kind::Array {
@@ -58,7 +58,7 @@ pub fn judge_thresholds(number: usize, kind: Kind, value: &Data) -> Result<(), C
 /// Whether a value may be the execution_time of a single action schedule of this type, from 1 to 5: an array of elements
 /// that fit the type (`are_execution_times`), within the limits of a cell (IEC 62056-6-2, Single action schedule; the
 /// limits are own profile). Another tag than that of an array is `Kind`, anything else `Rule`.
-pub fn judge_times(execution_type: u8, value: &Data) -> Result<(), ClassFault>
+pub(crate) fn judge_times(execution_type: u8, value: &Data) -> Result<(), ClassFault>
     ensures { result ≡ answer_of (judged (ExecutionTimes execution_type) (tree value.now)) }
 {
     if value.kind() != Kind::Array {

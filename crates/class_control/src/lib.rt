@@ -14,7 +14,7 @@ mod references;
 pub mod schedule;
 pub mod script;
 pub mod script_table;
-pub mod shapes;
+mod shapes;
 pub mod times;
 
 pub use civil_moment::moment::Moment;

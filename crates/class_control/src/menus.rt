@@ -43,7 +43,7 @@ pub fn place_of(menu: &[ScriptRef], value: &Data) -> Option<usize>
 }
 
 /// Whether the value is the executed_script of one of a menu.
-pub fn has_script(menu: &[ScriptRef], value: &Data) -> bool
+pub(crate) fn has_script(menu: &[ScriptRef], value: &Data) -> bool
     ensures { result ≡ list_any (λ script. same_tree (script_ref_value script) (tree value.now)) menu.now }
 {
     menu.iter().any(|script| is_executed_script(value, *script))

@@ -73,7 +73,7 @@ impl SchedulePart {
     }
 
     /// The start of attribute 2, executed_script, where it can be set.
-    pub fn start_script(&self, alloc: Global) -> Result<Option<Data>, Memory>
+    pub(crate) fn start_script(&self, alloc: Global) -> Result<Option<Data>, Memory>
         ensures { IfOk result (λ value. option_map tree value
             ≡ cond (has_menu (scripts_of_part self.now)) (Some (script_ref_value self.now.executed_script)) None) }
     {

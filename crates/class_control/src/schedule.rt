@@ -71,7 +71,7 @@ impl Schedule {
     pub const EXECUTED_SCRIPT: u8 = 2;
 
     /// The index of the type.
-    pub const TYPE: u8 = 3;
+    pub(crate) const TYPE: u8 = 3;
 
     /// The index of the times.
     pub const EXECUTION_TIME: u8 = 4;

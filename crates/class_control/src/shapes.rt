@@ -17,7 +17,7 @@ use meter_theory::refs::{ScriptRef, UpDown};
 use std::alloc::Global;
 
 /// A date and time of which nothing is specified (IEC 62056-6-2, date and time formats).
-pub fn no_date_time(alloc: Global) -> Result<Data, Memory>
+pub(crate) fn no_date_time(alloc: Global) -> Result<Data, Memory>
     ensures { IfOk result (λ value. tree value ≡ fixed.no_date_time) }
 {
     Ok(Data::OctetString(Bytes::new(Vec::from_slice(alloc, &[0xFF; 12])?)))
@@ -59,7 +59,7 @@ fn action_data(alloc: Global, action: &Action) -> Result<Data, Memory>
 }
 
 /// A script of a table: a structure of script_identifier and its actions (IEC 62056-6-2, Script table, script).
-pub fn script_data(alloc: Global, script: &Script) -> Result<Data, Memory>
+pub(crate) fn script_data(alloc: Global, script: &Script) -> Result<Data, Memory>
     ensures { IfOk result (λ value. tree value ≡ script_value (script_of script.now)) }
 {
     let mut actions = Vec::new(alloc);
@@ -71,7 +71,7 @@ pub fn script_data(alloc: Global, script: &Script) -> Result<Data, Memory>
 }
 
 /// Scripts of a script table: an array of its scripts (IEC 62056-6-2, Script table).
-pub fn scripts_data(alloc: Global, scripts: &[Script]) -> Result<Data, Memory>
+pub(crate) fn scripts_data(alloc: Global, scripts: &[Script]) -> Result<Data, Memory>
     ensures { IfOk result (λ value. tree value ≡ array_of (map script_value (map script_of scripts.now))) }
 {
     let mut elements = Vec::new(alloc);
@@ -83,7 +83,7 @@ pub fn scripts_data(alloc: Global, scripts: &[Script]) -> Result<Data, Memory>
 
 /// A script of a table: a structure of the table's logical_name and script_selector (IEC 62056-6-2, Register monitor,
 /// action_item; Single action schedule, executed_script).
-pub fn script_ref_data(alloc: Global, script: ScriptRef) -> Result<Data, Memory>
+pub(crate) fn script_ref_data(alloc: Global, script: ScriptRef) -> Result<Data, Memory>
     ensures { IfOk result (λ value. tree value ≡ script_ref_value script) }
 {
     let table = script.table.as_octets(alloc)?;
@@ -91,7 +91,7 @@ pub fn script_ref_data(alloc: Global, script: ScriptRef) -> Result<Data, Memory>
 }
 
 /// What is run at a threshold: a structure of action_up and action_down (IEC 62056-6-2, Register monitor, action_set).
-pub fn up_down_data(alloc: Global, action: UpDown) -> Result<Data, Memory>
+pub(crate) fn up_down_data(alloc: Global, action: UpDown) -> Result<Data, Memory>
     ensures { IfOk result (λ value. tree value ≡ up_down_value action) }
 {
     let up = script_ref_data(alloc, action.up)?;
@@ -100,7 +100,7 @@ pub fn up_down_data(alloc: Global, action: UpDown) -> Result<Data, Memory>
 }
 
 /// Actions of a register monitor: an array of what is run at each threshold (IEC 62056-6-2, Register monitor).
-pub fn actions_data(alloc: Global, actions: &[UpDown]) -> Result<Data, Memory>
+pub(crate) fn actions_data(alloc: Global, actions: &[UpDown]) -> Result<Data, Memory>
     ensures { IfOk result (λ value. tree value ≡ array_of (map up_down_value actions.now)) }
 {
     let mut elements = Vec::new(alloc);

@@ -10,4 +10,4 @@ pub mod menus;
 pub mod profile;
 pub mod rows;
 pub mod selection;
-pub mod shapes;
+mod shapes;

@@ -71,7 +71,7 @@ pub fn is_capture_objects(value: &Data, cells: &[CellRef]) -> bool
 }
 
 /// The alternative of a menu whose capture_objects the value is.
-pub fn alternative_of<'a>(menu: &'a [Vec<CellRef>], value: &Data) -> Option<&'a Vec<CellRef>>
+pub(crate) fn alternative_of<'a>(menu: &'a [Vec<CellRef>], value: &Data) -> Option<&'a Vec<CellRef>>
     ensures { option_map (λ cells. cells.now) result
         ≡ find (λ cells. same_tree (capture_objects_value cells.items) (tree value.now)) menu.now }
 {
@@ -79,7 +79,7 @@ pub fn alternative_of<'a>(menu: &'a [Vec<CellRef>], value: &Data) -> Option<&'a 
 }
 
 /// Whether the value is the capture_objects of an alternative of a menu.
-pub fn has_alternative(menu: &[Vec<CellRef>], value: &Data) -> bool
+pub(crate) fn has_alternative(menu: &[Vec<CellRef>], value: &Data) -> bool
     ensures { result ≡ list_any
         (λ cells. same_tree (capture_objects_value cells.items) (tree value.now)) menu.now }
 {

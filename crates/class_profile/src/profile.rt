@@ -254,10 +254,10 @@ impl Profile {
     pub const CAPTURE_PERIOD: u8 = 4;
 
     /// The index of the sort method.
-    pub const SORT_METHOD: u8 = 5;
+    pub(crate) const SORT_METHOD: u8 = 5;
 
     /// The index of the sort object.
-    pub const SORT_OBJECT: u8 = 6;
+    pub(crate) const SORT_OBJECT: u8 = 6;
 
     /// The index of the entries in use.
     pub const ENTRIES_IN_USE: u8 = 7;

@@ -94,7 +94,7 @@ impl Rows {
     }
 
     /// Takes over the ring of rows that were cleared, where there is none, so that no capture has to ask for one.
-    pub fn reuse(&mut self, cleared: Rows)
+    pub(crate) fn reuse(&mut self, cleared: Rows)
         ensures { self.new ≡ self.old }
     {
         if self.ring.is_none() {

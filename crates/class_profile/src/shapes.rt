@@ -14,7 +14,7 @@ use std::alloc::Global;
 
 /// Capture_object_definition of a captured cell: class_id, logical_name, attribute_index, and data_index 0, the whole of
 /// the attribute.
-pub fn capture_object_data(alloc: Global, cell: &CellRef) -> Result<Data, Memory>
+pub(crate) fn capture_object_data(alloc: Global, cell: &CellRef) -> Result<Data, Memory>
     requires { cell.now.index < 128 }
     ensures { IfOk result (λ value. tree value ≡ capture_object cell.now) }
 {
@@ -30,7 +30,7 @@ pub fn capture_object_data(alloc: Global, cell: &CellRef) -> Result<Data, Memory
 }
 
 /// Capture_objects: an array of the captured cells, in order.
-pub fn capture_objects_data(alloc: Global, captured: &[CellRef]) -> Result<Data, Memory>
+pub(crate) fn capture_objects_data(alloc: Global, captured: &[CellRef]) -> Result<Data, Memory>
     requires { HaveAttributeIndexes captured.now }
     ensures { IfOk result (λ value. tree value ≡ array_of (map capture_object captured.now)) }
 {
@@ -42,7 +42,7 @@ pub fn capture_objects_data(alloc: Global, captured: &[CellRef]) -> Result<Data,
 }
 
 /// Sort_object of a profile that no object sorts: an object with class_id 0, a name of zeros and index 0 (own profile).
-pub fn no_sort_object_data(alloc: Global) -> Result<Data, Memory>
+pub(crate) fn no_sort_object_data(alloc: Global) -> Result<Data, Memory>
     ensures { IfOk result (λ value. tree value ≡ no_sort_object) }
 {
     structure(

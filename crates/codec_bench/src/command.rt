@@ -4,7 +4,7 @@ use crate::fault::Fault;
 
 /// What a pass does with the bytes of the input.
 #[derive(Clone, Copy, Debug, PartialEq, Eq)]
-pub enum Pass {
+pub(crate) enum Pass {
     /// Copies them by a plain loop, one after the other.
     Copy,
     /// Reads the value in front of them.
@@ -47,7 +47,7 @@ impl Command {
 
 /// How a command ended.
 #[derive(Clone, Copy, Debug, PartialEq, Eq)]
-pub enum Outcome {
+pub(crate) enum Outcome {
     /// It did what it was asked to do.
     Done,
     /// The command line can't be used.

@@ -7,7 +7,7 @@ use std::fmt;
 
 /// Why a command failed.
 #[derive(Clone, Copy, Debug, PartialEq, Eq, Drop)]
-pub enum Fault {
+pub(crate) enum Fault {
     /// Standard input can't be read.
     Input,
     /// The input, or the shortest encoding of its value, has more than `MOST_BYTES` bytes.

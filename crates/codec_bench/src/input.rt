@@ -10,7 +10,7 @@ use std::io::{ErrorKind, Read};
 /// # Errors
 /// `TooLong` where there are more than `MOST_BYTES`; `Memory` where memory is refused; `Input` where
 /// the reader fails otherwise.
-pub fn read_input<R: Read + Drop>(alloc: Global, reader: R) -> Result<Vec<u8>, Fault>
+pub(crate) fn read_input<R: Read + Drop>(alloc: Global, reader: R) -> Result<Vec<u8>, Fault>
     ensures fits { IfOk result (λ bytes. vec_len bytes ≤ MOST_BYTES) }
     ensures whole { (input : List ℕ) → R.remaining reader ≡ Some input →
         MatchResult result (λ bytes. bytes.items ≡ input) (λ fault. fault ≡ Fault.TooLong → MOST_BYTES < length input) }

@@ -1,2 +1,2 @@
 /// How many bytes an input may have.
-pub const MOST_BYTES: usize = 0x100_0000;
+pub(crate) const MOST_BYTES: usize = 0x100_0000;

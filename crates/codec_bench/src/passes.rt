@@ -29,7 +29,7 @@ fn copy_into(bytes: &[u8], copy: &mut Vec<u8>) -> Result<(), Memory>
 
 /// Copies the bytes so many times, by a plain loop that pushes one after the other into a vector
 /// that has the room for all.
-pub fn copy_passes(alloc: Global, bytes: &[u8], times: u32) -> Result<u64, Memory>
+pub(crate) fn copy_passes(alloc: Global, bytes: &[u8], times: u32) -> Result<u64, Memory>
     requires { length bytes.now ≤ MOST_BYTES }
     ensures { IfOk result (λ total. total ≡ times * length bytes.now) }
 {
@@ -47,7 +47,7 @@ pub fn copy_passes(alloc: Global, bytes: &[u8], times: u32) -> Result<u64, Memor
 ///
 /// # Errors
 /// That of `read_data`.
-pub fn read_passes(alloc: Global, bytes: &[u8], times: u32) -> Result<u64, ReadFault>
+pub(crate) fn read_passes(alloc: Global, bytes: &[u8], times: u32) -> Result<u64, ReadFault>
     requires { length bytes.now ≤ MOST_BYTES }
     // Each pass handles the encoding in front, and only want of memory keeps it from that.
     ensures only { OfFront bytes.now (λ t front.
@@ -64,7 +64,7 @@ pub fn read_passes(alloc: Global, bytes: &[u8], times: u32) -> Result<u64, ReadF
 }
 
 /// Writes the value so many times.
-pub fn write_passes(alloc: Global, value: &Data, times: u32) -> Result<u64, Memory>
+pub(crate) fn write_passes(alloc: Global, value: &Data, times: u32) -> Result<u64, Memory>
     requires { length (canonical (tree value.now)) ≤ MOST_BYTES }
     ensures { IfOk result (λ total. total ≡ times * length (canonical (tree value.now))) }
 {
@@ -83,7 +83,7 @@ pub fn write_passes(alloc: Global, value: &Data, times: u32) -> Result<u64, Memo
 /// # Errors
 /// `Unreadable` where a value is wanted and no encoding of one is in front of the bytes, `TooLong`
 /// where its shortest encoding has more than `MOST_BYTES` bytes, `Memory` where memory is refused.
-pub fn run(alloc: Global, command: Command, bytes: &[u8]) -> Result<u64, Fault>
+pub(crate) fn run(alloc: Global, command: Command, bytes: &[u8]) -> Result<u64, Fault>
     requires { length bytes.now ≤ MOST_BYTES }
     ensures ok { IfOk result (Handles command.pass command.times bytes.now) }
     ensures none { BeginsWithNone bytes.now → command.pass ≢ Pass.Copy → 0 < command.times

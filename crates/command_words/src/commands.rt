@@ -24,7 +24,7 @@ const TELL_NOTICES: &str =
     "Tell on standard error, of each line that is seen, what the client could notice by which step";
 
 /// All commands of the program.
-pub fn all_commands<'a>(alloc: Global) -> Result<Command<'a>, AllocError>
+pub(crate) fn all_commands<'a>(alloc: Global) -> Result<Command<'a>, AllocError>
     ensures { IfOk result (λ c. app_of c ≡ spec.app) }
 {
     let commands = with(program(alloc), demo_command(alloc));

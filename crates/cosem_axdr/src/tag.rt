@@ -6,7 +6,7 @@ use cosem_data::kind::Kind;
 
 /// The kind with this tag (IEC 62056-5-3, type `Data`), where it is one of the fifteen.
 #[tactic(auto, unfolding(crate::specs::Reading::kind_of_tag))]
-pub fn kind_of(tag: u8) -> Option<Kind>
+pub(crate) fn kind_of(tag: u8) -> Option<Kind>
     ensures { result ≡ kind_of_tag tag }
 {
     match tag {

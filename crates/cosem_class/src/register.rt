@@ -57,7 +57,7 @@ impl Register {
     pub const VALUE: u8 = 2;
 
     /// The index of scaler and unit.
-    pub const SCALER_UNIT: u8 = 3;
+    pub(crate) const SCALER_UNIT: u8 = 3;
 
     /// The method that puts the default.
     pub const RESET: u8 = 1;

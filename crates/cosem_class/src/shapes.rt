@@ -24,7 +24,7 @@ pub fn array<const N: usize>(alloc: Global, elements: [Data; N]) -> Result<Data,
 }
 
 /// Scal_unit_type of a register: a structure of scaler, an integer, and unit, an enum (IEC 62056-6-2, Register).
-pub fn scaler_unit_data(alloc: Global, scaler_unit: ScalerUnit) -> Result<Data, Memory>
+pub(crate) fn scaler_unit_data(alloc: Global, scaler_unit: ScalerUnit) -> Result<Data, Memory>
     ensures { IfOk result (λ value. tree value ≡ scaler_unit_value scaler_unit) }
 {
     structure(

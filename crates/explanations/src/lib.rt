@@ -12,7 +12,7 @@ pub mod config;
 pub mod file;
 mod following;
 pub mod labels;
-pub mod meaning;
+mod meaning;
 pub mod printable;
 pub mod refusal;
 mod split;

@@ -21,7 +21,7 @@ pub(crate) fn known_mending(alloc: Global, version: u8) -> Result<String, Memory
 }
 
 /// What a code means, in one sentence. The error is that memory was refused.
-pub fn meaning_of(alloc: Global, code: Code) -> Result<String, Memory>
+pub(crate) fn meaning_of(alloc: Global, code: Code) -> Result<String, Memory>
     ensures { IfOk result (λ words. string_bytes words ≡ meaning code) }
 {
     let words = match code {
@@ -63,7 +63,7 @@ pub fn meaning_of(alloc: Global, code: Code) -> Result<String, Memory>
 }
 
 /// How what a code means is mended, in a text of version 1. The error is that memory was refused.
-pub fn mending_of(alloc: Global, code: Code) -> Result<String, Memory>
+pub(crate) fn mending_of(alloc: Global, code: Code) -> Result<String, Memory>
     ensures { IfOk result (λ words. string_bytes words ≡ mending code) }
 {
     let words = match code {

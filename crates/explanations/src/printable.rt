@@ -49,7 +49,7 @@ fn push_quoted_byte(byte: u8, text: &mut String) -> Result<(), Memory>
 
 /// Puts what is shown of bytes behind a text: each byte that is no printable character of ASCII as `\xHH`. The error is
 /// that memory was refused.
-pub fn push_printable(shown: &[u8], text: &mut String) -> Result<(), Memory>
+pub(crate) fn push_printable(shown: &[u8], text: &mut String) -> Result<(), Memory>
     ensures { OnOk result (string_bytes text.new ≡ string_bytes text.old ++ spec.printable shown.now) }
 {
     for byte in shown {
@@ -69,7 +69,7 @@ pub fn printable_text(alloc: Global, shown: &str) -> Result<String, Memory>
 
 /// What is shown of a text between quotation marks, as TOML writes it but for bytes outside ASCII, each of which is `\xHH`.
 /// The error is that memory was refused.
-pub fn quoted_text(alloc: Global, shown: &str) -> Result<String, Memory>
+pub(crate) fn quoted_text(alloc: Global, shown: &str) -> Result<String, Memory>
     ensures { IfOk result (λ text. string_bytes text ≡ spec.quoted shown.now) }
 {
     let mut text = String::from_str(alloc, "\"")?;

@@ -14,7 +14,7 @@ use std::alloc::Global;
 /// Gives each set the clients of each set from which there is a way to it: what comes out are the least sets above these in
 /// which no client is lost along an arrow. An arrow is passed again only where its first set has grown since. The only error is
 /// want of memory, and some sets may have grown then.
-pub fn close(alloc: Global, arrows: &[Arrow], sets: &mut [ClientSet]) -> Result<(), Memory>
+pub(crate) fn close(alloc: Global, arrows: &[Arrow], sets: &mut [ClientSet]) -> Result<(), Memory>
     requires { AreArrows (length sets.old) arrows.now }
     ensures above { OnOk result (Below sets.old sets.new) }
     ensures closed { OnOk result (IsClosedBy arrows.now sets.new) }

@@ -5,9 +5,9 @@
 //! (`Members`), and faults (`Faults`). The theorems are the functions of [`laws`].
 #![tactic(auto)]
 
-pub mod arrow;
+mod arrow;
 mod chains;
-pub mod closing;
+mod closing;
 pub mod fault;
 pub mod granted;
 mod joining;

@@ -14,4 +14,4 @@ pub mod line;
 pub mod lines;
 pub mod reason;
 pub mod running;
-pub mod text;
+mod text;

@@ -9,7 +9,7 @@ use std::alloc::Global;
 
 /// Puts the line of the APDU of a reply behind the texts that are there: upper case hex and a newline. The error is that
 /// memory was refused, and then the texts are as they were.
-pub fn put_reply(reply: &[u8], texts: &mut Vec<u8>) -> Result<(), Memory>
+pub(crate) fn put_reply(reply: &[u8], texts: &mut Vec<u8>) -> Result<(), Memory>
     ensures ok { OnOk result (texts.new.items ≡ texts.old.items ++ reply_text reply.now) }
     ensures err { OnErr result (texts.new.items ≡ texts.old.items) }
 {
@@ -47,7 +47,7 @@ fn make_uppercase(text: &mut [u8])
 
 /// Puts the line that tells the number of an unreadable line behind the texts that are there. The error is that memory was
 /// refused, and then the texts are as they were.
-pub fn put_unreadable(alloc: Global, number: u64, texts: &mut Vec<u8>) -> Result<(), Memory>
+pub(crate) fn put_unreadable(alloc: Global, number: u64, texts: &mut Vec<u8>) -> Result<(), Memory>
     ensures ok { OnOk result (texts.new.items ≡ texts.old.items ++ unreadable_text number) }
     ensures err { OnErr result (texts.new.items ≡ texts.old.items) }
 {

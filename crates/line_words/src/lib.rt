@@ -11,6 +11,6 @@
 #![tactic(auto)]
 
 mod held;
-pub mod telling;
+mod telling;
 pub mod watch;
 pub mod watching;

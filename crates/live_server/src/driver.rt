@@ -64,7 +64,7 @@ impl<'b, N: Naming, W: Wait + Drop, R: Wait, F: Write + Drop> Asker for Taker<'b
 /// and so the APDU of a client too, is told as `line N: unreadable`, and each step that is refused for memory as
 /// `line N: memory`, and so is a line that is refused memory before its steps; then the next goes on. What is told takes no memory.
 #[derive(Drop)]
-pub struct Driver<'b, N: Naming, W: Wait + Drop, R: Wait, F: Write + Drop> {
+pub(crate) struct Driver<'b, N: Naming, W: Wait + Drop, R: Wait, F: Write + Drop> {
     taker: Taker<'b, N, W, R, F>,
     apdu: Vec<u8>,
 }
@@ -87,7 +87,7 @@ impl<'b, N: Naming, W: Wait + Drop, R: Wait, F: Write + Drop> Driver<'b, N, W, R
     }
 
     /// Its seat, once all lines were taken.
-    pub fn into_seat(self) -> PortAsker<'b, N, W, R>
+    pub(crate) fn into_seat(self) -> PortAsker<'b, N, W, R>
         ensures { result.share ≡ self.entry.taker.share }
     {
         let Driver { taker, apdu: _apdu } = self;

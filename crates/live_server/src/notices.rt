@@ -14,7 +14,7 @@ const ROOM: usize = 64;
 
 /// Where it is told which lines are refused. The room for a notice is taken at the start, so that a refusal of memory can be told.
 #[derive(Drop)]
-pub struct Notices<F: Write + Drop> {
+pub(crate) struct Notices<F: Write + Drop> {
     text: String,
     pub(crate) faults: F,
 }

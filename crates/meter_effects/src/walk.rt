@@ -72,7 +72,7 @@ pub trait Visitor {
 
 /// Shows the effects of the script of a table with this number, in their order; the null script and one that the table lacks
 /// are without. The only error is the visitor's.
-pub fn each_of_script<V: Visitor>(
+pub(crate) fn each_of_script<V: Visitor>(
     table: &Instance<'_>,
     script: u16,
     visitor: &mut V,

@@ -7,7 +7,7 @@ use logbook::{Gain, Offer, Plain, Play, Rule, Seen, Start, Word};
 use std::marker::Model;
 
 /// The rule of the history: its word is the number of its steps.
-pub struct Law;
+pub(crate) struct Law;
 
 impl Rule<Change, u64> for Law {
     ghost use Rattle.std.specs.Prelude.{[]};
@@ -28,7 +28,7 @@ impl Rule<Change, u64> for Law {
 }
 
 /// Who adds a step trades nothing for it.
-pub struct Nothing;
+pub(crate) struct Nothing;
 
 impl Gain<Change, u64> for Nothing {
     ghost use base.Fml.{ftrue};
@@ -37,7 +37,7 @@ impl Gain<Change, u64> for Nothing {
 }
 
 /// A step is added.
-pub struct Add;
+pub(crate) struct Add;
 
 impl Play<Change, u64> for Add {
     ghost use Rattle.meter_live.specs.Marks.{Adds};

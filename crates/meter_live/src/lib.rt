@@ -19,7 +19,7 @@ pub mod names;
 mod outbox;
 mod pen;
 pub mod reader;
-pub mod rule;
+mod rule;
 pub mod share;
 pub mod shown;
 pub mod traced;

@@ -19,7 +19,7 @@ use std::sync::Wait;
 
 /// The published steps of a meter, and those that are to be published. It can't be dropped: it ends by `end`, which waits for the
 /// readers.
-pub struct Outbox {
+pub(crate) struct Outbox {
     late: Option<Change>,
     pen: Pen,
 }

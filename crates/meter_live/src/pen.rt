@@ -22,7 +22,7 @@ type End = Writer<Shown, Note, Names, Published>;
 
 /// The writing end of the copies, which knows what is shown. Contracts see the plan, the mark of what is shown, the steps that
 /// were sent behind it, and the last mark that was sent. It can't be dropped: it ends by `end`, which waits for the readers.
-pub struct Pen {
+pub(crate) struct Pen {
     end: End,
 }
 

@@ -9,14 +9,14 @@ use crossbeam_utils::rule::{Outcome, Protocol};
 use object_model::plan::Plan;
 
 /// What one knows of the copies: nothing yet, or their plan and a beginning of their history. No value of it is made.
-pub struct Names {
+pub(crate) struct Names {
     pub known: bool,
     pub plan: Plan,
     pub front: Front,
 }
 
 /// The rule of the published copies.
-pub struct Published;
+pub(crate) struct Published;
 
 impl Protocol<Shown, Names> for Published {
     ghost holds = { λ x views. Keeps x.accepted.plan x.state x.front views };
@@ -25,21 +25,21 @@ impl Protocol<Shown, Names> for Published {
 }
 
 /// A reader enters a copy.
-pub struct Enters;
+pub(crate) struct Enters;
 
 impl Outcome<Shown, Names> for Enters {
     ghost then = { λ v x y w. Sees x.accepted.plan x.state x.front v w };
 }
 
 /// The writer publishes, and knows what it published.
-pub struct Sends;
+pub(crate) struct Sends;
 
 impl Outcome<Shown, Names> for Sends {
     ghost then = { λ v x y w. w ≡ named y.accepted.plan y.front };
 }
 
 /// The writer hands out what it knows.
-pub struct Hands;
+pub(crate) struct Hands;
 
 impl Split<Names> for Hands {
     ghost left = { λ v. v };
@@ -48,7 +48,7 @@ impl Split<Names> for Hands {
 }
 
 /// A new reader takes what was handed out.
-pub struct Takes;
+pub(crate) struct Takes;
 
 impl Join<Names> for Takes {
     ghost both = { λ v w. w };

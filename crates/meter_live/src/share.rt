@@ -33,7 +33,7 @@ impl<N: Naming> Model for Share<N> {
 /// What no port has of the two ledgers: a part of each for every port that isn't opened, and no amount. Contracts see how many
 /// parts these are, of 256 of each.
 #[derive(Drop)]
-pub struct Rest<N: Naming> {
+pub(crate) struct Rest<N: Naming> {
     steps: ledger::Share<StepLedger<N>>,
     changes: ledger::Share<ChangeLedger<N>>,
 }

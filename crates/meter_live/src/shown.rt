@@ -48,7 +48,7 @@ impl Model for Shown {
 
 /// What is sent to the copies: a step that was taken, or that all steps up to here were sent.
 #[derive(Drop)]
-pub enum Note {
+pub(crate) enum Note {
     Made(Change),
     UpTo(Front),
 }

@@ -26,7 +26,7 @@ use std::alloc::Global;
 use std::marker::Model;
 
 /// A trail has at most so many entries (own profile).
-pub const TRAIL: usize = 4096;
+pub(crate) const TRAIL: usize = 4096;
 
 /// A step that was taken: by which port, and what was answered. Contracts see the step and the reply of the theory.
 #[derive(Drop)]

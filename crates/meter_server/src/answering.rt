@@ -40,7 +40,7 @@ const DEMO_SOURCE: Source<'static> = Source {
 };
 
 /// Does what a command asks for.
-pub fn answer<H, F, I, O, E>(
+pub(crate) fn answer<H, F, I, O, E>(
     rt: &H,
     files: &F,
     command: Command<'_>,

@@ -2,13 +2,13 @@
 //! verdicts are printed, texts are translated.
 #![tactic(auto)]
 
-pub mod answering;
+mod answering;
 pub mod auditing;
-pub mod connecting;
+mod connecting;
 pub mod demo;
 pub mod files;
 pub mod listing;
-pub mod noticing;
+mod noticing;
 pub mod outcome;
 pub mod output;
 pub mod program;

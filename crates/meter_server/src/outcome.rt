@@ -75,7 +75,7 @@ impl Outcome {
     }
 
     /// Itself; or `Closed` where a write failed and the output is closed.
-    pub fn unless_closed(self, is_closed: bool) -> Outcome
+    pub(crate) fn unless_closed(self, is_closed: bool) -> Outcome
         ensures { result ≡ outcomes.unless_closed self is_closed }
     {
         if is_closed && self.is_unwritten() {
@@ -167,7 +167,7 @@ pub fn outcome_of(answer: Result<u64, LineFault>) -> Outcome
 }
 
 /// How a command ended whose connection was served so.
-pub fn served(answer: Result<u64, ServeFault>) -> Outcome
+pub(crate) fn served(answer: Result<u64, ServeFault>) -> Outcome
     ensures { result ≡ outcomes.served answer }
 {
     match answer {
@@ -177,7 +177,7 @@ pub fn served(answer: Result<u64, ServeFault>) -> Outcome
 }
 
 /// How a command ended whose live meter ended so.
-pub fn ended(answer: Result<Closed, ServerFault>) -> Outcome
+pub(crate) fn ended(answer: Result<Closed, ServerFault>) -> Outcome
     ensures { result ≡ outcomes.ended answer }
 {
     match answer {
@@ -187,7 +187,7 @@ pub fn ended(answer: Result<Closed, ServerFault>) -> Outcome
 }
 
 /// How a command ended whose input was translated so.
-pub fn translated(answer: Result<(), TranslationFault>) -> Outcome
+pub(crate) fn translated(answer: Result<(), TranslationFault>) -> Outcome
     ensures { result ≡ outcomes.translated answer }
 {
     match answer {
@@ -197,7 +197,7 @@ pub fn translated(answer: Result<(), TranslationFault>) -> Outcome
 }
 
 /// How a command ended whose list was written so.
-pub fn listed(answer: Result<(), ListFault>) -> Outcome
+pub(crate) fn listed(answer: Result<(), ListFault>) -> Outcome
     ensures { result ≡ outcomes.listed answer }
 {
     match answer {

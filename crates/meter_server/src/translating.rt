@@ -14,7 +14,7 @@ use whole_writes::write_whole;
 
 /// Which way a text is translated (own profile).
 #[derive(Clone, Copy, Debug)]
-pub enum Way {
+pub(crate) enum Way {
     /// Steps in words are made into step lines.
     Encode,
     /// Step lines and replies are made into words.
@@ -62,7 +62,7 @@ impl TranslationFault {
 /// # Errors
 /// `Text` with the first line of which nothing is made, and where in it and what was asked there; `Read`, `Memory`: nothing was
 /// written then. `Write`: a beginning was written.
-pub fn translate<R: Read, W: Write>(
+pub(crate) fn translate<R: Read, W: Write>(
     alloc: Global,
     way: Way,
     reader: &mut R,

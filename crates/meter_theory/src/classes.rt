@@ -53,7 +53,7 @@ pub struct CellRow {
 
 /// An attribute that can be set, and so can change, where its object has a menu; nothing else may name it (own profile).
 #[derive(Clone, Copy, Debug, Drop)]
-pub struct ChoiceRow {
+pub(crate) struct ChoiceRow {
     pub class_id: u16,
     pub index: u8,
 }
@@ -213,7 +213,7 @@ pub const CELLS: [CellRow; 9] = [
 
 /// A row for each attribute that is a cell where its object has a menu: capture_objects of a profile, and executed_script of a
 /// single action schedule.
-pub const CHOICES: [ChoiceRow; 2] = [
+pub(crate) const CHOICES: [ChoiceRow; 2] = [
     ChoiceRow {
         class_id: 7,
         index: 3,

@@ -91,7 +91,7 @@ pub fn entries_of(profile: LogicalName) -> [CellRef; 2]
 }
 
 /// Attribute 2 of a data object, value.
-pub fn data_value(object: LogicalName) -> CellRef
+pub(crate) fn data_value(object: LogicalName) -> CellRef
     ensures { result ≡ theory.data_value object }
 {
     cell(Data1::INTERFACE.class_id, object, Data1::VALUE)

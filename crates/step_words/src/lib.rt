@@ -12,7 +12,7 @@ pub mod fault;
 mod head;
 pub mod laws;
 mod parts;
-pub mod replies;
+mod replies;
 mod requests;
 mod runs;
 pub mod steps;

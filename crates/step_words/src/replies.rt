@@ -228,7 +228,7 @@ fn reply_words(alloc: Global, bytes: &[u8]) -> Result<Vec<u8>, Memory>
 ///
 /// # Errors
 /// `Memory` where memory is refused; the text is then as it was.
-pub fn push_reply(alloc: Global, apdu: &[u8], text: &mut Vec<u8>) -> Result<(), Memory>
+pub(crate) fn push_reply(alloc: Global, apdu: &[u8], text: &mut Vec<u8>) -> Result<(), Memory>
     ensures ok { OnOk result (text.new.items ≡ text.old.items ++ spec.reply_words apdu.now) }
     ensures err { OnErr result (text.new.items ≡ text.old.items) }
 {

@@ -9,7 +9,7 @@ use std::alloc::Global;
 pub const SERVER_PORT: u16 = 1;
 
 /// The most bytes of an APDU in a frame (own profile).
-pub const MAX_APDU_LENGTH: usize = 1024;
+pub(crate) const MAX_APDU_LENGTH: usize = 1024;
 
 /// How many bytes a header has (IEC 62056-4-7, the wrapper header).
 pub(crate) const HEADER_LENGTH: usize = 8;
