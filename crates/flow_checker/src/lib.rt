@@ -7,6 +7,7 @@
 
 pub mod check;
 mod clauses;
+mod learned;
 mod looking;
 pub mod notice;
 mod numbered;

@@ -2,7 +2,7 @@
 ghost use Rattle.std.specs.Prelude.{◌≡◌, None};
 
 use crate::check::Checked;
-use crate::notice::first_learned;
+use crate::learned::first_learned;
 use cosem_data::cell::CellRef;
 use meter_effects::walk::{Planned, Visitor};
 use std::convert::Infallible;

@@ -4,7 +4,7 @@ ghost use Rattle.meter_core.specs.StepView.{argument_of, sets_clock, step_of};
 ghost use Rattle.cosem_data.specs.View.{tree};
 ghost use Rattle.meter_theory.specs.Times.{Moment};
 ghost use Rattle.meter_theory.specs.Rights.{cell_of};
-ghost use Rattle.meter_theory.specs.Labels.{labelling_of_policy, may_learn};
+ghost use Rattle.meter_theory.specs.Labels.{labelling_of_policy};
 ghost use Rattle.meter_theory.specs.Notice as theory;
 ghost use Rattle.meter_theory.specs.Notice.{MayNotice, may_put};
 ghost use Rattle.meter_theory.specs.Safety.{HasCells, IsQuiet};
@@ -13,6 +13,7 @@ ghost use Rattle.meter_theory.specs.Steps as steps;
 ghost use Rattle.flow_checker.specs.Notices.{learns, notice_of};
 
 use crate::check::Checked;
+use crate::learned::first_learned;
 use crate::looking::Looking;
 use cosem_data::cell::{CellRef, MethodRef};
 use cosem_data::data::Data;
@@ -24,7 +25,7 @@ use meter_effects::promises::steps_are_noticed;
 use meter_effects::walk::{each_of_method, each_of_monitor, each_of_schedule};
 use meter_theory::refs::Descriptor;
 use object_model::argument::Argument;
-use object_model::cells::{Changed, changed_by_write, clock_time, is_named, seen};
+use object_model::cells::{Changed, changed_by_write, clock_time, seen};
 use object_model::part::Part;
 
 /// What a client could notice of a step (own profile).
@@ -117,25 +118,6 @@ fn first_cell(checked: &Checked, client: u8, step: &Step) -> Option<CellRef>
         Step::Evaluate { monitor } => first_by_evaluation(checked, client, *monitor),
         Step::ScheduleAt { schedule } => first_by_schedule(checked, client, schedule),
     }
-}
-
-/// The first of these cells that the client may learn.
-pub(crate) fn first_learned(checked: &Checked, client: u8, cells: &[CellRef]) -> Option<CellRef>
-    ensures { result ≡ find (learns checked.now client) cells.now }
-{
-    cells
-        .iter()
-        .copied()
-        .find(|cell| learns(checked, client, cell))
-}
-
-/// Whether the client may learn the cell by the policy.
-fn learns(checked: &Checked, client: u8, cell: &CellRef) -> bool
-    ensures { result ≡ learns checked.now client cell.now }
-{
-    // No cell that has a name is the inner clock.
-    is_named(cell);
-    checked.label(cell).learn.has(client)
 }
 
 /// The first cell that a SET that is granted puts and the client may learn.
