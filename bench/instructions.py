@@ -5,14 +5,15 @@
 
 Told are the instructions for a mixed line of the demo, and for one that is judged for a client, for a GET by a random name over 512 objects and 2,048 rights, for a byte
 of that configuration's text, for a GET of a buffer of 1,000 rows, whole and by 10 rows, for a capture into full buffers of
-10 and 1,000 rows, and for a second over 512 objects of which 20 have a turn at it, told by `tick 3600` and by 3,600 lines `at`. Each
-figure is a run with many lines less one with few. Run `tools/build` first; another program of the same words can be named, to be counted beside it.
+10 and 1,000 rows, for a second over 512 objects of which 20 have a turn at it, told by `tick 3600` and by 3,600 lines `at`, and for a GET
+and a SET of one session that is served over TCP. Each figure is a run with many lines less one with few. Run `tools/build` first; another program of the same words can be named, to be counted beside it.
 """
 import datetime
 import itertools
 import os
 import random
 import re
+import socket
 import subprocess
 import sys
 import tempfile
@@ -20,6 +21,8 @@ import tempfile
 import config
 import demo
 import profile
+from serve import DONE, MANAGER, MANAGERS_AARQ, SET
+from session import AARE, AARQ, GET, READER, VALUE, frame
 
 LABELS = os.path.join(os.path.dirname(demo.CONFIG), "demo.labels")
 COUNTED = re.compile(rb"Collected : (\d+)")
@@ -44,6 +47,29 @@ def counted(program, text, lines, words=("run",), rest=()):
     with open(lines, "rb") as given:
         run = subprocess.run(command, stdin=given, stdout=subprocess.DEVNULL, stderr=subprocess.PIPE, check=True)
     return int(COUNTED.search(run.stderr).group(1))
+
+
+def served(program, client, begin, request, answer, count):
+    """The instructions of a live meter of the demo for one session, in which the client asks the same so often."""
+    with socket.socket() as free:
+        free.bind(("127.0.0.1", 0))
+        port = free.getsockname()[1]
+    command = ["valgrind", "--tool=callgrind", "--callgrind-out-file=/dev/null", program, "serve", demo.CONFIG, LABELS]
+    command += ["--port", str(port), "--sessions", "1"]
+    serving = subprocess.Popen(command, stdin=subprocess.DEVNULL, stdout=subprocess.DEVNULL, stderr=subprocess.PIPE)
+    while b"connections are taken" not in serving.stderr.readline():
+        pass
+    with socket.create_connection(("127.0.0.1", port)) as stream:
+        answers = stream.makefile("rb")
+        for apdu, back in [(begin, AARE)] + [(request, answer)] * count:
+            stream.sendall(frame(client, 1, apdu))
+            wanted = frame(1, client, back)
+            if answers.read(len(wanted)) != wanted:
+                sys.exit("the answers aren't what they must be")
+    told = serving.stderr.read()
+    if serving.wait() != 0:
+        sys.exit(f"the live meter ended with {serving.returncode}")
+    return int(COUNTED.search(told).group(1))
 
 
 def main():
@@ -81,6 +107,9 @@ def main():
         at = each(wide, "", lambda: next(moments), 0, 3_600)
         tick = each(wide, f"at {begin.isoformat()}\n", lambda: "tick 3600\n", 0, 1) / 3_600
         print(f"a second over 512 objects: {tick:.0f} by tick, {at:.0f} by at")
+        for name, asked in (("GET", (READER, AARQ, GET, VALUE)), ("SET", (MANAGER, MANAGERS_AARQ, SET, DONE))):
+            few, many = (served(program, *asked, count) for count in (500, 4_500))
+            print(f"a {name} of a session that is served: {(many - few) / 4_000:.0f}")
 
 
 if __name__ == "__main__":

@@ -41,7 +41,10 @@ impl Feeder {
     /// Takes a piece up to the end of its first line, and gives the part of that line that lies in the piece, and what
     /// stands behind its newline; `line` lends the whole line. None where no line ends in the piece, and then all of it is
     /// held.
-    pub(crate) fn next_line<'p>(&mut self, piece: &'p [u8]) -> Result<Option<(&'p [u8], &'p [u8])>, Memory>
+    pub(crate) fn next_line<'p>(
+        &mut self,
+        piece: &'p [u8],
+    ) -> Result<Option<(&'p [u8], &'p [u8])>, Memory>
         ensures fed { IfOk result (λ found. Feeds (self.old ++ piece.now) self.new found) }
         ensures shorter { IfOk result (λ found. IfSome found (λ x. length x.1.now < length piece.now)) }
     {
