@@ -33,7 +33,7 @@ fn time_or_none(alloc: Global, hex: &HexBytes) -> Result<Data, Memory>
 pub fn values_of(alloc: Global, texts: &[HexValue]) -> Result<Vec<Data>, Memory>
     ensures { IfOk result (λ values. map tree values.items ≡ map plan.value_of texts.now) }
 {
-    let mut values = Vec::new(alloc);
+    let mut values = Vec::with_capacity(alloc, texts.len())?;
     for text in texts {
         values.push(value_or_null(alloc, text)?)?;
     }
@@ -44,7 +44,7 @@ pub fn values_of(alloc: Global, texts: &[HexValue]) -> Result<Vec<Data>, Memory>
 pub fn times_of(alloc: Global, texts: &[HexBytes]) -> Result<Vec<Data>, Memory>
     ensures { IfOk result (λ times. map tree times.items ≡ map plan.time_of texts.now) }
 {
-    let mut times = Vec::new(alloc);
+    let mut times = Vec::with_capacity(alloc, texts.len())?;
     for text in texts {
         times.push(time_or_none(alloc, text)?)?;
     }

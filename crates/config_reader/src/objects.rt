@@ -210,7 +210,7 @@ pub(crate) fn objects_of(
     ensures { IfOk result (λ objects. objects.items
         ≡ map (plan.object_of directory.now.config.now) parts.now) }
 {
-    let mut objects = Vec::new(alloc);
+    let mut objects = Vec::with_capacity(alloc, parts.len())?;
     for part in parts {
         objects.push(object(alloc, directory, part)?)?;
     }

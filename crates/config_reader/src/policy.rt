@@ -51,7 +51,7 @@ fn labels_of(
     requires few { length directory.now.config.now.clients ≤ CLIENTS }
     ensures { IfOk result (λ table. AreLabelsOf directory.now.config.now labels.now table.items) }
 {
-    let mut table = Vec::new(alloc);
+    let mut table = Vec::with_capacity(alloc, labels.len())?;
     for label in labels {
         let cell = cell_named(directory, &label.target);
         table.push((cell, label_of(directory, &label.sets)))?;

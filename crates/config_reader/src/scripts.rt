@@ -56,7 +56,7 @@ fn actions(
         ≡ map (λ a. plan.action_of directory.now.config.now a.service a.target a.value) parts.now) }
     ensures indexes { IfOk result (λ list. list_all has_index list.items ≡ true) }
 {
-    let mut list = Vec::new(alloc);
+    let mut list = Vec::with_capacity(alloc, parts.len())?;
     for part in parts {
         list.push(action(alloc, directory, part)?)?;
     }
@@ -83,7 +83,7 @@ pub(crate) fn scripts_of(
     ensures { IfOk result (λ scripts. map script_of scripts.items
         ≡ map (plan.script_of directory.now.config.now) parts.now) }
 {
-    let mut scripts = Vec::new(alloc);
+    let mut scripts = Vec::with_capacity(alloc, parts.len())?;
     for part in parts {
         scripts.push(script(alloc, directory, part)?)?;
     }
