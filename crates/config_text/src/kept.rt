@@ -1,7 +1,5 @@
 //! What a text of a table is kept as.
 
-ghost use Rattle.std.specs.Prelude.{IfOk};
-
 use crate::hex_value::{HexBytes, HexValue};
 use cosem_data::memory::Memory;
 use std::alloc::Global;
