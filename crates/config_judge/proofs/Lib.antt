@@ -1,5 +1,4 @@
 pub mod ClockTimes
 pub mod FirstPlace
 pub mod Halves
-pub mod KindPlaces
 pub mod Offered

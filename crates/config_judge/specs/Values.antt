@@ -1,4 +1,4 @@
--- The values of a configuration, beside the kinds with which its objects start.
+-- Values against the kinds that are asked for.
 use Rattle.std.specs.Prelude.{◌==◌, ◌&&◌, ℕ, Bool, not, length, Option}
 use Rattle.std.specs.List.{list_all}
 use Rattle.cosem_data.specs.Tree.{Tree}
@@ -8,19 +8,10 @@ use Rattle.cosem_data.specs.declared.kind.Kind.TheVariants.{Array}
 use Rattle.meter_theory.specs.Value.{elements}
 use Rattle.config_text.specs.Fault.{fault_if}
 use Rattle.config_text.specs.declared.fault.Code.TheVariants.{Value}
-use Rattle.config_text.specs.Parts.{Text, ConfigText, TargetText}
-use Rattle.config_rules.specs.Values.{has_kind, is_of_kind, kind_named}
+use Rattle.config_text.specs.Parts.{Text}
+use Rattle.config_rules.specs.Values.{has_kind, is_of_kind}
 use Rattle.config_rules.specs.Walks.{Judge}
-use Rattle.config_judge.specs.declared.kinds.Kinds.{Kinds}
 use Rattle.value_text.specs.Texts.{value_in}
-
--- the configuration whose kinds these are (own profile)
-abbrev pub config_of : Kinds → ConfigText
-config_of kinds = kinds.directory.now.config.now
-
--- the kind of the value with which what is named at a target starts (own profile)
-abbrev pub kind_at : Kinds → TargetText → Option Kind
-kind_at kinds target = kind_named (config_of kinds) target.object
 
 -- an array of so many values of a kind (own profile)
 abbrev pub may_be_thresholds : ℕ → Option Kind → Tree → Bool

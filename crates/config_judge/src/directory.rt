@@ -121,7 +121,7 @@ impl<'a> Directory<'a> {
     }
 
     /// The place of the first client with this name.
-    pub fn client_place(&self, name: &str) -> Option<usize>
+    pub(crate) fn client_place(&self, name: &str) -> Option<usize>
         ensures { result ≡ position_from (λ c. bytes_eq c.name name.now) 0 self.now.config.now.clients }
     {
         self.clients.get(name).copied()

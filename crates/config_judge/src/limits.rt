@@ -1,5 +1,5 @@
 //! C16: more than a limit allows.
-ghost use Rattle.std.specs.Prelude.{◌≡◌, ◌++◌, ◌||◌, [], IfOk, Some, codes, length, map, nat_lt, not, option_map, string_bytes};
+ghost use Rattle.std.specs.Prelude.{◌≡◌, ◌++◌, ◌||◌, [], IfOk, Some, codes, length, nat_lt, not};
 ghost use Rattle.std.specs.Option.{unwrap_or};
 ghost use Rattle.meter_theory.specs.Value.{is_within_limits};
 ghost use Rattle.config_text.specs.BodyView.{body_text};
@@ -19,6 +19,7 @@ use crate::judged::fault_if;
 use crate::menus::menu_in;
 use crate::walk::{Judge, each, each_below};
 use config_text::fault::{Code, ConfigFault};
+use config_text::hex_value::{HexBytes, HexValue};
 use config_text::parts::{
     ActionParts, AlternativeParts, BodyParts, CaptureParts, ConfigParts, ObjectParts, ScriptParts,
     ScriptRefParts, UpDownParts,
@@ -32,7 +33,6 @@ use meter_theory::limits::{
     THRESHOLDS,
 };
 use std::alloc::Global;
-use value_text::value;
 
 /// A number of elements against a limit.
 fn at_most(at: &Place<'_>, key: &str, limit: usize, number: usize) -> Result<(), ConfigFault>
@@ -42,30 +42,28 @@ fn at_most(at: &Place<'_>, key: &str, limit: usize, number: usize) -> Result<(),
 }
 
 /// Whether a text is no value, or one within the limits.
-fn is_small(alloc: Global, text: &str) -> Result<bool, Memory>
-    ensures { IfOk result (λ small. small ≡ passes.is_small (value_in text.now)) }
+fn is_small(hex: &HexValue) -> bool
+    ensures { result ≡ passes.is_small (value_in hex.now) }
 {
-    match value::value_in(alloc, text.as_bytes())? {
-        Some(value) => Ok(keeps_limits(&value)),
-        None => Ok(true),
+    match hex.value() {
+        Some(value) => keeps_limits(value),
+        None => true,
     }
 }
 
 /// The value that a text is, against the limits.
-fn small_value(at: &Place<'_>, key: &str, text: &str) -> Result<(), ConfigFault>
-    ensures { Gives (λ u. u) result (passes.small_value (at.now ++ key.now) (Some text.now)) }
+fn small_value(at: &Place<'_>, key: &str, hex: &HexValue) -> Result<(), ConfigFault>
+    ensures { Gives (λ u. u) result (passes.small_value (at.now ++ key.now) (Some hex.now)) }
 {
-    let small = is_small(at.alloc(), text)?;
-    fault_if(Code::Limit, at, key, !small)
+    fault_if(Code::Limit, at, key, !is_small(hex))
 }
 
 /// The value of an action, where it has one.
-fn small_parameter(at: &Place<'_>, value: &Option<String>) -> Result<(), ConfigFault>
-    ensures { Gives (λ u. u) result
-        (passes.small_value (at.now ++ codes ".value") (option_map string_bytes value.now)) }
+fn small_parameter(at: &Place<'_>, value: &Option<HexValue>) -> Result<(), ConfigFault>
+    ensures { Gives (λ u. u) result (passes.small_value (at.now ++ codes ".value") value.now) }
 {
     match value {
-        Some(text) => small_value(at, ".value", text.as_str()),
+        Some(hex) => small_value(at, ".value", hex),
         None => Ok(()),
     }
 }
@@ -106,7 +104,7 @@ impl Judge for ScriptLimits {
 }
 
 /// The sizes of a register's value and default.
-fn register_limits(at: &Place<'_>, value: &str, default: &str) -> Result<(), ConfigFault>
+fn register_limits(at: &Place<'_>, value: &HexValue, default: &HexValue) -> Result<(), ConfigFault>
     ensures { Gives (λ u. u) result (followed_by
         (passes.small_value (at.now ++ codes ".value") (Some value.now))
         (passes.small_value (at.now ++ codes ".default") (Some default.now))) }
@@ -184,25 +182,24 @@ fn script_table_limits(at: &Place<'_>, scripts: &[ScriptParts]) -> Result<(), Co
 }
 
 /// Whether thresholds are within the limits as one array.
-fn are_small_thresholds(alloc: Global, texts: &[String]) -> Result<bool, Memory>
-    ensures { IfOk result (λ small. small
-        ≡ is_within_limits (thresholds_value (map string_bytes texts.now))) }
+fn are_small_thresholds(alloc: Global, texts: &[HexValue]) -> Result<bool, Memory>
+    ensures { IfOk result (λ small. small ≡ is_within_limits (thresholds_value texts.now)) }
 {
     let array = Data::Array(Items::new(values_of(alloc, texts)?));
     Ok(keeps_limits(&array))
 }
 
 /// Whether times are within the limits as one array.
-fn are_small_times(alloc: Global, texts: &[String]) -> Result<bool, Memory>
-    ensures { IfOk result (λ small. small ≡ is_within_limits (times_value (map string_bytes texts.now))) }
+fn are_small_times(alloc: Global, texts: &[HexBytes]) -> Result<bool, Memory>
+    ensures { IfOk result (λ small. small ≡ is_within_limits (times_value texts.now)) }
 {
     let array = Data::Array(Items::new(times_of(alloc, texts)?));
     Ok(keeps_limits(&array))
 }
 
 /// The number and the size of thresholds.
-fn threshold_limits(at: &Place<'_>, texts: &[String]) -> Result<(), ConfigFault>
-    ensures { Gives (λ u. u) result (spec.threshold_limits at.now (map string_bytes texts.now)) }
+fn threshold_limits(at: &Place<'_>, texts: &[HexValue]) -> Result<(), ConfigFault>
+    ensures { Gives (λ u. u) result (spec.threshold_limits at.now texts.now) }
 {
     let small = are_small_thresholds(at.alloc(), texts)?;
     let many = THRESHOLDS < texts.len();
@@ -212,11 +209,11 @@ fn threshold_limits(at: &Place<'_>, texts: &[String]) -> Result<(), ConfigFault>
 /// The sizes of a register monitor.
 fn monitor_limits(
     at: &Place<'_>,
-    thresholds: &[String],
+    thresholds: &[HexValue],
     actions: &[UpDownParts],
 ) -> Result<(), ConfigFault>
     ensures { Gives (λ u. u) result (followed_by
-        (spec.threshold_limits at.now (map string_bytes thresholds.now))
+        (spec.threshold_limits at.now thresholds.now)
         (passes.at_most THRESHOLDS (at.now ++ codes ".action") actions.now)) }
 {
     threshold_limits(at, thresholds)?;
@@ -224,8 +221,8 @@ fn monitor_limits(
 }
 
 /// The number and the size of times.
-fn time_limits(at: &Place<'_>, texts: &[String]) -> Result<(), ConfigFault>
-    ensures { Gives (λ u. u) result (spec.time_limits at.now (map string_bytes texts.now)) }
+fn time_limits(at: &Place<'_>, texts: &[HexBytes]) -> Result<(), ConfigFault>
+    ensures { Gives (λ u. u) result (spec.time_limits at.now texts.now) }
 {
     let small = are_small_times(at.alloc(), texts)?;
     let many = EXECUTION_TIMES < texts.len();
@@ -235,11 +232,11 @@ fn time_limits(at: &Place<'_>, texts: &[String]) -> Result<(), ConfigFault>
 /// The sizes of a schedule.
 fn schedule_limits(
     at: &Place<'_>,
-    times: &[String],
+    times: &[HexBytes],
     menu: &Option<Vec<ScriptRefParts>>,
 ) -> Result<(), ConfigFault>
     ensures { Gives (λ u. u) result (followed_by
-        (spec.time_limits at.now (map string_bytes times.now))
+        (spec.time_limits at.now times.now)
         (passes.menu_size (at.now ++ codes ".script_menu") (menu_of menu.now))) }
 {
     time_limits(at, times)?;
@@ -252,10 +249,8 @@ fn limits_in(at: &Place<'_>, body: &BodyParts) -> Result<(), ConfigFault>
     ensures { Gives (λ u. u) result (passes.limits_in at.now (body_text body.now)) }
 {
     match body {
-        BodyParts::Data { value } => small_value(at, ".value", value.as_str()),
-        BodyParts::Register { value, default, .. } => {
-            register_limits(at, value.as_str(), default.as_str())
-        }
+        BodyParts::Data { value } => small_value(at, ".value", value),
+        BodyParts::Register { value, default, .. } => register_limits(at, value, default),
         BodyParts::ProfileGeneric {
             capture,
             entries,

@@ -8,30 +8,29 @@ use crate::walk::{Judge, each, each_below};
 use config_text::fault::{Code, ConfigFault};
 use config_text::parts::RightParts;
 use config_text::place::Place;
-use meter_theory::classes::{is_choice, is_settable};
 use std::alloc::Global;
 
-/// Attributes that can be set, of an object of this class, with a menu or without.
+/// Attributes that can be set, of the object with this logical name.
 #[derive(Drop)]
-struct SettableOf {
-    class: u16,
-    has_menu: bool,
+struct Settable<'d, 'c> {
+    directory: &'d Directory<'c>,
+    object: &'d str,
 }
 
-impl Judge for SettableOf {
-    ghost use Rattle.std.specs.Prelude.{not, ◌||◌, ◌&&◌};
+impl<'d, 'c> Judge for Settable<'d, 'c> {
+    ghost use Rattle.std.specs.Prelude.{not};
     ghost use Rattle.config_text.specs.Fault.{fault_if};
     ghost use Rattle.config_text.specs.declared.fault.Code.TheVariants.{NotSettable};
-    ghost use Rattle.meter_theory.specs.Classes as classes;
+    ghost use Rattle.meter_theory.specs.Classes.{is_settable};
+    ghost use Rattle.config_rules.specs.Names.{passes_or_chosen};
 
     type Part = u8;
 
     ghost judges = { λ all at index. fault_if NotSettable at
-        (not (classes.is_settable all.class index || (all.has_menu && classes.is_choice all.class index))) };
+        (not (passes_or_chosen all.directory.now.config.now is_settable all.object.now index)) };
 
     fn judge(&self, at: &Place<'_>, index: &u8) -> Result<(), ConfigFault> {
-        let settable = is_settable(self.class, *index)
-            || self.has_menu && is_choice(self.class, *index);
+        let settable = self.directory.is_settable(self.object, *index);
         fault_if(Code::NotSettable, at, "", !settable)
     }
 }
@@ -57,15 +56,10 @@ impl<'d, 'c> Judge for SettableRights<'d, 'c> {
         (at ++ codes ".set") r.sets };
 
     fn judge(&self, at: &Place<'_>, right: &RightParts) -> Result<(), ConfigFault> {
+        let directory = self.directory;
         let object = right.object.as_str();
-        let class = self.directory.class(object);
-        let has_menu = self.directory.has_menu(object);
-        each_below(
-            &SettableOf { class, has_menu },
-            at,
-            ".set",
-            right.sets.as_slice(),
-        )
+        let sets = right.sets.as_slice();
+        each_below(&Settable { directory, object }, at, ".set", sets)
     }
 }
 

@@ -57,7 +57,7 @@ pub fn cells_named(
         ≡ plan.cells_named directory.now.config.now captures.now) }
     ensures indexes { IfOk result (λ cells. HaveAttributeIndexes cells.items) }
 {
-    let mut cells = Vec::new(alloc);
+    let mut cells = Vec::with_capacity(alloc, captures.len())?;
     for capture in captures {
         cells.push(cell_named(directory, &capture.target))?;
     }

@@ -1,5 +1,5 @@
 //! C19: execution times that the type doesn't allow.
-ghost use Rattle.std.specs.Prelude.{◌≡◌, ◌++◌, IfOk, codes, map, not, string_bytes};
+ghost use Rattle.std.specs.Prelude.{◌≡◌, ◌++◌, IfOk, codes, not};
 ghost use Rattle.meter_theory.specs.Times.{are_execution_times};
 ghost use Rattle.meter_theory.specs.Value.{elements};
 ghost use Rattle.config_text.specs.BodyView.{body_text};
@@ -14,25 +14,26 @@ use crate::judged::fault_if;
 use crate::walk::{Judge, each};
 use class_control::times::are_execution_times;
 use config_text::fault::{Code, ConfigFault};
+use config_text::hex_value::HexBytes;
 use config_text::parts::{BodyParts, ConfigParts, ObjectParts};
 use config_text::place::Place;
 use cosem_data::memory::Memory;
 use std::alloc::Global;
 
 /// Whether times fit the type of a schedule.
-fn do_fit(alloc: Global, execution_type: u8, texts: &[String]) -> Result<bool, Memory>
+fn do_fit(alloc: Global, execution_type: u8, texts: &[HexBytes]) -> Result<bool, Memory>
     ensures { IfOk result (λ fit. fit ≡ are_execution_times execution_type
-        (elements (times_value (map string_bytes texts.now)))) }
+        (elements (times_value texts.now))) }
 {
     let times = times_of(alloc, texts)?;
     Ok(are_execution_times(execution_type, times.as_slice()))
 }
 
 /// Judges the times of a schedule of a type.
-fn valid_times_of(at: &Place<'_>, execution_type: u8, times: &[String]) -> Result<(), ConfigFault>
+fn valid_times_of(at: &Place<'_>, execution_type: u8, times: &[HexBytes]) -> Result<(), ConfigFault>
     ensures { Gives (λ u. u) result (faults.fault_if Times
         (at.now ++ codes ".times") (not (are_execution_times execution_type
-        (elements (times_value (map string_bytes times.now)))))) }
+        (elements (times_value times.now))))) }
 {
     let fit = do_fit(at.alloc(), execution_type, times)?;
     fault_if(Code::Times, at, ".times", !fit)

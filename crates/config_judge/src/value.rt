@@ -8,21 +8,21 @@ ghost use Rattle.config_rules.specs.Values as spec;
 
 use civil_moment::moment::Moment;
 use class_control::times::is_execution_time;
+use config_text::hex_value::{HexBytes, HexValue};
 use cosem_class::shapes::structure;
 use cosem_data::bytes::Bytes;
 use cosem_data::data::Data;
 use cosem_data::kind::Kind;
 use cosem_data::memory::Memory;
 use std::alloc::Global;
-use value_text::value::{bytes_in, value_in};
 
 /// The kind of the value that a text is, none where it is no value.
-pub(crate) fn kind_in(alloc: Global, text: &str) -> Result<Option<Kind>, Memory>
-    ensures { IfOk result (λ kind. kind ≡ spec.kind_in text.now) }
+pub(crate) fn kind_in(hex: &HexValue) -> Option<Kind>
+    ensures { result ≡ spec.kind_in hex.now }
 {
-    match value_in(alloc, text.as_bytes())? {
-        Some(value) => Ok(Some(value.kind())),
-        None => Ok(None),
+    match hex.value() {
+        Some(value) => Some(value.kind()),
+        None => None,
     }
 }
 
@@ -50,23 +50,20 @@ fn are_time_and_date(alloc: Global, bytes: &[u8]) -> Result<bool, Memory>
 }
 
 /// Whether a text is the hex text of nine bytes, a time and a date with each field in its range.
-pub(crate) fn is_time_text(alloc: Global, text: &str) -> Result<bool, Memory>
-    ensures { IfOk result (λ is. is ≡ spec.is_time_text text.now) }
+pub(crate) fn is_time_text(alloc: Global, hex: &HexBytes) -> Result<bool, Memory>
+    ensures { IfOk result (λ is. is ≡ spec.is_time_text hex.now) }
 {
-    match bytes_in(alloc, text.as_bytes())? {
-        Some(bytes) => are_time_and_date(alloc, &bytes),
+    match hex.bytes() {
+        Some(bytes) => are_time_and_date(alloc, bytes),
         None => Ok(false),
     }
 }
 
 /// Whether a text is the hex text of the encoding of one value.
-pub(crate) fn is_value(alloc: Global, text: &str) -> Result<bool, Memory>
-    ensures { IfOk result (λ is. is ≡ is_some (value_in text.now)) }
+pub(crate) fn is_value(hex: &HexValue) -> bool
+    ensures { result ≡ is_some (value_in hex.now) }
 {
-    match value_in(alloc, text.as_bytes())? {
-        Some(_) => Ok(true),
-        None => Ok(false),
-    }
+    hex.value().is_some()
 }
 
 /// Whether a text is a moment: YYYY-MM-DDTHH:MM:SS, of the years 2000 to 9999, which the calendar has (own profile).

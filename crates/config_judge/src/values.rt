@@ -1,5 +1,5 @@
 //! C11: values that aren't hex, aren't one Data, or aren't of their kind, and times of clocks that are no moments.
-ghost use Rattle.std.specs.Prelude.{◌≡◌, ◌==◌, ◌&&◌, ◌++◌, IfOk, codes, length, map, not, is_some, option_map, string_bytes};
+ghost use Rattle.std.specs.Prelude.{◌≡◌, ◌==◌, ◌&&◌, ◌++◌, IfOk, codes, length, map, not, is_some};
 ghost use Rattle.std.specs.List.{list_all, list_any};
 ghost use Rattle.cosem_data.specs.View.{tree};
 ghost use Rattle.cosem_data.specs.Equal.{same_tree};
@@ -23,22 +23,23 @@ ghost use Rattle.config_rules.specs.Written as written;
 ghost use Rattle.config_rules.specs.Written.{is_one_of};
 ghost use Rattle.config_judge.specs.Lines.{followed_by};
 ghost use Rattle.config_judge.specs.Menus.{with_menu};
-ghost use Rattle.config_judge.specs.Values.{config_of, kind_at, may_be_thresholds, of_kind};
+ghost use Rattle.config_judge.specs.Values.{may_be_thresholds, of_kind};
 
 use crate::directory::Directory;
 use crate::judged::fault_if;
-use crate::kinds::{Kinds, has_kind, is_number, is_of_kind, may_be_number};
+use crate::kinds::{has_kind, is_number, is_of_kind, kind_at, may_be_number, start_kind_in};
 use crate::menus::menu_in;
 use crate::reference_walk::each_action;
 use crate::targets::{cells_named, script_named};
 use crate::value::{is_moment_text, is_time_text, is_value, kind_in};
-use crate::walk::{Judge, JudgeText, each, each_text_below};
+use crate::walk::{Judge, each, each_below};
 use class_control::clock::judge_time;
 use class_control::judge::elements_of;
 use class_control::menus::is_executed_script;
 use class_control::times::are_execution_times;
 use class_profile::menus::is_capture_objects;
 use config_text::fault::{Code, ConfigFault};
+use config_text::hex_value::{HexBytes, HexValue};
 use config_text::parts::{
     ActionParts, AlternativeParts, BodyParts, CaptureParts, ObjectParts, ScriptRefParts,
     TargetParts, UpDownParts,
@@ -49,7 +50,6 @@ use cosem_data::data::Data;
 use cosem_data::kind::Kind;
 use cosem_data::memory::Memory;
 use std::alloc::Global;
-use value_text::value::value_in;
 
 /// Whether each value is of a kind.
 fn are_of_kind(kind: Option<Kind>, values: &[Data]) -> bool
@@ -75,16 +75,15 @@ fn may_be_thresholds(number: usize, kind: Option<Kind>, value: &Data) -> bool
 
 /// Whether a value may be the thresholds of a register monitor with these actions, the limits left aside.
 fn may_be_of_monitor(
-    kinds: &Kinds<'_, '_>,
+    directory: &Directory<'_>,
     monitored: &TargetParts,
     actions: &[UpDownParts],
     value: &Data,
 ) -> bool
     ensures { result ≡ may_be_thresholds (length actions.now)
-        (kind_at kinds.now monitored.now) (tree value.now) }
+        (spec.kind_named directory.now.config.now monitored.now.object) (tree value.now) }
 {
-    let watched = kinds.named(monitored.object.as_str());
-    may_be_thresholds(actions.len(), watched, value)
+    may_be_thresholds(actions.len(), kind_at(directory, monitored), value)
 }
 
 /// Whether a value may be the times of a schedule of this type, the limits left aside.
@@ -172,24 +171,23 @@ fn is_of_menu(menu: &[ScriptRefParts], value: &Data) -> bool
         .any(|script| is_executed_script(value, script_named(script)))
 }
 
-/// Whether a value may stand in the settable cell with this index of an object with this body, which starts with a value of its
-/// own of this kind, the limits left aside.
+/// Whether a value may stand in the settable cell with this index of an object with this body, the limits left aside.
 fn may_stand(
     alloc: Global,
-    kinds: &Kinds<'_, '_>,
-    own: Option<Kind>,
+    directory: &Directory<'_>,
     body: &BodyParts,
     index: u8,
     value: &Data,
 ) -> Result<bool, Memory>
-    requires { own ≡ spec.start_kind_in (body_text body.now) }
     ensures { IfOk result (λ may. may
-        ≡ written.may_stand (config_of kinds.now) (body_text body.now) index (tree value.now)) }
+        ≡ written.may_stand directory.now.config.now (body_text body.now) index (tree value.now)) }
 {
     match body {
-        BodyParts::Data { .. } | BodyParts::Register { .. } => Ok(has_kind(own, value)),
+        BodyParts::Data { .. } | BodyParts::Register { .. } => {
+            Ok(has_kind(start_kind_in(body), value))
+        }
         BodyParts::ProfileGeneric { capture, menu, .. } if index == 3 => {
-            may_be_objects(alloc, kinds.directory, capture.as_slice(), menu, value)
+            may_be_objects(alloc, directory, capture.as_slice(), menu, value)
         }
         BodyParts::ProfileGeneric { .. } => Ok(value.kind() == Kind::DoubleLongUnsigned),
         BodyParts::Clock { .. } => Ok(may_be_clock_time(value)),
@@ -197,7 +195,7 @@ fn may_stand(
             monitored,
             actions,
             ..
-        } => Ok(may_be_of_monitor(kinds, monitored, actions.as_slice(), value)),
+        } => Ok(may_be_of_monitor(directory, monitored, actions.as_slice(), value)),
         BodyParts::SingleActionSchedule { script, menu, .. } if index == 2 => {
             Ok(may_be_script(script, menu, value))
         }
@@ -209,19 +207,15 @@ fn may_stand(
 /// Whether a value may stand in what is named, the limits left aside.
 fn may_stand_at(
     alloc: Global,
-    kinds: &Kinds<'_, '_>,
+    directory: &Directory<'_>,
     target: &TargetParts,
     value: &Data,
 ) -> Result<bool, Memory>
-    ensures { IfOk result (λ may. may ≡ written.may_stand_at (config_of kinds.now)
-        (object_named (config_of kinds.now) target.now.object) target.now.index (tree value.now)) }
+    ensures { IfOk result (λ may. may ≡ written.may_stand_at directory.now.config.now
+        (object_named directory.now.config.now target.now.object) target.now.index (tree value.now)) }
 {
-    let name = target.object.as_str();
-    match kinds.directory.object(name) {
-        Some(object) => {
-            let own = kinds.named(name);
-            may_stand(alloc, kinds, own, &object.body, target.index, value)
-        }
+    match directory.object(target.object.as_str()) {
+        Some(object) => may_stand(alloc, directory, &object.body, target.index, value),
         None => Ok(true),
     }
 }
@@ -229,48 +223,51 @@ fn may_stand_at(
 /// Whether a text is a value that may stand in what is named.
 fn is_written(
     alloc: Global,
-    kinds: &Kinds<'_, '_>,
+    directory: &Directory<'_>,
     target: &TargetParts,
-    text: &str,
+    hex: &HexValue,
 ) -> Result<bool, Memory>
     ensures { IfOk result (λ right. right
-        ≡ passes.written_value (config_of kinds.now) target.now (value_in text.now)) }
+        ≡ passes.written_value directory.now.config.now target.now (value_in hex.now)) }
 {
-    match value_in(alloc, text.as_bytes())? {
-        Some(value) => may_stand_at(alloc, kinds, target, &value),
+    match hex.value() {
+        Some(value) => may_stand_at(alloc, directory, target, value),
         None => Ok(false),
     }
 }
 
 /// Whether an action has a value that it can write, or a parameter that is a value.
-fn action_value(alloc: Global, kinds: &Kinds<'_, '_>, action: &ActionParts) -> Result<bool, Memory>
-    ensures { IfOk result (λ right. right ≡ passes.action_value (config_of kinds.now)
+fn action_value(
+    alloc: Global,
+    directory: &Directory<'_>,
+    action: &ActionParts,
+) -> Result<bool, Memory>
+    ensures { IfOk result (λ right. right ≡ passes.action_value directory.now.config.now
         action.now.service action.now.target action.now.value) }
 {
     match (action.service, &action.value) {
-        (Service::Write, Some(text)) => is_written(alloc, kinds, &action.target, text.as_str()),
+        (Service::Write, Some(hex)) => is_written(alloc, directory, &action.target, hex),
         (Service::Write, None) => Ok(false),
-        (Service::Invoke, Some(text)) => is_value(alloc, text.as_str()),
+        (Service::Invoke, Some(hex)) => Ok(is_value(hex)),
         (Service::Invoke, None) => Ok(true),
     }
 }
 
 /// The value of an action.
 #[derive(Drop)]
-struct ActionValue<'k, 'd, 'c> {
-    kinds: &'k Kinds<'d, 'c>,
+struct ActionValue<'d, 'c> {
+    directory: &'d Directory<'c>,
 }
 
-impl<'k, 'd, 'c> Judge for ActionValue<'k, 'd, 'c> {
+impl<'d, 'c> Judge for ActionValue<'d, 'c> {
     ghost use Rattle.config_rules.specs.Passes.{valid_action_value};
-    ghost use Rattle.config_judge.specs.Values.{config_of};
 
     type Part = ActionParts;
 
-    ghost judges = { λ all. valid_action_value (config_of all.kinds.now) };
+    ghost judges = { λ all. valid_action_value all.directory.now.config.now };
 
     fn judge(&self, at: &Place<'_>, action: &ActionParts) -> Result<(), ConfigFault> {
-        let right = action_value(at.alloc(), self.kinds, action)?;
+        let right = action_value(at.alloc(), self.directory, action)?;
         fault_if(Code::Value, at, ".value", !right)
     }
 }
@@ -281,18 +278,15 @@ struct Threshold {
     kind: Option<Kind>,
 }
 
-impl JudgeText for Threshold {
-    ghost use Rattle.std.specs.Prelude.{not};
-    ghost use Rattle.config_text.specs.Fault.{fault_if};
-    ghost use Rattle.config_text.specs.declared.fault.Code.TheVariants.{Value};
-    ghost use Rattle.value_text.specs.Texts.{value_in};
-    ghost use Rattle.config_rules.specs.Values.{is_of_kind};
+impl Judge for Threshold {
+    ghost use Rattle.config_judge.specs.Values.{of_kind};
 
-    ghost judges = { λ all at text. fault_if Value at (not (is_of_kind all.kind (value_in text))) };
+    type Part = HexValue;
 
-    fn judge(&self, at: &Place<'_>, text: &str) -> Result<(), ConfigFault> {
-        let value = value_in(at.alloc(), text.as_bytes())?;
-        fault_if(Code::Value, at, "", !is_of_kind(self.kind, &value))
+    ghost judges = { λ all. of_kind all.kind };
+
+    fn judge(&self, at: &Place<'_>, hex: &HexValue) -> Result<(), ConfigFault> {
+        fault_if(Code::Value, at, "", !is_of_kind(self.kind, hex))
     }
 }
 
@@ -300,40 +294,40 @@ impl JudgeText for Threshold {
 #[derive(Drop)]
 struct TimeText;
 
-impl JudgeText for TimeText {
+impl Judge for TimeText {
     ghost use Rattle.std.specs.Prelude.{not};
     ghost use Rattle.config_text.specs.Fault.{fault_if};
     ghost use Rattle.config_text.specs.declared.fault.Code.TheVariants.{Value};
     ghost use Rattle.config_rules.specs.Values.{is_time_text};
 
+    type Part = HexBytes;
+
     ghost judges = { λ _ at text. fault_if Value at (not (is_time_text text)) };
 
-    fn judge(&self, at: &Place<'_>, text: &str) -> Result<(), ConfigFault> {
-        let is_time = is_time_text(at.alloc(), text)?;
+    fn judge(&self, at: &Place<'_>, hex: &HexBytes) -> Result<(), ConfigFault> {
+        let is_time = is_time_text(at.alloc(), hex)?;
         fault_if(Code::Value, at, "", !is_time)
     }
 }
 
 /// The value of a data object.
-fn data_value(at: &Place<'_>, value: &str) -> Result<(), ConfigFault>
+fn data_value(at: &Place<'_>, value: &HexValue) -> Result<(), ConfigFault>
     ensures { Gives (λ u. u) result (faults.fault_if Value
         (at.now ++ codes ".value") (not (is_some (value_in value.now)))) }
 {
-    let is_value = is_value(at.alloc(), value)?;
-    fault_if(Code::Value, at, ".value", !is_value)
+    fault_if(Code::Value, at, ".value", !is_value(value))
 }
 
 /// The value and the default of a register.
-fn register_values(at: &Place<'_>, value: &str, default: &str) -> Result<(), ConfigFault>
+fn register_values(at: &Place<'_>, value: &HexValue, default: &HexValue) -> Result<(), ConfigFault>
     ensures { Gives (λ u. u) result (followed_by (faults.fault_if Value
         (at.now ++ codes ".value") (not (spec.is_number (spec.kind_in value.now))))
         (faults.fault_if Value (at.now ++ codes ".default")
         (not (spec.is_of_kind (spec.kind_in value.now) (value_in default.now))))) }
 {
-    let kind = kind_in(at.alloc(), value)?;
+    let kind = kind_in(value);
     fault_if(Code::Value, at, ".value", !is_number(kind))?;
-    let default = value_in(at.alloc(), default.as_bytes())?;
-    fault_if(Code::Value, at, ".default", !is_of_kind(kind, &default))
+    fault_if(Code::Value, at, ".default", !is_of_kind(kind, default))
 }
 
 /// The time of a clock.
@@ -345,27 +339,27 @@ fn clock_time(at: &Place<'_>, time: &str) -> Result<(), ConfigFault>
 }
 
 /// Judges the thresholds of a monitor of a value of this kind.
-fn thresholds(at: &Place<'_>, kind: Option<Kind>, texts: &[String]) -> Result<(), ConfigFault>
+fn thresholds(at: &Place<'_>, kind: Option<Kind>, texts: &[HexValue]) -> Result<(), ConfigFault>
     ensures { Gives (λ u. u) result
-        (walks.each (of_kind kind) (at.now ++ codes ".thresholds") (map string_bytes texts.now)) }
+        (walks.each (of_kind kind) (at.now ++ codes ".thresholds") texts.now) }
 {
-    each_text_below(&Threshold { kind }, at, ".thresholds", texts)
+    each_below(&Threshold { kind }, at, ".thresholds", texts)
 }
 
 /// The monitored value is a number, and the thresholds are of its kind.
 fn monitor_values(
-    kinds: &Kinds<'_, '_>,
+    directory: &Directory<'_>,
     at: &Place<'_>,
     monitored: &TargetParts,
-    texts: &[String],
+    texts: &[HexValue],
 ) -> Result<(), ConfigFault>
     ensures { Gives (λ u. u) result (followed_by
         (faults.fault_if Value (at.now ++ codes ".monitored.index")
-        (not (spec.may_be_number (kind_at kinds.now monitored.now))))
-        (walks.each (of_kind (kind_at kinds.now monitored.now))
-        (at.now ++ codes ".thresholds") (map string_bytes texts.now))) }
+        (not (spec.may_be_number (spec.kind_named directory.now.config.now monitored.now.object))))
+        (walks.each (of_kind (spec.kind_named directory.now.config.now monitored.now.object))
+        (at.now ++ codes ".thresholds") texts.now)) }
 {
-    let kind = kinds.named(monitored.object.as_str());
+    let kind = kind_at(directory, monitored);
     let right = may_be_number(kind);
     fault_if(Code::Value, at, ".monitored.index", !right)?;
     thresholds(at, kind, texts)
@@ -374,29 +368,27 @@ fn monitor_values(
 /// The values in an object's body.
 #[tactic(auto, unfolding(config_rules::specs::Passes::valid_values_in))]
 fn valid_values_in(
-    kinds: &Kinds<'_, '_>,
+    directory: &Directory<'_>,
     at: &Place<'_>,
     body: &BodyParts,
 ) -> Result<(), ConfigFault>
-    ensures { Gives (λ u. u) result (passes.valid_values_in (config_of kinds.now) at.now
+    ensures { Gives (λ u. u) result (passes.valid_values_in directory.now.config.now at.now
         (body_text body.now)) }
 {
     match body {
-        BodyParts::Data { value } => data_value(at, value.as_str()),
-        BodyParts::Register { value, default, .. } => {
-            register_values(at, value.as_str(), default.as_str())
-        }
+        BodyParts::Data { value } => data_value(at, value),
+        BodyParts::Register { value, default, .. } => register_values(at, value, default),
         BodyParts::Clock { time } => clock_time(at, time.as_str()),
         BodyParts::ScriptTable { scripts } => {
-            each_action(&ActionValue { kinds }, at, scripts.as_slice())
+            each_action(&ActionValue { directory }, at, scripts.as_slice())
         }
         BodyParts::RegisterMonitor {
             monitored,
             thresholds,
             ..
-        } => monitor_values(kinds, at, monitored, thresholds.as_slice()),
+        } => monitor_values(directory, at, monitored, thresholds.as_slice()),
         BodyParts::SingleActionSchedule { times, .. } => {
-            each_text_below(&TimeText, at, ".times", times.as_slice())
+            each_below(&TimeText, at, ".times", times.as_slice())
         }
         BodyParts::ProfileGeneric { .. } | BodyParts::Unknown => Ok(()),
     }
@@ -404,20 +396,19 @@ fn valid_values_in(
 
 /// The values of an object.
 #[derive(Drop)]
-struct ObjectValues<'k, 'd, 'c> {
-    kinds: &'k Kinds<'d, 'c>,
+struct ObjectValues<'d, 'c> {
+    directory: &'d Directory<'c>,
 }
 
-impl<'k, 'd, 'c> Judge for ObjectValues<'k, 'd, 'c> {
+impl<'d, 'c> Judge for ObjectValues<'d, 'c> {
     ghost use Rattle.config_rules.specs.Passes.{valid_values_in};
-    ghost use Rattle.config_judge.specs.Values.{config_of};
 
     type Part = ObjectParts;
 
-    ghost judges = { λ all at o. valid_values_in (config_of all.kinds.now) at o.body };
+    ghost judges = { λ all at o. valid_values_in all.directory.now.config.now at o.body };
 
     fn judge(&self, at: &Place<'_>, object: &ObjectParts) -> Result<(), ConfigFault> {
-        valid_values_in(self.kinds, at, &object.body)
+        valid_values_in(self.directory, at, &object.body)
     }
 }
 
@@ -430,9 +421,8 @@ impl<'k, 'd, 'c> Judge for ObjectValues<'k, 'd, 'c> {
 pub(crate) fn valid_values(alloc: Global, directory: &Directory<'_>) -> Result<(), ConfigFault>
     ensures { Gives (λ u. u) result (passes.valid_values directory.now.config.now) }
 {
-    let kinds = Kinds::new(alloc, directory)?;
     let config = directory.config;
     let objects = config.objects.as_slice();
     let object_place = Place::top(alloc, "object");
-    each(&ObjectValues { kinds: &kinds }, &object_place, objects)
+    each(&ObjectValues { directory }, &object_place, objects)
 }

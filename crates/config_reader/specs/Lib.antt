@@ -1,2 +1,3 @@
+pub mod Among
 pub mod ConfigOf
 pub mod Room

@@ -7,6 +7,7 @@ mod objects;
 mod plan;
 mod policy;
 mod reading;
+mod resolved;
 mod scripts;
 mod targets;
 

@@ -1,5 +1,5 @@
 //! The objects of a configuration.
-ghost use Rattle.std.specs.Prelude.{◌≡◌, ◌≤◌, IfOk, map, length, option_map, true, string_bytes};
+ghost use Rattle.std.specs.Prelude.{◌≡◌, ◌≤◌, IfOk, map, length, option_map, true};
 ghost use Rattle.std.specs.List.{list_all};
 ghost use Rattle.cosem_data.specs.View.{tree};
 ghost use Rattle.config_text.specs.BodyView.{body_text};
@@ -17,6 +17,7 @@ use class_profile::profile::ProfilePart;
 use config_judge::arrays::{times_of, value_or_null, values_of};
 use config_judge::directory::Directory;
 use config_judge::targets::{cell_named, cells_named, name_of, script_named};
+use config_text::hex_value::{HexBytes, HexValue};
 use config_text::parts::{
     AlternativeParts, BodyParts, CaptureParts, ObjectParts, ScriptRefParts, TargetParts,
     UpDownParts,
@@ -32,8 +33,8 @@ use std::alloc::Global;
 
 fn register(
     alloc: Global,
-    value: &str,
-    default: &str,
+    value: &HexValue,
+    default: &HexValue,
     scaler_unit: ScalerUnit,
 ) -> Result<Part, Memory>
     ensures { IfOk result (λ part. part_of part
@@ -87,12 +88,12 @@ fn monitor(
     alloc: Global,
     directory: &Directory,
     monitored: &TargetParts,
-    thresholds: &[String],
+    thresholds: &[HexValue],
     actions: &[UpDownParts],
 ) -> Result<Part, Memory>
     ensures { IfOk result (λ part. part_of part ≡ theory.RegisterMonitor
         (plan.cell_named directory.now.config.now monitored.now)
-        (plan.thresholds_value (map string_bytes thresholds.now)) (map plan.up_down_of actions.now)) }
+        (plan.thresholds_value thresholds.now) (map plan.up_down_of actions.now)) }
 {
     let start = Data::Array(Items::new(values_of(alloc, thresholds)?));
     let actions = actions_of(alloc, actions)?;
@@ -108,11 +109,11 @@ fn schedule(
     script: &ScriptRefParts,
     menu: &Option<Vec<ScriptRefParts>>,
     execution_type: u8,
-    times: &[String],
+    times: &[HexBytes],
 ) -> Result<Part, Memory>
     ensures { IfOk result (λ part. part_of part ≡ theory.SingleActionSchedule
         (plan.scripts_of (record { start = script.now; menu = option_map (λ scripts. scripts.items) menu.now }))
-        execution_type (plan.times_value (map string_bytes times.now))) }
+        execution_type (plan.times_value times.now)) }
 {
     let start = Data::Array(Items::new(times_of(alloc, times)?));
     let menu = script_menu(alloc, menu)?;
@@ -133,7 +134,7 @@ fn part(alloc: Global, directory: &Directory, body: &BodyParts) -> Result<Part, 
 {
     match body {
         BodyParts::Data { value } => Ok(Part::Data(DataPart {
-            start: value_or_null(alloc, value.as_str())?,
+            start: value_or_null(alloc, value)?,
         })),
         BodyParts::Register {
             value,
@@ -145,7 +146,7 @@ fn part(alloc: Global, directory: &Directory, body: &BodyParts) -> Result<Part, 
                 scaler: *scaler,
                 unit: *unit,
             };
-            register(alloc, value.as_str(), default.as_str(), scaler_unit)
+            register(alloc, value, default, scaler_unit)
         }
         BodyParts::ProfileGeneric {
             capture,
@@ -209,7 +210,7 @@ pub(crate) fn objects_of(
     ensures { IfOk result (λ objects. objects.items
         ≡ map (plan.object_of directory.now.config.now) parts.now) }
 {
-    let mut objects = Vec::new(alloc);
+    let mut objects = Vec::with_capacity(alloc, parts.len())?;
     for part in parts {
         objects.push(object(alloc, directory, part)?)?;
     }

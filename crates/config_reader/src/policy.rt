@@ -14,8 +14,7 @@ use cosem_data::cell::CellRef;
 use cosem_data::clients::ClientSet;
 use cosem_data::memory::Memory;
 use meter_theory::flow::Label;
-use object_model::plan::Plan;
-use object_model::policy::{Policy, PolicyParts};
+use object_model::policy::PolicyParts;
 use std::alloc::Global;
 
 /// The clients with these names.
@@ -23,9 +22,11 @@ fn clients_named(directory: &Directory, names: &[String]) -> ClientSet
     requires few { length directory.now.config.now.clients ≤ CLIENTS }
     ensures { HasNamed directory.now.config.now (map string_bytes names.now) result }
 {
+    let config = directory.config;
+    let clients = config.clients.as_slice();
     let mut set = ClientSet::new();
     for name in names {
-        set = set.with(client_place(directory, name.as_str()));
+        set = set.with(client_place(clients, name.as_str()));
     }
     set
 }
@@ -50,7 +51,7 @@ fn labels_of(
     requires few { length directory.now.config.now.clients ≤ CLIENTS }
     ensures { IfOk result (λ table. AreLabelsOf directory.now.config.now labels.now table.items) }
 {
-    let mut table = Vec::new(alloc);
+    let mut table = Vec::with_capacity(alloc, labels.len())?;
     for label in labels {
         let cell = cell_named(directory, &label.target);
         table.push((cell, label_of(directory, &label.sets)))?;
@@ -58,16 +59,15 @@ fn labels_of(
     Ok(table)
 }
 
-/// The policy of a configuration without faults, for its plan.
-pub(crate) fn policy_of(alloc: Global, directory: &Directory, plan: &Plan) -> Result<Policy, Memory>
+/// What makes the policy of a configuration without faults.
+pub(crate) fn policy_parts(alloc: Global, directory: &Directory) -> Result<PolicyParts, Memory>
     requires faultless { IsFaultless directory.now.config.now }
-    ensures { IfOk result (λ policy. IsPolicyOf directory.now.config.now policy) }
+    ensures { IfOk result (λ parts. IsPolicyOf directory.now.config.now (model.policy_of parts)) }
 {
     faultless_configurations_have_room();
     let config = directory.config;
-    let parts = PolicyParts {
+    Ok(PolicyParts {
         table: labels_of(alloc, directory, config.labels.as_slice())?,
         default: label_of(directory, &config.policy),
-    };
-    Policy::new(plan, parts)
+    })
 }

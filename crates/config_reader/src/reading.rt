@@ -1,34 +1,58 @@
 //! A configuration's text read whole.
-ghost use Rattle.std.specs.Prelude.{◌≡◌, IfOk, IfErr};
+ghost use Rattle.std.specs.Prelude.{◌≡◌, IfOk, IfErr, map};
+ghost use Rattle.object_model.specs.PolicyView as model;
 ghost use Rattle.config_text.specs.Fault.{Gives};
 ghost use Rattle.config_text.specs.declared.fault.ConfigFault.TheVariants as faults;
 ghost use Rattle.config_rules.specs.Faultless.{IsFaultless, IsPolicyOf};
+ghost use Rattle.config_rules.specs.Passes.{judged};
 ghost use Rattle.config_rules.specs.PlanOf as config;
+ghost use Rattle.config_rules.specs.Read.{IsRead};
 ghost use Rattle.config_reader.specs.ConfigOf.{Reads, config_of};
 
 use crate::laws::configurations_are_read;
 use crate::plan::plan_of;
-use crate::policy::policy_of;
+use crate::resolved::{Resolved, resolve};
 use config_judge::directory::Directory;
 use config_judge::judge;
 use config_text::fault::ConfigFault;
+use config_text::parts::ConfigParts;
 use config_text::read_tables;
 use object_model::plan::Plan;
 use object_model::policy::Policy;
 use std::alloc::Global;
 
-/// The plan and the policy of a configuration without faults.
+/// What the names of a configuration lead to, once it is judged.
+fn judge_and_resolve(alloc: Global, parts: &ConfigParts) -> Result<Resolved, ConfigFault>
+    requires { IsRead parts.now }
+    ensures judged { Gives (λ _. tt) result (judged parts.now) }
+    ensures objects { IfOk result (λ resolved. resolved.objects.items
+        ≡ map (config.object_of parts.now) parts.now.objects) }
+    ensures policy { IfOk result (λ resolved. IsPolicyOf parts.now (model.policy_of resolved.policy)) }
+{
+    let directory = Directory::new(alloc, parts)?;
+    judge(alloc, &directory)?;
+    Ok(resolve(alloc, &directory)?)
+}
+
+/// The plan and the policy of a configuration without faults, of which this is resolved.
 ///
 /// # Errors
 /// C0 where memory was refused, and no other.
-fn make(alloc: Global, directory: &Directory) -> Result<(Plan, Policy), ConfigFault>
-    requires { IsFaultless directory.now.config.now }
-    ensures plan { IfOk result (λ made. made.0 ≡ config.plan_of directory.now.config.now) }
-    ensures policy { IfOk result (λ made. IsPolicyOf directory.now.config.now made.1) }
+fn make(
+    alloc: Global,
+    parts: ConfigParts,
+    resolved: Resolved,
+) -> Result<(Plan, Policy), ConfigFault>
+    requires faultless { IsFaultless parts }
+    requires objects { resolved.objects.items ≡ map (config.object_of parts) parts.objects }
+    requires policy { IsPolicyOf parts (model.policy_of resolved.policy) }
+    ensures plan { IfOk result (λ made. made.0 ≡ config.plan_of parts) }
+    ensures policy { IfOk result (λ made. IsPolicyOf parts made.1) }
     ensures memory { IfErr result (λ e. e ≡ faults.Memory) }
 {
-    let plan = plan_of(alloc, directory)?;
-    let policy = policy_of(alloc, directory, &plan)?;
+    let Resolved { objects, policy } = resolved;
+    let plan = plan_of(alloc, parts, objects)?;
+    let policy = Policy::new(&plan, policy)?;
     Ok((plan, policy))
 }
 
@@ -42,8 +66,7 @@ pub fn read_config(alloc: Global, text: &str) -> Result<(Plan, Policy), ConfigFa
     ensures { Reads result (config_of text.now) }
 {
     configurations_are_read();
-    let config = read_tables(alloc, text)?;
-    let directory = Directory::new(alloc, &config)?;
-    judge(alloc, &directory)?;
-    make(alloc, &directory)
+    let parts = read_tables(alloc, text)?;
+    let resolved = judge_and_resolve(alloc, &parts)?;
+    make(alloc, parts, resolved)
 }

@@ -1,5 +1,5 @@
 //! The scripts of a configuration.
-ghost use Rattle.std.specs.Prelude.{◌≡◌, IfOk, map, option_map, string_bytes, true};
+ghost use Rattle.std.specs.Prelude.{◌≡◌, IfOk, map, true};
 ghost use Rattle.std.specs.List.{list_all};
 ghost use Rattle.cosem_data.specs.View.{tree};
 ghost use Rattle.class_control.specs.ActionView.{action_of, has_index};
@@ -11,19 +11,19 @@ use class_control::script::Script;
 use config_judge::arrays::value_or_null;
 use config_judge::directory::Directory;
 use config_judge::targets::{cell_named, method_named};
+use config_text::hex_value::HexValue;
 use config_text::parts::{ActionParts, ScriptParts};
 use config_text::service::Service;
 use cosem_data::data::Data;
 use cosem_data::memory::Memory;
 use std::alloc::Global;
 
-/// An action's value, null-data where it has none.
-fn parameter_of(alloc: Global, value: &Option<String>) -> Result<Data, Memory>
-    ensures { IfOk result (λ parameter. tree parameter
-        ≡ plan.parameter_of (option_map string_bytes value.now)) }
+/// A copy of an action's value, null-data where it has none.
+fn parameter_of(alloc: Global, value: &Option<HexValue>) -> Result<Data, Memory>
+    ensures { IfOk result (λ parameter. tree parameter ≡ plan.parameter_of value.now) }
 {
     match value {
-        Some(text) => value_or_null(alloc, text.as_str()),
+        Some(hex) => value_or_null(alloc, hex),
         None => Ok(Data::NullData),
     }
 }
@@ -56,7 +56,7 @@ fn actions(
         ≡ map (λ a. plan.action_of directory.now.config.now a.service a.target a.value) parts.now) }
     ensures indexes { IfOk result (λ list. list_all has_index list.items ≡ true) }
 {
-    let mut list = Vec::new(alloc);
+    let mut list = Vec::with_capacity(alloc, parts.len())?;
     for part in parts {
         list.push(action(alloc, directory, part)?)?;
     }
@@ -83,7 +83,7 @@ pub(crate) fn scripts_of(
     ensures { IfOk result (λ scripts. map script_of scripts.items
         ≡ map (plan.script_of directory.now.config.now) parts.now) }
 {
-    let mut scripts = Vec::new(alloc);
+    let mut scripts = Vec::with_capacity(alloc, parts.len())?;
     for part in parts {
         scripts.push(script(alloc, directory, part)?)?;
     }

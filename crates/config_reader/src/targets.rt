@@ -19,7 +19,7 @@ fn alternatives_of(
     ensures { IfOk result (λ menu. map (λ cells. cells.items) menu.items
         ≡ map (plan.cells_named directory.now.config.now) alternatives.now) }
 {
-    let mut menu = Vec::new(alloc);
+    let mut menu = Vec::with_capacity(alloc, alternatives.len())?;
     for alternative in alternatives {
         menu.push(cells_named(alloc, directory, alternative.captures.as_slice())?)?;
     }
@@ -46,7 +46,7 @@ pub(crate) fn capture_menu(
 fn scripts_named(alloc: Global, scripts: &[ScriptRefParts]) -> Result<Vec<ScriptRef>, Memory>
     ensures { IfOk result (λ menu. menu.items ≡ map plan.script_named scripts.now) }
 {
-    let mut menu = Vec::new(alloc);
+    let mut menu = Vec::with_capacity(alloc, scripts.len())?;
     for script in scripts {
         menu.push(script_named(script))?;
     }
@@ -71,7 +71,7 @@ pub(crate) fn script_menu(
 pub(crate) fn actions_of(alloc: Global, actions: &[UpDownParts]) -> Result<Vec<UpDown>, Memory>
     ensures { IfOk result (λ list. list.items ≡ map plan.up_down_of actions.now) }
 {
-    let mut list = Vec::new(alloc);
+    let mut list = Vec::with_capacity(alloc, actions.len())?;
     for action in actions {
         list.push(UpDown {
             up: script_named(&action.up),

@@ -1,4 +1,4 @@
--- What the tables of a configuration say, before names are looked up and values are decoded. Texts are lists of bytes.
+-- What the tables of a configuration say, before names are looked up. Texts are lists of bytes.
 use Rattle.std.specs.Prelude.{ℕ, ℤ, Bool, List, Option}
 use Rattle.config_text.specs.declared.service.Service.{Service}
 

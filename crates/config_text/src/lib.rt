@@ -6,6 +6,8 @@
 mod client;
 mod clock;
 pub mod fault;
+pub mod hex_value;
+mod kept;
 mod key_text;
 mod keys;
 mod lists;

@@ -1,11 +1,12 @@
 //! What the elements of an array say, if they are texts or numbers.
 
-ghost use Rattle.std.specs.Prelude.{◌≡◌, map, option_map, string_bytes};
+ghost use Rattle.std.specs.Prelude.{◌≡◌, map, option_map};
 ghost use Rattle.toml.specs.View.{view, table_view, array_view};
 ghost use Rattle.config_text.specs.Fault.{Gives};
 ghost use Rattle.config_text.specs.Lists as spec;
 
 use crate::fault::{Code, ConfigFault, fault};
+use crate::kept::Kept;
 use crate::lookup::{array, value_at};
 use crate::place::Place;
 use crate::values::natural;
@@ -28,20 +29,20 @@ pub(crate) fn array_at<'a>(
 }
 
 /// One text of an array.
-fn text_of(name: &Place<'_>, i: usize, value: &Value) -> Result<String, ConfigFault>
-    ensures { Gives (λ s. string_bytes s) result
+fn text_of<K: Kept>(name: &Place<'_>, i: usize, value: &Value) -> Result<K, ConfigFault>
+    ensures { Gives (λ text. K.says text) result
         (spec.text_of (spec.element_place name.now i) (view value.now)) }
 {
     match value.as_str() {
-        Some(text) => Ok(String::from_str(name.alloc(), text)?),
+        Some(text) => Ok(K::keep(name.alloc(), text)?),
         None => Err(fault(Code::Kind, &name.element(i), "")),
     }
 }
 
 /// The texts of an array.
 #[tactic(auto, unfolding(crate::specs::Lists::each))]
-fn each_text(name: &Place<'_>, array: &Array) -> Result<Vec<String>, ConfigFault>
-    ensures { Gives (λ v. map string_bytes v.items) result (spec.each spec.text_of name.now 0
+fn each_text<K: Kept>(name: &Place<'_>, array: &Array) -> Result<Vec<K>, ConfigFault>
+    ensures { Gives (λ v. map K.says v.items) result (spec.each spec.text_of name.now 0
         (array_view array.now)) }
 {
     let mut all = Vec::with_capacity(name.alloc(), array.len())?;
@@ -56,8 +57,12 @@ fn each_text(name: &Place<'_>, array: &Array) -> Result<Vec<String>, ConfigFault
 /// # Errors
 /// C3 at the key where it is no array, and at the first element that is no text.
 #[tactic(auto, unfolding(crate::specs::Lists::texts_at))]
-pub(crate) fn texts_at(at: &Place<'_>, key: &str, table: &Table) -> Result<Vec<String>, ConfigFault>
-    ensures { Gives (λ v. map string_bytes v.items) result (spec.texts_at at.now key.now
+pub(crate) fn texts_at<K: Kept>(
+    at: &Place<'_>,
+    key: &str,
+    table: &Table,
+) -> Result<Vec<K>, ConfigFault>
+    ensures { Gives (λ v. map K.says v.items) result (spec.texts_at at.now key.now
         (table_view table.now)) }
 {
     let items = array_at(at, key, table)?;

@@ -1,6 +1,7 @@
-//! What the tables of a configuration say (own profile), before names are looked up and values are decoded.
+//! What the tables of a configuration say (own profile), before names are looked up. Values are decoded, and not yet judged.
 ghost use Rattle.std.specs.Prelude.{◌<◌};
 
+use crate::hex_value::{HexBytes, HexValue};
 use crate::service::Service;
 use std::marker::Model;
 
@@ -102,21 +103,16 @@ impl Model for ScriptRefParts {
 pub struct ActionParts {
     pub service: Service,
     pub target: TargetParts,
-    /// The hex text of the value's encoding.
-    pub value: Option<String>,
+    /// What is written, or the method's parameter.
+    pub value: Option<HexValue>,
 }
 
 impl Model for ActionParts {
-    ghost use Rattle.std.specs.Prelude.{option_map, string_bytes};
     ghost use Rattle.config_text.specs.Parts.{ActionText};
 
     ghost Value = { ActionText };
 
-    ghost view = { λ a. record {
-      service = a.service;
-      target = a.target;
-      value = option_map string_bytes a.value;
-    } };
+    ghost view = { λ a. record { service = a.service; target = a.target; value = a.value } };
 }
 
 /// A script (IEC 62056-6-2, Script table).
@@ -151,18 +147,17 @@ impl Model for UpDownParts {
     ghost view = { λ a. record { up = a.up; down = a.down } };
 }
 
-/// What an object's class says of it (IEC 62056-6-2, interface classes): a form for each class that is known. Values are the hex
-/// texts of their encodings.
+/// What an object's class says of it (IEC 62056-6-2, interface classes): a form for each class that is known.
 #[derive(Debug, Drop)]
 pub enum BodyParts {
     /// The start of its value.
     Data {
-        value: String,
+        value: HexValue,
     },
     /// The start of its value, what a reset puts, and its scaler and unit.
     Register {
-        value: String,
-        default: String,
+        value: HexValue,
+        default: HexValue,
         scaler: i8,
         unit: u8,
     },
@@ -186,14 +181,14 @@ pub enum BodyParts {
     /// What is monitored, its thresholds, and what is run at each.
     RegisterMonitor {
         monitored: TargetParts,
-        thresholds: Vec<String>,
+        thresholds: Vec<HexValue>,
         actions: Vec<UpDownParts>,
     },
-    /// The type is 1 to 5, the times are hex texts of nine bytes.
+    /// The type is 1 to 5, the times are of nine bytes.
     SingleActionSchedule {
         script: ScriptRefParts,
         kind: u8,
-        times: Vec<String>,
+        times: Vec<HexBytes>,
         /// The alternatives to its script.
         menu: Option<Vec<ScriptRefParts>>,
     },

@@ -88,7 +88,8 @@ fn parts_of(alloc: Global, table: &Table) -> Result<ConfigParts, ConfigFault>
     })
 }
 
-/// Reads what the tables of a configuration text say (own profile), before names are looked up and values are decoded.
+/// Reads what the tables of a configuration text say (own profile), before names are looked up. Values are decoded, and not yet
+/// judged.
 ///
 /// # Errors
 /// The first fault of the least code that is met, at its place:

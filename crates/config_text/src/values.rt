@@ -9,6 +9,7 @@ ghost use Rattle.config_text.specs.Fault.{Gives};
 ghost use Rattle.config_text.specs.Values as spec;
 
 use crate::fault::{Code, ConfigFault, fault};
+use crate::kept::Kept;
 use crate::lookup::{integer, text, value_at};
 use crate::place::Place;
 use toml::Table;
@@ -18,11 +19,11 @@ use toml::Table;
 /// # Errors
 /// C3 at the key where it isn't a text.
 #[tactic(auto, unfolding(crate::specs::Values::text_at))]
-pub(crate) fn text_at(at: &Place<'_>, key: &str, table: &Table) -> Result<String, ConfigFault>
-    ensures { Gives (λ s. string_bytes s) result (spec.text_at at.now key.now (table_view table.now)) }
+pub(crate) fn text_at<K: Kept>(at: &Place<'_>, key: &str, table: &Table) -> Result<K, ConfigFault>
+    ensures { Gives (λ text. K.says text) result (spec.text_at at.now key.now (table_view table.now)) }
 {
     match text(table, key) {
-        Some(found) => Ok(String::from_str(at.alloc(), found)?),
+        Some(found) => Ok(K::keep(at.alloc(), found)?),
         None => Err(fault(Code::Kind, at, key)),
     }
 }
@@ -32,17 +33,17 @@ pub(crate) fn text_at(at: &Place<'_>, key: &str, table: &Table) -> Result<String
 /// # Errors
 /// C3 at the key where it isn't a text.
 #[tactic(auto, unfolding(crate::specs::Values::optional_text_at))]
-pub(crate) fn optional_text_at(
+pub(crate) fn optional_text_at<K: Kept>(
     at: &Place<'_>,
     key: &str,
     table: &Table,
-) -> Result<Option<String>, ConfigFault>
-    ensures { Gives (λ s. option_map string_bytes s) result (spec.optional_text_at at.now key.now
+) -> Result<Option<K>, ConfigFault>
+    ensures { Gives (λ text. option_map K.says text) result (spec.optional_text_at at.now key.now
         (table_view table.now)) }
 {
     match value_at(table, key) {
         Some(value) => match value.as_str() {
-            Some(found) => Ok(Some(String::from_str(at.alloc(), found)?)),
+            Some(found) => Ok(Some(K::keep(at.alloc(), found)?)),
             None => Err(fault(Code::Kind, at, key)),
         },
         None => Ok(None),

@@ -3,9 +3,7 @@ use Rattle.config_judge.proofs.limits.limits_in.Goals as goal
 
 pub returns-in-Register : goal.returns-in-Register
 unfolding limits_in
-returns-in-Register c =
-    rw c.in-Register.is
-    (rw (c.as_str-in-Register.ensures.value, c.as_str-in-Register-2.ensures.value) at c.register_limits.ensures)
+returns-in-Register c = rw c.in-Register.is c.register_limits.ensures
 
 pub returns-in-ProfileGeneric : goal.returns-in-ProfileGeneric
 unfolding limits_in
