@@ -4,13 +4,13 @@ use crate::hex_text::bytes_of;
 use crate::kind::Kind;
 use crate::texts::{Texts, parted, stored, stored_or_empty};
 use crate::wanted::Wanted;
-use meter_server::files::TextFiles;
 use meter_server::program::run_program;
 use std::alloc::Global;
 use std::net::{Net, TcpListener, TcpStream};
 use std::sync::Wait;
 use std::thread::Threads;
 use std::time::Clock;
+use text_files::TextFiles;
 
 /// The words of the command lines over a configuration and labels in memory, one a line.
 const RUN: &str = "run\ndemo.toml";

@@ -1,10 +1,9 @@
 //! Texts of the cases: stored in files, and a configuration and its labels as files in memory.
 use crate::copies::with_copies;
 use crate::kind::Kind;
-use explanations::file::FileFault;
-use meter_server::files::TextFiles;
 use std::alloc::Global;
 use std::fs;
+use text_files::{FileFault, TextFiles};
 
 /// The text of the file in the current folder whose path these three parts make.
 pub(crate) fn stored(host: &HostRuntime, front: &str, name: &str, end: &str) -> Option<String> {

@@ -6,4 +6,3 @@ pub mod Advice
 pub mod Config
 pub mod Labels
 pub mod Refusals
-pub mod Files

@@ -1,3 +1,4 @@
 pub mod Dealt
 pub mod Equal
 pub mod Joined
+pub mod Fleets

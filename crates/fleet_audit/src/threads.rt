@@ -15,7 +15,7 @@ use std::thread::{Threads, join};
 ///
 /// # Errors
 /// Memory was refused for the list of what is given.
-pub fn in_threads<R: Threads + Sync, X: Send + Drop, F: Fn(usize) -> X + Sync>(
+pub(crate) fn in_threads<R: Threads + Sync, X: Send + Drop, F: Fn(usize) -> X + Sync>(
     rt: &R,
     alloc: Global,
     count: usize,

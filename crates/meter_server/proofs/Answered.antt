@@ -1,17 +1,17 @@
 -- What commands come to over files.
 use Rattle.std.proofs.Common.{◌≡◌, ℕ, List, sym, subst, Result, Ok, Err}
 use Rattle.std.specs.Prelude.{◌≢◌}
-use Rattle.explanations.specs.declared.file.FileFault.{FileFault}
 use Rattle.verdict.specs.declared.Verdict.{Verdict}
 use Rattle.verdict.specs.declared.Verdict.TheVariants.{Accepted, Config, Labels, Refused}
 use Rattle.live_server.specs.declared.fault.ServerFault.{ServerFault}
 use Rattle.meter_server.specs.Answering.{IsFile, IsNoAcceptance, IsServed, TellsUnread}
 use Rattle.meter_server.specs.Outcomes.{ended}
 use Rattle.meter_server.specs.Program.{IsJudged}
-use Rattle.meter_server.specs.Reading.{MayRead}
 use Rattle.meter_server.specs.declared.outcome.Outcome.{Outcome}
 use Rattle.meter_server.specs.declared.outcome.Outcome.TheVariants.{Done, Judged, Words, Unread, Stranger, Fault, Broken, Unserved, Audited, Unaudited, Unwritten, Untranslated, Closed}
 use Rattle.meter_server.specs.declared.texts.Source.{Source}
+use Rattle.text_files.specs.Files.{MayRead}
+use Rattle.text_files.specs.declared.FileFault.{FileFault}
 
 -- a file that was read, as a source
 pub file-read : (reads : MayRead) (path text : List ℕ) (source : Source) → source.file.now ≡ path → source.text.now ≡ text → reads path (Ok text) → IsFile reads path source

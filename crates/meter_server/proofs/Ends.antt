@@ -4,7 +4,7 @@ use Rattle.command_words.specs.declared.fault.WordsFault.{WordsFault}
 use Rattle.command_words.specs.declared.fault.WordsFault.TheVariants as words
 use Rattle.meter_server.specs.Outcomes.{output_of, status_of, unless_closed}
 use Rattle.meter_server.specs.Program.{AreMistaken, AskForHelp, IsNoCommand, TellsVerdict}
-use Rattle.meter_server.specs.declared.listing.ListFault.TheVariants.{Write, Memory}
+use Rattle.plan_lists.specs.declared.fault.ListFault.TheVariants.{Write, Memory}
 use Rattle.meter_server.specs.declared.outcome.Outcome.{Outcome}
 use Rattle.meter_server.specs.declared.outcome.Outcome.TheVariants.{Done, Judged, Words, Unread, Stranger, Fault, Broken, Unserved, Audited, Unaudited, Unwritten, Untranslated, Closed}
 

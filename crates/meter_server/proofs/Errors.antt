@@ -4,7 +4,7 @@ use Rattle.std.proofs.KnownBytes.{Appends-trans}
 use Rattle.std.specs.Io.KnownBytes.{Appends}
 use Rattle.whole_writes.specs.declared.WriteFailed.{WriteFailed}
 use Rattle.meter_server.specs.Answering.{TellsError, WritesError}
-use Rattle.meter_server.specs.declared.listing.ListFault.TheVariants as lists
+use Rattle.plan_lists.specs.declared.fault.ListFault.TheVariants as lists
 use Rattle.meter_server.specs.declared.outcome.Outcome.{Outcome}
 
 -- that there was none, or a beginning of this

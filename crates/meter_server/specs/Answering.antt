@@ -11,9 +11,12 @@ use Rattle.config_rules.specs.PlanOf.{plan_of}
 use Rattle.config_text.specs.Fault.{Fault as Faulty, Fails}
 use Rattle.config_text.specs.Parts.{ConfigText}
 use Rattle.config_text.specs.declared.fault.ConfigFault.{ConfigFault}
-use Rattle.explanations.specs.declared.file.FileFault.{FileFault}
 use Rattle.verdict.specs.Judging.{IsVerdict}
+use Rattle.fleet_audit.specs.Reading.{AreTextsOf, FailsFirst}
+use Rattle.fleet_audit.specs.Telling.{TellsAudit}
 use Rattle.fleet_audit.specs.declared.fault.AuditFault.TheVariants as audits
+use Rattle.fleet_audit.specs.declared.reading.FleetFault.{FleetFault}
+use Rattle.fleet_audit.specs.declared.reading.FleetFault.TheVariants as fleets
 use Rattle.fleet_audit.specs.declared.text.Text.{Text}
 use Rattle.verdict.specs.declared.Verdict.{Verdict}
 use Rattle.verdict.specs.declared.Verdict.TheVariants.{Accepted}
@@ -21,25 +24,23 @@ use Rattle.flow_checker.specs.declared.check.Checked.{Checked}
 use Rattle.line_server.specs.Lines.{Moment}
 use Rattle.line_server.specs.declared.fault.LineFault.TheVariants as lines
 use Rattle.meter_theory.specs.Plan.{client_named}
-use Rattle.meter_server.specs.Auditing.{AuditsTexts}
-use Rattle.meter_server.specs.Connecting.{AnswersFrames}
-use Rattle.meter_server.specs.Listing.{WritesText}
 use Rattle.meter_server.specs.Noticing.{NoticesAs}
 use Rattle.meter_server.specs.Outcomes.{error_of, status_of, translated, unless_closed}
-use Rattle.meter_server.specs.Program.{AnswersText, IsFaulty, IsJudged, IsNoCommand, ListsEdges, ListsLabels, TellsVerdict}
-use Rattle.meter_server.specs.Reading.{AreTextsOf, FailsFirst, MayRead}
+use Rattle.meter_server.specs.Program.{AnswersFrames, AnswersText, IsFaulty, IsJudged, IsNoCommand, ListsEdges, ListsLabels, TellsVerdict}
 use Rattle.meter_server.specs.Sources.{Given, MayGive, ReadsWhere, is_input}
-use Rattle.meter_server.specs.Translating.{Translates}
 use Rattle.meter_server.specs.declared.demo.TheConstants.{DEMO}
-use Rattle.meter_server.specs.declared.listing.ListFault.{ListFault}
-use Rattle.meter_server.specs.declared.listing.ListFault.TheVariants as lists
 use Rattle.meter_server.specs.declared.outcome.Outcome.{Outcome}
-use Rattle.meter_server.specs.declared.outcome.Outcome.TheVariants.{Done, Judged, Words, Unread, Fault, Unaudited, Unserved}
+use Rattle.meter_server.specs.declared.outcome.Outcome.TheVariants.{Done, Judged, Words, Unread, Fault, Audited, Unaudited, Unserved}
 use Rattle.meter_server.specs.declared.texts.Source.{Source}
-use Rattle.meter_server.specs.declared.reading.FleetFault.{FleetFault}
-use Rattle.meter_server.specs.declared.reading.FleetFault.TheVariants as fleets
-use Rattle.meter_server.specs.declared.translating.TranslationFault.{TranslationFault}
-use Rattle.meter_server.specs.declared.translating.Way.TheVariants as ways
+use Rattle.plan_lists.specs.Listing.{WritesText}
+use Rattle.plan_lists.specs.declared.fault.ListFault.{ListFault}
+use Rattle.plan_lists.specs.declared.fault.ListFault.TheVariants as lists
+use Rattle.step_words.specs.Translating.{Translates}
+use Rattle.step_words.specs.declared.texts.Way.{Way}
+use Rattle.step_words.specs.declared.texts.Way.TheVariants as ways
+use Rattle.step_words.specs.declared.translating.TranslationFault.{TranslationFault}
+use Rattle.text_files.specs.Files.{MayRead}
+use Rattle.text_files.specs.declared.FileFault.{FileFault}
 
 -- Files
 
@@ -133,7 +134,8 @@ unread_fleet fleets.Memory = Unaudited audits.Memory
 abbrev pub AuditsFiles : MayRead → List (List ℕ) → Outcome → Type 0
 AuditsFiles reads names (Unread path why) = FailsFirst reads names (string_bytes path) why
 AuditsFiles reads names (Unaudited fault) = fault ≡ audits.Memory
-AuditsFiles reads names outcome = (texts : List Text) × AllZip (AreTextsOf reads) names texts × AuditsTexts names texts outcome
+AuditsFiles reads names (Audited text accepts) = (texts : List Text) × AllZip (AreTextsOf reads) names texts × TellsAudit names texts (record { text = text; is_accepted = accepts })
+AuditsFiles reads names _ = ⊥
 
 -- Commands
 
@@ -144,6 +146,11 @@ RunsFile reads path before after outcome = ByFile reads path (λ config. Answers
 -- how the frames of an input are answered by it
 abbrev pub ConnectsFile : MayRead → List ℕ → (before after : Moment) → Outcome → Type 0
 ConnectsFile reads path before after outcome = ByFile reads path (λ config. AnswersFrames config (config_of config.text.now) before after) (after ≡ before) outcome
+
+-- how an input is translated
+abbrev pub TellsTranslation : Way → (before after : Moment) → Outcome → Type 0
+TellsTranslation way before after outcome =
+    (result : Result (Unit {0}) TranslationFault) × Translates way before.unread after.unread before.written after.written result × (outcome ≡ translated result)
 
 -- a list of what the configuration in a text has
 abbrev pub Lister : Type 1
@@ -169,8 +176,8 @@ Answers reads (Audit workers names tells_progress) before after outcome = (after
 Answers reads (Session path) before after outcome = ConnectsFile reads path before after outcome
 Answers reads (Serve config labels address port sessions) before after outcome =
     (after.written ≡ before.written) × ServesFiles reads config labels before.unread after.unread outcome
-Answers reads Encode before after outcome = (result : Result (Unit {0}) TranslationFault) × Translates ways.Encode before after result × (outcome ≡ translated result)
-Answers reads Decode before after outcome = (result : Result (Unit {0}) TranslationFault) × Translates ways.Decode before after result × (outcome ≡ translated result)
+Answers reads Encode before after outcome = TellsTranslation ways.Encode before after outcome
+Answers reads Decode before after outcome = TellsTranslation ways.Decode before after outcome
 
 -- memory was refused before it was known what the words ask for, and nothing was done
 abbrev pub IsOutOfMemory : (before after : Moment) → Outcome → Type 0

@@ -1,11 +1,5 @@
 pub mod Answering
-pub mod Auditing
-pub mod Connecting
-pub mod Listing
 pub mod Noticing
 pub mod Outcomes
 pub mod Program
-pub mod Progress
-pub mod Reading
 pub mod Sources
-pub mod Translating

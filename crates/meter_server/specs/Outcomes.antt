@@ -3,28 +3,30 @@ use Rattle.std.specs.Fmt.{decimal}
 use Rattle.std.specs.Prelude.{ℕ, Bool, true, false, ◌&&◌, List, [], ◌++◌, if◌then◌else◌, string_bytes, codes, Result, Ok, Err}
 use Rattle.command_words.specs.declared.fault.WordsFault.{WordsFault}
 use Rattle.command_words.specs.declared.fault.WordsFault.TheVariants as words
-use Rattle.explanations.specs.Files as files
 use Rattle.explanations.specs.Printable.{printable}
-use Rattle.explanations.specs.declared.file.FileFault.{FileFault}
 use Rattle.fleet_audit.specs.Faults as audits
+use Rattle.fleet_audit.specs.declared.fault.AuditFault.{AuditFault}
+use Rattle.fleet_audit.specs.declared.telling.Told.{Told}
 use Rattle.frame_server.specs.Faults.{serve_fault_words}
 use Rattle.frame_server.specs.declared.fault.ServeFault.{ServeFault}
 use Rattle.line_server.specs.Faults.{fault_words, reason_words}
 use Rattle.live_server.specs.Faults as servers
 use Rattle.live_server.specs.declared.fault.ServerFault.{ServerFault}
-use Rattle.meter_server.specs.Listing as lists
-use Rattle.meter_server.specs.Translating as translations
 use Rattle.verdict.specs.Lines.{verdict_line}
-use Rattle.meter_server.specs.declared.listing.ListFault.{ListFault}
 use Rattle.meter_server.specs.declared.outcome.Outcome.{Outcome}
 use Rattle.meter_server.specs.declared.outcome.Outcome.TheVariants.{Done, Judged, Words, Unread, Stranger, Fault, Broken, Unserved, Audited, Unaudited, Unwritten, Untranslated, Closed}
 use Rattle.line_server.specs.declared.fault.LineFault.{LineFault}
 use Rattle.line_server.specs.declared.fault.LineFault.TheVariants.{Line}
 use Rattle.line_server.specs.declared.fault.LineFault.TheVariants as lines
 use Rattle.frame_server.specs.declared.fault.ServeFault.TheVariants as frames
-use Rattle.meter_server.specs.declared.listing.ListFault.TheVariants as lists_fault
-use Rattle.meter_server.specs.declared.translating.TranslationFault.TheVariants as texts
-use Rattle.meter_server.specs.declared.translating.TranslationFault.{TranslationFault}
+use Rattle.plan_lists.specs.Listing as lists
+use Rattle.plan_lists.specs.declared.fault.ListFault.{ListFault}
+use Rattle.plan_lists.specs.declared.fault.ListFault.TheVariants as lists_fault
+use Rattle.step_words.specs.Translating as translations
+use Rattle.step_words.specs.declared.translating.TranslationFault.{TranslationFault}
+use Rattle.step_words.specs.declared.translating.TranslationFault.TheVariants as texts
+use Rattle.text_files.specs.Files as files
+use Rattle.text_files.specs.declared.FileFault.{FileFault}
 use Rattle.verdict.specs.declared.Verdict.{Verdict}
 use Rattle.verdict.specs.declared.Verdict.TheVariants.{Accepted, Config, Labels, Refused}
 
@@ -52,6 +54,11 @@ listed (Err fault) = Unwritten fault
 abbrev pub translated : Result (Unit {0}) TranslationFault → Outcome
 translated (Ok u) = Done
 translated (Err fault) = Untranslated fault
+
+-- how a command ended whose fleet was audited so
+abbrev pub audited : Result Told AuditFault → Outcome
+audited (Ok told) = Audited told.text told.is_accepted
+audited (Err fault) = Unaudited fault
 
 -- the exit status of a verdict: 0 where it accepts
 abbrev pub status_of_verdict : Verdict → ℕ

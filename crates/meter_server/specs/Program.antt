@@ -13,15 +13,16 @@ use Rattle.config_text.specs.declared.fault.ConfigFault.{ConfigFault as FaultTol
 use Rattle.explanations.specs.Config.{Explains}
 use Rattle.explanations.specs.Labels as label_words
 use Rattle.explanations.specs.Refusals as refusal_words
+use Rattle.frame_server.specs.Alone.{ServesAlone}
 use Rattle.meter_theory.specs.Edges.{edges}
 use Rattle.line_server.specs.Lines.{Moment}
-use Rattle.meter_server.specs.Listing.{WritesLeast, WritesText, edges_text}
 use Rattle.meter_server.specs.Outcomes.{output_of}
 use Rattle.line_server.specs.Running.{RunsLines}
-use Rattle.meter_server.specs.declared.listing.ListFault.{ListFault}
 use Rattle.meter_server.specs.declared.outcome.Outcome.{Outcome}
-use Rattle.meter_server.specs.declared.outcome.Outcome.TheVariants.{Done, Judged, Words, Fault, Unwritten}
+use Rattle.meter_server.specs.declared.outcome.Outcome.TheVariants.{Done, Judged, Words, Fault, Broken, Unwritten}
 use Rattle.meter_server.specs.declared.texts.Source.{Source}
+use Rattle.plan_lists.specs.Listing.{WritesLeast, WritesText, edges_text}
+use Rattle.plan_lists.specs.declared.fault.ListFault.{ListFault}
 use Rattle.verdict.specs.declared.Verdict.{Verdict}
 use Rattle.verdict.specs.declared.Verdict.TheVariants.{Accepted, Config, Labels, Refused}
 
@@ -85,6 +86,13 @@ AnswersText config said before after (Judged (Config fault) text) = Fails fault 
 AnswersText config said before after Done = (c : ConfigText) × (said ≡ Ok c) × (count : ℕ) × RunsLines (plan_of c) before after (Ok count)
 AnswersText config said before after (Fault fault) = (c : ConfigText) × (said ≡ Ok c) × RunsLines (plan_of c) before after (Err fault)
 AnswersText config said before after _ = ⊥
+
+-- how the frames of a connection are answered by it: its fault is told and explained, and nothing is read or written; or they are answered by its plan
+abbrev pub AnswersFrames : Source → Result ConfigText ConfigFault → Moment → Moment → Outcome → Type 0
+AnswersFrames config said before after (Judged (Config fault) text) = Fails fault said × (after ≡ before) × IsTold (ExplainsFault config fault) (string_bytes text)
+AnswersFrames config said before after Done = (c : ConfigText) × (said ≡ Ok c) × (count : ℕ) × ServesAlone (plan_of c) before.unread after.unread before.written after.written (Ok count)
+AnswersFrames config said before after (Broken fault) = (c : ConfigText) × (said ≡ Ok c) × ServesAlone (plan_of c) before.unread after.unread before.written after.written (Err fault)
+AnswersFrames config said before after _ = ⊥
 
 -- how what the plan of a text's configuration has is listed: its fault is told and explained, and nothing is written; or the list is written as this says
 abbrev pub Lists : (ConfigText → Result (Unit {0}) ListFault → Type 0) → Source → Result ConfigText ConfigFault → (before after : Option (List ℕ)) → Outcome → Type 0

@@ -1,10 +1,10 @@
 -- Files, and the input in place of one (own profile throughout).
 use Rattle.std.specs.Prelude.{◌≡◌, ◌⊎◌, ℕ, List, Bool, true, false, codes, Option, Some, None, Result, Ok, Err}
 use Rattle.std.specs.Str.{bytes_eq}
-use Rattle.explanations.specs.declared.file.FileFault.{FileFault}
-use Rattle.explanations.specs.declared.file.FileFault.TheVariants.{Memory}
-use Rattle.meter_server.specs.Reading.{MayRead}
-use Rattle.meter_server.specs.Translating.{ReadsAll}
+use Rattle.step_words.specs.Translating.{ReadsAll}
+use Rattle.text_files.specs.Files.{MayRead}
+use Rattle.text_files.specs.declared.FileFault.{FileFault}
+use Rattle.text_files.specs.declared.FileFault.TheVariants.{Memory}
 
 -- what an input gave that was read as a text: the text, or why it isn't one
 abbrev pub Given : Type 0

@@ -5,21 +5,19 @@ ghost use Rattle.config_reader.specs.ConfigOf.{config_of};
 ghost use Rattle.meter_server.specs.Answering.{Answers, AuditsFiles, ConnectsFile, IsAcceptedOf, IsUnread, JudgesFiles, ListsFile, NoticesFiles, RefusesFiles, RunsFile, ServesFiles, TellsUnread, is_quiet, unread_fleet};
 ghost use Rattle.meter_server.specs.Program.{AnswersText, ListsEdges, ListsLabels};
 
-use crate::auditing::{audit_texts, audit_texts_aloud};
 use crate::demo::DEMO;
-use crate::files::TextFiles;
 use crate::noticing::{Look, notice_lines};
-use crate::outcome::{Outcome, ended, translated};
-use crate::reading::{FleetFault, read_fleet};
+use crate::outcome::{Outcome, audited, ended, translated};
 use crate::sources::{Sources, is_either_input, is_input};
 use crate::texts::{
     Source, answer_aloud, answer_frames, answer_text, faulty, judged, list_edges, list_labels,
 };
-use crate::translating::{Way, translate};
 use command_words::Command;
 use config_reader::read_config;
-use explanations::file::FileFault;
-use fleet_audit::fleet::AuditFault;
+use fleet_audit::fault::AuditFault;
+use fleet_audit::reading::{FleetFault, read_fleet};
+use fleet_audit::telling::{audit_texts, audit_texts_aloud};
+use fleet_audit::watch::Unwatched;
 use flow_checker::check::Checked;
 use line_server::fault::LineFault;
 use live_server::serving::{Place, serve_at};
@@ -30,6 +28,9 @@ use std::num::{NonZeroU16, NonZeroUsize};
 use std::sync::Wait;
 use std::thread::Threads;
 use std::time::Clock;
+use step_words::texts::Way;
+use step_words::translating::translate;
+use text_files::{FileFault, TextFiles};
 use verdict::Verdict;
 use verdict::judging::accepted;
 
@@ -326,8 +327,10 @@ where
     ensures quiet { tells_progress ≡ false → E.contents errors.new ≡ E.contents errors.old }
 {
     match read_fleet(rt, files, names, workers) {
-        Ok(texts) if tells_progress => audit_texts_aloud(rt, names, texts, workers, errors),
-        Ok(texts) => audit_texts(rt, names, texts, workers),
+        Ok(texts) if tells_progress => {
+            audited(audit_texts_aloud(rt, names, texts, workers, errors))
+        }
+        Ok(texts) => audited(audit_texts(rt, names, texts, workers, &Unwatched)),
         Err(fault) => fleet_unread(fault),
     }
 }

@@ -1,22 +1,15 @@
-//! What the program does with the words of its command line: step lines and connections are answered by a configuration, lists and
-//! verdicts are printed, texts are translated.
+//! What the program does with the words of its command line: how each command ends, and what is told of that. What a command does
+//! to come there stands in the crates below.
 #![tactic(auto)]
 
 mod answering;
-pub mod auditing;
-mod connecting;
 pub mod demo;
-pub mod files;
-pub mod listing;
 mod noticing;
 pub mod outcome;
 pub mod output;
 pub mod program;
-pub mod progress;
-pub mod reading;
 mod sources;
 mod texts;
-pub mod translating;
 
 pub use command_words::{Command as Line, WordsFault, read_words};
 pub use frame_server::fault::ServeFault;

@@ -1,21 +1,21 @@
 //! How a command ended, and what is told of it (own profile).
 ghost use Rattle.std.specs.Prelude.{◌≡◌, IfOk, string_bytes};
-ghost use Rattle.meter_server.specs.Auditing as audits;
 ghost use Rattle.meter_server.specs.Outcomes as outcomes;
 ghost use Rattle.meter_server.specs.Outcomes.{error_of, line, output_of, status_of, unread_line};
 
-use crate::listing::ListFault;
-use crate::translating::TranslationFault;
 use command_words::WordsFault;
 use cosem_data::memory::Memory;
-use explanations::file::FileFault;
 use explanations::printable::printable_text;
-use fleet_audit::fleet::AuditFault;
+use fleet_audit::fault::AuditFault;
+use fleet_audit::telling::Told;
 use frame_server::fault::ServeFault;
 use line_server::fault::LineFault;
 use live_server::fault::ServerFault;
 use meter_live::board::Closed;
+use plan_lists::fault::ListFault;
 use std::alloc::Global;
+use step_words::translating::TranslationFault;
+use text_files::FileFault;
 use verdict::{Verdict, verdict_text};
 
 /// How a command ended.
@@ -206,12 +206,12 @@ pub(crate) fn listed(answer: Result<(), ListFault>) -> Outcome
     }
 }
 
-/// Whether the verdict accepts.
-pub(crate) fn is_accepted(verdict: &Verdict) -> bool
-    ensures { result ≡ audits.is_accepted verdict.now }
+/// How a command ended whose fleet was audited so.
+pub(crate) fn audited(answer: Result<Told, AuditFault>) -> Outcome
+    ensures { result ≡ outcomes.audited answer }
 {
-    match verdict {
-        Verdict::Accepted => true,
-        Verdict::Config(_) | Verdict::Labels(_) | Verdict::Refused(_) => false,
+    match answer {
+        Ok(Told { text, is_accepted }) => Outcome::Audited { text, is_accepted },
+        Err(fault) => Outcome::Unaudited(fault),
     }
 }

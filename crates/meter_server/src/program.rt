@@ -2,23 +2,23 @@
 ghost use Rattle.std.specs.Prelude.{◌≡◌, ◌⊎◌, IfOk, map, string_bytes, true};
 ghost use Rattle.command_words.specs.Commands.{command_of};
 ghost use Rattle.meter_server.specs.Answering.{Does, Runs, TellsError, WritesError, is_quiet};
-ghost use Rattle.meter_server.specs.Listing.{WritesText};
+ghost use Rattle.plan_lists.specs.Listing.{WritesText};
 ghost use Rattle.meter_server.specs.Outcomes.{output_of};
 ghost use Rattle.meter_server.specs.Program.{AreMistaken, AskForHelp, TellsVerdict};
 
 use crate::answering::answer;
-use crate::files::TextFiles;
-use crate::listing::ListFault;
 use crate::outcome::Outcome;
 use crate::output::Output;
 use command_words::{WordsFault, read_words};
 use cosem_data::memory::Memory;
+use plan_lists::fault::ListFault;
 use std::alloc::Global;
 use std::io::{Read, Write};
 use std::net::{Net, TcpListener, TcpStream};
 use std::sync::Wait;
 use std::thread::Threads;
 use std::time::Clock;
+use text_files::TextFiles;
 use whole_writes::write_whole;
 
 /// Does what the words of a command line ask for, the program's name first, and answers the exit status: `demo` and `run CONFIG`
@@ -134,10 +134,9 @@ fn write_verdict<O: Write>(
 ) -> Result<(), ListFault>
     ensures { WritesText (output_of outcome.now) (O.contents output.old) (O.contents output.new) result }
 {
-    let Ok(text) = outcome.output(alloc) else {
-        return Err(ListFault::Memory);
-    };
-    write_whole(output, text.as_bytes()).map_err(|_| ListFault::Write)
+    let text = outcome.output(alloc)?;
+    write_whole(output, text.as_bytes())?;
+    Ok(())
 }
 
 /// Tells on the error stream how a command ended. A write that fails there ends the telling: no stream is left to tell of it.
@@ -153,8 +152,7 @@ fn tell<E: Write>(alloc: Global, outcome: &Outcome, errors: &mut E)
 fn write_error<E: Write>(alloc: Global, outcome: &Outcome, errors: &mut E) -> Result<(), ListFault>
     ensures { WritesError outcome.now (E.contents errors.old) (E.contents errors.new) result }
 {
-    let Ok(text) = outcome.error(alloc) else {
-        return Err(ListFault::Memory);
-    };
-    write_whole(errors, text.as_bytes()).map_err(|_| ListFault::Write)
+    let text = outcome.error(alloc)?;
+    write_whole(errors, text.as_bytes())?;
+    Ok(())
 }

@@ -2,12 +2,11 @@
 ghost use Rattle.std.specs.Prelude.{◌≡◌, ◌⊎◌, ◌||◌, Err, IfOk, string_bytes};
 ghost use Rattle.meter_server.specs.Sources as spec;
 ghost use Rattle.meter_server.specs.Sources.{given_of};
-ghost use Rattle.meter_server.specs.Translating.{ReadsAll};
+ghost use Rattle.step_words.specs.Translating.{ReadsAll};
 
-use crate::files::TextFiles;
-use explanations::file::{FileFault, fault_of, text_of};
 use std::alloc::Global;
 use std::io::Read;
+use text_files::{FileFault, TextFiles, fault_of, text_of};
 
 /// Whether a file's name stands for the input.
 pub(crate) fn is_input(path: &str) -> bool

@@ -2,12 +2,9 @@
 //! explained (own profile).
 ghost use Rattle.std.specs.Prelude.{◌≡◌, IfOk, string_bytes};
 ghost use Rattle.config_reader.specs.ConfigOf.{config_of};
-ghost use Rattle.meter_server.specs.Connecting.{AnswersFrames};
 ghost use Rattle.line_server.specs.Running.{RunsLines};
-ghost use Rattle.meter_server.specs.Program.{AnswersText, ExplainsVerdict, IsFaulty, IsJudged, ListsEdges, ListsLabels};
+ghost use Rattle.meter_server.specs.Program.{AnswersFrames, AnswersText, ExplainsVerdict, IsFaulty, IsJudged, ListsEdges, ListsLabels};
 
-use crate::connecting::serve_alone;
-use crate::listing::{write_edges, write_least_labels};
 use crate::outcome::{Outcome, listed, outcome_of, served};
 use config_reader::read_config;
 use config_text::fault::ConfigFault;
@@ -15,10 +12,13 @@ use cosem_data::memory::Memory;
 use explanations::config::explain_config;
 use explanations::labels::explain_labels;
 use explanations::refusal::explain_refusal;
+use frame_server::alone::serve_alone;
 use line_server::fault::LineFault;
 use line_server::running::run_lines;
 use line_words::watching::{Watched, run_watched};
 use object_model::plan::Plan;
+use plan_lists::edges::write_edges;
+use plan_lists::labels::write_least_labels;
 use std::alloc::Global;
 use std::io::{Read, Write};
 use verdict::Verdict;
@@ -130,7 +130,7 @@ pub(crate) fn list_labels<O: Write>(alloc: Global, config: Source<'_>, output: &
 
 /// What explains a verdict on the configuration in a file and the labels in another, in whole lines; nothing where they are
 /// accepted (own profile). The error is that memory was refused.
-pub(crate) fn explain_verdict(
+fn explain_verdict(
     alloc: Global,
     config: Source<'_>,
     labels: Source<'_>,

@@ -6,3 +6,4 @@ pub mod StepLines
 pub mod ReplyWords
 pub mod Texts
 pub mod TextLaws
+pub mod Translating

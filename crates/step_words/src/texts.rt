@@ -15,12 +15,12 @@ use std::alloc::Global;
 use value_words::marks::behind;
 use value_words::stop::Stop;
 
-/// Which way a text is translated.
+/// Which way a text is translated (own profile).
 #[derive(Clone, Copy, Debug)]
-enum Way {
-    /// From words to hex.
+pub enum Way {
+    /// Steps in words are made into step lines in hex.
     Encode,
-    /// From hex to words.
+    /// Step lines and replies in hex are made into words.
     Decode,
 }
 

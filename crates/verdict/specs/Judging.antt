@@ -1,5 +1,5 @@
 -- What a verdict says of a configuration's text and of one of labels.
-use Rattle.std.specs.Prelude.{◌≡◌, ℕ, List, Result, Ok}
+use Rattle.std.specs.Prelude.{◌≡◌, ℕ, Bool, true, false, List, Result, Ok}
 use Rattle.config_rules.specs.Faultless.{IsPolicyOf}
 use Rattle.config_rules.specs.PlanOf.{plan_of}
 use Rattle.config_text.specs.Fault.{Fault as ConfigFault, Fails}
@@ -24,3 +24,8 @@ IsVerdictOn P policy text (Config fault) = ⊥
 abbrev pub IsVerdict : Result ConfigText ConfigFault → List ℕ → Verdict → Type 0
 IsVerdict said text (Config fault) = Fails fault said
 IsVerdict said text verdict = (c : ConfigText) × (policy : Policy) × (said ≡ Ok c) × IsPolicyOf c policy × IsVerdictOn (plan_of c) policy text verdict
+
+-- whether a verdict accepts (own profile)
+abbrev pub is_accepted : Verdict → Bool
+is_accepted Accepted = true
+is_accepted _ = false

@@ -34,6 +34,17 @@ pub enum Verdict {
     Refused(Refused),
 }
 
+impl Verdict {
+    ghost use Rattle.verdict.specs.Judging.{is_accepted};
+
+    /// Whether it accepts (own profile).
+    pub fn is_accepted(&self) -> bool
+        ensures { result ≡ is_accepted self.now }
+    {
+        matches!(self, Verdict::Accepted)
+    }
+}
+
 /// The line of a configuration's fault.
 fn fault_line(alloc: Global, fault: &ConfigFault) -> Result<String, Memory>
     ensures { IfOk result (λ line. string_bytes line ≡ spec.fault_line fault.now) }

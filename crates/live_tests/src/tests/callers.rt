@@ -15,7 +15,6 @@ use meter_live::desk::BoardReader;
 use meter_live::live::Live;
 use meter_live::names::Naming;
 use meter_live::reader::Reader;
-use meter_server::files::TextFiles;
 use meter_server::outcome::{Outcome, outcome_of};
 use meter_server::output::Output;
 use meter_server::program::run_program;
@@ -25,6 +24,7 @@ use std::net::{Net, TcpListener, TcpStream};
 use std::sync::Wait;
 use std::thread::Threads;
 use std::time::Clock;
+use text_files::TextFiles;
 
 /// The exit status is the definition's.
 pub(super) fn status_behind(outcome: &Outcome) -> u8

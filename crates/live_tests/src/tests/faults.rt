@@ -1,20 +1,20 @@
 //! Faults as they are printed: what their messages are no contract tells.
 use command_words::WordsFault;
-use explanations::file::FileFault;
 use fleet_audit::fleet::AuditFault;
+use fleet_audit::reading::FleetFault;
 use frame_server::fault::ServeFault;
 use line_server::fault::LineFault;
 use line_server::reason::Reason;
 use live_server::fault::ServerFault;
-use meter_server::listing::ListFault;
-use meter_server::reading::FleetFault;
-use meter_server::translating::TranslationFault;
+use plan_lists::fault::ListFault;
 use std::alloc::Global;
 use std::fmt::Display;
 use std::process::Abort;
 use std::test::Fail;
 use step_words::fault::{Asked, TextFault};
+use step_words::translating::TranslationFault;
 use tcp_wrapper::fault::WrapFault;
+use text_files::FileFault;
 
 /// The fault is printed so.
 fn is_told(rt: &impl Abort, alloc: Global, fault: &impl Display, want: &str) -> Result<(), Fail> {

@@ -1,10 +1,9 @@
 use super::closing::Full;
 use super::fleets::samples::{configs, workers};
 use config_text::fault::ConfigFault;
+use fleet_audit::progress::Progress;
+use fleet_audit::telling::audit_texts_aloud;
 use fleet_audit::watch::Watch;
-use meter_server::auditing::audit_texts_aloud;
-use meter_server::outcome::Outcome;
-use meter_server::progress::Progress;
 use std::alloc::Global;
 use std::io;
 use std::io::{ErrorKind, Write};
@@ -106,23 +105,20 @@ fn an_audit_tells_how_far_it_is(rt: HostRuntime) -> Result<(), Fail> {
     let alloc = rt.alloc();
     let texts = configs(alloc, &["", "=", ""])?;
     let mut told = Vec::new(alloc);
-    let outcome = audit_texts_aloud(
+    let audited = audit_texts_aloud(
         &rt,
         &["one", "two", "six"],
         texts,
         workers(&rt, 2),
         &mut told,
-    );
+    )?;
     let lines = "one: config C2 at version\ntwo: config C1 at text\nsix: config C2 at version\n";
-    let Outcome::Audited { text, is_accepted } = outcome else {
-        return Err(Fail::new("there are no verdicts"));
-    };
     let told = String::from_utf8_lossy(alloc, &told)?;
     let last = told.as_str().rsplit('\r').next();
     let is_whole = last.is_some_and(|line| {
         line.starts_with("3 of 3 done, 3 refused, 0 left, ") && line.ends_with(" a second\n")
     });
-    if text.as_str() == lines && !is_accepted && is_whole {
+    if audited.text.as_str() == lines && !audited.is_accepted && is_whole {
         Ok(())
     } else {
         Err(Fail::new("other lines were written"))

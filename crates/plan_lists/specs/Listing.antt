@@ -1,0 +1,54 @@
+-- What is printed of edges and of labels, and how such a list is written. All of it is own profile.
+use Rattle.std.specs.Prelude.{◌≡◌, ◌<◌, ℕ, List, [], ◌∷◌, ◌++◌, codes, flat_map, get_or, length, map, Option, Result, Ok, Err}
+use Rattle.std.specs.Io.KnownBytes.{Appends}
+use Rattle.meter_theory.specs.Labels.{Labels, AreLeast}
+use Rattle.meter_theory.specs.Plan.{Plan, cells}
+use Rattle.meter_theory.specs.declared.flow.Edge.{Edge}
+use Rattle.value_text.specs.Edges.{cause_word, edge_text}
+use Rattle.flow_edges.specs.declared.table.Link.{Link}
+use Rattle.label_certificate.specs.LabelText.{text_of_labels}
+use Rattle.plan_lists.specs.declared.fault.ListFault.{ListFault}
+use Rattle.plan_lists.specs.declared.fault.ListFault.TheVariants as faults
+
+-- Edges
+
+-- edges, each in a line of its own (own profile)
+abbrev pub edges_text : List Edge → List ℕ
+edges_text edges = flat_map (λ e. edge_text e ++ 10 ∷ []) edges
+
+-- the line of an edge between numbers of cells whose texts are these (own profile)
+abbrev pub link_text : List (List ℕ) → Link → List ℕ
+link_text texts l = (get_or texts l.source [] ++ (codes " -> " ++ (get_or texts l.target [] ++ (codes " " ++ cause_word l.cause)))) ++ 10 ∷ []
+
+-- those of many, one behind the other (own profile)
+abbrev pub links_text : List (List ℕ) → List Link → List ℕ
+links_text texts links = flat_map (link_text texts) links
+
+-- Labels
+
+-- the least labels of a plan, a line for each of its cells (own profile)
+pub record AreLeastOf (P : Plan) (labels : Labels) : Type 0 where
+  pub least : AreLeast P labels
+  pub cells_are : map (λ entry. entry.0) labels ≡ cells P
+
+-- A list that is written
+
+-- what told a fault (own profile)
+abbrev pub fault_words : ListFault → List ℕ
+fault_words faults.Write = codes "the output can't be written"
+fault_words faults.Memory = codes "out of memory"
+
+-- what a fault leaves of a text: of a write that failed, something (own profile)
+abbrev pub Leaves : ListFault → List ℕ → Type 0
+Leaves faults.Write left = 0 < length left
+Leaves faults.Memory left = Unit {0}
+
+-- a text was written, or a beginning of it, behind which a fault stopped it (own profile)
+abbrev pub WritesText : List ℕ → (before after : Option (List ℕ)) → Result (Unit {0}) ListFault → Type 0
+WritesText text before after (Ok u) = Appends before after text
+WritesText text before after (Err fault) = (front : List ℕ) × (left : List ℕ) × (text ≡ front ++ left) × Appends before after front × Leaves fault left
+
+-- the least labels of a plan were written, or a beginning of their text; they are made before the first byte is written (own profile)
+abbrev pub WritesLeast : Plan → (before after : Option (List ℕ)) → Result (Unit {0}) ListFault → Type 0
+WritesLeast P before after (Err faults.Memory) = Appends before after []
+WritesLeast P before after r = (labels : Labels) × AreLeastOf P labels × WritesText (text_of_labels P labels) before after r

@@ -1,0 +1,9 @@
+//! Lists of what a plan has, as texts that are written while they are made (own profile).
+//!
+//! - [`edges::write_edges`] writes its edges, each in a line.
+//! - [`labels::write_least_labels`] writes its least labels, in the form in which labels are read.
+#![tactic(auto)]
+
+pub mod edges;
+pub mod fault;
+pub mod labels;
