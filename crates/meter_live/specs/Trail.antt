@@ -1,5 +1,5 @@
 -- A meter with the trail of its last steps. All of it is own profile.
-use Rattle.std.specs.Prelude.{◌≡◌, ℕ, ◌+◌, ◌≤◌, Bool, List, [], ◌∷◌, ◌++◌, length, map, cond, nat_lt}
+use Rattle.std.specs.Prelude.{◌≡◌, ℕ, ◌+◌, ◌≤◌, ◌<◌, Bool, List, [], ◌∷◌, ◌++◌, length, map, cond, nat_lt, Option, None, Some, MatchOption, is_some}
 use Rattle.flow_checker.specs.Accepted.{Accepted, IsAdmitted}
 use Rattle.meter_theory.specs.Plan.{start}
 use Rattle.meter_theory.specs.Replies.{Reply, reply_to, run, replies}
@@ -75,3 +75,15 @@ after t port step = record {
 -- before any step
 abbrev pub unstepped : Accepted → Traced
 unstepped a = record { accepted = a; opening = start a.plan; state = start a.plan; trail = []; count = 0; changes = 0 }
+
+-- the state with which a trail is closed, where it is full
+abbrev pub closed_by : List Taken → State → Option State
+closed_by trail state = cond (nat_lt (length trail) limits.TRAIL) None (Some state)
+
+-- there is room for an entry behind so many in a trail with room for so many, or in one that is closed first
+abbrev pub HasRoom : Option State → ℕ → ℕ → Type 0
+HasRoom closed entries room = MatchOption closed (entries < room) (λ _. 0 < room)
+
+-- a trail with an entry more; one that is closed begins with it
+abbrev pub behind : Option State → List Taken → Taken → List Taken
+behind closed trail e = cond (is_some closed) (e ∷ []) (trail ++ e ∷ [])

@@ -1,10 +1,11 @@
 //! A live meter: its steps are taken one after another, and published to readers.
-ghost use Rattle.std.specs.Prelude.{◌≡◌, ◌-◌, ◌^◌, ◌<◌, ◌↔◌, ◌⊎◌, ◌++◌, [], IfOk, IfErr, IfSome, Err, OnOk, OnErr};
+ghost use Rattle.std.specs.Prelude.{◌≡◌, ◌-◌, ◌^◌, ◌<◌, ◌↔◌, ◌⊎◌, ◌++◌, [], IfOk, IfErr, IfSome, None, Err, OnOk, OnErr};
 ghost use mathlib.Core.List.{IsPrefix};
 ghost use Rattle.meter_core.specs.Judging.{IsJudged};
 ghost use Rattle.meter_core.specs.StepView.{reply_of, step_of};
 ghost use Rattle.meter_theory.specs.States.{IsState};
 ghost use Rattle.meter_live.specs.Marks.{LieOnOne};
+ghost use Rattle.meter_live.specs.Outgoing.{ShowsSame};
 
 use crate::change::Change;
 use crate::fault::LiveFault;
@@ -168,14 +169,13 @@ impl Live {
             history,
             written,
         } = self;
-        if !judged.is_change() {
-            return meter.pass(alloc, port, judged);
-        }
         if meter.is_full() {
             return Err(LiveFault::Full);
         }
-        outbox.make_room()?;
-        let change = Change::of(alloc, &judged.step)?;
+        if !judged.is_change() {
+            return Ok(meter.pass(alloc, port, judged)?);
+        }
+        let change = roomy_change(alloc, outbox, &judged)?;
         let reply = meter.act(alloc, port, judged, history, written, &change)?;
         outbox.put(change);
         Ok(reply)
@@ -213,4 +213,15 @@ impl Live {
     pub fn end<R: Wait>(self, rt: &R) {
         let _parts = self.into_parts(rt);
     }
+}
+
+/// A copy of the step for the pending ones, where room is made for it. The only error is that memory was refused.
+fn roomy_change(alloc: Global, outbox: &mut Outbox, judged: &Judged) -> Result<Change, Memory>
+    ensures same { ShowsSame outbox.old outbox.new }
+    ensures pending { outbox.new.pending ≡ outbox.old.pending }
+    ensures room { OnOk result (outbox.new.late ≡ None) }
+    ensures change { IfOk result (λ change. change ≡ step_of judged.now.step) }
+{
+    outbox.make_room()?;
+    Change::of(alloc, &judged.step)
 }

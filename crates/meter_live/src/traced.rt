@@ -7,10 +7,10 @@ ghost use Rattle.meter_theory.specs.Replies.{reply_to};
 ghost use Rattle.meter_theory.specs.States.{IsState};
 ghost use Rattle.meter_theory.specs.Steps.{next};
 ghost use Rattle.meter_live.specs.Marks.{longer};
+ghost use Rattle.meter_live.specs.Trail.{HasRoom, behind, closed_by};
 ghost use Rattle.meter_live.specs.declared.traced.TheConstants as limits;
 
 use crate::change::Change;
-use crate::fault::LiveFault;
 use crate::history::{Front, History};
 use cosem_data::memory::Memory;
 use flow_checker::check::Checked;
@@ -185,7 +185,8 @@ impl TracedMeter {
 
     /// Whether no step can be counted any more.
     pub fn is_full(&self) -> bool
-        ensures { IsTrue result ↔ (self.now.count ≡ 2 ^ 64 - 1) }
+        ensures full { IsTrue result ↔ (self.now.count ≡ 2 ^ 64 - 1) }
+        ensures countable { result ≡ false → self.now.count < 2 ^ 64 - 1 }
     {
         self.count == u64::MAX
     }
@@ -207,36 +208,26 @@ impl TracedMeter {
         (checked, state, count, changes)
     }
 
-    /// Takes a step that may not change the meter, and answers it. Where it is refused, nothing changes.
-    pub(crate) fn pass(
-        &mut self,
-        alloc: Global,
-        port: u8,
-        judged: Judged,
-    ) -> Result<Reply, LiveFault>
+    /// Takes a step that may not change the meter, and answers it. The only error is that memory was refused, and then nothing
+    /// changes.
+    pub(crate) fn pass(&mut self, alloc: Global, port: u8, judged: Judged) -> Result<Reply, Memory>
+        requires countable { self.old.count < 2 ^ 64 - 1 }
         requires judged { IsJudged self.old.accepted.plan judged }
         requires quiet { is_changing self.old.accepted.plan (step_of judged.step) ≡ false }
         ensures reply { IfOk result (λ reply. reply_of reply
             ≡ reply_now self.old (step_of judged.step)) }
         ensures live { OnOk result (self.new ≡ after self.old port (step_of judged.step)) }
-        ensures full { (result ≡ Err LiveFault.Full) ↔ (self.old.count ≡ 2 ^ 64 - 1) }
         ensures err { OnErr result (self.new ≡ self.old) }
     {
-        if self.count == u64::MAX {
-            return Err(LiveFault::Full);
-        }
-        let closed = make_room(alloc, &mut self.trail, &self.state)?;
         let plan = self.checked.plan();
-        let reply = answer(alloc, plan, &mut self.state, &judged)?;
-        // Only a GET is answered with a value, whose copy takes memory.
-        let told = reply.try_clone(alloc)?;
-        let entry = Entry::new(port, judged, reply);
-        put_entry(&mut self.trail, &mut self.opening, closed, entry);
+        let noted = answered(alloc, plan, &mut self.state, &mut self.trail, &judged)?;
+        let told = put_entry(&mut self.trail, &mut self.opening, port, judged, noted);
         self.count += 1;
         Ok(told)
     }
 
-    /// Takes a step that may change the meter, writes it into the history, and answers it. Where it is refused, nothing changes.
+    /// Takes a step that may change the meter, writes it into the history, and answers it. The only error is that memory was
+    /// refused, or that the history had others, and then nothing changes.
     pub(crate) fn act(
         &mut self,
         alloc: Global,
@@ -245,7 +236,8 @@ impl TracedMeter {
         history: &History,
         written: &mut Front,
         change: &Change,
-    ) -> Result<Reply, LiveFault>
+    ) -> Result<Reply, Memory>
+        requires countable { self.old.count < 2 ^ 64 - 1 }
         requires judged { IsJudged self.old.accepted.plan judged }
         requires loud { is_changing self.old.accepted.plan (step_of judged.step) ≡ true }
         requires book { history.now ≡ written.old.book }
@@ -254,30 +246,95 @@ impl TracedMeter {
             ≡ reply_now self.old (step_of judged.step)) }
         ensures live { OnOk result (self.new ≡ after self.old port (step_of judged.step)) }
         ensures written { OnOk result (written.new ≡ longer written.old (step_of judged.step)) }
-        ensures full { (result ≡ Err LiveFault.Full) ↔ (self.old.count ≡ 2 ^ 64 - 1) }
         ensures err { OnErr result ((self.new ≡ self.old) × (written.new ≡ written.old)) }
     {
-        if self.count == u64::MAX {
-            return Err(LiveFault::Full);
-        }
-        // All that can be refused comes before the first change that stays.
-        let closed = make_room(alloc, &mut self.trail, &self.state)?;
         let plan = self.checked.plan();
-        let (reply, told) = apply_written(
+        let noted = taken(
             alloc,
             plan,
             &mut self.state,
+            &mut self.trail,
             &judged,
             history,
             written,
             change,
         )?;
-        let entry = Entry::new(port, judged, reply);
-        put_entry(&mut self.trail, &mut self.opening, closed, entry);
+        let told = put_entry(&mut self.trail, &mut self.opening, port, judged, noted);
         self.count += 1;
         self.changes += 1;
         Ok(told)
     }
+}
+
+/// What a step was answered, for the trail and for who asked, and the state with which a full trail is to be closed.
+#[derive(Drop)]
+struct Noted {
+    closed: Option<Meter>,
+    reply: Reply,
+    told: Reply,
+}
+
+/// Makes room for a step that may not change the meter, and answers it.
+fn answered(
+    alloc: Global,
+    plan: &Plan,
+    state: &mut Meter,
+    trail: &mut Vec<Entry>,
+    judged: &Judged,
+) -> Result<Noted, Memory>
+    requires of_plan { IsState plan.now state.old }
+    requires judged { IsJudged plan.now judged.now }
+    requires quiet { is_changing plan.now (step_of judged.now.step) ≡ false }
+    ensures state { state.new ≡ state.old }
+    ensures trail { trail.new.items ≡ trail.old.items }
+    ensures room { IfOk result (λ noted. HasRoom noted.closed (vec_len trail.new) (vec_capacity trail.new)) }
+    ensures closed { IfOk result (λ noted. noted.closed ≡ closed_by trail.old.items state.old) }
+    ensures reply { IfOk result (λ noted. (reply_of noted.reply
+        ≡ reply_to plan.now state.old (step_of judged.now.step)) × (noted.told ≡ noted.reply)) }
+{
+    let closed = make_room(alloc, trail, state)?;
+    let reply = answer(alloc, plan, state, judged)?;
+    // Only a GET is answered with a value, whose copy takes memory.
+    let told = reply.try_clone(alloc)?;
+    Ok(Noted {
+        closed,
+        reply,
+        told,
+    })
+}
+
+/// Makes room for a step, takes it and writes it into the history. All that can be refused comes before the first change that
+/// stays.
+fn taken(
+    alloc: Global,
+    plan: &Plan,
+    state: &mut Meter,
+    trail: &mut Vec<Entry>,
+    judged: &Judged,
+    history: &History,
+    written: &mut Front,
+    change: &Change,
+) -> Result<Noted, Memory>
+    requires of_plan { IsState plan.now state.old }
+    requires judged { IsJudged plan.now judged.now }
+    requires book { history.now ≡ written.old.book }
+    ensures ok { OnOk result (state.new ≡ next plan.now state.old (step_of judged.now.step)) }
+    ensures fits { IsState plan.now state.new }
+    ensures trail { trail.new.items ≡ trail.old.items }
+    ensures room { IfOk result (λ noted. HasRoom noted.closed (vec_len trail.new) (vec_capacity trail.new)) }
+    ensures closed { IfOk result (λ noted. noted.closed ≡ closed_by trail.old.items state.old) }
+    ensures reply { IfOk result (λ noted. (reply_of noted.reply
+        ≡ reply_to plan.now state.old (step_of judged.now.step)) × (noted.told ≡ noted.reply)) }
+    ensures written { OnOk result (written.new ≡ longer written.old change.now) }
+    ensures err { OnErr result ((state.new ≡ state.old) × (written.new ≡ written.old)) }
+{
+    let closed = make_room(alloc, trail, state)?;
+    let (reply, told) = apply_written(alloc, plan, state, judged, history, written, change)?;
+    Ok(Noted {
+        closed,
+        reply,
+        told,
+    })
 }
 
 /// Answers a step that may not change the meter.
@@ -340,10 +397,8 @@ fn write(history: &History, written: &mut Front, change: &Change) -> bool
 /// memory was refused.
 fn make_room(alloc: Global, trail: &mut Vec<Entry>, state: &Meter) -> Result<Option<Meter>, Memory>
     ensures same { trail.new.items ≡ trail.old.items }
-    ensures room { IfOk result (λ closed. MatchOption closed (vec_len trail.new
-        < vec_capacity trail.new) (λ _. 0 < vec_capacity trail.new)) }
-    ensures closed { IfOk result (λ closed. closed
-        ≡ cond (nat_lt (length trail.old.items) limits.TRAIL) None (Some state.now)) }
+    ensures room { IfOk result (λ closed. HasRoom closed (vec_len trail.new) (vec_capacity trail.new)) }
+    ensures closed { IfOk result (λ closed. closed ≡ closed_by trail.old.items state.now) }
 {
     if trail.len() < TRAIL {
         trail.reserve(1)?;
@@ -352,17 +407,30 @@ fn make_room(alloc: Global, trail: &mut Vec<Entry>, state: &Meter) -> Result<Opt
     Ok(Some(state.try_clone(alloc)?))
 }
 
-/// Puts an entry behind the trail, which is closed first where that is due.
-fn put_entry(trail: &mut Vec<Entry>, opening: &mut Meter, closed: Option<Meter>, entry: Entry)
-    requires { MatchOption closed (vec_len trail.old < vec_capacity trail.old) (λ _. 0
-        < vec_capacity trail.old) }
+/// Puts the entry of a step behind the trail, which is closed first where that is due, and leaves what it was answered.
+fn put_entry(
+    trail: &mut Vec<Entry>,
+    opening: &mut Meter,
+    port: u8,
+    judged: Judged,
+    noted: Noted,
+) -> Reply
+    requires { HasRoom noted.closed (vec_len trail.old) (vec_capacity trail.old) }
     ensures trail { trail.new.items
-        ≡ cond (is_some closed) (entry ∷ []) (trail.old.items ++ entry ∷ []) }
-    ensures opening { opening.new ≡ unwrap_or closed opening.old }
+        ≡ behind noted.closed trail.old.items
+        (record { port = port; step = step_of judged.step; reply = reply_of noted.reply }) }
+    ensures opening { opening.new ≡ unwrap_or noted.closed opening.old }
+    ensures told { result ≡ noted.told }
 {
+    let Noted {
+        closed,
+        reply,
+        told,
+    } = noted;
     if let Some(state) = closed {
         *opening = state;
         trail.clear();
     }
-    trail.push_reserved(entry);
+    trail.push_reserved(Entry::new(port, judged, reply));
+    told
 }

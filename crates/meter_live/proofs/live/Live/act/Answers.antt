@@ -15,11 +15,11 @@ invariant_of-self-2 c =
     let is : c.is_change.result ≡ true = search rules in
     let judged : IsJudged P c.args.judged = subst (λ (x : Told). IsJudged x.meter.accepted.plan c.args.judged) (sym c.self.view_is) c.requires in
     let loud : is_changing P step ≡ true = sym (c.is_change.ensures P judged) ∙ is in
-    let book_is = c.put.ensures.same.1 ∙ c.make_room.ensures.same.1 in
-    let published_is = c.put.ensures.same.2 ∙ c.make_room.ensures.same.2 in
-    let pending_is = c.put.ensures.put ∙ ap (λ l. l ++ c.in_ok-change.change ∷ []) c.make_room.ensures.pending ∙ ap (λ s. f.outbox.pending ++ s ∷ []) c.in_ok-change.ensures in (
+    let book_is = c.put.ensures.same.1 ∙ c.roomy_change.ensures.same.1 in
+    let published_is = c.put.ensures.same.2 ∙ c.roomy_change.ensures.same.2 in
+    let pending_is = c.put.ensures.put ∙ ap (λ l. l ++ c.in_ok-change.change ∷ []) c.roomy_change.ensures.pending ∙ ap (λ s. f.outbox.pending ++ s ∷ []) c.in_ok-change.ensures.change in (
       told_made f.outbox.plan c.put.new.self.plan t c.args.port step _ c.self.invariant.0
-          (c.put.ensures.same.0 ∙ c.make_room.ensures.same.0)
+          (c.put.ensures.same.0 ∙ c.roomy_change.ensures.same.0)
           (loud_is t c.args.port step c.act.new.self c.put.new.self.book c.put.new.self.published c.put.new.self.pending loud c.in_ok-reply.ensures.live book_is published_is pending_is),
       c.self.invariant.1 ∙ sym book_is,
       written_more t step f.written c.act.new.written c.put.new.self.book c.put.new.self.published c.put.new.self.pending c.self.invariant.2 c.in_ok-reply.ensures.written book_is published_is pending_is,
