@@ -8,18 +8,12 @@ ghost use Rattle.config_rules.specs.Passes as passes;
 
 use crate::directory::Directory;
 use crate::judged::fault_if;
+use crate::menus::same_target;
 use crate::walk::{JudgeNew, each_new};
 use config_text::fault::{Code, ConfigFault};
 use config_text::parts::{LabelParts, TargetParts};
 use config_text::place::Place;
 use std::alloc::Global;
-
-/// Whether two targets are one.
-pub(crate) fn same_target(one: &TargetParts, other: &TargetParts) -> bool
-    ensures { result ≡ passes.same_target one.now other.now }
-{
-    one.object.as_str() == other.object.as_str() && one.index == other.index
-}
 
 /// Whether one of the labels is of this target.
 fn has_label(labels: &[LabelParts], target: &TargetParts) -> bool

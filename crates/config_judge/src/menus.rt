@@ -10,11 +10,11 @@ ghost use Rattle.config_rules.specs.Walks as walks;
 ghost use Rattle.config_judge.specs.Menus.{menu_of};
 
 use crate::judged::fault_if;
-use crate::labels::same_target;
 use crate::walk::{Judge, JudgeNew, each, each_new};
 use config_text::fault::{Code, ConfigFault};
 use config_text::parts::{
     AlternativeParts, BodyParts, CaptureParts, ConfigParts, ObjectParts, ScriptRefParts,
+    TargetParts,
 };
 use config_text::place::Place;
 use std::alloc::Global;
@@ -38,6 +38,13 @@ pub(crate) fn menu_in<T: Drop>(menu: &Option<Vec<T>>) -> &[T]
         Some(alternatives) => alternatives.as_slice(),
         None => &[],
     }
+}
+
+/// Whether two targets are one.
+pub(crate) fn same_target(one: &TargetParts, other: &TargetParts) -> bool
+    ensures { result ≡ passes.same_target one.now other.now }
+{
+    one.object.as_str() == other.object.as_str() && one.index == other.index
 }
 
 /// Whether two attributes that are captured are one.

@@ -1,11 +1,11 @@
 -- What is written for what is read.
-use Rattle.std.specs.Prelude.{◌≡◌, ℕ, ◌^◌, ◌<◌, ◌≤◌, List, [], ◌∷◌, ◌++◌, length, map, reverse, Option, ◌⊎◌, IsSome, All, Result, Ok, Err}
+use Rattle.std.specs.Prelude.{◌≡◌, ℕ, ◌^◌, ◌<◌, ◌≤◌, List, [], ◌∷◌, ◌++◌, length, map, reverse, Option, Some, ◌⊎◌, IsSome, All, Result, Ok, Err}
 use Rattle.std.specs.List.{flat_map}
 use Rattle.std.specs.Io.KnownBytes.{Consumes, Appends, IsAtEnd}
 use Rattle.tcp_wrapper.specs.declared.message.Message.{Message}
 use Rattle.tcp_wrapper.specs.declared.fault.WrapFault.{WrapFault}
 use Rattle.tcp_wrapper.specs.declared.fault.WrapFault.TheVariants as faults
-use Rattle.tcp_wrapper.specs.Stream.{framed, frame_of, frames_of, IsFrame, IsPartial, Refuses}
+use Rattle.tcp_wrapper.specs.Stream.{framed, frame_of, frames_of, IsFrame, IsPartial, Refuses, Splits}
 use Rattle.meter_theory.specs.Plan.{Plan}
 use Rattle.xdlms_services.specs.Conversation.{Answers, Exchange, Leads, asked_list}
 use Rattle.acse_session.specs.Turns.{Turn}
@@ -102,6 +102,21 @@ IsOther (Err (Wrap fault)) = ⊥
 IsOther (Err Cut) = ⊥
 IsOther (Err Memory) = Unit {0}
 IsOther (Err GaveUp) = Unit {0}
+
+-- where a wrong header stands in a frame's place, that is the end
+abbrev pub EndsAtWrongHeader : Option (List ℕ) → Result ℕ ServeFault → Type 0
+EndsAtWrongHeader unread result =
+    (input : List ℕ) (frames : List Message) (rest : List ℕ) (fault : WrapFault) → unread ≡ Some input → Splits input frames rest → Refuses fault rest → (result ≡ Err (Wrap fault)) ⊎ IsOther result
+
+-- where the input ends inside a frame, that is the end
+abbrev pub EndsInsideFrame : Option (List ℕ) → Result ℕ ServeFault → Type 0
+EndsInsideFrame unread result =
+    (input : List ℕ) (frames : List Message) (rest : List ℕ) → unread ≡ Some input → Splits input frames rest → IsPartial rest → 0 < length rest → (result ≡ Err Cut) ⊎ IsOther result
+
+-- where the input is whole frames, all are answered
+abbrev pub AnswersWholeFrames : Option (List ℕ) → Result ℕ ServeFault → Type 0
+AnswersWholeFrames unread result =
+    (input : List ℕ) (frames : List Message) → unread ≡ Some input → Splits input frames [] → (result ≡ Ok (length frames)) ⊎ IsOther result
 
 -- ---- the parts
 

@@ -1,9 +1,6 @@
 //! The frames of a connection are answered, one after another.
-ghost use Rattle.std.specs.Prelude.{◌≡◌, ◌≢◌, ◌≤◌, ◌<◌, ◌⊎◌, List, ℕ, [], length, Some, Ok, Err};
-ghost use Rattle.tcp_wrapper.specs.Stream.{Splits, Refuses, IsPartial};
-ghost use Rattle.tcp_wrapper.specs.declared.message.Message.{Message as MessageValue};
-ghost use Rattle.tcp_wrapper.specs.declared.fault.WrapFault.{WrapFault as FaultValue};
-ghost use Rattle.frame_server.specs.Serving.{Connection, Serves, AnswersOne, AnswersAll, stop_of_fault, IsOther};
+ghost use Rattle.std.specs.Prelude.{◌≡◌, ◌≢◌, Err};
+ghost use Rattle.frame_server.specs.Serving.{Serves, AnswersOne, AnswersAll, AnswersWholeFrames, EndsAtWrongHeader, EndsInsideFrame, stop_of_fault};
 
 use crate::fault::ServeFault;
 use acse_session::session::Session;
@@ -50,18 +47,9 @@ pub fn serve<R: Read, W: Write, A: Asker>(
     ensures serves { Serves A.answers plan.now
         (record { asker = asker.old; unread = R.remaining reader.old; written = W.contents writer.old })
         (record { asker = asker.new; unread = R.remaining reader.new; written = W.contents writer.new }) result }
-    // Where a wrong header stands in a frame's place, that is the end.
-    ensures wrong_header { (input : List ℕ) (frames : List MessageValue) (rest : List ℕ)
-        (fault : FaultValue) → R.remaining reader.old ≡ Some input → Splits input frames rest →
-        Refuses fault rest → (result ≡ Err (ServeFault.Wrap fault)) ⊎ IsOther result }
-    // Where the input ends inside a frame, that is the end.
-    ensures cut { (input : List ℕ) (frames : List MessageValue) (rest : List ℕ) →
-        R.remaining reader.old ≡ Some input → Splits input frames rest → IsPartial rest → 0 < length rest →
-        (result ≡ Err ServeFault.Cut) ⊎ IsOther result }
-    // Where the input is whole frames, all are answered.
-    ensures whole { (input : List ℕ) (frames : List MessageValue) →
-        R.remaining reader.old ≡ Some input → Splits input frames [] →
-        (result ≡ Ok (length frames)) ⊎ IsOther result }
+    ensures wrong_header { EndsAtWrongHeader (R.remaining reader.old) result }
+    ensures cut { EndsInsideFrame (R.remaining reader.old) result }
+    ensures whole { AnswersWholeFrames (R.remaining reader.old) result }
     ensures goes_on { result ≢ Err ServeFault.GaveUp }
     ensures plan { A.plan_of asker.new ≡ plan.now }
 {
@@ -90,18 +78,9 @@ pub fn serve_gated<R: Read, W: Write, A: Asker, G: Gate>(
     ensures serves { Serves A.answers plan.now
         (record { asker = asker.old; unread = R.remaining reader.old; written = W.contents writer.old })
         (record { asker = asker.new; unread = R.remaining reader.new; written = W.contents writer.new }) result }
-    // Where a wrong header stands in a frame's place, that is the end.
-    ensures wrong_header { (input : List ℕ) (frames : List MessageValue) (rest : List ℕ)
-        (fault : FaultValue) → R.remaining reader.old ≡ Some input → Splits input frames rest →
-        Refuses fault rest → (result ≡ Err (ServeFault.Wrap fault)) ⊎ IsOther result }
-    // Where the input ends inside a frame, that is the end.
-    ensures cut { (input : List ℕ) (frames : List MessageValue) (rest : List ℕ) →
-        R.remaining reader.old ≡ Some input → Splits input frames rest → IsPartial rest → 0 < length rest →
-        (result ≡ Err ServeFault.Cut) ⊎ IsOther result }
-    // Where the input is whole frames, all are answered.
-    ensures whole { (input : List ℕ) (frames : List MessageValue) →
-        R.remaining reader.old ≡ Some input → Splits input frames [] →
-        (result ≡ Ok (length frames)) ⊎ IsOther result }
+    ensures wrong_header { EndsAtWrongHeader (R.remaining reader.old) result }
+    ensures cut { EndsInsideFrame (R.remaining reader.old) result }
+    ensures whole { AnswersWholeFrames (R.remaining reader.old) result }
     ensures gave_up { result ≡ Err ServeFault.GaveUp → G.may_give_up seat.now.gate.now seat.now.number }
     ensures plan { A.plan_of asker.new ≡ plan.now }
 {
