@@ -12,19 +12,19 @@ loop-part-init g c =
     let reads = g.F.TextFiles.may_read c.args.files.now in
     let names = c.args.names.now in
     let size = c.max-each.result in
-    let parts = c.in-Ok.parts.items in
+    let parts = c.in_ok-parts.parts.items in
     let some : 0 < size = omega (arith, c.max-each.ensures) in
     let each : (i : ℕ) (d : Part) → i < length parts → IsPart reads (part names size (0 + i)) (get_or parts i d) = λ i d within.
     let number : i ≡ 0 + i = omega arith in
-    let below : i < c.div_ceil-2.result = omega (arith, c.in-Ok.ensures.len, c.in-Ok.parts.ok.0) in
-    subst (λ n. IsPart reads (part names size n) (get_or parts i d)) number (c.in-Ok.ensures.each i d below).1.met in
+    let below : i < c.div_ceil-2.result = omega (arith, c.in_ok-parts.ensures.len, c.in_ok-parts.parts.ok.0) in
+    subst (λ n. IsPart reads (part names size n) (get_or parts i d)) number (c.in_ok-parts.ensures.each i d below).1.met in
     let short : length names ≤ (0 + length parts) * size =
     let all : length parts ≡ 0 + length parts = omega arith in
-    subst (λ n. length names ≤ n * size) all (reach (length parts) (length names) size some (omega (arith, c.in-Ok.ensures.len, c.in-Ok.parts.ok.0))) in
+    subst (λ n. length names ≤ n * size) all (reach (length parts) (length names) size some (omega (arith, c.in_ok-parts.ensures.len, c.in_ok-parts.parts.ok.0))) in
     let first : drop (0 * size) names ≡ names = ap (λ n. drop n names) (zero-mul size) in
     let all = subst (λ (l : Names). Deals reads size l parts) first (dealt reads size names 0 parts short each) in
     let all-left : into_iter_items c.into_iter-part-iterator.result ≡ parts = c.into_iter-part-iterator.ensures.into_iter_gives.0 in
-    rw (c.in-Ok-with_capacity.ensures.items, all-left) (begun reads size names parts all)
+    rw (c.in_ok-texts.ensures.items, all-left) (begun reads size names parts all)
 
 pub loop-part-preserved : goal.loop-part-preserved
 loop-part-preserved g c =
@@ -33,7 +33,7 @@ loop-part-preserved g c =
     let names = c.args.names.now in
     let behind = into_iter_items c.next.new.self in
     let left : into_iter_items c.loop-part.part-iterator ≡ Ok c.in_ok-part.field-0 ∷ behind = c.in-Some.ensures.steps.0 ∙ ap (λ part. part ∷ behind) c.in_ok-part.was in
-    rw c.in-Ok-append.ensures.items (gone_on reads size names c.loop-part.texts.items c.in_ok-part.field-0 behind (subst (IsSoFar reads size names c.loop-part.texts.items) left c.loop-part.invariant))
+    rw c.in_ok-append.ensures.items (gone_on reads size names c.loop-part.texts.items c.in_ok-part.field-0 behind (subst (IsSoFar reads size names c.loop-part.texts.items) left c.loop-part.invariant))
 
 pub returns-in_err-part-clause-fault : goal.returns-in_err-part-clause-fault
 returns-in_err-part-clause-fault g c =
@@ -41,7 +41,7 @@ returns-in_err-part-clause-fault g c =
     let size = c.max-each.result in
     let names = c.args.names.now in
     let behind = into_iter_items c.next.new.self in
-    let p = err_from_is_err_and c.from_residual.result c.from_residual.ensures.1 in
+    let p = err_from_is_err_and c.from_residual-in_err-part.result c.from_residual-in_err-part.ensures.1 in
     let left : into_iter_items c.loop-part.part-iterator ≡ Err c.in_err-part.field-0.0 ∷ behind = c.in-Some.ensures.steps.0 ∙ ap (λ part. part ∷ behind) c.in_err-part.was in
     rw (p.1, p.2) (failed reads size names c.loop-part.texts.items _ behind (subst (IsSoFar reads size names c.loop-part.texts.items) left c.loop-part.invariant))
 
