@@ -194,27 +194,50 @@ fn opened<'b, N: Naming, W: Wait + Drop, R: Wait>(
     }
 }
 
-/// Opens so many ports, of which the last one puts a value that the reader of the first one sees then; and no more. Gives the shares.
-fn use_all_ports<N: Naming, W: Wait + Drop, R: Wait + Abort>(
+/// Opens so many ports.
+fn push_ports<N: Naming, W: Wait + Drop, R: Wait>(
+    rt: &R,
+    board: &Board<N, W>,
+    shares: &mut Vec<Share<N>>,
+    count: usize,
+) -> Result<(), Fail> {
+    for _ in 0..count {
+        let (_port, share) = opened(rt, board)?;
+        shares.push(share)?;
+    }
+    Ok(())
+}
+
+/// Opens a port, which puts a value.
+fn push_last<N: Naming, W: Wait + Drop, R: Wait + Abort>(
     rt: &R,
     alloc: Global,
     board: &Board<N, W>,
-) -> Result<Vec<Share<N>>, Fail> {
-    let mut shares = Vec::with_capacity(alloc, PORTS)?;
-    let (first, share) = opened(rt, board)?;
-    let mut reader = first.reader(rt)?;
-    shares.push(share)?;
-    for _ in 2..PORTS {
-        shares.push(opened(rt, board)?.1)?;
-    }
+    shares: &mut Vec<Share<N>>,
+) -> Result<(), Fail> {
     let (last, mut share) = opened(rt, board)?;
     let mut own = last.reader(rt)?;
     put_and_read(rt, alloc, &last, &mut share, &mut own, ENERGY, 5)?;
-    sees(rt, alloc, &mut reader, 5);
     shares.push(share)?;
+    Ok(())
+}
+
+/// Opens all ports, of which the last one puts a value that the reader of the first one sees then; and no more.
+fn push_all_ports<N: Naming, W: Wait + Drop, R: Wait + Abort>(
+    rt: &R,
+    alloc: Global,
+    board: &Board<N, W>,
+    shares: &mut Vec<Share<N>>,
+) -> Result<(), Fail> {
+    let (first, share) = opened(rt, board)?;
+    shares.push(share)?;
+    let mut reader = first.reader(rt)?;
+    push_ports(rt, board, shares, PORTS - 2)?;
+    push_last(rt, alloc, board, shares)?;
+    sees(rt, alloc, &mut reader, 5);
     let refused = board.port(rt).err();
     assert!(rt; refused == Some(PortFault::NoPort));
-    Ok(shares)
+    Ok(())
 }
 
 /// A board opens so many ports and no more, and is closed with their shares.
@@ -233,7 +256,8 @@ fn fill_board<N: Naming, W: Wait + Drop, R: Wait + Abort>(
     let Ok(board) = Board::<N, W>::open(keep, alloc, checked, blanks) else {
         return Err("not opened".into());
     };
-    let shares = use_all_ports(rt, alloc, &board)?;
+    let mut shares = Vec::with_capacity(alloc, PORTS)?;
+    push_all_ports(rt, alloc, &board, &mut shares)?;
     let Ok(closed) = board.close(rt, shares) else {
         return Err("not closed".into());
     };

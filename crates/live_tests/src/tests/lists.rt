@@ -165,25 +165,38 @@ fn is_refused(reply: Option<&Reply>, want: AccessCode) -> bool {
     }
 }
 
-/// What is hidden from a client changes no reply to it: the public may see the register's name and not its value, and the installer
-/// has no right on it.
-#[test]
-fn hidden_values_show_in_no_reply(rt: HostRuntime) -> Result<(), Fail> {
-    let alloc = rt.alloc();
-    let (plan, _policy) = read_config(alloc, DEMO)?;
+/// The client is told the same, and of the value this result.
+fn hides_the_value(
+    rt: &impl Abort,
+    alloc: Global,
+    plan: &Plan,
+    asks: [&str; 2],
+    want: AccessCode,
+) -> Result<(), Fail> {
+    let replies = is_told_the_same(rt, alloc, plan, asks)?;
+    assert!(rt; is_refused(replies.last(), want));
+    Ok(())
+}
+
+/// The public may see the register's name and not its value, and the installer has no right on it.
+fn hides_the_register(rt: &impl Abort, alloc: Global, plan: &Plan) -> Result<(), Fail> {
     let asks = [
         "public C001C100030100010800FF0100",
         "public C001C100030100010800FF0200",
     ];
-    let replies = is_told_the_same(&rt, alloc, &plan, asks)?;
-    assert!(rt; is_refused(replies.last(), AccessCode::ReadWriteDenied));
+    hides_the_value(rt, alloc, plan, asks, AccessCode::ReadWriteDenied)?;
     let asks = [
         "installer C001C100030100010800FF0100",
         "installer C001C100030100010800FF0200",
     ];
-    let replies = is_told_the_same(&rt, alloc, &plan, asks)?;
-    assert!(rt; is_refused(replies.last(), AccessCode::ObjectUndefined));
-    Ok(())
+    hides_the_value(rt, alloc, plan, asks, AccessCode::ObjectUndefined)
+}
+
+/// What is hidden from a client changes no reply to it.
+#[test]
+fn hidden_values_show_in_no_reply(rt: HostRuntime) -> Result<(), Fail> {
+    let (plan, _policy) = read_config(rt.alloc(), DEMO)?;
+    hides_the_register(&rt, rt.alloc(), &plan)
 }
 
 /// The element of the demo's execution_time: midnight at the last day of each month.
