@@ -17,6 +17,7 @@ import socket
 import subprocess
 import sys
 import tempfile
+import threading
 
 import config
 import demo
@@ -59,13 +60,15 @@ def served(program, client, begin, request, answer, count):
     serving = subprocess.Popen(command, stdin=subprocess.DEVNULL, stdout=subprocess.DEVNULL, stderr=subprocess.PIPE)
     while b"connections are taken" not in serving.stderr.readline():
         pass
+    asked = frame(client, 1, begin) + frame(client, 1, request) * count
+    wanted = frame(1, client, AARE) + frame(1, client, answer) * count
     with socket.create_connection(("127.0.0.1", port)) as stream:
-        answers = stream.makefile("rb")
-        for apdu, back in [(begin, AARE)] + [(request, answer)] * count:
-            stream.sendall(frame(client, 1, apdu))
-            wanted = frame(1, client, back)
-            if answers.read(len(wanted)) != wanted:
-                sys.exit("the answers aren't what they must be")
+        # (all at once, beside the reading: one request by one would wait for the network each time)
+        asking = threading.Thread(target=stream.sendall, args=(asked,))
+        asking.start()
+        if stream.makefile("rb").read(len(wanted)) != wanted:
+            sys.exit("the answers aren't what they must be")
+        asking.join()
     told = serving.stderr.read()
     if serving.wait() != 0:
         sys.exit(f"the live meter ended with {serving.returncode}")
