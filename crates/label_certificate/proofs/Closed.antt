@@ -23,7 +23,7 @@ use Rattle.meter_theory.proofs.Writes.{write-cells}
 use Rattle.flow_edges.specs.declared.table.Link.{Link}
 use Rattle.flow_edges.specs.Table.{AreCells, AreWithin, IsLink, cell_at, edge_at}
 use Rattle.label_certificate.specs.Closing.{Below, IsClosedBy, set_at}
-use Rattle.label_certificate.proofs.Members.{nobody_in}
+use Rattle.meter_theory.proofs.ClientSets.{nobody_in}
 use Rattle.std.proofs.lemmas.Bool.{false≢true}
 use Rattle.label_certificate.specs.declared.arrow.Arrow.{Arrow}
 use Rattle.label_certificate.specs.Granted.{AreGranted, label_in}

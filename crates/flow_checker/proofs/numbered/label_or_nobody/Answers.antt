@@ -1,6 +1,6 @@
 use Rattle.std.proofs.Common.{◌∙◌, sym, ap, ap₂}
 use Rattle.meter_theory.specs.Labels.{nobody, or_else}
-use Rattle.label_certificate.proofs.Members.{new_is_nobody}
+use Rattle.meter_theory.proofs.ClientSets.{new_is_nobody}
 use Rattle.flow_checker.proofs.Placed.{labelled}
 use Rattle.flow_checker.proofs.numbered.label_or_nobody.Goals as goal
 

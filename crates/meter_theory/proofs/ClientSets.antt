@@ -9,8 +9,7 @@ use Rattle.std.proofs.Common.{◌*◌, ◌%◌, ◌||◌, ◌∙◌, false, bit_
 use Rattle.std.proofs.lemmas.Nat.Bits.{bit_at-zero}
 use Rattle.cosem_data.proofs.Bits.{set_bit}
 use Rattle.cosem_data.specs.Clients.{has_client}
-use Rattle.meter_theory.specs.Labels.{nobody}
-use Rattle.label_certificate.specs.Members.{with_client}
+use Rattle.meter_theory.specs.Labels.{nobody, with_client}
 
 same_proof : (m n : ℕ) (p q : m < n) → p ≡ q
 same_proof m n p q = le_prop p q
