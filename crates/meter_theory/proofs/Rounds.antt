@@ -161,7 +161,7 @@ module _ (P : Plan) (sound : IsSound P) where
 
     -- Rounds stand still
 
-    abbrev IsStill : ℕ → Type 0
+    abbrev pub IsStill : ℕ → Type 0
     IsStill k = (x : CellRef) → IsIn (cells P) x → within (suc k) x ≡ within k x
 
     still-on : (k : ℕ) → IsStill k → IsStill (suc k)
@@ -170,12 +170,21 @@ module _ (P : Plan) (sound : IsSound P) where
         (any-same (leads (suc k) x) (leads k x) (edges P)
         (λ e i. ap (λ b. same_cell (far_end reach e) x && b) (still (near_end reach e) (near-cell reach e (listed-edge P sound e i)))))
 
-    pub still-from : (k j : ℕ) → k ≤ j → IsStill k → IsStill j
+    still-from : (k j : ℕ) → k ≤ j → IsStill k → IsStill j
     still-from k zero less still = let e : k ≡ 0 = omega (arith, less) in subst IsStill e still
     still-from k (suc j) less still =
         elim (last-or-before k j less) [
           | inl e ↦ subst IsStill e still
           | inr before ↦ still-on j (still-from k j before still)
+        ]
+
+    -- from where they stand still nothing is added
+    pub stays : (k j : ℕ) (x : CellRef) → IsIn (cells P) x → IsStill k → k ≤ j → within j x ≡ within k x
+    stays k zero x there still less = let e : k ≡ 0 = omega (arith, less) in ap (λ n. within n x) (sym e)
+    stays k (suc j) x there still less =
+        elim (last-or-before k j less) [
+          | inl e ↦ ap (λ n. within n x) (sym e)
+          | inr before ↦ still-from k j before still x there ∙ stays k j x there still before
         ]
 
     grown : (k : ℕ) → IsStill k ⊎ (count (within k) (cells P) < count (within (suc k)) (cells P))

@@ -21,7 +21,7 @@ use Rattle.meter_theory.proofs.Agreement.{not_both}
 use Rattle.meter_theory.proofs.Check.{listed-edge}
 use Rattle.meter_theory.proofs.ClientSets.{has_with, nobody_in}
 use Rattle.meter_theory.proofs.Lists.{found}
-use Rattle.meter_theory.proofs.Rounds.{far-cell, granted-cell, later, led-by, near-cell, still-before, way-within, within-way}
+use Rattle.meter_theory.proofs.Rounds.{IsStill, far-cell, granted-cell, later, led-by, near-cell, stays, still-before, way-within, within-way}
 use Rattle.meter_theory.proofs.Theorem.{inside_range, within_from, within_has}
 
 -- what a test passes somewhere is found
@@ -47,30 +47,22 @@ module _ (P : Plan) (sound : IsSound P) where
     abbrev reached : ℕ → CellRef → Bool
     reached k x = is_within P reach c k x
 
-    -- behind as many rounds as there are cells nothing is added
-    stays : (k j : ℕ) (x : CellRef) → IsIn (cells P) x → length (cells P) ≤ suc k → k ≤ j → reached j x ≡ reached k x
-    stays k zero x there few less = let e : k ≡ 0 = omega (arith, less) in ap (λ n. reached n x) (sym e)
-    stays k (suc j) x there few less =
-        elim (last k j less) [
-          | inl e ↦ ap (λ n. reached n x) (sym e)
-          | inr before ↦ still-before P sound reach c j (omega (arith, few, before)) x there ∙ stays k j x there few before
-        ]
-      where
-        last : (m n : ℕ) → m ≤ suc n → (m ≡ suc n) ⊎ (m ≤ n)
-        last m n h = grind arith
-
-    -- so what a way leads to is among what is added until then
-    pub way-reached : (k : ℕ) (x : CellRef) (es : List Edge) → length (cells P) ≤ suc k → IsWay P reach c x es → reached k x ≡ true
-    way-reached k x es few h =
+    -- what a way leads to is among what is added until the rounds stand still
+    pub way-reached : (k : ℕ) (x : CellRef) (es : List Edge) → IsStill P sound reach c k → IsWay P reach c x es → reached k x ≡ true
+    way-reached k x es still h =
         elim (less-or-more (length es) k) [
           | inl less ↦ later P sound reach c (length es) k x (omega (arith, less)) (way-within P sound reach c x es h)
-          | inr more ↦ sym (stays k (length es) x (way-cell reach c x es h) few more) ∙ way-within P sound reach c x es h
+          | inr more ↦ sym (stays P sound reach c k (length es) x (way-cell reach c x es h) still more) ∙ way-within P sound reach c x es h
         ]
+
+    -- as they do behind as many rounds as there are cells
+    pub last-still : IsStill P sound reach c (length (cells P))
+    last-still = still-before P sound reach c (length (cells P)) (omega arith)
 
     -- The distance
 
     -- the first round by which a cell is reached
-    abbrev IsFirst : ℕ → CellRef → Type 0
+    abbrev pub IsFirst : ℕ → CellRef → Type 0
     IsFirst d x = (reached d x ≡ true) × ((j : ℕ) → j < d → reached j x ≡ true → ⊥)
 
     first-round : (k : ℕ) (x : CellRef) → reached k x ≡ true → (d : ℕ) × (d ≤ k) × IsFirst d x
@@ -82,7 +74,7 @@ module _ (P : Plan) (sound : IsSound P) where
         at false p before =
             (suc k, omega arith, (h, λ j less is. not_both (reached k x) (later P sound reach c j k x (omega (arith, less)) is) p))
 
-    first-distance : (d : ℕ) (x : CellRef) → IsIn (cells P) x → IsFirst d x → IsDistance P reach c x (Some d)
+    pub first-distance : (d : ℕ) (x : CellRef) → IsIn (cells P) x → IsFirst d x → IsDistance P reach c x (Some d)
     first-distance d x there first = ((w.0, w.1, omega (arith, w.2, as-long w.0 w.1)), as-long)
       where
         w : (es : List Edge) × IsWay P reach c x es × (length es ≤ d)
@@ -96,18 +88,19 @@ module _ (P : Plan) (sound : IsSound P) where
             ]
 
     pub distance-first : (d : ℕ) (x : CellRef) → IsDistance P reach c x (Some d) → IsFirst d x
-    distance-first d x h =
-        (subst (λ n. reached n x ≡ true) h.0.2 (way-within P sound reach c x h.0.0 h.0.1),
-        λ j less is.
-            let w = within-way P sound reach c j x (way-cell reach c x h.0.0 h.0.1) is in
-            absurd (omega (arith, less, w.2, h.1 w.0 w.1)))
+    distance-first d x h = (
+      subst (λ n. reached n x ≡ true) h.0.2 (way-within P sound reach c x h.0.0 h.0.1),
+      λ j less is.
+          let w = within-way P sound reach c j x (way-cell reach c x h.0.0 h.0.1) is in
+          absurd (omega (arith, less, w.2, h.1 w.0 w.1)),
+    )
 
     pub has-distance : (x : CellRef) → IsIn (cells P) x → (d : Option ℕ) × IsDistance P reach c x d
     has-distance x there = at (reached (length (cells P)) x) refl
       where
         at : (b : Bool) → reached (length (cells P)) x ≡ b → (d : Option ℕ) × IsDistance P reach c x d
         at true h = let r = first-round (length (cells P)) x h in (Some r.0, first-distance r.0 x there r.2)
-        at false h = (None, λ w. not_both (reached (length (cells P)) x) (way-reached (length (cells P)) x w.0 (omega arith) w.1) h)
+        at false h = (None, λ w. not_both (reached (length (cells P)) x) (way-reached (length (cells P)) x w.0 last-still w.1) h)
 
     pub one-distance : (x : CellRef) (d other : Option ℕ) → IsDistance P reach c x d → IsDistance P reach c x other → d ≡ other
     one-distance x None None h k = refl
@@ -137,6 +130,34 @@ module _ (P : Plan) (sound : IsSound P) where
 
     -- The shown way
 
+    -- what is one round nearer comes first one round earlier
+    pub nearer-first : (k : ℕ) (x : CellRef) (e : Edge) → IsFirst (suc k) x → first_edge P reach c k x ≡ Some e →
+        IsEdge P e × (far_end reach e ≡ x) × IsFirst k (near_end reach e)
+    nearer-first k x e first is = (edge, ends.0, (ends.1, nearer))
+      where
+        at : IsIn (edges P) e × ((same_cell (far_end reach e) x && reached k (near_end reach e)) ≡ true)
+        at = found (λ z. same_cell (far_end reach z) x && reached k (near_end reach z)) (edges P) e is
+
+        edge : IsEdge P e
+        edge = listed-edge P sound e at.0
+
+        ends : (far_end reach e ≡ x) × (reached k (near_end reach e) ≡ true)
+        ends = led-by P sound reach c k x e at.1
+
+        nearer : (j : ℕ) → j < k → reached j (near_end reach e) ≡ true → ⊥
+        nearer j less h =
+            let w = within-way P sound reach c j (near_end reach e) (near-cell P sound reach e edge) h in
+            first.1 (suc (length w.0)) (omega (arith, less, w.2)) (way-within P sound reach c x (e ∷ w.0) (edge, ends.0, w.1))
+
+    -- and there is such an edge
+    pub led-first : (k : ℕ) (x : CellRef) → IsFirst (suc k) x → (e : Edge) × (first_edge P reach c k x ≡ Some e)
+    led-first k x first =
+        some-found (λ z. same_cell (far_end reach z) x && reached k (near_end reach z)) (edges P)
+        (elim (or_cases (reached k x) (list_any (λ z. same_cell (far_end reach z) x && reached k (near_end reach z)) (edges P)) first.0) [
+          | inl before ↦ absurd (first.1 k (omega arith) before)
+          | inr after ↦ after
+        ])
+
     pub shown-way : (d : ℕ) (x : CellRef) → IsIn (cells P) x → IsFirst d x → IsWay P reach c x (shown_way P reach c d x) × (length (shown_way P reach c d x) ≡ d)
     shown-way zero x there first =
         let w = within-way P sound reach c 0 x there first.0 in
@@ -147,39 +168,19 @@ module _ (P : Plan) (sound : IsSound P) where
         none (e ∷ es) h long = absurd (omega (arith, long))
     shown-way (suc k) x there first = shown led.0 led.1 (shown-way k)
       where
-        leads : Edge → Bool
-        leads e = same_cell (far_end reach e) x && reached k (near_end reach e)
-
         led : (e : Edge) × (first_edge P reach c k x ≡ Some e)
-        led = some-found leads (edges P) (elim (or_cases (reached k x) (list_any leads (edges P)) first.0) [
-            | inl before ↦ absurd (first.1 k (omega arith) before)
-            | inr after ↦ after
-          ])
+        led = led-first k x first
 
         shown : (e : Edge) → first_edge P reach c k x ≡ Some e →
             ((y : CellRef) → IsIn (cells P) y → IsFirst k y → IsWay P reach c y (shown_way P reach c k y) × (length (shown_way P reach c k y) ≡ k)) →
             IsWay P reach c x (shown_way P reach c (suc k) x) × (length (shown_way P reach c (suc k) x) ≡ suc k)
-        shown e is before = subst (λ es. IsWay P reach c x es × (length es ≡ suc k)) (sym written) ((edge, ends.0, rest.0), ap suc rest.1)
+        shown e is before =
+            let near = nearer-first k x e first is in
+            let rest = before (near_end reach e) (near-cell P sound reach e near.0) near.2 in
+            subst (λ es. IsWay P reach c x es × (length es ≡ suc k)) (sym written) ((near.0, near.1, rest.0), ap suc rest.1)
           where
             written : shown_way P reach c (suc k) x ≡ e ∷ shown_way P reach c k (near_end reach e)
             written = ap (λ o. for_some o (λ z. z ∷ shown_way P reach c k (near_end reach z))) is
-
-            at : IsIn (edges P) e × (leads e ≡ true)
-            at = found leads (edges P) e is
-
-            edge : IsEdge P e
-            edge = listed-edge P sound e at.0
-
-            ends : (far_end reach e ≡ x) × (reached k (near_end reach e) ≡ true)
-            ends = led-by P sound reach c k x e at.1
-
-            nearer : (j : ℕ) → j < k → reached j (near_end reach e) ≡ true → ⊥
-            nearer j less h =
-                let w = within-way P sound reach c j (near_end reach e) (near-cell P sound reach e edge) h in
-                first.1 (suc (length w.0)) (omega (arith, less, w.2)) (way-within P sound reach c x (e ∷ w.0) (edge, ends.0, w.1))
-
-            rest : IsWay P reach c (near_end reach e) (shown_way P reach c k (near_end reach e)) × (length (shown_way P reach c k (near_end reach e)) ≡ k)
-            rest = before (near_end reach e) (near-cell P sound reach e edge) (ends.1, nearer)
 
 -- Sets by a test of their clients
 
@@ -256,7 +257,7 @@ module _ (P : Plan) (sound : IsSound P) (least : Labels) (l : AreLeast P least) 
   way-in reach c x es h =
       in-those (λ k. is_within P reach k (length (cells P)) x) limits.CLIENTS c (omega arith)
       (inside_range (set_for reach (labelling_of least x)) c (way-told reach c x es h))
-      (way-reached P sound reach c (length (cells P)) x es (omega arith) h)
+      (way-reached P sound reach c (length (cells P)) x es (last-still P sound reach c) h)
 
   in-way : (reach : Reach) (c : ℕ) (x : CellRef) → IsIn (cells P) x → has (reaching reach x) c ≡ true → HasWay P reach c x
   in-way reach c x there h =
