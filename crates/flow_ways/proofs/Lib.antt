@@ -1,0 +1,4 @@
+pub mod Reached
+pub mod Noting
+pub mod Numbered
+pub mod Passed
