@@ -32,10 +32,10 @@ module _ (n distance first : ℕ) (clients : ClientSet) (old new : List (Option 
   noted-kept keeps = record {
     size = h.size;
     here = λ c less. elim (last-or-before c n less) [
-        | inl e ↦ subst (λ m. get_or new (first + m) None ≡ noted distance (has clients m) (get_or old (first + m) None)) (sym e)
-            (sym keeps ∙ ap (noted distance (has clients n)) (h.elsewhere (first + n) (inr (omega arith))))
-        | inr before ↦ h.here c before
-      ];
+      | inl e ↦ subst (λ m. get_or new (first + m) None ≡ noted distance (has clients m) (get_or old (first + m) None)) (sym e)
+          (sym keeps ∙ ap (noted distance (has clients n)) (h.elsewhere (first + n) (inr (omega arith))))
+      | inr before ↦ h.here c before
+    ];
     elsewhere = λ p at. h.elsewhere p (outside p at);
   }
 
@@ -44,10 +44,10 @@ module _ (n distance first : ℕ) (clients : ClientSet) (old new : List (Option 
   noted-given low none there = record {
     size = grind (arith, elements) ∙ h.size;
     here = λ c less. elim (last-or-before c n less) [
-        | inl e ↦ subst (λ m. get_or (slice_set new (first + n) (Some distance)) (first + m) None ≡ noted distance (has clients m) (get_or old (first + m) None)) (sym e)
-            (here ∙ sym (ap (λ b. noted distance b (get_or old (first + n) None)) there ∙ ap (noted distance true) (sym (h.elsewhere (first + n) (inr (omega arith))) ∙ none)))
-        | inr before ↦ other (first + c) (omega (arith, before)) ∙ h.here c before
-      ];
+      | inl e ↦ subst (λ m. get_or (slice_set new (first + n) (Some distance)) (first + m) None ≡ noted distance (has clients m) (get_or old (first + m) None)) (sym e)
+          (here ∙ sym (ap (λ b. noted distance b (get_or old (first + n) None)) there ∙ ap (noted distance true) (sym (h.elsewhere (first + n) (inr (omega arith))) ∙ none)))
+      | inr before ↦ other (first + c) (omega (arith, before)) ∙ h.here c before
+    ];
     elsewhere = λ p at. other p (apart p at) ∙ h.elsewhere p (outside p at);
   }
     where
@@ -77,9 +77,9 @@ pub cells-more : (n distance : ℕ) (sets : List ClientSet) (clients : ClientSet
 cells-more n distance sets clients old now new is a m = record {
   size = m.size ∙ a.size;
   each = λ i c less low. elim (last-or-before i n less) [
-      | inl e ↦ subst (λ j. number_at new j c ≡ noted distance (has (set_at sets j) c) (number_at old j c)) (sym e)
-          (m.here c low ∙ ap₂ (λ s r. noted distance (has s c) r) (sym is) (a.behind (n * CLIENTS + c) (omega arith)))
-      | inr before ↦ m.elsewhere (i * CLIENTS + c) (inl (omega (arith, before, low))) ∙ a.each i c before low
-    ];
+    | inl e ↦ subst (λ j. number_at new j c ≡ noted distance (has (set_at sets j) c) (number_at old j c)) (sym e)
+        (m.here c low ∙ ap₂ (λ s r. noted distance (has s c) r) (sym is) (a.behind (n * CLIENTS + c) (omega arith)))
+    | inr before ↦ m.elsewhere (i * CLIENTS + c) (inl (omega (arith, before, low))) ∙ a.each i c before low
+  ];
   behind = λ p at. m.elsewhere p (inr (omega (arith, at))) ∙ a.behind p (omega (arith, at));
 }

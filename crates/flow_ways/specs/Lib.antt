@@ -3,3 +3,4 @@ pub mod Rounds
 pub mod Distances
 pub mod Kept
 pub mod Granting
+pub mod Why

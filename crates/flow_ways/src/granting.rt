@@ -74,7 +74,10 @@ fn may_set(plan: &Plan, client: u8, cell: &CellRef) -> bool
 fn write_changes(written: &CellRef, cell: &CellRef) -> bool
     ensures { result ≡ among (steps.changed_by_write written.now) cell.now }
 {
-    changed_by_write(*written).as_slice().iter().any(|changed| *cell == *changed)
+    changed_by_write(*written)
+        .as_slice()
+        .iter()
+        .any(|changed| *cell == *changed)
 }
 
 /// The first call that the client may make and that changes the cell.
@@ -135,12 +138,7 @@ fn calls_change(plan: &Plan, client: u8, method: &MethodRef, cell: &CellRef) -> 
 }
 
 /// The number of the first of these scripts of a table that changes the cell.
-fn first_script(
-    plan: &Plan,
-    execute: &MethodRef,
-    scripts: &[Script],
-    cell: &CellRef,
-) -> Option<u16>
+fn first_script(plan: &Plan, execute: &MethodRef, scripts: &[Script], cell: &CellRef) -> Option<u16>
     ensures { result ≡ spec.first_script plan.now execute.now.name cell.now scripts.now }
 {
     for script in scripts {

@@ -2,7 +2,8 @@
 //! shown (own profile).
 //!
 //! The definitions stand in `specs/` of `meter_theory` (`Ways`) and here: sets of clients, round by round (`Rounds`), distances
-//! as numbers (`Distances`), what is kept of a plan (`Kept`), and the right that is shown (`Granting`).
+//! as numbers (`Distances`), what is kept of a plan (`Kept`), the right that is shown
+//! (`Granting`), and what is told of a client and a cell (`Why`).
 #![tactic(auto)]
 
 mod distances;
@@ -10,3 +11,4 @@ mod ends;
 pub mod granting;
 mod rounds;
 pub mod ways;
+pub mod why;

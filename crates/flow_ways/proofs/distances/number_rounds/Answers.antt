@@ -32,9 +32,9 @@ loop-distance-preserved c =
     let so_far = c.loop-distance.invariant in
     let round = some-follow c.args.reach c.args.links.now c.deref.result.now (λ v. v.items) c.in_ok-next.field-0 c.in-Some.next c.in-Some.is c.in_ok-next.ensures in
     let next = next-reached P c.args.reach (are-cells P sound) so_far.0 c.loop-distance.sets.items so_far.2 c.args.links.now c.in-Some.next.items c.requires.links
-        (subst (λ s. IsRound c.args.reach c.args.links.now s c.in-Some.next.items) c.deref.ensures.value round) in
+    (subst (λ s. IsRound c.args.reach c.args.links.now s c.in-Some.next.items) c.deref.ensures.value round) in
     let noted = subst (λ s. AreNoted (suc so_far.0) s c.loop-distance.numbers c.note.new.numbers) c.deref-in-loop-distance.ensures.value
-        (subst (λ d. AreNoted d c.deref-in-loop-distance.result.now c.loop-distance.numbers c.note.new.numbers) so_far.1 c.note.ensures) in (
+    (subst (λ d. AreNoted d c.deref-in-loop-distance.result.now c.loop-distance.numbers c.note.new.numbers) so_far.1 c.note.ensures) in (
       suc so_far.0,
       omega (arith, so_far.1),
       next,
