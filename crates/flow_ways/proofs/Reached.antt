@@ -26,7 +26,7 @@ use Rattle.flow_ways.specs.Ends.{far_of, near_of}
 use Rattle.flow_ways.specs.Rounds.{AreLinksOf, AreReached, FollowsRound, IsRound, leads}
 
 -- tests that pass together are one
-same-test : (a b : Bool) → (a ≡ true → b ≡ true) → (b ≡ true → a ≡ true) → a ≡ b
+pub same-test : (a b : Bool) → (a ≡ true → b ≡ true) → (b ≡ true → a ≡ true) → a ≡ b
 same-test true true h k = refl
 same-test false false h k = refl
 same-test true false h k = sym (h refl)
@@ -50,7 +50,7 @@ near-low Influence P l h = h.0
 near-low Learn P l h = h.1
 
 -- numbers of cells are as equal as the cells
-same-numbers : (P : Plan) → AreCells (cells P) → (i j : ℕ) → i < length (cells P) → j < length (cells P) → (i == j) ≡ same_cell (cell_at (cells P) i) (cell_at (cells P) j)
+pub same-numbers : (P : Plan) → AreCells (cells P) → (i j : ℕ) → i < length (cells P) → j < length (cells P) → (i == j) ≡ same_cell (cell_at (cells P) i) (cell_at (cells P) j)
 same-numbers P are i j h k =
     same-test (i == j) (same_cell (cell_at (cells P) i) (cell_at (cells P) j))
     (λ e. subst (λ n. same_cell (cell_at (cells P) i) (cell_at (cells P) n) ≡ true) (eqb-true i j e) (same_cell-refl (cell_at (cells P) i)))
