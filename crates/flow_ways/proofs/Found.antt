@@ -1,7 +1,10 @@
 -- What searches find, element by element.
-use Rattle.std.proofs.Common.{◌≡◌, ◌<◌, ◌+◌, ℕ, zero, suc, Bool, true, false, cond, ◌||◌, List, [], ◌∷◌, ◌++◌, map, flat_map, length, get_or, find, Option, Some, None, refl, sym, ap, subst, ◌∙◌, arith}
+use Rattle.std.proofs.Common.{◌≡◌, ◌<◌, ◌⊎◌, ◌+◌, ℕ, zero, suc, Bool, true, false, cond, ◌||◌, List, [], ◌∷◌, ◌++◌, map, flat_map, length, get_or, find, Some, None, refl, sym, ap, ◌∙◌, arith}
 use Rattle.std.specs.List.{list_any, range_with_len}
 use Rattle.std.proofs.lemmas.Bool.{false≢true}
+use Rattle.std.proofs.lemmas.List.{get_or_default}
+use Rattle.cosem_data.specs.declared.cell.MethodRef.{MethodRef}
+use Rattle.meter_theory.specs.Plan.{Object, Script, ScriptTable, interface_of}
 
 -- the first that passes, behind what fails
 pub found-here : {A : Type 0} (test : A → Bool) (xs : List A) (k : ℕ) (d : A) → k < length xs → ((j : ℕ) → j < k → test (get_or xs j d) ≡ false) → test (get_or xs k d) ≡ true →
@@ -80,3 +83,22 @@ some-found {A = A} test (y ∷ xs) h = at (test y) h (some-found test xs)
     at : (b : Bool) → (b || list_any test xs) ≡ true → (list_any test xs ≡ true → (x : A) × (find test xs ≡ Some x)) → (x : A) × (cond b (Some y) (find test xs) ≡ Some x)
     at true e rest = (y, refl)
     at false e rest = rest e
+
+-- an element at its place, in a list that is the same
+pub item-is : {A : Type 0} (xs ys : List A) (k : ℕ) (d x : A) → ys ≡ xs → k < length ys → x ≡ get_or ys k x → get_or xs k d ≡ x
+item-is xs ys k d x e low is = ap (λ zs. get_or zs k d) (sym e) ∙ (get_or_default ys k d x low ∙ sym is)
+
+pub last-or-before : (j k : ℕ) → j < k + 1 → (j ≡ k) ⊎ (j < k)
+last-or-before j k h = grind arith
+
+-- the method of an object with this index
+abbrev pub method_at : Object → ℕ → MethodRef
+method_at o i = record { class_id = (interface_of o.part).class_id; name = o.name; index = i }
+
+-- an object that no plan has
+abbrev pub no_object : Object
+no_object = record { name = record { 0 = [] }; fed = false; part = ScriptTable [] }
+
+-- a script that no table has
+abbrev pub no_script : Script
+no_script = record { id = 0; actions = [] }

@@ -3,4 +3,7 @@ pub mod Noting
 pub mod Numbered
 pub mod Passed
 pub mod Found
+pub mod Seeking
+pub mod Granted
 pub mod Shown
+pub mod Told

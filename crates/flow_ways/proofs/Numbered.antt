@@ -1,5 +1,5 @@
 -- Numbers of first rounds, and that they are distances once the rounds stand still.
-use Rattle.std.proofs.Common.{◌≡◌, ◌<◌, ◌≤◌, ◌+◌, ◌*◌, ℕ, zero, suc, Bool, true, false, List, length, Option, Some, None, refl, sym, ap, subst, ◌∙◌, inl, inr, arith}
+use Rattle.std.proofs.Common.{◌≡◌, ◌<◌, ◌*◌, ℕ, suc, Bool, true, false, List, length, Option, Some, None, refl, sym, ap, subst, ◌∙◌, arith}
 use Rattle.cosem_data.specs.declared.cell.CellRef.{CellRef}
 use Rattle.cosem_data.specs.declared.clients.ClientSet.{ClientSet}
 use Rattle.meter_theory.specs.Labels.{has}
@@ -10,7 +10,7 @@ use Rattle.meter_theory.specs.Ways.{IsDistance, is_within}
 use Rattle.meter_theory.specs.declared.flow.Reach.{Reach}
 use Rattle.meter_theory.specs.declared.limits.TheConstants.{CLIENTS}
 use Rattle.meter_theory.proofs.Agreement.{not_both}
-use Rattle.meter_theory.proofs.Rounds.{IsStill, later, stays}
+use Rattle.meter_theory.proofs.Rounds.{IsStill, later}
 use Rattle.meter_theory.proofs.Ways.{first-distance, way-reached}
 use Rattle.flow_edges.specs.Table.{cell_at}
 use Rattle.label_certificate.specs.Closing.{set_at}

@@ -1,5 +1,5 @@
 -- Clients that are added link by link.
-use Rattle.std.proofs.Common.{◌≡◌, ◌==◌, ◌<◌, ◌⊎◌, ◌+◌, ℕ, zero, suc, Bool, true, false, ◌&&◌, ◌||◌, List, [], ◌∷◌, ◌++◌, length, get_or, take, refl, sym, ap, ap₂, subst, ◌∙◌, inl, inr, arith}
+use Rattle.std.proofs.Common.{◌≡◌, ◌<◌, ◌⊎◌, ◌+◌, ℕ, zero, suc, Bool, true, false, ◌&&◌, ◌||◌, List, [], ◌∷◌, ◌++◌, length, get_or, take, refl, sym, ap, subst, ◌∙◌, inl, inr, arith}
 use Rattle.std.specs.List.{list_any}
 use Rattle.std.proofs.lemmas.Bool.{cases_eq, eq-eqb, ne_eqb}
 use Rattle.std.proofs.lemmas.List.{take_more}
@@ -7,6 +7,7 @@ use Rattle.std.proofs.lemmas.List.Folds.{list_any-append}
 use Rattle.cosem_data.specs.declared.clients.ClientSet.{ClientSet}
 use Rattle.meter_theory.specs.Labels.{has}
 use Rattle.meter_theory.specs.Lists.{IsIn}
+use Rattle.meter_theory.specs.declared.flow.Cause.TheVariants.{Monitored}
 use Rattle.meter_theory.specs.declared.flow.Reach.{Reach}
 use Rattle.meter_theory.specs.declared.flow.Reach.TheVariants.{Influence, Learn}
 use Rattle.flow_edges.specs.declared.table.Link.{Link}
@@ -14,6 +15,10 @@ use Rattle.label_certificate.specs.Closing.{set_at}
 use Rattle.label_certificate.specs.Least.{AreLinks}
 use Rattle.flow_ways.specs.Ends.{far_of, near_of}
 use Rattle.flow_ways.specs.Rounds.{IsAdded, IsRound, leads}
+
+-- a link that no table has
+abbrev pub no_link : Link
+no_link = record { source = 0; target = 0; cause = Monitored }
 
 pub near-within : (reach : Reach) (n : ℕ) (l : Link) → (l.source < n) × (l.target < n) → near_of reach l < n
 near-within Influence n l h = h.0

@@ -1,20 +1,18 @@
 -- The edges of the way that is shown, one after another.
-use Rattle.std.proofs.Common.{◌≡◌, ◌==◌, ◌<◌, ◌≤◌, ◌⊎◌, ◌+◌, ℕ, zero, suc, Bool, true, false, ◌&&◌, cond, List, [], ◌∷◌, ◌++◌, map, length, get_or, find, Option, Some, None, append_assoc, leb, nat_le, refl, sym, ap, ap₂, subst, ◌∙◌, inl, inr, arith}
+use Rattle.std.proofs.Common.{◌≡◌, ◌==◌, ◌<◌, ◌≤◌, ◌⊎◌, ◌+◌, ℕ, zero, suc, Bool, true, false, ◌&&◌, cond, List, [], ◌∷◌, ◌++◌, map, length, get_or, find, Option, Some, None, append_assoc, nat_le, refl, sym, ap, ap₂, subst, ◌∙◌, arith}
 use Rattle.cosem_data.specs.Cells.{same_cell}
 use Rattle.cosem_data.specs.declared.cell.CellRef.{CellRef}
 use Rattle.meter_theory.specs.Edges.{edges}
 use Rattle.meter_theory.specs.Lists.{IsIn, for_some}
 use Rattle.meter_theory.specs.Plan.{Plan, cells}
 use Rattle.meter_theory.specs.Sound.{IsSound}
-use Rattle.meter_theory.specs.Ways.{IsDistance, IsWay, far_end, first_edge, is_within, near_end, shown_way}
+use Rattle.meter_theory.specs.Ways.{IsDistance, IsWay, first_edge, is_within, near_end, shown_way}
 use Rattle.meter_theory.specs.declared.flow.Edge.{Edge}
 use Rattle.meter_theory.specs.declared.flow.Reach.{Reach}
-use Rattle.meter_theory.proofs.Agreement.{not_both}
 use Rattle.meter_theory.proofs.Rounds.{later, near-cell, within-way}
-use Rattle.meter_theory.proofs.Ways.{distance-first, first-distance, led-first, nearer-first, way-cell}
+use Rattle.meter_theory.proofs.Ways.{distance-first, first-distance, led-first, nearer-first}
 use Rattle.flow_edges.specs.Table.{AreCells, IsLink, cell_at, edge_at}
 use Rattle.flow_edges.specs.declared.table.Link.{Link}
-use Rattle.label_certificate.proofs.Closed.{item_at}
 use Rattle.flow_ways.specs.Ends.{far_of, near_of}
 use Rattle.flow_ways.specs.Kept.{leads_within}
 use Rattle.flow_ways.proofs.Reached.{far-cell-at, far-low, near-cell-at, near-low, same-numbers, same-test}
@@ -47,15 +45,12 @@ module _ (P : Plan) (sound : IsSound P) (reach : Reach) (c : ℕ) where
           at false h es way few = grind (arith, h, is.1 es way, few)
 
   -- a link leads where its edge does
-  pub link-leads : AreCells (cells P) → (k i : ℕ) (l : Link) (r : Option ℕ) → i < length (cells P) → IsLink (cells P) l → IsDistance P reach c (cell_at (cells P) (near_of reach l)) r →
-      ((far_of reach l == i) && no_more k r) ≡ leads_within P reach c k (cell_at (cells P) i) (edge_at (cells P) l)
-  link-leads are k i l r low is distance =
+  pub link-leads : AreCells (cells P) → (k i : ℕ) (l : Link) (near : Bool) → i < length (cells P) → IsLink (cells P) l → near ≡ is_within P reach c k (cell_at (cells P) (near_of reach l)) →
+      ((far_of reach l == i) && near) ≡ leads_within P reach c k (cell_at (cells P) i) (edge_at (cells P) l)
+  link-leads are k i l near low is within =
       ap₂ (λ a b. a && b)
       (same-numbers P are (far_of reach l) i (far-low reach P l is) low ∙ ap (λ x. same_cell x (cell_at (cells P) i)) (sym (far-cell-at reach P l)))
-      (distance-within k (cell_at (cells P) (near_of reach l)) r (there (near_of reach l) (near-low reach P l is)) distance ∙ ap (is_within P reach c k) (sym (near-cell-at reach P l)))
-    where
-      there : (n : ℕ) → n < length (cells P) → IsIn (cells P) (cell_at (cells P) n)
-      there n h = item_at (cells P) n h
+      (within ∙ ap (is_within P reach c k) (sym (near-cell-at reach P l)))
 
 -- what a search finds behind what fails
 pub found-behind : {A B : Type 0} (f : A → B) (test : B → Bool) (xs : List A) (k : ℕ) (d : A) → k < length xs → ((j : ℕ) → j < k → test (f (get_or xs j d)) ≡ false) →
@@ -89,3 +84,30 @@ module _ (P : Plan) (sound : IsSound P) (reach : Reach) (c : ℕ) where
     where
       none_some : {e : Edge} → None ≡ Some e → ⊥
       none_some h = cc
+
+  -- one edge more of a way, of which so many are left
+  pub edges-on : (left behind distance rounds place near : ℕ) (link : Link) (edges more whole : List Edge) → behind < distance → behind + left ≡ distance → rounds + (behind + 1) ≡ distance →
+      IsDistance P reach c (cell_at (cells P) place) (Some left) → first_edge P reach c rounds (cell_at (cells P) place) ≡ Some (edge_at (cells P) link) → IsLink (cells P) link →
+      near ≡ near_of reach link → more ≡ edges ++ edge_at (cells P) link ∷ [] → edges ++ shown_way P reach c left (cell_at (cells P) place) ≡ whole →
+      (k : ℕ) × (behind + 1 + k ≡ distance) × (near < length (cells P)) × IsDistance P reach c (cell_at (cells P) near) (Some k)
+      × (more ++ shown_way P reach c k (cell_at (cells P) near) ≡ whole)
+  edges-on zero behind distance rounds place near link edges more whole less sum rest is first linked to pushed joined = absurd (omega (arith, less, sum))
+  edges-on (suc k) behind distance rounds place near link edges more whole less sum rest is first linked to pushed joined = (
+    k,
+    omega (arith, sum),
+    subst (λ n. n < length (cells P)) (sym to) (near-low reach P link linked),
+    subst (λ x. IsDistance P reach c x (Some k)) end (nearer-distance k (cell_at (cells P) place) (edge_at (cells P) link) is found),
+    ap (λ es. es ++ shown_way P reach c k (cell_at (cells P) near)) pushed
+        ∙ (append_assoc edges (edge_at (cells P) link ∷ []) (shown_way P reach c k (cell_at (cells P) near))
+        ∙ (ap (λ x. edges ++ edge_at (cells P) link ∷ shown_way P reach c k x) (sym end)
+        ∙ (ap (λ es. edges ++ es) (sym (way-on k (cell_at (cells P) place) (edge_at (cells P) link) found)) ∙ joined))),
+  )
+    where
+      rounds-is : rounds ≡ k
+      rounds-is = omega (arith, sum, rest)
+
+      found : first_edge P reach c k (cell_at (cells P) place) ≡ Some (edge_at (cells P) link)
+      found = subst (λ n. first_edge P reach c n (cell_at (cells P) place) ≡ Some (edge_at (cells P) link)) rounds-is first
+
+      end : near_end reach (edge_at (cells P) link) ≡ cell_at (cells P) near
+      end = near-cell-at reach P link ∙ ap (cell_at (cells P)) (sym to)

@@ -41,13 +41,12 @@ right_lines client (Some request) = (client ++ (codes " " ++ request_text reques
 
 -- the lines of a way in the order in which things happen: influence begins with the request and ends at the cell, and learning
 -- begins at the cell and ends with the request (own profile)
-abbrev pub in_order : Reach → (right edges : List (List ℕ)) → List (List ℕ)
-in_order Influence right edges = right ++ reverse edges
-in_order Learn right edges = edges ++ right
+abbrev pub in_order : Reach → (right : List (List ℕ)) → List Edge → List (List ℕ)
+in_order Influence right edges = right ++ map edge_text (reverse edges)
+in_order Learn right edges = map edge_text edges ++ right
 
 abbrev pub way_lines : Plan → Reach → ℕ → List ℕ → CellRef → List Edge → List (List ℕ)
-way_lines P reach c client x es =
-    in_order reach (right_lines client (shown_request P reach c (way_end reach x es))) (map edge_text es)
+way_lines P reach c client x es = in_order reach (right_lines client (shown_request P reach c (way_end reach x es))) es
 
 -- a line of its own, two spaces in: own profile
 abbrev pub indented : List ℕ → List ℕ

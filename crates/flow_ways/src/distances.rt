@@ -1,9 +1,9 @@
 //! How far the cells of a plan are from its clients.
-ghost use Rattle.std.specs.Prelude.{◌≡◌, ◌≤◌, ◌*◌, ◌+◌, ℕ, length, IfOk, OnOk};
+ghost use Rattle.std.specs.Prelude.{◌≡◌, ◌≤◌, ◌*◌, ◌+◌, ℕ, None, get_or, length, IfOk, OnOk};
 ghost use Rattle.meter_theory.specs.Edges.{edges};
 ghost use Rattle.meter_theory.specs.Plan as theory;
 ghost use Rattle.label_certificate.specs.Granted.{AreGranted};
-ghost use Rattle.flow_ways.specs.Distances.{AreDistances, AreFirstRounds, AreNoted, IsCellNoted};
+ghost use Rattle.flow_ways.specs.Distances.{AreDistances, AreNoted, IsCellNoted};
 ghost use Rattle.flow_ways.specs.Rounds.{AreLinksOf, AreReached};
 
 use crate::rounds::{next_round, sets_for};
@@ -29,14 +29,15 @@ pub(crate) fn distances(
     requires granted { AreGranted plan.now granted.now }
     ensures { IfOk result (λ numbers. AreDistances plan.now reach numbers.items) }
 {
+    plan.known();
+    table.known();
     let sets = sets_for(alloc, reach, granted)?;
     let mut numbers = vec![in alloc; None; sets.len() * CLIENTS]?;
-    note(0, &sets, &mut numbers);
     number_rounds(alloc, plan, table.links(), reach, sets, &mut numbers)?;
     Ok(numbers)
 }
 
-/// Numbers what each round adds, from the first on.
+/// Numbers what rights grant, and what each round adds.
 fn number_rounds(
     alloc: Global,
     plan: &Plan,
@@ -47,10 +48,12 @@ fn number_rounds(
 ) -> Result<(), Memory>
     requires links { AreLinksOf plan.now links.now }
     requires sets { AreReached plan.now reach 0 granted.items }
-    requires numbers { AreFirstRounds plan.now reach 0 numbers.old }
+    requires size { length numbers.old ≡ length (theory.cells plan.now) * CLIENTS }
+    requires none { (place : ℕ) → get_or numbers.old place None ≡ None }
     ensures { OnOk result (AreDistances plan.now reach numbers.new) }
 {
     plan.known();
+    note(0, &granted, numbers);
     let mut sets = granted;
     for distance in 1..sets.len() {
         let Some(next) = next_round(alloc, reach, links, &sets)? else {

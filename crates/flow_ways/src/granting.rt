@@ -1,10 +1,9 @@
 //! The right that is shown of those that grant a client a cell, as the request that it allows.
-ghost use Rattle.std.specs.Prelude.{◌≡◌, ◌&&◌, find, flat_map};
-ghost use Rattle.meter_theory.specs.Edges.{among, script_changes};
-ghost use Rattle.meter_theory.specs.Labels.{method_changes_of};
-ghost use Rattle.meter_theory.specs.Lists.{IsIn};
+ghost use Rattle.std.specs.Prelude.{◌≡◌, ◌&&◌, false, find, flat_map, map};
+ghost use Rattle.class_control.specs.ScriptView.{script_of};
+ghost use Rattle.meter_theory.specs.Edges.{among};
 ghost use Rattle.meter_theory.specs.Plan as theory;
-ghost use Rattle.meter_theory.specs.Rights.{may_act, may_set};
+ghost use Rattle.meter_theory.specs.Rights.{may_set};
 ghost use Rattle.meter_theory.specs.Steps as steps;
 ghost use Rattle.label_certificate.specs.Granted.{methods_of};
 ghost use Rattle.flow_ways.specs.Granting as spec;
@@ -74,10 +73,14 @@ fn may_set(plan: &Plan, client: u8, cell: &CellRef) -> bool
 fn write_changes(written: &CellRef, cell: &CellRef) -> bool
     ensures { result ≡ among (steps.changed_by_write written.now) cell.now }
 {
-    changed_by_write(*written)
-        .as_slice()
-        .iter()
-        .any(|changed| *cell == *changed)
+    is_among(changed_by_write(*written).as_slice(), cell)
+}
+
+/// Whether the cell is one of these.
+fn is_among(cells: &[CellRef], cell: &CellRef) -> bool
+    ensures { result ≡ among cells.now cell.now }
+{
+    cells.iter().any(|other| *cell == *other)
 }
 
 /// The first call that the client may make and that changes the cell.
@@ -139,7 +142,7 @@ fn calls_change(plan: &Plan, client: u8, method: &MethodRef, cell: &CellRef) -> 
 
 /// The number of the first of these scripts of a table that changes the cell.
 fn first_script(plan: &Plan, execute: &MethodRef, scripts: &[Script], cell: &CellRef) -> Option<u16>
-    ensures { result ≡ spec.first_script plan.now execute.now.name cell.now scripts.now }
+    ensures { result ≡ spec.first_script plan.now execute.now cell.now (map script_of scripts.now) }
 {
     for script in scripts {
         if script_changes(plan, execute, script.id, cell) {
@@ -149,10 +152,9 @@ fn first_script(plan: &Plan, execute: &MethodRef, scripts: &[Script], cell: &Cel
     None
 }
 
-/// Whether the script of a table with this number changes the cell.
+/// Whether a call of execute with this number changes the cell.
 fn script_changes(plan: &Plan, execute: &MethodRef, script: u16, cell: &CellRef) -> bool
-    ensures { result ≡ among (script_changes plan.now
-        (record { table = execute.now.name; script = script })) cell.now }
+    ensures { result ≡ among (spec.executed_changes plan.now execute.now script) cell.now }
 {
     let mut seeking = Seeking::new(*cell);
     let script = Argument::Value(Data::LongUnsigned(script));
@@ -184,8 +186,9 @@ impl Visitor for Seeking {
     ghost meets = { SeeksMore };
 
     fn visit(&mut self, effect: &Planned<'_>) -> Result<(), Infallible> {
-        let changed = effect.changed();
-        self.found = self.found || changed.as_slice().iter().any(|cell| self.cell == *cell);
+        if is_among(effect.changed().as_slice(), &self.cell) {
+            self.found = true;
+        }
         Ok(())
     }
 }

@@ -2,13 +2,14 @@
 //! shown (own profile).
 //!
 //! The definitions stand in `specs/` of `meter_theory` (`Ways`) and here: sets of clients, round by round (`Rounds`), distances
-//! as numbers (`Distances`), what is kept of a plan (`Kept`), the right that is shown
-//! (`Granting`), and what is told of a client and a cell (`Why`).
+//! as numbers (`Distances`), what is kept of a plan (`Kept`), the request that is shown (`Granting`), and what is told of a client
+//! and a cell (`Why`). The theorems are the functions of [`laws`].
 #![tactic(auto)]
 
 mod distances;
 mod ends;
 pub mod granting;
+pub mod laws;
 mod rounds;
 pub mod ways;
 pub mod why;

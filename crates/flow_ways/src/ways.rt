@@ -1,9 +1,11 @@
 //! The ways of a plan's clients to its cells.
 ghost use Rattle.std.specs.Prelude.{◌≡◌, ◌<◌, ◌+◌, Some, length, option_map, IfOk, IfSome};
 ghost use Rattle.meter_theory.specs.Plan as theory;
-ghost use Rattle.meter_theory.specs.Ways.{IsDistance, first_edge, shown_way};
+ghost use Rattle.meter_theory.specs.Sound.{IsSound};
+ghost use Rattle.meter_theory.specs.Ways.{IsDistance, first_edge, is_within, shown_way};
 ghost use Rattle.flow_edges.specs.Table.{IsLink, cell_at, edge_at};
 ghost use Rattle.flow_ways.specs.Distances.{AreDistances};
+ghost use Rattle.flow_ways.specs.Rounds.{AreLinksOf};
 ghost use Rattle.flow_ways.specs.Kept.{IsShown, leads_within};
 
 use crate::distances::distances;
@@ -32,6 +34,7 @@ pub struct Ways<'a> {
 impl<'a> Model for Ways<'a> {
     ghost use Rattle.meter_theory.specs.Plan as theory;
     ghost use Rattle.meter_theory.specs.PlanCode.{plan_code};
+    ghost use Rattle.flow_ways.specs.Rounds.{AreLinksOf};
     ghost use Rattle.flow_ways.specs.Kept.{AreWaysOf};
 
     ghost Value = { theory.Plan };
@@ -67,6 +70,13 @@ impl<'a> Ways<'a> {
         self.plan
     }
 
+    /// What the type keeps, for callers: its plan is sound.
+    fn known(&self)
+        ensures sound { IsSound self.now }
+    {
+        self.plan.known();
+    }
+
     /// The cells of the plan, in plan order.
     pub fn cells(&self) -> &[CellRef]
         ensures { result.now ≡ theory.cells self.now }
@@ -98,6 +108,7 @@ impl<'a> Ways<'a> {
         ensures { IfOk result (λ shown. IsShown self.now reach client
             (cell_at (theory.cells self.now) cell) (option_map (λ edges. edges.items) shown)) }
     {
+        self.known();
         match self.distance(reach, cell, client) {
             None => Ok(None),
             Some(distance) => Ok(Some(self.edges_of(alloc, reach, cell, client, distance)?)),
@@ -119,11 +130,12 @@ impl<'a> Ways<'a> {
         ensures { IfOk result (λ edges. edges.items
             ≡ shown_way self.now reach client distance (cell_at (theory.cells self.now) cell)) }
     {
+        self.known();
         let mut edges = Vec::with_capacity(alloc, distance)?;
         let mut place = cell;
         for behind in 0..distance {
             let link = self.first_link(reach, client, distance - 1 - behind, place);
-            edges.push(edge_between(self.table.cells(), link))?;
+            edges.push(edge_between(self.cells(), link))?;
             place = near_of(reach, link);
         }
         Ok(edges)
@@ -138,7 +150,8 @@ impl<'a> Ways<'a> {
             ≡ Some (edge_at (theory.cells self.now) result) }
         ensures link { IsLink (theory.cells self.now) result }
     {
-        for link in self.table.links() {
+        self.known();
+        for link in self.links() {
             if self.leads(reach, client, rounds, cell, *link) {
                 return *link;
             }
@@ -154,10 +167,28 @@ impl<'a> Ways<'a> {
         ensures { result ≡ leads_within self.now reach client rounds
             (cell_at (theory.cells self.now) cell) (edge_at (theory.cells self.now) link) }
     {
-        far_of(reach, link) == cell
-            && self
-                .distance(reach, near_of(reach, link), client)
-                .is_some_and(|distance| distance <= rounds)
+        self.known();
+        far_of(reach, link) == cell && self.is_within(reach, client, rounds, near_of(reach, link))
+    }
+
+    /// Whether a cell is within so many rounds: its distance is no more.
+    fn is_within(&self, reach: Reach, client: u8, rounds: usize, cell: usize) -> bool
+        requires cell { cell < length (theory.cells self.now) }
+        requires client { client < CLIENTS }
+        ensures { result ≡ is_within self.now reach client rounds (cell_at (theory.cells self.now) cell) }
+    {
+        self.known();
+        match self.distance(reach, cell, client) {
+            Some(distance) => distance <= rounds,
+            None => false,
+        }
+    }
+
+    /// The edges of the plan, between the numbers of its cells.
+    fn links(&self) -> &[Link]
+        ensures { AreLinksOf self.now result.now }
+    {
+        self.table.links()
     }
 
     /// The distances of this reach.

@@ -1,7 +1,7 @@
 //! What is told of a client and a cell: whether it may influence and learn it, and by which way.
 ghost use Rattle.std.specs.Prelude.{◌≡◌, ◌++◌, ◌<◌, IfOk, IfSome, OnOk, length, map, option_map, flat_map, slice_get};
 ghost use Rattle.meter_theory.specs.Plan as theory;
-ghost use Rattle.value_text.specs.Edges as edges;
+ghost use Rattle.value_text.specs.Edges.{edge_text};
 ghost use Rattle.flow_edges.specs.Table.{cell_at};
 ghost use Rattle.flow_ways.specs.Why as spec;
 ghost use Rattle.flow_ways.specs.Why.{IsBlockPut, IsWhy};
@@ -170,7 +170,7 @@ fn push_right(
 /// Puts a line for each edge behind a text.
 fn push_edges(alloc: Global, edges: &[Edge], text: &mut Vec<u8>) -> Result<(), Memory>
     ensures { OnOk result (text.new.items ≡ text.old.items
-        ++ flat_map spec.indented (map edges.edge_text edges.now)) }
+        ++ flat_map spec.indented (map edge_text edges.now)) }
 {
     for edge in edges {
         push_edge(alloc, edge, text)?;
@@ -180,7 +180,7 @@ fn push_edges(alloc: Global, edges: &[Edge], text: &mut Vec<u8>) -> Result<(), M
 
 /// Puts the line of an edge behind a text.
 fn push_edge(alloc: Global, edge: &Edge, text: &mut Vec<u8>) -> Result<(), Memory>
-    ensures { OnOk result (text.new.items ≡ text.old.items ++ spec.indented (edges.edge_text edge.now)) }
+    ensures { OnOk result (text.new.items ≡ text.old.items ++ spec.indented (edge_text edge.now)) }
 {
     let edge = EdgeText(*edge);
     let line = format!(in alloc; "  {edge}\n")?;

@@ -1,6 +1,5 @@
-use Rattle.std.proofs.Common.{◌≡◌, ◌<◌, ◌∙◌, false, get_or, length, refl, subst, sym}
+use Rattle.std.proofs.Common.{◌∙◌, length, sym}
 use Rattle.std.proofs.lemmas.Bool.{false≢true}
-use Rattle.flow_ways.specs.Ends.{far_of, near_of}
 use Rattle.flow_ways.proofs.Passed.{far-within, link-there, near-within, round-more}
 use Rattle.flow_ways.proofs.rounds.pass_all.Goals as goal
 use Rattle.flow_ways.proofs.rounds.pass_all.Goals.{then-grew, else-grew}
