@@ -1,6 +1,6 @@
 -- What lines give an asker to do, and what it does to a meter alone.
 use Rattle.std.proofs.Common.{◌≡◌, ℕ, zero, suc, ◌+◌, ◌-◌, ◌<◌, List, [], ◌∷◌, ◌++◌, take, drop, length, get_or, Option, Some, None, Result, Ok, Err, OnOk, OnErr, inl, refl, sym, ap, subst, ◌∙◌, append-nil, append_assoc, zero-add, suc-add, arith}
-use Rattle.std.specs.Prelude.{option_to_list, IfErr}
+use Rattle.std.specs.Prelude.{false, is_some, option_to_list, IfErr}
 use Rattle.std.specs.List.{flat_map, filter_map}
 use Rattle.std.proofs.lemmas.List.{take_more, take-append-drop}
 use Rattle.std.proofs.lemmas.List.Elements.{filter_map-append}
@@ -97,6 +97,15 @@ pub offered-more : {A : Type 0} (answers : Answers A) (old mid new : A) (objects
 offered-more answers old mid new objects i o within is before after =
     subst (λ (steps : List Step). TakesAll answers old steps new) (offered_up-to objects i o within is)
     (takes-append answers old mid new (filter_map offered (take i objects)) (option_to_list (offered o)) before after)
+
+-- none is offered to the object
+pub none-offered : {A : Type 0} (answers : Answers A) (old new : A) (objects : List Object) (i : ℕ) (o : Object) → i < length objects → o ≡ get_or objects i o
+    → TakesAll answers old (filter_map offered (take i objects)) new → is_some (offered o) ≡ false → TakesAll answers old (filter_map offered (take (i + 1) objects)) new
+none-offered answers old new objects i o within is before none = offered-more answers old new new objects i o within is before (nothing (offered o) none)
+  where
+    nothing : (found : Option Step) → is_some found ≡ false → TakesAll answers new (option_to_list found) new
+    nothing None none = (refl, refl)
+    nothing (Some step) none = cc
 
 -- memory was refused for an object's step
 pub offered-stops : {A : Type 0} (answers : Answers A) (old mid new : A) (objects : List Object) (i : ℕ) (o : Object) → i < length objects → o ≡ get_or objects i o

@@ -1,8 +1,7 @@
 -- What a line says beside the steps of the meter itself that it brings.
-use Rattle.std.proofs.Common.{◌≡◌, List, [], map, refl, ap, sym, subst, ◌∙◌}
+use Rattle.std.proofs.Common.{◌≡◌, List, [], ap, sym, subst, ◌∙◌}
 use Rattle.meter_theory.specs.Plan.{Plan}
 use Rattle.xdlms_services.specs.Conversation.{Answers}
-use Rattle.line_server.specs.Answering.{Take}
 use Rattle.line_server.specs.Asking.{Ask}
 use Rattle.line_server.specs.Doing.{Does, TakesAll}
 use Rattle.line_server.specs.Driving.{left_of}

@@ -9,7 +9,7 @@ use Rattle.cosem_data.specs.View.{tree}
 use Rattle.line_server.specs.Answering.{Task, Answer, Take, steps_of, apdus_of}
 use Rattle.meter_core.specs.Moments.{moment_steps, tick_steps}
 use Rattle.line_server.specs.declared.line.Line.{Line as LineValue}
-use Rattle.line_server.specs.declared.line.Line.TheVariants.{Skipped, Ask, Input, Evaluate, At, Ticks, Unreadable}
+use Rattle.line_server.specs.declared.line.Line.TheVariants.{Ask, Input, Evaluate, At, Ticks, Unreadable}
 use Rattle.line_server.specs.declared.reason.Reason.{Reason}
 use Rattle.line_server.specs.declared.fault.LineFault.{LineFault}
 use Rattle.line_server.specs.declared.fault.LineFault.TheVariants.{Read, Write, Line, Memory}

@@ -1,5 +1,5 @@
 //! The steps that a meter takes by itself.
-ghost use Rattle.std.specs.Prelude.{◌≡◌, option_to_list, IfOk, OnOk, OnErr};
+ghost use Rattle.std.specs.Prelude.{◌≡◌, is_some, option_to_list, IfOk, OnOk, OnErr};
 ghost use Rattle.line_server.specs.Doing.{TakesAll, StopsBehind};
 ghost use Rattle.line_server.specs.Driving.{left_of};
 ghost use Rattle.line_server.specs.Running.{own_steps};
@@ -110,9 +110,19 @@ fn take_driven<A: Asker>(alloc: Global, plan: &Plan, asker: &mut A) -> Result<()
     ensures err { OnErr result (StopsBehind A.answers asker.old (driven plan.now) asker.new) }
 {
     for object in plan.objects() {
-        take_offered(alloc, asker, object)?;
+        // Most objects are offered none: for them no room is made for a step.
+        if is_offered(object) {
+            take_offered(alloc, asker, object)?;
+        }
     }
     Ok(())
+}
+
+/// Whether a step is offered to an object when the clock has moved.
+fn is_offered(object: &Object) -> bool
+    ensures { result ≡ is_some (spec.offered object.now) }
+{
+    offered(object).is_some()
 }
 
 /// The asker takes the step that is offered to an object, if there is one.
