@@ -1,5 +1,5 @@
 -- The distances of cells from clients, as a list of numbers.
-use Rattle.std.specs.Prelude.{◌≡◌, ◌<◌, ◌≤◌, ◌+◌, ◌*◌, ℕ, Bool, true, false, cond, List, length, get_or, Option, Some, None}
+use Rattle.std.specs.Prelude.{◌≡◌, ◌<◌, ◌≤◌, ◌⊎◌, ◌+◌, ◌*◌, ℕ, Bool, true, false, cond, List, length, get_or, Option, Some, None}
 use Rattle.cosem_data.specs.declared.cell.CellRef.{CellRef}
 use Rattle.cosem_data.specs.declared.clients.ClientSet.{ClientSet}
 use Rattle.meter_theory.specs.Labels.{has}
@@ -27,6 +27,12 @@ noted distance reached (Some d) = Some d
 pub record AreNoted (distance : ℕ) (sets : List ClientSet) (old new : List (Option ℕ)) : Type 0 where
   pub size : length new ≡ length old
   pub each : (i c : ℕ) → i < length sets → c < CLIENTS → number_at new i c ≡ noted distance (has (set_at sets i) c) (number_at old i c)
+
+-- the same of the clients of one set, whose numbers stand from a first place on, and no other number has changed: own profile
+pub record IsCellNoted (distance first : ℕ) (clients : ClientSet) (old new : List (Option ℕ)) : Type 0 where
+  pub size : length new ≡ length old
+  pub here : (c : ℕ) → c < CLIENTS → get_or new (first + c) None ≡ noted distance (has clients c) (get_or old (first + c) None)
+  pub elsewhere : (p : ℕ) → (p < first) ⊎ (first + CLIENTS ≤ p) → get_or new p None ≡ get_or old p None
 
 -- the first round within which the client has the cell, if it is one of so many: own profile
 abbrev pub IsFirstRound : Plan → Reach → ℕ → ℕ → CellRef → Option ℕ → Type 0

@@ -1,9 +1,10 @@
 //! How far the cells of a plan are from its clients.
 ghost use Rattle.std.specs.Prelude.{◌≡◌, ◌≤◌, ◌*◌, ◌+◌, ℕ, length, IfOk, OnOk};
+ghost use Rattle.meter_theory.specs.Edges.{edges};
 ghost use Rattle.meter_theory.specs.Plan as theory;
-ghost use Rattle.label_certificate.specs.Closing.{set_at};
+ghost use Rattle.label_certificate.specs.Granted.{AreGranted};
 ghost use Rattle.flow_ways.specs.Distances.{AreDistances, AreFirstRounds, AreNoted, IsCellNoted};
-ghost use Rattle.flow_ways.specs.Rounds.{AreReached};
+ghost use Rattle.flow_ways.specs.Rounds.{AreLinksOf, AreReached};
 
 use crate::rounds::{next_round, sets_for};
 use cosem_data::clients::ClientSet;
@@ -23,7 +24,8 @@ pub(crate) fn distances(
     granted: &[Label],
     reach: Reach,
 ) -> Result<Vec<Option<usize>>, Memory>
-    requires table { IsTableOf plan.now table.now }
+    requires cells { table.now.cells ≡ theory.cells plan.now }
+    requires edges { table.now.edges ≡ edges plan.now }
     requires granted { AreGranted plan.now granted.now }
     ensures { IfOk result (λ numbers. AreDistances plan.now reach numbers.items) }
 {
@@ -48,6 +50,7 @@ fn number_rounds(
     requires numbers { AreFirstRounds plan.now reach 0 numbers.old }
     ensures { OnOk result (AreDistances plan.now reach numbers.new) }
 {
+    plan.known();
     let mut sets = granted;
     for distance in 1..sets.len() {
         let Some(next) = next_round(alloc, reach, links, &sets)? else {

@@ -1,11 +1,12 @@
 //! The ends of links, as ways go along them.
 ghost use Rattle.std.specs.Prelude.{◌≡◌};
-ghost use Rattle.meter_theory.specs.Ways.{set_for};
+ghost use Rattle.meter_theory.specs.Ways.{near_end, set_for};
 ghost use Rattle.flow_ways.specs.Ends.{far_of, near_of};
 
+use cosem_data::cell::CellRef;
 use cosem_data::clients::ClientSet;
 use flow_edges::table::Link;
-use meter_theory::flow::{Label, Reach};
+use meter_theory::flow::{Edge, Label, Reach};
 
 /// The number of the cell from which a way goes on along a link.
 pub(crate) fn near_of(reach: Reach, link: Link) -> usize
@@ -24,6 +25,16 @@ pub(crate) fn far_of(reach: Reach, link: Link) -> usize
     match reach {
         Reach::Influence => link.target,
         Reach::Learn => link.source,
+    }
+}
+
+/// The end of an edge from which a way goes on.
+pub(crate) fn near_end(reach: Reach, edge: &Edge) -> CellRef
+    ensures { result ≡ near_end reach edge.now }
+{
+    match reach {
+        Reach::Influence => edge.source,
+        Reach::Learn => edge.target,
     }
 }
 

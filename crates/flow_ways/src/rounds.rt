@@ -1,8 +1,10 @@
 //! Sets of clients, round by round.
-ghost use Rattle.std.specs.Prelude.{◌≡◌, length, map, IfOk};
+ghost use Rattle.std.specs.Prelude.{◌≡◌, ◌<◌, false, length, map, option_map, IfOk};
 ghost use Rattle.meter_theory.specs.Ways.{set_for};
 ghost use Rattle.label_certificate.specs.Least.{AreLinks};
-ghost use Rattle.flow_ways.specs.Rounds.{FollowsRound, IsRound};
+ghost use Rattle.label_certificate.specs.Closing.{set_at};
+ghost use Rattle.flow_ways.specs.Ends.{far_of, near_of};
+ghost use Rattle.flow_ways.specs.Rounds.{FollowsRound, IsAdded, IsRound};
 
 use crate::ends::{far_of, near_of, set_for};
 use cosem_data::clients::ClientSet;
@@ -35,7 +37,8 @@ pub(crate) fn next_round(
     sets: &[ClientSet],
 ) -> Result<Option<Vec<ClientSet>>, Memory>
     requires { AreLinks (length sets.now) links.now }
-    ensures { IfOk result (FollowsRound reach links.now sets.now) }
+    ensures { IfOk result (λ next. FollowsRound reach links.now sets.now
+        (option_map (λ sets. sets.items) next)) }
 {
     let mut next = copy_of(alloc, sets)?;
     let grew = pass_all(reach, links, sets, &mut next);
@@ -60,12 +63,24 @@ fn pass_all(reach: Reach, links: &[Link], sets: &[ClientSet], next: &mut [Client
 {
     let mut grew = false;
     for link in links {
-        let given = sets[near_of(reach, *link)];
-        let far = far_of(reach, *link);
-        if !given.within(next[far]) {
-            next[far] = next[far].union(given);
-            grew = true;
-        }
+        let added = pass(reach, *link, sets, next);
+        grew = grew || added;
     }
     grew
+}
+
+/// Adds the clients of the set from which a link leads, and says whether the set to which it leads has grown.
+fn pass(reach: Reach, link: Link, sets: &[ClientSet], next: &mut [ClientSet]) -> bool
+    requires near { near_of reach link < length sets.now }
+    requires far { far_of reach link < length next.old }
+    ensures added { IsAdded (set_at sets.now (near_of reach link)) (far_of reach link) next.old next.new }
+    ensures still { result ≡ false → next.new ≡ next.old }
+{
+    let given = sets[near_of(reach, link)];
+    let far = far_of(reach, link);
+    if given.within(next[far]) {
+        return false;
+    }
+    next[far] = next[far].union(given);
+    true
 }

@@ -14,7 +14,7 @@ use object_model::policy::Policy;
 use std::alloc::Global;
 
 /// For each cell of the plan the label of its first entry, if it has one. The only error is want of memory.
-pub(crate) fn labels_by_number(
+pub fn labels_by_number(
     alloc: Global,
     plan: &Plan,
     count: usize,
@@ -49,7 +49,7 @@ fn put_first(plan: &Plan, entry: &(CellRef, Label), found: &mut Vec<Option<Label
 }
 
 /// The label that each cell has; a cell without one is influenced and learned by nobody. The only error is want of memory.
-pub(crate) fn labels_or_nobody(alloc: Global, found: &[Option<Label>]) -> Result<Vec<Label>, Memory>
+pub fn labels_or_nobody(alloc: Global, found: &[Option<Label>]) -> Result<Vec<Label>, Memory>
     ensures { IfOk result (λ given. given.items
         ≡ map (or_else (record { influence = nobody; learn = nobody })) found.now) }
 {
@@ -74,7 +74,7 @@ fn label_or_nobody(label: &Option<Label>) -> Label
 }
 
 /// For each cell of the plan the label that the policy gives it. The only error is want of memory.
-pub(crate) fn policy_labels(
+pub fn policy_labels(
     alloc: Global,
     plan: &Plan,
     cells: &[CellRef],
@@ -107,7 +107,7 @@ fn policy_label(plan: &Plan, default: Label, own: &[Option<Label>], cell: &CellR
 }
 
 /// The cell whose label a policy takes for a cell: for what a register monitor has seen that is its monitored value.
-pub(crate) fn source_of(plan: &Plan, cell: &CellRef) -> CellRef
+pub fn source_of(plan: &Plan, cell: &CellRef) -> CellRef
     ensures { result ≡ policy_source plan.now cell.now }
 {
     if cell.index != 0 {

@@ -1,8 +1,8 @@
 use Rattle.std.proofs.Common.{not, ◌≡◌, ◌<◌, ◌∙◌, Some, ap, sym, arith, length, vec_len, slice_set, rules}
 use Rattle.meter_theory.specs.Plan.{cells}
 use Rattle.flow_edges.proofs.Sources.{are-cells, numbered, unnumbered}
-use Rattle.flow_checker.proofs.Placed.{put-first, put-kept, put-nowhere, is-none, is-some}
-use Rattle.flow_checker.proofs.numbered.put_first.Goals as goal
+use Rattle.label_certificate.proofs.Placed.{put-first, put-kept, put-nowhere, is-none, is-some}
+use Rattle.label_certificate.proofs.numbered.put_first.Goals as goal
 
 pub returns-in_default : goal.returns-in_default
 returns-in_default c = λ before is.

@@ -3,8 +3,8 @@ use Rattle.std.specs.Prelude.{replicate}
 use Rattle.std.proofs.lemmas.List.{length-map}
 use Rattle.meter_theory.specs.Labels.{label_at}
 use Rattle.meter_theory.specs.Plan.{cells}
-use Rattle.flow_checker.proofs.Placed.{no-entry}
-use Rattle.flow_checker.proofs.numbered.labels_by_number.Goals as goal
+use Rattle.label_certificate.proofs.Placed.{no-entry}
+use Rattle.label_certificate.proofs.numbered.labels_by_number.Goals as goal
 
 pub loop-entry-init : goal.loop-entry-init
 loop-entry-init c =

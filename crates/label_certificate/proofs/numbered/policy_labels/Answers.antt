@@ -2,7 +2,7 @@ use Rattle.std.proofs.Common.{subst}
 use Rattle.meter_theory.specs.Lists.{IsIn}
 use Rattle.flow_edges.specs.Table.{cell_at}
 use Rattle.label_certificate.proofs.Closed.{item_at}
-use Rattle.flow_checker.proofs.numbered.policy_labels.Goals as goal
+use Rattle.label_certificate.proofs.numbered.policy_labels.Goals as goal
 
 pub policy_label-requires-clause-cell : goal.policy_label-requires-clause-cell
 policy_label-requires-clause-cell c =

@@ -1,8 +1,8 @@
 use Rattle.std.proofs.Common.{◌∙◌, sym, ap, ap₂}
 use Rattle.meter_theory.specs.Labels.{nobody, or_else}
 use Rattle.meter_theory.proofs.ClientSets.{new_is_nobody}
-use Rattle.flow_checker.proofs.Placed.{labelled}
-use Rattle.flow_checker.proofs.numbered.label_or_nobody.Goals as goal
+use Rattle.label_certificate.proofs.Placed.{labelled}
+use Rattle.label_certificate.proofs.numbered.label_or_nobody.Goals as goal
 
 pub returns-in-None : goal.returns-in-None
 returns-in-None c =

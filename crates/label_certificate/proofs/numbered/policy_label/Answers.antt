@@ -2,8 +2,8 @@ use Rattle.std.proofs.Common.{◌∙◌, ap, sym, subst, arith, get_or}
 use Rattle.meter_theory.specs.Plan.{cells}
 use Rattle.meter_theory.specs.Lists.{IsIn}
 use Rattle.flow_edges.proofs.Sources.{numbered, unnumbered}
-use Rattle.flow_checker.proofs.Placed.{policy-is, source-cell}
-use Rattle.flow_checker.proofs.numbered.policy_label.Goals as goal
+use Rattle.label_certificate.proofs.Placed.{policy-is, source-cell}
+use Rattle.label_certificate.proofs.numbered.policy_label.Goals as goal
 
 pub bounds-own-from : goal.bounds-own-from
 bounds-own-from c =
