@@ -90,7 +90,7 @@ module _ (P : Plan) (policy : Labelling) (labels : Labels) where
       first-in (is_labelled labels) (has_label found) (cells P) no_cell (length found) (ap length is ∙ length-map (cells P) (label_at labels))
       (λ j less. ap (λ z. is_some (get_or z j None)) is ∙ ap is_some (get_or-map (label_at labels) (cells P) j no_cell None less)) r h
 
-  label-of : (by : Labelling) (given : List Label) → given ≡ map by (cells P) → (j : ℕ) → j < length (cells P) → label_in given j ≡ by (cell_at (cells P) j)
+  pub label-of : (by : Labelling) (given : List Label) → given ≡ map by (cells P) → (j : ℕ) → j < length (cells P) → label_in given j ≡ by (cell_at (cells P) j)
   label-of by given is j less = ap (λ z. label_in z j) is ∙ get_or-map by (cells P) j no_cell unlabelled less
 
   size : (by : Labelling) (given : List Label) → given ≡ map by (cells P) → length given ≡ length (cells P)
@@ -102,7 +102,7 @@ module _ (P : Plan) (policy : Labelling) (labels : Labels) where
       first-in (keeps_policy policy labels) (is_allowed allowed given) (cells P) no_cell (length given) (size (labelling_of labels) given is)
       (λ j less. ap₂ (λ a b. within a.influence b.influence && within a.learn b.learn) (label-of (labelling_of labels) given is j less) (label-of policy allowed are j less)) r h
 
-  granted-change : (granted : List Label) → AreGranted P granted → (c j : ℕ) → j < length (cells P) → has (label_in granted j).influence c ≡ may_change P c (cell_at (cells P) j)
+  pub granted-change : (granted : List Label) → AreGranted P granted → (c j : ℕ) → j < length (cells P) → has (label_in granted j).influence c ≡ may_change P c (cell_at (cells P) j)
   granted-change granted g c j less =
       let x = cell_at (cells P) j in
       let is = (g.each j less).influence c in
@@ -127,7 +127,7 @@ module _ (P : Plan) (policy : Labelling) (labels : Labels) where
   no_edge = edge_at (cells P) no_link
 
   -- each edge is a link between numbers of cells
-  edge-of : (links : List Link) → map (edge_at (cells P)) links ≡ edges P → (j : ℕ) → j < length (edges P) → edge_at (cells P) (link_at links j) ≡ get_or (edges P) j no_edge
+  pub edge-of : (links : List Link) → map (edge_at (cells P)) links ≡ edges P → (j : ℕ) → j < length (edges P) → edge_at (cells P) (link_at links j) ≡ get_or (edges P) j no_edge
   edge-of links are j less =
       sym (get_or-map (edge_at (cells P)) links j no_link no_edge (subst (λ z. j < z) (sym (ap length are) ∙ length-map links (edge_at (cells P))) less)) ∙ ap (λ z. get_or z j no_edge) are
 
@@ -136,10 +136,10 @@ module _ (P : Plan) (policy : Labelling) (labels : Labels) where
       get_or (edges P) k no_edge ≡ e
   lost-edge links are k less cs same e is = sym (edge-of links are k less) ∙ (ap (λ xs. edge_at xs (link_at links k)) (sym same) ∙ sym is)
 
-  links-size : (links : List Link) → map (edge_at (cells P)) links ≡ edges P → length links ≡ length (edges P)
+  pub links-size : (links : List Link) → map (edge_at (cells P)) links ≡ edges P → length links ≡ length (edges P)
   links-size links are = sym (length-map links (edge_at (cells P))) ∙ ap length are
 
-  ends : (links : List Link) → AreWithin (cells P) links → (j : ℕ) → j < length links → ((link_at links j).source < length (cells P)) × ((link_at links j).target < length (cells P))
+  pub ends : (links : List Link) → AreWithin (cells P) links → (j : ℕ) → j < length links → ((link_at links j).source < length (cells P)) × ((link_at links j).target < length (cells P))
   ends links inside j less = link_in (cells P) links (link_at links j) inside (in-links links j less)
 
   pub first-influence : (given : List Label) (links : List Link) → given ≡ map (labelling_of labels) (cells P) → map (edge_at (cells P)) links ≡ edges P → AreWithin (cells P) links → (r : Option ℕ) →

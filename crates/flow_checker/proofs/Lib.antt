@@ -2,4 +2,6 @@ pub mod Crossing
 pub mod Firsts
 pub mod Within
 pub mod Answering
+pub mod Failing
+pub mod NothingFails
 pub mod Looked

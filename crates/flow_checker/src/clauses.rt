@@ -1,6 +1,6 @@
 //! The clauses of admission over labels by the numbers of their cells: of each clause the first number that fails it.
-ghost use Rattle.std.specs.Prelude.{◌≡◌, ◌<◌, ◌&&◌, length};
-ghost use Rattle.meter_theory.specs.Labels.{within};
+ghost use Rattle.std.specs.Prelude.{◌≡◌, ◌<◌, ◌&&◌, ◌||◌, length, not};
+ghost use Rattle.meter_theory.specs.Labels.{has, within};
 ghost use Rattle.label_certificate.specs.Granted.{label_in};
 ghost use Rattle.label_certificate.specs.Least.{AreLinks};
 ghost use Rattle.flow_checker.specs.First.{IsFirst, IsFirstPair};
@@ -55,7 +55,7 @@ fn first_changed(client: u8, granted: &[Label], given: &[Label]) -> Option<usize
     ensures { IsFirst (lets_change client granted.now given.now) (length given.now) result }
 {
     for (number, label) in given.iter().enumerate() {
-        if granted[number].influence.has(client) && !label.influence.has(client) {
+        if !admits(client, granted[number].influence, label.influence) {
             return Some(number);
         }
     }
@@ -82,7 +82,7 @@ fn first_read(client: u8, granted: &[Label], given: &[Label]) -> Option<usize>
     ensures { IsFirst (lets_read client granted.now given.now) (length given.now) result }
 {
     for (number, label) in given.iter().enumerate() {
-        if granted[number].learn.has(client) && !label.learn.has(client) {
+        if !admits(client, granted[number].learn, label.learn) {
             return Some(number);
         }
     }
@@ -115,6 +115,13 @@ pub(crate) fn first_learn_lost(given: &[Label], links: &[Link]) -> Option<usize>
     None
 }
 
+/// Whether the client is in a set of a label, where its rights ask for that.
+pub(crate) fn admits(client: u8, granted: ClientSet, given: ClientSet) -> bool
+    ensures { result ≡ (not (has granted client) || has given client) }
+{
+    !granted.has(client) || given.has(client)
+}
+
 /// Whether a label's sets lie within another's.
 fn lies_within(label: &Label, other: &Label) -> bool
     ensures { result ≡ (within label.now.influence other.now.influence
@@ -124,7 +131,7 @@ fn lies_within(label: &Label, other: &Label) -> bool
 }
 
 /// Whether who may influence the source of a link may influence its target.
-fn influence_passes(given: &[Label], link: &Link) -> bool
+pub(crate) fn influence_passes(given: &[Label], link: &Link) -> bool
     requires source { link.now.source < length given.now }
     requires target { link.now.target < length given.now }
     ensures { result ≡ within (label_in given.now link.now.source).influence
@@ -134,7 +141,7 @@ fn influence_passes(given: &[Label], link: &Link) -> bool
 }
 
 /// Whether who may learn the target of a link may learn its source.
-fn learn_passes(given: &[Label], link: &Link) -> bool
+pub(crate) fn learn_passes(given: &[Label], link: &Link) -> bool
     requires source { link.now.source < length given.now }
     requires target { link.now.target < length given.now }
     ensures { result ≡ within (label_in given.now link.now.target).learn
@@ -144,7 +151,7 @@ fn learn_passes(given: &[Label], link: &Link) -> bool
 }
 
 /// Whether each client of a set is in the other.
-fn is_within(set: ClientSet, other: ClientSet) -> bool
+pub(crate) fn is_within(set: ClientSet, other: ClientSet) -> bool
     ensures { result ≡ within set other }
 {
     set.within(other)

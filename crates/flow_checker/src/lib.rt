@@ -7,7 +7,10 @@
 
 pub mod check;
 mod clauses;
+pub mod failure;
+pub mod failures;
 mod learned;
 mod looking;
 pub mod notice;
 pub mod refusal;
+mod rows;

@@ -1,55 +1,108 @@
 -- Lists of edges, line by line.
-use Rattle.std.proofs.Common.{◌≡◌, ℕ, ◌+◌, ◌<◌, List, [], ◌∷◌, ◌++◌, length, map, take, drop, get_or, refl, sym, ap, ap₂, ◌∙◌, append-nil, append_assoc, arith, length-append}
-use Rattle.std.specs.Prelude.{codes}
-use Rattle.std.proofs.lemmas.List.{get_or-map, take_more, take-append-drop}
+use Rattle.std.proofs.Common.{◌≡◌, ℕ, ◌+◌, ◌<◌, ◌≤◌, List, [], ◌∷◌, ◌++◌, length, map, take, drop, get_or, refl, sym, ap, ap₂, ◌∙◌, append-nil, append_assoc, arith, length-append}
+use Rattle.std.specs.Prelude.{codes, flat_map}
+use Rattle.std.proofs.lemmas.List.{get_or-map, take_all, take_more, take-append-drop}
 use Rattle.std.proofs.lemmas.Grind.{flat_map-append}
 use Rattle.cosem_data.specs.declared.cell.CellRef.{CellRef}
 use Rattle.value_text.specs.Texts.{cell_text}
+use Rattle.meter_theory.specs.declared.flow.Edge.{Edge}
 use Rattle.flow_edges.specs.declared.table.Link.{Link}
 use Rattle.flow_edges.specs.Table.{IsLink, AreWithin, edge_at, no_cell}
 use Rattle.value_text.specs.Edges.{cause_word, edge_text}
-use Rattle.plan_lists.specs.Listing.{edges_text, link_text, links_text}
+use Rattle.plan_lists.specs.declared.edges.Form.{Form}
+use Rattle.plan_lists.specs.Listing.{edges_text, form_line, form_text, link_text, links_text, list_text}
 
 -- the line of an edge between numbers is that of the edge between cells
-link-line : (cells : List CellRef) (l : Link) → IsLink cells l → link_text (map cell_text cells) l ≡ edge_text (edge_at cells l) ++ 10 ∷ []
-link-line cells l w =
-    ap₂ (λ (s t : List ℕ). (s ++ (codes " -> " ++ (t ++ (codes " " ++ cause_word l.cause)))) ++ 10 ∷ [])
-    (get_or-map cell_text cells l.source no_cell [] w.0) (get_or-map cell_text cells l.target no_cell [] w.1)
+link-line : (form : Form) (cells : List CellRef) (l : Link) → IsLink cells l
+    → link_text form (map cell_text cells) l ≡ form_line form (cell_text (edge_at cells l).source) (cell_text (edge_at cells l).target) (cause_word l.cause)
+link-line form cells l w =
+    ap₂ (λ (s t : List ℕ). form_line form s t (cause_word l.cause)) (get_or-map cell_text cells l.source no_cell [] w.0) (get_or-map cell_text cells l.target no_cell [] w.1)
 
 -- and so are all lines
-pub links-lines : (cells : List CellRef) (links : List Link) → AreWithin cells links → links_text (map cell_text cells) links ≡ edges_text (map (edge_at cells) links)
-links-lines cells [] w = refl
-links-lines cells (l ∷ ls) w = ap₂ (λ (a b : List ℕ). a ++ b) (link-line cells l w.0) (links-lines cells ls w.1)
+links-lines : (form : Form) (cells : List CellRef) (links : List Link) → AreWithin cells links
+    → links_text form (map cell_text cells) links ≡ flat_map (λ e. form_line form (cell_text e.source) (cell_text e.target) (cause_word e.cause)) (map (edge_at cells) links)
+links-lines form cells [] w = refl
+links-lines form cells (l ∷ ls) w = ap₂ (λ (a b : List ℕ). a ++ b) (link-line form cells l w.0) (links-lines form cells ls w.1)
+
+pub list-lines : (form : Form) (cells : List CellRef) (links : List Link) → AreWithin cells links → list_text form (map cell_text cells) links ≡ form_text form (map (edge_at cells) links)
+list-lines form cells links w = ap (λ (t : List ℕ). form.head.now ++ (t ++ form.foot.now)) (links-lines form cells links w)
+
+-- the same lines one by one are the same lines
+same-lines : (f g : Edge → List ℕ) (edges : List Edge) → ((e : Edge) → f e ≡ g e) → flat_map f edges ≡ flat_map g edges
+same-lines f g [] same = refl
+same-lines f g (e ∷ edges) same = ap₂ (λ (a b : List ℕ). a ++ b) (same e) (same-lines f g edges same)
+
+-- the form of lines
+plain-line : (s a t b c n : List ℕ) → s ++ (a ++ (t ++ (b ++ (c ++ n)))) ≡ (s ++ (a ++ (t ++ (b ++ c)))) ++ n
+plain-line s a t b c n =
+    ap (λ (z : List ℕ). s ++ (a ++ (t ++ z))) (sym (append_assoc b c n))
+    ∙ ap (λ (z : List ℕ). s ++ (a ++ z)) (sym (append_assoc t (b ++ c) n))
+    ∙ ap (λ (z : List ℕ). s ++ z) (sym (append_assoc a (t ++ (b ++ c)) n))
+    ∙ sym (append_assoc s (a ++ (t ++ (b ++ c))) n)
+
+abbrev plain : Form
+plain = record {
+  head = record { ref_ptr = (0, 0); now = [] };
+  start = record { ref_ptr = (0, 0); now = [] };
+  between = record { ref_ptr = (0, 0); now = codes " -> " };
+  label = record { ref_ptr = (0, 0); now = codes " " };
+  end = record { ref_ptr = (0, 0); now = codes "\n" };
+  foot = record { ref_ptr = (0, 0); now = [] };
+}
+
+pub plain-text : (edges : List Edge) → form_text plain edges ≡ edges_text edges
+plain-text edges =
+    append-nil (flat_map (λ e. form_line plain (cell_text e.source) (cell_text e.target) (cause_word e.cause)) edges)
+    ∙ same-lines (λ e. form_line plain (cell_text e.source) (cell_text e.target) (cause_word e.cause)) (λ e. edge_text e ++ 10 ∷ []) edges
+    (λ e. plain-line (cell_text e.source) (codes " -> ") (cell_text e.target) (codes " ") (cause_word e.cause) (10 ∷ []))
 
 -- the lines of one link more
-pub line-more : (texts : List (List ℕ)) (links : List Link) (i : ℕ) (d : Link) → i < length links →
-    links_text texts (take (i + 1) links) ≡ links_text texts (take i links) ++ link_text texts (get_or links i d)
-line-more texts links i d within =
-    ap (links_text texts) (take_more links i d within)
-    ∙ flat_map-append (link_text texts) (take i links) (get_or links i d ∷ [])
-    ∙ ap (λ (t : List ℕ). links_text texts (take i links) ++ t) (append-nil (link_text texts (get_or links i d)))
+line-more : (form : Form) (texts : List (List ℕ)) (links : List Link) (i : ℕ) (d : Link) → i < length links →
+    links_text form texts (take (i + 1) links) ≡ links_text form texts (take i links) ++ link_text form texts (get_or links i d)
+line-more form texts links i d within =
+    ap (links_text form texts) (take_more links i d within)
+    ∙ flat_map-append (link_text form texts) (take i links) (get_or links i d ∷ [])
+    ∙ ap (λ (t : List ℕ). links_text form texts (take i links) ++ t) (append-nil (link_text form texts (get_or links i d)))
 
--- the lines of the first links, and those of the others
-pub lines-split : (texts : List (List ℕ)) (links : List Link) (i : ℕ) → links_text texts links ≡ links_text texts (take i links) ++ links_text texts (drop i links)
-lines-split texts links i =
-    ap (links_text texts) (sym (take-append-drop i links)) ∙ flat_map-append (link_text texts) (take i links) (drop i links)
+-- what follows the first lines: the other lines, and the foot
+abbrev pub rest_text : Form → List (List ℕ) → List Link → ℕ → List ℕ
+rest_text form texts links i = links_text form texts (drop i links) ++ form.foot.now
 
--- what is left behind a front of the first lines: what waits of them, and the other lines
-pub behind-front : (texts : List (List ℕ)) (links : List Link) (i : ℕ) (front waiting : List ℕ) → links_text texts (take i links) ≡ front ++ waiting →
-    links_text texts links ≡ front ++ (waiting ++ links_text texts (drop i links))
-behind-front texts links i front waiting e =
-    lines-split texts links i
-    ∙ ap (λ (t : List ℕ). t ++ links_text texts (drop i links)) e
-    ∙ append_assoc front waiting (links_text texts (drop i links))
+-- the whole list is its head with the first lines, and what follows
+list-split : (form : Form) (texts : List (List ℕ)) (links : List Link) (i : ℕ) →
+    list_text form texts links ≡ (form.head.now ++ links_text form texts (take i links)) ++ rest_text form texts links i
+list-split form texts links i =
+    ap (λ (t : List ℕ). form.head.now ++ (t ++ form.foot.now))
+    (ap (links_text form texts) (sym (take-append-drop i links)) ∙ flat_map-append (link_text form texts) (take i links) (drop i links))
+    ∙ ap (λ (t : List ℕ). form.head.now ++ t) (append_assoc (links_text form texts (take i links)) (links_text form texts (drop i links)) form.foot.now)
+    ∙ sym (append_assoc form.head.now (links_text form texts (take i links)) (rest_text form texts links i))
+
+-- what is left behind a front of head and first lines: what waits of them, and what follows
+pub behind-front : (form : Form) (texts : List (List ℕ)) (links : List Link) (i : ℕ) (front waiting : List ℕ) → form.head.now ++ links_text form texts (take i links) ≡ front ++ waiting →
+    list_text form texts links ≡ front ++ (waiting ++ rest_text form texts links i)
+behind-front form texts links i front waiting e =
+    list-split form texts links i
+    ∙ ap (λ (t : List ℕ). t ++ rest_text form texts links i) e
+    ∙ append_assoc front waiting (rest_text form texts links i)
 
 -- the line of one link more waits behind the others
-pub line-waits : (texts : List (List ℕ)) (links : List Link) (i : ℕ) (d : Link) (front waiting full : List ℕ) → i < length links →
-    links_text texts (take i links) ≡ front ++ waiting → full ≡ waiting ++ link_text texts (get_or links i d) → links_text texts (take (i + 1) links) ≡ front ++ full
-line-waits texts links i d front waiting full within e more =
-    line-more texts links i d within
-    ∙ ap (λ (t : List ℕ). t ++ link_text texts (get_or links i d)) e
-    ∙ append_assoc front waiting (link_text texts (get_or links i d))
+pub line-waits : (form : Form) (texts : List (List ℕ)) (links : List Link) (i : ℕ) (d : Link) (front waiting full : List ℕ) → i < length links →
+    form.head.now ++ links_text form texts (take i links) ≡ front ++ waiting → full ≡ waiting ++ link_text form texts (get_or links i d) →
+    form.head.now ++ links_text form texts (take (i + 1) links) ≡ front ++ full
+line-waits form texts links i d front waiting full within e more =
+    ap (λ (t : List ℕ). form.head.now ++ t) (line-more form texts links i d within)
+    ∙ sym (append_assoc form.head.now (links_text form texts (take i links)) (link_text form texts (get_or links i d)))
+    ∙ ap (λ (t : List ℕ). t ++ link_text form texts (get_or links i d)) e
+    ∙ append_assoc front waiting (link_text form texts (get_or links i d))
     ∙ ap (λ (t : List ℕ). front ++ t) (sym more)
+
+-- behind the last line the foot is left
+pub foot-left : (form : Form) (texts : List (List ℕ)) (links : List Link) (i : ℕ) (front waiting : List ℕ) → length links ≤ i → form.head.now ++ links_text form texts (take i links) ≡ front ++ waiting →
+    list_text form texts links ≡ front ++ (waiting ++ form.foot.now)
+foot-left form texts links i front waiting end e =
+    sym (append_assoc form.head.now (links_text form texts links) form.foot.now)
+    ∙ ap (λ (t : List ℕ). t ++ form.foot.now) (ap (λ (ls : List Link). form.head.now ++ links_text form texts ls) (sym (take_all i links end)) ∙ e)
+    ∙ append_assoc front waiting form.foot.now
 
 -- a front of what waits goes to the front
 pub front-more : (text front waiting f l : List ℕ) → text ≡ front ++ waiting → waiting ≡ f ++ l → text ≡ (front ++ f) ++ l

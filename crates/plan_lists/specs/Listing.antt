@@ -4,9 +4,11 @@ use Rattle.std.specs.Io.KnownBytes.{Appends}
 use Rattle.meter_theory.specs.Labels.{Labels, AreLeast}
 use Rattle.meter_theory.specs.Plan.{Plan, cells}
 use Rattle.meter_theory.specs.declared.flow.Edge.{Edge}
+use Rattle.value_text.specs.Texts.{cell_text}
 use Rattle.value_text.specs.Edges.{cause_word, edge_text}
 use Rattle.flow_edges.specs.declared.table.Link.{Link}
 use Rattle.label_certificate.specs.LabelText.{text_of_labels}
+use Rattle.plan_lists.specs.declared.edges.Form.{Form}
 use Rattle.plan_lists.specs.declared.fault.ListFault.{ListFault}
 use Rattle.plan_lists.specs.declared.fault.ListFault.TheVariants as faults
 
@@ -16,13 +18,34 @@ use Rattle.plan_lists.specs.declared.fault.ListFault.TheVariants as faults
 abbrev pub edges_text : List Edge → List ℕ
 edges_text edges = flat_map (λ e. edge_text e ++ 10 ∷ []) edges
 
+-- an edge as Graphviz reads it, in a line of its own (own profile)
+abbrev pub dot_line : Edge → List ℕ
+dot_line e =
+    codes "  \"" ++ (cell_text e.source ++ (codes "\" -> \"" ++ (cell_text e.target ++ (codes "\" [label=\"" ++ (cause_word e.cause ++ codes "\"];\n")))))
+
+-- edges as a graph that Graphviz reads (own profile)
+abbrev pub dot_text : List Edge → List ℕ
+dot_text edges = codes "digraph cells {\n" ++ (flat_map dot_line edges ++ codes "}\n")
+
+-- the line of an edge with these texts of its cells and its cause, in a form (own profile)
+abbrev pub form_line : Form → (source target cause : List ℕ) → List ℕ
+form_line form source target cause = form.start.now ++ (source ++ (form.between.now ++ (target ++ (form.label.now ++ (cause ++ form.end.now)))))
+
 -- the line of an edge between numbers of cells whose texts are these (own profile)
-abbrev pub link_text : List (List ℕ) → Link → List ℕ
-link_text texts l = (get_or texts l.source [] ++ (codes " -> " ++ (get_or texts l.target [] ++ (codes " " ++ cause_word l.cause)))) ++ 10 ∷ []
+abbrev pub link_text : Form → List (List ℕ) → Link → List ℕ
+link_text form texts l = form_line form (get_or texts l.source []) (get_or texts l.target []) (cause_word l.cause)
 
 -- those of many, one behind the other (own profile)
-abbrev pub links_text : List (List ℕ) → List Link → List ℕ
-links_text texts links = flat_map (link_text texts) links
+abbrev pub links_text : Form → List (List ℕ) → List Link → List ℕ
+links_text form texts links = flat_map (link_text form texts) links
+
+-- the whole list, between its head and its foot (own profile)
+abbrev pub list_text : Form → List (List ℕ) → List Link → List ℕ
+list_text form texts links = form.head.now ++ (links_text form texts links ++ form.foot.now)
+
+-- the same of edges between cells (own profile)
+abbrev pub form_text : Form → List Edge → List ℕ
+form_text form edges = form.head.now ++ (flat_map (λ e. form_line form (cell_text e.source) (cell_text e.target) (cause_word e.cause)) edges ++ form.foot.now)
 
 -- Labels
 

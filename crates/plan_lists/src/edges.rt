@@ -3,7 +3,7 @@ ghost use Rattle.std.specs.Prelude.{◌≡◌, ◌++◌, ◌<◌, IfOk, OnOk, le
 ghost use Rattle.meter_theory.specs.Edges.{edges};
 ghost use Rattle.value_text.specs.Texts.{cell_text};
 ghost use Rattle.label_certificate.specs.Least.{AreLinks};
-ghost use Rattle.plan_lists.specs.Listing.{WritesText, edges_text, link_text, links_text};
+ghost use Rattle.plan_lists.specs.Listing.{WritesText, dot_text, edges_text, form_text, link_text, list_text};
 
 use crate::fault::ListFault;
 use cosem_data::cell::CellRef;
@@ -17,6 +17,17 @@ use value_text::cell::push_cell;
 use value_text::edge::word_of;
 use whole_writes::{write_full, write_waiting};
 
+/// A form in which edges are listed: what stands around all of them, and in each line around its two cells and its cause.
+#[derive(Clone, Copy)]
+struct Form<'a> {
+    head: &'a str,
+    start: &'a str,
+    between: &'a str,
+    label: &'a str,
+    end: &'a str,
+    foot: &'a str,
+}
+
 /// Writes the edges of a plan, each in a line of its own: `CELL -> CELL CAUSE` (own profile). In memory are the text of each
 /// cell once, the edges by numbers, and up to 64 KiB of lines that wait and one line more.
 ///
@@ -26,9 +37,50 @@ pub fn write_edges<W: Write>(alloc: Global, plan: &Plan, writer: &mut W) -> Resu
     ensures { WritesText (edges_text (edges plan.now))
         (W.contents writer.old) (W.contents writer.new) result }
 {
+    let form = Form {
+        head: "",
+        start: "",
+        between: " -> ",
+        label: " ",
+        end: "\n",
+        foot: "",
+    };
+    write_list(alloc, plan, &form, writer)
+}
+
+/// Writes the edges of a plan as a graph that Graphviz reads, each in a line of its own (own profile): a node for each cell that an
+/// edge leads from or to, and the cause beside the edge. In memory is as much as for the lines of [`write_edges`].
+///
+/// # Errors
+/// Memory was refused or a write failed, and then a beginning of the graph was written.
+pub fn write_dot<W: Write>(alloc: Global, plan: &Plan, writer: &mut W) -> Result<(), ListFault>
+    ensures { WritesText (dot_text (edges plan.now))
+        (W.contents writer.old) (W.contents writer.new) result }
+{
+    let form = Form {
+        head: "digraph cells {\n",
+        start: "  \"",
+        between: "\" -> \"",
+        label: "\" [label=\"",
+        end: "\"];\n",
+        foot: "}\n",
+    };
+    write_list(alloc, plan, &form, writer)
+}
+
+/// Writes the edges of a plan in a form.
+fn write_list<W: Write>(
+    alloc: Global,
+    plan: &Plan,
+    form: &Form<'_>,
+    writer: &mut W,
+) -> Result<(), ListFault>
+    ensures { WritesText (form_text form.now (edges plan.now))
+        (W.contents writer.old) (W.contents writer.new) result }
+{
     let table = edge_table(alloc, plan)?;
     let texts = cell_texts(alloc, table.cells())?;
-    write_links(alloc, &texts, table.links(), writer)
+    write_links(alloc, form, &texts, table.links(), writer)
 }
 
 /// The texts of these cells.
@@ -44,38 +96,55 @@ fn cell_texts(alloc: Global, cells: &[CellRef]) -> Result<Vec<Vec<u8>>, Memory>
     Ok(texts)
 }
 
-/// Writes a line for each edge between the cells whose texts are these.
+/// Writes a line for each edge between the cells whose texts are these, between the head and the foot of the form.
 fn write_links<W: Write>(
     alloc: Global,
+    form: &Form<'_>,
     texts: &[Vec<u8>],
     links: &[Link],
     writer: &mut W,
 ) -> Result<(), ListFault>
     requires { AreLinks (length texts.now) links.now }
-    ensures { WritesText (links_text (map (λ text. text.items) texts.now) links.now)
+    ensures { WritesText (list_text form.now (map (λ text. text.items) texts.now) links.now)
         (W.contents writer.old) (W.contents writer.new) result }
 {
     let mut waiting = Vec::new(alloc);
+    push_text(form.head, &mut waiting)?;
     for link in links {
-        push_link(texts, *link, &mut waiting)?;
+        push_link(form, texts, *link, &mut waiting)?;
         write_full(&mut waiting, writer)?;
     }
+    push_text(form.foot, &mut waiting)?;
     write_waiting(&mut waiting, writer)?;
     Ok(())
 }
 
+/// Puts a text behind the lines that wait. The error is that memory was refused.
+fn push_text(text: &str, waiting: &mut Vec<u8>) -> Result<(), Memory>
+    ensures { OnOk result (waiting.new.items ≡ waiting.old.items ++ text.now) }
+{
+    waiting.extend_from_slice(text.as_bytes())?;
+    Ok(())
+}
+
 /// Puts the line of an edge behind those that wait. The error is that memory was refused; a part of the line may then wait.
-fn push_link(texts: &[Vec<u8>], link: Link, waiting: &mut Vec<u8>) -> Result<(), Memory>
+fn push_link(
+    form: &Form<'_>,
+    texts: &[Vec<u8>],
+    link: Link,
+    waiting: &mut Vec<u8>,
+) -> Result<(), Memory>
     requires source { link.source < length texts.now }
     requires target { link.target < length texts.now }
     ensures { OnOk result (waiting.new.items
-        ≡ waiting.old.items ++ link_text (map (λ text. text.items) texts.now) link) }
+        ≡ waiting.old.items ++ link_text form.now (map (λ text. text.items) texts.now) link) }
 {
+    waiting.extend_from_slice(form.start.as_bytes())?;
     waiting.extend_from_slice(&texts[link.source])?;
-    waiting.extend_from_slice(b" -> ")?;
+    waiting.extend_from_slice(form.between.as_bytes())?;
     waiting.extend_from_slice(&texts[link.target])?;
-    waiting.extend_from_slice(b" ")?;
+    waiting.extend_from_slice(form.label.as_bytes())?;
     waiting.extend_from_slice(word_of(link.cause).as_bytes())?;
-    waiting.push(b'\n')?;
+    waiting.extend_from_slice(form.end.as_bytes())?;
     Ok(())
 }

@@ -1,6 +1,6 @@
 //! Lists of what a plan has, as texts that are written while they are made (own profile).
 //!
-//! - [`edges::write_edges`] writes its edges, each in a line.
+//! - [`edges::write_edges`] writes its edges, each in a line, and [`edges::write_dot`] as a graph that Graphviz reads.
 //! - [`labels::write_least_labels`] writes its least labels, in the form in which labels are read.
 #![tactic(auto)]
 

@@ -1,6 +1,7 @@
 //! The verdict on one configuration and on labels for it, and what is printed of it (own profile).
 //!
 //! - [`judging`] comes to a verdict, and gives what is accepted.
+//! - [`failures::failures_told`] tells all that fails of labels, each in a line.
 #![tactic(auto)]
 
 ghost use Rattle.std.specs.Prelude.{◌≡◌, ◌++◌, IfOk, codes, string_bytes};
@@ -9,6 +10,7 @@ ghost use Rattle.value_text.specs.Edges.{edge_text};
 ghost use Rattle.verdict.specs.Lines as spec;
 ghost use Rattle.verdict.specs.Lines.{refused_by, verdict_line};
 
+pub mod failures;
 pub mod judging;
 
 use config_text::fault::ConfigFault;
@@ -87,7 +89,7 @@ fn refusal_line(alloc: Global, refused: &Refused) -> Result<String, Memory>
 }
 
 /// The line of a refusal with this number that names a cell.
-fn cell_line(alloc: Global, number: u8, cell: CellRef) -> Result<String, Memory>
+pub(crate) fn cell_line(alloc: Global, number: u8, cell: CellRef) -> Result<String, Memory>
     ensures { IfOk result (λ line. string_bytes line ≡ refused_by number (cell_text cell)) }
 {
     let cell = CellText(cell);
@@ -95,7 +97,12 @@ fn cell_line(alloc: Global, number: u8, cell: CellRef) -> Result<String, Memory>
 }
 
 /// The line of a refusal with this number that names a client and a cell.
-fn right_line(alloc: Global, number: u8, client: &str, cell: CellRef) -> Result<String, Memory>
+pub(crate) fn right_line(
+    alloc: Global,
+    number: u8,
+    client: &str,
+    cell: CellRef,
+) -> Result<String, Memory>
     ensures { IfOk result (λ line. string_bytes line ≡ refused_by number (client.now ++ (codes " " ++ cell_text cell))) }
 {
     let cell = CellText(cell);
