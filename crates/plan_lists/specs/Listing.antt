@@ -1,12 +1,14 @@
 -- What is printed of edges and of labels, and how such a list is written. All of it is own profile.
-use Rattle.std.specs.Prelude.{◌≡◌, ◌<◌, ℕ, List, [], ◌∷◌, ◌++◌, codes, flat_map, get_or, length, map, Option, Result, Ok, Err}
+use Rattle.std.specs.Prelude.{◌≡◌, ◌<◌, ℕ, List, [], ◌∷◌, ◌++◌, codes, flat_map, get_or, length, map, Option, Result, Ok, Err, IfSome, slice_get}
 use Rattle.std.specs.Io.KnownBytes.{Appends}
-use Rattle.meter_theory.specs.Labels.{Labels, AreLeast}
+use Rattle.meter_theory.specs.Labels.{Labels, AreLeast, Policy}
 use Rattle.meter_theory.specs.Plan.{Plan, cells}
 use Rattle.meter_theory.specs.declared.flow.Edge.{Edge}
 use Rattle.value_text.specs.Texts.{cell_text}
 use Rattle.value_text.specs.Edges.{cause_word, edge_text}
+use Rattle.flow_edges.specs.Table.{cell_at}
 use Rattle.flow_edges.specs.declared.table.Link.{Link}
+use Rattle.flow_ways.specs.Why.{IsWhy}
 use Rattle.label_certificate.specs.LabelText.{text_of_labels}
 use Rattle.plan_lists.specs.declared.edges.Form.{Form}
 use Rattle.plan_lists.specs.declared.fault.ListFault.{ListFault}
@@ -75,3 +77,14 @@ WritesText text before after (Err fault) = (front : List ℕ) × (left : List �
 abbrev pub WritesLeast : Plan → (before after : Option (List ℕ)) → Result (Unit {0}) ListFault → Type 0
 WritesLeast P before after (Err faults.Memory) = Appends before after []
 WritesLeast P before after r = (labels : Labels) × AreLeastOf P labels × WritesText (text_of_labels P labels) before after r
+
+-- Ways
+
+-- what is told of the client at this place and of the cell with this number, if the plan has them (own profile)
+abbrev pub IsWhyOf : Plan → Policy → (client cell : ℕ) → List ℕ → Type 0
+IsWhyOf P Q client cell text = IfSome (slice_get P.clients client) (λ who. IsWhy P Q client who.name (cell_at (cells P) cell) text)
+
+-- it was written, or a beginning of it; it is made before the first byte is written (own profile)
+abbrev pub WritesWhy : Plan → Policy → (client cell : ℕ) → (before after : Option (List ℕ)) → Result (Unit {0}) ListFault → Type 0
+WritesWhy P Q client cell before after (Err faults.Memory) = Appends before after []
+WritesWhy P Q client cell before after r = (text : List ℕ) × IsWhyOf P Q client cell text × WritesText text before after r
