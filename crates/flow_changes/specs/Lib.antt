@@ -1,0 +1,5 @@
+pub mod Facts
+pub mod Changes
+pub mod Sides
+pub mod Lines
+pub mod Written
