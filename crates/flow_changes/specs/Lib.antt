@@ -2,4 +2,6 @@ pub mod Facts
 pub mod Changes
 pub mod Sides
 pub mod Lines
+pub mod Marks
+pub mod Compared
 pub mod Written

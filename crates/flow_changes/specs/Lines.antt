@@ -1,23 +1,17 @@
 -- What is told by numbers and of single cells, rights and clients. All of it is own profile.
-use Rattle.std.specs.Prelude.{◌≡◌, ℕ, Bool, false, true, ◌==◌, ◌&&◌, ◌*◌, ◌+◌, ◌<◌, cond, not, List, [], ◌∷◌, ◌++◌, Option, None, Some, codes, filter, flat_map, get_or, is_some, length, map}
+use Rattle.std.specs.Prelude.{◌≡◌, ℕ, Bool, false, true, ◌==◌, ◌&&◌, cond, not, List, [], ◌∷◌, ◌++◌, Option, None, Some, codes, filter, flat_map, is_some, map}
 use Rattle.std.specs.Fmt.{decimal}
-use Rattle.std.specs.List.{list_any}
 use Rattle.cosem_data.specs.declared.cell.CellRef.{CellRef}
 use Rattle.cosem_data.specs.declared.clients.ClientSet.{ClientSet}
 use Rattle.cosem_data.specs.declared.name.LogicalName.{LogicalName}
-use Rattle.meter_theory.specs.Edges.{same_cause}
 use Rattle.meter_theory.specs.Labels.{Labelling, has, labelling_of, labelling_of_policy, nobody}
 use Rattle.meter_theory.specs.Lists.{some_passes}
 use Rattle.meter_theory.specs.Plan.{Client, Object, Plan, cells, class_of, is_cell, object_at}
 use Rattle.meter_theory.specs.Rights.{has_right}
-use Rattle.meter_theory.specs.declared.flow.Cause.{Cause}
-use Rattle.meter_theory.specs.declared.flow.Cause.TheVariants as causes
 use Rattle.meter_theory.specs.declared.flow.Edge.{Edge}
 use Rattle.meter_theory.specs.declared.flow.Label.{Label}
 use Rattle.value_text.specs.Edges.{edge_text}
 use Rattle.value_text.specs.Texts.{cell_text}
-use Rattle.flow_edges.specs.declared.table.Link.{Link}
-use Rattle.plan_lists.specs.Listing.{link_text}
 use Rattle.flow_changes.specs.Changes.{change_sign, kind_word}
 use Rattle.flow_changes.specs.Facts.{Configuration, access_word, clients_of, is_granted, members_for, object_text}
 use Rattle.flow_changes.specs.declared.kind.Access.{Access}
@@ -28,11 +22,6 @@ use Rattle.flow_changes.specs.declared.kind.Kind.TheVariants as kinds
 use Rattle.flow_changes.specs.declared.kind.Reach.{Reach}
 use Rattle.flow_changes.specs.declared.kind.Reach.TheVariants as reaches
 use Rattle.flow_changes.specs.declared.labels.Pair.{Pair}
-use Rattle.flow_changes.specs.declared.side.Side.{Side}
-
--- what a side is of
-abbrev pub configuration_of : Side → Configuration
-configuration_of s = record { plan = s.plan.now; policy = s.policy.now; labels = s.labels }
 
 -- Texts
 
@@ -117,7 +106,7 @@ right_lines head P c D other o =
 -- Clients
 
 abbrev pub is_at : ℕ → Option Client → Bool
-is_at sap other = some_passes (λ client. client.sap == sap) other
+is_at sap other = some_passes (λ client. sap == client.sap) other
 
 abbrev pub is_open : Option Client → Bool
 is_open other = some_passes (λ client. not (is_some client.password)) other
@@ -133,45 +122,3 @@ client_lines head client other =
 -- a line for each edge
 abbrev pub edge_lines : List ℕ → List Edge → List ℕ
 edge_lines head es = flat_map (λ e. head ++ (edge_text e ++ 10 ∷ [])) es
-
-abbrev pub cause_place : Cause → ℕ
-cause_place causes.Monitored = 0
-cause_place causes.Monitor = 1
-cause_place causes.Captured = 2
-cause_place causes.Menu = 3
-cause_place causes.Period = 4
-cause_place causes.Schedule = 5
-cause_place causes.Clock = 6
-
--- where the mark of a link stands among those of n cells: cause by cause, and source by source
-abbrev pub mark_place : ℕ → Link → ℕ
-mark_place n l = (cause_place l.cause * n + l.source) * n + l.target
-
-abbrev pub same_link : Link → Link → Bool
-same_link k l = same_cause k.cause l.cause && ((k.source == l.source) && (k.target == l.target))
-
--- each link between n numbers has its mark exactly where it is one of these
-pub record AreMarks (n : ℕ) (links : List Link) (marks : List Bool) : Type 0 where
-  pub long : length marks ≡ 7 * n * n
-  pub each : (l : Link) → l.source < n → l.target < n → get_or marks (mark_place n l) false ≡ list_any (same_link l) links
-
--- numbers of n cells, where there are any
-abbrev pub AreBelow : ℕ → List (Option ℕ) → Type 0
-AreBelow n numbers = (i k : ℕ) → get_or numbers i None ≡ Some k → k < n
-
--- the link between two numbers, if there are both
-abbrev pub link_of : Cause → Option ℕ → Option ℕ → Option Link
-link_of cause (Some s) (Some t) = Some (record { source = s; target = t; cause = cause })
-link_of cause _ _ = None
-
--- the link between the other numbers of its cells
-abbrev pub link_there : List (Option ℕ) → Link → Option Link
-link_there numbers l = link_of l.cause (get_or numbers l.source None) (get_or numbers l.target None)
-
--- that link has a mark
-abbrev pub is_marked : List (Option ℕ) → ℕ → List Bool → Link → Bool
-is_marked numbers n marks l = some_passes (λ k. get_or marks (mark_place n k) false) (link_there numbers l)
-
--- a line for each link between cells with these texts
-abbrev pub link_lines : List ℕ → List (List ℕ) → List Link → List ℕ
-link_lines head texts links = flat_map (λ l. head ++ link_text texts l) links

@@ -51,7 +51,7 @@ fn is_at(sap: u8, client: Option<&Client>) -> bool
     ensures { result ≡ lines.is_at sap (option_map (λ client. client.now) client) }
 {
     match client {
-        Some(client) => client.sap() == sap,
+        Some(client) => sap == client.sap(),
         None => false,
     }
 }

@@ -6,7 +6,7 @@ ghost use Rattle.meter_theory.specs.Labels.{has};
 ghost use Rattle.meter_theory.specs.Plan.{Client as ClientValue};
 ghost use Rattle.flow_changes.specs.Changes as changes;
 ghost use Rattle.flow_changes.specs.Facts.{common_facts, numbered, own_facts};
-ghost use Rattle.flow_changes.specs.Lines.{configuration_of};
+ghost use Rattle.flow_changes.specs.Compared.{configuration_of};
 ghost use Rattle.flow_changes.specs.Written.{WritesComparison};
 
 use crate::edges::push_edges;

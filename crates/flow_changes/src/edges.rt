@@ -9,8 +9,9 @@ ghost use Rattle.flow_edges.specs.declared.table.Link.{Link as LinkValue};
 ghost use Rattle.label_certificate.specs.LabelText.{cell_place};
 ghost use Rattle.label_certificate.specs.Least.{AreLinks};
 ghost use Rattle.plan_lists.specs.Listing.{link_text};
-ghost use Rattle.flow_changes.specs.Lines as lines;
-ghost use Rattle.flow_changes.specs.Lines.{edge_lines, mark_place, same_link};
+ghost use Rattle.flow_changes.specs.Lines.{edge_lines};
+ghost use Rattle.flow_changes.specs.Marks as spec;
+ghost use Rattle.flow_changes.specs.Marks.{mark_place};
 
 use cosem_data::cell::CellRef;
 use cosem_data::memory::Memory;
@@ -69,7 +70,7 @@ fn numbers_in(alloc: Global, plan: &Plan, cells: &[CellRef]) -> Result<Vec<Optio
 fn marks_of(alloc: Global, count: usize, links: &[Link]) -> Result<Vec<bool>, Memory>
     requires few { count ≤ 2048 }
     requires links { AreLinks count links.now }
-    ensures { IfOk result (λ marks. lines.AreMarks count links.now marks.items) }
+    ensures { IfOk result (λ marks. spec.AreMarks count links.now marks.items) }
 {
     let mut marks = vec![in alloc; false; CAUSES * count * count]?;
     for link in links {
@@ -92,7 +93,7 @@ fn place_of(count: usize, link: Link) -> usize
 
 /// The number of a cause, from 0.
 fn number_of(cause: Cause) -> usize
-    ensures number { result ≡ lines.cause_place cause }
+    ensures number { result ≡ spec.cause_place cause }
     ensures few { result < 7 }
 {
     match cause {
@@ -119,11 +120,11 @@ fn push_unmarked(
     requires few { count ≤ 2048 }
     requires links { AreLinks (length numbers.now) links.now }
     requires texts { length texts.now ≡ length numbers.now }
-    requires numbers { lines.AreBelow count numbers.now }
+    requires numbers { spec.AreBelow count numbers.now }
     requires marks { length marks.now ≡ 7 * count * count }
     ensures { OnOk result (text.new.items ≡ text.old.items
-        ++ lines.link_lines head.now (map (λ text. text.items) texts.now)
-        (filter (λ l. not (lines.is_marked numbers.now count marks.now l)) links.now)) }
+        ++ spec.link_lines head.now (map (λ text. text.items) texts.now)
+        (filter (λ l. not (spec.is_marked numbers.now count marks.now l)) links.now)) }
 {
     for link in links {
         if !is_marked(numbers, count, marks, *link) {
@@ -138,9 +139,9 @@ fn is_marked(numbers: &[Option<u16>], count: usize, marks: &[bool], link: Link) 
     requires few { count ≤ 2048 }
     requires source { link.source < length numbers.now }
     requires target { link.target < length numbers.now }
-    requires numbers { lines.AreBelow count numbers.now }
+    requires numbers { spec.AreBelow count numbers.now }
     requires marks { length marks.now ≡ 7 * count * count }
-    ensures { result ≡ lines.is_marked numbers.now count marks.now link }
+    ensures { result ≡ spec.is_marked numbers.now count marks.now link }
 {
     match there(numbers, link) {
         Some(link) => marks[place_of(count, link)],
@@ -152,7 +153,7 @@ fn is_marked(numbers: &[Option<u16>], count: usize, marks: &[bool], link: Link) 
 fn there(numbers: &[Option<u16>], link: Link) -> Option<Link>
     requires source { link.source < length numbers.now }
     requires target { link.target < length numbers.now }
-    ensures { result ≡ lines.link_there numbers.now link }
+    ensures { result ≡ spec.link_there numbers.now link }
 {
     let source = numbers[link.source]?;
     let target = numbers[link.target]?;

@@ -5,8 +5,8 @@ use cosem_data::clients::ClientSet;
 use meter_theory::flow::Label;
 
 /// A kind of facts of a configuration (own profile).
-#[derive(Clone, Copy, Debug, PartialEq, Eq)]
-pub enum Kind {
+#[derive(Clone, Copy)]
+pub(crate) enum Kind {
     /// A client may influence or learn a cell, by the least labels.
     May,
     /// The policy allows a client to influence or learn a cell that both configurations have.
@@ -35,7 +35,7 @@ impl Kind {
     ghost use Rattle.flow_changes.specs.Changes.{kind_word};
 
     /// The word of the kind (own profile).
-    pub fn word(self) -> &'static str
+    pub(crate) fn word(self) -> &'static str
         ensures { result.now ≡ kind_word self }
     {
         match self {
@@ -50,8 +50,8 @@ impl Kind {
 }
 
 /// Whether a fact is gained or lost (own profile).
-#[derive(Clone, Copy, Debug, PartialEq, Eq)]
-pub enum Change {
+#[derive(Clone, Copy)]
+pub(crate) enum Change {
     /// The new configuration has it, and the old one lacks it.
     Gained,
     /// The old configuration has it, and the new one lacks it.
@@ -62,7 +62,7 @@ impl Change {
     ghost use Rattle.flow_changes.specs.Changes.{change_sign};
 
     /// The sign before a fact (own profile).
-    pub fn sign(self) -> &'static str
+    pub(crate) fn sign(self) -> &'static str
         ensures { result.now ≡ change_sign self }
     {
         match self {
@@ -73,7 +73,7 @@ impl Change {
 }
 
 /// What a client does with a cell.
-#[derive(Clone, Copy, Debug, PartialEq, Eq)]
+#[derive(Clone, Copy)]
 pub(crate) enum Reach {
     Influence,
     Learn,
@@ -104,7 +104,7 @@ impl Reach {
 }
 
 /// What a right is for (IEC 62056-5-3, GET, SET and ACTION).
-#[derive(Clone, Copy, Debug, PartialEq, Eq)]
+#[derive(Clone, Copy)]
 pub(crate) enum Access {
     Get,
     Set,

@@ -160,7 +160,7 @@ fn side_by_side(kind: Kind, mine: Label, theirs: Option<Label>) -> Pair
     };
     match theirs {
         Some(theirs) => Pair { mine, theirs },
-        None if kind == Kind::May => Pair {
+        None if matches!(kind, Kind::May) => Pair {
             mine,
             theirs: nobody,
         },

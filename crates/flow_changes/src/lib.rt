@@ -10,7 +10,7 @@
 mod clients;
 pub mod compare;
 mod edges;
-pub mod kind;
+mod kind;
 mod labels;
 pub mod laws;
 mod matching;

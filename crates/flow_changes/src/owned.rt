@@ -8,7 +8,8 @@ ghost use Rattle.value_text.specs.Texts.{cell_text};
 ghost use Rattle.flow_changes.specs.Changes as changes;
 ghost use Rattle.flow_changes.specs.Changes.{lacks};
 ghost use Rattle.flow_changes.specs.Facts.{numbered, own_facts};
-ghost use Rattle.flow_changes.specs.Lines.{ArePairs, configuration_of, reach_lines};
+ghost use Rattle.flow_changes.specs.Compared.{configuration_of};
+ghost use Rattle.flow_changes.specs.Lines.{ArePairs, reach_lines};
 ghost use Rattle.flow_changes.specs.declared.labels.Pair.{Pair as PairValue};
 
 use crate::clients::push_client;
