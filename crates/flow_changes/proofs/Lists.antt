@@ -1,5 +1,5 @@
 -- Tests, filters and texts of lists that are made of others.
-use Rattle.std.specs.Prelude.{◌≡◌, ℕ, ◌+◌, ◌<◌, Bool, true, false, not, ◌&&◌, ◌||◌, cond, List, [], ◌∷◌, ◌++◌, filter, flat_map, length, map}
+use Rattle.std.specs.Prelude.{◌≡◌, ℕ, zero, suc, ◌+◌, ◌<◌, Bool, true, false, not, ◌&&◌, ◌||◌, cond, List, [], ◌∷◌, ◌++◌, filter, flat_map, get_or, length, map}
 use Rattle.std.specs.List.{list_any}
 use Rattle.std.proofs.Common.{refl, sym, ap, ap₂, ◌∙◌, append_assoc, arith, inl, inr}
 use Rattle.std.proofs.lemmas.List.{length-append}
@@ -37,6 +37,10 @@ pub list_any-none : {A : Type 0} (p : A → Bool) (xs : List A) → ((x : A) →
 list_any-none p [] h = refl
 list_any-none p (x ∷ xs) h = ap (λ b. b || list_any p xs) (h x (inl refl)) ∙ list_any-none p xs (λ y i. h y (inr i))
 
+pub map-of-map : {A B C : Type 0} (g : B → C) (f : A → B) (xs : List A) → map g (map f xs) ≡ map (λ x. g (f x)) xs
+map-of-map g f [] = refl
+map-of-map g f (x ∷ xs) = ap (λ ys. g (f x) ∷ ys) (map-of-map g f xs)
+
 pub filter-map : {A B : Type 0} (p : B → Bool) (f : A → B) (xs : List A) → filter p (map f xs) ≡ map f (filter (λ x. p (f x)) xs)
 filter-map p f [] = refl
 filter-map p f (x ∷ xs) = at (p (f x)) (filter-map p f xs)
@@ -73,6 +77,12 @@ flat_map-agree f g (x ∷ xs) h = ap₂ (λ a b. a ++ b) (h x (inl refl)) (flat_
 pub flat_map-of-map : {A B C : Type 0} (g : B → List C) (f : A → B) (xs : List A) → flat_map g (map f xs) ≡ flat_map (λ x. g (f x)) xs
 flat_map-of-map g f [] = refl
 flat_map-of-map g f (x ∷ xs) = ap (λ ys. g (f x) ++ ys) (flat_map-of-map g f xs)
+
+-- what stands at a number is in the list
+pub in-at : {A : Type 0} (xs : List A) (i : ℕ) (d : A) → i < length xs → IsIn xs (get_or xs i d)
+in-at [] i d h = absurd (omega arith)
+in-at (x ∷ xs) zero d h = inl refl
+in-at (x ∷ xs) (suc i) d h = inr (in-at xs i d (omega arith))
 
 -- some element passes exactly where the filter leaves one
 pub any-of-filter : {A : Type 0} (p : A → Bool) (xs : List A) → (0 < length (filter p xs) → list_any p xs ≡ true) × (length (filter p xs) ≡ 0 → list_any p xs ≡ false)

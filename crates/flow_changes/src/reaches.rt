@@ -8,7 +8,7 @@ ghost use Rattle.flow_changes.specs.declared.labels.Pair.{Pair as PairValue};
 
 use crate::kind::Reach;
 use crate::labels::Pair;
-use crate::text::push_marked;
+use crate::text::{head_with, push_marked};
 use cosem_data::clients::ClientSet;
 use cosem_data::memory::Memory;
 use std::alloc::Global;
@@ -30,12 +30,9 @@ pub(crate) fn push_reach(
         OnOk result (text.new.items ≡ text.old.items ++ cell_lines (head.now ++ (reach_word reach ++ 32 ∷ []))
         (filter (λ x. is_new_reach reach client other (pair x)) cells)) }
 {
-    let mut begun = Vec::new(alloc);
-    begun.extend_from_slice(head)?;
-    begun.extend_from_slice(reach.word().as_bytes())?;
-    begun.push(b' ')?;
+    let head = head_with(alloc, head, reach.word().as_bytes())?;
     let marks = marks_of(alloc, reach, client, other, pairs)?;
-    push_marked(&begun, &marks, texts, text)
+    push_marked(&head, &marks, texts, text)
 }
 
 /// Which of the cells a client reaches and the other doesn't.

@@ -29,8 +29,16 @@ pub(crate) fn head_for(
 ) -> Result<Vec<u8>, Memory>
     ensures { IfOk result (λ text. text.items ≡ own_head change kind name.now) }
 {
-    let mut text = head(alloc, change, kind)?;
-    text.extend_from_slice(name)?;
+    head_with(alloc, &head(alloc, change, kind)?, name)
+}
+
+/// What stands before a fact, with a word more.
+pub(crate) fn head_with(alloc: Global, head: &[u8], word: &[u8]) -> Result<Vec<u8>, Memory>
+    ensures { IfOk result (λ text. text.items ≡ head.now ++ (word.now ++ 32 ∷ [])) }
+{
+    let mut text = Vec::new(alloc);
+    text.extend_from_slice(head)?;
+    text.extend_from_slice(word)?;
     text.push(b' ')?;
     Ok(text)
 }
