@@ -46,19 +46,19 @@ nobody-reaches reaches.Learn k = nobody-in k
 
 -- what the definition of the facts is, for kinds of which each fact is a client's own
 
-may-facts : (C other : Configuration) → facts C other kinds.May ≡ flat_map (own_facts C other kinds.May) (numbered C.plan) ++ []
+pub may-facts : (C other : Configuration) → facts C other kinds.May ≡ flat_map (own_facts C other kinds.May) (numbered C.plan) ++ []
 unfolding facts
 may-facts C other = refl
 
-allowed-facts : (C other : Configuration) → facts C other kinds.Allowed ≡ flat_map (own_facts C other kinds.Allowed) (numbered C.plan) ++ []
+pub allowed-facts : (C other : Configuration) → facts C other kinds.Allowed ≡ flat_map (own_facts C other kinds.Allowed) (numbered C.plan) ++ []
 unfolding facts
 allowed-facts C other = refl
 
-right-facts : (C other : Configuration) → facts C other kinds.Right ≡ flat_map (own_facts C other kinds.Right) (numbered C.plan) ++ []
+pub right-facts : (C other : Configuration) → facts C other kinds.Right ≡ flat_map (own_facts C other kinds.Right) (numbered C.plan) ++ []
 unfolding facts
 right-facts C other = refl
 
-client-facts : (C other : Configuration) → facts C other kinds.Client ≡ flat_map (own_facts C other kinds.Client) (numbered C.plan) ++ []
+pub client-facts : (C other : Configuration) → facts C other kinds.Client ≡ flat_map (own_facts C other kinds.Client) (numbered C.plan) ++ []
 unfolding facts
 client-facts C other = refl
 

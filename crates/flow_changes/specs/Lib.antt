@@ -4,4 +4,5 @@ pub mod Sides
 pub mod Lines
 pub mod Marks
 pub mod Compared
+pub mod Promises
 pub mod Written
