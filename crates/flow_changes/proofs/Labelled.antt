@@ -1,19 +1,23 @@
 -- Labels by the numbers of their cells.
-use Rattle.std.specs.Prelude.{◌≡◌, ◌≢◌, ℕ, zero, suc, ◌<◌, ◌==◌, Bool, true, false, cond, ◌⊎◌, List, [], ◌∷◌, Option, Some, None, get_or, length, map, replicate, set}
+use Rattle.std.specs.Prelude.{◌≡◌, ◌≢◌, ℕ, zero, suc, ◌<◌, ◌==◌, Bool, true, false, cond, ◌⊎◌, ◌+◌, List, [], ◌∷◌, ◌++◌, Option, Some, None, get_or, length, map, replicate, set, take}
 use Rattle.std.specs.List.{position_from}
 use Rattle.std.proofs.Common.{refl, sym, ap, ap₂, subst, ◌∙◌, arith, inl, inr}
 use Rattle.std.proofs.lemmas.Bool.{cases_eq}
-use Rattle.std.proofs.lemmas.List.{length-map, length-set, get_or-map, get_or-set_same, get_or-set_other, same_lists}
+use Rattle.std.proofs.lemmas.List.{length-map, length-set, get_or-map, get_or-set_same, get_or-set_other, map_more, same_lists}
 use Rattle.cosem_data.specs.Cells.{same_cell}
 use Rattle.cosem_data.specs.declared.cell.CellRef.{CellRef}
+use Rattle.cosem_data.specs.declared.clients.ClientSet.{ClientSet}
 use Rattle.cosem_data.proofs.Same.{same_cell-true, same_cell-refl}
 use Rattle.meter_theory.specs.Labels.{Labels, Policy, label_at, labelling_of, labelling_of_policy, monitored_of, monitored_or, nobody, or_else, policy_source}
 use Rattle.meter_theory.specs.Lists.{IsIn}
-use Rattle.meter_theory.specs.Plan.{Plan, Object, Part, Data1, Register, ProfileGeneric, Clock, ScriptTable, RegisterMonitor, SingleActionSchedule, cells, object_at}
+use Rattle.meter_theory.specs.Plan.{Plan, Object, Part, Data1, Register, ProfileGeneric, Clock, ScriptTable, RegisterMonitor, SingleActionSchedule, cells, is_cell, object_at}
 use Rattle.meter_theory.specs.Sound.{IsSound, IsSoundPart}
 use Rattle.meter_theory.specs.declared.flow.Label.{Label}
 use Rattle.meter_theory.proofs.Agreement.{object-found}
+use Rattle.meter_theory.proofs.Lists.{any_in, in_any}
 use Rattle.flow_edges.specs.Table.{AreCells, cell_at, no_cell}
+use Rattle.flow_changes.specs.declared.labels.Pair.{Pair}
+use Rattle.flow_changes.proofs.Lists.{in-at}
 
 -- the label of a table's first entry for a cell, or else the default
 abbrev pub in_table : Label → Labels → CellRef → Label
@@ -129,3 +133,32 @@ labels-are labels cs is are =
         ∙ sym (get_or-map (labelling_of labels) cs k no_cell d (subst (λ z. k < z) (sym long) h)
         ∙ ap (λ xs. labelling_of labels (cell_at xs k)) (sym is)
         ∙ ap (or_else (record { influence = nobody; learn = nobody })) (own-label labels k (no_cell, d) apart h))
+
+-- Labels of another plan
+
+-- a cell of the plan has the label with its number
+pub there-is : (P : Plan) (x : CellRef) (labels : List Label) (n : ℕ) (l : Label) (Q : CellRef → Label) → labels ≡ map Q (cells P) → n < length (cells P) → cell_at (cells P) n ≡ x → l ≡ get_or labels n l →
+    Some l ≡ cond (is_cell P x) (Some (Q x)) None
+there-is P x labels n l Q are less there is =
+    ap Some (is ∙ ap (λ z. get_or z n l) are ∙ get_or-map Q (cells P) n no_cell l less ∙ ap Q there)
+    ∙ ap (λ b. cond b (Some (Q x)) None) (sym (in_any (same_cell x) (cells P) x (subst (IsIn (cells P)) there (in-at (cells P) n no_cell less)) (same_cell-refl x)))
+
+-- and what is none has none
+pub nowhere-is : (P : Plan) (x : CellRef) (Q : CellRef → Label) → (IsIn (cells P) x → ⊥) → None ≡ cond (is_cell P x) (Some (Q x)) None
+nowhere-is P x Q absent = at (is_cell P x) refl
+  where
+    at : (b : Bool) → is_cell P x ≡ b → None ≡ cond b (Some (Q x)) None
+    at false e = refl
+    at true e = let y = any_in (same_cell x) (cells P) e in absurd (absent (subst (IsIn (cells P)) (sym (same_cell-true x y.0 y.2)) y.1))
+
+-- a label of these sets
+abbrev pub labelled : ClientSet → ClientSet → Label
+labelled influence learn = record { influence = influence; learn = learn }
+
+-- One pair more, and all
+pub pairs-more : (f : CellRef → Pair) (cs : List CellRef) (i : ℕ) (pairs new : List Pair) (pair : Pair) → i < length cs → pairs ≡ map f (take i cs) → pair ≡ f (cell_at cs i) → new ≡ pairs ++ pair ∷ [] → new ≡ map f (take (i + 1) cs)
+pairs-more f cs i pairs new pair less so_far is pushed = pushed ∙ ap₂ (λ ps p. ps ++ p ∷ []) so_far is ∙ sym (map_more f cs i no_cell less)
+
+-- the label with a number
+pub label-at-number : (Q : CellRef → Label) (cs : List CellRef) (labels : List Label) (i : ℕ) (l : Label) → labels ≡ map Q cs → i < length cs → l ≡ get_or labels i l → l ≡ Q (cell_at cs i)
+label-at-number Q cs labels i l are less is = is ∙ ap (λ z. get_or z i l) are ∙ get_or-map Q cs i no_cell l less

@@ -16,7 +16,7 @@ pub(crate) fn push_client(
     text: &mut Vec<u8>,
 ) -> Result<(), Memory>
     ensures { OnOk result (text.new.items ≡ text.old.items
-        ++ lines.client_lines head.now client.now (option_map (λ client. client.now) other)) }
+        ++ lines.client_lines head.now client.now (option_map (λ client. client.now) other.entry)) }
 {
     let sap = client.sap();
     if !is_at(sap, other) {
@@ -36,7 +36,7 @@ fn push_open(
 ) -> Result<(), Memory>
     ensures { OnOk result (text.new.items ≡ text.old.items
         ++ cond (not (is_some client.now.password)
-        && not (lines.is_open (option_map (λ client. client.now) other)))
+        && not (lines.is_open (option_map (λ client. client.now) other.entry)))
         (head.now ++ (codes "open" ++ 10 ∷ [])) []) }
 {
     if client.password().is_none() && !is_open(other) {
@@ -48,7 +48,7 @@ fn push_open(
 
 /// Whether the client, if it is one, has this service access point.
 fn is_at(sap: u8, client: Option<&Client>) -> bool
-    ensures { result ≡ lines.is_at sap (option_map (λ client. client.now) client) }
+    ensures { result ≡ lines.is_at sap (option_map (λ client. client.now) client.entry) }
 {
     match client {
         Some(client) => sap == client.sap(),
@@ -58,7 +58,7 @@ fn is_at(sap: u8, client: Option<&Client>) -> bool
 
 /// Whether the client, if it is one, needs no password.
 fn is_open(client: Option<&Client>) -> bool
-    ensures { result ≡ lines.is_open (option_map (λ client. client.now) client) }
+    ensures { result ≡ lines.is_open (option_map (λ client. client.now) client.entry) }
 {
     match client {
         Some(client) => client.password().is_none(),

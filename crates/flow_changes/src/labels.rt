@@ -126,7 +126,8 @@ pub(crate) fn pairs_of(
     other: &Plan,
     theirs: &[Label],
 ) -> Result<Vec<Pair>, Memory>
-    requires { length mine.now ≡ length cells.now }
+    requires mine { length mine.now ≡ length cells.now }
+    requires theirs { length theirs.now ≡ length (plans.cells other.now) }
     ensures { (Q R : theory.Labelling) → mine.now ≡ map Q cells.now →
         theirs.now ≡ map R (plans.cells other.now) →
         IfOk result (λ pairs. pairs.items ≡ map (λ x. pair_of kind (Q x)
@@ -134,39 +135,55 @@ pub(crate) fn pairs_of(
 {
     let mut pairs = Vec::with_capacity(alloc, cells.len())?;
     for (number, cell) in cells.iter().enumerate() {
-        let label = label_there(other, theirs, cell);
-        pairs.push(side_by_side(kind, mine[number], label))?;
+        let there = label_there(other, theirs, cell);
+        pairs.push(side_by_side(kind, mine[number], there))?;
     }
     Ok(pairs)
 }
 
 /// The label of a cell in a plan with these labels, if it is a cell of it.
 fn label_there(plan: &Plan, labels: &[Label], cell: &CellRef) -> Option<Label>
+    requires { length labels.now ≡ length (plans.cells plan.now) }
     ensures { (Q : theory.Labelling) → labels.now ≡ map Q (plans.cells plan.now) →
         result ≡ cond (plans.is_cell plan.now cell.now) (Some (Q cell.now)) None }
 {
-    let number = plan.cell_number(cell)?;
-    labels.get(usize::from(number)).copied()
+    match plan.cell_number(cell) {
+        Some(number) => Some(labels[usize::from(number)]),
+        None => None,
+    }
 }
 
-/// A label beside that of another configuration. Of a cell that the other lacks nobody is told there, and that the policy
-/// allows somebody is told of neither.
+/// A label beside that of another configuration.
 fn side_by_side(kind: Kind, mine: Label, theirs: Option<Label>) -> Pair
     ensures { result ≡ pair_of kind mine theirs }
 {
-    let nobody = Label {
-        influence: ClientSet::new(),
-        learn: ClientSet::new(),
-    };
     match theirs {
         Some(theirs) => Pair { mine, theirs },
-        None if matches!(kind, Kind::May) => Pair {
-            mine,
-            theirs: nobody,
+        None => alone(kind, mine),
+    }
+}
+
+/// The label of a cell that another configuration lacks: nobody reaches it there, and what the policy allows is told of
+/// neither.
+fn alone(kind: Kind, mine: Label) -> Pair
+    ensures { result ≡ pair_of kind mine None }
+{
+    let theirs = nobody();
+    match kind {
+        Kind::May => Pair { mine, theirs },
+        Kind::Allowed | Kind::Right | Kind::Client | Kind::Cell | Kind::Edge => Pair {
+            mine: theirs,
+            theirs,
         },
-        None => Pair {
-            mine: nobody,
-            theirs: nobody,
-        },
+    }
+}
+
+/// The label that lets nobody influence and learn.
+fn nobody() -> Label
+    ensures { result ≡ record { influence = theory.nobody; learn = theory.nobody } }
+{
+    Label {
+        influence: ClientSet::new(),
+        learn: ClientSet::new(),
     }
 }

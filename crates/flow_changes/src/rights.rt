@@ -1,8 +1,9 @@
 //! What a client may see, get, set and call.
-ghost use Rattle.std.specs.Prelude.{◌≡◌, ◌++◌, ◌∷◌, [], ℕ, ◌==◌, OnOk, flat_map};
+ghost use Rattle.std.specs.Prelude.{◌≡◌, ◌++◌, ◌∷◌, [], ℕ, ◌==◌, ◌&&◌, not, OnOk, filter, flat_map};
 ghost use Rattle.cosem_data.specs.Cells.{cell};
 ghost use Rattle.meter_theory.specs.Lists.{some_passes};
 ghost use Rattle.meter_theory.specs.Plan.{class_of, object_at};
+ghost use Rattle.value_text.specs.Texts.{cell_text};
 ghost use Rattle.flow_changes.specs.Facts as facts;
 ghost use Rattle.flow_changes.specs.Facts.{access_word, highest_for};
 ghost use Rattle.flow_changes.specs.Lines.{access_lines, cell_lines, is_held, right_lines, sees, view_line};
@@ -129,22 +130,18 @@ fn push_access(
         ++ access_lines head.now access plan.now client other_plan.now other object.now) }
 {
     let name = object.name();
-    let interface = object.part().interface();
-    let highest = highest(access, &interface);
+    let class_id = object.part().class_id();
+    let highest = highest(access, &object.part().interface());
     let instance = plan.instance(&name);
     let mut index = 0;
     while index < highest {
         index += 1;
         let member = CellRef {
-            class_id: interface.class_id,
+            class_id,
             name,
             index,
         };
-        if is_granted(&instance, access, client, index)
-            && !has_access(other_plan, other, access, &member)
-        {
-            push_member(alloc, head, access, &member, text)?;
-        }
+        push_member(alloc, head, access, &instance, &member, client, other_plan, other, text)?;
     }
     Ok(())
 }
@@ -159,8 +156,35 @@ fn highest(access: Access, interface: &Interface) -> u8
     }
 }
 
-/// Puts the line of an attribute or method behind a text.
+/// Puts the line of an attribute or method behind a text, where a right of a client allows it and none of the other does.
 fn push_member(
+    alloc: Global,
+    head: &[u8],
+    access: Access,
+    instance: &Instance<'_>,
+    member: &CellRef,
+    client: u8,
+    other_plan: &Plan,
+    other: Option<u8>,
+    text: &mut Vec<u8>,
+) -> Result<(), Memory>
+    requires { member.now.name ≡ instance.now.name }
+    ensures { OnOk result (text.new.items ≡ text.old.items
+        ++ cell_lines (head.now ++ (access_word access ++ 32 ∷ []))
+        (filter (λ x. facts.is_granted instance.now.plan client access x
+        && not (is_held other_plan.now other access x)) (member.now ∷ []))) }
+{
+    if !is_granted(instance, access, client, member.index) {
+        return Ok(());
+    }
+    if has_access(other_plan, other, access, member) {
+        return Ok(());
+    }
+    push_member_line(alloc, head, access, member, text)
+}
+
+/// Puts the line of an attribute or method behind a text.
+fn push_member_line(
     alloc: Global,
     head: &[u8],
     access: Access,
@@ -168,7 +192,7 @@ fn push_member(
     text: &mut Vec<u8>,
 ) -> Result<(), Memory>
     ensures { OnOk result (text.new.items ≡ text.old.items
-        ++ cell_lines (head.now ++ (access_word access ++ 32 ∷ [])) (member.now ∷ [])) }
+        ++ ((head.now ++ (access_word access ++ 32 ∷ [])) ++ (cell_text member.now ++ 10 ∷ []))) }
 {
     text.extend_from_slice(head)?;
     text.extend_from_slice(access.word().as_bytes())?;

@@ -1,0 +1,9 @@
+use Rattle.std.proofs.Common.{ap₂}
+use Rattle.cosem_data.specs.declared.clients.ClientSet.{ClientSet}
+use Rattle.meter_theory.specs.declared.flow.Label.{Label}
+use Rattle.label_certificate.proofs.Members.{new_is_nobody}
+use Rattle.flow_changes.proofs.Labelled.{labelled}
+use Rattle.flow_changes.proofs.labels.nobody.Goals as goal
+
+pub returns : goal.returns
+returns c = ap₂ labelled (new_is_nobody c.new.result c.new.ensures) (new_is_nobody c.new-2.result c.new-2.ensures)
