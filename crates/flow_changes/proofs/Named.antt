@@ -1,12 +1,12 @@
 -- Names of clients between commas, and clients one by one.
-use Rattle.std.specs.Prelude.{◌≡◌, ℕ, suc, ◌+◌, ◌<◌, ◌==◌, Bool, true, false, ◌||◌, cond, List, [], ◌∷◌, ◌++◌, Option, Some, None, codes, drop, filter, flat_map, length, map, slice_get}
+use Rattle.std.specs.Prelude.{◌≡◌, ℕ, suc, ◌+◌, ◌-◌, ◌<◌, ◌≤◌, ◌==◌, Bool, true, false, ◌||◌, cond, List, [], ◌∷◌, ◌++◌, Option, Some, None, codes, drop, filter, flat_map, length, map, slice_get, take}
 use Rattle.std.specs.List.{enumerate_from, join_with_byte, list_any}
 use Rattle.std.proofs.Common.{refl, sym, ap, ap₂, subst, ◌∙◌, append_assoc, arith, inl, inr}
 use Rattle.std.proofs.Math.Seq.{drop-cons}
-use Rattle.std.proofs.lemmas.List.{append-nil, drop_all}
+use Rattle.std.proofs.lemmas.List.{append-nil, drop_all, take_rest}
 use Rattle.std.proofs.lemmas.Option.{slice_get_within, get_or_from_slice_get, slice_get_cases}
 use Rattle.meter_theory.specs.Plan.{Client, Plan}
-use Rattle.flow_changes.specs.Changes.{first_line, names_or_nobody}
+use Rattle.flow_changes.specs.Changes.{names_or_nobody}
 use Rattle.flow_changes.specs.Facts.{Numbered, numbered}
 
 -- the clients from a place on, with their numbers
@@ -51,16 +51,16 @@ joined-is name [] = sym (append-nil name)
 joined-is name (next ∷ names) = ap (λ t. name ++ 44 ∷ t) (joined-is next names)
 
 -- without names nobody gains
-pub nobody-line : (names : List (List ℕ)) → flat_map (λ n. 44 ∷ n) names ≡ [] → (codes "gained by " ++ codes "nobody") ++ 10 ∷ [] ≡ first_line names
-nobody-line [] e = refl
-nobody-line (name ∷ names) e = cc
+pub nobody-listed : (names : List (List ℕ)) → flat_map (λ n. 44 ∷ n) names ≡ [] → codes "nobody" ≡ names_or_nobody names
+nobody-listed [] e = refl
+nobody-listed (name ∷ names) e = cc
 
--- else the line has them without the first comma
-pub names-line : (names : List (List ℕ)) (comma : ℕ) (listed : List ℕ) → flat_map (λ n. 44 ∷ n) names ≡ comma ∷ listed → (codes "gained by " ++ listed) ++ 10 ∷ [] ≡ first_line names
-names-line [] comma listed e = cc
-names-line (name ∷ names) comma listed e =
+-- else they stand there without the first comma
+pub names-listed : (names : List (List ℕ)) (comma : ℕ) (listed : List ℕ) → flat_map (λ n. 44 ∷ n) names ≡ comma ∷ listed → listed ≡ names_or_nobody names
+names-listed [] comma listed e = cc
+names-listed (name ∷ names) comma listed e =
     let rest : name ++ flat_map (λ n. 44 ∷ n) names ≡ listed = cc in
-    ap (λ t. (codes "gained by " ++ t) ++ 10 ∷ []) (sym rest ∙ sym (joined-is name names))
+    sym rest ∙ sym (joined-is name names)
 
 -- the names of those that pass, behind commas, are there where some pass
 pub names-of : (p : Numbered → Bool) (ns : List Numbered) → flat_map (λ n. 44 ∷ n.1.name) (filter p ns) ≡ flat_map (λ name. 44 ∷ name) (map (λ n. n.1.name) (filter p ns))
@@ -82,3 +82,29 @@ some-named p (n ∷ ns) = at (p n) (some-named p ns)
     at : (b : Bool) → list_any p ns ≡ is-more (flat_map (λ n. 44 ∷ n.1.name) (filter p ns)) → (b || list_any p ns) ≡ is-more (flat_map (λ n. 44 ∷ n.1.name) (cond b (n ∷ filter p ns) (filter p ns)))
     at true rest = refl
     at false rest = rest
+
+-- the name of a client that passes, behind a comma
+abbrev pub name_if : (Numbered → Bool) → Numbered → List ℕ
+name_if p n = cond (p n) (44 ∷ n.1.name) []
+
+pub names-if : (p : Numbered → Bool) (ns : List Numbered) → flat_map (name_if p) ns ≡ flat_map (λ n. 44 ∷ n.1.name) (filter p ns)
+names-if p [] = refl
+names-if p (n ∷ ns) = at (p n) (names-if p ns)
+  where
+    at : (b : Bool) → flat_map (name_if p) ns ≡ flat_map (λ n. 44 ∷ n.1.name) (filter p ns) → cond b (44 ∷ n.1.name) [] ++ flat_map (name_if p) ns ≡ flat_map (λ n. 44 ∷ n.1.name) (cond b (n ∷ filter p ns) (filter p ns))
+    at true rest = ap (λ t. 44 ∷ (n.1.name ++ t)) rest
+    at false rest = rest
+
+-- a name is put
+pub name-put : (p : Numbered → Bool) (n : Numbered) (before comma after name : List ℕ) → comma ≡ before ++ 44 ∷ [] → after ≡ comma ++ name → name ≡ n.1.name → p n ≡ true → after ≡ before ++ name_if p n
+name-put p n before comma after name one two is passes =
+    two ∙ ap₂ (λ a b. a ++ b) one is ∙ append_assoc before (44 ∷ []) n.1.name ∙ ap (λ b. before ++ cond b (44 ∷ n.1.name) []) (sym passes)
+
+-- and none of a client that fails
+pub name-kept : (p : Numbered → Bool) (n : Numbered) (before : List ℕ) → p n ≡ false → before ≡ before ++ name_if p n
+name-kept p n before fails = sym (append-nil before) ∙ ap (λ b. before ++ cond b (44 ∷ n.1.name) []) (sym fails)
+
+-- what stands behind the first byte of such names
+pub rest-listed : (names : List ℕ) (list : List (List ℕ)) → 1 ≤ length names → names ≡ flat_map (λ n. 44 ∷ n) list → take (length names - 1) (drop 1 names) ≡ names_or_nobody list
+rest-listed [] list some e = absurd (omega arith)
+rest-listed (comma ∷ listed) list some e = take_rest (comma ∷ listed) 1 ∙ names-listed list comma listed (sym e)

@@ -60,8 +60,10 @@ fn write_both<W: Write>(first: &[u8], second: &[u8], writer: &mut W) -> Result<(
         × Appends (W.contents writer.old) (W.contents writer.new) front
         × (0 < length left)) }
 {
-    write_whole(writer, first)?;
-    write_whole(writer, second)
+    match write_whole(writer, first) {
+        Ok(()) => write_whole(writer, second),
+        Err(failed) => Err(failed),
+    }
 }
 
 /// Puts the lines of all kinds behind a text, of each first what is gained and then what is lost, and gives the clients of
@@ -164,10 +166,18 @@ fn first_line(alloc: Global, names: &[u8]) -> Result<Vec<u8>, Memory>
 {
     let mut line = Vec::new(alloc);
     line.extend_from_slice(b"gained by ")?;
-    match names {
-        [] => line.extend_from_slice(b"nobody")?,
-        [_, listed @ ..] => line.extend_from_slice(listed)?,
-    }
+    line.extend_from_slice(listed(names))?;
     line.push(b'\n')?;
     Ok(line)
+}
+
+/// The names without the comma before the first, or nobody.
+fn listed(names: &[u8]) -> &[u8]
+    ensures { (list : List (List ℕ)) → names.now ≡ flat_map (λ name. 44 ∷ name) list →
+        result.now ≡ changes.names_or_nobody list }
+{
+    match names {
+        [] => b"nobody",
+        [_, listed @ ..] => listed,
+    }
 }
