@@ -1,24 +1,27 @@
 -- Links that have no mark among those of another plan are the edges that it lacks.
-use Rattle.std.specs.Prelude.{◌≡◌, ℕ, ◌==◌, ◌<◌, Bool, true, false, not, ◌&&◌, List, [], ◌∷◌, ◌++◌, Option, Some, None, codes, filter, flat_map, get_or, length, map}
+use Rattle.std.specs.Prelude.{◌≡◌, ℕ, ◌==◌, ◌<◌, ◌≤◌, Bool, true, false, not, ◌&&◌, List, [], ◌∷◌, ◌++◌, Option, Some, None, codes, filter, flat_map, get_or, length, map}
 use Rattle.std.specs.List.{list_any, position_from}
 use Rattle.std.proofs.Common.{refl, sym, ap, ap₂, subst, ◌∙◌, append_assoc, ◌⊎◌, inl, inr}
-use Rattle.std.proofs.lemmas.Bool.{cases_eq, eq-eqb, ne_eqb}
-use Rattle.std.proofs.lemmas.List.{get_or-map}
+use Rattle.std.proofs.lemmas.Bool.{cases_eq, cases_lt, eq-eqb, ne_eqb}
+use Rattle.std.proofs.lemmas.List.{get_or-map, get_or_past, length-map}
 use Rattle.cosem_data.specs.Cells.{same_cell}
 use Rattle.cosem_data.specs.declared.cell.CellRef.{CellRef}
 use Rattle.cosem_data.proofs.Same.{same_cell-true, same_cell-refl}
-use Rattle.meter_theory.specs.Edges.{same_cause, same_edge}
+use Rattle.meter_theory.specs.Edges.{edges, same_cause, same_edge}
 use Rattle.meter_theory.specs.Lists.{IsIn, some_passes}
+use Rattle.meter_theory.specs.Plan.{Plan, cells}
 use Rattle.meter_theory.specs.declared.flow.Edge.{Edge}
 use Rattle.meter_theory.proofs.Lists.{from_filter}
 use Rattle.value_text.specs.Edges.{cause_word, edge_text}
 use Rattle.value_text.specs.Texts.{cell_text}
-use Rattle.flow_edges.specs.Table.{AreCells, AreWithin, IsLink, cell_at, edge_at, no_cell}
+use Rattle.flow_edges.specs.Table.{AreCells, AreWithin, CellEdges, IsLink, cell_at, edge_at, no_cell}
 use Rattle.flow_edges.specs.declared.table.Link.{Link}
 use Rattle.flow_edges.proofs.Sources.{numbered, unnumbered}
+use Rattle.label_certificate.specs.LabelText.{cell_place}
+use Rattle.label_certificate.specs.Least.{AreLinks}
 use Rattle.plan_lists.specs.Listing.{link_text}
 use Rattle.flow_changes.specs.Lines.{edge_lines}
-use Rattle.flow_changes.specs.Marks.{AreMarks, is_marked, link_lines, link_of, mark_place, same_link}
+use Rattle.flow_changes.specs.Marks.{AreBelow, AreMarks, is_marked, link_lines, link_of, mark_place, same_link}
 use Rattle.flow_changes.proofs.Lists.{filter-agree, filter-map, flat_map-agree, flat_map-of-map, in-at, list_any-agree, list_any-map, list_any-none}
 
 inside : (cells : List CellRef) (links : List Link) (l : Link) → AreWithin cells links → IsIn links l → IsLink cells l
@@ -112,3 +115,33 @@ module _ (theirs : List CellRef) (are : AreCells theirs) (links : List Link) (wi
             (λ l i. ap not (marked-is l (inside mine ours l inner i))))
         ∙ sym (flat_map-of-map (λ e. head ++ (edge_text e ++ 10 ∷ [])) (edge_at mine) (filter (λ l. not (list_any (same_edge (edge_at mine l)) (map (edge_at theirs) links))) ours))
         ∙ ap (edge_lines head) (sym (filter-map (λ e. not (list_any (same_edge e) (map (edge_at theirs) links))) (edge_at mine) ours))
+
+-- Tables of edges
+
+-- the links of a table are between numbers of its cells
+pub links-in : (cells : List CellRef) (links : List Link) (n : ℕ) → n ≡ length cells → AreWithin cells links → AreLinks n links
+links-in cells links n e w l i = let p = inside cells links l w i in (subst (λ k. l.source < k) (sym e) p.0, subst (λ k. l.target < k) (sym e) p.1)
+
+-- numbers of cells are below how many there are
+pub are-below : (P : Plan) (mine : List CellRef) (numbers : List (Option ℕ)) (n : ℕ) → numbers ≡ map (cell_place P) mine → n ≡ length (cells P) → AreBelow n numbers
+are-below P mine numbers n found long i k is = at (cases_lt i (length mine))
+  where
+    there : get_or (map (cell_place P) mine) i None ≡ Some k
+    there = ap (λ z. get_or z i None) (sym found) ∙ is
+
+    at : (i < length mine) ⊎ (length mine ≤ i) → k < n
+    at (inl less) = subst (λ z. k < z) (sym long) (numbered (cells P) (cell_at mine i) k (sym (get_or-map (cell_place P) mine i no_cell None less) ∙ there)).0
+    at (inr past) = absurd (none (sym (get_or_past (map (cell_place P) mine) i None (subst (λ z. z ≤ i) (sym (length-map mine (cell_place P))) past)) ∙ there))
+      where
+        none : None ≡ Some k → ⊥
+        none e = cc
+
+-- the lines of the links of a table that have no mark are those of its edges that another plan lacks
+pub lacked-of : (P : Plan) (mine other : CellEdges) → other ≡ record { cells = cells P; edges = edges P } → AreCells other.cells → (ours links : List Link) → AreWithin mine.cells ours → map (edge_at mine.cells) ours ≡ mine.edges →
+    AreWithin other.cells links → map (edge_at other.cells) links ≡ other.edges → (n m : ℕ) → n ≡ length other.cells → m ≡ length other.cells → (marks : List Bool) → AreMarks m links marks →
+    (numbers : List (Option ℕ)) → numbers ≡ map (cell_place P) mine.cells → (texts : List (List ℕ)) → texts ≡ map cell_text mine.cells → (head : List ℕ) →
+    link_lines head texts (filter (λ l. not (is_marked numbers n marks l)) ours) ≡ edge_lines head (filter (λ e. not (list_any (same_edge e) (edges P))) mine.edges)
+lacked-of P mine other of_plan are ours links inner our_edges within their_edges n m long count marks marked numbers found texts told head =
+    ap₂ (λ t k. link_lines head t (filter (λ l. not (is_marked numbers k marks l)) ours)) told long
+    ∙ lacked-lines other.cells are links within marks (subst (λ k. AreMarks k links marks) count marked) mine.cells numbers (found ∙ ap (λ t. map (λ x. position_from (same_cell x) 0 t.cells) mine.cells) (sym of_plan)) head ours inner
+    ∙ ap₂ (λ es fs. edge_lines head (filter (λ e. not (list_any (same_edge e) es)) fs)) (their_edges ∙ ap (λ t. t.edges) of_plan) our_edges

@@ -1,8 +1,9 @@
 -- Lists of which at most one element passes a test.
-use Rattle.std.specs.Prelude.{◌≡◌, ℕ, ◌+◌, Bool, true, false, ◌&&◌, ◌||◌, cond, List, [], ◌∷◌, Option, Some, None, find, map, option_map}
+use Rattle.std.specs.Prelude.{◌≡◌, ℕ, suc, ◌+◌, ◌-◌, ◌≤◌, Bool, true, false, ◌&&◌, ◌||◌, cond, List, [], ◌∷◌, Option, Some, None, find, map, option_and_then, option_map, slice_get}
 use Rattle.std.specs.List.{enumerate_from, list_any, position_from}
 use Rattle.std.specs.Str.{bytes_eq}
-use Rattle.std.proofs.Common.{refl, sym, ap, subst, ◌∙◌, inl, inr}
+use Rattle.std.proofs.Common.{refl, sym, ap, subst, ◌∙◌, inl, inr, arith}
+use Rattle.std.proofs.lemmas.Option.{same_Some}
 use Rattle.std.proofs.lemmas.Slice.Eq.{bytes_eq-Decides}
 use Rattle.cosem_data.specs.Cells.{same_name}
 use Rattle.cosem_data.specs.declared.name.LogicalName.{LogicalName}
@@ -66,6 +67,29 @@ found-number name k (c ∷ clients) = at (bytes_eq c.name name) (found-number na
         cond b (Some k) (position_from (λ c. bytes_eq c.name name) (k + 1) clients) ≡ option_map (λ n. n.0) (cond b (Some (k, c)) (found name (k + 1) clients))
     at true rest = refl
     at false rest = rest
+
+-- and it stands at its number
+pub found-there : (name : List ℕ) (k : ℕ) (clients : List Client) (m : ℕ × Client) → found name k clients ≡ Some m → (k ≤ m.0) × (slice_get clients (m.0 - k) ≡ Some m.1)
+found-there name k [] m e = cc
+found-there name k (c ∷ clients) m e = at (bytes_eq c.name name) e (found-there name (k + 1) clients m)
+  where
+    at : (b : Bool) → cond b (Some (k, c)) (found name (k + 1) clients) ≡ Some m → (found name (k + 1) clients ≡ Some m → (k + 1 ≤ m.0) × (slice_get clients (m.0 - (k + 1)) ≡ Some m.1)) → (k ≤ m.0) × (slice_get (c ∷ clients) (m.0 - k) ≡ Some m.1)
+    at true e rest =
+        let same : (k, c) ≡ m = same_Some (k, c) m e in
+        let none : k - k ≡ 0 = omega arith in
+        subst (λ n. (k ≤ n.0) × (slice_get (c ∷ clients) (n.0 - k) ≡ Some n.1)) same (omega arith, ap (slice_get (c ∷ clients)) none)
+    at false e rest =
+        let r = rest e in
+        let next : m.0 - k ≡ suc (m.0 - (k + 1)) = omega (arith, r.0) in
+        (omega (arith, r.0), ap (slice_get (c ∷ clients)) next ∙ r.1)
+
+-- the client at the number of a name is the one that is found
+pub found-client : (name : List ℕ) (clients : List Client) → option_and_then (slice_get clients) (option_map (λ n. n.0) (found name 0 clients)) ≡ option_map (λ n. n.1) (found name 0 clients)
+found-client name clients = at (found name 0 clients) refl
+  where
+    at : (o : Option (ℕ × Client)) → found name 0 clients ≡ o → option_and_then (slice_get clients) (option_map (λ n. n.0) o) ≡ option_map (λ n. n.1) o
+    at None e = refl
+    at (Some m) e = let n : m.0 ≡ m.0 - 0 = omega arith in ap (slice_get clients) n ∙ (found-there name 0 clients m e).1
 
 -- Objects by their names
 

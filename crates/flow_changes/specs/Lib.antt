@@ -3,6 +3,5 @@ pub mod Changes
 pub mod Sides
 pub mod Lines
 pub mod Marks
-pub mod Compared
 pub mod Promises
 pub mod Written

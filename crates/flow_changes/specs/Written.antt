@@ -11,8 +11,8 @@ use Rattle.flow_changes.specs.Facts.{Configuration}
 
 -- the configuration of a plan and a policy, with labels that are the plan's least
 pub record IsConfiguration (P : Plan) (policy : Policy) (C : Configuration) : Type 0 where
-  pub plan : C.plan ≡ P
-  pub policy : C.policy ≡ policy
+  pub of_plan : C.plan ≡ P
+  pub of_policy : C.policy ≡ policy
   pub least : AreLeastOf P C.labels
 
 -- the comparison of two configurations was written and it is told whether somebody gains, or a beginning of it was written

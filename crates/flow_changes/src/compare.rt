@@ -6,7 +6,7 @@ ghost use Rattle.meter_theory.specs.Labels.{has};
 ghost use Rattle.meter_theory.specs.Plan.{Client as ClientValue};
 ghost use Rattle.flow_changes.specs.Changes as changes;
 ghost use Rattle.flow_changes.specs.Facts.{common_facts, numbered, own_facts};
-ghost use Rattle.flow_changes.specs.Compared.{configuration_of};
+ghost use Rattle.flow_changes.specs.Sides.{IsSide, configuration_of};
 ghost use Rattle.flow_changes.specs.Written.{WritesComparison};
 
 use crate::edges::push_edges;
@@ -74,6 +74,8 @@ fn push_changes(
     new: &Side<'_>,
     text: &mut Vec<u8>,
 ) -> Result<ClientSet, Memory>
+    requires old { IsSide old.now }
+    requires new { IsSide new.now }
     ensures text { OnOk result (text.new.items ≡ text.old.items
         ++ changes.changes_text (configuration_of old.now) (configuration_of new.now)) }
     ensures clients { IfOk result (λ set. (c : ℕ) (client : ClientValue) →
@@ -98,6 +100,8 @@ fn push_facts(
     theirs: &Side<'_>,
     text: &mut Vec<u8>,
 ) -> Result<ClientSet, Memory>
+    requires mine { IsSide mine.now }
+    requires theirs { IsSide theirs.now }
     ensures text { OnOk result (text.new.items ≡ text.old.items ++ changes.lines change kind
         (changes.gained (configuration_of theirs.now) (configuration_of mine.now) kind)) }
     ensures clients { let C = configuration_of mine.now in let D = configuration_of theirs.now in
@@ -118,6 +122,8 @@ fn push_common(
     theirs: &Side<'_>,
     text: &mut Vec<u8>,
 ) -> Result<(), Memory>
+    requires mine { IsSide mine.now }
+    requires theirs { IsSide theirs.now }
     ensures { let C = configuration_of mine.now in let D = configuration_of theirs.now in
         OnOk result (text.new.items ≡ text.old.items ++ changes.lines change kind
         (filter (changes.lacks D C kind) (common_facts C kind))) }

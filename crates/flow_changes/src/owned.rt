@@ -8,7 +8,7 @@ ghost use Rattle.value_text.specs.Texts.{cell_text};
 ghost use Rattle.flow_changes.specs.Changes as changes;
 ghost use Rattle.flow_changes.specs.Changes.{lacks};
 ghost use Rattle.flow_changes.specs.Facts.{numbered, own_facts};
-ghost use Rattle.flow_changes.specs.Compared.{configuration_of};
+ghost use Rattle.flow_changes.specs.Sides.{IsSide, configuration_of};
 ghost use Rattle.flow_changes.specs.Lines.{ArePairs, reach_lines};
 ghost use Rattle.flow_changes.specs.declared.labels.Pair.{Pair as PairValue};
 
@@ -35,6 +35,8 @@ pub(crate) fn push_owned(
     theirs: &Side<'_>,
     text: &mut Vec<u8>,
 ) -> Result<ClientSet, Memory>
+    requires mine { IsSide mine.now }
+    requires theirs { IsSide theirs.now }
     ensures text { let C = configuration_of mine.now in let D = configuration_of theirs.now in
         OnOk result (text.new.items ≡ text.old.items ++ changes.lines change kind
         (filter (lacks D C kind) (flat_map (own_facts C D kind) (numbered C.plan)))) }
@@ -66,6 +68,8 @@ fn pairs_for(
     mine: &Side<'_>,
     theirs: &Side<'_>,
 ) -> Result<Vec<Pair>, Memory>
+    requires mine { IsSide mine.now }
+    requires theirs { IsSide theirs.now }
     ensures { IfOk result (λ pairs.
         ArePairs kind (configuration_of mine.now) (configuration_of theirs.now) pairs.items) }
 {
@@ -96,6 +100,8 @@ fn push_own(
     client: &Client,
     text: &mut Vec<u8>,
 ) -> Result<(), Memory>
+    requires mine { IsSide mine.now }
+    requires theirs { IsSide theirs.now }
     requires client { slice_get mine.now.plan.now.clients place ≡ Some client.now }
     requires pairs { ArePairs kind (configuration_of mine.now) (configuration_of theirs.now) pairs.now }
     ensures { let C = configuration_of mine.now in let D = configuration_of theirs.now in
@@ -106,9 +112,8 @@ fn push_own(
     let other = theirs.plan.client_named(name);
     let head = head_for(alloc, change, kind, name)?;
     match kind {
-        Kind::May | Kind::Allowed => {
-            push_reaches(alloc, &head, place, other, pairs, &mine.texts, text)
-        }
+        Kind::May => push_reaches(alloc, &head, place, other, pairs, &mine.texts, text),
+        Kind::Allowed => push_reaches(alloc, &head, place, other, pairs, &mine.texts, text),
         Kind::Right => push_rights(alloc, &head, mine.plan, place, theirs.plan, other, text),
         Kind::Client => {
             let there = client_at(theirs.plan, other);

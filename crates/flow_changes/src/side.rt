@@ -26,12 +26,12 @@ pub(crate) struct Side<'a> {
     pub(crate) texts: Vec<Vec<u8>>,
     pub(crate) may: Vec<Label>,
     pub(crate) allowed: Vec<Label>,
-    ghost is_side: { IsSide plan.now policy.now labels table (map (λ text. text.items) texts.items) may.items allowed.items },
 }
 
 impl<'a> Side<'a> {
     /// The side of a plan and its policy. The only error is want of memory.
     pub(crate) fn new(alloc: Global, plan: &'a Plan, policy: &'a Policy) -> Result<Side<'a>, Memory>
+        ensures side { IfOk result (λ side. IsSide side) }
         ensures plan { IfOk result (λ side. side.plan.now ≡ plan.now) }
         ensures policy { IfOk result (λ side. side.policy.now ≡ policy.now) }
     {
