@@ -31,7 +31,7 @@ use Rattle.label_certificate.specs.declared.fault.LabelCode.{LabelCode}
 use Rattle.label_certificate.specs.declared.fault.LabelFault.{LabelFault}
 use Rattle.label_certificate.specs.declared.fault.LabelFault.TheVariants as label
 use Rattle.label_certificate.specs.LabelText.{labels_of_text}
-use Rattle.label_certificate.proofs.Members.{same_members}
+use Rattle.meter_theory.proofs.ClientSets.{same_members}
 use Rattle.flow_checker.specs.Answer.{IsRefusedAs, IsToldAs, name_at}
 use Rattle.flow_checker.specs.declared.check.Refused.{Refused as RefusedTold}
 use Rattle.flow_checker.specs.declared.check.Refused.TheVariants as told

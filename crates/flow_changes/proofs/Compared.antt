@@ -1,15 +1,25 @@
 -- Who gains, from a set of clients and from its names.
-use Rattle.std.specs.Prelude.{◌≡◌, ℕ, suc, ◌+◌, ◌-◌, ◌≤◌, ◌==◌, Bool, true, false, not, List, [], ◌∷◌, ◌++◌, Some, filter, flat_map, length, map, slice_get}
+use Rattle.std.specs.Prelude.{◌≡◌, ℕ, suc, ◌+◌, ◌-◌, ◌≤◌, ◌==◌, Bool, true, false, not, List, [], ◌∷◌, ◌++◌, Option, Some, Result, Ok, Err, filter, flat_map, length, map, slice_get}
 use Rattle.std.specs.List.{enumerate_from, list_any}
 use Rattle.std.proofs.Common.{refl, sym, ap, subst, ◌∙◌, inl, inr, arith}
-use Rattle.meter_theory.specs.Labels.{has}
+use Rattle.std.proofs.lemmas.Bool.{ne_eqb}
+use Rattle.meter_theory.specs.Labels.{Policy, has}
 use Rattle.meter_theory.specs.Lists.{IsIn}
 use Rattle.meter_theory.specs.Plan.{Client, Plan}
 use Rattle.cosem_data.specs.declared.clients.ClientSet.{ClientSet}
 use Rattle.flow_changes.specs.Changes.{changes_text, compare_text, first_line, gainers, gains, somebody_gains}
 use Rattle.flow_changes.specs.Facts.{Configuration, Numbered, numbered}
+use Rattle.plan_lists.specs.Listing.{AreLeastOf}
+use Rattle.plan_lists.specs.declared.fault.ListFault.{ListFault}
+use Rattle.plan_lists.specs.declared.fault.ListFault.TheVariants as faults
+use Rattle.flow_changes.specs.Sides.{IsSide, configuration_of}
+use Rattle.flow_changes.specs.Written.{IsConfiguration, WritesComparison, WritesSides}
+use Rattle.flow_changes.specs.declared.side.Side.{Side}
 use Rattle.flow_changes.proofs.Lists.{filter-agree}
 use Rattle.flow_changes.proofs.Named.{is-more, names-of, some-named}
+
+is-configuration : (s : Side) (P : Plan) (p : Policy) → IsSide s → s.plan.now ≡ P → s.policy.now ≡ p → IsConfiguration P p (configuration_of s)
+is-configuration s P p a e f = record { of_plan = e; of_policy = f; least = subst (λ Q. AreLeastOf Q s.labels) e a.least }
 
 -- a numbered client stands at its number
 numbered-at : (k : ℕ) (clients : List Client) (n : Numbered) → IsIn (enumerate_from k clients) n → (k ≤ n.0) × (slice_get clients (n.0 - k) ≡ Some n.1)
@@ -37,7 +47,7 @@ first-is C D names is = is ∙ names-of (gains C D) (numbered D.plan)
 
 not-empty : (names : List ℕ) → not (length names == 0) ≡ is-more names
 not-empty [] = refl
-not-empty (b ∷ names) = refl
+not-empty (b ∷ names) = ap not (ne_eqb (length (b ∷ names)) 0 (λ e. absurd (omega arith)))
 
 -- and there are some where somebody gains
 pub somebody-is : (C D : Configuration) (names : List ℕ) → names ≡ flat_map (λ n. 44 ∷ n.1.name) (filter (gains C D) (numbered D.plan)) → not (length names == 0) ≡ somebody_gains C D
@@ -46,3 +56,10 @@ somebody-is C D names is = not-empty names ∙ ap is-more is ∙ sym (some-named
 -- both texts are that of the comparison
 pub text-is : (C D : Configuration) (first changed : List ℕ) → first ≡ first_line (gainers C D) → changed ≡ [] ++ changes_text C D → first ++ changed ≡ compare_text C D
 text-is C D first changed e f = ap (λ t. t ++ changed) e ∙ ap (λ t. first_line (gainers C D) ++ t) f
+
+-- the comparison of sides is that of their plans and policies
+pub of-sides : (s t : Side) (P Q : Plan) (p q : Policy) → IsSide s → IsSide t → s.plan.now ≡ P → s.policy.now ≡ p → t.plan.now ≡ Q → t.policy.now ≡ q → (before after : Option (List ℕ)) (r : Result Bool ListFault) →
+    WritesSides (configuration_of s) (configuration_of t) before after r → WritesComparison P p Q q before after r
+of-sides s t P Q p q a b e f g h before after (Err faults.Memory) w = w
+of-sides s t P Q p q a b e f g h before after (Err faults.Write) w = (configuration_of s, configuration_of t, is-configuration s P p a e f, is-configuration t Q q b g h, w)
+of-sides s t P Q p q a b e f g h before after (Ok some) w = (configuration_of s, configuration_of t, is-configuration s P p a e f, is-configuration t Q q b g h, w)

@@ -20,7 +20,12 @@ abbrev pub Compares : (old new : Configuration) → (before after : Option (List
 Compares old new before after (Ok some) = (some ≡ somebody_gains old new) × Appends before after (compare_text old new)
 Compares old new before after (Err fault) = WritesText (compare_text old new) before after (Err fault)
 
--- The two are compared; all is made before the first byte is written, so that nothing was where memory is refused.
+-- of two configurations whose labels are known; all is made before the first byte is written, so that nothing was where memory is refused
+abbrev pub WritesSides : (old new : Configuration) → (before after : Option (List ℕ)) → Result Bool ListFault → Type 0
+WritesSides old new before after (Err faults.Memory) = Appends before after []
+WritesSides old new before after r = Compares old new before after r
+
+-- of two plans with their policies, by their least labels
 abbrev pub WritesComparison : Plan → Policy → Plan → Policy → (before after : Option (List ℕ)) → Result Bool ListFault → Type 0
 WritesComparison old old_policy new new_policy before after (Err faults.Memory) = Appends before after []
 WritesComparison old old_policy new new_policy before after r =

@@ -7,7 +7,7 @@ ghost use Rattle.meter_theory.specs.Plan.{Client as ClientValue};
 ghost use Rattle.flow_changes.specs.Changes as changes;
 ghost use Rattle.flow_changes.specs.Facts.{common_facts, numbered, own_facts};
 ghost use Rattle.flow_changes.specs.Sides.{IsSide, configuration_of};
-ghost use Rattle.flow_changes.specs.Written.{WritesComparison};
+ghost use Rattle.flow_changes.specs.Written.{WritesComparison, WritesSides};
 
 use crate::edges::push_edges;
 use crate::kind::{Change, KINDS, Kind};
@@ -43,8 +43,23 @@ pub fn write_comparison<W: Write>(
 {
     let old = Side::new(alloc, old, old_policy)?;
     let new = Side::new(alloc, new, new_policy)?;
+    write_sides(alloc, &old, &new, writer)
+}
+
+/// Writes how two sides differ, and tells whether somebody gains. All is made before the first byte is written.
+fn write_sides<W: Write>(
+    alloc: Global,
+    old: &Side<'_>,
+    new: &Side<'_>,
+    writer: &mut W,
+) -> Result<bool, ListFault>
+    requires old { IsSide old.now }
+    requires new { IsSide new.now }
+    ensures { WritesSides (configuration_of old.now) (configuration_of new.now)
+        (W.contents writer.old) (W.contents writer.new) result }
+{
     let mut changed = Vec::new(alloc);
-    let gaining = push_changes(alloc, &old, &new, &mut changed)?;
+    let gaining = push_changes(alloc, old, new, &mut changed)?;
     let names = names_of(alloc, new.plan, gaining)?;
     let first = first_line(alloc, &names)?;
     write_both(&first, &changed, writer)?;

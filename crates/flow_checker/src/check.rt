@@ -7,11 +7,11 @@ ghost use Rattle.meter_theory.specs.Safety.{Influence, Secrecy};
 ghost use Rattle.flow_checker.specs.Accepted.{AreAllowed};
 ghost use Rattle.flow_checker.specs.Answer.{IsRefusedAs, name_at};
 
-use crate::numbered::{policy_labels, source_of};
 use crate::refusal::first_refusal;
 use cosem_data::cell::CellRef;
 use cosem_data::memory::Memory;
 use label_certificate::labels::Labels;
+use label_certificate::numbered::{policy_labels, source_of};
 use meter_effects::promises::{admitted_is_influence_safe, admitted_is_secret};
 use meter_theory::flow::{Edge, Label, Refusal};
 use meter_theory::laws::tests_decide_admission;

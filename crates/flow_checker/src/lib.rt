@@ -10,5 +10,4 @@ mod clauses;
 mod learned;
 mod looking;
 pub mod notice;
-mod numbered;
 pub mod refusal;

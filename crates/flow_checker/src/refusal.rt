@@ -13,12 +13,12 @@ use crate::clauses::{
     first_changer, first_influence_lost, first_learn_lost, first_past_policy, first_reader,
     first_unlabelled,
 };
-use crate::numbered::{labels_by_number, labels_or_nobody, policy_labels};
 use cosem_data::memory::Memory;
 use flow_edges::edges::edge_table;
 use flow_edges::table::{EdgeTable, edge_between};
 use label_certificate::granted::granted_labels;
 use label_certificate::labels::Labels;
+use label_certificate::numbered::{labels_by_number, labels_or_nobody, policy_labels};
 use meter_theory::flow::{Label, Refusal};
 use object_model::plan::Plan;
 use object_model::policy::Policy;

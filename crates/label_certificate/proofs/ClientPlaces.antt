@@ -11,15 +11,15 @@ use Rattle.cosem_data.specs.Digits.{◌>>=◌}
 use Rattle.cosem_data.specs.Clients.{has_client}
 use Rattle.cosem_data.specs.declared.clients.ClientSet.{ClientSet}
 use Rattle.meter_theory.specs.ClientNames.{is_client_name}
-use Rattle.meter_theory.specs.Labels.{nobody}
+use Rattle.meter_theory.specs.Labels.{nobody, with_client}
 use Rattle.meter_theory.specs.Lists.{IsIn, AreDistinct}
 use Rattle.meter_theory.specs.Plan.{Client, Plan, client_named}
 use Rattle.meter_theory.specs.Sound.{IsSound}
 use Rattle.meter_theory.proofs.Lists.{in_append_right, in_map}
 use Rattle.label_certificate.specs.LabelLine.{are_client_names}
 use Rattle.label_certificate.specs.LabelText.{HasClientsOf}
-use Rattle.label_certificate.specs.Members.{with_client, with_clients, places_of, rise_from, names_from, names_in_set}
-use Rattle.label_certificate.proofs.Members.{same_members, has_with, nobody_in}
+use Rattle.label_certificate.specs.Members.{with_clients, places_of, rise_from, names_from, names_in_set}
+use Rattle.meter_theory.proofs.ClientSets.{same_members, has_with, nobody_in}
 
 -- the places of those of the clients that the set has; the first of them stands at this place
 abbrev pub members_from : ClientSet → ℕ → List Client → List ℕ

@@ -23,14 +23,14 @@ use Rattle.meter_theory.proofs.Writes.{write-cells}
 use Rattle.flow_edges.specs.declared.table.Link.{Link}
 use Rattle.flow_edges.specs.Table.{AreCells, AreWithin, IsLink, cell_at, edge_at}
 use Rattle.label_certificate.specs.Closing.{Below, IsClosedBy, set_at}
-use Rattle.label_certificate.proofs.Members.{nobody_in}
+use Rattle.meter_theory.proofs.ClientSets.{nobody_in}
 use Rattle.std.proofs.lemmas.Bool.{false≢true}
 use Rattle.label_certificate.specs.declared.arrow.Arrow.{Arrow}
 use Rattle.label_certificate.specs.Granted.{AreGranted, label_in}
 use Rattle.label_certificate.specs.Least.{AreClosed, against, along, labels_of_sets}
 
 -- the place of an element
-place_in : (xs : List CellRef) (x : CellRef) → IsIn xs x → (k : ℕ) × (k < length xs) × (cell_at xs k ≡ x)
+pub place_in : (xs : List CellRef) (x : CellRef) → IsIn xs x → (k : ℕ) × (k < length xs) × (cell_at xs k ≡ x)
 place_in [] x i = absurd i
 place_in (y ∷ xs) x (inl e) = (0, omega arith, sym e)
 place_in (y ∷ xs) x (inr i) = let p = place_in xs x i in (suc p.0, omega (arith, p.1), p.2)

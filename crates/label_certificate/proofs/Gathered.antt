@@ -4,9 +4,10 @@ use Rattle.std.specs.Prelude.{IfSome, nat_le}
 use Rattle.std.specs.List.{position_from}
 use Rattle.cosem_data.specs.Digits.{◌>>=◌}
 use Rattle.cosem_data.specs.declared.clients.ClientSet.{ClientSet}
+use Rattle.meter_theory.specs.Labels.{with_client}
 use Rattle.meter_theory.specs.Plan.{Plan, client_named}
 use Rattle.object_model.proofs.Puts.{position-within}
-use Rattle.label_certificate.specs.Members.{with_client, with_clients, places_of, rise_from}
+use Rattle.label_certificate.specs.Members.{with_clients, places_of, rise_from}
 
 -- what comes of clients so far and of places that follow
 abbrev pub gathered : ClientSet → Bool → ℕ → Option (List ℕ) → Option (ClientSet × Bool)

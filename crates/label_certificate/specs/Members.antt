@@ -1,18 +1,10 @@
 -- Sets of clients from their places, and the names of a set's clients. All of it is own profile.
 use Rattle.std.specs.Prelude.{ℕ, ◌+◌, ◌^◌, ◌%◌, Bool, true, ◌&&◌, nat_le, cond, List, [], ◌∷◌, Option, Some}
-use Rattle.std.specs.Int.Bits.{bit_or}
-use Rattle.std.proofs.Math.Nat.{mod-lt}
-use Rattle.std.proofs.lemmas.Nat.{or_lt}
-use Rattle.std.proofs.Common.{lit<}
 use Rattle.cosem_data.specs.Digits.{◌>>=◌}
 use Rattle.cosem_data.specs.Clients.{has_client}
 use Rattle.cosem_data.specs.declared.clients.ClientSet.{ClientSet}
+use Rattle.meter_theory.specs.Labels.{with_client}
 use Rattle.meter_theory.specs.Plan.{Client, Plan, client_named}
-
--- the set with the client at this place; no set has clients from 16 on (own profile)
-abbrev pub with_client : ClientSet → ℕ → ClientSet
-with_client set client =
-    record { mask = bit_or set.mask (2 ^ client % 2 ^ 16); in_range = or_lt 16 set.mask (2 ^ client % 2 ^ 16) set.in_range (mod-lt (2 ^ client) (lit< tt)) }
 
 -- the set with the clients at these places (own profile)
 abbrev pub with_clients : ClientSet → List ℕ → ClientSet

@@ -15,6 +15,7 @@ pub mod labels;
 pub mod laws;
 pub mod least;
 mod line;
+pub mod numbered;
 pub mod reading;
 mod waiting;
 pub mod writing;

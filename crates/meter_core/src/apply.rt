@@ -59,8 +59,9 @@ pub fn apply(alloc: Global, plan: &Plan, meter: &mut Meter, step: &Step) -> Resu
     ensures denied { needs_no_memory plan.now meter.old (step_of step.now) ≡ true → IsOk result }
 {
     plan.known();
-    let mut back = Back::Nothing;
-    apply_by(alloc, plan, meter, step, refusal(plan, step), &mut back)
+    let Applied { reply, back } = apply_by(alloc, plan, meter, step, refusal(plan, step))?;
+    back.let_go();
+    Ok(reply)
 }
 
 /// The same of a step that the plan has judged, which isn't judged again.
@@ -81,33 +82,29 @@ pub fn apply_judged(
     ensures denied { needs_no_memory plan.now meter.old (step_of judged.now.step) ≡ true → IsOk result }
 {
     plan.known();
-    let mut back = Back::Nothing;
-    let reply = apply_by(alloc, plan, meter, &judged.step, judged.refusal, &mut back)?;
-    Ok(Applied { reply, back })
+    apply_by(alloc, plan, meter, &judged.step, judged.refusal)
 }
 
-/// Takes one step, which the plan refuses by this code, if it does, and puts what takes it back in a place of the caller's.
+/// Takes one step, which the plan refuses by this code, if it does.
 fn apply_by(
     alloc: Global,
     plan: &Plan,
     meter: &mut Meter,
     step: &Step,
     refusal: Option<AccessCode>,
-    back: &mut Back,
-) -> Result<Reply, Memory>
+) -> Result<Applied, Memory>
     requires of_plan { IsState plan.now meter.old }
-    requires nothing { back.old ≡ Back.Nothing }
     requires judged { refusal ≡ spec.refusal plan.now (step_of step.now) }
     ensures ok { OnOk result (meter.new ≡ next plan.now meter.old (step_of step.now)) }
-    ensures reply { IfOk result (λ reply. reply_of reply
+    ensures reply { IfOk result (λ applied. reply_of applied.reply
         ≡ reply_to plan.now meter.old (step_of step.now)) }
-    ensures before { OnOk result (taken_back plan.now back.new meter.new ≡ meter.old) }
+    ensures before { IfOk result (λ applied. taken_back plan.now applied.back meter.new ≡ meter.old) }
     ensures err { OnErr result (meter.new ≡ meter.old) }
     ensures denied { needs_no_memory plan.now meter.old (step_of step.now) ≡ true → IsOk result }
 {
     match refusal {
-        Some(code) => Ok(Reply::Code(code)),
-        None => apply_granted(alloc, plan, meter, step, back),
+        Some(code) => Ok(unchanged(Reply::Code(code))),
+        None => apply_granted(alloc, plan, meter, step),
     }
 }
 
@@ -117,15 +114,13 @@ fn apply_granted(
     plan: &Plan,
     meter: &mut Meter,
     step: &Step,
-    back: &mut Back,
-) -> Result<Reply, Memory>
+) -> Result<Applied, Memory>
     requires of_plan { IsState plan.now meter.old }
-    requires nothing { back.old ≡ Back.Nothing }
     requires granted { None ≡ spec.refusal plan.now (step_of step.now) }
     ensures ok { OnOk result (meter.new ≡ next plan.now meter.old (step_of step.now)) }
-    ensures reply { IfOk result (λ reply. reply_of reply
+    ensures reply { IfOk result (λ applied. reply_of applied.reply
         ≡ reply_to plan.now meter.old (step_of step.now)) }
-    ensures before { OnOk result (taken_back plan.now back.new meter.new ≡ meter.old) }
+    ensures before { IfOk result (λ applied. taken_back plan.now applied.back meter.new ≡ meter.old) }
     ensures err { OnErr result (meter.new ≡ meter.old) }
     ensures denied { needs_no_memory plan.now meter.old (step_of step.now) ≡ true → IsOk result }
 {
@@ -136,48 +131,62 @@ fn apply_granted(
             selection,
         } => {
             let shown = show(alloc, plan, meter, *client, attribute, selection)?;
-            Ok(shown.into_reply(alloc)?)
+            Ok(unchanged(shown.into_reply(alloc)?))
         }
         Step::Set {
             attribute,
             value,
             ..
-        } => set(alloc, plan, meter, attribute, value, back),
+        } => set(alloc, plan, meter, attribute, value),
         Step::Act {
             method,
             argument,
             ..
-        } => act(alloc, plan, meter, method, argument, back),
-        Step::Tick => Ok(tick(plan, meter, back)),
-        Step::ClockAt { moment } => Ok(clock_at(plan, meter, *moment, back)),
-        _ => own(alloc, plan, meter, step, back),
+        } => act(alloc, plan, meter, method, argument),
+        Step::Tick => Ok(tick(plan, meter)),
+        Step::ClockAt { moment } => Ok(clock_at(plan, meter, *moment)),
+        _ => own(alloc, plan, meter, step),
+    }
+}
+
+/// What changed nothing.
+fn unchanged(reply: Reply) -> Applied
+    ensures { (result.reply ≡ reply) × (result.back ≡ Back.Nothing) }
+{
+    Applied {
+        reply,
+        back: Back::Nothing,
     }
 }
 
 /// A second goes by.
-fn tick(plan: &Plan, meter: &mut Meter, back: &mut Back) -> Reply
+fn tick(plan: &Plan, meter: &mut Meter) -> Applied
     requires { IsState plan.now meter.old }
     ensures ok { meter.new ≡ next plan.now meter.old steps.Tick }
-    ensures reply { reply_of result ≡ reply_to plan.now meter.old steps.Tick }
-    ensures before { taken_back plan.now back.new meter.new ≡ meter.old }
+    ensures reply { reply_of result.reply ≡ reply_to plan.now meter.old steps.Tick }
+    ensures before { taken_back plan.now result.back meter.new ≡ meter.old }
 {
     let stood = meter.present(plan);
     meter.tick(plan);
-    *back = Back::Clock(stood);
-    Reply::Quiet
+    Applied {
+        reply: Reply::Quiet,
+        back: Back::Clock(stood),
+    }
 }
 
 /// A moment is told to the meter.
-fn clock_at(plan: &Plan, meter: &mut Meter, moment: Moment, back: &mut Back) -> Reply
+fn clock_at(plan: &Plan, meter: &mut Meter, moment: Moment) -> Applied
     requires { IsState plan.now meter.old }
     ensures ok { meter.new ≡ next plan.now meter.old (steps.ClockAt moment) }
-    ensures reply { reply_of result ≡ reply_to plan.now meter.old (steps.ClockAt moment) }
-    ensures before { taken_back plan.now back.new meter.new ≡ meter.old }
+    ensures reply { reply_of result.reply ≡ reply_to plan.now meter.old (steps.ClockAt moment) }
+    ensures before { taken_back plan.now result.back meter.new ≡ meter.old }
 {
     let stood = meter.present(plan);
     meter.set_clock(plan, moment);
-    *back = Back::Clock(stood);
-    Reply::Quiet
+    Applied {
+        reply: Reply::Quiet,
+        back: Back::Clock(stood),
+    }
 }
 
 /// A granted SET (IEC 62056-5-3): its value, if it brings one, is put in its cell. The only error is that memory was refused.
@@ -187,24 +196,24 @@ fn set(
     meter: &mut Meter,
     attribute: &Descriptor,
     value: &Argument,
-    back: &mut Back,
-) -> Result<Reply, Memory>
+) -> Result<Applied, Memory>
     requires of_plan { IsState plan.now meter.old }
-    requires nothing { back.old ≡ Back.Nothing }
     requires fits { MayBeSet plan.now (cell_of attribute.now) (argument_of value.now) }
     ensures ok { OnOk result (meter.new ≡ effects plan.now meter.old
         (given_value (cell_of attribute.now) (argument_of value.now))) }
-    ensures reply { IfOk result (λ reply. reply_of reply ≡ answers.Code codes.Success) }
-    ensures before { OnOk result (taken_back plan.now back.new meter.new ≡ meter.old) }
+    ensures reply { IfOk result (λ applied. reply_of applied.reply ≡ answers.Code codes.Success) }
+    ensures before { IfOk result (λ applied. taken_back plan.now applied.back meter.new ≡ meter.old) }
     ensures err { OnErr result (meter.new ≡ meter.old) }
 {
     let Argument::Value(value) = value else {
-        return Ok(Reply::Code(AccessCode::Success));
+        return Ok(unchanged(Reply::Code(AccessCode::Success)));
     };
     let given = value.try_clone(alloc)?;
     let undo = put(alloc, plan, meter, attribute.attribute(), given);
-    *back = Back::Effect(undo);
-    Ok(Reply::Code(AccessCode::Success))
+    Ok(Applied {
+        reply: Reply::Code(AccessCode::Success),
+        back: Back::Effect(undo),
+    })
 }
 
 /// Puts a value that may stand in its cell.
@@ -225,13 +234,12 @@ fn act(
     meter: &mut Meter,
     method: &Descriptor,
     argument: &Argument,
-    back: &mut Back,
-) -> Result<Reply, Memory>
+) -> Result<Applied, Memory>
     requires { IsState plan.now meter.old }
     ensures ok { OnOk result (meter.new ≡ effects plan.now meter.old
         (method_effects plan.now (method_of method.now) (argument_of argument.now))) }
-    ensures reply { IfOk result (λ reply. reply_of reply ≡ answers.Code codes.Success) }
-    ensures before { OnOk result (taken_back plan.now back.new meter.new ≡ meter.old) }
+    ensures reply { IfOk result (λ applied. reply_of applied.reply ≡ answers.Code codes.Success) }
+    ensures before { IfOk result (λ applied. taken_back plan.now applied.back meter.new ≡ meter.old) }
     ensures err { OnErr result (meter.new ≡ meter.old) }
     ensures none { method_effects plan.now (method_of method.now) (argument_of argument.now) ≡ []
         → IsOk result }
@@ -240,33 +248,31 @@ fn act(
     let mut effects = Vec::new(alloc);
     push_method(alloc, plan, &method.method(), argument, &mut effects)?;
     let undos = apply_all(alloc, plan, meter, effects)?;
-    *back = Back::Effects(undos);
-    Ok(Reply::Code(AccessCode::Success))
+    Ok(Applied {
+        reply: Reply::Code(AccessCode::Success),
+        back: Back::Effects(undos),
+    })
 }
 
 /// A step that the meter takes by itself, without an answer.
-fn own(
-    alloc: Global,
-    plan: &Plan,
-    meter: &mut Meter,
-    step: &Step,
-    back: &mut Back,
-) -> Result<Reply, Memory>
+fn own(alloc: Global, plan: &Plan, meter: &mut Meter, step: &Step) -> Result<Applied, Memory>
     requires of_plan { IsState plan.now meter.old }
     requires own { client_of (step_of step.now) ≡ None }
     requires clock { sets_clock step.now ≡ false }
     ensures ok { OnOk result (meter.new ≡ next plan.now meter.old (step_of step.now)) }
-    ensures reply { IfOk result (λ reply. reply_of reply
+    ensures reply { IfOk result (λ applied. reply_of applied.reply
         ≡ reply_to plan.now meter.old (step_of step.now)) }
-    ensures before { OnOk result (taken_back plan.now back.new meter.new ≡ meter.old) }
+    ensures before { IfOk result (λ applied. taken_back plan.now applied.back meter.new ≡ meter.old) }
     ensures err { OnErr result (meter.new ≡ meter.old) }
     ensures denied { needs_no_memory plan.now meter.old (step_of step.now) ≡ true → IsOk result }
 {
     plan.known();
     let effects = own_effects(alloc, plan, meter, step)?;
     let undos = apply_all(alloc, plan, meter, effects)?;
-    *back = Back::Effects(undos);
-    Ok(Reply::Quiet)
+    Ok(Applied {
+        reply: Reply::Quiet,
+        back: Back::Effects(undos),
+    })
 }
 
 /// The effects of a step that the meter takes by itself. The only error is that memory was refused, which without effects

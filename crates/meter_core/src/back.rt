@@ -25,6 +25,17 @@ pub enum Back {
     Clock(Moment),
 }
 
+impl Back {
+    /// Lets go of it, each case by a call of its own, so that only a step of one effect makes room for what an `Undo` may hold.
+    pub(crate) fn let_go(self) {
+        match self {
+            Back::Nothing | Back::Clock(_) => {}
+            Back::Effect(undo) => drop(undo),
+            Back::Effects(undos) => drop(undos),
+        }
+    }
+}
+
 /// Takes the last step of a meter of the plan back. It takes no memory.
 pub fn take_back(plan: &Plan, meter: &mut Meter, back: Back)
     requires { IsState plan.now meter.old }

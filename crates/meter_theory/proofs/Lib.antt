@@ -22,5 +22,9 @@ pub mod Start
 pub mod InnerClock
 pub mod Ticks
 pub mod Unique
+pub mod ClientSets
+pub mod Ends
+pub mod Rounds
+pub mod Ways
 pub mod MenuSizes
 mod MenuExamples

@@ -2,7 +2,7 @@
 use Rattle.cosem_data.proofs.Same.{same_cell-true, same_cell-refl}
 use Rattle.cosem_data.proofs.Bits.{none_above}
 use Rattle.cosem_data.specs.declared.clients.ClientSet.{ClientSet}
-use Rattle.std.proofs.Common.{◌≡◌, ◌==◌, ◌≤◌, ℕ, Bool, true, false, not, cond, ◌&&◌, ◌||◌, List, [], ◌∷◌, refl, sym, ap, subst, ◌∙◌, inl, inr, Option, Some, None, option_map, eqb-true, ne_eqb, nat_lt, ltb-true, arith}
+use Rattle.std.proofs.Common.{◌≡◌, ◌==◌, ◌<◌, ◌≤◌, ℕ, Bool, true, false, not, cond, ◌&&◌, ◌||◌, List, [], ◌∷◌, refl, sym, ap, subst, ◌∙◌, inl, inr, Option, Some, None, option_map, eqb-true, ne_eqb, nat_lt, ltb-true, arith}
 use Rattle.std.specs.List.{list_all, range_with_len}
 use Rattle.std.proofs.lemmas.Bool.{not-true, and_parts, and_from, or_cases, or_left, or_right, false_from_ne_true, ltb-false}
 use Rattle.meter_theory.specs.Lists.{IsIn}
@@ -50,6 +50,14 @@ all_from test (x ∷ xs) h = and_from (test x) (list_all test xs) (h x (inl refl
 -- a client past the sixteen places is in no set
 outside_range : (cs : ClientSet) (c : ℕ) → limits.CLIENTS ≤ c → has cs c ≡ false
 outside_range cs c high = none_above cs.mask c cs.in_range high
+
+-- so who is in a set has one of them
+pub inside_range : (cs : ClientSet) (c : ℕ) → has cs c ≡ true → c < limits.CLIENTS
+inside_range cs c h =
+    elim (nat_lt c limits.CLIENTS) as (λ b. nat_lt c limits.CLIENTS ≡ b → c < limits.CLIENTS) [
+      | true ↦ λ low. ltb-true c limits.CLIENTS low
+      | false ↦ λ high. absurd (not_both (has cs c) h (outside_range cs c (ltb-false c limits.CLIENTS high)))
+    ] refl
 
 pub within_has : (cs ds : ClientSet) → within cs ds ≡ true → (c : ℕ) → has cs c ≡ true → has ds c ≡ true
 unfolding within

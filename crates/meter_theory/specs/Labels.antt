@@ -1,7 +1,10 @@
 -- Labels of cells, and what makes a plan and its labels admissible.
-use Rattle.std.specs.Prelude.{◌≡◌, ◌⊎◌, ℕ, ◌==◌, Bool, true, not, ◌&&◌, ◌||◌, cond, List, [], ◌∷◌, Option, Some, None, flat_map}
+use Rattle.std.specs.Prelude.{◌≡◌, ◌⊎◌, ℕ, ◌^◌, ◌%◌, ◌==◌, Bool, true, not, ◌&&◌, ◌||◌, cond, List, [], ◌∷◌, Option, Some, None, flat_map}
 use Rattle.std.specs.List.{list_all, range_with_len}
+use Rattle.std.specs.Int.Bits.{bit_or}
 use Rattle.std.proofs.Common.{lit<}
+use Rattle.std.proofs.Math.Nat.{mod-lt}
+use Rattle.std.proofs.lemmas.Nat.{or_lt}
 use Rattle.cosem_data.specs.declared.clients.ClientSet.{ClientSet}
 use Rattle.cosem_data.specs.Clients.{has_client}
 use Rattle.meter_theory.specs.Lists.{IsIn, for_some}
@@ -26,6 +29,11 @@ within cs ds = list_all (λ c. not (has cs c) || has ds c) (range_with_len 0 lim
 
 abbrev pub nobody : ClientSet
 nobody = record { mask = 0; in_range = lit< tt }
+
+-- the set with the client at this place; no set has clients from 16 on (own profile)
+abbrev pub with_client : ClientSet → ℕ → ClientSet
+with_client set client =
+    record { mask = bit_or set.mask (2 ^ client % 2 ^ 16); in_range = or_lt 16 set.mask (2 ^ client % 2 ^ 16) set.in_range (mod-lt (2 ^ client) (lit< tt)) }
 
 -- a certificate: a label for each cell of a list of cells, in its order
 abbrev pub Labels : Type 0

@@ -15,6 +15,7 @@ pub mod Replies
 pub mod Edges
 pub mod Labels
 pub mod Check
+pub mod Ways
 pub mod States
 pub mod Safety
 pub mod Notice

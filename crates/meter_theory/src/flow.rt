@@ -60,3 +60,12 @@ pub enum Refusal {
     /// Who may learn the target of the edge may not learn its source.
     LearnEscapes(Edge),
 }
+
+/// In which way a cell is a client's to reach (own profile).
+#[derive(Clone, Copy, Debug, PartialEq, Eq, Drop)]
+pub enum Reach {
+    /// The client may influence what the cell holds.
+    Influence,
+    /// The client may learn what the cell holds.
+    Learn,
+}

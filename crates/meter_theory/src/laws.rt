@@ -1,5 +1,5 @@
 //! Theorems about meters and plans: each function's clauses are its statement, and its body is empty.
-ghost use Rattle.std.specs.Prelude.{◌≡◌, ◌≢◌, ◌↔◌, ◌+◌, ◌∷◌, ◌++◌, [], ℕ, Bool, List, map, true, false, None, Some, is_some};
+ghost use Rattle.std.specs.Prelude.{◌≡◌, ◌≢◌, ◌↔◌, ◌+◌, ◌∷◌, ◌++◌, ◌<◌, ◌≤◌, [], ℕ, Bool, Option, length, suc, List, map, true, false, None, Some, is_some};
 ghost use Rattle.cosem_data.specs.Cells.{same_cell};
 ghost use Rattle.cosem_data.specs.Tree.{Tree, array, no_trees};
 ghost use Rattle.cosem_data.specs.declared.cell.CellRef.{CellRef};
@@ -21,8 +21,10 @@ ghost use Rattle.meter_theory.specs.declared.flow.Edge.{Edge};
 ghost use Rattle.meter_theory.specs.declared.flow.Refusal.{Refusal};
 ghost use Rattle.meter_theory.specs.Edges.{Agree, IsEdge, edge, edges_in, edges_from_clock, in_plan_order, script_changes, edges, IsClosed};
 ghost use Rattle.meter_theory.specs.EffectLaws.{KeepsAgreementOn, EffectLaws};
-ghost use Rattle.meter_theory.specs.Labels.{Labels, Labelling, labelling_of, Admits, AreLeast, MayChange, method_changes_of};
+ghost use Rattle.meter_theory.specs.Labels.{Labels, Labelling, has, labelling_of, Admits, AreLeast, MayChange, method_changes_of};
 ghost use Rattle.meter_theory.specs.Sound.{IsSound};
+ghost use Rattle.meter_theory.specs.Ways.{HasWay, IsDistance, IsWay, far_end, is_within, near_end, set_for, shown_way};
+ghost use Rattle.meter_theory.specs.declared.flow.Reach.{Reach};
 ghost use Rattle.meter_theory.specs.States.{IsState};
 ghost use Rattle.meter_theory.specs.Check.{AllPass, Refuses, may_change};
 ghost use Rattle.meter_theory.specs.Safety.{HasCells, IsQuiet, AreAlike, Alike, AlikeByPlace, Influence, Secrecy};
@@ -93,6 +95,42 @@ pub fn least_labels_decide()
         Admits P policy labels → Admits P policy least }
     ensures refused { (P : Plan) (policy : Labelling) (least labels : Labels) (r : Refusal) →
         IsSound P → AreLeast P least → Refuses P policy least r → Admits P policy labels → ⊥ }
+{}
+
+/// A client is in a set of the least labels exactly where it has a way of that kind to the cell.
+pub fn least_labels_are_ways()
+    ensures { (P : Plan) (least : Labels) (reach : Reach) (c : ℕ) (x : CellRef) →
+        IsSound P → AreLeast P least → IsIn (cells P) x →
+        (has (set_for reach (labelling_of least x)) c ≡ true ↔ HasWay P reach c x) }
+{}
+
+/// A cell is within so many rounds exactly where a way of at most so many edges leads to it; and the rounds stand still before
+/// there are as many of them as cells.
+pub fn rounds_follow_ways()
+    ensures ways { (P : Plan) (reach : Reach) (c k : ℕ) (x : CellRef) → IsSound P → IsIn (cells P) x →
+        (is_within P reach c k x ≡ true ↔ ((es : List Edge) × IsWay P reach c x es × (length es ≤ k))) }
+    ensures still { (P : Plan) (reach : Reach) (c k : ℕ) (x : CellRef) → IsSound P → IsIn (cells P) x →
+        length (cells P) ≤ suc k → is_within P reach c (suc k) x ≡ is_within P reach c k x }
+{}
+
+/// Each cell has one distance from a client, or none; it is less than the number of cells, and an edge adds one at most.
+pub fn cells_have_distances()
+    ensures there { (P : Plan) (reach : Reach) (c : ℕ) (x : CellRef) → IsSound P → IsIn (cells P) x →
+        (d : Option ℕ) × IsDistance P reach c x d }
+    ensures one { (P : Plan) (reach : Reach) (c : ℕ) (x : CellRef) (d other : Option ℕ) → IsSound P →
+        IsDistance P reach c x d → IsDistance P reach c x other → d ≡ other }
+    ensures few { (P : Plan) (reach : Reach) (c : ℕ) (x : CellRef) (d : ℕ) → IsSound P →
+        IsDistance P reach c x (Some d) → d < length (cells P) }
+    ensures next { (P : Plan) (reach : Reach) (c : ℕ) (e : Edge) (d : ℕ) (far : Option ℕ) → IsSound P → IsEdge P e →
+        IsDistance P reach c (near_end reach e) (Some d) → IsDistance P reach c (far_end reach e) far →
+        (k : ℕ) × (far ≡ Some k) × (k ≤ suc d) }
+{}
+
+/// The way that is shown is a way, and no way has fewer edges.
+pub fn shown_ways_are_shortest()
+    ensures { (P : Plan) (reach : Reach) (c : ℕ) (x : CellRef) (d : ℕ) → IsSound P →
+        IsDistance P reach c x (Some d) →
+        IsWay P reach c x (shown_way P reach c d x) × (length (shown_way P reach c d x) ≡ d) }
 {}
 
 /// The test of the rights that change a cell tells who has one, and a right to a method changes cells of the plan alone.

@@ -1,5 +1,5 @@
 -- Masks of indexes, and what the rights grant.
-use Rattle.std.proofs.Common.{◌≡◌, ◌≢◌, ◌==◌, ◌<◌, ◌≤◌, ◌+◌, ◌*◌, ◌^◌, ◌%◌, ℕ, Bool, true, false, ◌&&◌, ◌||◌, nat_lt, List, length, take, Option, Some, None, refl, sym, ap, ◌∙◌, inl, inr, ◌⊎◌, arith, get_or, set, max, eqb-true, bit_or}
+use Rattle.std.proofs.Common.{◌≡◌, ◌≢◌, ◌==◌, ◌<◌, ◌≤◌, ◌+◌, ◌*◌, ◌^◌, ◌%◌, ℕ, Bool, true, false, ◌&&◌, ◌||◌, nat_lt, List, length, take, Option, Some, None, refl, sym, ap, ◌∙◌, subst, inl, inr, ◌⊎◌, arith, get_or, set, max, eqb-true, bit_or}
 use Rattle.std.specs.List.{position_from, list_any}
 use Rattle.std.specs.Int.{bit_at, w16}
 use Rattle.std.proofs.lemmas.Bool.{false≢true, cases_lt}
@@ -16,7 +16,7 @@ use Rattle.meter_theory.specs.Rights.{lists}
 use Rattle.meter_theory.specs.declared.limits.TheConstants.{CLIENTS}
 use Rattle.object_model.specs.declared.right.Access.{Access}
 use Rattle.object_model.specs.Index.{name_at}
-use Rattle.object_model.specs.Grants.{listed, has_bit, granted_at, grants, place_in, AreMasksOf}
+use Rattle.object_model.specs.Grants.{listed, has_bit, granted_at, grants, place_in, AreMasksOf, HasRoom, IsJoined}
 use Rattle.object_model.proofs.Positions.{first}
 use Rattle.std.specs.Prelude.{IfSome}
 
@@ -74,12 +74,30 @@ at-position names name k is =
     let at = first (λ n. same_name n name) names k (sym is) in
     (at.within, same_name-true (name_at names k) name (at.passes _))
 
-pub one-more : (names : List LogicalName) (access : Access) (rights : List Right) (masks : List ℕ) (i : ℕ) (r : Right) (k mask at : ℕ) →
-    i < length rights → r ≡ get_or rights i r → AreMasksOf names access (take i rights) masks → Some k ≡ position_from (λ n. same_name n r.object) 0 names →
-    r.client < CLIENTS → ((j : ℕ) → lists (listed access r) j ≡ has_bit mask j) → at ≡ k * CLIENTS + r.client →
-    AreMasksOf names access (take (i + 1) rights) (set masks at (bit_or (get_or masks at 0) mask))
-one-more names access rights masks i r k mask at h is before found small listed_is here = record {
-  size = simp length-set before.size;
+pub within : (names : List LogicalName) (r : Right) (at size : ℕ) → HasRoom names r → IfSome (place_in names r.object) (λ k. at ≡ k * CLIENTS + r.client) →
+    size ≡ length names * CLIENTS → at < size
+within names r at size room placed sized =
+    let stands = at-position names r.object room.number (sym room.object) in
+    let here : at ≡ room.number * CLIENTS + r.client = subst (λ q. IfSome q (λ k. at ≡ k * CLIENTS + r.client)) room.object placed in
+    omega (arith, stands.0, here, sized, room.client)
+
+pub joined : (masks : List ℕ) (place mask : ℕ) (indexes : List ℕ) → place < length masks → ((i : ℕ) → lists indexes i ≡ has_bit mask i) →
+    IsJoined masks place indexes (set masks place (bit_or (get_or masks place 0) mask))
+joined masks place mask indexes h listed_is = record {
+  size = length-set masks place (bit_or (get_or masks place 0) mask);
+  here = λ i.
+      ap (λ z. has_bit z i) (get_or-set_same masks place (bit_or (get_or masks place 0) mask) 0 h)
+      ∙ has_bit-or (get_or masks place 0) mask i
+      ∙ ap (λ b. has_bit (get_or masks place 0) i || b) (sym (listed_is i));
+  elsewhere = λ other apart. get_or-set_other masks place other (bit_or (get_or masks place 0) mask) 0 apart;
+}
+
+pub one-more : (names : List LogicalName) (access : Access) (rights : List Right) (masks after : List ℕ) (i : ℕ) (r : Right) (at : ℕ) →
+    i < length rights → r ≡ get_or rights i r → AreMasksOf names access (take i rights) masks → HasRoom names r →
+    IfSome (place_in names r.object) (λ k. at ≡ k * CLIENTS + r.client) → IsJoined masks at (listed access r) after →
+    AreMasksOf names access (take (i + 1) rights) after
+one-more names access rights masks after i r at h is before room placed joins = record {
+  size = joins.size ∙ before.size;
   agrees = λ name client index.
       list_any_more (grants access name client index) rights i r h
       ∙ ap (λ z. list_any (grants access name client index) (take i rights) || grants access name client index z) (sym is)
@@ -87,20 +105,26 @@ one-more names access rights masks i r k mask at h is before found small listed_
       ∙ core name client index (position_from (λ n. same_name n name) 0 names) refl;
 }
   where
+    k : ℕ
+    k = room.number
+
+    small : r.client < CLIENTS
+    small = room.client
+
+    found : Some k ≡ position_from (λ n. same_name n r.object) 0 names
+    found = sym room.object
+
+    here : at ≡ k * CLIENTS + r.client
+    here = subst (λ q. IfSome q (λ m. at ≡ m * CLIENTS + r.client)) room.object placed
+
     stands : (k < length names) × (name_at names k ≡ r.object)
     stands = at-position names r.object k found
-
-    after : List ℕ
-    after = set masks at (bit_or (get_or masks at 0) mask)
-
-    written : get_or after at 0 ≡ bit_or (get_or masks at 0) mask
-    written = get_or-set_same masks at (bit_or (get_or masks at 0) mask) 0 (omega (arith, before.size, stands.0))
 
     apart : (m c j : ℕ) → (c < CLIENTS → m * CLIENTS + c ≢ at) → (nat_lt c CLIENTS && has_bit (get_or masks (m * CLIENTS + c) 0) j) ≡ (nat_lt c CLIENTS && has_bit (get_or after (m * CLIENTS + c) 0) j)
     apart m c j other = by (cases_lt c CLIENTS)
       where
         by : (c < CLIENTS) ⊎ (CLIENTS ≤ c) → (nat_lt c CLIENTS && has_bit (get_or masks (m * CLIENTS + c) 0) j) ≡ (nat_lt c CLIENTS && has_bit (get_or after (m * CLIENTS + c) 0) j)
-        by (inl low) = ap (λ z. nat_lt c CLIENTS && has_bit z j) (sym (get_or-set_other masks at (m * CLIENTS + c) (bit_or (get_or masks at 0) mask) 0 (other low)))
+        by (inl low) = ap (λ z. nat_lt c CLIENTS && has_bit z j) (sym (joins.elsewhere (m * CLIENTS + c) (other low)))
         by (inr high) = ap (λ b. b && has_bit (get_or masks (m * CLIENTS + c) 0) j) (lt_not c CLIENTS high) ∙ sym (ap (λ b. b && has_bit (get_or after (m * CLIENTS + c) 0) j) (lt_not c CLIENTS high))
 
     core : (name : LogicalName) (c j : ℕ) (q : Option ℕ) → position_from (λ n. same_name n name) 0 names ≡ q →
@@ -136,9 +160,9 @@ one-more names access rights masks i r k mask at h is before found small listed_
             let number : k ≡ m = cc in
             let place : m * CLIENTS + c ≡ at = omega (arith, mine, number, here) in
             ap (λ t. (t && has_bit (get_or masks (m * CLIENTS + c) 0) j) || lists (listed access r) j) (lt_is c CLIENTS (omega (arith, mine, small)))
-            ∙ ap (λ t. has_bit (get_or masks (m * CLIENTS + c) 0) j || t) (listed_is j)
-            ∙ sym (has_bit-or (get_or masks (m * CLIENTS + c) 0) mask j)
-            ∙ ap (λ z. has_bit z j) (ap (λ z. bit_or (get_or masks z 0) mask) place ∙ sym written ∙ ap (λ z. get_or after z 0) (sym place))
+            ∙ ap (λ z. has_bit (get_or masks z 0) j || lists (listed access r) j) place
+            ∙ sym (joins.here j)
+            ∙ ap (λ z. has_bit (get_or after z 0) j) (sym place)
             ∙ sym (ap (λ t. t && has_bit (get_or after (m * CLIENTS + c) 0) j) (lt_is c CLIENTS (omega (arith, mine, small))))
 
 pub room : (names : List LogicalName) (name : LogicalName) (size : ℕ) (q : Option ℕ) → size ≡ length names * CLIENTS → q ≡ position_from (λ n. same_name n name) 0 names →

@@ -1,5 +1,5 @@
 -- What clients are granted on objects, as masks of indexes.
-use Rattle.std.specs.Prelude.{◌≡◌, ◌==◌, ◌<◌, ◌+◌, ◌*◌, ℕ, Bool, false, ◌&&◌, nat_lt, List, [], ◌∷◌, length, slice_index, Option, Some, None, All}
+use Rattle.std.specs.Prelude.{◌≡◌, ◌==◌, ◌<◌, ◌+◌, ◌*◌, ℕ, Bool, false, ◌&&◌, ◌||◌, nat_lt, List, [], ◌∷◌, length, slice_index, Option, Some, None, All}
 use Rattle.std.specs.List.{position_from, list_any}
 use Rattle.std.specs.Int.{bit_at}
 use Rattle.cosem_data.specs.Cells.{same_name}
@@ -50,6 +50,12 @@ pub record HasRoom (names : List LogicalName) (r : Right) : Type 0 where
 pub record AreMasksOf (names : List LogicalName) (access : Access) (rights : List Right) (masks : List ℕ) : Type 0 where
   pub size : length masks ≡ length names * limits.CLIENTS
   pub agrees : (name : LogicalName) (client index : ℕ) → list_any (grants access name client index) rights ≡ granted names masks name client index
+
+-- behind joining these indexes to the mask at this place, that mask has them too, and each other is as it was: own profile
+pub record IsJoined (before : List ℕ) (place : ℕ) (indexes : List ℕ) (after : List ℕ) : Type 0 where
+  pub size : length after ≡ length before
+  pub here : (index : ℕ) → has_bit (slice_index after place) index ≡ (has_bit (slice_index before place) index || lists indexes index)
+  pub elsewhere : (other : ℕ) → (other ≡ place → ⊥) → slice_index after other ≡ slice_index before other
 
 -- the masks of an access: own profile
 abbrev pub masks_for : Access → Grants → List ℕ

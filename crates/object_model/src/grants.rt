@@ -1,10 +1,9 @@
 //! What clients are granted on the objects of a plan, as masks: looked up in constant time.
-ghost use Rattle.std.specs.Prelude.{◌≡◌, ◌<◌, ◌≤◌, ◌^◌, ◌*◌, ◌+◌, ℕ, length, IfOk, IfSome, All};
-ghost use Rattle.cosem_data.specs.Cells.{same_name};
+ghost use Rattle.std.specs.Prelude.{◌≡◌, ◌<◌, ◌≤◌, ◌^◌, ◌*◌, ◌+◌, ℕ, [], length, IfOk, IfSome, All};
 ghost use Rattle.meter_theory.specs.Lists.{IsIn};
 ghost use Rattle.meter_theory.specs.Plan as theory;
 ghost use Rattle.meter_theory.specs.Rights.{lists};
-ghost use Rattle.object_model.specs.Grants.{granted_at, has_bit, masks_for, AreMasksOf, AreGrants, HasRoom};
+ghost use Rattle.object_model.specs.Grants.{granted_at, has_bit, listed, masks_for, place_in, AreGrants, HasRoom, IsJoined};
 
 use crate::index::Index;
 use crate::right::{Access, Right};
@@ -31,12 +30,37 @@ impl Grants {
         requires room { (r : theory.Right) → IsIn rights.now r → HasRoom index.now r }
         ensures { IfOk result (λ grants. AreGrants index.now rights.now grants) }
     {
+        let mut grants = Grants::none(alloc, index)?;
+        for right in rights {
+            grants.join(place_of(index, right), right);
+        }
+        Ok(grants)
+    }
+
+    /// The masks of no rights.
+    fn none(alloc: Global, index: &Index) -> Result<Grants, Memory>
+        requires { length index.now < 2 ^ 16 }
+        ensures { IfOk result (λ grants. AreGrants index.now [] grants) }
+    {
+        let size = index.len() * CLIENTS;
         Ok(Grants {
-            views: masks_of(alloc, index, rights, Access::View)?,
-            gets: masks_of(alloc, index, rights, Access::Get)?,
-            sets: masks_of(alloc, index, rights, Access::Set)?,
-            acts: masks_of(alloc, index, rights, Access::Act)?,
+            views: vec![in alloc; 0; size]?,
+            gets: vec![in alloc; 0; size]?,
+            sets: vec![in alloc; 0; size]?,
+            acts: vec![in alloc; 0; size]?,
         })
+    }
+
+    /// Joins the indexes that a right lists to the masks at its place.
+    fn join(&mut self, place: usize, right: &Right)
+        requires within { (access : Access) → place < length (masks_for access self.old) }
+        requires indexes { (access : Access) → All (λ i. i < 16) (listed access right.now) }
+        ensures { (access : Access) → IsJoined (masks_for access self.old) place (listed access right.now) (masks_for access self.new) }
+    {
+        join_in(&mut self.views, place, right.listed(Access::View));
+        join_in(&mut self.gets, place, right.listed(Access::Get));
+        join_in(&mut self.sets, place, right.listed(Access::Set));
+        join_in(&mut self.acts, place, right.listed(Access::Act));
     }
 
     /// The masks of an access.
@@ -64,27 +88,25 @@ fn mask_of(indexes: &[u8]) -> u16
     mask
 }
 
-/// The masks of an access.
-fn masks_of(
-    alloc: Global,
-    index: &Index,
-    rights: &[Right],
-    access: Access,
-) -> Result<Vec<u16>, Memory>
-    requires few { length index.now < 2 ^ 16 }
-    requires room { (r : theory.Right) → IsIn rights.now r → HasRoom index.now r }
-    ensures { IfOk result (λ masks. AreMasksOf index.now access rights.now masks.items) }
+/// Where the masks of a right's client on its object stand.
+fn place_of(index: &Index, right: &Right) -> usize
+    requires { HasRoom index.now right.now }
+    ensures { IfSome (place_in index.now right.now.object) (λ k. result ≡ k * CLIENTS + right.now.client) }
 {
-    let mut masks = vec![in alloc; 0u16; index.len() * CLIENTS]?;
-    for right in rights {
-        let (found, _) = index.find(right.object());
-        let Some(object) = found else {
-            unreachable!();
-        };
-        let place = usize::from(object) * CLIENTS + usize::from(right.client());
-        masks[place] |= mask_of(right.listed(access));
-    }
-    Ok(masks)
+    let (found, _) = index.find(right.object());
+    let Some(object) = found else {
+        unreachable!();
+    };
+    usize::from(object) * CLIENTS + usize::from(right.client())
+}
+
+/// Joins indexes to the mask at this place.
+fn join_in(masks: &mut [u16], place: usize, indexes: &[u8])
+    requires within { place < length masks.old }
+    requires indexes { All (λ i. i < 16) indexes.now }
+    ensures { IsJoined masks.old place indexes.now masks.new }
+{
+    masks[place] |= mask_of(indexes);
 }
 
 /// Whether the masks grant this client this index of the object with this number.

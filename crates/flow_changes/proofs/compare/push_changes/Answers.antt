@@ -12,9 +12,9 @@ loop-kind-preserved c =
     let C = configuration_of c.args.old.now in
     let D = configuration_of c.args.new.now in
     let i = c.loop-kind.kind-index in (
-      kind-more C D all_kinds i kinds.May c.loop-kind.text.items c.push_facts.new.text.items c.push_facts-2.new.text.items c.args.text.now.items c.loop-kind-test.true c.loop-kind.invariant.0 c.in_ok-owners.ensures.text c.in_ok-push_facts.ensures.text,
+      kind-more C D all_kinds i kinds.May c.loop-kind.text.items c.push_facts.new.text.items c.push_facts-in-loop-kind.new.text.items c.args.text.now.items c.loop-kind-test.true c.loop-kind.invariant.0 c.in_ok-owners.ensures.text c.in_ok-push_facts.ensures.text,
       λ k client there.
-          c.union.ensures k ∙ ap₂ (λ a b. a || b) (c.loop-kind.invariant.1 k client there) (c.in_ok-owners.ensures.clients k client there) ∙ gains-more C D all_kinds i kinds.May (k, client) c.loop-kind-test.true,
+          c.union-gaining.ensures k ∙ ap₂ (λ a b. a || b) (c.loop-kind.invariant.1 k client there) (c.in_ok-owners.ensures.clients k client there) ∙ gains-more C D all_kinds i kinds.May (k, client) c.loop-kind-test.true,
     )
 
 pub returns-clause-clients : goal.returns-clause-clients

@@ -1,13 +1,7 @@
-use Rattle.std.proofs.Common.{◌≡◌, ◌++◌, ◌∙◌, ap, not, subst, sym}
-use Rattle.std.specs.Io.KnownBytes.{Appends}
-use Rattle.std.proofs.lemmas.Result.{err_from_is_err_and}
-use Rattle.plan_lists.specs.Listing.{AreLeastOf}
-use Rattle.flow_changes.specs.Sides.{configuration_of}
-use Rattle.flow_changes.proofs.Compared.{first-is, gaining-names, somebody-is, text-is}
+use Rattle.flow_changes.proofs.Compared.{of-sides}
 use Rattle.flow_changes.proofs.compare.write_comparison.Goals as goal
 
-pub returns-in_err-write_both : goal.returns-in_err-write_both
-returns-in_err-write_both g c = ?
-
 pub returns : goal.returns
-returns g c = ?
+returns g c =
+    of-sides c.in_ok-old.old c.in_ok-new.new c.args.old.now c.args.new.now c.args.old_policy.now c.args.new_policy.now c.in_ok-old.ensures.side c.in_ok-new.ensures.side c.in_ok-old.ensures.plan c.in_ok-old.ensures.policy
+    c.in_ok-new.ensures.plan c.in_ok-new.ensures.policy (g.W.Write.contents c.args.writer.now) (g.W.Write.contents c.write_sides.new.writer) c.write_sides.result c.write_sides.ensures

@@ -3,7 +3,7 @@ use Rattle.label_certificate.specs.LabelLine.{names_of}
 use Rattle.label_certificate.specs.LineView.{parts_left}
 use Rattle.label_certificate.specs.Members.{places_of}
 use Rattle.label_certificate.proofs.Gathered.{gathered, gathered-more}
-use Rattle.label_certificate.proofs.Members.{new_is_nobody, with_is}
+use Rattle.meter_theory.proofs.ClientSets.{new_is_nobody, with_is}
 use Rattle.label_certificate.proofs.reading.set_of_names.Goals as goal
 
 pub loop-left-init : goal.loop-left-init

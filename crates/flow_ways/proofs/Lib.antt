@@ -1,0 +1,6 @@
+pub mod Reached
+pub mod Noting
+pub mod Numbered
+pub mod Passed
+pub mod Found
+pub mod Shown

@@ -1,0 +1,28 @@
+-- What is kept of the ways of a plan, and the way that is shown.
+use Rattle.std.specs.Prelude.{◌≡◌, ℕ, Bool, ◌&&◌, List, length, Option, Some, None}
+use Rattle.cosem_data.specs.Cells.{same_cell}
+use Rattle.cosem_data.specs.declared.cell.CellRef.{CellRef}
+use Rattle.meter_theory.specs.Edges.{edges}
+use Rattle.meter_theory.specs.Plan.{Plan, cells}
+use Rattle.meter_theory.specs.Ways.{IsDistance, far_end, is_within, near_end, shown_way}
+use Rattle.meter_theory.specs.declared.flow.Edge.{Edge}
+use Rattle.meter_theory.specs.declared.flow.Reach.{Reach}
+use Rattle.meter_theory.specs.declared.flow.Reach.TheVariants.{Influence, Learn}
+use Rattle.flow_edges.specs.Table.{CellEdges}
+use Rattle.flow_ways.specs.Distances.{AreDistances}
+
+-- the edges of the plan, and the distances of its cells: own profile
+pub record AreWaysOf (P : Plan) (table : CellEdges) (influence learn : List (Option ℕ)) : Type 0 where
+  pub cells_are : table.cells ≡ cells P
+  pub edges_are : table.edges ≡ edges P
+  pub influence_are : AreDistances P Influence influence
+  pub learn_are : AreDistances P Learn learn
+
+-- the edge leads to the cell from one that the client has within so many rounds: own profile
+abbrev pub leads_within : Plan → Reach → ℕ → ℕ → CellRef → Edge → Bool
+leads_within P reach c k x e = same_cell (far_end reach e) x && is_within P reach c k (near_end reach e)
+
+-- the edges of the way that is shown, if there is a way: own profile
+abbrev pub IsShown : Plan → Reach → ℕ → CellRef → Option (List Edge) → Type 0
+IsShown P reach c x None = IsDistance P reach c x None
+IsShown P reach c x (Some es) = IsDistance P reach c x (Some (length es)) × (es ≡ shown_way P reach c (length es) x)

@@ -1,0 +1,6 @@
+pub mod Ends
+pub mod Rounds
+pub mod Distances
+pub mod Kept
+pub mod Granting
+pub mod Why

@@ -1,0 +1,86 @@
+//! How far the cells of a plan are from its clients.
+ghost use Rattle.std.specs.Prelude.{◌≡◌, ◌≤◌, ◌*◌, ◌+◌, ℕ, length, IfOk, OnOk};
+ghost use Rattle.meter_theory.specs.Edges.{edges};
+ghost use Rattle.meter_theory.specs.Plan as theory;
+ghost use Rattle.label_certificate.specs.Granted.{AreGranted};
+ghost use Rattle.flow_ways.specs.Distances.{AreDistances, AreFirstRounds, AreNoted, IsCellNoted};
+ghost use Rattle.flow_ways.specs.Rounds.{AreLinksOf, AreReached};
+
+use crate::rounds::{next_round, sets_for};
+use cosem_data::clients::ClientSet;
+use cosem_data::memory::Memory;
+use flow_edges::table::{EdgeTable, Link};
+use meter_theory::flow::{Label, Reach};
+use meter_theory::limits::CLIENTS;
+use object_model::plan::Plan;
+use std::alloc::Global;
+
+/// For each cell of the plan, and for each of as many clients as a meter has at most, how many edges the shortest ways to it
+/// have, if there are ways.
+pub(crate) fn distances(
+    alloc: Global,
+    plan: &Plan,
+    table: &EdgeTable,
+    granted: &[Label],
+    reach: Reach,
+) -> Result<Vec<Option<usize>>, Memory>
+    requires cells { table.now.cells ≡ theory.cells plan.now }
+    requires edges { table.now.edges ≡ edges plan.now }
+    requires granted { AreGranted plan.now granted.now }
+    ensures { IfOk result (λ numbers. AreDistances plan.now reach numbers.items) }
+{
+    let sets = sets_for(alloc, reach, granted)?;
+    let mut numbers = vec![in alloc; None; sets.len() * CLIENTS]?;
+    note(0, &sets, &mut numbers);
+    number_rounds(alloc, plan, table.links(), reach, sets, &mut numbers)?;
+    Ok(numbers)
+}
+
+/// Numbers what each round adds, from the first on.
+fn number_rounds(
+    alloc: Global,
+    plan: &Plan,
+    links: &[Link],
+    reach: Reach,
+    granted: Vec<ClientSet>,
+    numbers: &mut [Option<usize>],
+) -> Result<(), Memory>
+    requires links { AreLinksOf plan.now links.now }
+    requires sets { AreReached plan.now reach 0 granted.items }
+    requires numbers { AreFirstRounds plan.now reach 0 numbers.old }
+    ensures { OnOk result (AreDistances plan.now reach numbers.new) }
+{
+    plan.known();
+    let mut sets = granted;
+    for distance in 1..sets.len() {
+        let Some(next) = next_round(alloc, reach, links, &sets)? else {
+            return Ok(());
+        };
+        note(distance, &next, numbers);
+        sets = next;
+    }
+    Ok(())
+}
+
+/// Gives the clients of each set this number for its cell, where they have none.
+fn note(distance: usize, sets: &[ClientSet], numbers: &mut [Option<usize>])
+    requires { length numbers.old ≡ length sets.now * CLIENTS }
+    ensures { AreNoted distance sets.now numbers.old numbers.new }
+{
+    for (cell, set) in sets.iter().enumerate() {
+        note_cell(distance, cell * CLIENTS, *set, numbers);
+    }
+}
+
+/// Gives the clients of a set this number, where they have none, from a first place on.
+fn note_cell(distance: usize, first: usize, set: ClientSet, numbers: &mut [Option<usize>])
+    requires { first + CLIENTS ≤ length numbers.old }
+    ensures { IsCellNoted distance first set numbers.old numbers.new }
+{
+    for client in 0..CLIENTS as u8 {
+        let place = first + usize::from(client);
+        if numbers[place].is_none() && set.has(client) {
+            numbers[place] = Some(distance);
+        }
+    }
+}

@@ -1,0 +1,14 @@
+//! Ways by which clients may influence and learn the cells of a plan: how far each cell is from each client, and the way that is
+//! shown (own profile).
+//!
+//! The definitions stand in `specs/` of `meter_theory` (`Ways`) and here: sets of clients, round by round (`Rounds`), distances
+//! as numbers (`Distances`), what is kept of a plan (`Kept`), the right that is shown
+//! (`Granting`), and what is told of a client and a cell (`Why`).
+#![tactic(auto)]
+
+mod distances;
+mod ends;
+pub mod granting;
+mod rounds;
+pub mod ways;
+pub mod why;
