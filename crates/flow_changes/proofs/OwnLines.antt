@@ -3,12 +3,10 @@ use Rattle.std.specs.Prelude.{◌≡◌, ℕ, ◌==◌, Bool, true, false, not, 
 use Rattle.std.specs.Fmt.{decimal}
 use Rattle.std.specs.List.{list_any}
 use Rattle.std.specs.Str.{bytes_eq}
-use Rattle.std.proofs.Common.{refl, sym, ap, ap₂, subst, ◌∙◌, append_assoc, eqb}
+use Rattle.std.proofs.Common.{refl, sym, ap, ap₂, subst, ◌∙◌, append_assoc}
 use Rattle.std.proofs.lemmas.List.{append-nil}
 use Rattle.std.proofs.lemmas.List.Concat.{flat_map-append}
 use Rattle.std.proofs.lemmas.List.Elements.{filter-append}
-use Rattle.std.proofs.lemmas.Nat.Bits.{bit_at-zero}
-use Rattle.cosem_data.specs.Clients.{has_client}
 use Rattle.cosem_data.specs.declared.cell.CellRef.{CellRef}
 use Rattle.cosem_data.specs.declared.clients.ClientSet.{ClientSet}
 use Rattle.cosem_data.specs.declared.name.LogicalName.{LogicalName}
@@ -19,6 +17,7 @@ use Rattle.meter_theory.specs.Plan.{Client, Object, Plan, cells, class_of, clien
 use Rattle.meter_theory.specs.Rights.{has_right}
 use Rattle.meter_theory.specs.Sound.{IsSound}
 use Rattle.meter_theory.specs.declared.flow.Label.{Label}
+use Rattle.meter_theory.proofs.ClientSets.{nobody_in}
 use Rattle.meter_theory.proofs.Lists.{in_any}
 use Rattle.flow_changes.specs.Changes.{lacks, line, lines}
 use Rattle.flow_changes.specs.Facts.{Configuration, Fact, HasSap, Holds, IsOpen, Numbered, Reaches, Views, among, clients_of, facts, is_granted, is_reached, members_for, numbered, object_text, own_facts, reach_word, reached, rights_on, same_fact, shared_policy, told_of_client}
@@ -37,12 +36,9 @@ use Rattle.flow_changes.proofs.Once.{found, found-number}
 use Rattle.flow_changes.proofs.RightsTold.{among-held, among-seen}
 use Rattle.flow_changes.proofs.Told.{among-open, among-own, among-reached, among-sap, of-named}
 
-nobody-in : (k : ℕ) → has_client nobody k ≡ false
-nobody-in k = ap (λ n. eqb n 1) (bit_at-zero k)
-
 nobody-reaches : (reach : Reach) (k : ℕ) → has (clients_of reach (record { influence = nobody; learn = nobody })) k ≡ false
-nobody-reaches reaches.Influence k = nobody-in k
-nobody-reaches reaches.Learn k = nobody-in k
+nobody-reaches reaches.Influence k = nobody_in k
+nobody-reaches reaches.Learn k = nobody_in k
 
 -- what the definition of the facts is, for kinds of which each fact is a client's own
 

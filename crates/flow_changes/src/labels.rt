@@ -1,10 +1,7 @@
 //! Labels by the numbers of their cells, and those of two configurations side by side.
-ghost use Rattle.std.specs.Prelude.{◌≡◌, ◌∷◌, cond, IfOk, Some, None, length, map};
+ghost use Rattle.std.specs.Prelude.{◌≡◌, cond, IfOk, Some, None, length, map};
 ghost use Rattle.meter_theory.specs.Labels as theory;
-ghost use Rattle.meter_theory.specs.Labels.{label_at, labelling_of_policy, or_else, policy_source};
-ghost use Rattle.meter_theory.specs.Lists.{IsIn};
 ghost use Rattle.meter_theory.specs.Plan as plans;
-ghost use Rattle.meter_theory.specs.declared.flow.Label.{Label as LabelValue};
 ghost use Rattle.flow_changes.specs.Lines.{pair_of};
 
 use crate::kind::Kind;
@@ -13,7 +10,6 @@ use cosem_data::clients::ClientSet;
 use cosem_data::memory::Memory;
 use meter_theory::flow::Label;
 use object_model::plan::Plan;
-use object_model::policy::Policy;
 use std::alloc::Global;
 
 /// The labels of these entries.
@@ -25,89 +21,6 @@ pub(crate) fn labels_of(alloc: Global, entries: &[(CellRef, Label)]) -> Result<V
         labels.push(entry.1)?;
     }
     Ok(labels)
-}
-
-/// For each cell of the plan the label that the policy gives it. The only error is want of memory.
-pub(crate) fn labels_allowed(
-    alloc: Global,
-    plan: &Plan,
-    cells: &[CellRef],
-    policy: &Policy,
-) -> Result<Vec<Label>, Memory>
-    requires { cells.now ≡ plans.cells plan.now }
-    ensures { IfOk result (λ allowed. allowed.items
-        ≡ map (labelling_of_policy plan.now policy.now) (plans.cells plan.now)) }
-{
-    let own = labels_in_table(alloc, plan, cells.len(), policy)?;
-    let mut allowed = Vec::with_capacity(alloc, cells.len())?;
-    for cell in cells {
-        allowed.push(label_allowed(plan, &own, cell))?;
-    }
-    Ok(allowed)
-}
-
-/// For each cell of the plan its label in the policy's table, or else the default: entries are put from the last to the
-/// first, so that the first of a cell stays.
-fn labels_in_table(
-    alloc: Global,
-    plan: &Plan,
-    count: usize,
-    policy: &Policy,
-) -> Result<Vec<Label>, Memory>
-    requires { count ≡ length (plans.cells plan.now) }
-    ensures { IfOk result (λ own. own.items
-        ≡ map (λ x. or_else policy.now.default (label_at policy.now.table x)) (plans.cells plan.now)) }
-{
-    let table = policy.table();
-    let mut own = vec![in alloc; policy.default_label(); count]?;
-    let mut left = table.len();
-    while left > 0 {
-        left -= 1;
-        put_label(plan, &table[left], &mut own);
-    }
-    Ok(own)
-}
-
-/// Puts the label of an entry in the place of its cell.
-fn put_label(plan: &Plan, entry: &(CellRef, Label), own: &mut Vec<Label>)
-    requires { length own.old.items ≡ length (plans.cells plan.now) }
-    ensures { (default : LabelValue) (rest : theory.Labels) →
-        own.old.items ≡ map (λ x. or_else default (label_at rest x)) (plans.cells plan.now) →
-        own.new.items ≡ map (λ x. or_else default (label_at (entry.now ∷ rest) x)) (plans.cells plan.now) }
-{
-    plan.known();
-    let (cell, label) = *entry;
-    if let Some(number) = plan.cell_number(&cell) {
-        own[usize::from(number)] = label;
-    }
-}
-
-/// The label that a policy gives a cell: that of the cell whose label it takes.
-fn label_allowed(plan: &Plan, own: &[Label], cell: &CellRef) -> Label
-    requires cell { IsIn (plans.cells plan.now) cell.now }
-    requires own { length own.now ≡ length (plans.cells plan.now) }
-    ensures { (policy : theory.Policy) →
-        own.now ≡ map (λ x. or_else policy.default (label_at policy.table x)) (plans.cells plan.now) →
-        result ≡ labelling_of_policy plan.now policy cell.now }
-{
-    plan.known();
-    match plan.cell_number(&source_of(plan, cell)) {
-        Some(number) => own[usize::from(number)],
-        None => unreachable!(),
-    }
-}
-
-/// The cell whose label a policy takes for a cell: for what a register monitor has seen that is its monitored value.
-fn source_of(plan: &Plan, cell: &CellRef) -> CellRef
-    ensures { result ≡ policy_source plan.now cell.now }
-{
-    if cell.index != 0 {
-        return *cell;
-    }
-    match plan.object_at(&cell.name) {
-        Some(object) => object.part().monitored().unwrap_or(*cell),
-        None => *cell,
-    }
 }
 
 /// What two configurations say of a cell.

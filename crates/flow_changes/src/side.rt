@@ -3,13 +3,14 @@ ghost use Rattle.std.specs.Prelude.{◌≡◌, IfOk, map};
 ghost use Rattle.value_text.specs.Texts.{cell_text};
 ghost use Rattle.flow_changes.specs.Sides.{IsSide};
 
-use crate::labels::{labels_allowed, labels_of};
+use crate::labels::labels_of;
 use cosem_data::cell::CellRef;
 use cosem_data::memory::Memory;
 use flow_edges::edges::edge_table;
 use flow_edges::table::EdgeTable;
 use label_certificate::labels::Labels;
 use label_certificate::least::make_labels;
+use label_certificate::numbered::policy_labels;
 use meter_theory::flow::Label;
 use object_model::plan::Plan;
 use object_model::policy::Policy;
@@ -40,7 +41,7 @@ impl<'a> Side<'a> {
         let may = labels_of(alloc, labels.entries())?;
         let table = edge_table(alloc, plan)?;
         let texts = texts_of(alloc, table.cells())?;
-        let allowed = labels_allowed(alloc, plan, table.cells(), policy)?;
+        let allowed = policy_labels(alloc, plan, table.cells(), policy)?;
         Ok(Side {
             plan,
             policy,
