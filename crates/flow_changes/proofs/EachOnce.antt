@@ -1,7 +1,7 @@
 -- Each fact of a configuration with a sound plan stands once.
-use Rattle.std.specs.Prelude.{◌≡◌, ℕ, zero, suc, ◌+◌, ◌<◌, ◌≤◌, Bool, true, false, ◌||◌, cond, List, [], ◌∷◌, ◌++◌, filter, flat_map, get_or, is_some, length, map}
+use Rattle.std.specs.Prelude.{◌≡◌, ℕ, zero, suc, ◌+◌, ◌<◌, ◌≤◌, Bool, true, false, ◌||◌, cond, List, [], ◌∷◌, ◌++◌, filter, flat_map, is_some, length, map}
 use Rattle.std.specs.List.{enumerate_from, list_any, range_with_len}
-use Rattle.std.proofs.Common.{◌⊎◌, refl, sym, ap, ap₂, subst, ◌∙◌, arith, inl, inr}
+use Rattle.std.proofs.Common.{◌⊎◌, refl, sym, ap, subst, ◌∙◌, arith, inl, inr}
 use Rattle.std.proofs.lemmas.List.{append-nil}
 use Rattle.cosem_data.specs.Cells.{cell, same_cell}
 use Rattle.cosem_data.specs.declared.cell.CellRef.{CellRef}
@@ -17,7 +17,7 @@ use Rattle.meter_theory.specs.declared.flow.Edge.{Edge}
 use Rattle.meter_theory.proofs.Lists.{from_filter, from_flat_map, from_map, in_append_cases, in_map}
 use Rattle.flow_edges.specs.Table.{AreCells, cell_at}
 use Rattle.flow_changes.specs.Changes.{gained, lacks}
-use Rattle.flow_changes.specs.Facts.{Configuration, Fact, HasCell, HasEdge, HasSap, Holds, IsOpen, Numbered, Reaches, Views, common_facts, facts, highest_for, is_granted, is_reached, members_for, numbered, own_facts, reached, rights_on, shared_policy, told_of_client}
+use Rattle.flow_changes.specs.Facts.{Configuration, Fact, HasCell, HasEdge, HasSap, Holds, IsOpen, Numbered, Reaches, Views, common_facts, facts, highest_for, is_granted, is_reached, members_for, numbered, own_facts, reached, rights_on, shared_policy}
 use Rattle.flow_changes.proofs.Exact.{same_edge-refl}
 use Rattle.flow_changes.specs.declared.kind.Access.{Access}
 use Rattle.flow_changes.specs.declared.kind.Access.TheVariants as accesses
@@ -72,10 +72,11 @@ numbered-names k (c ∷ clients) = ap (λ ns. c.name ∷ ns) (numbered-names (k 
 
 cells-distinct : (cs : List CellRef) → ((i j : ℕ) → i < length cs → j < length cs → same_cell (cell_at cs i) (cell_at cs j) ≡ true → i ≡ j) → AreDistinct cs
 cells-distinct [] apart = tt
-cells-distinct (x ∷ cs) apart =
-    (λ i. let k = place cs x i in
-    let z : 0 ≡ suc k.0 = apart 0 (suc k.0) (omega arith) (omega (arith, k.1)) (subst (λ y. same_cell x y ≡ true) (sym k.2) (same_cell-refl x)) in absurd (omega (arith, z)),
-    cells-distinct cs (λ i j p q s. let z : suc i ≡ suc j = apart (suc i) (suc j) (omega (arith, p)) (omega (arith, q)) s in omega (arith, z)))
+cells-distinct (x ∷ cs) apart = (
+  λ i. let k = place cs x i in
+      let z : 0 ≡ suc k.0 = apart 0 (suc k.0) (omega arith) (omega (arith, k.1)) (subst (λ y. same_cell x y ≡ true) (sym k.2) (same_cell-refl x)) in absurd (omega (arith, z)),
+  cells-distinct cs (λ i j p q s. let z : suc i ≡ suc j = apart (suc i) (suc j) (omega (arith, p)) (omega (arith, q)) s in omega (arith, z)),
+)
   where
     place : (ys : List CellRef) (y : CellRef) → IsIn ys y → (k : ℕ) × (k < length ys) × (cell_at ys k ≡ y)
     place [] y i = absurd i
@@ -212,8 +213,8 @@ rights-once : (P : Plan) (n : Numbered) (o : Object) → AreDistinct (rights_on 
 rights-once P n o =
     distinct-append (cond (has_right P n.0 o.name (λ r. true)) (Views n.1.name (class_of o.part) o.name ∷ []) []) (held_on P n o) (view-once n o (has_right P n.0 o.name (λ r. true)))
     (distinct-flat_map (λ a. map (Holds n.1.name a) (filter (is_granted P n.0 a) (members_for a o))) (λ a. a) access_of (accesses.Get ∷ accesses.Set ∷ accesses.Act ∷ []) accesses-distinct
-        (λ a. distinct-map (Holds n.1.name a) (filter (is_granted P n.0 a) (members_for a o)) (held-cell n.1.name a) (distinct-filter (is_granted P n.0 a) (members_for a o) (members-once a o)))
-        (λ a f i. let x = from_map (Holds n.1.name a) (filter (is_granted P n.0 a) (members_for a o)) f i in ap access_of x.2))
+    (λ a. distinct-map (Holds n.1.name a) (filter (is_granted P n.0 a) (members_for a o)) (held-cell n.1.name a) (distinct-filter (is_granted P n.0 a) (members_for a o) (members-once a o)))
+    (λ a f i. let x = from_map (Holds n.1.name a) (filter (is_granted P n.0 a) (members_for a o)) f i in ap access_of x.2))
     (λ f i j. let h = held-is P n o f j in wrong h.0 h.1 (sym (view-is n o (has_right P n.0 o.name (λ r. true)) f i) ∙ h.2))
   where
     wrong : (a : Access) (x : CellRef) → Views n.1.name (class_of o.part) o.name ≡ Holds n.1.name a x → ⊥

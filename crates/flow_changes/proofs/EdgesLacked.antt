@@ -1,7 +1,7 @@
 -- Links that have no mark among those of another plan are the edges that it lacks.
 use Rattle.std.specs.Prelude.{◌≡◌, ℕ, ◌==◌, ◌<◌, ◌≤◌, Bool, true, false, not, ◌&&◌, List, [], ◌∷◌, ◌++◌, Option, Some, None, codes, filter, flat_map, get_or, length, map}
 use Rattle.std.specs.List.{list_any, position_from}
-use Rattle.std.proofs.Common.{refl, sym, ap, ap₂, subst, ◌∙◌, append_assoc, ◌⊎◌, inl, inr}
+use Rattle.std.proofs.Common.{refl, sym, ap, ap₂, subst, ◌∙◌, ◌⊎◌, inl, inr}
 use Rattle.std.proofs.lemmas.Bool.{cases_eq, cases_lt, eq-eqb, ne_eqb}
 use Rattle.std.proofs.lemmas.List.{get_or-map, get_or_past, length-map}
 use Rattle.cosem_data.specs.Cells.{same_cell}
@@ -10,7 +10,6 @@ use Rattle.cosem_data.proofs.Same.{same_cell-true, same_cell-refl}
 use Rattle.meter_theory.specs.Edges.{edges, same_cause, same_edge}
 use Rattle.meter_theory.specs.Lists.{IsIn, some_passes}
 use Rattle.meter_theory.specs.Plan.{Plan, cells}
-use Rattle.meter_theory.specs.declared.flow.Edge.{Edge}
 use Rattle.meter_theory.proofs.Lists.{from_filter}
 use Rattle.value_text.specs.Edges.{cause_word, edge_text}
 use Rattle.value_text.specs.Texts.{cell_text}
@@ -54,10 +53,10 @@ module _ (theirs : List CellRef) (are : AreCells theirs) (links : List Link) (wi
   there l x y s t p q =
       marked.each (record { source = s; target = t; cause = l.cause }) p.0 q.0
       ∙ list_any-agree (same_link (record { source = s; target = t; cause = l.cause })) (λ k. same_cause l.cause k.cause && (same_cell x (cell_at theirs k.source) && same_cell y (cell_at theirs k.target))) links
-          (λ k i. let w = inside theirs links k within i in
-          ap₂ (λ a b. same_cause l.cause k.cause && (a && b))
-          (sym (same-numbers theirs are s k.source p.0 w.0) ∙ ap (λ z. same_cell z (cell_at theirs k.source)) p.1)
-          (sym (same-numbers theirs are t k.target q.0 w.1) ∙ ap (λ z. same_cell z (cell_at theirs k.target)) q.1))
+      (λ k i. let w = inside theirs links k within i in
+      ap₂ (λ a b. same_cause l.cause k.cause && (a && b))
+      (sym (same-numbers theirs are s k.source p.0 w.0) ∙ ap (λ z. same_cell z (cell_at theirs k.source)) p.1)
+      (sym (same-numbers theirs are t k.target q.0 w.1) ∙ ap (λ z. same_cell z (cell_at theirs k.target)) q.1))
 
   absent : (x : CellRef) → (IsIn theirs x → ⊥) → (i : ℕ) → i < length theirs → same_cell x (cell_at theirs i) ≡ false
   absent x none i p = at (same_cell x (cell_at theirs i)) refl
@@ -111,8 +110,8 @@ module _ (theirs : List CellRef) (are : AreCells theirs) (links : List Link) (wi
         flat_map-agree (λ l. head ++ link_text (map cell_text mine) l) (λ l. head ++ (edge_text (edge_at mine l) ++ 10 ∷ [])) (filter (λ l. not (is_marked numbers (length theirs) marks l)) ours)
         (λ l i. ap (λ t. head ++ t) (link-line mine l (inside mine ours l inner (from_filter (λ l. not (is_marked numbers (length theirs) marks l)) ours l i).0)))
         ∙ ap (flat_map (λ l. head ++ (edge_text (edge_at mine l) ++ 10 ∷ [])))
-            (filter-agree (λ l. not (is_marked numbers (length theirs) marks l)) (λ l. not (list_any (same_edge (edge_at mine l)) (map (edge_at theirs) links))) ours
-            (λ l i. ap not (marked-is l (inside mine ours l inner i))))
+        (filter-agree (λ l. not (is_marked numbers (length theirs) marks l)) (λ l. not (list_any (same_edge (edge_at mine l)) (map (edge_at theirs) links))) ours
+        (λ l i. ap not (marked-is l (inside mine ours l inner i))))
         ∙ sym (flat_map-of-map (λ e. head ++ (edge_text e ++ 10 ∷ [])) (edge_at mine) (filter (λ l. not (list_any (same_edge (edge_at mine l)) (map (edge_at theirs) links))) ours))
         ∙ ap (edge_lines head) (sym (filter-map (λ e. not (list_any (same_edge e) (map (edge_at theirs) links))) (edge_at mine) ours))
 

@@ -1,14 +1,13 @@
 -- Which clients gain, and the lines of all facts of a kind.
-use Rattle.std.specs.Prelude.{◌≡◌, ℕ, ◌+◌, ◌<◌, ◌≤◌, ◌==◌, Bool, true, false, not, ◌||◌, cond, nat_lt, List, [], ◌∷◌, ◌++◌, Option, Some, None, codes, filter, flat_map, get_or, length, map, slice_get, take}
+use Rattle.std.specs.Prelude.{◌≡◌, ℕ, ◌+◌, ◌<◌, ◌≤◌, ◌==◌, Bool, true, false, not, ◌||◌, List, [], ◌∷◌, ◌++◌, Some, None, filter, flat_map, get_or, length, map, slice_get, take}
 use Rattle.std.specs.List.{join_with_byte, list_any}
-use Rattle.std.proofs.Common.{◌⊎◌, refl, sym, ap, ap₂, subst, ◌∙◌, append_assoc, arith, inl, inr}
-use Rattle.std.proofs.lemmas.Bool.{cases_eq, eq-eqb, ne_eqb, lt-ltb, le-ltb}
+use Rattle.std.proofs.Common.{◌⊎◌, refl, sym, ap, ap₂, ◌∙◌, append_assoc, arith, inl, inr}
+use Rattle.std.proofs.lemmas.Bool.{eq-eqb, ne_eqb}
 use Rattle.std.proofs.lemmas.List.{append-nil, length-append, take_more}
 use Rattle.std.proofs.lemmas.List.Concat.{flat_map-append}
 use Rattle.std.proofs.lemmas.List.Elements.{filter-append}
-use Rattle.std.proofs.lemmas.List.Folds.{list_any-append, list_any_more}
+use Rattle.std.proofs.lemmas.List.Folds.{list_any_more}
 use Rattle.std.proofs.lemmas.Option.{slice_get_within, slice_get_cases}
-use Rattle.cosem_data.specs.Cells.{same_cell}
 use Rattle.cosem_data.specs.declared.cell.CellRef.{CellRef}
 use Rattle.cosem_data.specs.declared.clients.ClientSet.{ClientSet}
 use Rattle.meter_theory.specs.Edges.{edges, same_edge}
@@ -176,9 +175,9 @@ kind-more old new all i d text one two before within so_far first second =
     ∙ append_assoc (before ++ flat_map (told_of old new) (take i all)) (lines changes.Gained kind (gained old new kind)) (lines changes.Lost kind (gained new old kind))
     ∙ append_assoc before (flat_map (told_of old new) (take i all)) (told_of old new kind)
     ∙ ap (λ t. before ++ t)
-        (ap (λ t. flat_map (told_of old new) (take i all) ++ t) (sym (append-nil (told_of old new kind)))
-        ∙ sym (flat_map-append (told_of old new) (take i all) (kind ∷ []))
-        ∙ ap (flat_map (told_of old new)) (sym (take_more all i d within)))
+    (ap (λ t. flat_map (told_of old new) (take i all) ++ t) (sym (append-nil (told_of old new kind)))
+    ∙ sym (flat_map-append (told_of old new) (take i all) (kind ∷ []))
+    ∙ ap (flat_map (told_of old new)) (sym (take_more all i d within)))
 
 -- whether one of these kinds has a fact of the client that it gains
 abbrev pub gains_by : Configuration → Configuration → List Kind → Numbered → Bool

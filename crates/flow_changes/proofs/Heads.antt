@@ -1,14 +1,14 @@
 -- Lines, from what stands before a fact and the fact's own words.
-use Rattle.std.specs.Prelude.{◌≡◌, ℕ, List, [], ◌∷◌, ◌++◌, codes, flat_map, map}
+use Rattle.std.specs.Prelude.{◌≡◌, ℕ, List, [], ◌∷◌, ◌++◌, codes, map}
 use Rattle.std.specs.Fmt.{decimal}
-use Rattle.std.proofs.Common.{refl, sym, ap, ◌∙◌, append_assoc}
+use Rattle.std.proofs.Common.{◌∙◌, append_assoc}
 use Rattle.cosem_data.specs.declared.cell.CellRef.{CellRef}
 use Rattle.cosem_data.specs.declared.name.LogicalName.{LogicalName}
 use Rattle.meter_theory.specs.declared.flow.Edge.{Edge}
 use Rattle.value_text.specs.Edges.{edge_text}
 use Rattle.value_text.specs.Texts.{cell_text}
 use Rattle.flow_changes.specs.Changes.{change_sign, kind_word, line, lines}
-use Rattle.flow_changes.specs.Facts.{Fact, HasCell, HasEdge, HasSap, Holds, IsOpen, Reaches, Views, access_word, object_text, reach_word}
+use Rattle.flow_changes.specs.Facts.{HasCell, HasEdge, HasSap, Holds, IsOpen, Reaches, Views, access_word, object_text, reach_word}
 use Rattle.flow_changes.specs.Lines.{cell_lines, edge_lines, head_of, own_head}
 use Rattle.flow_changes.specs.declared.kind.Access.{Access}
 use Rattle.flow_changes.specs.declared.kind.Change.{Change}

@@ -1,19 +1,15 @@
 -- Labels by the numbers of their cells.
-use Rattle.std.specs.Prelude.{◌≡◌, ◌≢◌, ℕ, zero, suc, ◌<◌, ◌==◌, Bool, true, false, cond, ◌⊎◌, ◌+◌, List, [], ◌∷◌, ◌++◌, Option, Some, None, get_or, length, map, replicate, set, take}
-use Rattle.std.specs.List.{position_from}
-use Rattle.std.proofs.Common.{refl, sym, ap, ap₂, subst, ◌∙◌, arith, inl, inr}
-use Rattle.std.proofs.lemmas.Bool.{cases_eq}
-use Rattle.std.proofs.lemmas.List.{length-map, length-set, get_or-map, get_or-set_same, get_or-set_other, map_more, same_lists}
+use Rattle.std.specs.Prelude.{◌≡◌, ℕ, zero, suc, ◌<◌, Bool, true, false, cond, ◌+◌, List, [], ◌∷◌, ◌++◌, Some, None, get_or, length, map, take}
+use Rattle.std.proofs.Common.{refl, sym, ap, ap₂, subst, ◌∙◌, arith}
+use Rattle.std.proofs.lemmas.List.{length-map, get_or-map, map_more, same_lists}
 use Rattle.cosem_data.specs.Cells.{same_cell}
 use Rattle.cosem_data.specs.declared.cell.CellRef.{CellRef}
 use Rattle.cosem_data.specs.declared.clients.ClientSet.{ClientSet}
 use Rattle.cosem_data.proofs.Same.{same_cell-true, same_cell-refl}
-use Rattle.meter_theory.specs.Labels.{Labels, Policy, label_at, labelling_of, labelling_of_policy, monitored_of, monitored_or, nobody, or_else, policy_source}
+use Rattle.meter_theory.specs.Labels.{Labels, label_at, labelling_of, nobody, or_else}
 use Rattle.meter_theory.specs.Lists.{IsIn}
-use Rattle.meter_theory.specs.Plan.{Plan, Object, Part, Data1, Register, ProfileGeneric, Clock, ScriptTable, RegisterMonitor, SingleActionSchedule, cells, is_cell, object_at}
-use Rattle.meter_theory.specs.Sound.{IsSound, IsSoundPart}
+use Rattle.meter_theory.specs.Plan.{Plan, cells, is_cell}
 use Rattle.meter_theory.specs.declared.flow.Label.{Label}
-use Rattle.meter_theory.proofs.Agreement.{object-found}
 use Rattle.meter_theory.proofs.Lists.{any_in, in_any}
 use Rattle.flow_edges.specs.Table.{AreCells, cell_at, no_cell}
 use Rattle.flow_changes.specs.declared.labels.Pair.{Pair}

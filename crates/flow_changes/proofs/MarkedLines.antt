@@ -1,7 +1,7 @@
 -- Lines of marked cells, one more and all.
 use Rattle.std.specs.Prelude.{◌≡◌, ℕ, ◌+◌, ◌<◌, Bool, true, false, cond, List, [], ◌∷◌, ◌++◌, filter, get_or, length, map, take}
-use Rattle.std.proofs.Common.{refl, sym, ap, ap₂, ◌∙◌, append_assoc, arith, subst}
-use Rattle.std.proofs.lemmas.List.{append-nil, length-map, get_or-map, get_or_default}
+use Rattle.std.proofs.Common.{refl, sym, ap, ap₂, ◌∙◌, append_assoc, subst}
+use Rattle.std.proofs.lemmas.List.{append-nil, length-map, get_or-map}
 use Rattle.std.proofs.lemmas.List.Concat.{flat_map-append}
 use Rattle.std.proofs.lemmas.List.Elements.{filter_more}
 use Rattle.cosem_data.specs.Cells.{cell}
@@ -44,8 +44,8 @@ line-pushed head p cells i marks before text new words d e h marked is so_far pu
     pushed ∙ ap₂ (λ t w. t ++ (head ++ (w ++ 10 ∷ []))) so_far is
     ∙ append_assoc before (cell_lines head (filter p (take i cells))) (one_line head (at cells i))
     ∙ ap (λ t. before ++ t)
-        (ap (λ b. cell_lines head (filter p (take i cells)) ++ cond b (one_line head (at cells i)) []) (sym (sym (mark-is marks p cells i d e h) ∙ marked))
-        ∙ sym (more head p cells i (long marks p cells i e h)))
+    (ap (λ b. cell_lines head (filter p (take i cells)) ++ cond b (one_line head (at cells i)) []) (sym (sym (mark-is marks p cells i d e h) ∙ marked))
+    ∙ sym (more head p cells i (long marks p cells i e h)))
 
 -- and one that isn't has none
 pub line-kept : (head : List ℕ) (p : CellRef → Bool) (cells : List CellRef) (i : ℕ) (marks : List Bool) (before text : List ℕ) (d : Bool) → marks ≡ map p cells → i < length marks → get_or marks i d ≡ false →
@@ -53,9 +53,9 @@ pub line-kept : (head : List ℕ) (p : CellRef → Bool) (cells : List CellRef) 
 line-kept head p cells i marks before text d e h unmarked so_far =
     so_far
     ∙ ap (λ t. before ++ t)
-        (sym (append-nil (cell_lines head (filter p (take i cells))))
-        ∙ ap (λ b. cell_lines head (filter p (take i cells)) ++ cond b (one_line head (at cells i)) []) (sym (sym (mark-is marks p cells i d e h) ∙ unmarked))
-        ∙ sym (more head p cells i (long marks p cells i e h)))
+    (sym (append-nil (cell_lines head (filter p (take i cells))))
+    ∙ ap (λ b. cell_lines head (filter p (take i cells)) ++ cond b (one_line head (at cells i)) []) (sym (sym (mark-is marks p cells i d e h) ∙ unmarked))
+    ∙ sym (more head p cells i (long marks p cells i e h)))
 
 -- the text of a cell, by its number
 pub text-is : (texts : List (List ℕ)) (p : CellRef → Bool) (cells : List CellRef) (marks : List Bool) (i : ℕ) (d : List ℕ) → texts ≡ map cell_text cells → marks ≡ map p cells → i < length marks → get_or texts i d ≡ cell_text (at cells i)

@@ -1,13 +1,13 @@
 -- Names of clients between commas, and clients one by one.
-use Rattle.std.specs.Prelude.{◌≡◌, ℕ, suc, ◌+◌, ◌-◌, ◌<◌, ◌≤◌, ◌==◌, Bool, true, false, ◌||◌, cond, List, [], ◌∷◌, ◌++◌, Option, Some, None, codes, drop, filter, flat_map, length, map, slice_get, take}
+use Rattle.std.specs.Prelude.{◌≡◌, ℕ, suc, ◌+◌, ◌-◌, ◌≤◌, Bool, true, false, ◌||◌, cond, List, [], ◌∷◌, ◌++◌, Some, None, codes, drop, filter, flat_map, length, map, slice_get, take}
 use Rattle.std.specs.List.{enumerate_from, join_with_byte, list_any}
-use Rattle.std.proofs.Common.{refl, sym, ap, ap₂, subst, ◌∙◌, append_assoc, arith, inl, inr}
+use Rattle.std.proofs.Common.{refl, sym, ap, ap₂, ◌∙◌, append_assoc, arith, inl, inr}
 use Rattle.std.proofs.Math.Seq.{drop-cons}
 use Rattle.std.proofs.lemmas.List.{append-nil, drop_all, take_rest}
 use Rattle.std.proofs.lemmas.Option.{slice_get_within, get_or_from_slice_get, slice_get_cases}
 use Rattle.meter_theory.specs.Plan.{Client, Plan}
 use Rattle.flow_changes.specs.Changes.{names_or_nobody}
-use Rattle.flow_changes.specs.Facts.{Numbered, numbered}
+use Rattle.flow_changes.specs.Facts.{Numbered}
 
 -- the clients from a place on, with their numbers
 abbrev pub numbered_from : Plan → ℕ → List Numbered

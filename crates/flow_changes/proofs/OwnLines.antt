@@ -1,9 +1,8 @@
 -- The lines of a client's own facts that another configuration lacks.
-use Rattle.std.specs.Prelude.{◌≡◌, ℕ, ◌==◌, Bool, true, false, not, ◌&&◌, ◌||◌, cond, List, [], ◌∷◌, ◌++◌, Option, Some, None, codes, filter, flat_map, is_some, map, option_map}
+use Rattle.std.specs.Prelude.{◌≡◌, ℕ, ◌==◌, Bool, true, false, not, ◌&&◌, cond, List, [], ◌∷◌, ◌++◌, Option, Some, None, codes, filter, flat_map, is_some, map, option_map}
 use Rattle.std.specs.Fmt.{decimal}
 use Rattle.std.specs.List.{list_any}
-use Rattle.std.specs.Str.{bytes_eq}
-use Rattle.std.proofs.Common.{refl, sym, ap, ap₂, subst, ◌∙◌, append_assoc}
+use Rattle.std.proofs.Common.{refl, sym, ap, ap₂, ◌∙◌}
 use Rattle.std.proofs.lemmas.List.{append-nil}
 use Rattle.std.proofs.lemmas.List.Concat.{flat_map-append}
 use Rattle.std.proofs.lemmas.List.Elements.{filter-append}
@@ -13,14 +12,14 @@ use Rattle.cosem_data.specs.declared.name.LogicalName.{LogicalName}
 use Rattle.cosem_data.proofs.Same.{same_cell-refl}
 use Rattle.meter_theory.specs.Labels.{Labelling, has, labelling_of, labelling_of_policy, nobody}
 use Rattle.meter_theory.specs.Lists.{IsIn, some_passes}
-use Rattle.meter_theory.specs.Plan.{Client, Object, Plan, cells, class_of, client_named, is_cell, object_at}
+use Rattle.meter_theory.specs.Plan.{Object, Plan, cells, class_of, client_named, is_cell, object_at}
 use Rattle.meter_theory.specs.Rights.{has_right}
 use Rattle.meter_theory.specs.Sound.{IsSound}
 use Rattle.meter_theory.specs.declared.flow.Label.{Label}
 use Rattle.meter_theory.proofs.ClientSets.{nobody_in}
 use Rattle.meter_theory.proofs.Lists.{in_any}
 use Rattle.flow_changes.specs.Changes.{lacks, line, lines}
-use Rattle.flow_changes.specs.Facts.{Configuration, Fact, HasSap, Holds, IsOpen, Numbered, Reaches, Views, among, clients_of, facts, is_granted, is_reached, members_for, numbered, object_text, own_facts, reach_word, reached, rights_on, same_fact, shared_policy, told_of_client}
+use Rattle.flow_changes.specs.Facts.{Configuration, Fact, HasSap, Holds, IsOpen, Numbered, Reaches, Views, clients_of, facts, is_granted, is_reached, members_for, numbered, object_text, own_facts, reach_word, reached, rights_on, same_fact, shared_policy, told_of_client}
 use Rattle.flow_changes.specs.Lines.{access_lines, cell_lines, client_lines, is_at, is_held, is_new_reach, is_open, is_other_in, own_head, pair_of, pair_told, reach_lines, right_lines, sees, view_line}
 use Rattle.flow_changes.specs.declared.kind.Access.{Access}
 use Rattle.flow_changes.specs.declared.kind.Access.TheVariants as accesses
@@ -31,7 +30,7 @@ use Rattle.flow_changes.specs.declared.kind.Reach.{Reach}
 use Rattle.flow_changes.specs.declared.kind.Reach.TheVariants as reaches
 use Rattle.flow_changes.specs.declared.labels.Pair.{Pair}
 use Rattle.flow_changes.proofs.Heads.{held-lines, open-line, reach-lines, sap-line, view-line}
-use Rattle.flow_changes.proofs.Lists.{filter-agree, filter-filter, filter-flat_map, filter-map, flat_map-agree, list_any-flat_map}
+use Rattle.flow_changes.proofs.Lists.{filter-agree, filter-filter, filter-flat_map, filter-map}
 use Rattle.flow_changes.proofs.Once.{found, found-number}
 use Rattle.flow_changes.proofs.RightsTold.{among-held, among-seen}
 use Rattle.flow_changes.proofs.Told.{among-open, among-own, among-reached, among-sap, of-named}
@@ -117,7 +116,7 @@ new-may C D sound n reach x =
     ap₂ (λ a b. a && not b) (mine (is_cell D.plan x))
     (among-own D C kinds.May (Reaches n.1.name reach x) (may-facts D C)
     ∙ of-named D.plan sound n.1.name (λ m. list_any (same_fact (Reaches n.1.name reach x)) (reached D.plan (labelling_of D.labels) m)) (λ m. is_reached (labelling_of D.labels) m.0 reach x && is_cell D.plan x)
-        (λ m. among-reached D.plan (labelling_of D.labels) n.1.name reach x m)
+    (λ m. among-reached D.plan (labelling_of D.labels) n.1.name reach x m)
     ∙ reached-there reach x (labelling_of D.labels) (found n.1.name 0 D.plan.clients) (is_cell D.plan x) (labelling_of C.labels x) kinds.May)
   where
     mine : (b : Bool) → is_reached (labelling_of C.labels) n.0 reach x ≡ has (clients_of reach (pair_of kinds.May (labelling_of C.labels x) (cond b (Some (labelling_of D.labels x)) None)).mine) n.0
@@ -131,9 +130,9 @@ new-allowed C D sound n reach x i =
     ap₂ (λ a b. a && not b) (mine (is_cell D.plan x))
     (among-own D C kinds.Allowed (Reaches n.1.name reach x) (allowed-facts D C)
     ∙ of-named D.plan sound n.1.name (λ m. list_any (same_fact (Reaches n.1.name reach x)) (reached D.plan (shared_policy D C) m)) (λ m. is_reached (shared_policy D C) m.0 reach x && is_cell D.plan x)
-        (λ m. among-reached D.plan (shared_policy D C) n.1.name reach x m)
+    (λ m. among-reached D.plan (shared_policy D C) n.1.name reach x m)
     ∙ passes-agree (λ m. is_reached (shared_policy D C) m.0 reach x && is_cell D.plan x) (λ m. has (clients_of reach (labelling_of_policy D.plan D.policy x)) m.0 && is_cell D.plan x)
-        (λ m. ap (λ b. has (clients_of reach (cond b (labelling_of_policy D.plan D.policy x) (record { influence = nobody; learn = nobody }))) m.0 && is_cell D.plan x) here) (found n.1.name 0 D.plan.clients)
+    (λ m. ap (λ b. has (clients_of reach (cond b (labelling_of_policy D.plan D.policy x) (record { influence = nobody; learn = nobody }))) m.0 && is_cell D.plan x) here) (found n.1.name 0 D.plan.clients)
     ∙ reached-there reach x (labelling_of_policy D.plan D.policy) (found n.1.name 0 D.plan.clients) (is_cell D.plan x) (labelling_of_policy C.plan C.policy x) kinds.Allowed)
   where
     here : is_cell C.plan x ≡ true
@@ -160,7 +159,7 @@ module _ (change : Change) (kind : Kind) (P : Plan) (Q : Labelling) (n : Numbere
       ap (lines change kind) (filter-flat_map p (λ reach. map (Reaches n.1.name reach) (filter (is_reached Q n.0 reach) (cells P))) (reaches.Influence ∷ reaches.Learn ∷ []))
       ∙ flat_map-append (line change kind) (filter p (map (Reaches n.1.name reaches.Influence) (filter (is_reached Q n.0 reaches.Influence) (cells P)))) (filter p (map (Reaches n.1.name reaches.Learn) (filter (is_reached Q n.0 reaches.Learn) (cells P))) ++ [])
       ∙ ap₂ (λ a b. a ++ b) (of-reach reaches.Influence)
-          (ap (lines change kind) (append-nil (filter p (map (Reaches n.1.name reaches.Learn) (filter (is_reached Q n.0 reaches.Learn) (cells P))))) ∙ of-reach reaches.Learn)
+      (ap (lines change kind) (append-nil (filter p (map (Reaches n.1.name reaches.Learn) (filter (is_reached Q n.0 reaches.Learn) (cells P))))) ∙ of-reach reaches.Learn)
 
 -- Rights
 
@@ -172,11 +171,11 @@ of-accesses change kind p v h =
     ap (lines change kind) (filter-append p v (flat_map h (accesses.Get ∷ accesses.Set ∷ accesses.Act ∷ [])))
     ∙ flat_map-append (line change kind) (filter p v) (filter p (flat_map h (accesses.Get ∷ accesses.Set ∷ accesses.Act ∷ [])))
     ∙ ap (λ t. lines change kind (filter p v) ++ t)
-        (ap (lines change kind) (filter-flat_map p h (accesses.Get ∷ accesses.Set ∷ accesses.Act ∷ []))
-        ∙ flat_map-append (line change kind) (filter p (h accesses.Get)) (filter p (h accesses.Set) ++ (filter p (h accesses.Act) ++ []))
-        ∙ ap (λ t. lines change kind (filter p (h accesses.Get)) ++ t)
-            (flat_map-append (line change kind) (filter p (h accesses.Set)) (filter p (h accesses.Act) ++ [])
-            ∙ ap (λ fs. lines change kind (filter p (h accesses.Set)) ++ lines change kind fs) (append-nil (filter p (h accesses.Act)))))
+    (ap (lines change kind) (filter-flat_map p h (accesses.Get ∷ accesses.Set ∷ accesses.Act ∷ []))
+    ∙ flat_map-append (line change kind) (filter p (h accesses.Get)) (filter p (h accesses.Set) ++ (filter p (h accesses.Act) ++ []))
+    ∙ ap (λ t. lines change kind (filter p (h accesses.Get)) ++ t)
+    (flat_map-append (line change kind) (filter p (h accesses.Set)) (filter p (h accesses.Act) ++ [])
+    ∙ ap (λ fs. lines change kind (filter p (h accesses.Set)) ++ lines change kind fs) (append-nil (filter p (h accesses.Act)))))
 
 -- the lines of rights
 module _ (change : Change) (C D : Configuration) (sound : IsSound D.plan) (n : Numbered) where
@@ -184,8 +183,8 @@ module _ (change : Change) (C D : Configuration) (sound : IsSound D.plan) (n : N
   new-held access x =
       ap not (among-own D C kinds.Right (Holds n.1.name access x) (right-facts D C)
       ∙ of-named D.plan sound n.1.name (λ m. list_any (same_fact (Holds n.1.name access x)) (flat_map (rights_on D.plan m) D.plan.objects))
-          (λ m. some_passes (λ o. class_of o.part == x.class_id) (object_at D.plan x.name) && is_granted D.plan m.0 access x)
-          (λ m. among-held D.plan sound n.1.name access x m)
+      (λ m. some_passes (λ o. class_of o.part == x.class_id) (object_at D.plan x.name) && is_granted D.plan m.0 access x)
+      (λ m. among-held D.plan sound n.1.name access x m)
       ∙ at (found n.1.name 0 D.plan.clients))
     where
       at : (o : Option Numbered) → some_passes (λ m. some_passes (λ o. class_of o.part == x.class_id) (object_at D.plan x.name) && is_granted D.plan m.0 access x) o ≡ is_held D.plan (option_map (λ m. m.0) o) access x
@@ -196,8 +195,8 @@ module _ (change : Change) (C D : Configuration) (sound : IsSound D.plan) (n : N
   new-seen class_id object =
       ap not (among-own D C kinds.Right (Views n.1.name class_id object) (right-facts D C)
       ∙ of-named D.plan sound n.1.name (λ m. list_any (same_fact (Views n.1.name class_id object)) (flat_map (rights_on D.plan m) D.plan.objects))
-          (λ m. some_passes (λ o. class_of o.part == class_id) (object_at D.plan object) && has_right D.plan m.0 object (λ r. true))
-          (λ m. among-seen D.plan sound n.1.name class_id object m)
+      (λ m. some_passes (λ o. class_of o.part == class_id) (object_at D.plan object) && has_right D.plan m.0 object (λ r. true))
+      (λ m. among-seen D.plan sound n.1.name class_id object m)
       ∙ at (found n.1.name 0 D.plan.clients))
     where
       at : (o : Option Numbered) → some_passes (λ m. some_passes (λ o. class_of o.part == class_id) (object_at D.plan object) && has_right D.plan m.0 object (λ r. true)) o ≡ sees D.plan (option_map (λ m. m.0) o) class_id object
@@ -210,7 +209,7 @@ module _ (change : Change) (C D : Configuration) (sound : IsSound D.plan) (n : N
       ap (lines change kinds.Right) (filter-map (lacks D C kinds.Right) (Holds n.1.name access) (filter (is_granted C.plan n.0 access) (members_for access o))
       ∙ ap (map (Holds n.1.name access)) (filter-filter (λ x. lacks D C kinds.Right (Holds n.1.name access x)) (is_granted C.plan n.0 access) (members_for access o)
       ∙ filter-agree (λ x. is_granted C.plan n.0 access x && lacks D C kinds.Right (Holds n.1.name access x)) (λ x. is_granted C.plan n.0 access x && not (is_held D.plan (other_of D.plan n.1.name) access x)) (members_for access o)
-          (λ x i. ap (λ b. is_granted C.plan n.0 access x && b) (new-held access x))))
+      (λ x i. ap (λ b. is_granted C.plan n.0 access x && b) (new-held access x))))
       ∙ held-lines change kinds.Right n.1.name access (filter (λ x. is_granted C.plan n.0 access x && not (is_held D.plan (other_of D.plan n.1.name) access x)) (members_for access o))
 
   of-view : (o : Object) → lines change kinds.Right (filter (lacks D C kinds.Right) (cond (has_right C.plan n.0 o.name (λ r. true)) (Views n.1.name (class_of o.part) o.name ∷ []) []))

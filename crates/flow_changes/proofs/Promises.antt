@@ -1,22 +1,22 @@
 -- Where nobody gains, nobody has what it hadn't.
-use Rattle.std.specs.Prelude.{◌≡◌, ℕ, ◌==◌, Bool, true, false, not, ◌&&◌, ◌||◌, cond, List, [], ◌∷◌, ◌++◌, Option, Some, None, filter, flat_map, is_some, map}
+use Rattle.std.specs.Prelude.{◌≡◌, ℕ, ◌==◌, Bool, true, false, not, ◌&&◌, cond, List, [], ◌∷◌, ◌++◌, Option, Some, None, filter, flat_map, is_some, map}
 use Rattle.std.specs.List.{list_any}
 use Rattle.std.specs.Str.{bytes_eq}
-use Rattle.std.proofs.Common.{refl, sym, ap, ap₂, subst, ◌∙◌, inl, inr}
+use Rattle.std.proofs.Common.{refl, sym, ap, subst, ◌∙◌, inl, inr}
 use Rattle.std.proofs.lemmas.Bool.{and_parts, eqb-true, not-true}
 use Rattle.std.proofs.lemmas.Slice.Eq.{bytes_eq-Decides}
 use Rattle.cosem_data.specs.Cells.{same_cell}
 use Rattle.cosem_data.specs.declared.cell.CellRef.{CellRef}
 use Rattle.cosem_data.specs.declared.name.LogicalName.{LogicalName}
-use Rattle.cosem_data.proofs.Same.{same_cell-refl, same_cell-true, same_name-true}
+use Rattle.cosem_data.proofs.Same.{same_cell-refl, same_cell-true}
 use Rattle.meter_theory.specs.Labels.{Labelling, has, labelling_of, labelling_of_policy, nobody}
 use Rattle.meter_theory.specs.Lists.{IsIn, some_passes}
-use Rattle.meter_theory.specs.Plan.{Client, Object, Plan, cells, class_of, is_cell, object_at}
+use Rattle.meter_theory.specs.Plan.{Object, Plan, cells, class_of, is_cell, object_at}
 use Rattle.meter_theory.specs.Rights.{has_right}
 use Rattle.meter_theory.specs.Sound.{IsSound}
 use Rattle.meter_theory.proofs.Agreement.{object-found}
 use Rattle.meter_theory.proofs.Lists.{any_in, in_any, in_append_left, in_append_right, in_filter, in_flat_map, in_map, none_in}
-use Rattle.flow_changes.specs.Changes.{all_kinds, gainers, gains, lacks}
+use Rattle.flow_changes.specs.Changes.{all_kinds, gains, lacks}
 use Rattle.flow_changes.specs.Facts.{Configuration, Fact, HasSap, Holds, IsOpen, Numbered, Reaches, Views, among, clients_of, facts, is_granted, is_reached, members_for, numbered, own_facts, reached, rights_on, same_fact, shared_policy, told_of_client}
 use Rattle.flow_changes.specs.Promises.{HasReach, IsNamed, LiesWithin, NamedHolds, NamedLabelling, NamedReaches, NamedSees, NobodyGains, least, policy_of}
 use Rattle.flow_changes.specs.declared.kind.Access.{Access}

@@ -1,6 +1,6 @@
 -- Which rights are among those of a plan.
-use Rattle.std.specs.Prelude.{◌≡◌, ℕ, ◌==◌, ◌<◌, ◌≤◌, ◌+◌, Bool, true, false, not, ◌&&◌, ◌||◌, nat_le, cond, List, [], ◌∷◌, ◌++◌, Option, Some, None, filter, find, flat_map, map}
-use Rattle.std.specs.List.{list_all, list_any, range_with_len}
+use Rattle.std.specs.Prelude.{◌≡◌, ℕ, ◌==◌, ◌≤◌, Bool, true, false, ◌&&◌, ◌||◌, nat_le, cond, List, [], ◌∷◌, Some, filter, find, flat_map, map}
+use Rattle.std.specs.List.{list_any, range_with_len}
 use Rattle.std.specs.Str.{bytes_eq}
 use Rattle.std.proofs.Common.{refl, sym, ap, ap₂, subst, ◌∙◌, arith, inl, inr}
 use Rattle.std.proofs.lemmas.Bool.{and_parts, eqb-true, eq-eqb, leb-true}
@@ -10,11 +10,11 @@ use Rattle.cosem_data.specs.declared.cell.CellRef.{CellRef}
 use Rattle.cosem_data.specs.declared.name.LogicalName.{LogicalName}
 use Rattle.cosem_data.proofs.Same.{same_name-true, same_name-from}
 use Rattle.meter_theory.specs.Lists.{AreDistinct, IsIn, some_passes}
-use Rattle.meter_theory.specs.Plan.{Client, Object, Part, Plan, Right, Data1, Register, ProfileGeneric, Clock, ScriptTable, RegisterMonitor, SingleActionSchedule, class_of, interface_of, object_at}
+use Rattle.meter_theory.specs.Plan.{Object, Part, Plan, Right, Data1, Register, ProfileGeneric, Clock, ScriptTable, RegisterMonitor, SingleActionSchedule, class_of, interface_of, object_at}
 use Rattle.meter_theory.specs.Rights.{has_right, lists}
 use Rattle.meter_theory.specs.Sound.{IsSound, are_indexes, highest_method}
 use Rattle.meter_theory.proofs.Lists.{any_in, in_any, in_map, in_range}
-use Rattle.flow_changes.specs.Facts.{Fact, Holds, Numbered, Views, highest_for, is_granted, listed_for, members_for, rights_on, same_access, same_fact}
+use Rattle.flow_changes.specs.Facts.{Holds, Numbered, Views, highest_for, is_granted, listed_for, members_for, rights_on, same_access, same_fact}
 use Rattle.flow_changes.specs.declared.kind.Access.{Access}
 use Rattle.flow_changes.specs.declared.kind.Access.TheVariants as accesses
 use Rattle.flow_changes.proofs.Lists.{list_any-agree, list_any-and, list_any-filter, list_any-flat_map, list_any-map}
@@ -37,8 +37,8 @@ in-members access o x low high =
     list_any-map (same_cell x) (cell (class_of o.part) o.name) (range_with_len 1 (highest_for access (interface_of o.part)))
     ∙ list_any-and (x.class_id == class_of o.part) (λ i. same_name x.name o.name && (x.index == i)) (range_with_len 1 (highest_for access (interface_of o.part)))
     ∙ ap (λ b. (x.class_id == class_of o.part) && b)
-        (list_any-and (same_name x.name o.name) (λ i. x.index == i) (range_with_len 1 (highest_for access (interface_of o.part)))
-        ∙ ap (λ b. same_name x.name o.name && b) (in_any (λ i. x.index == i) (range_with_len 1 (highest_for access (interface_of o.part))) x.index (in_range 1 (highest_for access (interface_of o.part)) x.index low (omega (arith, high))) (eq-eqb x.index x.index refl)))
+    (list_any-and (same_name x.name o.name) (λ i. x.index == i) (range_with_len 1 (highest_for access (interface_of o.part)))
+    ∙ ap (λ b. same_name x.name o.name && b) (in_any (λ i. x.index == i) (range_with_len 1 (highest_for access (interface_of o.part))) x.index (in_range 1 (highest_for access (interface_of o.part)) x.index low (omega (arith, high))) (eq-eqb x.index x.index refl)))
     ∙ turned (x.class_id == class_of o.part) (class_of o.part == x.class_id) (same_name x.name o.name) (same_name o.name x.name) (swapped x.class_id (class_of o.part)) (same_name-swap x.name o.name)
   where
     swapped : (m n : ℕ) → (m == n) ≡ (n == m)
@@ -125,8 +125,8 @@ among-on : (P : Plan) (name : List ℕ) (access : Access) (x : CellRef) (n : Num
 among-on P name access x n o =
     list_any-append (same_fact (Holds name access x)) (cond (has_right P n.0 o.name (λ r. true)) (Views n.1.name (class_of o.part) o.name ∷ []) []) (flat_map (λ other. map (Holds n.1.name other) (filter (is_granted P n.0 other) (members_for other o))) (accesses.Get ∷ accesses.Set ∷ accesses.Act ∷ []))
     ∙ ap₂ (λ a b. a || b) (no-view P name access x n o (has_right P n.0 o.name (λ r. true)))
-        (list_any-flat_map (same_fact (Holds name access x)) (λ other. map (Holds n.1.name other) (filter (is_granted P n.0 other) (members_for other o))) (accesses.Get ∷ accesses.Set ∷ accesses.Act ∷ [])
-        ∙ joined (held-by P name access x n o accesses.Get) (held-by P name access x n o accesses.Set) (held-by P name access x n o accesses.Act))
+    (list_any-flat_map (same_fact (Holds name access x)) (λ other. map (Holds n.1.name other) (filter (is_granted P n.0 other) (members_for other o))) (accesses.Get ∷ accesses.Set ∷ accesses.Act ∷ [])
+    ∙ joined (held-by P name access x n o accesses.Get) (held-by P name access x n o accesses.Set) (held-by P name access x n o accesses.Act))
     ∙ at access (bytes_eq name n.1.name)
   where
     joined : {a b c d e f : Bool} → a ≡ d → b ≡ e → c ≡ f → (a || (b || (c || false))) ≡ (d || (e || (f || false)))
@@ -225,8 +225,8 @@ seen-on : (P : Plan) (name : List ℕ) (class_id : ℕ) (object : LogicalName) (
 seen-on P name class_id object n o =
     list_any-append (same_fact (Views name class_id object)) (cond (has_right P n.0 o.name (λ r. true)) (Views n.1.name (class_of o.part) o.name ∷ []) []) (flat_map (λ other. map (Holds n.1.name other) (filter (is_granted P n.0 other) (members_for other o))) (accesses.Get ∷ accesses.Set ∷ accesses.Act ∷ []))
     ∙ ap (λ b. list_any (same_fact (Views name class_id object)) (cond (has_right P n.0 o.name (λ r. true)) (Views n.1.name (class_of o.part) o.name ∷ []) []) || b)
-        (list_any-flat_map (same_fact (Views name class_id object)) (λ other. map (Holds n.1.name other) (filter (is_granted P n.0 other) (members_for other o))) (accesses.Get ∷ accesses.Set ∷ accesses.Act ∷ [])
-        ∙ nothing (none accesses.Get) (none accesses.Set) (none accesses.Act))
+    (list_any-flat_map (same_fact (Views name class_id object)) (λ other. map (Holds n.1.name other) (filter (is_granted P n.0 other) (members_for other o))) (accesses.Get ∷ accesses.Set ∷ accesses.Act ∷ [])
+    ∙ nothing (none accesses.Get) (none accesses.Set) (none accesses.Act))
     ∙ at (has_right P n.0 o.name (λ r. true)) (bytes_eq name n.1.name) ((class_id == class_of o.part) && same_name object o.name)
   where
     none : (other : Access) → list_any (same_fact (Views name class_id object)) (map (Holds n.1.name other) (filter (is_granted P n.0 other) (members_for other o))) ≡ false
@@ -258,11 +258,11 @@ pub among-seen : (P : Plan) → IsSound P → (name : List ℕ) (class_id : ℕ)
 among-seen P sound name class_id object n =
     list_any-flat_map (same_fact (Views name class_id object)) (rights_on P n) P.objects
     ∙ list_any-agree (λ o. list_any (same_fact (Views name class_id object)) (rights_on P n o))
-        (λ o. (bytes_eq name n.1.name && has_right P n.0 object (λ r. true)) && (same_name o.name object && (class_of o.part == class_id))) P.objects
-        (λ o i. seen-on P name class_id object n o ∙ turned o (same_name object o.name) refl)
+    (λ o. (bytes_eq name n.1.name && has_right P n.0 object (λ r. true)) && (same_name o.name object && (class_of o.part == class_id))) P.objects
+    (λ o i. seen-on P name class_id object n o ∙ turned o (same_name object o.name) refl)
     ∙ list_any-and (bytes_eq name n.1.name && has_right P n.0 object (λ r. true)) (λ o. same_name o.name object && (class_of o.part == class_id)) P.objects
     ∙ ap (λ b. (bytes_eq name n.1.name && has_right P n.0 object (λ r. true)) && b)
-        (any-once (λ o. same_name o.name object) (λ o. class_of o.part == class_id) P.objects (objects-once object P.objects sound.names))
+    (any-once (λ o. same_name o.name object) (λ o. class_of o.part == class_id) P.objects (objects-once object P.objects sound.names))
     ∙ last (bytes_eq name n.1.name) (has_right P n.0 object (λ r. true)) (some_passes (λ o. class_of o.part == class_id) (object_at P object))
   where
     last : (b h s : Bool) → ((b && h) && s) ≡ (b && (s && h))

@@ -1,23 +1,22 @@
 -- Which facts are among those of a configuration.
-use Rattle.std.specs.Prelude.{◌≡◌, ℕ, ◌==◌, Bool, true, false, not, ◌&&◌, ◌||◌, cond, List, [], ◌∷◌, ◌++◌, Option, Some, None, filter, find, flat_map, is_some, map}
-use Rattle.std.specs.List.{enumerate_from, list_any}
+use Rattle.std.specs.Prelude.{◌≡◌, ℕ, ◌==◌, Bool, true, false, not, ◌&&◌, ◌||◌, cond, List, [], ◌∷◌, ◌++◌, filter, flat_map, is_some, map}
+use Rattle.std.specs.List.{list_any}
 use Rattle.std.specs.Str.{bytes_eq}
-use Rattle.std.proofs.Common.{refl, sym, ap, ap₂, subst, ◌∙◌}
+use Rattle.std.proofs.Common.{refl, sym, ap, ap₂, ◌∙◌}
 use Rattle.std.proofs.lemmas.List.{append-nil}
 use Rattle.std.proofs.lemmas.Slice.Eq.{bytes_eq-Decides}
 use Rattle.cosem_data.specs.Cells.{same_cell}
 use Rattle.cosem_data.specs.declared.cell.CellRef.{CellRef}
 use Rattle.cosem_data.proofs.Same.{same_cell-true}
 use Rattle.meter_theory.specs.Labels.{Labelling}
-use Rattle.meter_theory.specs.Lists.{AreDistinct, some_passes}
+use Rattle.meter_theory.specs.Lists.{some_passes}
 use Rattle.meter_theory.specs.Plan.{Client, Plan, cells, is_cell}
 use Rattle.meter_theory.specs.Sound.{IsSound}
 use Rattle.flow_changes.specs.Facts.{Configuration, Fact, HasSap, IsOpen, Numbered, Reaches, among, facts, is_reached, numbered, own_facts, reached, same_fact, same_reach, told_of_client}
 use Rattle.flow_changes.specs.declared.kind.Kind.{Kind}
-use Rattle.flow_changes.specs.declared.kind.Kind.TheVariants as kinds
 use Rattle.flow_changes.specs.declared.kind.Reach.{Reach}
 use Rattle.flow_changes.specs.declared.kind.Reach.TheVariants as reaches
-use Rattle.flow_changes.proofs.Lists.{list_any-agree, list_any-and, list_any-filter, list_any-flat_map, list_any-map, list_any-none}
+use Rattle.flow_changes.proofs.Lists.{list_any-agree, list_any-and, list_any-filter, list_any-flat_map, list_any-map}
 use Rattle.flow_changes.proofs.Once.{any-once, clients-once, found}
 
 pub bytes_eq-swap : (a b : List ℕ) → bytes_eq a b ≡ bytes_eq b a

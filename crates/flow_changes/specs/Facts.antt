@@ -1,5 +1,5 @@
 -- What is told of a configuration: its facts, kind by kind. All of it is own profile.
-use Rattle.std.specs.Prelude.{ℕ, Bool, true, false, ◌==◌, ◌&&◌, cond, List, [], ◌∷◌, ◌++◌, Option, None, Some, codes, filter, flat_map, is_some, map, not}
+use Rattle.std.specs.Prelude.{ℕ, Bool, true, false, ◌==◌, ◌&&◌, cond, List, [], ◌∷◌, ◌++◌, codes, filter, flat_map, is_some, map}
 use Rattle.std.specs.Fmt.{decimal}
 use Rattle.std.specs.List.{enumerate_from, join_with_byte, list_any, range_with_len}
 use Rattle.std.specs.Str.{bytes_eq}

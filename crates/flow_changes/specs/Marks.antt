@@ -1,5 +1,5 @@
 -- Links between numbers of cells, and their marks. All of it is own profile.
-use Rattle.std.specs.Prelude.{◌≡◌, ℕ, Bool, false, ◌==◌, ◌&&◌, ◌*◌, ◌+◌, ◌<◌, List, [], ◌∷◌, ◌++◌, Option, None, Some, flat_map, get_or, length}
+use Rattle.std.specs.Prelude.{◌≡◌, ℕ, Bool, false, ◌==◌, ◌&&◌, ◌*◌, ◌+◌, ◌<◌, List, ◌++◌, Option, None, Some, flat_map, get_or, length}
 use Rattle.std.specs.List.{list_any}
 use Rattle.meter_theory.specs.Edges.{same_cause}
 use Rattle.meter_theory.specs.Lists.{some_passes}

@@ -6,7 +6,7 @@ use Rattle.meter_theory.specs.Lists.{IsIn}
 use Rattle.meter_theory.specs.Plan.{Object, cells, class_of}
 use Rattle.meter_theory.specs.Rights.{has_right}
 use Rattle.flow_changes.specs.Changes.{gainers}
-use Rattle.flow_changes.specs.Facts.{Configuration, Numbered, is_granted, is_reached, members_for, numbered}
+use Rattle.flow_changes.specs.Facts.{Configuration, Numbered, is_granted, is_reached, numbered}
 use Rattle.flow_changes.specs.declared.kind.Access.{Access}
 use Rattle.flow_changes.specs.declared.kind.Reach.{Reach}
 

@@ -1,7 +1,7 @@
 -- How a comparison is written. All of it is own profile.
 use Rattle.std.specs.Prelude.{◌≡◌, Bool, List, [], ℕ, Option, Result, Ok, Err}
 use Rattle.std.specs.Io.KnownBytes.{Appends}
-use Rattle.meter_theory.specs.Labels.{Labels, Policy}
+use Rattle.meter_theory.specs.Labels.{Policy}
 use Rattle.meter_theory.specs.Plan.{Plan}
 use Rattle.plan_lists.specs.Listing.{AreLeastOf, WritesText}
 use Rattle.plan_lists.specs.declared.fault.ListFault.{ListFault}

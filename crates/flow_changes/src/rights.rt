@@ -141,7 +141,9 @@ fn push_access(
             name,
             index,
         };
-        push_member(alloc, head, access, &instance, &member, client, other_plan, other, text)?;
+        push_member(
+            alloc, head, access, &instance, &member, client, other_plan, other, text,
+        )?;
     }
     Ok(())
 }

@@ -20,8 +20,8 @@ returns-in-Cell c =
     let texts = ap (map (λ t. t.items)) c.deref-in-Cell-2.ensures.value ∙ c.requires.mine.told in
     subst (λ k. OnOk c.push_marked.result (c.push_marked.new.text.items ≡ c.args.text.now.items ++ lines c.args.change k (filter (lacks D C k) (common_facts C k)))) (sym c.in-Cell.is)
     (subst (λ t. OnOk c.push_marked.result (c.push_marked.new.text.items ≡ c.args.text.now.items ++ t))
-        (ap (λ h. cell_lines h (filter p (cells C.plan))) head ∙ sym (cells-lines c.args.change C D))
-        (c.push_marked.ensures (cells C.plan) p marks texts))
+    (ap (λ h. cell_lines h (filter p (cells C.plan))) head ∙ sym (cells-lines c.args.change C D))
+    (c.push_marked.ensures (cells C.plan) p marks texts))
 
 pub returns-in-Edge : goal.returns-in-Edge
 returns-in-Edge c =
@@ -30,5 +30,5 @@ returns-in-Edge c =
     let head = c.deref-in-Edge.ensures.value ∙ c.in_ok-head.ensures ∙ ap (head_of c.args.change) c.in-Edge.is in
     subst (λ k. OnOk c.push_edges.result (c.push_edges.new.text.items ≡ c.args.text.now.items ++ lines c.args.change k (filter (lacks D C k) (common_facts C k)))) (sym c.in-Edge.is)
     (subst (λ t. OnOk c.push_edges.result (c.push_edges.new.text.items ≡ c.args.text.now.items ++ t))
-        (ap₂ (λ h es. edge_lines h (filter (λ e. not (list_any (same_edge e) (edges D.plan))) es)) head (ap (λ t. t.edges) c.requires.mine.tabled) ∙ sym (edges-lines c.args.change C D))
-        c.push_edges.ensures)
+    (ap₂ (λ h es. edge_lines h (filter (λ e. not (list_any (same_edge e) (edges D.plan))) es)) head (ap (λ t. t.edges) c.requires.mine.tabled) ∙ sym (edges-lines c.args.change C D))
+    c.push_edges.ensures)

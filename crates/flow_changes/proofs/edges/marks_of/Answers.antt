@@ -1,4 +1,4 @@
-use Rattle.std.proofs.Common.{◌≡◌, ◌+◌, get_or, set, subst, sym, take, true}
+use Rattle.std.proofs.Common.{◌+◌, get_or, set, subst, sym, take, true}
 use Rattle.std.proofs.lemmas.List.{get_or_default}
 use Rattle.meter_theory.specs.declared.flow.Cause.TheVariants.{Monitored}
 use Rattle.flow_edges.specs.declared.table.Link.{Link}

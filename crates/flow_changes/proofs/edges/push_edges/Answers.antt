@@ -1,6 +1,5 @@
 use Rattle.std.proofs.Common.{◌≡◌, ◌++◌, ◌∙◌, OnOk, ap, length, map, subst, sym}
 use Rattle.std.proofs.lemmas.List.{length-map}
-use Rattle.flow_edges.specs.Table.{AreCells}
 use Rattle.label_certificate.specs.LabelText.{cell_place}
 use Rattle.flow_changes.specs.Marks.{AreMarks}
 use Rattle.flow_changes.proofs.EdgesLacked.{are-below, lacked-of, links-in}
@@ -23,8 +22,8 @@ pub returns : goal.returns
 returns c =
     subst (λ t. OnOk c.push_unmarked.result (c.push_unmarked.new.text.items ≡ c.args.text.now.items ++ t))
     (lacked-of c.args.other_plan.now c.args.table.now c.args.other.now c.requires.other c.known-2.ensures c.links-2.result.now c.links.result.now c.links-2.ensures.within c.links-2.ensures.edges
-        c.links.ensures.within c.links.ensures.edges (length c.cells-3.result.now) (length c.cells-2.result.now) (ap length c.cells-3.ensures) (ap length c.cells-2.ensures)
-        c.deref-2.result.now (subst (AreMarks (length c.cells-2.result.now) c.links.result.now) (sym c.deref-2.ensures.value) c.in_ok-marks.ensures)
-        c.deref.result.now (c.deref.ensures.value ∙ c.in_ok-numbers.ensures ∙ ap (map (cell_place c.args.other_plan.now)) c.cells.ensures)
-        (map (λ text. text.items) c.args.texts.now) c.requires.texts c.args.head.now)
+    c.links.ensures.within c.links.ensures.edges (length c.cells-3.result.now) (length c.cells-2.result.now) (ap length c.cells-3.ensures) (ap length c.cells-2.ensures)
+    c.deref-2.result.now (subst (AreMarks (length c.cells-2.result.now) c.links.result.now) (sym c.deref-2.ensures.value) c.in_ok-marks.ensures)
+    c.deref.result.now (c.deref.ensures.value ∙ c.in_ok-numbers.ensures ∙ ap (map (cell_place c.args.other_plan.now)) c.cells.ensures)
+    (map (λ text. text.items) c.args.texts.now) c.requires.texts c.args.head.now)
     c.push_unmarked.ensures

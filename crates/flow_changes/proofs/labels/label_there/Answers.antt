@@ -1,4 +1,4 @@
-use Rattle.std.proofs.Common.{◌≡◌, ◌∙◌, Some, None, ap, sym, arith, get_or}
+use Rattle.std.proofs.Common.{◌∙◌, ap, sym, arith, get_or}
 use Rattle.meter_theory.specs.Plan.{cells}
 use Rattle.flow_edges.proofs.Sources.{numbered, unnumbered}
 use Rattle.flow_changes.proofs.Labelled.{there-is, nowhere-is}

@@ -1,6 +1,4 @@
 use Rattle.std.proofs.Common.{ap₂}
-use Rattle.cosem_data.specs.declared.clients.ClientSet.{ClientSet}
-use Rattle.meter_theory.specs.declared.flow.Label.{Label}
 use Rattle.meter_theory.proofs.ClientSets.{new_is_nobody}
 use Rattle.flow_changes.proofs.Labelled.{labelled}
 use Rattle.flow_changes.proofs.labels.nobody.Goals as goal

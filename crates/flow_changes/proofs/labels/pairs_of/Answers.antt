@@ -1,9 +1,7 @@
-use Rattle.std.proofs.Common.{◌≡◌, ◌<◌, ◌∙◌, ap, ap₂, map, sym, arith, length, rules, cond, Some, None}
-use Rattle.std.specs.Prelude.{take}
+use Rattle.std.proofs.Common.{◌∙◌, ap, ap₂, map, cond, Some, None}
 use Rattle.std.proofs.lemmas.List.{take_all}
 use Rattle.cosem_data.specs.declared.cell.CellRef.{CellRef}
-use Rattle.meter_theory.specs.Plan.{cells, is_cell}
-use Rattle.flow_edges.specs.Table.{cell_at}
+use Rattle.meter_theory.specs.Plan.{is_cell}
 use Rattle.flow_changes.specs.Lines.{pair_of}
 use Rattle.flow_changes.specs.declared.labels.Pair.{Pair}
 use Rattle.flow_changes.proofs.Labelled.{label-at-number, pairs-more}

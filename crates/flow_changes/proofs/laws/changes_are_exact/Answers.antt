@@ -1,4 +1,3 @@
-use Rattle.meter_theory.specs.Plan.{cells}
 use Rattle.flow_edges.proofs.Sources.{are-cells}
 use Rattle.flow_changes.proofs.EachOnce.{gained-once}
 use Rattle.flow_changes.proofs.Exact.{gained-is}

@@ -14,8 +14,8 @@ returns-in-May c =
     let others = c.deref-in-May.ensures.value ∙ c.requires.theirs.reached in
     subst (λ k. IfOk c.pairs_of.result (λ pairs. ArePairs k C D pairs.items)) (sym c.in-May.is)
     (subst (λ k. IfOk c.pairs_of.result (λ pairs. pairs.items ≡ map (λ x. pair_of k (labelling_of C.labels x) (cond (is_cell D.plan x) (Some (labelling_of D.labels x)) None)) (cells C.plan))) c.in-May.is
-        (subst (λ cs. IfOk c.pairs_of.result (λ pairs. pairs.items ≡ map (λ x. pair_of c.args.kind (labelling_of C.labels x) (cond (is_cell D.plan x) (Some (labelling_of D.labels x)) None)) cs)) ours
-            (c.pairs_of.ensures (labelling_of C.labels) (labelling_of D.labels) labels others)))
+    (subst (λ cs. IfOk c.pairs_of.result (λ pairs. pairs.items ≡ map (λ x. pair_of c.args.kind (labelling_of C.labels x) (cond (is_cell D.plan x) (Some (labelling_of D.labels x)) None)) cs)) ours
+    (c.pairs_of.ensures (labelling_of C.labels) (labelling_of D.labels) labels others)))
 
 pub returns-in-Allowed : goal.returns-in-Allowed
 returns-in-Allowed c =
@@ -26,5 +26,5 @@ returns-in-Allowed c =
     let others = c.deref-in-Allowed-2.ensures.value ∙ c.requires.theirs.permitted in
     subst (λ k. IfOk c.pairs_of-in-Allowed.result (λ pairs. ArePairs k C D pairs.items)) (sym c.in-Allowed.is)
     (subst (λ k. IfOk c.pairs_of-in-Allowed.result (λ pairs. pairs.items ≡ map (λ x. pair_of k (labelling_of_policy C.plan C.policy x) (cond (is_cell D.plan x) (Some (labelling_of_policy D.plan D.policy x)) None)) (cells C.plan))) c.in-Allowed.is
-        (subst (λ cs. IfOk c.pairs_of-in-Allowed.result (λ pairs. pairs.items ≡ map (λ x. pair_of c.args.kind (labelling_of_policy C.plan C.policy x) (cond (is_cell D.plan x) (Some (labelling_of_policy D.plan D.policy x)) None)) cs)) ours
-            (c.pairs_of-in-Allowed.ensures (labelling_of_policy C.plan C.policy) (labelling_of_policy D.plan D.policy) labels others)))
+    (subst (λ cs. IfOk c.pairs_of-in-Allowed.result (λ pairs. pairs.items ≡ map (λ x. pair_of c.args.kind (labelling_of_policy C.plan C.policy x) (cond (is_cell D.plan x) (Some (labelling_of_policy D.plan D.policy x)) None)) cs)) ours
+    (c.pairs_of-in-Allowed.ensures (labelling_of_policy C.plan C.policy) (labelling_of_policy D.plan D.policy) labels others)))

@@ -22,9 +22,9 @@ returns-in-May c =
     let texts = ap (map (λ t. t.items)) c.deref-in-May.ensures.value ∙ c.requires.mine.told in
     subst (λ k. OnOk c.push_reaches.result (c.push_reaches.new.text.items ≡ c.args.text.now.items ++ lines c.args.change k (filter (lacks D C k) (own_facts C D k n)))) (sym c.in-May.is)
     (subst (λ t. OnOk c.push_reaches.result (c.push_reaches.new.text.items ≡ c.args.text.now.items ++ t))
-        (ap₂ (λ h o. reach_lines h c.args.place o (pair_told kinds.May C D) (cells C.plan)) head other
-        ∙ sym (of-reached c.args.change kinds.May C.plan (labelling_of C.labels) n (lacks D C kinds.May) _ (pair_told kinds.May C D) (λ reach x i. new-may C D c.requires.theirs.sound n reach x)))
-        (c.push_reaches.ensures (cells C.plan) (pair_told kinds.May C D) pairs texts))
+    (ap₂ (λ h o. reach_lines h c.args.place o (pair_told kinds.May C D) (cells C.plan)) head other
+    ∙ sym (of-reached c.args.change kinds.May C.plan (labelling_of C.labels) n (lacks D C kinds.May) _ (pair_told kinds.May C D) (λ reach x i. new-may C D c.requires.theirs.sound n reach x)))
+    (c.push_reaches.ensures (cells C.plan) (pair_told kinds.May C D) pairs texts))
 
 pub returns-in-Allowed : goal.returns-in-Allowed
 returns-in-Allowed c =
@@ -37,9 +37,9 @@ returns-in-Allowed c =
     let texts = ap (map (λ t. t.items)) c.deref-in-Allowed-2.ensures.value ∙ c.requires.mine.told in
     subst (λ k. OnOk c.push_reaches-in-Allowed.result (c.push_reaches-in-Allowed.new.text.items ≡ c.args.text.now.items ++ lines c.args.change k (filter (lacks D C k) (own_facts C D k n)))) (sym c.in-Allowed.is)
     (subst (λ t. OnOk c.push_reaches-in-Allowed.result (c.push_reaches-in-Allowed.new.text.items ≡ c.args.text.now.items ++ t))
-        (ap₂ (λ h o. reach_lines h c.args.place o (pair_told kinds.Allowed C D) (cells C.plan)) head other
-        ∙ sym (of-reached c.args.change kinds.Allowed C.plan (shared_policy C D) n (lacks D C kinds.Allowed) _ (pair_told kinds.Allowed C D) (λ reach x i. new-allowed C D c.requires.theirs.sound n reach x i)))
-        (c.push_reaches-in-Allowed.ensures (cells C.plan) (pair_told kinds.Allowed C D) pairs texts))
+    (ap₂ (λ h o. reach_lines h c.args.place o (pair_told kinds.Allowed C D) (cells C.plan)) head other
+    ∙ sym (of-reached c.args.change kinds.Allowed C.plan (shared_policy C D) n (lacks D C kinds.Allowed) _ (pair_told kinds.Allowed C D) (λ reach x i. new-allowed C D c.requires.theirs.sound n reach x i)))
+    (c.push_reaches-in-Allowed.ensures (cells C.plan) (pair_told kinds.Allowed C D) pairs texts))
 
 pub returns-in-Right : goal.returns-in-Right
 returns-in-Right c =
@@ -50,9 +50,9 @@ returns-in-Right c =
     let other = c.client_named-other.ensures ∙ other-is D.plan c.name-name.result.now ∙ ap (λ m. option_map (λ o. o.0) (found m 0 D.plan.clients)) c.name-name.ensures in
     subst (λ k. OnOk c.push_rights.result (c.push_rights.new.text.items ≡ c.args.text.now.items ++ lines c.args.change k (filter (lacks D C k) (own_facts C D k n)))) (sym c.in-Right.is)
     (subst (λ t. OnOk c.push_rights.result (c.push_rights.new.text.items ≡ c.args.text.now.items ++ t))
-        (ap₂ (λ h o. flat_map (right_lines h C.plan c.args.place D.plan o) C.plan.objects) head other
-        ∙ sym (of-rights c.args.change C D c.requires.theirs.sound n))
-        c.push_rights.ensures)
+    (ap₂ (λ h o. flat_map (right_lines h C.plan c.args.place D.plan o) C.plan.objects) head other
+    ∙ sym (of-rights c.args.change C D c.requires.theirs.sound n))
+    c.push_rights.ensures)
 
 pub returns-in-Client : goal.returns-in-Client
 returns-in-Client c =
@@ -64,6 +64,6 @@ returns-in-Client c =
     let there = c.client_at-there.ensures ∙ ap (option_and_then (slice_get D.plan.clients)) other ∙ found-client c.args.client.now.name D.plan.clients in
     subst (λ k. OnOk c.push_client.result (c.push_client.new.text.items ≡ c.args.text.now.items ++ lines c.args.change k (filter (lacks D C k) (own_facts C D k n)))) (sym c.in-Client.is)
     (subst (λ t. OnOk c.push_client.result (c.push_client.new.text.items ≡ c.args.text.now.items ++ t))
-        (ap₂ (λ h o. client_lines h c.args.client.now o) head there
-        ∙ sym (of-client c.args.change C D c.requires.theirs.sound n))
-        c.push_client.ensures)
+    (ap₂ (λ h o. client_lines h c.args.client.now o) head there
+    ∙ sym (of-client c.args.change C D c.requires.theirs.sound n))
+    c.push_client.ensures)

@@ -1,11 +1,11 @@
-use Rattle.std.proofs.Common.{◌≡◌, ◌++◌, ◌+◌, ◌<◌, ◌≤◌, ◌∙◌, Bool, Some, None, ap, arith, filter, flat_map, length, map, option_map, rules, subst, sym, vec_len}
+use Rattle.std.proofs.Common.{◌≡◌, ◌++◌, ◌+◌, ◌∙◌, Bool, Some, None, ap, arith, flat_map, length, option_map, rules, subst, sym, vec_len}
 use Rattle.std.specs.Prelude.{slice_get}
 use Rattle.std.specs.List.{list_any}
 use Rattle.flow_changes.specs.Changes.{lacks}
 use Rattle.flow_changes.specs.Facts.{Numbered, numbered, own_facts}
 use Rattle.flow_changes.specs.Sides.{configuration_of}
-use Rattle.flow_changes.proofs.Gains.{AreOwners, all-own, all-told, grows, lines_of, no-owners, owner-in, owner-out}
-use Rattle.flow_changes.proofs.Named.{numbered_from, text-end, text-more}
+use Rattle.flow_changes.proofs.Gains.{AreOwners, all-own, all-told, grows, lines_of, owner-in, owner-out}
+use Rattle.flow_changes.proofs.Named.{text-end, text-more}
 use Rattle.flow_changes.proofs.owned.push_owned.Goals as goal
 use Rattle.flow_changes.proofs.owned.push_owned.Goals.{then-before-len, else-before-len}
 

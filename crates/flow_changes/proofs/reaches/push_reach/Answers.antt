@@ -1,6 +1,5 @@
-use Rattle.std.proofs.Common.{◌≡◌, ◌++◌, ◌∷◌, [], Bool, OnOk, sym, ap, subst, map, filter, ◌∙◌}
+use Rattle.std.proofs.Common.{◌≡◌, ◌++◌, ◌∷◌, [], Bool, OnOk, ap, subst, map, filter, ◌∙◌}
 use Rattle.cosem_data.specs.declared.cell.CellRef.{CellRef}
-use Rattle.flow_changes.specs.Facts.{reach_word}
 use Rattle.flow_changes.specs.Lines.{cell_lines, is_new_reach}
 use Rattle.flow_changes.proofs.Lists.{map-of-map}
 use Rattle.flow_changes.proofs.reaches.push_reach.Goals as goal

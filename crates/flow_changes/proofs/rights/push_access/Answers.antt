@@ -1,4 +1,4 @@
-use Rattle.std.proofs.Common.{◌≡◌, ◌++◌, ◌∷◌, [], ◌+◌, ◌∙◌, Bool, not, ap, arith, filter}
+use Rattle.std.proofs.Common.{◌++◌, ◌∷◌, [], ◌+◌, ◌∙◌, Bool, not, ap, arith, filter}
 use Rattle.std.specs.Prelude.{◌&&◌}
 use Rattle.cosem_data.specs.Cells.{cell}
 use Rattle.cosem_data.specs.declared.cell.CellRef.{CellRef}

@@ -17,5 +17,5 @@ returns c =
     let granted = c.is_granted.ensures x.class_id ∙ granted-at c.args.instance.now.plan c.args.client c.args.access x c.args.instance.now.name c.requires in
     subst (λ t. OnOk c.push_member_line.result (c.push_member_line.new.text.items ≡ c.args.text.now.items ++ t))
     (member-line (c.args.head.now ++ (access_word c.args.access ++ 32 ∷ [])) x (facts.is_granted c.args.instance.now.plan c.args.client c.args.access x) (is_held c.args.other_plan.now c.args.other c.args.access x)
-        (sym granted ∙ c.if-not-is_granted.false) (sym c.has_access.ensures ∙ c.if-has_access.false))
+    (sym granted ∙ c.if-not-is_granted.false) (sym c.has_access.ensures ∙ c.if-has_access.false))
     c.push_member_line.ensures

@@ -1,5 +1,5 @@
-use Rattle.std.proofs.Common.{◌≡◌, ◌<◌, ◌∙◌, false, sym, ap, length, get_or, map, [], arith}
-use Rattle.std.proofs.lemmas.List.{get_or-map, get_or_default}
+use Rattle.std.proofs.Common.{◌≡◌, ◌<◌, ◌∙◌, false, sym, ap, length, map, [], arith}
+use Rattle.std.proofs.lemmas.List.{get_or-map}
 use Rattle.value_text.specs.Texts.{cell_text}
 use Rattle.flow_changes.proofs.MarkedLines.{at, line-kept, line-pushed, text-is}
 use Rattle.flow_changes.proofs.text.push_marked.Goals as goal
