@@ -1,0 +1,65 @@
+-- Who gains, from a set of clients and from its names.
+use Rattle.std.specs.Prelude.{◌≡◌, ℕ, suc, ◌+◌, ◌-◌, ◌≤◌, ◌==◌, Bool, not, List, [], ◌∷◌, ◌++◌, Option, Some, Result, Ok, Err, filter, flat_map, length, slice_get}
+use Rattle.std.specs.List.{enumerate_from}
+use Rattle.std.proofs.Common.{refl, sym, ap, subst, ◌∙◌, inl, inr, arith}
+use Rattle.std.proofs.lemmas.Bool.{ne_eqb}
+use Rattle.meter_theory.specs.Labels.{Policy, has}
+use Rattle.meter_theory.specs.Lists.{IsIn}
+use Rattle.meter_theory.specs.Plan.{Client, Plan}
+use Rattle.cosem_data.specs.declared.clients.ClientSet.{ClientSet}
+use Rattle.flow_changes.specs.Changes.{changes_text, compare_text, first_line, gainers, gains, somebody_gains}
+use Rattle.flow_changes.specs.Facts.{Configuration, Numbered, numbered}
+use Rattle.plan_lists.specs.Listing.{AreLeastOf}
+use Rattle.plan_lists.specs.declared.fault.ListFault.{ListFault}
+use Rattle.plan_lists.specs.declared.fault.ListFault.TheVariants as faults
+use Rattle.flow_changes.specs.Sides.{IsSide, configuration_of}
+use Rattle.flow_changes.specs.Written.{IsConfiguration, WritesComparison, WritesSides}
+use Rattle.flow_changes.specs.declared.side.Side.{Side}
+use Rattle.flow_changes.proofs.Lists.{filter-agree}
+use Rattle.flow_changes.proofs.Named.{is-more, names-of, some-named}
+
+is-configuration : (s : Side) (P : Plan) (p : Policy) → IsSide s → s.plan.now ≡ P → s.policy.now ≡ p → IsConfiguration P p (configuration_of s)
+is-configuration s P p a e f = record { of_plan = e; of_policy = f; least = subst (λ Q. AreLeastOf Q s.labels) e a.least }
+
+-- a numbered client stands at its number
+numbered-at : (k : ℕ) (clients : List Client) (n : Numbered) → IsIn (enumerate_from k clients) n → (k ≤ n.0) × (slice_get clients (n.0 - k) ≡ Some n.1)
+numbered-at k [] n i = absurd i
+numbered-at k (c ∷ clients) n (inl e) =
+    let none : k - k ≡ 0 = omega arith in
+    subst (λ m. (k ≤ m.0) × (slice_get (c ∷ clients) (m.0 - k) ≡ Some m.1)) (sym e) (omega arith, ap (slice_get (c ∷ clients)) none)
+numbered-at k (c ∷ clients) n (inr i) =
+    let r = numbered-at (k + 1) clients n i in
+    let next : n.0 - k ≡ suc (n.0 - (k + 1)) = omega (arith, r.0) in
+    (omega (arith, r.0), ap (slice_get (c ∷ clients)) next ∙ r.1)
+
+-- a set of those who gain has the names of those who gain
+pub gaining-names : (C D : Configuration) (gaining : ClientSet) (names : List ℕ) → ((c : ℕ) (client : Client) → slice_get D.plan.clients c ≡ Some client → has gaining c ≡ gains C D (c, client)) →
+    names ≡ flat_map (λ n. 44 ∷ n.1.name) (filter (λ n. has gaining n.0) (numbered D.plan)) → names ≡ flat_map (λ n. 44 ∷ n.1.name) (filter (gains C D) (numbered D.plan))
+gaining-names C D gaining names told is =
+    is ∙ ap (flat_map (λ n. 44 ∷ n.1.name)) (filter-agree (λ n. has gaining n.0) (gains C D) (numbered D.plan) (λ n i. told n.0 n.1 (there n (numbered-at 0 D.plan.clients n i).1)))
+  where
+    there : (n : Numbered) → slice_get D.plan.clients (n.0 - 0) ≡ Some n.1 → slice_get D.plan.clients n.0 ≡ Some n.1
+    there n e = let z : n.0 ≡ n.0 - 0 = omega arith in ap (slice_get D.plan.clients) z ∙ e
+
+-- which the first line tells
+pub first-is : (C D : Configuration) (names : List ℕ) → names ≡ flat_map (λ n. 44 ∷ n.1.name) (filter (gains C D) (numbered D.plan)) → names ≡ flat_map (λ name. 44 ∷ name) (gainers C D)
+first-is C D names is = is ∙ names-of (gains C D) (numbered D.plan)
+
+not-empty : (names : List ℕ) → not (length names == 0) ≡ is-more names
+not-empty [] = refl
+not-empty (b ∷ names) = ap not (ne_eqb (length (b ∷ names)) 0 (λ e. absurd (omega arith)))
+
+-- and there are some where somebody gains
+pub somebody-is : (C D : Configuration) (names : List ℕ) → names ≡ flat_map (λ n. 44 ∷ n.1.name) (filter (gains C D) (numbered D.plan)) → not (length names == 0) ≡ somebody_gains C D
+somebody-is C D names is = not-empty names ∙ ap is-more is ∙ sym (some-named (gains C D) (numbered D.plan))
+
+-- both texts are that of the comparison
+pub text-is : (C D : Configuration) (first changed : List ℕ) → first ≡ first_line (gainers C D) → changed ≡ [] ++ changes_text C D → first ++ changed ≡ compare_text C D
+text-is C D first changed e f = ap (λ t. t ++ changed) e ∙ ap (λ t. first_line (gainers C D) ++ t) f
+
+-- the comparison of sides is that of their plans and policies
+pub of-sides : (s t : Side) (P Q : Plan) (p q : Policy) → IsSide s → IsSide t → s.plan.now ≡ P → s.policy.now ≡ p → t.plan.now ≡ Q → t.policy.now ≡ q → (before after : Option (List ℕ)) (r : Result Bool ListFault) →
+    WritesSides (configuration_of s) (configuration_of t) before after r → WritesComparison P p Q q before after r
+of-sides s t P Q p q a b e f g h before after (Err faults.Memory) w = w
+of-sides s t P Q p q a b e f g h before after (Err faults.Write) w = (configuration_of s, configuration_of t, is-configuration s P p a e f, is-configuration t Q q b g h, w)
+of-sides s t P Q p q a b e f g h before after (Ok some) w = (configuration_of s, configuration_of t, is-configuration s P p a e f, is-configuration t Q q b g h, w)

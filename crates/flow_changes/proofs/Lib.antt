@@ -1,0 +1,17 @@
+pub mod Lists
+pub mod Once
+pub mod Told
+pub mod RightsTold
+pub mod Heads
+pub mod OwnLines
+pub mod MarkedLines
+pub mod MarkPlaces
+pub mod EdgesLacked
+pub mod Labelled
+pub mod Named
+pub mod Gains
+pub mod Promises
+pub mod Exact
+pub mod EachOnce
+pub mod RightLines
+pub mod Compared

@@ -1,0 +1,94 @@
+-- Tests, filters and texts of lists that are made of others.
+use Rattle.std.specs.Prelude.{◌≡◌, ℕ, zero, suc, ◌<◌, Bool, true, false, ◌&&◌, ◌||◌, cond, List, [], ◌∷◌, ◌++◌, filter, flat_map, get_or, length, map}
+use Rattle.std.specs.List.{list_any}
+use Rattle.std.proofs.Common.{refl, ap, ap₂, ◌∙◌, arith, inl, inr}
+use Rattle.std.proofs.lemmas.List.Elements.{filter-append}
+use Rattle.std.proofs.lemmas.List.Folds.{list_any-append}
+use Rattle.meter_theory.specs.Lists.{IsIn}
+
+pub list_any-flat_map : {A B : Type 0} (p : B → Bool) (f : A → List B) (xs : List A) → list_any p (flat_map f xs) ≡ list_any (λ x. list_any p (f x)) xs
+list_any-flat_map p f [] = refl
+list_any-flat_map p f (x ∷ xs) = list_any-append p (f x) (flat_map f xs) ∙ ap (λ b. list_any p (f x) || b) (list_any-flat_map p f xs)
+
+pub list_any-map : {A B : Type 0} (p : B → Bool) (f : A → B) (xs : List A) → list_any p (map f xs) ≡ list_any (λ x. p (f x)) xs
+list_any-map p f [] = refl
+list_any-map p f (x ∷ xs) = ap (λ b. p (f x) || b) (list_any-map p f xs)
+
+pub list_any-filter : {A : Type 0} (p q : A → Bool) (xs : List A) → list_any p (filter q xs) ≡ list_any (λ x. q x && p x) xs
+list_any-filter p q [] = refl
+list_any-filter p q (x ∷ xs) = at (q x) (list_any-filter p q xs)
+  where
+    at : (b : Bool) → list_any p (filter q xs) ≡ list_any (λ y. q y && p y) xs → list_any p (cond b (x ∷ filter q xs) (filter q xs)) ≡ ((b && p x) || list_any (λ y. q y && p y) xs)
+    at true rest = ap (λ b. p x || b) rest
+    at false rest = rest
+
+pub list_any-agree : {A : Type 0} (p q : A → Bool) (xs : List A) → ((x : A) → IsIn xs x → p x ≡ q x) → list_any p xs ≡ list_any q xs
+list_any-agree p q [] h = refl
+list_any-agree p q (x ∷ xs) h = ap₂ (λ a b. a || b) (h x (inl refl)) (list_any-agree p q xs (λ y i. h y (inr i)))
+
+pub list_any-and : {A : Type 0} (b : Bool) (p : A → Bool) (xs : List A) → list_any (λ x. b && p x) xs ≡ (b && list_any p xs)
+list_any-and true p [] = refl
+list_any-and false p [] = refl
+list_any-and true p (x ∷ xs) = ap (λ c. p x || c) (list_any-and true p xs)
+list_any-and false p (x ∷ xs) = list_any-and false p xs
+
+pub list_any-none : {A : Type 0} (p : A → Bool) (xs : List A) → ((x : A) → IsIn xs x → p x ≡ false) → list_any p xs ≡ false
+list_any-none p [] h = refl
+list_any-none p (x ∷ xs) h = ap (λ b. b || list_any p xs) (h x (inl refl)) ∙ list_any-none p xs (λ y i. h y (inr i))
+
+pub map-of-map : {A B C : Type 0} (g : B → C) (f : A → B) (xs : List A) → map g (map f xs) ≡ map (λ x. g (f x)) xs
+map-of-map g f [] = refl
+map-of-map g f (x ∷ xs) = ap (λ ys. g (f x) ∷ ys) (map-of-map g f xs)
+
+pub filter-map : {A B : Type 0} (p : B → Bool) (f : A → B) (xs : List A) → filter p (map f xs) ≡ map f (filter (λ x. p (f x)) xs)
+filter-map p f [] = refl
+filter-map p f (x ∷ xs) = at (p (f x)) (filter-map p f xs)
+  where
+    at : (b : Bool) → filter p (map f xs) ≡ map f (filter (λ y. p (f y)) xs) → cond b (f x ∷ filter p (map f xs)) (filter p (map f xs)) ≡ map f (cond b (x ∷ filter (λ y. p (f y)) xs) (filter (λ y. p (f y)) xs))
+    at true rest = ap (λ ys. f x ∷ ys) rest
+    at false rest = rest
+
+pub filter-filter : {A : Type 0} (p q : A → Bool) (xs : List A) → filter p (filter q xs) ≡ filter (λ x. q x && p x) xs
+filter-filter p q [] = refl
+filter-filter p q (x ∷ xs) = at (q x) (filter-filter p q xs)
+  where
+    within : (b : Bool) → filter p (filter q xs) ≡ filter (λ y. q y && p y) xs → cond b (x ∷ filter p (filter q xs)) (filter p (filter q xs)) ≡ cond b (x ∷ filter (λ y. q y && p y) xs) (filter (λ y. q y && p y) xs)
+    within true rest = ap (λ ys. x ∷ ys) rest
+    within false rest = rest
+
+    at : (b : Bool) → filter p (filter q xs) ≡ filter (λ y. q y && p y) xs →
+        filter p (cond b (x ∷ filter q xs) (filter q xs)) ≡ cond (b && p x) (x ∷ filter (λ y. q y && p y) xs) (filter (λ y. q y && p y) xs)
+    at true rest = within (p x) rest
+    at false rest = rest
+
+pub filter-agree : {A : Type 0} (p q : A → Bool) (xs : List A) → ((x : A) → IsIn xs x → p x ≡ q x) → filter p xs ≡ filter q xs
+filter-agree p q [] h = refl
+filter-agree p q (x ∷ xs) h = ap₂ (λ b ys. cond b (x ∷ ys) ys) (h x (inl refl)) (filter-agree p q xs (λ y i. h y (inr i)))
+
+pub filter-flat_map : {A B : Type 0} (p : B → Bool) (f : A → List B) (xs : List A) → filter p (flat_map f xs) ≡ flat_map (λ x. filter p (f x)) xs
+filter-flat_map p f [] = refl
+filter-flat_map p f (x ∷ xs) = filter-append p (f x) (flat_map f xs) ∙ ap (λ ys. filter p (f x) ++ ys) (filter-flat_map p f xs)
+
+pub flat_map-agree : {A B : Type 0} (f g : A → List B) (xs : List A) → ((x : A) → IsIn xs x → f x ≡ g x) → flat_map f xs ≡ flat_map g xs
+flat_map-agree f g [] h = refl
+flat_map-agree f g (x ∷ xs) h = ap₂ (λ a b. a ++ b) (h x (inl refl)) (flat_map-agree f g xs (λ y i. h y (inr i)))
+
+pub flat_map-of-map : {A B C : Type 0} (g : B → List C) (f : A → B) (xs : List A) → flat_map g (map f xs) ≡ flat_map (λ x. g (f x)) xs
+flat_map-of-map g f [] = refl
+flat_map-of-map g f (x ∷ xs) = ap (λ ys. g (f x) ++ ys) (flat_map-of-map g f xs)
+
+-- what stands at a number is in the list
+pub in-at : {A : Type 0} (xs : List A) (i : ℕ) (d : A) → i < length xs → IsIn xs (get_or xs i d)
+in-at [] i d h = absurd (omega arith)
+in-at (x ∷ xs) zero d h = inl refl
+in-at (x ∷ xs) (suc i) d h = inr (in-at xs i d (omega arith))
+
+-- some element passes exactly where the filter leaves one
+pub any-of-filter : {A : Type 0} (p : A → Bool) (xs : List A) → (0 < length (filter p xs) → list_any p xs ≡ true) × (length (filter p xs) ≡ 0 → list_any p xs ≡ false)
+any-of-filter p [] = (λ h. absurd (omega arith), λ e. refl)
+any-of-filter p (x ∷ xs) = at (p x) (any-of-filter p xs)
+  where
+    at : (b : Bool) → (0 < length (filter p xs) → list_any p xs ≡ true) × (length (filter p xs) ≡ 0 → list_any p xs ≡ false) →
+        (0 < length (cond b (x ∷ filter p xs) (filter p xs)) → (b || list_any p xs) ≡ true) × (length (cond b (x ∷ filter p xs) (filter p xs)) ≡ 0 → (b || list_any p xs) ≡ false)
+    at true rest = (λ h. refl, λ e. absurd (omega arith))
+    at false rest = rest

@@ -1,0 +1,7 @@
+use Rattle.std.proofs.Common.{◌≡◌, ◌++◌, flat_map, take}
+use Rattle.flow_changes.specs.Lines.{right_lines}
+use Rattle.flow_changes.proofs.rights.push_rights.Given as goal
+
+abbrev pub invariant-loop-object : goal.invariant-loop-object
+invariant-loop-object l =
+    l.text.items ≡ l.initial.text.items ++ flat_map (right_lines l.head l.plan l.client l.other_plan l.other) (take l.object-index l.plan.objects)

@@ -1,0 +1,7 @@
+pub mod Facts
+pub mod Changes
+pub mod Sides
+pub mod Lines
+pub mod Marks
+pub mod Promises
+pub mod Written
