@@ -25,6 +25,18 @@ labels_file = needed (codes "labels")
 abbrev pub client : Rule
 client = needed (codes "client")
 
+-- the form of a cell (own profile)
+abbrev pub cell : Rule
+cell = needed (codes "cell")
+
+-- the file of the configuration that is compared with (own profile)
+abbrev pub old_file : Rule
+old_file = needed (codes "old")
+
+-- the file of the configuration that is compared (own profile)
+abbrev pub new_file : Rule
+new_file = needed (codes "new")
+
 -- `-v` or `--verbose`, also more than once (own profile)
 abbrev pub verbose : Rule
 verbose = record (new_rule (codes "verbose")) { short = Some 118; long = Some (codes "verbose"); action = Some Count }
@@ -89,6 +101,14 @@ label_app = with_rule (new_app (codes "label")) config_file
 abbrev pub check_app : App
 check_app = with_rule (with_rule (with_rule (new_app (codes "check")) all) config_file) labels_file
 
+-- `why CONFIG CLIENT CELL` (own profile)
+abbrev pub why_app : App
+why_app = with_rule (with_rule (with_rule (new_app (codes "why")) config_file) client) cell
+
+-- `compare OLD NEW` (own profile)
+abbrev pub compare_app : App
+compare_app = with_rule (with_rule (new_app (codes "compare")) old_file) new_file
+
 -- `quiet CONFIG LABELS CLIENT` (own profile)
 abbrev pub quiet_app : App
 quiet_app = with_rule (with_rule (with_rule (with_rule (new_app (codes "quiet")) verbose) config_file) labels_file) client
@@ -123,7 +143,7 @@ bare_program = record { top = record program { is_leaf = true }; subs = [] }
 
 -- the commands of the program (own profile)
 abbrev pub commands : List App
-commands = demo_app ∷ run_app ∷ edges_app ∷ label_app ∷ check_app ∷ quiet_app ∷ audit_app ∷ session_app ∷ serve_app ∷ encode_app ∷ decode_app ∷ []
+commands = demo_app ∷ run_app ∷ edges_app ∷ label_app ∷ check_app ∷ why_app ∷ compare_app ∷ quiet_app ∷ audit_app ∷ session_app ∷ serve_app ∷ encode_app ∷ decode_app ∷ []
 
 -- the program with its commands (own profile)
 abbrev pub app : App

@@ -12,7 +12,7 @@ use Rattle.command_words.specs.declared.command.Command.TheVariants as commands
 use Rattle.command_words.specs.declared.command.EdgesForm.{EdgesForm}
 use Rattle.command_words.specs.declared.command.EdgesForm.TheVariants as forms
 
--- what is asked for, with the paths of the files that are named: of edges the form; of a verdict whether all that is refused is told; of whether lines are noticed the client; of an audit how many workers, which names, and whether it is
+-- what is asked for, with the paths of the files that are named: of edges the form; of a verdict whether all that is refused is told; of ways the client and the cell; of whether lines are noticed the client; of an audit how many workers, which names, and whether it is
 -- told how far it is; of a served meter the address, the port and how many connections (own profile)
 pub data Asked : Type 0 where
   Demo : Bool → Asked
@@ -20,6 +20,8 @@ pub data Asked : Type 0 where
   Edges : List ℕ → EdgesForm → Asked
   Label : List ℕ → Asked
   Check : List ℕ → List ℕ → Bool → Asked
+  Why : List ℕ → List ℕ → List ℕ → Asked
+  Compare : List ℕ → List ℕ → Asked
   Quiet : List ℕ → List ℕ → List ℕ → Bool → Asked
   Audit : ℕ → List (List ℕ) → Bool → Asked
   Session : List ℕ → Asked
@@ -34,6 +36,8 @@ asked_by (commands.Run config is_verbose) = Run config.now is_verbose
 asked_by (commands.Edges config form) = Edges config.now form
 asked_by (commands.Label config) = Label config.now
 asked_by (commands.Check config labels tells_all) = Check config.now labels.now tells_all
+asked_by (commands.Why config client cell) = Why config.now client.now cell.now
+asked_by (commands.Compare old new) = Compare old.now new.now
 asked_by (commands.Quiet config labels client is_verbose) = Quiet config.now labels.now client.now is_verbose
 asked_by (commands.Audit workers names tells_progress) =
     Audit (non_zero_usize_get workers) (map (λ name. name.now) names.items) tells_progress
@@ -72,6 +76,21 @@ check_in rows =
 infixl 10 ◌>>=◌
 abbrev pub ◌>>=◌ : {A B : Type 0} → Option A → (A → Option B) → Option B
 found >>= f = option_and_then f found
+
+-- a configuration, a client and a cell (own profile)
+abbrev pub why_in : List Row → Option Asked
+why_in rows = do
+  config ← first_of (codes "config") rows
+  client ← first_of (codes "client") rows
+  cell ← first_of (codes "cell") rows
+  Some (Why config client cell)
+
+-- two configurations, the old one first (own profile)
+abbrev pub compare_in : List Row → Option Asked
+compare_in rows = do
+  old ← first_of (codes "old") rows
+  new ← first_of (codes "new") rows
+  Some (Compare old new)
 
 -- a configuration, labels and a client, and whether each line is to be told of (own profile)
 abbrev pub quiet_in : List Row → Option Asked
@@ -126,6 +145,8 @@ asked_in p =
     else if bytes_eq p.0 (codes "edges") then edges_in p.1
     else if bytes_eq p.0 (codes "label") then option_map Label (first_of (codes "config") p.1)
     else if bytes_eq p.0 (codes "check") then check_in p.1
+    else if bytes_eq p.0 (codes "why") then why_in p.1
+    else if bytes_eq p.0 (codes "compare") then compare_in p.1
     else if bytes_eq p.0 (codes "quiet") then quiet_in p.1
     else if bytes_eq p.0 (codes "audit") then audit_in p.1
     else if bytes_eq p.0 (codes "session") then option_map Session (first_of (codes "config") p.1)

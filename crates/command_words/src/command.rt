@@ -38,6 +38,17 @@ pub enum Command<'a> {
         labels: &'a str,
         tells_all: bool,
     },
+    /// To print by which shortest ways a client may influence and learn a cell.
+    Why {
+        config: &'a str,
+        client: &'a str,
+        cell: &'a str,
+    },
+    /// To print what a new configuration gives and takes.
+    Compare {
+        old: &'a str,
+        new: &'a str,
+    },
     /// To print whether a client could notice each step line, by a configuration whose labels are accepted, and to tell what it could
     /// notice where that is asked for.
     Quiet {

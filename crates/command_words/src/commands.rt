@@ -32,6 +32,8 @@ pub(crate) fn all_commands<'a>(alloc: Global) -> Result<Command<'a>, AllocError>
     let commands = with(commands, edges_command(alloc));
     let commands = with(commands, label_command(alloc));
     let commands = with(commands, check_command(alloc));
+    let commands = with(commands, why_command(alloc));
+    let commands = with(commands, compare_command(alloc));
     let commands = with(commands, quiet_command(alloc));
     let commands = with(commands, audit_command(alloc));
     let commands = with(commands, session_command(alloc));
@@ -119,6 +121,29 @@ fn check_command<'a>(alloc: Global) -> Result<Command<'a>, AllocError>
         .arg(all(alloc))?
         .arg(config_file(alloc, CONFIG_SOURCE))?
         .arg(labels_file(alloc, LABELS_SOURCE))
+}
+
+fn why_command<'a>(alloc: Global) -> Result<Command<'a>, AllocError>
+    ensures app { IfOk result (λ c. app_of c ≡ spec.why_app) }
+    ensures local { IfOk result (λ c. (out-Command c).has_globals ≡ false) }
+{
+    Command::new(alloc, "why")
+        .about("Tell by which shortest ways a client may influence and learn a cell")
+        .after_help("Example: cosem-flow why mine.toml reader 3/1.0.1.8.0.255/2")
+        .arg(config_file(alloc, CONFIG_SOURCE))?
+        .arg(client(alloc))?
+        .arg(cell(alloc))
+}
+
+fn compare_command<'a>(alloc: Global) -> Result<Command<'a>, AllocError>
+    ensures app { IfOk result (λ c. app_of c ≡ spec.compare_app) }
+    ensures local { IfOk result (λ c. (out-Command c).has_globals ≡ false) }
+{
+    Command::new(alloc, "compare")
+        .about("Print what a new configuration gives and takes")
+        .after_help("Example: cosem-flow compare old.toml new.toml")
+        .arg(old_file(alloc))?
+        .arg(new_file(alloc))
 }
 
 fn quiet_command<'a>(alloc: Global) -> Result<Command<'a>, AllocError>
@@ -265,6 +290,42 @@ fn client<'a>(alloc: Global) -> Arg<'a>
         .action(ArgAction::Set)
         .value_name("CLIENT")
         .help("The name of the client, as the configuration has it")
+}
+
+/// Which cell is asked about.
+fn cell<'a>(alloc: Global) -> Arg<'a>
+    ensures rule { rule_of result ≡ spec.cell }
+    ensures local { result.global ≡ false }
+{
+    Arg::new(alloc, "cell")
+        .required(true)
+        .action(ArgAction::Set)
+        .value_name("CELL")
+        .help("The cell, in the form that `label` prints")
+}
+
+/// The configuration that is compared with.
+fn old_file<'a>(alloc: Global) -> Arg<'a>
+    ensures rule { rule_of result ≡ spec.old_file }
+    ensures local { result.global ≡ false }
+{
+    Arg::new(alloc, "old")
+        .required(true)
+        .action(ArgAction::Set)
+        .value_name("OLD")
+        .help("The file of the old configuration, in TOML; - is standard input")
+}
+
+/// The configuration that is compared.
+fn new_file<'a>(alloc: Global) -> Arg<'a>
+    ensures rule { rule_of result ≡ spec.new_file }
+    ensures local { result.global ≡ false }
+{
+    Arg::new(alloc, "new")
+        .required(true)
+        .action(ArgAction::Set)
+        .value_name("NEW")
+        .help("The file of the new configuration, in TOML; - is standard input")
 }
 
 /// How many workers share the work.

@@ -91,6 +91,8 @@ fn command_named<'a>(
         "edges" => edges_in(found),
         "label" => value(found, "config").map(|config| Command::Label { config }),
         "check" => check_in(found),
+        "why" => why_in(found),
+        "compare" => compare_in(found),
         "quiet" => quiet_in(found),
         "audit" => audit_in(alloc, found)?,
         "session" => value(found, "config").map(|config| Command::Session { config }),
@@ -129,6 +131,24 @@ fn check_in<'a>(found: &ArgMatches<'a>) -> Option<Command<'a>>
         labels,
         tells_all: tells_all(found),
     })
+}
+
+fn why_in<'a>(found: &ArgMatches<'a>) -> Option<Command<'a>>
+    ensures { option_map asked_by result ≡ spec.why_in (rows_of (found_of found.now)) }
+{
+    Some(Command::Why {
+        config: value(found, "config")?,
+        client: value(found, "client")?,
+        cell: value(found, "cell")?,
+    })
+}
+
+fn compare_in<'a>(found: &ArgMatches<'a>) -> Option<Command<'a>>
+    ensures { option_map asked_by result ≡ spec.compare_in (rows_of (found_of found.now)) }
+{
+    let old = value(found, "old")?;
+    let new = value(found, "new")?;
+    Some(Command::Compare { old, new })
 }
 
 fn quiet_in<'a>(found: &ArgMatches<'a>) -> Option<Command<'a>>
