@@ -11,7 +11,8 @@ use Rattle.verdict.specs.declared.Verdict.{Verdict}
 use Rattle.verdict.proofs.Judged.{judged, judged-whole}
 use Rattle.verdict.specs.declared.Verdict.TheVariants.{Accepted, Config, Labels, Refused}
 use Rattle.live_server.specs.declared.fault.ServerFault.{ServerFault}
-use Rattle.meter_server.specs.Answering.{IsAcceptedOf, IsFile, IsNoAcceptance, IsServed, JudgesFiles, RefusesFiles, TellsJudgement, TellsUnread}
+use Rattle.meter_server.specs.Answering.{IsAcceptedOf, IsNoAcceptance, IsServed, JudgesFiles, RefusesFiles, TellsJudgement}
+use Rattle.meter_server.specs.Files.{IsFile, TellsUnread}
 use Rattle.meter_server.specs.Outcomes.{ended}
 use Rattle.meter_server.specs.Program.{IsJudged, IsJudgedWhole, RefusesOn}
 use Rattle.meter_server.proofs.Made.{said-of}

@@ -6,7 +6,7 @@ use Rattle.meter_server.specs.Outcomes.{output_of, status_of, unless_closed}
 use Rattle.meter_server.specs.Program.{AreMistaken, AskForHelp, IsNoCommand, TellsVerdict}
 use Rattle.plan_lists.specs.declared.fault.ListFault.TheVariants.{Write, Memory}
 use Rattle.meter_server.specs.declared.outcome.Outcome.{Outcome}
-use Rattle.meter_server.specs.declared.outcome.Outcome.TheVariants.{Done, Judged, Words, Unread, Stranger, Fault, Broken, Unserved, Audited, Unaudited, Unwritten, Untranslated, Closed}
+use Rattle.meter_server.specs.declared.outcome.Outcome.TheVariants.{Done, Judged, JudgedWhole, JudgedSide, Compared, Words, Unread, Stranger, Fault, Broken, Unserved, Audited, Unaudited, Unwritten, Untranslated, Closed}
 
 -- of no text a write leaves nothing
 nothing-left : (front left : List ℕ) → [] ≡ front ++ left → 0 < length left → ⊥
@@ -40,6 +40,9 @@ mistaken-ends ws mistaken (Words (words.Usage text)) told closed before after h 
 mistaken-ends ws mistaken (Words words.Memory) told closed before after h t = elim (words-told words.Memory told closed before after refl t) [ inl e ↦ inr e | inr e ↦ inr e ]
 mistaken-ends ws mistaken Done told closed before after h t = absurd h
 mistaken-ends ws mistaken (Judged verdict text) told closed before after h t = absurd h
+mistaken-ends ws mistaken (JudgedWhole verdict failures text) told closed before after h t = absurd h
+mistaken-ends ws mistaken (JudgedSide side verdict text) told closed before after h t = absurd h
+mistaken-ends ws mistaken (Compared gives) told closed before after h t = absurd h
 mistaken-ends ws mistaken (Unread file why) told closed before after h t = absurd h
 mistaken-ends ws mistaken (Stranger text) told closed before after h t = absurd h
 mistaken-ends ws mistaken (Fault fault) told closed before after h t = absurd h
@@ -60,6 +63,9 @@ helped-ends ws asks (Words (words.Usage text)) told closed before after mistake 
 helped-ends ws asks (Words words.Memory) told closed before after h t = elim (words-told words.Memory told closed before after refl t) [ inl e ↦ inr (inl e) | inr e ↦ inr (inl e) ]
 helped-ends ws asks Done told closed before after h t = absurd h
 helped-ends ws asks (Judged verdict text) told closed before after h t = absurd h
+helped-ends ws asks (JudgedWhole verdict failures text) told closed before after h t = absurd h
+helped-ends ws asks (JudgedSide side verdict text) told closed before after h t = absurd h
+helped-ends ws asks (Compared gives) told closed before after h t = absurd h
 helped-ends ws asks (Unread file why) told closed before after h t = absurd h
 helped-ends ws asks (Stranger text) told closed before after h t = absurd h
 helped-ends ws asks (Fault fault) told closed before after h t = absurd h

@@ -3,7 +3,7 @@ use Rattle.std.specs.Prelude.{◌≡◌, ◌⊎◌, ◌++◌, ℕ, List, Bool, t
 use Rattle.std.specs.Io.KnownBytes.{Appends}
 use Rattle.std.specs.List.{AllZip}
 use Rattle.command_words.specs.Commands.{Asked, command_of}
-use Rattle.command_words.specs.Commands.Asked.{Demo, Run, Edges, Label, Check, Quiet, Audit, Session, Serve, Encode, Decode}
+use Rattle.command_words.specs.Commands.Asked.{Demo, Run, Edges, Label, Check, Why, Compare, Quiet, Audit, Session, Serve, Encode, Decode}
 use Rattle.command_words.specs.declared.fault.WordsFault.TheVariants as words
 use Rattle.config_reader.specs.ConfigOf.{config_of}
 use Rattle.config_rules.specs.Faultless.{IsPolicyOf}
@@ -24,6 +24,9 @@ use Rattle.flow_checker.specs.declared.check.Checked.{Checked}
 use Rattle.line_server.specs.Lines.{Moment}
 use Rattle.line_server.specs.declared.fault.LineFault.TheVariants as lines
 use Rattle.meter_theory.specs.Plan.{client_named}
+use Rattle.meter_server.specs.Comparing.{ComparesFiles}
+use Rattle.meter_server.specs.Files.{ByFile, IsFile, IsUnread, TellsUnread}
+use Rattle.meter_server.specs.Looking.{AsksWhy}
 use Rattle.meter_server.specs.Noticing.{NoticesAs}
 use Rattle.meter_server.specs.Outcomes.{error_of, status_of, translated, unless_closed}
 use Rattle.meter_server.specs.Program.{AnswersFrames, AnswersText, IsFaulty, IsJudged, IsJudgedWhole, IsNoCommand, ListsEdges, ListsLabels, TellsVerdict}
@@ -41,27 +44,6 @@ use Rattle.step_words.specs.declared.texts.Way.TheVariants as ways
 use Rattle.step_words.specs.declared.translating.TranslationFault.{TranslationFault}
 use Rattle.text_files.specs.Files.{MayRead}
 use Rattle.text_files.specs.declared.FileFault.{FileFault}
-
--- Files
-
--- the file with this path was read, and has this text
-pub record IsFile (reads : MayRead) (path : List ℕ) (source : Source) : Type 0 where
-  pub file : source.file.now ≡ path
-  pub text : reads path (Ok source.text.now)
-
--- a command tells that the file with this path isn't read, and why; or memory was refused for that
-abbrev pub TellsUnread : List ℕ → FileFault → Outcome → Type 0
-TellsUnread path why (Unread file told) = (string_bytes file ≡ path) × (told ≡ why)
-TellsUnread path why (Fault lines.Memory) = Unit {0}
-TellsUnread path why _ = ⊥
-
--- the file with this path isn't read, and a command tells that
-abbrev pub IsUnread : MayRead → List ℕ → Outcome → Type 0
-IsUnread reads path outcome = (why : FileFault) × reads path (Err why) × TellsUnread path why outcome
-
--- what a command does with the file that has this path: this, where it is read; else it tells that it isn't, and this stays as it was
-abbrev pub ByFile : MayRead → List ℕ → (Source → Outcome → Type 0) → Type 0 → Outcome → Type 0
-ByFile reads path Does Stays outcome = ((source : Source) × IsFile reads path source × Does source outcome) ⊎ (IsUnread reads path outcome × Stays)
 
 -- Verdicts
 
@@ -174,6 +156,10 @@ Answers reads (Label path) before after outcome =
     (given : Option Given) × ReadsWhere (is_input path) before.unread after.unread given × ListsFile ListsLabels (MayGive reads given) path before.written after.written outcome
 Answers reads (Check config labels tells_all) before after outcome =
     (given : Option Given) × ReadsWhere (is_input config || is_input labels) before.unread after.unread given × (after.written ≡ before.written) × JudgesFiles (MayGive reads given) tells_all config labels outcome
+Answers reads (Why path client cell) before after outcome =
+    (given : Option Given) × ReadsWhere (is_input path) before.unread after.unread given × ListsFile (AsksWhy client cell) (MayGive reads given) path before.written after.written outcome
+Answers reads (Compare old new) before after outcome =
+    (given : Option Given) × ReadsWhere (is_input old || is_input new) before.unread after.unread given × ComparesFiles (MayGive reads given) old new before.written after.written outcome
 Answers reads (Quiet config labels client is_verbose) before after outcome = NoticesFiles reads config labels client before after outcome
 Answers reads (Audit workers names tells_progress) before after outcome = (after ≡ before) × AuditsFiles reads names outcome
 Answers reads (Session path) before after outcome = ConnectsFile reads path before after outcome

@@ -1,4 +1,7 @@
 pub mod Answering
+pub mod Comparing
+pub mod Files
+pub mod Looking
 pub mod Noticing
 pub mod Outcomes
 pub mod Program

@@ -13,8 +13,10 @@ use Rattle.line_server.specs.Faults.{fault_words, reason_words}
 use Rattle.live_server.specs.Faults as servers
 use Rattle.live_server.specs.declared.fault.ServerFault.{ServerFault}
 use Rattle.verdict.specs.Lines.{verdict_line}
+use Rattle.meter_server.specs.declared.outcome.Side.{Side}
+use Rattle.meter_server.specs.declared.outcome.Side.TheVariants as sides
 use Rattle.meter_server.specs.declared.outcome.Outcome.{Outcome}
-use Rattle.meter_server.specs.declared.outcome.Outcome.TheVariants.{Done, Judged, JudgedWhole, Words, Unread, Stranger, Fault, Broken, Unserved, Audited, Unaudited, Unwritten, Untranslated, Closed}
+use Rattle.meter_server.specs.declared.outcome.Outcome.TheVariants.{Done, Judged, JudgedWhole, JudgedSide, Compared, Words, Unread, Stranger, Fault, Broken, Unserved, Audited, Unaudited, Unwritten, Untranslated, Closed}
 use Rattle.line_server.specs.declared.fault.LineFault.{LineFault}
 use Rattle.line_server.specs.declared.fault.LineFault.TheVariants.{Line}
 use Rattle.line_server.specs.declared.fault.LineFault.TheVariants as lines
@@ -50,6 +52,11 @@ abbrev pub listed : Result (Unit {0}) ListFault → Outcome
 listed (Ok u) = Done
 listed (Err fault) = Unwritten fault
 
+-- how a command ended whose configurations were compared so
+abbrev pub compared : Result Bool ListFault → Outcome
+compared (Ok gives) = Compared gives
+compared (Err fault) = Unwritten fault
+
 -- how a command ended whose input was translated so
 abbrev pub translated : Result (Unit {0}) TranslationFault → Outcome
 translated (Ok u) = Done
@@ -79,6 +86,8 @@ abbrev pub status_of : Outcome → ℕ
 status_of Done = 0
 status_of (Judged verdict explanation) = status_of_verdict verdict
 status_of (JudgedWhole verdict failures explanation) = status_of_verdict verdict
+status_of (JudgedSide side verdict explanation) = 1
+status_of (Compared gives) = if gives then 1 else 0
 status_of (Words fault) = status_of_words fault
 status_of (Unread file why) = 3
 status_of (Stranger told) = 2
@@ -103,10 +112,24 @@ is_unwritten _ = false
 abbrev pub unless_closed : Outcome → (is_closed : Bool) → Outcome
 unless_closed outcome is_closed = if (is_closed && is_unwritten outcome) then Closed else outcome
 
+-- what stands before the verdict on one of two configurations
+abbrev pub side_words : Side → List ℕ
+side_words sides.Old = codes "old: "
+side_words sides.New = codes "new: "
+
+-- the verdict on one of two configurations
+abbrev pub side_line : Side → Verdict → List ℕ
+side_line side verdict = side_words side ++ verdict_line verdict
+
+-- what is told where a new configuration gives clients what the old one doesn't
+abbrev pub gives_more : List ℕ
+gives_more = codes "cosem-flow: the new configuration gives clients what the old one does not\n  ask for the ways with cosem-flow why\n"
+
 -- what standard output tells behind what the command wrote: its verdict or verdicts and all that fails, help or the version
 abbrev pub output_of : Outcome → List ℕ
 output_of (Judged verdict explanation) = verdict_line verdict
 output_of (JudgedWhole verdict failures explanation) = verdict_line verdict ++ string_bytes failures
+output_of (JudgedSide side verdict explanation) = side_line side verdict
 output_of (Audited text accepts) = string_bytes text
 output_of (Words (words.Help text)) = string_bytes text
 output_of (Words (words.Version text)) = string_bytes text
@@ -126,6 +149,9 @@ error_of Done = []
 error_of Closed = []
 error_of (Judged verdict explanation) = string_bytes explanation
 error_of (JudgedWhole verdict failures explanation) = string_bytes explanation
+error_of (JudgedSide side verdict explanation) = string_bytes explanation
+error_of (Compared true) = gives_more
+error_of (Compared false) = []
 error_of (Words (words.Help text)) = []
 error_of (Words (words.Version text)) = []
 error_of (Words (words.Usage text)) = string_bytes text

@@ -2,10 +2,14 @@
 ghost use Rattle.std.specs.Prelude.{◌≡◌, false, true, MatchResult, Ok, Some, map, string_bytes};
 ghost use Rattle.command_words.specs.Commands.{asked_by};
 ghost use Rattle.config_reader.specs.ConfigOf.{config_of};
-ghost use Rattle.meter_server.specs.Answering.{Answers, AuditsFiles, ConnectsFile, IsAcceptedOf, IsUnread, JudgesFiles, ListsFile, NoticesFiles, RefusesFiles, RunsFile, ServesFiles, TellsUnread, is_quiet, unread_fleet};
+ghost use Rattle.meter_server.specs.Answering.{Answers, AuditsFiles, ConnectsFile, IsAcceptedOf, JudgesFiles, ListsFile, NoticesFiles, RefusesFiles, RunsFile, ServesFiles, is_quiet, unread_fleet};
+ghost use Rattle.meter_server.specs.Files.{IsUnread, TellsUnread};
+ghost use Rattle.meter_server.specs.Looking.{AsksWhy};
 ghost use Rattle.meter_server.specs.Program.{AnswersText, ListsEdges, ListsLabels};
 
+use crate::comparing::compare_files;
 use crate::demo::DEMO;
+use crate::looking::{Question, tell_why};
 use crate::noticing::{Look, notice_lines};
 use crate::outcome::{Outcome, audited, ended, translated};
 use crate::sources::{Sources, is_either_input, is_input};
@@ -89,6 +93,18 @@ where
         } => {
             let sources = Sources::new(alloc, files, input, is_either_input(config, labels));
             check_files(alloc, &sources, config, labels, tells_all)
+        }
+        Command::Why {
+            config,
+            client,
+            cell,
+        } => {
+            let sources = Sources::new(alloc, files, input, is_input(config));
+            why_of_file(alloc, &sources, config, Question { client, cell }, output)
+        }
+        Command::Compare { old, new } => {
+            let sources = Sources::new(alloc, files, input, is_either_input(old, new));
+            compare_files(alloc, &sources, old, new, output)
         }
         Command::Quiet {
             config,
@@ -232,6 +248,23 @@ fn list_labels_of_file<F: TextFiles, O: Write>(
     }
 }
 
+/// Tells by which ways a client of the configuration in a file may influence and learn a cell.
+fn why_of_file<F: TextFiles, O: Write>(
+    alloc: Global,
+    files: &F,
+    file: &str,
+    question: Question<'_>,
+    output: &mut O,
+) -> Outcome
+    ensures { ListsFile (AsksWhy question.entry.client.now question.entry.cell.now)
+        (F.may_read files.now) file.now (O.contents output.old) (O.contents output.new) result }
+{
+    match text_of_file(alloc, files, file) {
+        Ok(text) => tell_why(alloc, source_of(file, &text), question, output),
+        Err(outcome) => outcome,
+    }
+}
+
 /// The verdict on the configuration in a file and on the labels in another, and all that fails where that is asked for.
 fn check_files<F: TextFiles>(
     alloc: Global,
@@ -355,7 +388,7 @@ fn fleet_unread(fault: FleetFault) -> Outcome
 }
 
 /// The text of a file, or that it isn't read.
-fn text_of_file<F: TextFiles>(alloc: Global, files: &F, file: &str) -> Result<String, Outcome>
+pub(crate) fn text_of_file<F: TextFiles>(alloc: Global, files: &F, file: &str) -> Result<String, Outcome>
     ensures { MatchResult result
         (λ text. F.may_read files.now file.now (Ok (string_bytes text)))
         (IsUnread (F.may_read files.now) file.now) }
@@ -377,7 +410,7 @@ fn unread(alloc: Global, file: &str, why: FileFault) -> Outcome
 }
 
 /// A file by its path, with its text.
-fn source_of<'a>(file: &'a str, text: &'a String) -> Source<'a>
+pub(crate) fn source_of<'a>(file: &'a str, text: &'a String) -> Source<'a>
     ensures file { result.file.now ≡ file.now }
     ensures text { result.text.now ≡ string_bytes text.now }
 {

@@ -3,7 +3,9 @@
 #![tactic(auto)]
 
 mod answering;
+mod comparing;
 pub mod demo;
+mod looking;
 mod noticing;
 pub mod outcome;
 pub mod output;

@@ -53,7 +53,7 @@ pub(crate) fn notice_lines<I: Read, O: Write, E: Write>(
 }
 
 /// A command whose client the plan hasn't.
-fn stranger(alloc: Global, plan: &Plan, name: &str) -> Outcome
+pub(crate) fn stranger(alloc: Global, plan: &Plan, name: &str) -> Outcome
     ensures { TellsStranger plan.now name.now result }
 {
     match stranger_words(alloc, plan, name) {

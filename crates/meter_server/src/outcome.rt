@@ -19,6 +19,18 @@ use step_words::translating::TranslationFault;
 use text_files::FileFault;
 use verdict::{Verdict, verdict_text};
 
+/// What is told where a new configuration gives clients what the old one doesn't.
+const GIVES_MORE: &str = "cosem-flow: the new configuration gives clients what the old one does not\n  ask for the ways with cosem-flow why\n";
+
+/// Which of two configurations that are compared.
+#[derive(Clone, Copy, Debug, PartialEq, Eq, Drop)]
+pub enum Side {
+    /// The one before.
+    Old,
+    /// The one behind it.
+    New,
+}
+
 /// How a command ended.
 #[derive(Debug, Drop)]
 pub enum Outcome {
@@ -29,11 +41,15 @@ pub enum Outcome {
     Judged(Verdict, String),
     /// It came to this verdict, the first text tells all that fails in whole lines, and the second explains the verdict as of `Judged`.
     JudgedWhole(Verdict, String, String),
+    /// It came to this verdict on one of two configurations, and this text explains it as of `Judged`.
+    JudgedSide(Side, Verdict, String),
+    /// It told how two configurations differ, and whether the new one gives a client what the old one doesn't.
+    Compared(bool),
     /// The words of the command line ask for help or the version, or are no command.
     Words(WordsFault),
     /// The file with this path isn't read as text, and why.
     Unread(String, FileFault),
-    /// The words of the command line name a client that the configuration hasn't, as these words say.
+    /// The words of the command line name a client or a cell that the configuration hasn't, as these words say.
     Stranger(String),
     /// A fault stopped the run of lines.
     Fault(LineFault),
@@ -63,7 +79,8 @@ impl Outcome {
             Outcome::Done
             | Outcome::Judged(Verdict::Accepted, _)
             | Outcome::JudgedWhole(Verdict::Accepted, _, _) => 0,
-            Outcome::Judged(_, _) | Outcome::JudgedWhole(_, _, _) => 1,
+            Outcome::Judged(_, _) | Outcome::JudgedWhole(_, _, _) | Outcome::JudgedSide(_, _, _) => 1,
+            Outcome::Compared(gives) => u8::from(*gives),
             Outcome::Words(WordsFault::Help(_) | WordsFault::Version(_)) => 0,
             Outcome::Words(WordsFault::Usage(_)) | Outcome::Stranger(_) => 2,
             Outcome::Words(WordsFault::Memory) => 3,
@@ -113,6 +130,7 @@ impl Outcome {
             Outcome::JudgedWhole(verdict, failures, _) => {
                 verdict_behind(alloc, verdict, failures.as_str())
             }
+            Outcome::JudgedSide(side, verdict, _) => verdict_on(alloc, *side, verdict),
             Outcome::Words(WordsFault::Help(text) | WordsFault::Version(text)) => {
                 Ok(String::from_str(alloc, text.as_str())?)
             }
@@ -127,10 +145,16 @@ impl Outcome {
         ensures { IfOk result (λ text. string_bytes text ≡ error_of self.now) }
     {
         match self {
-            Outcome::Done | Outcome::Audited { .. } | Outcome::Closed => Ok(String::new(alloc)),
-            Outcome::Judged(_, explanation) | Outcome::JudgedWhole(_, _, explanation) => {
+            Outcome::Done
+            | Outcome::Audited { .. }
+            | Outcome::Compared(false)
+            | Outcome::Closed => Ok(String::new(alloc)),
+            Outcome::Judged(_, explanation)
+            | Outcome::JudgedWhole(_, _, explanation)
+            | Outcome::JudgedSide(_, _, explanation) => {
                 Ok(String::from_str(alloc, explanation.as_str())?)
             }
+            Outcome::Compared(true) => Ok(String::from_str(alloc, GIVES_MORE)?),
             Outcome::Words(WordsFault::Help(_) | WordsFault::Version(_)) => Ok(String::new(alloc)),
             Outcome::Words(WordsFault::Usage(text)) => Ok(String::from_str(alloc, text.as_str())?),
             Outcome::Words(WordsFault::Memory) => {
@@ -148,6 +172,26 @@ impl Outcome {
             Outcome::Unwritten(fault) => line_of(alloc, fault.words()),
             Outcome::Untranslated(fault) => line_of(alloc, fault.told(alloc)?.as_str()),
         }
+    }
+}
+
+/// The line of a verdict on one of two configurations, behind which of them it is on.
+fn verdict_on(alloc: Global, side: Side, verdict: &Verdict) -> Result<String, Memory>
+    ensures { IfOk result (λ text. string_bytes text ≡ outcomes.side_line side verdict.now) }
+{
+    let verdict = verdict_text(alloc, verdict)?;
+    let mut text = String::from_str(alloc, words_of(side))?;
+    text.push_str(verdict.as_str())?;
+    Ok(text)
+}
+
+/// What stands before the verdict on one of two configurations.
+fn words_of(side: Side) -> &'static str
+    ensures { result.now ≡ outcomes.side_words side }
+{
+    match side {
+        Side::Old => "old: ",
+        Side::New => "new: ",
     }
 }
 
@@ -222,6 +266,16 @@ pub(crate) fn listed(answer: Result<(), ListFault>) -> Outcome
 {
     match answer {
         Ok(()) => Outcome::Done,
+        Err(fault) => Outcome::Unwritten(fault),
+    }
+}
+
+/// How a command ended whose configurations were compared so.
+pub(crate) fn compared(answer: Result<bool, ListFault>) -> Outcome
+    ensures { result ≡ outcomes.compared answer }
+{
+    match answer {
+        Ok(gives) => Outcome::Compared(gives),
         Err(fault) => Outcome::Unwritten(fault),
     }
 }
