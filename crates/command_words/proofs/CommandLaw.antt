@@ -5,19 +5,18 @@ use Rattle.std.specs.List.{list_any}
 use Rattle.std.proofs.lemmas.Bool.{or_cases}
 use Rattle.std.proofs.Math.Bool.{and-true}
 use Rattle.std.proofs.lemmas.Slice.Eq.{bytes_eq-Decides}
-use Rattle.clap.specs.Words.{App, Row, Shape, Text, built, subcommand_of}
+use Rattle.clap.specs.Words.{App, Row, Shape, Text, built, fault_of, subcommand_of}
 use Rattle.clap.specs.Faults.{built_fault, defaults_fault, entered_fault, level_fault, settle_fault, walk_fault}
 use Rattle.clap.specs.Simple.{argument_words, built_leaf, entered, help_shape, label_of, names_of, rows_at}
 use Rattle.clap.specs.ValueTests.{is_unsigned_in}
 use Rattle.clap.specs.Walk.{answers_to, nothing_held, rows_after, settled, stop_after, walk_from, walked}
-use Rattle.command_words.specs.CommandLine.{app, audit_app, check_app, decode_app, demo_app, edges_app, encode_app, kinds_of, label_app, quiet_app, run_app, serve_app, session_app}
-use Rattle.command_words.specs.Commands.{Asked, asked_in, command_of}
+use Rattle.command_words.specs.CommandLine.{app, audit_app, check_app, decode_app, demo_app, edges_app, encode_app, label_app, quiet_app, run_app, serve_app, session_app}
+use Rattle.command_words.specs.Commands.{asked_in}
 use Rattle.command_words.proofs.EachLemmas.{Each, each_found, no_kinds}
 use Rattle.command_words.proofs.LevelLemmas.{IsTaken, level_taken, nothing_wanted, number_there, text_there, texts_there}
 use Rattle.command_words.proofs.NumberLemmas.{signed_unsigned, unsigned_wider}
 use Rattle.command_words.proofs.RowLemmas.{Gives}
 use Rattle.command_words.proofs.WalkKeeps.{IsNoHelp, walk_fine}
-use Rattle.command_words.proofs.WordsLemmas.{command_of-taken}
 
 -- what can't be, as that an argument is another
 other : {P : Type 0} → false ≡ true → P
@@ -40,9 +39,13 @@ demo = (refl, λ no_help rows t. refl)
 run : Told (built_leaf run_app.top)
 run = (refl, λ no_help rows t. then _ _ (text_there _ rows t (codes "config") refl) (λ config. refl))
 
--- `edges CONFIG`
+-- `edges CONFIG`, with a default for its option
 edges : Told (built_leaf edges_app.top)
-edges = (refl, λ no_help rows t. then _ _ (text_there _ rows t (codes "config") refl) (λ config. refl))
+edges = (
+  refl,
+  λ no_help rows t. then _ _ (text_there _ rows t (codes "config") refl) (λ config.
+      then _ _ (text_there _ rows t (codes "format") refl) (λ form. refl)),
+)
 
 -- `label CONFIG`
 label : Told (built_leaf label_app.top)
@@ -153,10 +156,5 @@ module _ (above : App) (required : above.top.subcommand_required ≡ true) (help
       wanted false none = other (sym none ∙ required)
 
 -- so a command line in which clap finds no fault asks for something
-pub words_without_fault_are_a_command : (words : List Text) → kinds_of words ≡ [] → (asked : Asked) × (command_of words ≡ Some asked)
-words_without_fault_are_a_command words none =
-    go (option_and_then asked_in (subcommand_of app words)) refl (level_told (built app) refl refl all_told (argument_words app words) none)
-  where
-    go : (o : Option Asked) → option_and_then asked_in (subcommand_of app words) ≡ o → is_some o ≡ true → (asked : Asked) × (command_of words ≡ Some asked)
-    go None is some = other some
-    go (Some asked) is some = (asked, command_of-taken words (subcommand_of app words) (Some asked) none refl (sym is))
+pub words_without_fault_are_a_command : (words : List Text) → fault_of app words ≡ [] → is_some (option_and_then asked_in (subcommand_of app words)) ≡ true
+words_without_fault_are_a_command words none = level_told (built app) refl refl all_told (argument_words app words) none

@@ -1,23 +1,35 @@
 -- What clap finds in the words, against the command that they ask for.
-use Rattle.std.proofs.Common.{◌≡◌, ◌==◌, ◌∷◌, ◌∙◌, ◌⊎◌, [], ℕ, suc, Bool, false, arith, List, Option, None, cond, inl, inr, length, sym, ap, subst}
+use Rattle.std.proofs.Common.{◌≡◌, ◌==◌, ◌∷◌, ◌∙◌, ◌⊎◌, [], ℕ, suc, Bool, false, arith, List, Option, None, Some, Result, Ok, Err, IfErr, IfOk, cond, inl, inr, length, refl, sym, ap, ap₂, subst}
 use Rattle.std.proofs.lemmas.Bool.Decides.{nat_tests}
 use Rattle.std.specs.Prelude.{option_and_then, if◌then◌else◌}
-use Rattle.clap.specs.Words.{IsAmong, Kinds, Row, Text, subcommand_of}
+use Rattle.clap.specs.Kinds.{or_else}
+use Rattle.clap.specs.Words.{IsAmong, Kinds, Row, Text, fault_of, subcommand_of}
 use Rattle.clap.specs.declared.error.kind.ErrorKind.{ErrorKind}
-use Rattle.clap.specs.declared.error.kind.ErrorKind.TheVariants.{DisplayHelp, DisplayVersion, OutOfMemory}
-use Rattle.command_words.specs.CommandLine.{app, kinds_of}
-use Rattle.command_words.specs.Commands.{Asked, asked_in, command_of}
-use Rattle.command_words.specs.Faults.{HasMistake, IfHelp, IfUsage, IfVersion, IsToldAs, UnlessMemory}
+use Rattle.clap.specs.declared.error.kind.ErrorKind.TheVariants.{DisplayHelp, DisplayVersion, InvalidValue, OutOfMemory}
+use Rattle.command_words.specs.CommandLine.{app, form_kinds, kinds_of, unknown_form}
+use Rattle.command_words.specs.Commands.{Asked, asked_by, asked_in, command_of}
+use Rattle.command_words.specs.Faults.{HasMistake, IfHelp, IfUsage, IfVersion, IsNoForm, IsToldAs, UnlessMemory}
+use Rattle.command_words.specs.declared.command.Command.{Command}
 use Rattle.command_words.specs.declared.fault.WordsFault.{WordsFault}
 use Rattle.command_words.specs.declared.fault.WordsFault.TheVariants as faults
 
--- where clap finds no fault, the matches say the command
-pub command_of-taken : (words : List Text) (rows : Option (Text × List Row)) (asked : Option Asked) → kinds_of words ≡ [] → rows ≡ subcommand_of app words
-    → asked ≡ option_and_then asked_in rows → command_of words ≡ asked
+-- where clap finds no fault, and each form is known, the matches say the command
+pub command_of-taken : (words : List Text) (rows : Option (Text × List Row)) (asked : Option Asked) → fault_of app words ≡ [] → rows ≡ subcommand_of app words
+    → unknown_form rows ≡ None → asked ≡ option_and_then asked_in rows → command_of words ≡ asked
 unfolding command_of
-command_of-taken words rows asked none is said =
+command_of-taken words rows asked none is known said =
     let P : Kinds → Type 0 = λ ks. (if length ks == 0 then option_and_then asked_in (subcommand_of app words) else None) ≡ asked in
-    subst P (sym none) (ap (option_and_then asked_in) (sym is) ∙ sym said)
+    let all : kinds_of words ≡ [] = ap₂ or_else none (ap form_kinds (ap unknown_form (sym is) ∙ known)) in
+    subst P (sym all) (ap (option_and_then asked_in) (sym is) ∙ sym said)
+
+-- the kinds of clap's error are among all
+among-first : (kind : ErrorKind) (first next : Kinds) → IsAmong kind first → IsAmong kind (or_else first next)
+among-first kind [] next h = absurd h
+among-first kind (k ∷ ks) next h = h
+
+pub claps-kind : (words : List Text) (kind : ErrorKind) → (kind ≡ OutOfMemory) ⊎ IsAmong kind (fault_of app words) → (kind ≡ OutOfMemory) ⊎ IsAmong kind (kinds_of words)
+claps-kind words kind (inl h) = inl h
+claps-kind words kind (inr h) = inr (among-first kind (fault_of app words) (form_kinds (unknown_form (subcommand_of app words))) h)
 
 no_end : (n : ℕ) → (suc n == 0) ≡ false
 no_end n = grind (arith, nat_tests)
@@ -30,6 +42,43 @@ some_kind kind (k ∷ ks) asked h = ap (λ (b : Bool). cond b asked None) (no_en
 pub command_of-fault : (words : List Text) (kind : ErrorKind) → IsAmong kind (kinds_of words) → command_of words ≡ None
 unfolding command_of
 command_of-fault words kind h = some_kind kind (kinds_of words) _ h
+
+-- what is told of a form that isn't known is a mistake in the words
+form_kind : (words : List Text) (rows : Option (Text × List Row)) (name : Text) → fault_of app words ≡ [] → rows ≡ subcommand_of app words → unknown_form rows ≡ Some name → IsAmong InvalidValue (kinds_of words)
+form_kind words rows name none is unknown =
+    let kinds : kinds_of words ≡ InvalidValue ∷ [] = ap₂ or_else none (ap form_kinds (ap unknown_form (sym is) ∙ unknown)) in
+    subst (IsAmong InvalidValue) (sym kinds) (inl refl)
+
+-- what is told of matches with a form that isn't known, and what they ask for else
+module _ (words : List Text) (rows : Option (Text × List Row)) (none : fault_of app words ≡ []) (is : rows ≡ subcommand_of app words) where
+  pub form-command : (r : Result Command WordsFault) → IfOk r (λ _. unknown_form rows ≡ None) → IfOk r (λ command. Some (asked_by command) ≡ option_and_then asked_in rows)
+      → IfOk r (λ command. command_of words ≡ Some (asked_by command))
+  form-command (Ok command) known said = command_of-taken words rows (Some (asked_by command)) none is known said
+  form-command (Err fault) known said = tt
+
+  no_command : (u : Option Text) (fault : WordsFault) → unknown_form rows ≡ u → IsNoForm u fault → UnlessMemory fault (command_of words ≡ None)
+  no_command u faults.Memory e told = tt
+  no_command None (faults.Help text) e told = absurd told
+  no_command None (faults.Version text) e told = absurd told
+  no_command None (faults.Usage text) e told = absurd told
+  no_command (Some name) (faults.Help text) e told = absurd told
+  no_command (Some name) (faults.Version text) e told = absurd told
+  no_command (Some name) (faults.Usage text) e told = command_of-fault words InvalidValue (form_kind words rows name none is e)
+
+  pub form-no_command : (r : Result Command WordsFault) → IfErr r (IsNoForm (unknown_form rows)) → IfErr r (λ fault. UnlessMemory fault (command_of words ≡ None))
+  form-no_command (Ok command) told = tt
+  form-no_command (Err fault) told = no_command (unknown_form rows) fault refl told
+
+  usage : (u : Option Text) (fault : WordsFault) → unknown_form rows ≡ u → IsNoForm u fault → IfUsage fault (HasMistake (kinds_of words))
+  usage u faults.Memory e told = tt
+  usage u (faults.Help text) e told = tt
+  usage u (faults.Version text) e told = tt
+  usage None (faults.Usage text) e told = absurd told
+  usage (Some name) (faults.Usage text) e told = (InvalidValue, form_kind words rows name none is e, ((λ same. cc), (λ same. cc)))
+
+  pub form-usage : (r : Result Command WordsFault) → IfErr r (IsNoForm (unknown_form rows)) → IfErr r (λ fault. IfUsage fault (HasMistake (kinds_of words)))
+  form-usage (Ok command) told = tt
+  form-usage (Err fault) told = usage (unknown_form rows) fault refl told
 
 -- a fault that is told as clap's error, and what it says of the words
 pub told-no_command : (words : List Text) (kind : ErrorKind) (fault : WordsFault) → IsToldAs kind fault → (kind ≡ OutOfMemory) ⊎ IsAmong kind (kinds_of words)

@@ -1,8 +1,12 @@
 -- The command line as clap's definition of a simple command sees it. All of it is own profile.
-use Rattle.std.specs.Prelude.{List, [], ◌∷◌, Some, codes, false, map, pos, true}
-use Rattle.clap.specs.Words.{App, Kinds, Rule, Shape, Text, fault_of, new_app, new_rule, with_rule}
+use Rattle.std.specs.Prelude.{Bool, List, [], ◌∷◌, ◌||◌, Option, None, Some, codes, false, map, option_and_then, pos, true}
+use Rattle.std.specs.Prelude.{if◌then◌else◌}
+use Rattle.std.specs.Str.{bytes_eq}
+use Rattle.clap.specs.Kinds.{or_else}
+use Rattle.clap.specs.Words.{App, Kinds, Row, Rule, Shape, Text, fault_of, first_of, new_app, new_rule, subcommand_of, with_rule}
 use Rattle.clap.specs.Simple.{new_shape}
 use Rattle.clap.specs.declared.builder.action.ArgAction.TheVariants.{Append, Count, Set}
+use Rattle.clap.specs.declared.error.kind.ErrorKind.TheVariants.{InvalidValue}
 use Rattle.clap.specs.declared.builder.value_parser.ValueParser.TheVariants.{Signed, Unsigned}
 
 -- an argument that has to stand there (own profile)
@@ -57,6 +61,14 @@ sessions = record (option_or (codes "sessions") (codes "0")) { parser = Some (Un
 abbrev pub names : Rule
 names = record (new_rule (codes "name")) { required = true; action = Some Append; value_names = 1 }
 
+-- `--format FORM`: text where it isn't given (own profile)
+abbrev pub form : Rule
+form = option_or (codes "format") (codes "text")
+
+-- `--all`, also more than once (own profile)
+abbrev pub all : Rule
+all = record (new_rule (codes "all")) { long = Some (codes "all"); action = Some Count }
+
 -- `demo` (own profile)
 abbrev pub demo_app : App
 demo_app = with_rule (new_app (codes "demo")) verbose
@@ -65,17 +77,17 @@ demo_app = with_rule (new_app (codes "demo")) verbose
 abbrev pub run_app : App
 run_app = with_rule (with_rule (new_app (codes "run")) verbose) config_file
 
--- `edges CONFIG` (own profile)
+-- `edges [--format FORM] CONFIG` (own profile)
 abbrev pub edges_app : App
-edges_app = with_rule (new_app (codes "edges")) config_file
+edges_app = with_rule (with_rule (new_app (codes "edges")) form) config_file
 
 -- `label CONFIG` (own profile)
 abbrev pub label_app : App
 label_app = with_rule (new_app (codes "label")) config_file
 
--- `check CONFIG LABELS` (own profile)
+-- `check [--all] CONFIG LABELS` (own profile)
 abbrev pub check_app : App
-check_app = with_rule (with_rule (new_app (codes "check")) config_file) labels_file
+check_app = with_rule (with_rule (with_rule (new_app (codes "check")) all) config_file) labels_file
 
 -- `quiet CONFIG LABELS CLIENT` (own profile)
 abbrev pub quiet_app : App
@@ -117,6 +129,20 @@ commands = demo_app ∷ run_app ∷ edges_app ∷ label_app ∷ check_app ∷ qu
 abbrev pub app : App
 app = record { top = program; subs = map (λ command. command.top) commands }
 
--- the kinds that clap's error on these words may have, none where clap takes them (own profile)
+-- whether edges are printed in a form of this name (own profile)
+abbrev pub is_form : Text → Bool
+is_form name = bytes_eq name (codes "text") || bytes_eq name (codes "dot")
+
+-- the name of a form that there isn't, in a command's rows (own profile)
+abbrev pub unknown_form : Option (Text × List Row) → Option Text
+unknown_form rows =
+    option_and_then (λ p. option_and_then (λ name. if is_form name then None else Some name) (first_of (codes "format") p.1)) rows
+
+-- the kind of error that such a name is, none where there is none (own profile)
+abbrev pub form_kinds : Option Text → Kinds
+form_kinds None = []
+form_kinds (Some name) = InvalidValue ∷ []
+
+-- the kinds that the error on these words may have: clap's, and where clap takes them that of a form that there isn't; none where they are a command (own profile)
 abbrev pub kinds_of : List Text → Kinds
-kinds_of words = fault_of app words
+kinds_of words = or_else (fault_of app words) (form_kinds (unknown_form (subcommand_of app words)))

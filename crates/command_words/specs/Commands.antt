@@ -9,15 +9,17 @@ use Rattle.clap.specs.Words.{Row, Text, all_of, count_of, first_of, one_of, subc
 use Rattle.command_words.specs.CommandLine.{app, kinds_of}
 use Rattle.command_words.specs.declared.command.Command.{Command}
 use Rattle.command_words.specs.declared.command.Command.TheVariants as commands
+use Rattle.command_words.specs.declared.command.EdgesForm.{EdgesForm}
+use Rattle.command_words.specs.declared.command.EdgesForm.TheVariants as forms
 
--- what is asked for, with the paths of the files that are named: of whether lines are noticed the client; of an audit how many workers, which names, and whether it is
+-- what is asked for, with the paths of the files that are named: of edges the form; of a verdict whether all that is refused is told; of whether lines are noticed the client; of an audit how many workers, which names, and whether it is
 -- told how far it is; of a served meter the address, the port and how many connections (own profile)
 pub data Asked : Type 0 where
   Demo : Bool → Asked
   Run : List ℕ → Bool → Asked
-  Edges : List ℕ → Asked
+  Edges : List ℕ → EdgesForm → Asked
   Label : List ℕ → Asked
-  Check : List ℕ → List ℕ → Asked
+  Check : List ℕ → List ℕ → Bool → Asked
   Quiet : List ℕ → List ℕ → List ℕ → Bool → Asked
   Audit : ℕ → List (List ℕ) → Bool → Asked
   Session : List ℕ → Asked
@@ -29,9 +31,9 @@ pub data Asked : Type 0 where
 abbrev pub asked_by : Command → Asked
 asked_by (commands.Demo is_verbose) = Demo is_verbose
 asked_by (commands.Run config is_verbose) = Run config.now is_verbose
-asked_by (commands.Edges config) = Edges config.now
+asked_by (commands.Edges config form) = Edges config.now form
 asked_by (commands.Label config) = Label config.now
-asked_by (commands.Check config labels) = Check config.now labels.now
+asked_by (commands.Check config labels tells_all) = Check config.now labels.now tells_all
 asked_by (commands.Quiet config labels client is_verbose) = Quiet config.now labels.now client.now is_verbose
 asked_by (commands.Audit workers names tells_progress) =
     Audit (non_zero_usize_get workers) (map (λ name. name.now) names.items) tells_progress
@@ -48,10 +50,23 @@ is_verbose rows = nat_lt 0 (count_of (codes "verbose") rows)
 abbrev pub run_in : List Row → Option Asked
 run_in rows = option_map (λ config. Run config (is_verbose rows)) (first_of (codes "config") rows)
 
--- a configuration and labels (own profile)
+-- whether all that is refused is to be told: --all stands there (own profile)
+abbrev pub tells_all : List Row → Bool
+tells_all rows = nat_lt 0 (count_of (codes "all") rows)
+
+-- the form of this name: no other name than `text` and `dot` is let through (own profile)
+abbrev pub form_named : Text → EdgesForm
+form_named name = if bytes_eq name (codes "dot") then forms.Dot else forms.Text
+
+-- a configuration, and in which form its edges are printed (own profile)
+abbrev pub edges_in : List Row → Option Asked
+edges_in rows =
+    option_and_then (λ config. option_map (λ name. Edges config (form_named name)) (first_of (codes "format") rows)) (first_of (codes "config") rows)
+
+-- a configuration and labels, and whether all that is refused is to be told (own profile)
 abbrev pub check_in : List Row → Option Asked
 check_in rows =
-    option_and_then (λ config. option_map (Check config) (first_of (codes "labels") rows)) (first_of (codes "config") rows)
+    option_and_then (λ config. option_map (λ labels. Check config labels (tells_all rows)) (first_of (codes "labels") rows)) (first_of (codes "config") rows)
 
 -- go on with what was found, if anything was
 infixl 10 ◌>>=◌
@@ -108,7 +123,7 @@ abbrev pub asked_in : Text × List Row → Option Asked
 asked_in p =
     if bytes_eq p.0 (codes "demo") then Some (Demo (is_verbose p.1))
     else if bytes_eq p.0 (codes "run") then run_in p.1
-    else if bytes_eq p.0 (codes "edges") then option_map Edges (first_of (codes "config") p.1)
+    else if bytes_eq p.0 (codes "edges") then edges_in p.1
     else if bytes_eq p.0 (codes "label") then option_map Label (first_of (codes "config") p.1)
     else if bytes_eq p.0 (codes "check") then check_in p.1
     else if bytes_eq p.0 (codes "quiet") then quiet_in p.1
@@ -119,6 +134,6 @@ asked_in p =
     else if bytes_eq p.0 (codes "decode") then Some Decode
     else None
 
--- the words of a command line, the program's name first: clap takes them, and its matches name a command (own profile)
+-- the words of a command line, the program's name first: nothing is wrong with them, and clap's matches name a command (own profile)
 unfoldable pub command_of : List Text → Option Asked
 command_of words = if length (kinds_of words) == 0 then option_and_then asked_in (subcommand_of app words) else None

@@ -1,6 +1,6 @@
 -- Why words ask for no command. All of it is own profile.
-use Rattle.std.specs.Prelude.{List, ℕ, codes, string_bytes, ◌≡◌, ◌≢◌}
-use Rattle.clap.specs.Words.{IsAmong, Kinds}
+use Rattle.std.specs.Prelude.{List, ℕ, codes, string_bytes, ◌≡◌, ◌≢◌, ◌++◌, Option, Some}
+use Rattle.clap.specs.Words.{IsAmong, Kinds, Text}
 use Rattle.clap.specs.declared.error.kind.ErrorKind.{ErrorKind}
 use Rattle.clap.specs.declared.error.kind.ErrorKind.TheVariants.{DisplayHelp, DisplayVersion, OutOfMemory}
 use Rattle.command_words.specs.declared.fault.WordsFault.{WordsFault}
@@ -20,6 +20,16 @@ IsToldAs kind (faults.Help text) = kind ≡ DisplayHelp
 IsToldAs kind (faults.Version text) = kind ≡ DisplayVersion
 IsToldAs kind (faults.Usage text) = (kind ≢ OutOfMemory) × IsMistake kind
 IsToldAs kind faults.Memory = Unit {0}
+
+-- what is told of the name of a form that there isn't (own profile)
+abbrev pub no_form_text : List ℕ → List ℕ
+no_form_text name = codes "error: invalid value '" ++ (name ++ codes "' for '--format <FORM>'\n  [possible values: text, dot]\n\nFor more information, try '--help'.\n")
+
+-- the fault that the name of a form is that there isn't, or memory was refused (own profile)
+abbrev pub IsNoForm : Option Text → WordsFault → Type 0
+IsNoForm (Some name) (faults.Usage text) = string_bytes text ≡ no_form_text name
+IsNoForm name faults.Memory = Unit {0}
+IsNoForm name _ = ⊥
 
 -- the text that is shown for a fault (own profile)
 abbrev pub fault_text : WordsFault → List ℕ

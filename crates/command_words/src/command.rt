@@ -2,6 +2,15 @@
 
 use std::num::{NonZeroU16, NonZeroUsize};
 
+/// In which form edges are printed (own profile).
+#[derive(Clone, Copy, Debug, PartialEq, Eq, Drop)]
+pub enum EdgesForm {
+    /// Each in a line.
+    Text,
+    /// As a graph that Graphviz reads.
+    Dot,
+}
+
 /// What a command line asks for, with the paths of the files that it names (own profile).
 #[derive(Debug, Drop)]
 pub enum Command<'a> {
@@ -14,18 +23,20 @@ pub enum Command<'a> {
         config: &'a str,
         is_verbose: bool,
     },
-    /// To print the edges of a configuration.
+    /// To print the edges of a configuration, in this form.
     Edges {
         config: &'a str,
+        form: EdgesForm,
     },
     /// To print the least labels of a configuration.
     Label {
         config: &'a str,
     },
-    /// To print the verdict on a configuration and on labels for it.
+    /// To print the verdict on a configuration and on labels for it, and all that is refused where that is asked for.
     Check {
         config: &'a str,
         labels: &'a str,
+        tells_all: bool,
     },
     /// To print whether a client could notice each step line, by a configuration whose labels are accepted, and to tell what it could
     /// notice where that is asked for.

@@ -95,6 +95,7 @@ fn edges_command<'a>(alloc: Global) -> Result<Command<'a>, AllocError>
     Command::new(alloc, "edges")
         .about("Print from which attribute to which a value may flow")
         .after_help("Example: cosem-flow edges mine.toml")
+        .arg(form(alloc))?
         .arg(config_file(alloc, CONFIG_SOURCE))
 }
 
@@ -115,6 +116,7 @@ fn check_command<'a>(alloc: Global) -> Result<Command<'a>, AllocError>
     Command::new(alloc, "check")
         .about("Print the verdict on labels for a configuration")
         .after_help("Example: cosem-flow check mine.toml mine.labels")
+        .arg(all(alloc))?
         .arg(config_file(alloc, CONFIG_SOURCE))?
         .arg(labels_file(alloc, LABELS_SOURCE))
 }
@@ -222,6 +224,35 @@ fn labels_file<'a>(alloc: Global, help: &'a str) -> Arg<'a>
         .action(ArgAction::Set)
         .value_name("LABELS")
         .help(help)
+}
+
+/// In which form edges are printed. Its names are tried once clap has taken the words, since a rule of clap that has names
+/// holds where these stand in memory, and so no two such rules are equal.
+fn form<'a>(alloc: Global) -> Arg<'a>
+    ensures rule { rule_of result ≡ spec.form }
+    ensures local { result.global ≡ false }
+{
+    Arg::new(alloc, "format")
+        .long("format")
+        .action(ArgAction::Set)
+        .default_value("text")
+        .value_name("FORM")
+        .help(
+            "The form of the list: a line for each edge, or a graph for Graphviz [possible values: text, dot]",
+        )
+}
+
+/// Whether all that is refused is told.
+fn all<'a>(alloc: Global) -> Arg<'a>
+    ensures rule { rule_of result ≡ spec.all }
+    ensures local { result.global ≡ false }
+{
+    Arg::new(alloc, "all")
+        .long("all")
+        .action(ArgAction::Count)
+        .help(
+            "Print behind the verdict all that is refused, with the clients that are too many or missing",
+        )
 }
 
 /// For which client it is told whether it could notice a line.

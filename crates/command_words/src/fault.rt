@@ -1,7 +1,7 @@
 //! Why the words of a command line ask for no command.
-ghost use Rattle.std.specs.Prelude.{◌≡◌};
+ghost use Rattle.std.specs.Prelude.{◌≡◌, Some};
 ghost use Rattle.clap.specs.Words.{kind_of};
-ghost use Rattle.command_words.specs.Faults.{IsToldAs};
+ghost use Rattle.command_words.specs.Faults.{IsNoForm, IsToldAs};
 
 use clap::error::ErrorKind;
 use std::alloc::Global;
@@ -36,6 +36,18 @@ pub(crate) fn fault_told(alloc: Global, error: &clap::Error) -> WordsFault
         ErrorKind::DisplayHelp => WordsFault::Help(text),
         ErrorKind::DisplayVersion => WordsFault::Version(text),
         _ => WordsFault::Usage(text),
+    }
+}
+
+/// The fault that the name of a form is that there isn't, in clap's words.
+pub(crate) fn no_form(alloc: Global, name: &str) -> WordsFault
+    ensures { IsNoForm (Some name.now) result }
+{
+    match format!(in alloc;
+        "error: invalid value '{name}' for '--format <FORM>'\n  [possible values: text, dot]\n\nFor more information, try '--help'.\n"
+    ) {
+        Ok(text) => WordsFault::Usage(text),
+        Err(_) => WordsFault::Memory,
     }
 }
 

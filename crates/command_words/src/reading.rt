@@ -1,16 +1,17 @@
 //! Command lines, read.
-ghost use Rattle.std.specs.Prelude.{◌≡◌, IfErr, IfOk, None, Some, map, option_and_then, option_map};
+ghost use Rattle.std.specs.Prelude.{◌≡◌, IfErr, IfOk, None, Some, is_some, map, option_and_then, option_map, true};
 ghost use Rattle.std.specs.Int.NonZero.{non_zero_u16_get, non_zero_usize_get};
 ghost use Rattle.clap.specs.Words.{IsAmong, all_of, first_of, found_of, rows_of, subcommand_rows_of};
 ghost use Rattle.clap.specs.declared.error.kind.ErrorKind.TheVariants.{DisplayHelp, DisplayVersion};
+ghost use Rattle.command_words.specs.CommandLine as line;
 ghost use Rattle.command_words.specs.Commands as spec;
 ghost use Rattle.command_words.specs.Commands.{asked_by, command_of};
 ghost use Rattle.command_words.specs.CommandLine.{kinds_of};
-ghost use Rattle.command_words.specs.Faults.{HasMistake, IfHelp, IfUsage, IfVersion, UnlessMemory};
+ghost use Rattle.command_words.specs.Faults.{HasMistake, IfHelp, IfUsage, IfVersion, IsNoForm, UnlessMemory};
 
-use crate::command::Command;
+use crate::command::{Command, EdgesForm};
 use crate::commands::all_commands;
-use crate::fault::{WordsFault, fault_told};
+use crate::fault::{WordsFault, fault_told, no_form};
 use clap::ArgMatches;
 use std::alloc::{AllocError, Global};
 use std::num::{NonZeroU16, NonZeroUsize};
@@ -33,12 +34,29 @@ pub fn read_words<'a>(alloc: Global, words: &'a [&'a str]) -> Result<Command<'a>
         return Err(WordsFault::Memory);
     };
     match commands.try_get_matches_from(words) {
-        Ok(matches) => match command_in(alloc, &matches) {
-            Ok(Some(command)) => Ok(command),
-            Ok(None) => unreachable!(),
-            Err(_) => Err(WordsFault::Memory),
-        },
+        Ok(matches) => command_of_matches(alloc, &matches),
         Err(error) => Err(fault_told(alloc, &error)),
+    }
+}
+
+/// What the words ask for of which clap has found these matches.
+fn command_of_matches<'a>(
+    alloc: Global,
+    matches: &ArgMatches<'a>,
+) -> Result<Command<'a>, WordsFault>
+    requires { is_some (option_and_then spec.asked_in (subcommand_rows_of matches.now)) ≡ true }
+    ensures form { IfOk result (λ _. line.unknown_form (subcommand_rows_of matches.now) ≡ None) }
+    ensures command { IfOk result (λ command. Some (asked_by command)
+        ≡ option_and_then spec.asked_in (subcommand_rows_of matches.now)) }
+    ensures fault { IfErr result (IsNoForm (line.unknown_form (subcommand_rows_of matches.now))) }
+{
+    if let Some(name) = unknown_form(matches) {
+        return Err(no_form(alloc, name));
+    }
+    match command_in(alloc, matches) {
+        Ok(Some(command)) => Ok(command),
+        Ok(None) => unreachable!(),
+        Err(_) => Err(WordsFault::Memory),
     }
 }
 
@@ -70,7 +88,7 @@ fn command_named<'a>(
             is_verbose: is_verbose(found),
         }),
         "run" => run_in(found),
-        "edges" => value(found, "config").map(|config| Command::Edges { config }),
+        "edges" => edges_in(found),
         "label" => value(found, "config").map(|config| Command::Label { config }),
         "check" => check_in(found),
         "quiet" => quiet_in(found),
@@ -93,12 +111,24 @@ fn run_in<'a>(found: &ArgMatches<'a>) -> Option<Command<'a>>
     })
 }
 
+fn edges_in<'a>(found: &ArgMatches<'a>) -> Option<Command<'a>>
+    ensures { option_map asked_by result ≡ spec.edges_in (rows_of (found_of found.now)) }
+{
+    let config = value(found, "config")?;
+    let form = form_named(value(found, "format")?);
+    Some(Command::Edges { config, form })
+}
+
 fn check_in<'a>(found: &ArgMatches<'a>) -> Option<Command<'a>>
     ensures { option_map asked_by result ≡ spec.check_in (rows_of (found_of found.now)) }
 {
     let config = value(found, "config")?;
     let labels = value(found, "labels")?;
-    Some(Command::Check { config, labels })
+    Some(Command::Check {
+        config,
+        labels,
+        tells_all: tells_all(found),
+    })
 }
 
 fn quiet_in<'a>(found: &ArgMatches<'a>) -> Option<Command<'a>>
@@ -153,6 +183,41 @@ fn is_verbose<'a>(found: &ArgMatches<'a>) -> bool
     ensures { result ≡ spec.is_verbose (rows_of (found_of found.now)) }
 {
     0 < found.get_count("verbose")
+}
+
+/// Whether all that is refused is to be told.
+fn tells_all<'a>(found: &ArgMatches<'a>) -> bool
+    ensures { result ≡ spec.tells_all (rows_of (found_of found.now)) }
+{
+    0 < found.get_count("all")
+}
+
+/// The name of a form that there isn't, where the matches have one.
+fn unknown_form<'a>(matches: &ArgMatches<'a>) -> Option<&'a str>
+    ensures { option_map (λ name. name.now) result
+        ≡ line.unknown_form (subcommand_rows_of matches.now) }
+{
+    let (_, found) = matches.subcommand()?;
+    let name = value(found, "format")?;
+    if is_form(name) { None } else { Some(name) }
+}
+
+/// Whether edges are printed in a form of this name.
+fn is_form(name: &str) -> bool
+    ensures { result ≡ line.is_form name.now }
+{
+    name == "text" || name == "dot"
+}
+
+/// The form of this name. No other name than `text` and `dot` is let through.
+fn form_named(name: &str) -> EdgesForm
+    ensures { result ≡ spec.form_named name.now }
+{
+    if name == "dot" {
+        EdgesForm::Dot
+    } else {
+        EdgesForm::Text
+    }
 }
 
 /// Whether it is to be told how far an audit is.
