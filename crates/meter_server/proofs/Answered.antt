@@ -1,14 +1,22 @@
 -- What commands come to over files.
-use Rattle.std.proofs.Common.{◌≡◌, ℕ, List, sym, subst, Result, Ok, Err}
-use Rattle.std.specs.Prelude.{◌≢◌}
+use Rattle.std.proofs.Common.{◌≡◌, ℕ, Bool, true, false, List, [], Option, Some, inl, inr, refl, sym, subst, ◌∙◌, Result, Ok, Err, IfOk, IfErr, String, string_bytes}
+use Rattle.std.specs.Prelude.{◌≢◌, MatchResult}
+use Rattle.config_reader.specs.ConfigOf.{Reads, config_of}
+use Rattle.config_rules.specs.Faultless.{IsPolicyOf}
+use Rattle.flow_checker.specs.declared.check.Checked.{Checked}
+use Rattle.meter_theory.specs.Labels.{Policy}
+use Rattle.meter_theory.specs.Plan.{Plan}
+use Rattle.verdict.specs.Judging.{IsVerdictOn}
 use Rattle.verdict.specs.declared.Verdict.{Verdict}
+use Rattle.verdict.proofs.Judged.{judged, judged-whole}
 use Rattle.verdict.specs.declared.Verdict.TheVariants.{Accepted, Config, Labels, Refused}
 use Rattle.live_server.specs.declared.fault.ServerFault.{ServerFault}
-use Rattle.meter_server.specs.Answering.{IsFile, IsNoAcceptance, IsServed, TellsUnread}
+use Rattle.meter_server.specs.Answering.{IsAcceptedOf, IsFile, IsNoAcceptance, IsServed, JudgesFiles, RefusesFiles, TellsJudgement, TellsUnread}
 use Rattle.meter_server.specs.Outcomes.{ended}
-use Rattle.meter_server.specs.Program.{IsJudged}
+use Rattle.meter_server.specs.Program.{IsJudged, IsJudgedWhole, RefusesOn}
+use Rattle.meter_server.proofs.Made.{said-of}
 use Rattle.meter_server.specs.declared.outcome.Outcome.{Outcome}
-use Rattle.meter_server.specs.declared.outcome.Outcome.TheVariants.{Done, Judged, Words, Unread, Stranger, Fault, Broken, Unserved, Audited, Unaudited, Unwritten, Untranslated, Closed}
+use Rattle.meter_server.specs.declared.outcome.Outcome.TheVariants.{Done, Judged, JudgedWhole, Words, Unread, Stranger, Fault, Broken, Unserved, Audited, Unaudited, Unwritten, Untranslated, Closed}
 use Rattle.meter_server.specs.declared.texts.Source.{Source}
 use Rattle.text_files.specs.Files.{MayRead}
 use Rattle.text_files.specs.declared.FileFault.{FileFault}
@@ -20,6 +28,7 @@ file-read reads path text source file same h = record { file = file; text = subs
 -- where a file isn't read, nothing is accepted
 pub unread-accepts-nothing : (path : List ℕ) (why : FileFault) (outcome : Outcome) → TellsUnread path why outcome → IsNoAcceptance outcome
 unread-accepts-nothing path why (Judged verdict text) h = absurd h
+unread-accepts-nothing path why (JudgedWhole verdict failures text) h = absurd h
 unread-accepts-nothing path why Done h = tt
 unread-accepts-nothing path why (Words fault) h = tt
 unread-accepts-nothing path why (Unread file told) h = tt
@@ -39,6 +48,7 @@ refusal-accepts-nothing config labels verdict (Judged Accepted text) never h = n
 refusal-accepts-nothing config labels verdict (Judged (Config fault) text) never h = tt
 refusal-accepts-nothing config labels verdict (Judged (Labels fault) text) never h = tt
 refusal-accepts-nothing config labels verdict (Judged (Refused refused) text) never h = tt
+refusal-accepts-nothing config labels verdict (JudgedWhole judged failures text) never h = absurd h
 refusal-accepts-nothing config labels verdict Done never h = absurd h
 refusal-accepts-nothing config labels verdict (Words fault) never h = absurd h
 refusal-accepts-nothing config labels verdict (Unread file told) never h = absurd h
@@ -51,6 +61,73 @@ refusal-accepts-nothing config labels verdict (Unaudited fault) never h = absurd
 refusal-accepts-nothing config labels verdict (Unwritten fault) never h = absurd h
 refusal-accepts-nothing config labels verdict (Untranslated fault) never h = absurd h
 refusal-accepts-nothing config labels verdict Closed never h = absurd h
+
+-- nor where all that fails is told
+whole-accepts-nothing : (config labels : Source) (verdict : Verdict) (told : Option (List ℕ)) (outcome : Outcome) → verdict ≢ Accepted → IsJudgedWhole config labels verdict told outcome → IsNoAcceptance outcome
+whole-accepts-nothing config labels verdict told (Judged Accepted text) never h = never (sym h.1.0)
+whole-accepts-nothing config labels verdict told (Judged (Config fault) text) never h = tt
+whole-accepts-nothing config labels verdict told (Judged (Labels fault) text) never h = tt
+whole-accepts-nothing config labels verdict told (Judged (Refused refused) text) never h = tt
+whole-accepts-nothing config labels verdict told (JudgedWhole Accepted failures text) never h = never (sym h.1.0)
+whole-accepts-nothing config labels verdict told (JudgedWhole (Config fault) failures text) never h = tt
+whole-accepts-nothing config labels verdict told (JudgedWhole (Labels fault) failures text) never h = tt
+whole-accepts-nothing config labels verdict told (JudgedWhole (Refused refused) failures text) never h = tt
+whole-accepts-nothing config labels verdict told Done never h = tt
+whole-accepts-nothing config labels verdict told (Words fault) never h = tt
+whole-accepts-nothing config labels verdict told (Unread file why) never h = tt
+whole-accepts-nothing config labels verdict told (Stranger words) never h = tt
+whole-accepts-nothing config labels verdict told (Fault fault) never h = tt
+whole-accepts-nothing config labels verdict told (Broken fault) never h = tt
+whole-accepts-nothing config labels verdict told (Unserved fault) never h = tt
+whole-accepts-nothing config labels verdict told (Audited text accepts) never h = tt
+whole-accepts-nothing config labels verdict told (Unaudited fault) never h = tt
+whole-accepts-nothing config labels verdict told (Unwritten fault) never h = tt
+whole-accepts-nothing config labels verdict told (Untranslated fault) never h = tt
+whole-accepts-nothing config labels verdict told Closed never h = tt
+
+-- a refusal of a plan is one of the text that has it
+refused-so : (tells_all : Bool) (config labels : Source) (made : Plan × Policy) (outcome : Outcome) → Reads (Ok made) (config_of config.text.now) → RefusesOn config labels made.0 made.1 tells_all outcome →
+    TellsJudgement tells_all config labels outcome × IsNoAcceptance outcome
+refused-so false config labels made outcome reads h = (
+  (h.0, judged made (config_of config.text.now) labels.text.now h.0 reads h.1, h.3),
+  refusal-accepts-nothing config labels h.0 outcome h.2 h.3,
+)
+refused-so true config labels made outcome reads h = (
+  (h.0, h.1, judged-whole made (config_of config.text.now) labels.text.now h.0 h.1 reads h.2, h.4),
+  whole-accepts-nothing config labels h.0 h.1 outcome h.3 h.4,
+)
+
+-- what files come to that were read, by what their texts come to
+pub accepted-or-not : (reads : MayRead) (tells_all : Bool) (config_path labels_path : List ℕ) (config labels : Source) (made : Plan × Policy) (r : Result Checked Outcome) →
+    IsFile reads config_path config → IsFile reads labels_path labels → Reads (Ok made) (config_of config.text.now) →
+    IfOk r (λ checked. checked.plan ≡ made.0) → IfOk r (λ checked. checked.policy ≡ made.1) → IfOk r (λ _. IsVerdictOn made.0 made.1 labels.text.now Accepted) →
+    IfErr r (RefusesOn config labels made.0 made.1 tells_all) → MatchResult r (IsAcceptedOf reads config_path labels_path) (RefusesFiles reads tells_all config_path labels_path)
+accepted-or-not reads tells_all config_path labels_path config labels made (Ok checked) config_is labels_are h plan policy admitted refused =
+    let s = said-of made (config_of config.text.now) h in
+    record {
+      config = config;
+      config_is = config_is;
+      labels = labels;
+      labels_are = labels_are;
+      said = s.0;
+      faultless = s.1;
+      plan_is = plan ∙ s.2;
+      policy_is = subst (IsPolicyOf s.0) (sym policy) s.3;
+      accepted = judged made (config_of config.text.now) labels.text.now Accepted h admitted;
+    }
+accepted-or-not reads tells_all config_path labels_path config labels made (Err outcome) config_is labels_are h plan policy admitted refused =
+    let s = said-of made (config_of config.text.now) h in
+    let told = refused-so tells_all config labels made outcome h refused in
+    (inl (config, config_is, inr ((s.0, s.1), inl (labels, labels_are, told.0))), told.1)
+
+-- where labels are accepted nothing fails that could be told
+pub accepted-so : (reads : MayRead) (tells_all : Bool) (config_path labels_path : List ℕ) (checked : Checked) (text : String) → IsAcceptedOf reads config_path labels_path checked → string_bytes text ≡ [] →
+    JudgesFiles reads tells_all config_path labels_path (Judged Accepted text)
+accepted-so reads false config_path labels_path checked text a empty =
+    inl (a.config, a.config_is, inr ((a.said, a.faultless), inl (a.labels, a.labels_are, (Accepted, a.accepted, (refl, inl empty)))))
+accepted-so reads true config_path labels_path checked text a empty =
+    let v = a.accepted in
+    inl (a.config, a.config_is, inr ((a.said, a.faultless), inl (a.labels, a.labels_are, (Accepted, Some [], (v.0, v.1, v.2, v.3, (v.4, refl)), (refl, (refl, inl empty))))))
 
 -- a live meter has ended, or didn't begin
 pub served-so : {A : Type 0} (answer : Result A ServerFault) → IsServed (ended answer)

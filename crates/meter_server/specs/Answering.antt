@@ -11,7 +11,7 @@ use Rattle.config_rules.specs.PlanOf.{plan_of}
 use Rattle.config_text.specs.Fault.{Fault as Faulty, Fails}
 use Rattle.config_text.specs.Parts.{ConfigText}
 use Rattle.config_text.specs.declared.fault.ConfigFault.{ConfigFault}
-use Rattle.verdict.specs.Judging.{IsVerdict}
+use Rattle.verdict.specs.Judging.{IsVerdict, IsWholeVerdict}
 use Rattle.fleet_audit.specs.Reading.{AreTextsOf, FailsFirst}
 use Rattle.fleet_audit.specs.Telling.{TellsAudit}
 use Rattle.fleet_audit.specs.declared.fault.AuditFault.TheVariants as audits
@@ -26,11 +26,11 @@ use Rattle.line_server.specs.declared.fault.LineFault.TheVariants as lines
 use Rattle.meter_theory.specs.Plan.{client_named}
 use Rattle.meter_server.specs.Noticing.{NoticesAs}
 use Rattle.meter_server.specs.Outcomes.{error_of, status_of, translated, unless_closed}
-use Rattle.meter_server.specs.Program.{AnswersFrames, AnswersText, IsFaulty, IsJudged, IsNoCommand, ListsEdges, ListsLabels, TellsVerdict}
+use Rattle.meter_server.specs.Program.{AnswersFrames, AnswersText, IsFaulty, IsJudged, IsJudgedWhole, IsNoCommand, ListsEdges, ListsLabels, TellsVerdict}
 use Rattle.meter_server.specs.Sources.{Given, MayGive, ReadsWhere, is_input}
 use Rattle.meter_server.specs.declared.demo.TheConstants.{DEMO}
 use Rattle.meter_server.specs.declared.outcome.Outcome.{Outcome}
-use Rattle.meter_server.specs.declared.outcome.Outcome.TheVariants.{Done, Judged, Words, Unread, Fault, Audited, Unaudited, Unserved}
+use Rattle.meter_server.specs.declared.outcome.Outcome.TheVariants.{Done, Judged, JudgedWhole, Words, Unread, Fault, Audited, Unaudited, Unserved}
 use Rattle.meter_server.specs.declared.texts.Source.{Source}
 use Rattle.plan_lists.specs.Listing.{WritesText}
 use Rattle.plan_lists.specs.declared.fault.ListFault.{ListFault}
@@ -69,21 +69,23 @@ ByFile reads path Does Stays outcome = ((source : Source) × IsFile reads path s
 abbrev pub TellsFault : Source → Outcome → Type 0
 TellsFault config outcome = (fault : ConfigFault) × Fails fault (config_of config.text.now) × IsFaulty config fault outcome
 
--- a command came to the verdict on the configuration in a file and the labels in another
-abbrev pub TellsJudgement : Source → Source → Outcome → Type 0
-TellsJudgement config labels outcome = (verdict : Verdict) × IsVerdict (config_of config.text.now) labels.text.now verdict × IsJudged config labels verdict outcome
+-- a command came to the verdict on the configuration in a file and the labels in another, and to all that fails where that is asked for
+abbrev pub TellsJudgement : (tells_all : Bool) → Source → Source → Outcome → Type 0
+TellsJudgement false config labels outcome = (verdict : Verdict) × IsVerdict (config_of config.text.now) labels.text.now verdict × IsJudged config labels verdict outcome
+TellsJudgement true config labels outcome =
+    (verdict : Verdict) × (told : Option (List ℕ)) × IsWholeVerdict (config_of config.text.now) labels.text.now verdict told × IsJudgedWhole config labels verdict told outcome
 
 -- the configuration in a file has no fault
 abbrev pub IsFaultless : Source → Type 0
 IsFaultless config = (c : ConfigText) × (config_of config.text.now ≡ Ok c)
 
 -- a command came to the fault of the configuration in a file, or else to the verdict on it and the labels in the file with this path
-abbrev pub JudgesLabels : MayRead → (labels : List ℕ) → Source → Outcome → Type 0
-JudgesLabels reads labels config outcome = TellsFault config outcome ⊎ (IsFaultless config × ByFile reads labels (TellsJudgement config) (Unit {0}) outcome)
+abbrev pub JudgesLabels : MayRead → (tells_all : Bool) → (labels : List ℕ) → Source → Outcome → Type 0
+JudgesLabels reads tells_all labels config outcome = TellsFault config outcome ⊎ (IsFaultless config × ByFile reads labels (TellsJudgement tells_all config) (Unit {0}) outcome)
 
 -- a command came to a verdict on the configuration and the labels in these two files: the labels are read only where the configuration has no fault
-abbrev pub JudgesFiles : MayRead → (config labels : List ℕ) → Outcome → Type 0
-JudgesFiles reads config labels outcome = ByFile reads config (JudgesLabels reads labels) (Unit {0}) outcome
+abbrev pub JudgesFiles : MayRead → (tells_all : Bool) → (config labels : List ℕ) → Outcome → Type 0
+JudgesFiles reads tells_all config labels outcome = ByFile reads config (JudgesLabels reads tells_all labels) (Unit {0}) outcome
 
 -- what is accepted of the labels in one file for the configuration in another
 pub record IsAcceptedOf (reads : MayRead) (config_path labels_path : List ℕ) (checked : Checked) : Type 0 where
@@ -106,21 +108,22 @@ IsServed _ = ⊥
 -- a command didn't come to accept
 abbrev pub IsNoAcceptance : Outcome → Type 0
 IsNoAcceptance (Judged Accepted text) = ⊥
+IsNoAcceptance (JudgedWhole Accepted failures text) = ⊥
 IsNoAcceptance outcome = Unit {0}
 
 -- labels in one file aren't accepted for the configuration in another, or one of these isn't read, and a command tells that
-abbrev pub RefusesFiles : MayRead → (config labels : List ℕ) → Outcome → Type 0
-RefusesFiles reads config labels outcome = JudgesFiles reads config labels outcome × IsNoAcceptance outcome
+abbrev pub RefusesFiles : MayRead → (tells_all : Bool) → (config labels : List ℕ) → Outcome → Type 0
+RefusesFiles reads tells_all config labels outcome = JudgesFiles reads tells_all config labels outcome × IsNoAcceptance outcome
 
 -- connections are answered by the configuration in one file, where the labels in another are accepted for it; else a verdict is told, and nothing is read of the input
 abbrev pub ServesFiles : MayRead → (config labels : List ℕ) → (unread left : Option (List ℕ)) → Outcome → Type 0
 ServesFiles reads config labels unread left outcome =
-    (RefusesFiles reads config labels outcome × (left ≡ unread)) ⊎ (((checked : Checked) × IsAcceptedOf reads config labels checked) × IsServed outcome)
+    (RefusesFiles reads false config labels outcome × (left ≡ unread)) ⊎ (((checked : Checked) × IsAcceptedOf reads config labels checked) × IsServed outcome)
 
 -- it is told of each line of an input whether the client of this name could notice it, by the configuration in one file, where the labels in another are accepted for it; else a verdict is told, and nothing is read of the input
 abbrev pub NoticesFiles : MayRead → (config labels client : List ℕ) → (before after : Moment) → Outcome → Type 0
 NoticesFiles reads config labels client before after outcome =
-    (RefusesFiles reads config labels outcome × (after ≡ before))
+    (RefusesFiles reads false config labels outcome × (after ≡ before))
     ⊎ ((checked : Checked) × IsAcceptedOf reads config labels checked × NoticesAs checked client (client_named checked.plan client) before after outcome)
 
 -- Fleets
@@ -165,12 +168,12 @@ abbrev pub Answers : MayRead → Asked → (before after : Moment) → Outcome �
 Answers reads (Demo is_verbose) before after outcome =
     (demo : Source) × (demo.file.now ≡ codes "demo.toml") × (demo.text.now ≡ DEMO.now) × AnswersText demo (config_of demo.text.now) before after outcome
 Answers reads (Run path is_verbose) before after outcome = RunsFile reads path before after outcome
-Answers reads (Edges path) before after outcome =
-    (given : Option Given) × ReadsWhere (is_input path) before.unread after.unread given × ListsFile ListsEdges (MayGive reads given) path before.written after.written outcome
+Answers reads (Edges path form) before after outcome =
+    (given : Option Given) × ReadsWhere (is_input path) before.unread after.unread given × ListsFile (ListsEdges form) (MayGive reads given) path before.written after.written outcome
 Answers reads (Label path) before after outcome =
     (given : Option Given) × ReadsWhere (is_input path) before.unread after.unread given × ListsFile ListsLabels (MayGive reads given) path before.written after.written outcome
-Answers reads (Check config labels) before after outcome =
-    (given : Option Given) × ReadsWhere (is_input config || is_input labels) before.unread after.unread given × (after.written ≡ before.written) × JudgesFiles (MayGive reads given) config labels outcome
+Answers reads (Check config labels tells_all) before after outcome =
+    (given : Option Given) × ReadsWhere (is_input config || is_input labels) before.unread after.unread given × (after.written ≡ before.written) × JudgesFiles (MayGive reads given) tells_all config labels outcome
 Answers reads (Quiet config labels client is_verbose) before after outcome = NoticesFiles reads config labels client before after outcome
 Answers reads (Audit workers names tells_progress) before after outcome = (after ≡ before) × AuditsFiles reads names outcome
 Answers reads (Session path) before after outcome = ConnectsFile reads path before after outcome

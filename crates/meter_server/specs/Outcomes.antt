@@ -14,7 +14,7 @@ use Rattle.live_server.specs.Faults as servers
 use Rattle.live_server.specs.declared.fault.ServerFault.{ServerFault}
 use Rattle.verdict.specs.Lines.{verdict_line}
 use Rattle.meter_server.specs.declared.outcome.Outcome.{Outcome}
-use Rattle.meter_server.specs.declared.outcome.Outcome.TheVariants.{Done, Judged, Words, Unread, Stranger, Fault, Broken, Unserved, Audited, Unaudited, Unwritten, Untranslated, Closed}
+use Rattle.meter_server.specs.declared.outcome.Outcome.TheVariants.{Done, Judged, JudgedWhole, Words, Unread, Stranger, Fault, Broken, Unserved, Audited, Unaudited, Unwritten, Untranslated, Closed}
 use Rattle.line_server.specs.declared.fault.LineFault.{LineFault}
 use Rattle.line_server.specs.declared.fault.LineFault.TheVariants.{Line}
 use Rattle.line_server.specs.declared.fault.LineFault.TheVariants as lines
@@ -78,6 +78,7 @@ status_of_words words.Memory = 3
 abbrev pub status_of : Outcome → ℕ
 status_of Done = 0
 status_of (Judged verdict explanation) = status_of_verdict verdict
+status_of (JudgedWhole verdict failures explanation) = status_of_verdict verdict
 status_of (Words fault) = status_of_words fault
 status_of (Unread file why) = 3
 status_of (Stranger told) = 2
@@ -102,9 +103,10 @@ is_unwritten _ = false
 abbrev pub unless_closed : Outcome → (is_closed : Bool) → Outcome
 unless_closed outcome is_closed = if (is_closed && is_unwritten outcome) then Closed else outcome
 
--- what standard output tells behind what the command wrote: its verdict or verdicts, help or the version
+-- what standard output tells behind what the command wrote: its verdict or verdicts and all that fails, help or the version
 abbrev pub output_of : Outcome → List ℕ
 output_of (Judged verdict explanation) = verdict_line verdict
+output_of (JudgedWhole verdict failures explanation) = verdict_line verdict ++ string_bytes failures
 output_of (Audited text accepts) = string_bytes text
 output_of (Words (words.Help text)) = string_bytes text
 output_of (Words (words.Version text)) = string_bytes text
@@ -123,6 +125,7 @@ abbrev pub error_of : Outcome → List ℕ
 error_of Done = []
 error_of Closed = []
 error_of (Judged verdict explanation) = string_bytes explanation
+error_of (JudgedWhole verdict failures explanation) = string_bytes explanation
 error_of (Words (words.Help text)) = []
 error_of (Words (words.Version text)) = []
 error_of (Words (words.Usage text)) = string_bytes text

@@ -1,9 +1,11 @@
 -- What the program does with its words (own profile throughout).
-use Rattle.std.specs.Prelude.{◌≡◌, ℕ, List, [], string_bytes, Option, None, ◌⊎◌, Result, Ok, Err}
+use Rattle.std.specs.Prelude.{◌≡◌, ◌≢◌, ℕ, Bool, true, false, List, [], string_bytes, Option, None, Some, ◌⊎◌, Result, Ok, Err}
 use Rattle.clap.specs.Words.{IsAmong}
 use Rattle.clap.specs.declared.error.kind.ErrorKind.TheVariants.{DisplayHelp, DisplayVersion}
 use Rattle.command_words.specs.CommandLine.{kinds_of}
 use Rattle.command_words.specs.Commands.{command_of}
+use Rattle.command_words.specs.declared.command.EdgesForm.{EdgesForm}
+use Rattle.command_words.specs.declared.command.EdgesForm.TheVariants as forms
 use Rattle.command_words.specs.Faults.{HasMistake}
 use Rattle.command_words.specs.declared.fault.WordsFault.TheVariants as words
 use Rattle.config_rules.specs.PlanOf.{plan_of}
@@ -15,14 +17,18 @@ use Rattle.explanations.specs.Labels as label_words
 use Rattle.explanations.specs.Refusals as refusal_words
 use Rattle.frame_server.specs.Alone.{ServesAlone}
 use Rattle.meter_theory.specs.Edges.{edges}
+use Rattle.meter_theory.specs.Labels.{Policy}
+use Rattle.meter_theory.specs.Plan.{Plan}
 use Rattle.line_server.specs.Lines.{Moment}
 use Rattle.meter_server.specs.Outcomes.{output_of}
 use Rattle.line_server.specs.Running.{RunsLines}
 use Rattle.meter_server.specs.declared.outcome.Outcome.{Outcome}
-use Rattle.meter_server.specs.declared.outcome.Outcome.TheVariants.{Done, Judged, Words, Fault, Broken, Unwritten}
+use Rattle.meter_server.specs.declared.outcome.Outcome.TheVariants.{Done, Judged, JudgedWhole, Words, Fault, Broken, Unwritten}
 use Rattle.meter_server.specs.declared.texts.Source.{Source}
-use Rattle.plan_lists.specs.Listing.{WritesLeast, WritesText, edges_text}
+use Rattle.plan_lists.specs.Listing.{WritesLeast, WritesText, dot_text, edges_text}
 use Rattle.plan_lists.specs.declared.fault.ListFault.{ListFault}
+use Rattle.plan_lists.specs.declared.fault.ListFault.TheVariants as lists
+use Rattle.verdict.specs.Judging.{IsVerdictOn, IsWholeVerdictOn}
 use Rattle.verdict.specs.declared.Verdict.{Verdict}
 use Rattle.verdict.specs.declared.Verdict.TheVariants.{Accepted, Config, Labels, Refused}
 
@@ -73,6 +79,19 @@ abbrev pub IsJudged : Source → Source → Verdict → Outcome → Type 0
 IsJudged config labels verdict (Judged judged text) = (judged ≡ verdict) × IsTold (ExplainsVerdict config labels verdict) (string_bytes text)
 IsJudged config labels verdict _ = ⊥
 
+-- a command came to this verdict, which is explained, and to what is told of all that fails; or there was no memory for that
+abbrev pub IsJudgedWhole : Source → Source → Verdict → Option (List ℕ) → Outcome → Type 0
+IsJudgedWhole config labels verdict told (Judged judged text) = (told ≡ Some []) × IsJudged config labels verdict (Judged judged text)
+IsJudgedWhole config labels verdict told (JudgedWhole judged failures text) = (told ≡ Some (string_bytes failures)) × IsJudged config labels verdict (Judged judged text)
+IsJudgedWhole config labels verdict told (Unwritten lists.Memory) = told ≡ None
+IsJudgedWhole config labels verdict told _ = ⊥
+
+-- a command came to a verdict that doesn't accept, on a plan and its policy, which the configuration in a file has, and on the labels in another; and to all that fails where that is asked for
+abbrev pub RefusesOn : Source → Source → Plan → Policy → (tells_all : Bool) → Outcome → Type 0
+RefusesOn config labels P policy false outcome = (verdict : Verdict) × IsVerdictOn P policy labels.text.now verdict × (verdict ≢ Accepted) × IsJudged config labels verdict outcome
+RefusesOn config labels P policy true outcome =
+    (verdict : Verdict) × (told : Option (List ℕ)) × IsWholeVerdictOn P policy labels.text.now verdict told × (verdict ≢ Accepted) × IsJudgedWhole config labels verdict told outcome
+
 -- a command came to this fault of the configuration in a file, which is explained
 abbrev pub IsFaulty : Source → FaultTold → Outcome → Type 0
 IsFaulty config fault (Judged judged text) = (judged ≡ Config fault) × IsTold (ExplainsFault config fault) (string_bytes text)
@@ -101,9 +120,14 @@ Lists Writes config said before after Done = (c : ConfigText) × (said ≡ Ok c)
 Lists Writes config said before after (Unwritten fault) = (c : ConfigText) × (said ≡ Ok c) × Writes c (Err fault)
 Lists Writes config said before after _ = ⊥
 
--- its edges, each in a line of its own
-abbrev pub ListsEdges : Source → Result ConfigText ConfigFault → (before after : Option (List ℕ)) → Outcome → Type 0
-ListsEdges config said before after outcome = Lists (λ c. WritesText (edges_text (edges (plan_of c))) before after) config said before after outcome
+-- the edges of a plan in a form: each in a line of its own, or as a graph that Graphviz reads
+abbrev pub edges_in : EdgesForm → Plan → List ℕ
+edges_in forms.Text P = edges_text (edges P)
+edges_in forms.Dot P = dot_text (edges P)
+
+-- its edges in a form
+abbrev pub ListsEdges : EdgesForm → Source → Result ConfigText ConfigFault → (before after : Option (List ℕ)) → Outcome → Type 0
+ListsEdges form config said before after outcome = Lists (λ c. WritesText (edges_in form (plan_of c)) before after) config said before after outcome
 
 -- its least labels, as the text from which they are read
 abbrev pub ListsLabels : Source → Result ConfigText ConfigFault → (before after : Option (List ℕ)) → Outcome → Type 0

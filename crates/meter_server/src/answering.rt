@@ -10,9 +10,10 @@ use crate::noticing::{Look, notice_lines};
 use crate::outcome::{Outcome, audited, ended, translated};
 use crate::sources::{Sources, is_either_input, is_input};
 use crate::texts::{
-    Source, answer_aloud, answer_frames, answer_text, faulty, judged, list_edges, list_labels,
+    Source, accepted_of_texts, answer_aloud, answer_frames, answer_text, faulty, list_edges,
+    list_labels,
 };
-use command_words::Command;
+use command_words::{Command, EdgesForm};
 use config_reader::read_config;
 use fleet_audit::fault::AuditFault;
 use fleet_audit::reading::{FleetFault, read_fleet};
@@ -32,7 +33,6 @@ use step_words::texts::Way;
 use step_words::translating::translate;
 use text_files::{FileFault, TextFiles};
 use verdict::Verdict;
-use verdict::judging::accepted;
 
 /// The demo configuration, under the name of the file that people copy.
 const DEMO_SOURCE: Source<'static> = Source {
@@ -74,17 +74,21 @@ where
         Command::Run { config, is_verbose } => {
             run_file(alloc, files, config, is_verbose, input, output, errors)
         }
-        Command::Edges { config } => {
+        Command::Edges { config, form } => {
             let sources = Sources::new(alloc, files, input, is_input(config));
-            list_edges_of_file(alloc, &sources, config, output)
+            list_edges_of_file(alloc, &sources, config, form, output)
         }
         Command::Label { config } => {
             let sources = Sources::new(alloc, files, input, is_input(config));
             list_labels_of_file(alloc, &sources, config, output)
         }
-        Command::Check { config, labels } => {
+        Command::Check {
+            config,
+            labels,
+            tells_all,
+        } => {
             let sources = Sources::new(alloc, files, input, is_either_input(config, labels));
-            check_files(alloc, &sources, config, labels)
+            check_files(alloc, &sources, config, labels, tells_all)
         }
         Command::Quiet {
             config,
@@ -195,18 +199,19 @@ fn connect_file<F: TextFiles, I: Read, O: Write>(
     }
 }
 
-/// Writes the edges of the configuration in a file.
+/// Writes the edges of the configuration in a file in a form.
 fn list_edges_of_file<F: TextFiles, O: Write>(
     alloc: Global,
     files: &F,
     file: &str,
+    form: EdgesForm,
     output: &mut O,
 ) -> Outcome
-    ensures { ListsFile ListsEdges
+    ensures { ListsFile (ListsEdges form)
         (F.may_read files.now) file.now (O.contents output.old) (O.contents output.new) result }
 {
     match text_of_file(alloc, files, file) {
-        Ok(text) => list_edges(alloc, source_of(file, &text), output),
+        Ok(text) => list_edges(alloc, source_of(file, &text), form, output),
         Err(outcome) => outcome,
     }
 }
@@ -227,11 +232,17 @@ fn list_labels_of_file<F: TextFiles, O: Write>(
     }
 }
 
-/// The verdict on the configuration in a file and on the labels in another.
-fn check_files<F: TextFiles>(alloc: Global, files: &F, config: &str, labels: &str) -> Outcome
-    ensures { JudgesFiles (F.may_read files.now) config.now labels.now result }
+/// The verdict on the configuration in a file and on the labels in another, and all that fails where that is asked for.
+fn check_files<F: TextFiles>(
+    alloc: Global,
+    files: &F,
+    config: &str,
+    labels: &str,
+    tells_all: bool,
+) -> Outcome
+    ensures { JudgesFiles (F.may_read files.now) tells_all config.now labels.now result }
 {
-    match accepted_of_files(alloc, files, config, labels) {
+    match accepted_of_files(alloc, files, config, labels, tells_all) {
         Ok(_checked) => Outcome::Judged(Verdict::Accepted, String::new(alloc)),
         Err(outcome) => outcome,
     }
@@ -255,7 +266,7 @@ where
     ensures { ServesFiles (F.may_read files.now) config.now labels.now
         (I.remaining input.old) (I.remaining input.new) result }
 {
-    match accepted_of_files(rt.alloc(), files, config, labels) {
+    match accepted_of_files(rt.alloc(), files, config, labels, false) {
         Ok(checked) => ended(serve_at(rt, checked, place, input, errors)),
         Err(outcome) => outcome,
     }
@@ -277,23 +288,24 @@ fn notice_files<F: TextFiles, I: Read, O: Write, E: Write>(
         (record { unread = I.remaining input.new; written = O.contents output.new }) result }
     ensures quiet { look.entry.is_verbose ≡ false → E.contents errors.new ≡ E.contents errors.old }
 {
-    match accepted_of_files(alloc, files, look.config, look.labels) {
+    match accepted_of_files(alloc, files, look.config, look.labels, false) {
         Ok(checked) => notice_lines(alloc, &checked, look, input, output, errors),
         Err(outcome) => outcome,
     }
 }
 
 /// What is accepted of the configuration in a file and of the labels in another, which is read only where the configuration has no
-/// fault; or how a command ends that needs it.
+/// fault; or how a command ends that needs it, with all that fails where that is asked for.
 fn accepted_of_files<F: TextFiles>(
     alloc: Global,
     files: &F,
     config: &str,
     labels: &str,
+    tells_all: bool,
 ) -> Result<Checked, Outcome>
     ensures { MatchResult result
         (IsAcceptedOf (F.may_read files.now) config.now labels.now)
-        (RefusesFiles (F.may_read files.now) config.now labels.now) }
+        (RefusesFiles (F.may_read files.now) tells_all config.now labels.now) }
 {
     let text = text_of_file(alloc, files, config)?;
     let config = source_of(config, &text);
@@ -303,10 +315,7 @@ fn accepted_of_files<F: TextFiles>(
     };
     let text = text_of_file(alloc, files, labels)?;
     let labels = source_of(labels, &text);
-    match accepted(alloc, plan, &policy, labels.text) {
-        Ok(checked) => Ok(checked),
-        Err(verdict) => Err(judged(alloc, config, labels, verdict)),
-    }
+    accepted_of_texts(alloc, config, labels, plan, &policy, tells_all)
 }
 
 /// The verdicts on many configurations and their labels, each in a line behind its name. All files are read first, by the same number

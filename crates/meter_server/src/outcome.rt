@@ -1,5 +1,6 @@
 //! How a command ended, and what is told of it (own profile).
-ghost use Rattle.std.specs.Prelude.{◌≡◌, IfOk, string_bytes};
+ghost use Rattle.std.specs.Prelude.{◌≡◌, ◌++◌, IfOk, string_bytes};
+ghost use Rattle.verdict.specs.Lines.{verdict_line};
 ghost use Rattle.meter_server.specs.Outcomes as outcomes;
 ghost use Rattle.meter_server.specs.Outcomes.{error_of, line, output_of, status_of, unread_line};
 
@@ -26,6 +27,8 @@ pub enum Outcome {
     /// It came to this verdict, and this text explains it in whole lines. The text is empty where there is nothing to explain, or
     /// no memory to do so.
     Judged(Verdict, String),
+    /// It came to this verdict, the first text tells all that fails in whole lines, and the second explains the verdict as of `Judged`.
+    JudgedWhole(Verdict, String, String),
     /// The words of the command line ask for help or the version, or are no command.
     Words(WordsFault),
     /// The file with this path isn't read as text, and why.
@@ -57,8 +60,10 @@ impl Outcome {
         ensures { result ≡ status_of self.now }
     {
         match self {
-            Outcome::Done | Outcome::Judged(Verdict::Accepted, _) => 0,
-            Outcome::Judged(_, _) => 1,
+            Outcome::Done
+            | Outcome::Judged(Verdict::Accepted, _)
+            | Outcome::JudgedWhole(Verdict::Accepted, _, _) => 0,
+            Outcome::Judged(_, _) | Outcome::JudgedWhole(_, _, _) => 1,
             Outcome::Words(WordsFault::Help(_) | WordsFault::Version(_)) => 0,
             Outcome::Words(WordsFault::Usage(_)) | Outcome::Stranger(_) => 2,
             Outcome::Words(WordsFault::Memory) => 3,
@@ -98,12 +103,16 @@ impl Outcome {
         )
     }
 
-    /// What is told on standard output behind what the command wrote: its verdict or verdicts, or the help or the version that was asked for.
+    /// What is told on standard output behind what the command wrote: its verdict or verdicts and all that fails, or the help or the version
+    /// that was asked for.
     pub fn output(&self, alloc: Global) -> Result<String, Memory>
         ensures { IfOk result (λ text. string_bytes text ≡ output_of self.now) }
     {
         match self {
             Outcome::Judged(verdict, _) => verdict_text(alloc, verdict),
+            Outcome::JudgedWhole(verdict, failures, _) => {
+                verdict_behind(alloc, verdict, failures.as_str())
+            }
             Outcome::Words(WordsFault::Help(text) | WordsFault::Version(text)) => {
                 Ok(String::from_str(alloc, text.as_str())?)
             }
@@ -119,7 +128,9 @@ impl Outcome {
     {
         match self {
             Outcome::Done | Outcome::Audited { .. } | Outcome::Closed => Ok(String::new(alloc)),
-            Outcome::Judged(_, explanation) => Ok(String::from_str(alloc, explanation.as_str())?),
+            Outcome::Judged(_, explanation) | Outcome::JudgedWhole(_, _, explanation) => {
+                Ok(String::from_str(alloc, explanation.as_str())?)
+            }
             Outcome::Words(WordsFault::Help(_) | WordsFault::Version(_)) => Ok(String::new(alloc)),
             Outcome::Words(WordsFault::Usage(text)) => Ok(String::from_str(alloc, text.as_str())?),
             Outcome::Words(WordsFault::Memory) => {
@@ -138,6 +149,15 @@ impl Outcome {
             Outcome::Untranslated(fault) => line_of(alloc, fault.told(alloc)?.as_str()),
         }
     }
+}
+
+/// The line of a verdict, and behind it these lines.
+fn verdict_behind(alloc: Global, verdict: &Verdict, lines: &str) -> Result<String, Memory>
+    ensures { IfOk result (λ text. string_bytes text ≡ verdict_line verdict.now ++ lines.now) }
+{
+    let mut text = verdict_text(alloc, verdict)?;
+    text.push_str(lines)?;
+    Ok(text)
 }
 
 /// The line that tells these words.

@@ -23,12 +23,12 @@ use whole_writes::write_whole;
 
 /// Does what the words of a command line ask for, the program's name first, and answers the exit status: `demo` and `run CONFIG`
 /// answer the step lines of the input on the output, by the configuration in the file that they name, and with `-v` tell of each
-/// line on the error stream; `edges CONFIG` and `label CONFIG` print its edges and its least labels there; `check CONFIG LABELS`
-/// comes to a verdict on it and on the labels in a second file, which is read only where the configuration has no fault; `audit NAME`
-/// comes to one on each of many, by many workers, and with `--progress` tells on the error stream how far it is; `session CONFIG`
-/// answers the frames of the input, those of one connection, on the output; `serve CONFIG LABELS` answers connections over TCP by a live
-/// meter, where the verdict accepts, and takes the meter's own steps from the lines of the input; `encode` and `decode` translate the input
-/// onto the output.
+/// line on the error stream; `edges CONFIG` and `label CONFIG` print its edges, with `--format dot` as a graph, and its least labels
+/// there; `check CONFIG LABELS` comes to a verdict on it and on the labels in a second file, which is read only where the configuration
+/// has no fault, and with `--all` prints all that fails behind the verdict; `audit NAME` comes to one on each of many, by many workers,
+/// and with `--progress` tells on the error stream how far it is; `session CONFIG` answers the frames of the input, those of one
+/// connection, on the output; `serve CONFIG LABELS` answers connections over TCP by a live meter, where the verdict accepts, and takes
+/// the meter's own steps from the lines of the input; `encode` and `decode` translate the input onto the output.
 /// A verdict stands on the output and what explains it on the error stream; help and the version stand on the output where the words
 /// ask for these; any other fault stands on the error stream. Where the output's reader has gone nothing more is told.
 /// `rt` is the handle that starts threads, waits, opens sockets and tells the time; `files` reads the files that the words name.

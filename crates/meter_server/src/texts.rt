@@ -1,27 +1,35 @@
 //! What commands do by the texts of their files: lines and frames are answered by a configuration, lists are written, a verdict is
 //! explained (own profile).
-ghost use Rattle.std.specs.Prelude.{◌≡◌, IfOk, string_bytes};
+ghost use Rattle.std.specs.Prelude.{◌≡◌, IfErr, IfOk, Some, option_map, string_bytes};
 ghost use Rattle.config_reader.specs.ConfigOf.{config_of};
 ghost use Rattle.line_server.specs.Running.{RunsLines};
-ghost use Rattle.meter_server.specs.Program.{AnswersFrames, AnswersText, ExplainsVerdict, IsFaulty, IsJudged, ListsEdges, ListsLabels};
+ghost use Rattle.plan_lists.specs.Listing.{WritesText};
+ghost use Rattle.verdict.specs.Judging.{IsVerdictOn};
+ghost use Rattle.verdict.specs.declared.Verdict.TheVariants.{Accepted};
+ghost use Rattle.meter_server.specs.Program.{AnswersFrames, AnswersText, ExplainsVerdict, IsFaulty, IsJudged, IsJudgedWhole, ListsEdges, ListsLabels, RefusesOn, edges_in};
 
 use crate::outcome::{Outcome, listed, outcome_of, served};
+use command_words::EdgesForm;
 use config_reader::read_config;
 use config_text::fault::ConfigFault;
 use cosem_data::memory::Memory;
 use explanations::config::explain_config;
 use explanations::labels::explain_labels;
 use explanations::refusal::explain_refusal;
+use flow_checker::check::Checked;
 use frame_server::alone::serve_alone;
 use line_server::fault::LineFault;
 use line_server::running::run_lines;
 use line_words::watching::{Watched, run_watched};
 use object_model::plan::Plan;
-use plan_lists::edges::write_edges;
+use object_model::policy::Policy;
+use plan_lists::edges::{write_dot, write_edges};
+use plan_lists::fault::ListFault;
 use plan_lists::labels::write_least_labels;
 use std::alloc::Global;
 use std::io::{Read, Write};
 use verdict::Verdict;
+use verdict::judging::{WholeVerdict, accepted, accepted_or_whole};
 
 /// A file by its path, with its text.
 #[derive(Clone, Copy, Debug)]
@@ -105,15 +113,35 @@ fn run_aloud<I: Read, O: Write, E: Write>(
     run_watched(alloc, &mut watched, input, output)
 }
 
-/// Writes the edges of a configuration on the output, and says how that ended: `Done`, a fault of the list, or the verdict where
+/// Writes the edges of a configuration on the output in a form, and says how that ended: `Done`, a fault of the list, or the verdict where
 /// the configuration has a fault or memory was refused while it was read; then nothing was written.
-pub(crate) fn list_edges<O: Write>(alloc: Global, config: Source<'_>, output: &mut O) -> Outcome
-    ensures { ListsEdges config.entry
+pub(crate) fn list_edges<O: Write>(
+    alloc: Global,
+    config: Source<'_>,
+    form: EdgesForm,
+    output: &mut O,
+) -> Outcome
+    ensures { ListsEdges form config.entry
         (config_of config.entry.text.now) (O.contents output.old) (O.contents output.new) result }
 {
     match read_config(alloc, config.text) {
-        Ok((plan, _policy)) => listed(write_edges(alloc, &plan, output)),
+        Ok((plan, _policy)) => listed(write_in_form(alloc, &plan, form, output)),
         Err(fault) => faulty(alloc, config, fault),
+    }
+}
+
+/// Writes the edges of a plan in a form.
+fn write_in_form<O: Write>(
+    alloc: Global,
+    plan: &Plan,
+    form: EdgesForm,
+    output: &mut O,
+) -> Result<(), ListFault>
+    ensures { WritesText (edges_in form plan.now) (O.contents output.old) (O.contents output.new) result }
+{
+    match form {
+        EdgesForm::Text => write_edges(alloc, plan, output),
+        EdgesForm::Dot => write_dot(alloc, plan, output),
     }
 }
 
@@ -159,6 +187,68 @@ pub(crate) fn judged(
     match explain_verdict(alloc, config, labels, &verdict) {
         Ok(text) => Outcome::Judged(verdict, text),
         Err(_) => Outcome::Judged(verdict, String::new(alloc)),
+    }
+}
+
+/// A command that came to a verdict, with what explains it and all that fails; or without memory for the latter.
+fn judged_whole(
+    alloc: Global,
+    config: Source<'_>,
+    labels: Source<'_>,
+    whole: WholeVerdict,
+) -> Outcome
+    ensures { IsJudgedWhole config.entry labels.entry whole.verdict
+        (option_map string_bytes whole.failures) result }
+{
+    let WholeVerdict { verdict, failures } = whole;
+    match failures {
+        Some(failures) => judged_behind(alloc, config, labels, verdict, failures),
+        None => Outcome::Unwritten(ListFault::Memory),
+    }
+}
+
+/// A command that came to a verdict and to these lines of all that fails, with what explains it.
+fn judged_behind(
+    alloc: Global,
+    config: Source<'_>,
+    labels: Source<'_>,
+    verdict: Verdict,
+    failures: String,
+) -> Outcome
+    ensures { IsJudgedWhole config.entry labels.entry verdict (Some (string_bytes failures)) result }
+{
+    match explain_verdict(alloc, config, labels, &verdict) {
+        Ok(text) => Outcome::JudgedWhole(verdict, failures, text),
+        Err(_) => Outcome::JudgedWhole(verdict, failures, String::new(alloc)),
+    }
+}
+
+/// What is accepted of a plan and its policy, which the configuration in a file has, and of the labels in another; or how a command
+/// ends that came to no acceptance, with all that fails where that is asked for.
+pub(crate) fn accepted_of_texts(
+    alloc: Global,
+    config: Source<'_>,
+    labels: Source<'_>,
+    plan: Plan,
+    policy: &Policy,
+    tells_all: bool,
+) -> Result<Checked, Outcome>
+    ensures plan { IfOk result (λ checked. checked.plan ≡ plan) }
+    ensures policy { IfOk result (λ checked. checked.policy ≡ policy.now) }
+    ensures admitted { IfOk result (λ _. IsVerdictOn plan policy.now labels.entry.text.now Accepted) }
+    ensures refused { IfErr result
+        (RefusesOn config.entry labels.entry plan policy.now tells_all) }
+{
+    if tells_all {
+        match accepted_or_whole(alloc, plan, policy, labels.text) {
+            Ok(checked) => Ok(checked),
+            Err(whole) => Err(judged_whole(alloc, config, labels, whole)),
+        }
+    } else {
+        match accepted(alloc, plan, policy, labels.text) {
+            Ok(checked) => Ok(checked),
+            Err(verdict) => Err(judged(alloc, config, labels, verdict)),
+        }
     }
 }
 

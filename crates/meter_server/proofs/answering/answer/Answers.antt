@@ -19,6 +19,7 @@ returns-in-Check-clause-answers g c =
     let given = option_map (given_of string_bytes) sources.result.given in
     let config = c.in-Check.config.now in
     let labels = c.in-Check.labels.now in
+    let tells_all = c.in-Check.tells_all in
     let read = subst (λ is_named. ReadsWhere is_named (g.I.Read.remaining c.args.input.now) (g.I.Read.remaining sources.new.input) given) c.is_either_input.ensures sources.ensures.given in
-    let judged = subst (λ files. JudgesFiles (MayGive (reads files) given) config labels c.check_files.result) sources.ensures.files c.check_files.ensures in
+    let judged = subst (λ files. JudgesFiles (MayGive (reads files) given) tells_all config labels c.check_files.result) sources.ensures.files c.check_files.ensures in
     rw c.in-Check.is (given, read, refl, judged)
