@@ -1,7 +1,7 @@
 -- Links that have no mark among those of another plan are the edges that it lacks.
 use Rattle.std.specs.Prelude.{◌≡◌, ℕ, ◌==◌, ◌<◌, ◌≤◌, Bool, true, false, not, ◌&&◌, List, [], ◌∷◌, ◌++◌, Option, Some, None, codes, filter, flat_map, get_or, length, map}
 use Rattle.std.specs.List.{list_any, position_from}
-use Rattle.std.proofs.Common.{refl, sym, ap, ap₂, subst, ◌∙◌, ◌⊎◌, inl, inr}
+use Rattle.std.proofs.Common.{append_assoc, refl, sym, ap, ap₂, subst, ◌∙◌, ◌⊎◌, inl, inr}
 use Rattle.std.proofs.lemmas.Bool.{cases_eq, cases_lt, eq-eqb, ne_eqb}
 use Rattle.std.proofs.lemmas.List.{get_or-map, get_or_past, length-map}
 use Rattle.cosem_data.specs.Cells.{same_cell}
@@ -144,3 +144,13 @@ lacked-of P mine other of_plan are ours links inner our_edges within their_edges
     ap₂ (λ t k. link_lines head t (filter (λ l. not (is_marked numbers k marks l)) ours)) told long
     ∙ lacked-lines other.cells are links within marks (subst (λ k. AreMarks k links marks) count marked) mine.cells numbers (found ∙ ap (λ t. map (λ x. position_from (same_cell x) 0 t.cells) mine.cells) (sym of_plan)) head ours inner
     ∙ ap₂ (λ es fs. edge_lines head (filter (λ e. not (list_any (same_edge e) es)) fs)) (their_edges ∙ ap (λ t. t.edges) of_plan) our_edges
+
+-- The line of a link, piece by piece
+pub link-put : (t₀ t₁ t₂ t₃ t₄ t₅ t₆ t₇ h s t w : List ℕ) → t₁ ≡ t₀ ++ h → t₂ ≡ t₁ ++ s → t₃ ≡ t₂ ++ codes " -> " → t₄ ≡ t₃ ++ t → t₅ ≡ t₄ ++ codes " " → t₆ ≡ t₅ ++ w → t₇ ≡ t₆ ++ 10 ∷ [] →
+    t₇ ≡ t₀ ++ (h ++ ((s ++ (codes " -> " ++ (t ++ (codes " " ++ w)))) ++ 10 ∷ []))
+link-put t₀ t₁ t₂ t₃ t₄ t₅ t₆ t₇ h s t w a b c d e f g =
+    g ∙ ap (λ z. z ++ 10 ∷ []) (f ∙ ap (λ z. z ++ w) (e ∙ ap (λ z. z ++ codes " ") (d ∙ ap (λ z. z ++ t) (c ∙ ap (λ z. z ++ codes " -> ") (b ∙ ap (λ z. z ++ s) a)))))
+    ∙ joined t₀ h s (codes " -> ") t (codes " ") w
+  where
+    joined : (t₀ h s i t j w : List ℕ) → ((((((t₀ ++ h) ++ s) ++ i) ++ t) ++ j) ++ w) ++ 10 ∷ [] ≡ t₀ ++ (h ++ ((s ++ (i ++ (t ++ (j ++ w)))) ++ 10 ∷ []))
+    joined t₀ h s i t j w = simp append_assoc

@@ -1,4 +1,4 @@
-//! Labels by the numbers of their cells, and those of two configurations side by side.
+//! Labels of two configurations side by side.
 ghost use Rattle.std.specs.Prelude.{◌≡◌, cond, IfOk, Some, None, length, map};
 ghost use Rattle.meter_theory.specs.Labels as theory;
 ghost use Rattle.meter_theory.specs.Plan as plans;
@@ -11,17 +11,6 @@ use cosem_data::memory::Memory;
 use meter_theory::flow::Label;
 use object_model::plan::Plan;
 use std::alloc::Global;
-
-/// The labels of these entries.
-pub(crate) fn labels_of(alloc: Global, entries: &[(CellRef, Label)]) -> Result<Vec<Label>, Memory>
-    ensures { IfOk result (λ labels. labels.items ≡ map (λ entry. entry.1) entries.now) }
-{
-    let mut labels = Vec::with_capacity(alloc, entries.len())?;
-    for entry in entries {
-        labels.push(entry.1)?;
-    }
-    Ok(labels)
-}
 
 /// What two configurations say of a cell.
 #[derive(Clone, Copy)]

@@ -16,7 +16,7 @@ use crate::clients::push_client;
 use crate::kind::{Change, Kind, Reach};
 use crate::labels::{Pair, pairs_of};
 use crate::reaches::push_reach;
-use crate::rights::push_rights;
+use crate::rights::{Namesakes, push_rights};
 use crate::side::Side;
 use crate::text::head_for;
 use cosem_data::clients::ClientSet;
@@ -114,7 +114,15 @@ fn push_own(
     match kind {
         Kind::May => push_reaches(alloc, &head, place, other, pairs, &mine.texts, text),
         Kind::Allowed => push_reaches(alloc, &head, place, other, pairs, &mine.texts, text),
-        Kind::Right => push_rights(alloc, &head, mine.plan, place, theirs.plan, other, text),
+        Kind::Right => {
+            let who = Namesakes {
+                plan: mine.plan,
+                client: place,
+                other_plan: theirs.plan,
+                other,
+            };
+            push_rights(alloc, &head, &who, text)
+        }
         Kind::Client => {
             let there = client_at(theirs.plan, other);
             push_client(alloc, &head, client, there, text)

@@ -19,21 +19,27 @@ use object_model::plan::Plan;
 use std::alloc::Global;
 use value_text::cell::push_cell;
 
+/// A client of a plan, and the client with its name in another plan, if it is one.
+#[derive(Clone, Copy)]
+pub(crate) struct Namesakes<'a> {
+    pub(crate) plan: &'a Plan,
+    pub(crate) client: u8,
+    pub(crate) other_plan: &'a Plan,
+    pub(crate) other: Option<u8>,
+}
+
 /// Puts a line behind a text for each right of a client that the other, if it is one, lacks, object by object.
 pub(crate) fn push_rights(
     alloc: Global,
     head: &[u8],
-    plan: &Plan,
-    client: u8,
-    other_plan: &Plan,
-    other: Option<u8>,
+    who: &Namesakes<'_>,
     text: &mut Vec<u8>,
 ) -> Result<(), Memory>
     ensures { OnOk result (text.new.items ≡ text.old.items
-        ++ flat_map (right_lines head.now plan.now client other_plan.now other) plan.now.objects) }
+        ++ flat_map (right_lines head.now who.now.plan.now who.now.client who.now.other_plan.now who.now.other) who.now.plan.now.objects) }
 {
-    for object in plan.objects() {
-        push_rights_on(alloc, head, plan, object, client, other_plan, other, text)?;
+    for object in who.plan.objects() {
+        push_rights_on(alloc, head, who, object, text)?;
     }
     Ok(())
 }
@@ -42,69 +48,39 @@ pub(crate) fn push_rights(
 fn push_rights_on(
     alloc: Global,
     head: &[u8],
-    plan: &Plan,
+    who: &Namesakes<'_>,
     object: &Object,
-    client: u8,
-    other_plan: &Plan,
-    other: Option<u8>,
     text: &mut Vec<u8>,
 ) -> Result<(), Memory>
     ensures { OnOk result (text.new.items ≡ text.old.items
-        ++ right_lines head.now plan.now client other_plan.now other object.now) }
+        ++ right_lines head.now who.now.plan.now who.now.client who.now.other_plan.now who.now.other object.now) }
 {
-    push_view(alloc, head, plan, object, client, other_plan, other, text)?;
-    push_access(
-        alloc,
-        head,
-        Access::Get,
-        plan,
-        object,
-        client,
-        other_plan,
-        other,
-        text,
-    )?;
-    push_access(
-        alloc,
-        head,
-        Access::Set,
-        plan,
-        object,
-        client,
-        other_plan,
-        other,
-        text,
-    )?;
-    push_access(
-        alloc,
-        head,
-        Access::Act,
-        plan,
-        object,
-        client,
-        other_plan,
-        other,
-        text,
-    )
+    let instance = who.plan.instance(&object.name());
+    push_view(alloc, head, who, &instance, object, text)?;
+    push_access(alloc, head, Access::Get, who, &instance, object, text)?;
+    push_access(alloc, head, Access::Set, who, &instance, object, text)?;
+    push_access(alloc, head, Access::Act, who, &instance, object, text)
 }
 
 /// Puts a line behind a text that an object is in the view of a client, where it is and isn't in that of the other.
 fn push_view(
     alloc: Global,
     head: &[u8],
-    plan: &Plan,
+    who: &Namesakes<'_>,
+    instance: &Instance<'_>,
     object: &Object,
-    client: u8,
-    other_plan: &Plan,
-    other: Option<u8>,
     text: &mut Vec<u8>,
 ) -> Result<(), Memory>
+    requires { object.now.name ≡ instance.now.name }
     ensures { OnOk result (text.new.items ≡ text.old.items
-        ++ view_line head.now plan.now client other_plan.now other object.now) }
+        ++ view_line head.now instance.now.plan who.now.client who.now.other_plan.now who.now.other object.now) }
 {
     let name = object.name();
     let class_id = object.part().class_id();
-    if !plan.instance(&name).has_right(client) || has_view(other_plan, other, class_id, &name) {
+    if !instance.has_right(who.client) {
+        return Ok(());
+    }
+    if has_view(who.other_plan, who.other, class_id, &name) {
         return Ok(());
     }
     let words = format!(in alloc; "view {class_id}/{name}\n")?;
@@ -119,20 +95,18 @@ fn push_access(
     alloc: Global,
     head: &[u8],
     access: Access,
-    plan: &Plan,
+    who: &Namesakes<'_>,
+    instance: &Instance<'_>,
     object: &Object,
-    client: u8,
-    other_plan: &Plan,
-    other: Option<u8>,
     text: &mut Vec<u8>,
 ) -> Result<(), Memory>
+    requires { object.now.name ≡ instance.now.name }
     ensures { OnOk result (text.new.items ≡ text.old.items
-        ++ access_lines head.now access plan.now client other_plan.now other object.now) }
+        ++ access_lines head.now access instance.now.plan who.now.client who.now.other_plan.now who.now.other object.now) }
 {
     let name = object.name();
     let class_id = object.part().class_id();
     let highest = highest(access, &object.part().interface());
-    let instance = plan.instance(&name);
     let mut index = 0;
     while index < highest {
         index += 1;
@@ -141,9 +115,7 @@ fn push_access(
             name,
             index,
         };
-        push_member(
-            alloc, head, access, &instance, &member, client, other_plan, other, text,
-        )?;
+        push_member(alloc, head, access, who, instance, &member, text)?;
     }
     Ok(())
 }
@@ -163,23 +135,21 @@ fn push_member(
     alloc: Global,
     head: &[u8],
     access: Access,
+    who: &Namesakes<'_>,
     instance: &Instance<'_>,
     member: &CellRef,
-    client: u8,
-    other_plan: &Plan,
-    other: Option<u8>,
     text: &mut Vec<u8>,
 ) -> Result<(), Memory>
     requires { member.now.name ≡ instance.now.name }
     ensures { OnOk result (text.new.items ≡ text.old.items
         ++ cell_lines (head.now ++ (access_word access ++ 32 ∷ []))
-        (filter (λ x. facts.is_granted instance.now.plan client access x
-        && not (is_held other_plan.now other access x)) (member.now ∷ []))) }
+        (filter (λ x. facts.is_granted instance.now.plan who.now.client access x
+        && not (is_held who.now.other_plan.now who.now.other access x)) (member.now ∷ []))) }
 {
-    if !is_granted(instance, access, client, member.index) {
+    if !is_granted(instance, access, who.client, member.index) {
         return Ok(());
     }
-    if has_access(other_plan, other, access, member) {
+    if has_access(who.other_plan, who.other, access, member) {
         return Ok(());
     }
     push_member_line(alloc, head, access, member, text)

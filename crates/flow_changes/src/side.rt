@@ -3,14 +3,13 @@ ghost use Rattle.std.specs.Prelude.{◌≡◌, IfOk, map};
 ghost use Rattle.value_text.specs.Texts.{cell_text};
 ghost use Rattle.flow_changes.specs.Sides.{IsSide};
 
-use crate::labels::labels_of;
 use cosem_data::cell::CellRef;
 use cosem_data::memory::Memory;
 use flow_edges::edges::edge_table;
 use flow_edges::table::EdgeTable;
 use label_certificate::labels::Labels;
 use label_certificate::least::make_labels;
-use label_certificate::numbered::policy_labels;
+use label_certificate::numbered::{labels_by_number, labels_or_nobody, policy_labels};
 use meter_theory::flow::Label;
 use object_model::plan::Plan;
 use object_model::policy::Policy;
@@ -38,8 +37,9 @@ impl<'a> Side<'a> {
     {
         plan.known();
         let labels = make_labels(alloc, plan)?;
-        let may = labels_of(alloc, labels.entries())?;
         let table = edge_table(alloc, plan)?;
+        let found = labels_by_number(alloc, plan, table.cells().len(), labels.entries())?;
+        let may = labels_or_nobody(alloc, &found)?;
         let texts = texts_of(alloc, table.cells())?;
         let allowed = policy_labels(alloc, plan, table.cells(), policy)?;
         Ok(Side {

@@ -1,4 +1,4 @@
-use Rattle.std.proofs.Common.{◌≡◌, ◌++◌, ◌+◌, ◌∙◌, Bool, Some, None, ap, arith, flat_map, length, option_map, rules, subst, sym, vec_len}
+use Rattle.std.proofs.Common.{◌≡◌, ◌++◌, ◌+◌, ◌∙◌, Bool, Some, None, ap, arith, flat_map, length, option_map, subst, sym, vec_len}
 use Rattle.std.specs.Prelude.{slice_get}
 use Rattle.std.specs.List.{list_any}
 use Rattle.flow_changes.specs.Changes.{lacks}
@@ -20,8 +20,8 @@ loop-client-preserved c =
     let there : slice_get C.plan.clients place ≡ Some client = sym c.client.ensures ∙ ap (option_map (λ x. x.now)) c.in-Some.is in
     let before = c.loop-client.text.items in
     let after = c.push_own.new.text.items in
-    let old_long : vec_len c.loop-client.text ≡ length before = search rules in
-    let new_long : vec_len c.push_own.new.text ≡ length after = search rules in
+    let old_long : vec_len c.loop-client.text ≡ length before = omega (arith, c.loop-client.text.ok) in
+    let new_long : vec_len c.push_own.new.text ≡ length after = omega (arith, c.push_own.new.text.ok) in
     let grown = grows c.args.change c.args.kind (lacks D C c.args.kind) (own_facts C D c.args.kind (place, client)) before after c.in_ok-push_own.ensures in (
       text-more C.plan f place client before after (c.args.text.now.items ++ flat_map f (numbered C.plan)) there c.in_ok-push_own.ensures c.loop-client.invariant.0,
       elim c.if-before-len.branch [
