@@ -17,7 +17,7 @@ use Rattle.meter_server.specs.Outcomes.{ended}
 use Rattle.meter_server.specs.Program.{IsJudged, IsJudgedWhole, RefusesOn}
 use Rattle.meter_server.proofs.Made.{said-of}
 use Rattle.meter_server.specs.declared.outcome.Outcome.{Outcome}
-use Rattle.meter_server.specs.declared.outcome.Outcome.TheVariants.{Done, Judged, JudgedWhole, Words, Unread, Stranger, Fault, Broken, Unserved, Audited, Unaudited, Unwritten, Untranslated, Closed}
+use Rattle.meter_server.specs.declared.outcome.Outcome.TheVariants.{Done, Judged, JudgedWhole, JudgedSide, Compared, Words, Unread, Stranger, Fault, Broken, Unserved, Audited, Unaudited, Unwritten, Untranslated, Closed}
 use Rattle.meter_server.specs.declared.texts.Source.{Source}
 use Rattle.text_files.specs.Files.{MayRead}
 use Rattle.text_files.specs.declared.FileFault.{FileFault}
@@ -37,6 +37,8 @@ unread-accepts-nothing path why (Stranger told) h = tt
 unread-accepts-nothing path why (Fault fault) h = tt
 unread-accepts-nothing path why (Broken fault) h = tt
 unread-accepts-nothing path why (Unserved fault) h = tt
+unread-accepts-nothing path why (JudgedSide side verdict text) h = tt
+unread-accepts-nothing path why (Compared gives) h = tt
 unread-accepts-nothing path why (Audited text accepts) h = tt
 unread-accepts-nothing path why (Unaudited fault) h = tt
 unread-accepts-nothing path why (Unwritten fault) h = tt
@@ -57,6 +59,8 @@ refusal-accepts-nothing config labels verdict (Stranger told) never h = absurd h
 refusal-accepts-nothing config labels verdict (Fault fault) never h = absurd h
 refusal-accepts-nothing config labels verdict (Broken fault) never h = absurd h
 refusal-accepts-nothing config labels verdict (Unserved fault) never h = absurd h
+refusal-accepts-nothing config labels verdict (JudgedSide side judged text) never h = absurd h
+refusal-accepts-nothing config labels verdict (Compared gives) never h = absurd h
 refusal-accepts-nothing config labels verdict (Audited text accepts) never h = absurd h
 refusal-accepts-nothing config labels verdict (Unaudited fault) never h = absurd h
 refusal-accepts-nothing config labels verdict (Unwritten fault) never h = absurd h
@@ -80,6 +84,8 @@ whole-accepts-nothing config labels verdict told (Stranger words) never h = tt
 whole-accepts-nothing config labels verdict told (Fault fault) never h = tt
 whole-accepts-nothing config labels verdict told (Broken fault) never h = tt
 whole-accepts-nothing config labels verdict told (Unserved fault) never h = tt
+whole-accepts-nothing config labels verdict told (JudgedSide side judged text) never h = tt
+whole-accepts-nothing config labels verdict told (Compared gives) never h = tt
 whole-accepts-nothing config labels verdict told (Audited text accepts) never h = tt
 whole-accepts-nothing config labels verdict told (Unaudited fault) never h = tt
 whole-accepts-nothing config labels verdict told (Unwritten fault) never h = tt

@@ -1,5 +1,6 @@
 use Rattle.std.proofs.Common.{codes, refl, subst, option_map, string_bytes}
 use Rattle.meter_server.specs.Answering.{JudgesFiles}
+use Rattle.meter_server.specs.Comparing.{ComparesFiles}
 use Rattle.meter_server.specs.Sources.{MayGive, ReadsWhere, given_of}
 use Rattle.meter_server.specs.declared.demo.TheConstants.{DEMO}
 use Rattle.meter_server.specs.declared.texts.Source.{Source}
@@ -23,3 +24,14 @@ returns-in-Check-clause-answers g c =
     let read = subst (λ is_named. ReadsWhere is_named (g.I.Read.remaining c.args.input.now) (g.I.Read.remaining sources.new.input) given) c.is_either_input.ensures sources.ensures.given in
     let judged = subst (λ files. JudgesFiles (MayGive (reads files) given) tells_all config labels c.check_files.result) sources.ensures.files c.check_files.ensures in
     rw c.in-Check.is (given, read, refl, judged)
+
+pub returns-in-Compare-clause-answers : goal.returns-in-Compare-clause-answers
+returns-in-Compare-clause-answers g c =
+    let reads = g.F.TextFiles.may_read in
+    let sources = c.new-sources-in-Compare in
+    let given = option_map (given_of string_bytes) sources.result.given in
+    let old = c.in-Compare.old.now in
+    let new = c.in-Compare.new.now in
+    let read = subst (λ is_named. ReadsWhere is_named (g.I.Read.remaining c.args.input.now) (g.I.Read.remaining sources.new.input) given) c.is_either_input-in-Compare.ensures sources.ensures.given in
+    let told = subst (λ files. ComparesFiles (MayGive (reads files) given) old new (g.O.Write.contents c.args.output.now) (g.O.Write.contents c.compare_files.new.output) c.compare_files.result) sources.ensures.files c.compare_files.ensures in
+    rw c.in-Compare.is (given, read, told)
