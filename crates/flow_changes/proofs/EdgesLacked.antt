@@ -18,9 +18,8 @@ use Rattle.flow_edges.specs.declared.table.Link.{Link}
 use Rattle.flow_edges.proofs.Sources.{numbered, unnumbered}
 use Rattle.label_certificate.specs.LabelText.{cell_place}
 use Rattle.label_certificate.specs.Least.{AreLinks}
-use Rattle.plan_lists.specs.Listing.{link_text}
 use Rattle.flow_changes.specs.Lines.{edge_lines}
-use Rattle.flow_changes.specs.Marks.{AreBelow, AreMarks, is_marked, link_lines, link_of, mark_place, same_link}
+use Rattle.flow_changes.specs.Marks.{AreBelow, AreMarks, is_marked, link_lines, link_of, link_text, mark_place, same_link}
 use Rattle.flow_changes.proofs.Lists.{filter-agree, filter-map, flat_map-agree, flat_map-of-map, in-at, list_any-agree, list_any-map, list_any-none}
 
 inside : (cells : List CellRef) (links : List Link) (l : Link) → AreWithin cells links → IsIn links l → IsLink cells l

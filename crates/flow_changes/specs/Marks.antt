@@ -1,12 +1,12 @@
 -- Links between numbers of cells, and their marks. All of it is own profile.
-use Rattle.std.specs.Prelude.{◌≡◌, ℕ, Bool, false, ◌==◌, ◌&&◌, ◌*◌, ◌+◌, ◌<◌, List, ◌++◌, Option, None, Some, flat_map, get_or, length}
+use Rattle.std.specs.Prelude.{◌≡◌, ℕ, Bool, false, ◌==◌, ◌&&◌, ◌*◌, ◌+◌, ◌<◌, List, [], ◌∷◌, ◌++◌, Option, None, Some, codes, flat_map, get_or, length}
 use Rattle.std.specs.List.{list_any}
 use Rattle.meter_theory.specs.Edges.{same_cause}
 use Rattle.meter_theory.specs.Lists.{some_passes}
 use Rattle.meter_theory.specs.declared.flow.Cause.{Cause}
 use Rattle.meter_theory.specs.declared.flow.Cause.TheVariants as causes
 use Rattle.flow_edges.specs.declared.table.Link.{Link}
-use Rattle.plan_lists.specs.Listing.{link_text}
+use Rattle.value_text.specs.Edges.{cause_word}
 
 -- the place of a cause among all
 abbrev pub cause_place : Cause → ℕ
@@ -46,6 +46,10 @@ link_there numbers l = link_of l.cause (get_or numbers l.source None) (get_or nu
 -- that link has a mark
 abbrev pub is_marked : List (Option ℕ) → ℕ → List Bool → Link → Bool
 is_marked numbers n marks l = some_passes (λ k. get_or marks (mark_place n k) false) (link_there numbers l)
+
+-- the line of a link between cells with these texts
+abbrev pub link_text : List (List ℕ) → Link → List ℕ
+link_text texts l = (get_or texts l.source [] ++ (codes " -> " ++ (get_or texts l.target [] ++ (codes " " ++ cause_word l.cause)))) ++ 10 ∷ []
 
 -- a line for each link between cells with these texts
 abbrev pub link_lines : List ℕ → List (List ℕ) → List Link → List ℕ

@@ -8,7 +8,6 @@ ghost use Rattle.flow_edges.specs.Table.{edge_at, AreCells, AreWithin, IsLink};
 ghost use Rattle.flow_edges.specs.declared.table.Link.{Link as LinkValue};
 ghost use Rattle.label_certificate.specs.LabelText.{cell_place};
 ghost use Rattle.label_certificate.specs.Least.{AreLinks};
-ghost use Rattle.plan_lists.specs.Listing.{link_text};
 ghost use Rattle.flow_changes.specs.Lines.{edge_lines};
 ghost use Rattle.flow_changes.specs.Marks as spec;
 ghost use Rattle.flow_changes.specs.Marks.{mark_place};
@@ -169,7 +168,7 @@ fn push_link(head: &[u8], texts: &[Vec<u8>], link: Link, text: &mut Vec<u8>) -> 
     requires source { link.source < length texts.now }
     requires target { link.target < length texts.now }
     ensures { OnOk result (text.new.items ≡ text.old.items
-        ++ (head.now ++ link_text (map (λ text. text.items) texts.now) link)) }
+        ++ (head.now ++ spec.link_text (map (λ text. text.items) texts.now) link)) }
 {
     text.extend_from_slice(head)?;
     text.extend_from_slice(&texts[link.source])?;
