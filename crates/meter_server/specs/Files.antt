@@ -25,4 +25,3 @@ IsUnread reads path outcome = (why : FileFault) × reads path (Err why) × Tells
 -- what a command does with the file that has this path: this, where it is read; else it tells that it isn't, and this stays as it was
 abbrev pub ByFile : MayRead → List ℕ → (Source → Outcome → Type 0) → Type 0 → Outcome → Type 0
 ByFile reads path Does Stays outcome = ((source : Source) × IsFile reads path source × Does source outcome) ⊎ (IsUnread reads path outcome × Stays)
-

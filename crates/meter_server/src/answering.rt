@@ -1,14 +1,14 @@
 //! What each command does with the files that it names, its input and its output (own profile).
-ghost use Rattle.std.specs.Prelude.{◌≡◌, false, true, MatchResult, Ok, Some, map, string_bytes};
+ghost use Rattle.std.specs.Prelude.{◌≡◌, false, true, MatchResult, Some, map};
 ghost use Rattle.command_words.specs.Commands.{asked_by};
 ghost use Rattle.config_reader.specs.ConfigOf.{config_of};
 ghost use Rattle.meter_server.specs.Answering.{Answers, AuditsFiles, ConnectsFile, IsAcceptedOf, JudgesFiles, ListsFile, NoticesFiles, RefusesFiles, RunsFile, ServesFiles, is_quiet, unread_fleet};
-ghost use Rattle.meter_server.specs.Files.{IsUnread, TellsUnread};
 ghost use Rattle.meter_server.specs.Looking.{AsksWhy};
 ghost use Rattle.meter_server.specs.Program.{AnswersText, ListsEdges, ListsLabels};
 
 use crate::comparing::compare_files;
 use crate::demo::DEMO;
+use crate::files::{source_of, text_of_file};
 use crate::looking::{Question, tell_why};
 use crate::noticing::{Look, notice_lines};
 use crate::outcome::{Outcome, audited, ended, translated};
@@ -24,7 +24,6 @@ use fleet_audit::reading::{FleetFault, read_fleet};
 use fleet_audit::telling::{audit_texts, audit_texts_aloud};
 use fleet_audit::watch::Unwatched;
 use flow_checker::check::Checked;
-use line_server::fault::LineFault;
 use live_server::serving::{Place, serve_at};
 use std::alloc::Global;
 use std::io::{Read, Write};
@@ -35,7 +34,7 @@ use std::thread::Threads;
 use std::time::Clock;
 use step_words::texts::Way;
 use step_words::translating::translate;
-use text_files::{FileFault, TextFiles};
+use text_files::TextFiles;
 use verdict::Verdict;
 
 /// The demo configuration, under the name of the file that people copy.
@@ -384,38 +383,5 @@ fn fleet_unread(fault: FleetFault) -> Outcome
     match fault {
         FleetFault::Unread(file, why) => Outcome::Unread(file, why),
         FleetFault::Memory => Outcome::Unaudited(AuditFault::Memory),
-    }
-}
-
-/// The text of a file, or that it isn't read.
-pub(crate) fn text_of_file<F: TextFiles>(alloc: Global, files: &F, file: &str) -> Result<String, Outcome>
-    ensures { MatchResult result
-        (λ text. F.may_read files.now file.now (Ok (string_bytes text)))
-        (IsUnread (F.may_read files.now) file.now) }
-{
-    match files.read(file) {
-        Ok(text) => Ok(text),
-        Err(why) => Err(unread(alloc, file, why)),
-    }
-}
-
-/// A file that isn't read.
-fn unread(alloc: Global, file: &str, why: FileFault) -> Outcome
-    ensures { TellsUnread file.now why result }
-{
-    match String::from_str(alloc, file) {
-        Ok(file) => Outcome::Unread(file, why),
-        Err(_) => Outcome::Fault(LineFault::Memory),
-    }
-}
-
-/// A file by its path, with its text.
-pub(crate) fn source_of<'a>(file: &'a str, text: &'a String) -> Source<'a>
-    ensures file { result.file.now ≡ file.now }
-    ensures text { result.text.now ≡ string_bytes text.now }
-{
-    Source {
-        file,
-        text: text.as_str(),
     }
 }

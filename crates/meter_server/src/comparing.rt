@@ -3,7 +3,7 @@ ghost use Rattle.std.specs.Prelude.{◌≡◌, MatchResult, Ok, string_bytes};
 ghost use Rattle.flow_changes.specs.Written.{WritesComparison};
 ghost use Rattle.meter_server.specs.Comparing.{ComparesFiles, ComparesWith, FailsSide, IsFaultySide, IsMadeOf};
 
-use crate::answering::{source_of, text_of_file};
+use crate::files::{source_of, text_of_file};
 use crate::outcome::{Outcome, Side, compared};
 use crate::texts::Source;
 use config_reader::read_config;

@@ -5,6 +5,7 @@
 mod answering;
 mod comparing;
 pub mod demo;
+mod files;
 mod looking;
 mod noticing;
 pub mod outcome;

@@ -20,7 +20,8 @@ use text_files::FileFault;
 use verdict::{Verdict, verdict_text};
 
 /// What is told where a new configuration gives clients what the old one doesn't.
-const GIVES_MORE: &str = "cosem-flow: the new configuration gives clients what the old one does not\n  ask for the ways with cosem-flow why\n";
+const GIVES_MORE: &str =
+    "cosem-flow: the new configuration gives clients what the old one does not\n  ask for the ways with cosem-flow why\n";
 
 /// Which of two configurations that are compared.
 #[derive(Clone, Copy, Debug, PartialEq, Eq, Drop)]
@@ -79,7 +80,8 @@ impl Outcome {
             Outcome::Done
             | Outcome::Judged(Verdict::Accepted, _)
             | Outcome::JudgedWhole(Verdict::Accepted, _, _) => 0,
-            Outcome::Judged(_, _) | Outcome::JudgedWhole(_, _, _) | Outcome::JudgedSide(_, _, _) => 1,
+            Outcome::Judged(_, _) | Outcome::JudgedWhole(_, _, _) | Outcome::JudgedSide(_, _, _) =>
+                1,
             Outcome::Compared(gives) => u8::from(*gives),
             Outcome::Words(WordsFault::Help(_) | WordsFault::Version(_)) => 0,
             Outcome::Words(WordsFault::Usage(_)) | Outcome::Stranger(_) => 2,
@@ -145,10 +147,8 @@ impl Outcome {
         ensures { IfOk result (λ text. string_bytes text ≡ error_of self.now) }
     {
         match self {
-            Outcome::Done
-            | Outcome::Audited { .. }
-            | Outcome::Compared(false)
-            | Outcome::Closed => Ok(String::new(alloc)),
+            Outcome::Done | Outcome::Audited { .. } | Outcome::Compared(false) | Outcome::Closed =>
+                Ok(String::new(alloc)),
             Outcome::Judged(_, explanation)
             | Outcome::JudgedWhole(_, _, explanation)
             | Outcome::JudgedSide(_, _, explanation) => {
