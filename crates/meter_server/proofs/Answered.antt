@@ -1,5 +1,5 @@
 -- What commands come to over files.
-use Rattle.std.proofs.Common.{◌≡◌, ℕ, Bool, true, false, List, [], Option, Some, inl, inr, refl, sym, subst, ◌∙◌, Result, Ok, Err, IfOk, IfErr, String, string_bytes}
+use Rattle.std.proofs.Common.{◌≡◌, ℕ, Bool, true, false, List, [], Option, Some, inl, inr, refl, sym, subst, ◌∙◌, Result, Ok, Err, IfOk, IfErr, Global, String, string_bytes}
 use Rattle.std.specs.Prelude.{◌≢◌, MatchResult}
 use Rattle.config_reader.specs.ConfigOf.{Reads, config_of}
 use Rattle.config_rules.specs.Faultless.{IsPolicyOf}
@@ -128,7 +128,7 @@ accepted-or-not reads tells_all config_path labels_path config labels made (Err 
     (inl (config, config_is, inr ((s.0, s.1), inl (labels, labels_are, told.0))), told.1)
 
 -- where labels are accepted nothing fails that could be told
-pub accepted-so : (reads : MayRead) (tells_all : Bool) (config_path labels_path : List ℕ) (checked : Checked) (text : String) → IsAcceptedOf reads config_path labels_path checked → string_bytes text ≡ [] →
+pub accepted-so : (reads : MayRead) (tells_all : Bool) (config_path labels_path : List ℕ) (checked : Checked) (text : String Global) → IsAcceptedOf reads config_path labels_path checked → string_bytes text ≡ [] →
     JudgesFiles reads tells_all config_path labels_path (Judged Accepted text)
 accepted-so reads false config_path labels_path checked text a empty =
     inl (a.config, a.config_is, inr ((a.said, a.faultless), inl (a.labels, a.labels_are, (Accepted, a.accepted, (refl, inl empty)))))

@@ -22,10 +22,9 @@ use Rattle.verdict.specs.declared.Verdict.{Verdict}
 use Rattle.verdict.specs.declared.Verdict.TheVariants.{Accepted}
 use Rattle.flow_checker.specs.declared.check.Checked.{Checked}
 use Rattle.line_server.specs.Lines.{Moment}
-use Rattle.line_server.specs.declared.fault.LineFault.TheVariants as lines
 use Rattle.meter_theory.specs.Plan.{client_named}
 use Rattle.meter_server.specs.Comparing.{ComparesFiles}
-use Rattle.meter_server.specs.Files.{ByFile, IsFile, IsUnread, TellsUnread}
+use Rattle.meter_server.specs.Files.{ByFile, IsFile}
 use Rattle.meter_server.specs.Looking.{AsksWhy}
 use Rattle.meter_server.specs.Noticing.{NoticesAs}
 use Rattle.meter_server.specs.Outcomes.{error_of, status_of, translated, unless_closed}
@@ -33,7 +32,7 @@ use Rattle.meter_server.specs.Program.{AnswersFrames, AnswersText, IsFaulty, IsJ
 use Rattle.meter_server.specs.Sources.{Given, MayGive, ReadsWhere, is_input}
 use Rattle.meter_server.specs.declared.demo.TheConstants.{DEMO}
 use Rattle.meter_server.specs.declared.outcome.Outcome.{Outcome}
-use Rattle.meter_server.specs.declared.outcome.Outcome.TheVariants.{Done, Judged, JudgedWhole, Words, Unread, Fault, Audited, Unaudited, Unserved}
+use Rattle.meter_server.specs.declared.outcome.Outcome.TheVariants.{Done, Judged, JudgedWhole, Words, Unread, Audited, Unaudited, Unserved}
 use Rattle.meter_server.specs.declared.texts.Source.{Source}
 use Rattle.plan_lists.specs.Listing.{WritesText}
 use Rattle.plan_lists.specs.declared.fault.ListFault.{ListFault}
@@ -43,7 +42,6 @@ use Rattle.step_words.specs.declared.texts.Way.{Way}
 use Rattle.step_words.specs.declared.texts.Way.TheVariants as ways
 use Rattle.step_words.specs.declared.translating.TranslationFault.{TranslationFault}
 use Rattle.text_files.specs.Files.{MayRead}
-use Rattle.text_files.specs.declared.FileFault.{FileFault}
 
 -- Verdicts
 

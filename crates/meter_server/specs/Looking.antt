@@ -1,5 +1,5 @@
 -- By which ways a client of a configuration may influence and learn a cell. All of it is own profile. Texts are lists of bytes.
-use Rattle.std.specs.Prelude.{◌≡◌, ◌⊎◌, ℕ, List, ◌++◌, codes, string_bytes, Option, None, Some, Result, Ok, Unit}
+use Rattle.std.specs.Prelude.{◌≡◌, ◌⊎◌, ℕ, List, ◌++◌, codes, string_bytes, Option, None, Some, Result, Ok}
 use Rattle.std.specs.List.{position_from}
 use Rattle.std.specs.Str.{bytes_eq}
 use Rattle.config_rules.specs.Faultless.{IsPolicyOf}

@@ -1,4 +1,3 @@
-use Rattle.std.proofs.Common.{inr}
 use Rattle.config_reader.specs.ConfigOf.{config_of}
 use Rattle.meter_server.proofs.Answered.{file-read}
 use Rattle.meter_server.proofs.Made.{said-of}
