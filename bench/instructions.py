@@ -6,7 +6,8 @@
 Told are the instructions for a mixed line of the demo, and for one that is judged for a client, for a GET by a random name over 512 objects and 2,048 rights, for a byte
 of that configuration's text, for a GET of a buffer of 1,000 rows, whole and by 10 rows, for a capture into full buffers of
 10 and 1,000 rows, for a second over 512 objects of which 20 have a turn at it, told by `tick 3600` and by 3,600 lines `at`, and for a GET
-and a SET of one session that is served over TCP. Each figure is a run with many lines less one with few. Run `tools/build` first; another program of the same words can be named, to be counted beside it.
+and a SET of one session that is served over TCP: each such figure is a run with many lines less one with few. And those of whole runs of `why` and
+of `compare` beside one of `label`, for a configuration of 512 objects with some 250,000 edges. Run `tools/build` first; another program of the same words can be named, to be counted beside it.
 """
 import datetime
 import itertools
@@ -19,6 +20,7 @@ import sys
 import tempfile
 import threading
 
+import check
 import config
 import demo
 import profile
@@ -113,6 +115,15 @@ def main():
         for name, asked in (("GET", (READER, AARQ, GET, VALUE)), ("SET", (MANAGER, MANAGERS_AARQ, SET, DONE))):
             few, many = (served(program, *asked, count) for count in (500, 4_500))
             print(f"a {name} of a session that is served: {(many - few) / 4_000:.0f}")
+        large = check.config(512)
+        text = profile.written(folder, "large.toml", large)
+        # (a release that takes one right away, so that nobody gains)
+        one_right = large[large.index(' { client = "client_0"') :].split("\n", 1)[0] + "\n"
+        other = profile.written(folder, "other.toml", large.replace(one_right, "", 1))
+        label = counted(program, text, nothing, ("label",))
+        why = counted(program, text, nothing, ("why",), ("client_5", f"3/{check.name_of(0, 100)}/2"))
+        both = counted(program, text, nothing, ("compare",), (other,))
+        print(f"over 512 objects: label {label}, why {why / label:.2f} times that, compare {both / label:.2f} times")
 
 
 if __name__ == "__main__":
