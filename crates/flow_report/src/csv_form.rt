@@ -52,8 +52,15 @@ fn write_rows<W: Write + Drop>(
         ∷ flat_map (spec.cell_rows (client_names ways.now) (distance_of ways.now) (labelling_of_policy ways.now policy.now))
         (theory.cells ways.now))) }
 {
-    let header: [&[u8]; 6] = [b"cell", b"client", b"kind", b"may", b"edges", b"allowed"];
-    write_fields(&header, writer)?;
+    write_fields(
+        b"cell",
+        b"client",
+        b"kind",
+        b"may",
+        b"edges",
+        b"allowed",
+        writer,
+    )?;
     write_cells(alloc, ways, policy, writer)
 }
 
@@ -170,15 +177,15 @@ fn write_row<W: Write + Drop>(
         (spec.fields cell.now client.now reach distance allowed ∷ [])) }
 {
     let edges = edges_text(alloc, distance)?;
-    let fields: [&[u8]; 6] = [
+    write_fields(
         cell,
         client.as_bytes(),
         reach_word(reach).as_bytes(),
         yes_or_no(distance.is_some()).as_bytes(),
         edges.as_bytes(),
         yes_or_no(allowed).as_bytes(),
-    ];
-    write_fields(&fields, writer)
+        writer,
+    )
 }
 
 /// How many edges, in decimal, and nothing where there is no way.
@@ -209,11 +216,21 @@ fn set_for(reach: Reach, label: Label) -> ClientSet
 }
 
 /// Writes a record of these fields. The error is that the write was refused.
-fn write_fields<W: Write + Drop>(fields: &[&[u8]], writer: &mut Writer<W>) -> Result<(), Memory>
+fn write_fields<'a, W: Write + Drop>(
+    cell: &'a [u8],
+    client: &'a [u8],
+    kind: &'a [u8],
+    may: &'a [u8],
+    edges: &'a [u8],
+    allowed: &'a [u8],
+    writer: &mut Writer<W>,
+) -> Result<(), Memory>
     requires { IsBetween writer.old }
-    ensures { OnOk result (AreWritten W.contents writer.old writer.new (map (λ field. field.now) fields.now ∷ [])) }
+    ensures { OnOk result (AreWritten W.contents writer.old writer.new
+        ((cell.now ∷ client.now ∷ kind.now ∷ may.now ∷ edges.now ∷ allowed.now ∷ []) ∷ [])) }
 {
-    match writer.write_fields(fields) {
+    let fields: [&'a [u8]; 6] = [cell, client, kind, may, edges, allowed];
+    match writer.write_fields(&fields) {
         Ok(()) => Ok(()),
         Err(_) => Err(Memory),
     }
