@@ -1,5 +1,5 @@
 -- The first rounds within which clients have cells are their distances.
-use Rattle.std.proofs.Common.{◌≡◌, ◌<◌, ◌+◌, ℕ, Bool, true, false, length, Option, Some, None, nat_le, sym, ap, subst, ◌∙◌, arith}
+use Rattle.std.proofs.Common.{◌≡◌, ◌<◌, ◌+◌, ℕ, true, false, length, Option, Some, None, nat_le, sym, ap, subst, ◌∙◌, arith}
 use Rattle.cosem_data.specs.declared.cell.CellRef.{CellRef}
 use Rattle.meter_theory.specs.Lists.{IsIn}
 use Rattle.meter_theory.specs.Plan.{Plan, cells}

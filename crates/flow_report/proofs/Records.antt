@@ -39,8 +39,8 @@ element-more f xs k d less =
 pub number-more : {B : Type 0} (f : ℕ → List B) (start k : ℕ) → flat_map f (range_with_len start (k + 1)) ≡ flat_map f (range_with_len start k) ++ f (start + k)
 number-more f start k =
     ap (flat_map f) (sym (map-id (range_with_len start (k + 1)))
-      ∙ map-range_with_len_more (λ j. j) start k (start + k) refl
-      ∙ ap (λ js. js ++ (start + k) ∷ []) (map-id (range_with_len start k)))
+    ∙ map-range_with_len_more (λ j. j) start k (start + k) refl
+    ∙ ap (λ js. js ++ (start + k) ∷ []) (map-id (range_with_len start k)))
     ∙ flat_map-append f (range_with_len start k) ((start + k) ∷ [])
     ∙ ap (λ t. flat_map f (range_with_len start k) ++ t) (append-nil (f (start + k)))
 

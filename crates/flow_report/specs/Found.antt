@@ -1,5 +1,5 @@
 -- How far cells are from clients, as a function: what a report tells of a plan's ways.
-use Rattle.std.specs.Prelude.{ℕ, List, length, find, Option, map}
+use Rattle.std.specs.Prelude.{ℕ, length, find, Option, map}
 use Rattle.std.specs.List.{range_with_len}
 use Rattle.cosem_data.specs.declared.cell.CellRef.{CellRef}
 use Rattle.meter_theory.specs.Lists.{IsIn}

@@ -53,13 +53,7 @@ fn write_rows<W: Write + Drop>(
         (theory.cells ways.now))) }
 {
     write_fields(
-        b"cell",
-        b"client",
-        b"kind",
-        b"may",
-        b"edges",
-        b"allowed",
-        writer,
+        b"cell", b"client", b"kind", b"may", b"edges", b"allowed", writer,
     )?;
     write_cells(alloc, ways, policy, writer)
 }
@@ -130,8 +124,26 @@ fn write_client<W: Write + Drop>(
     ensures { OnOk result (AreWritten W.contents writer.old writer.new
         (spec.client_rows (client_names ways.now) (distance_of ways.now) (cell_at (theory.cells ways.now) number) label client)) }
 {
-    write_reach(alloc, ways, number, label, client, Reach::Influence, cell, writer)?;
-    write_reach(alloc, ways, number, label, client, Reach::Learn, cell, writer)
+    write_reach(
+        alloc,
+        ways,
+        number,
+        label,
+        client,
+        Reach::Influence,
+        cell,
+        writer,
+    )?;
+    write_reach(
+        alloc,
+        ways,
+        number,
+        label,
+        client,
+        Reach::Learn,
+        cell,
+        writer,
+    )
 }
 
 /// Writes the record of a cell, with this text, a client and a reach.
@@ -159,7 +171,15 @@ fn write_reach<W: Write + Drop>(
     };
     let distance = ways.distance(reach, number, client);
     let allowed = set_for(reach, label).has(client);
-    write_row(alloc, cell, who.name_text(), reach, distance, allowed, writer)
+    write_row(
+        alloc,
+        cell,
+        who.name_text(),
+        reach,
+        distance,
+        allowed,
+        writer,
+    )
 }
 
 /// Writes a record with these facts.
