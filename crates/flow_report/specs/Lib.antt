@@ -1,2 +1,4 @@
 pub mod Found
 pub mod Csv
+pub mod Json
+pub mod Rights

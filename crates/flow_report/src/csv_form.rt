@@ -226,7 +226,7 @@ fn yes_or_no(holds: bool) -> &'static str
 }
 
 /// The clients that a label has of this reach.
-fn set_for(reach: Reach, label: Label) -> ClientSet
+pub(crate) fn set_for(reach: Reach, label: Label) -> ClientSet
     ensures { result ≡ reaching.set_for reach label }
 {
     match reach {
