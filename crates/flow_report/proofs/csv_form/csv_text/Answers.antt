@@ -1,0 +1,13 @@
+use Rattle.std.proofs.Common.{subst, ◌∙◌}
+use Rattle.meter_theory.specs.Sound.{IsSound}
+use Rattle.flow_report.specs.Found.{distance_of}
+use Rattle.flow_report.proofs.Distance.{are-distances}
+use Rattle.flow_report.proofs.csv_form.csv_text.Goals as goal
+
+pub returns-in-Ok : goal.returns-in-Ok
+returns-in-Ok c =
+    let P = c.args.ways.now in
+    let from = c.from_writer-writer.ensures in
+    let written = c.in_ok-write_rows.ensures.text in
+    let text = rw (from.wtr, c.new-2.ensures.items, from.empty) at written in
+    record { found = distance_of P; are_distances = are-distances P (subst IsSound c.plan.ensures c.known.ensures.sound); text_is = c.in-Ok.ensures.ok ∙ text }

@@ -1,0 +1,10 @@
+use Rattle.flow_edges.specs.Table.{cell_at}
+use Rattle.meter_theory.specs.Plan.{cells}
+use Rattle.flow_report.specs.Csv.{AreWritten, client_names, first_rows}
+use Rattle.flow_report.specs.Found.{distance_of}
+use Rattle.flow_report.proofs.csv_form.write_cell.Given as goal
+
+-- the records of the clients before
+abbrev pub invariant-loop-client : goal.invariant-loop-client
+invariant-loop-client g l =
+    AreWritten g.W.Write.contents l.fn.writer l.writer (first_rows (client_names l.ways) (distance_of l.ways) (cell_at (cells l.ways) l.number) l.label l.client)

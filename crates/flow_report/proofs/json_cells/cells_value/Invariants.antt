@@ -1,0 +1,14 @@
+use Rattle.std.proofs.Common.{◌≡◌, map, take}
+use Rattle.serde_json.specs.View.{view}
+use Rattle.meter_theory.specs.Labels.{labelling_of_policy}
+use Rattle.meter_theory.specs.Plan.{cells}
+use Rattle.flow_report.specs.Csv.{client_names}
+use Rattle.flow_report.specs.Found.{distance_of}
+use Rattle.flow_report.specs.Json.{cell_data}
+use Rattle.flow_report.proofs.json_cells.cells_value.Given as goal
+
+-- the cells before
+abbrev pub invariant-loop-number : goal.invariant-loop-number
+invariant-loop-number l =
+    map view l.list.items
+    ≡ map (λ x. cell_data (client_names l.ways) (distance_of l.ways) x (labelling_of_policy l.ways l.policy x)) (take l.number (cells l.ways))

@@ -1,0 +1,4 @@
+pub mod Found
+pub mod Csv
+pub mod Json
+pub mod Rights

@@ -1,0 +1,41 @@
+-- The objects of a plan and the rights of its clients on them, as a report shows them: no start value, no script and no password is
+-- in them.
+use Rattle.std.specs.Prelude.{ℕ, Bool, List, map}
+use Rattle.cosem_data.specs.declared.name.LogicalName.{LogicalName}
+use Rattle.meter_theory.specs.Plan.{Object, Plan, Right, interface_of}
+use Rattle.meter_theory.specs.Rights.{has_right, in_view, lists}
+use Rattle.meter_theory.specs.declared.refs.Interface.{Interface}
+use Rattle.flow_report.specs.declared.doing.Doing.{Doing}
+use Rattle.flow_report.specs.declared.doing.Doing.TheVariants.{Get, Set, Act}
+
+-- an object: its logical name and its interface class
+pub record Head : Type 0 where
+  pub name : LogicalName
+  pub interface : Interface
+
+abbrev pub head_of : Object → Head
+head_of o = record { name = o.name; interface = interface_of o.part }
+
+abbrev pub heads_of : Plan → List Head
+heads_of P = map head_of P.objects
+
+-- the indexes that a right lists
+abbrev pub listed : Doing → Right → List ℕ
+listed Get r = r.gets
+listed Set r = r.sets
+listed Act r = r.acts
+
+-- how many of them a class has (IEC 62056-6-2)
+abbrev pub highest : Doing → Interface → ℕ
+highest Get interface = interface.attributes
+highest Set interface = interface.attributes
+highest Act interface = interface.methods
+
+-- whether a client sees an object, and may get or set its attribute or call its method with an index
+pub record Rights : Type 0 where
+  pub views : ℕ → LogicalName → Bool
+  pub allows : Doing → ℕ → LogicalName → ℕ → Bool
+
+-- by some right of the plan
+abbrev pub rights_of : Plan → Rights
+rights_of P = record { views = in_view P; allows = λ doing c name index. has_right P c name (λ r. lists (listed doing r) index) }

@@ -1,0 +1,16 @@
+//! The report of what clients may influence and learn of a plan, in forms for machines (own profile).
+//!
+//! - [`csv_form::csv_text`] gives it as CSV, a record for each cell, client and reach.
+//! - [`json_form::json_text`] gives it as JSON, one object with the verdict, the rights and the cells.
+//!
+//! What a form is stands in `specs/`: distances as a function (`Found`), the records of CSV (`Csv`), the objects and rights that are
+//! shown (`Rights`) and the values of JSON (`Json`). The theorems are the functions of [`laws`].
+#![tactic(auto)]
+
+pub mod csv_form;
+mod doing;
+mod json_cells;
+pub mod json_form;
+mod json_rights;
+mod json_values;
+pub mod laws;
