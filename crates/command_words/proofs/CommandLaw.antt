@@ -10,7 +10,7 @@ use Rattle.clap.specs.Faults.{built_fault, defaults_fault, entered_fault, level_
 use Rattle.clap.specs.Simple.{argument_words, built_leaf, entered, help_shape, label_of, names_of, rows_at}
 use Rattle.clap.specs.ValueTests.{is_unsigned_in}
 use Rattle.clap.specs.Walk.{answers_to, nothing_held, rows_after, settled, stop_after, walk_from, walked}
-use Rattle.command_words.specs.CommandLine.{app, audit_app, check_app, compare_app, decode_app, demo_app, edges_app, encode_app, label_app, quiet_app, run_app, serve_app, session_app, why_app}
+use Rattle.command_words.specs.CommandLine.{app, audit_app, check_app, compare_app, decode_app, demo_app, edges_app, encode_app, label_app, quiet_app, report_app, run_app, serve_app, session_app, why_app}
 use Rattle.command_words.specs.Commands.{asked_in}
 use Rattle.command_words.proofs.EachLemmas.{Each, each_found, no_kinds}
 use Rattle.command_words.proofs.LevelLemmas.{IsTaken, level_taken, nothing_wanted, number_there, text_there, texts_there}
@@ -76,6 +76,14 @@ compare = (
       then _ _ (text_there _ rows t (codes "new") refl) (λ new. refl)),
 )
 
+-- `report --format FORM CONFIG [LABELS]`
+report : Told (built_leaf report_app.top)
+report = (
+  refl,
+  λ no_help rows t. then _ _ (text_there _ rows t (codes "config") refl) (λ config.
+      then _ _ (text_there _ rows t (codes "format") refl) (λ form. refl)),
+)
+
 -- `quiet CONFIG LABELS CLIENT`
 quiet : Told (built_leaf quiet_app.top)
 quiet = (
@@ -131,7 +139,7 @@ help = (refl, λ no_help rows t. other (sym no_help))
 
 -- all that the program has
 all_told : Each Told (built app).subs
-all_told = (demo, (run, (edges, (label, (check, (why, (compare, (quiet, (audit, (session, (serve, (encode, (decode, (help, tt))))))))))))))
+all_told = (demo, (run, (edges, (label, (check, (why, (compare, (report, (quiet, (audit, (session, (serve, (encode, (decode, (help, tt)))))))))))))))
 
 module _ (above : App) (required : above.top.subcommand_required ≡ true) (helps : above.top.disable_help_subcommand ≡ false) (told : Each Told above.subs) where
   -- the subcommand at which the words stop

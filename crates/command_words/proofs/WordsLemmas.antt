@@ -44,7 +44,7 @@ unfolding command_of
 command_of-fault words kind h = some_kind kind (kinds_of words) _ h
 
 -- what is told of a form that isn't known is a mistake in the words
-form_kind : (words : List Text) (rows : Option (Text × List Row)) (name : Text) → fault_of app words ≡ [] → rows ≡ subcommand_of app words → unknown_form rows ≡ Some name → IsAmong InvalidValue (kinds_of words)
+form_kind : (words : List Text) (rows : Option (Text × List Row)) (name : Text × Text) → fault_of app words ≡ [] → rows ≡ subcommand_of app words → unknown_form rows ≡ Some name → IsAmong InvalidValue (kinds_of words)
 form_kind words rows name none is unknown =
     let kinds : kinds_of words ≡ InvalidValue ∷ [] = ap₂ or_else none (ap form_kinds (ap unknown_form (sym is) ∙ unknown)) in
     subst (IsAmong InvalidValue) (sym kinds) (inl refl)
@@ -56,7 +56,7 @@ module _ (words : List Text) (rows : Option (Text × List Row)) (none : fault_of
   form-command (Ok command) known said = command_of-taken words rows (Some (asked_by command)) none is known said
   form-command (Err fault) known said = tt
 
-  no_command : (u : Option Text) (fault : WordsFault) → unknown_form rows ≡ u → IsNoForm u fault → UnlessMemory fault (command_of words ≡ None)
+  no_command : (u : Option (Text × Text)) (fault : WordsFault) → unknown_form rows ≡ u → IsNoForm u fault → UnlessMemory fault (command_of words ≡ None)
   no_command u faults.Memory e told = tt
   no_command None (faults.Help text) e told = absurd told
   no_command None (faults.Version text) e told = absurd told
@@ -69,7 +69,7 @@ module _ (words : List Text) (rows : Option (Text × List Row)) (none : fault_of
   form-no_command (Ok command) told = tt
   form-no_command (Err fault) told = no_command (unknown_form rows) fault refl told
 
-  usage : (u : Option Text) (fault : WordsFault) → unknown_form rows ≡ u → IsNoForm u fault → IfUsage fault (HasMistake (kinds_of words))
+  usage : (u : Option (Text × Text)) (fault : WordsFault) → unknown_form rows ≡ u → IsNoForm u fault → IfUsage fault (HasMistake (kinds_of words))
   usage u faults.Memory e told = tt
   usage u (faults.Help text) e told = tt
   usage u (faults.Version text) e told = tt

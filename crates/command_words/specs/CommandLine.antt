@@ -77,6 +77,14 @@ names = record (new_rule (codes "name")) { required = true; action = Some Append
 abbrev pub form : Rule
 form = option_or (codes "format") (codes "text")
 
+-- `--format FORM` of a report, which has to stand there (own profile)
+abbrev pub report_form : Rule
+report_form = record (option (codes "format")) { required = true }
+
+-- the file of labels, which needn't stand there (own profile)
+abbrev pub given_labels : Rule
+given_labels = record (new_rule (codes "labels")) { action = Some Set; value_names = 1 }
+
 -- `--all`, also more than once (own profile)
 abbrev pub all : Rule
 all = record (new_rule (codes "all")) { long = Some (codes "all"); action = Some Count }
@@ -108,6 +116,10 @@ why_app = with_rule (with_rule (with_rule (new_app (codes "why")) config_file) c
 -- `compare OLD NEW` (own profile)
 abbrev pub compare_app : App
 compare_app = with_rule (with_rule (new_app (codes "compare")) old_file) new_file
+
+-- `report --format FORM CONFIG [LABELS]` (own profile)
+abbrev pub report_app : App
+report_app = with_rule (with_rule (with_rule (new_app (codes "report")) report_form) config_file) given_labels
 
 -- `quiet CONFIG LABELS CLIENT` (own profile)
 abbrev pub quiet_app : App
@@ -143,25 +155,27 @@ bare_program = record { top = record program { is_leaf = true }; subs = [] }
 
 -- the commands of the program (own profile)
 abbrev pub commands : List App
-commands = demo_app ∷ run_app ∷ edges_app ∷ label_app ∷ check_app ∷ why_app ∷ compare_app ∷ quiet_app ∷ audit_app ∷ session_app ∷ serve_app ∷ encode_app ∷ decode_app ∷ []
+commands = demo_app ∷ run_app ∷ edges_app ∷ label_app ∷ check_app ∷ why_app ∷ compare_app ∷ report_app ∷ quiet_app ∷ audit_app ∷ session_app ∷ serve_app ∷ encode_app ∷ decode_app ∷ []
 
 -- the program with its commands (own profile)
 abbrev pub app : App
 app = record { top = program; subs = map (λ command. command.top) commands }
 
--- whether edges are printed in a form of this name (own profile)
-abbrev pub is_form : Text → Bool
-is_form name = bytes_eq name (codes "text") || bytes_eq name (codes "dot")
+-- whether this command has a form of this name: of a report, or of a list of edges (own profile)
+abbrev pub is_form : Text → Text → Bool
+is_form command name =
+    if bytes_eq command (codes "report") then bytes_eq name (codes "csv") || bytes_eq name (codes "json")
+    else bytes_eq name (codes "text") || bytes_eq name (codes "dot")
 
--- the name of a form that there isn't, in a command's rows (own profile)
-abbrev pub unknown_form : Option (Text × List Row) → Option Text
+-- the command and the name of a form that it hasn't, in its rows (own profile)
+abbrev pub unknown_form : Option (Text × List Row) → Option (Text × Text)
 unknown_form rows =
-    option_and_then (λ p. option_and_then (λ name. if is_form name then None else Some name) (first_of (codes "format") p.1)) rows
+    option_and_then (λ p. option_and_then (λ name. if is_form p.0 name then None else Some (p.0, name)) (first_of (codes "format") p.1)) rows
 
 -- the kind of error that such a name is, none where there is none (own profile)
-abbrev pub form_kinds : Option Text → Kinds
+abbrev pub form_kinds : Option (Text × Text) → Kinds
 form_kinds None = []
-form_kinds (Some name) = InvalidValue ∷ []
+form_kinds (Some unknown) = InvalidValue ∷ []
 
 -- the kinds that the error on these words may have: clap's, and where clap takes them that of a form that there isn't; none where they are a command (own profile)
 abbrev pub kinds_of : List Text → Kinds

@@ -11,8 +11,10 @@ use Rattle.command_words.specs.declared.command.Command.{Command}
 use Rattle.command_words.specs.declared.command.Command.TheVariants as commands
 use Rattle.command_words.specs.declared.command.EdgesForm.{EdgesForm}
 use Rattle.command_words.specs.declared.command.EdgesForm.TheVariants as forms
+use Rattle.command_words.specs.declared.command.ReportForm.{ReportForm}
+use Rattle.command_words.specs.declared.command.ReportForm.TheVariants as reports
 
--- what is asked for, with the paths of the files that are named: of edges the form; of a verdict whether all that is refused is told; of ways the client and the cell; of whether lines are noticed the client; of an audit how many workers, which names, and whether it is
+-- what is asked for, with the paths of the files that are named: of edges the form; of a verdict whether all that is refused is told; of ways the client and the cell; of a report the labels, if there are, and the form; of whether lines are noticed the client; of an audit how many workers, which names, and whether it is
 -- told how far it is; of a served meter the address, the port and how many connections (own profile)
 pub data Asked : Type 0 where
   Demo : Bool → Asked
@@ -22,6 +24,7 @@ pub data Asked : Type 0 where
   Check : List ℕ → List ℕ → Bool → Asked
   Why : List ℕ → List ℕ → List ℕ → Asked
   Compare : List ℕ → List ℕ → Asked
+  Report : List ℕ → Option (List ℕ) → ReportForm → Asked
   Quiet : List ℕ → List ℕ → List ℕ → Bool → Asked
   Audit : ℕ → List (List ℕ) → Bool → Asked
   Session : List ℕ → Asked
@@ -38,6 +41,7 @@ asked_by (commands.Label config) = Label config.now
 asked_by (commands.Check config labels tells_all) = Check config.now labels.now tells_all
 asked_by (commands.Why config client cell) = Why config.now client.now cell.now
 asked_by (commands.Compare old new) = Compare old.now new.now
+asked_by (commands.Report config labels form) = Report config.now (option_map (λ text. text.now) labels) form
 asked_by (commands.Quiet config labels client is_verbose) = Quiet config.now labels.now client.now is_verbose
 asked_by (commands.Audit workers names tells_progress) =
     Audit (non_zero_usize_get workers) (map (λ name. name.now) names.items) tells_progress
@@ -92,6 +96,17 @@ compare_in rows = do
   new ← first_of (codes "new") rows
   Some (Compare old new)
 
+-- the form of a report by its name: no other name than `csv` and `json` is let through (own profile)
+abbrev pub report_form_named : Text → ReportForm
+report_form_named name = if bytes_eq name (codes "json") then reports.Json else reports.Csv
+
+-- a configuration, labels if there are, and the form of a report (own profile)
+abbrev pub report_in : List Row → Option Asked
+report_in rows = do
+  config ← first_of (codes "config") rows
+  name ← first_of (codes "format") rows
+  Some (Report config (first_of (codes "labels") rows) (report_form_named name))
+
 -- a configuration, labels and a client, and whether each line is to be told of (own profile)
 abbrev pub quiet_in : List Row → Option Asked
 quiet_in rows = do
@@ -137,6 +152,18 @@ serve_in rows = do
   sessions ← sessions_in rows
   Some (Serve config labels bind port sessions)
 
+-- a command by its name, of those behind `compare`, and what clap found for it in the words (own profile)
+abbrev pub asked_else : Text × List Row → Option Asked
+asked_else p =
+    if bytes_eq p.0 (codes "report") then report_in p.1
+    else if bytes_eq p.0 (codes "quiet") then quiet_in p.1
+    else if bytes_eq p.0 (codes "audit") then audit_in p.1
+    else if bytes_eq p.0 (codes "session") then option_map Session (first_of (codes "config") p.1)
+    else if bytes_eq p.0 (codes "serve") then serve_in p.1
+    else if bytes_eq p.0 (codes "encode") then Some Encode
+    else if bytes_eq p.0 (codes "decode") then Some Decode
+    else None
+
 -- a command by its name, and what clap found for it in the words (own profile)
 abbrev pub asked_in : Text × List Row → Option Asked
 asked_in p =
@@ -147,13 +174,7 @@ asked_in p =
     else if bytes_eq p.0 (codes "check") then check_in p.1
     else if bytes_eq p.0 (codes "why") then why_in p.1
     else if bytes_eq p.0 (codes "compare") then compare_in p.1
-    else if bytes_eq p.0 (codes "quiet") then quiet_in p.1
-    else if bytes_eq p.0 (codes "audit") then audit_in p.1
-    else if bytes_eq p.0 (codes "session") then option_map Session (first_of (codes "config") p.1)
-    else if bytes_eq p.0 (codes "serve") then serve_in p.1
-    else if bytes_eq p.0 (codes "encode") then Some Encode
-    else if bytes_eq p.0 (codes "decode") then Some Decode
-    else None
+    else asked_else p
 
 -- the words of a command line, the program's name first: nothing is wrong with them, and clap's matches name a command (own profile)
 unfoldable pub command_of : List Text → Option Asked

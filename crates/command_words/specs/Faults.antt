@@ -1,5 +1,6 @@
 -- Why words ask for no command. All of it is own profile.
-use Rattle.std.specs.Prelude.{List, ℕ, codes, string_bytes, ◌≡◌, ◌≢◌, ◌++◌, Option, Some}
+use Rattle.std.specs.Prelude.{List, ℕ, codes, if◌then◌else◌, string_bytes, ◌≡◌, ◌≢◌, ◌++◌, Option, None, Some}
+use Rattle.std.specs.Str.{bytes_eq}
 use Rattle.clap.specs.Words.{IsAmong, Kinds, Text}
 use Rattle.clap.specs.declared.error.kind.ErrorKind.{ErrorKind}
 use Rattle.clap.specs.declared.error.kind.ErrorKind.TheVariants.{DisplayHelp, DisplayVersion, OutOfMemory}
@@ -21,15 +22,26 @@ IsToldAs kind (faults.Version text) = kind ≡ DisplayVersion
 IsToldAs kind (faults.Usage text) = (kind ≢ OutOfMemory) × IsMistake kind
 IsToldAs kind faults.Memory = Unit {0}
 
--- what is told of the name of a form that there isn't (own profile)
-abbrev pub no_form_text : List ℕ → List ℕ
-no_form_text name = codes "error: invalid value '" ++ (name ++ codes "' for '--format <FORM>'\n  [possible values: text, dot]\n\nFor more information, try '--help'.\n")
+-- the names of the forms that a command has (own profile)
+abbrev pub forms_listed : Text → List ℕ
+forms_listed command = if bytes_eq command (codes "report") then codes "csv, json" else codes "text, dot"
 
--- the fault that the name of a form is that there isn't, or memory was refused (own profile)
-abbrev pub IsNoForm : Option Text → WordsFault → Type 0
-IsNoForm (Some name) (faults.Usage text) = string_bytes text ≡ no_form_text name
-IsNoForm name faults.Memory = Unit {0}
-IsNoForm name _ = ⊥
+-- what is told of the name of a form that a command hasn't which has these (own profile)
+abbrev pub no_form_text : (forms name : Text) → List ℕ
+no_form_text forms name =
+    codes "error: invalid value '" ++ (name ++ (codes "' for '--format <FORM>'\n  [possible values: " ++ (forms ++ codes "]\n\nFor more information, try '--help'.\n")))
+
+-- the fault tells that, or memory was refused (own profile)
+abbrev pub TellsNoForm : (forms name : Text) → WordsFault → Type 0
+TellsNoForm forms name (faults.Usage text) = string_bytes text ≡ no_form_text forms name
+TellsNoForm forms name faults.Memory = Unit {0}
+TellsNoForm forms name _ = ⊥
+
+-- the fault that the name of a form is that a command hasn't, or memory was refused (own profile)
+abbrev pub IsNoForm : Option (Text × Text) → WordsFault → Type 0
+IsNoForm (Some unknown) fault = TellsNoForm (forms_listed unknown.0) unknown.1 fault
+IsNoForm None faults.Memory = Unit {0}
+IsNoForm None _ = ⊥
 
 -- the text that is shown for a fault (own profile)
 abbrev pub fault_text : WordsFault → List ℕ

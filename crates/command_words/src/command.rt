@@ -11,6 +11,15 @@ pub enum EdgesForm {
     Dot,
 }
 
+/// In which form a report is written (own profile).
+#[derive(Clone, Copy, Debug, PartialEq, Eq, Drop)]
+pub enum ReportForm {
+    /// As records between commas.
+    Csv,
+    /// As one value of JSON.
+    Json,
+}
+
 /// What a command line asks for, with the paths of the files that it names (own profile).
 #[derive(Debug, Drop)]
 pub enum Command<'a> {
@@ -48,6 +57,13 @@ pub enum Command<'a> {
     Compare {
         old: &'a str,
         new: &'a str,
+    },
+    /// To write who may influence and who may learn what, in this form, with the verdict on these labels where they are given, and
+    /// else on the least.
+    Report {
+        config: &'a str,
+        labels: Option<&'a str>,
+        form: ReportForm,
     },
     /// To print whether a client could notice each step line, by a configuration whose labels are accepted, and to tell what it could
     /// notice where that is asked for.

@@ -34,6 +34,7 @@ pub(crate) fn all_commands<'a>(alloc: Global) -> Result<Command<'a>, AllocError>
     let commands = with(commands, check_command(alloc));
     let commands = with(commands, why_command(alloc));
     let commands = with(commands, compare_command(alloc));
+    let commands = with(commands, report_command(alloc));
     let commands = with(commands, quiet_command(alloc));
     let commands = with(commands, audit_command(alloc));
     let commands = with(commands, session_command(alloc));
@@ -144,6 +145,18 @@ fn compare_command<'a>(alloc: Global) -> Result<Command<'a>, AllocError>
         .after_help("Example: cosem-flow compare old.toml new.toml")
         .arg(old_file(alloc))?
         .arg(new_file(alloc))
+}
+
+fn report_command<'a>(alloc: Global) -> Result<Command<'a>, AllocError>
+    ensures app { IfOk result (λ c. app_of c ≡ spec.report_app) }
+    ensures local { IfOk result (λ c. (out-Command c).has_globals ≡ false) }
+{
+    Command::new(alloc, "report")
+        .about("Write who may influence and who may learn what, for other programs")
+        .after_help("Example: cosem-flow report --format csv mine.toml > mine.csv")
+        .arg(report_form(alloc))?
+        .arg(config_file(alloc, CONFIG_SOURCE))?
+        .arg(given_labels(alloc))
 }
 
 fn quiet_command<'a>(alloc: Global) -> Result<Command<'a>, AllocError>
@@ -264,6 +277,32 @@ fn form<'a>(alloc: Global) -> Arg<'a>
         .value_name("FORM")
         .help(
             "The form of the list: a line for each edge, or a graph for Graphviz [possible values: text, dot]",
+        )
+}
+
+/// In which form a report is written. Its names are tried as those of [`form`] are.
+fn report_form<'a>(alloc: Global) -> Arg<'a>
+    ensures rule { rule_of result ≡ spec.report_form }
+    ensures local { result.global ≡ false }
+{
+    Arg::new(alloc, "format")
+        .long("format")
+        .action(ArgAction::Set)
+        .required(true)
+        .value_name("FORM")
+        .help("The form of the report [possible values: csv, json]")
+}
+
+/// The labels that are judged, where they aren't the least ones.
+fn given_labels<'a>(alloc: Global) -> Arg<'a>
+    ensures rule { rule_of result ≡ spec.given_labels }
+    ensures local { result.global ≡ false }
+{
+    Arg::new(alloc, "labels")
+        .action(ArgAction::Set)
+        .value_name("LABELS")
+        .help(
+            "The file of the labels that are judged, - is standard input; the least labels where it isn't given",
         )
 }
 

@@ -1,7 +1,7 @@
 //! Why the words of a command line ask for no command.
-ghost use Rattle.std.specs.Prelude.{◌≡◌, Some};
+ghost use Rattle.std.specs.Prelude.{◌≡◌};
 ghost use Rattle.clap.specs.Words.{kind_of};
-ghost use Rattle.command_words.specs.Faults.{IsNoForm, IsToldAs};
+ghost use Rattle.command_words.specs.Faults.{IsToldAs, TellsNoForm, forms_listed};
 
 use clap::error::ErrorKind;
 use std::alloc::Global;
@@ -39,12 +39,23 @@ pub(crate) fn fault_told(alloc: Global, error: &clap::Error) -> WordsFault
     }
 }
 
-/// The fault that the name of a form is that there isn't, in clap's words.
-pub(crate) fn no_form(alloc: Global, name: &str) -> WordsFault
-    ensures { IsNoForm (Some name.now) result }
+/// The names of the forms that a command has.
+pub(crate) fn forms_listed(command: &str) -> &'static str
+    ensures { result.now ≡ forms_listed command.now }
+{
+    if command == "report" {
+        "csv, json"
+    } else {
+        "text, dot"
+    }
+}
+
+/// The fault that the name of a form is that a command hasn't which has these, in clap's words.
+pub(crate) fn no_form(alloc: Global, forms: &str, name: &str) -> WordsFault
+    ensures { TellsNoForm forms.now name.now result }
 {
     match format!(in alloc;
-        "error: invalid value '{name}' for '--format <FORM>'\n  [possible values: text, dot]\n\nFor more information, try '--help'.\n"
+        "error: invalid value '{name}' for '--format <FORM>'\n  [possible values: {forms}]\n\nFor more information, try '--help'.\n"
     ) {
         Ok(text) => WordsFault::Usage(text),
         Err(_) => WordsFault::Memory,

@@ -7,6 +7,6 @@ mod commands;
 pub mod fault;
 pub mod reading;
 
-pub use command::{Command, EdgesForm};
+pub use command::{Command, EdgesForm, ReportForm};
 pub use fault::WordsFault;
 pub use reading::read_words;

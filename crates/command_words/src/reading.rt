@@ -9,9 +9,9 @@ ghost use Rattle.command_words.specs.Commands.{asked_by, command_of};
 ghost use Rattle.command_words.specs.CommandLine.{kinds_of};
 ghost use Rattle.command_words.specs.Faults.{HasMistake, IfHelp, IfUsage, IfVersion, IsNoForm, UnlessMemory};
 
-use crate::command::{Command, EdgesForm};
+use crate::command::{Command, EdgesForm, ReportForm};
 use crate::commands::all_commands;
-use crate::fault::{WordsFault, fault_told, no_form};
+use crate::fault::{WordsFault, fault_told, forms_listed, no_form};
 use clap::ArgMatches;
 use std::alloc::{AllocError, Global};
 use std::num::{NonZeroU16, NonZeroUsize};
@@ -50,8 +50,8 @@ fn command_of_matches<'a>(
         ≡ option_and_then spec.asked_in (subcommand_rows_of matches.now)) }
     ensures fault { IfErr result (IsNoForm (line.unknown_form (subcommand_rows_of matches.now))) }
 {
-    if let Some(name) = unknown_form(matches) {
-        return Err(no_form(alloc, name));
+    if let Some((command, name)) = unknown_form(matches) {
+        return Err(no_form(alloc, forms_listed(command), name));
     }
     match command_in(alloc, matches) {
         Ok(Some(command)) => Ok(command),
@@ -93,6 +93,21 @@ fn command_named<'a>(
         "check" => check_in(found),
         "why" => why_in(found),
         "compare" => compare_in(found),
+        _ => other_command_named(alloc, name, found)?,
+    })
+}
+
+/// The same of the commands that are named behind `compare`. It is a function of its own since a choice of many is long to prove.
+fn other_command_named<'a>(
+    alloc: Global,
+    name: &str,
+    found: &ArgMatches<'a>,
+) -> Result<Option<Command<'a>>, AllocError>
+    ensures { IfOk result (λ command. option_map asked_by command
+        ≡ spec.asked_else (name.now, rows_of (found_of found.now))) }
+{
+    Ok(match name {
+        "report" => report_in(found),
         "quiet" => quiet_in(found),
         "audit" => audit_in(alloc, found)?,
         "session" => value(found, "config").map(|config| Command::Session { config }),
@@ -149,6 +164,18 @@ fn compare_in<'a>(found: &ArgMatches<'a>) -> Option<Command<'a>>
     let old = value(found, "old")?;
     let new = value(found, "new")?;
     Some(Command::Compare { old, new })
+}
+
+fn report_in<'a>(found: &ArgMatches<'a>) -> Option<Command<'a>>
+    ensures { option_map asked_by result ≡ spec.report_in (rows_of (found_of found.now)) }
+{
+    let config = value(found, "config")?;
+    let form = report_form_named(value(found, "format")?);
+    Some(Command::Report {
+        config,
+        labels: value(found, "labels"),
+        form,
+    })
 }
 
 fn quiet_in<'a>(found: &ArgMatches<'a>) -> Option<Command<'a>>
@@ -212,21 +239,40 @@ fn tells_all<'a>(found: &ArgMatches<'a>) -> bool
     0 < found.get_count("all")
 }
 
-/// The name of a form that there isn't, where the matches have one.
-fn unknown_form<'a>(matches: &ArgMatches<'a>) -> Option<&'a str>
-    ensures { option_map (λ name. name.now) result
+/// The command and the name of a form that it hasn't, where the matches have one.
+fn unknown_form<'m, 'a>(matches: &'m ArgMatches<'a>) -> Option<(&'m str, &'a str)>
+    ensures { option_map (λ unknown. (unknown.0.now, unknown.1.now)) result
         ≡ line.unknown_form (subcommand_rows_of matches.now) }
 {
-    let (_, found) = matches.subcommand()?;
+    let (command, found) = matches.subcommand()?;
     let name = value(found, "format")?;
-    if is_form(name) { None } else { Some(name) }
+    if is_form(command, name) {
+        None
+    } else {
+        Some((command, name))
+    }
 }
 
-/// Whether edges are printed in a form of this name.
-fn is_form(name: &str) -> bool
-    ensures { result ≡ line.is_form name.now }
+/// Whether a command has a form of this name.
+fn is_form(command: &str, name: &str) -> bool
+    ensures { result ≡ line.is_form command.now name.now }
 {
-    name == "text" || name == "dot"
+    if command == "report" {
+        name == "csv" || name == "json"
+    } else {
+        name == "text" || name == "dot"
+    }
+}
+
+/// The form of a report of this name. No other name than `csv` and `json` is let through.
+fn report_form_named(name: &str) -> ReportForm
+    ensures { result ≡ spec.report_form_named name.now }
+{
+    if name == "json" {
+        ReportForm::Json
+    } else {
+        ReportForm::Csv
+    }
 }
 
 /// The form of this name. No other name than `text` and `dot` is let through.

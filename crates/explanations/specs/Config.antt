@@ -11,7 +11,7 @@ use Rattle.toml.specs.Parse.{parse_document}
 use Rattle.explanations.specs.Advice.{meaning_at, mending_at}
 use Rattle.explanations.specs.Following.{object_name, shown_at}
 use Rattle.explanations.specs.Meanings.{meaning, mending, memory_meaning, memory_mending}
-use Rattle.explanations.specs.Printable.{printable, quoted}
+use Rattle.shown_text.specs.Printable.{printable, quoted}
 
 -- Values
 

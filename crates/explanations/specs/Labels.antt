@@ -7,7 +7,7 @@ use Rattle.label_certificate.specs.declared.fault.LabelCode.TheVariants as label
 use Rattle.label_certificate.specs.declared.fault.LabelFault.{LabelFault}
 use Rattle.label_certificate.specs.declared.fault.LabelFault.TheVariants as faults
 use Rattle.explanations.specs.Following.{parts}
-use Rattle.explanations.specs.Printable.{printable}
+use Rattle.shown_text.specs.Printable.{printable}
 
 -- what a code means (own profile)
 abbrev pub meaning : LabelCode → List ℕ

@@ -1,4 +1,3 @@
-pub mod Printable
 pub mod Following
 pub mod ClassWords
 pub mod Meanings

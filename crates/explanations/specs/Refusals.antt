@@ -7,7 +7,7 @@ use Rattle.flow_checker.specs.declared.check.Refused.TheVariants as refusals
 use Rattle.meter_theory.specs.declared.flow.Edge.{Edge}
 use Rattle.value_text.specs.Texts.{cell_text}
 use Rattle.value_text.specs.Edges.{edge_text}
-use Rattle.explanations.specs.Printable.{printable}
+use Rattle.shown_text.specs.Printable.{printable}
 
 -- a cell without a label (own profile)
 abbrev pub not_labelled : CellRef → List ℕ

@@ -6,11 +6,11 @@ ghost use Rattle.explanations.specs.Config.{Explains};
 
 use crate::advice::{meaning_at, mending_at};
 use crate::following::{object_name, shown_at};
-use crate::printable::printable_text;
 use crate::syntax::explain_no_toml;
 use crate::value::value_words;
 use config_text::fault::{Code, ConfigFault};
 use cosem_data::memory::Memory;
+use shown_text::printable::printable_text;
 use std::alloc::Global;
 use toml::Value;
 

@@ -3,10 +3,10 @@ ghost use Rattle.std.specs.Prelude.{◌≡◌, IfOk, option_map, string_bytes};
 ghost use Rattle.explanations.specs.Labels as spec;
 ghost use Rattle.explanations.specs.Labels.{explanation, meaning, mending};
 
-use crate::printable::{printable_text, push_printable};
 use crate::split::first_part;
 use cosem_data::memory::Memory;
 use label_certificate::fault::{LabelCode, LabelFault};
+use shown_text::printable::{printable_text, push_printable};
 use std::alloc::Global;
 
 /// How many bytes of a line are shown.

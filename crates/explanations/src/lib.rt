@@ -12,7 +12,6 @@ pub mod config;
 mod following;
 pub mod labels;
 mod meaning;
-pub mod printable;
 pub mod refusal;
 mod split;
 mod syntax;

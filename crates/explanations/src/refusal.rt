@@ -3,11 +3,11 @@ ghost use Rattle.std.specs.Prelude.{◌≡◌, IfOk, string_bytes};
 ghost use Rattle.explanations.specs.Refusals as spec;
 ghost use Rattle.explanations.specs.Refusals.{explanation};
 
-use crate::printable::printable_text;
 use cosem_data::cell::CellRef;
 use cosem_data::memory::Memory;
 use flow_checker::check::Refused;
 use meter_theory::flow::Edge;
+use shown_text::printable::printable_text;
 use std::alloc::Global;
 use value_text::cell::CellText;
 use value_text::edge::EdgeText;

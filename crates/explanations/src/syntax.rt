@@ -4,8 +4,8 @@ ghost use Rattle.toml.specs.Errors.{IsMemory, IsWithin, span_start};
 ghost use Rattle.explanations.specs.Config as spec;
 ghost use Rattle.explanations.specs.Config.{TellsStop, place_behind};
 
-use crate::printable::printable_text;
 use cosem_data::memory::Memory;
+use shown_text::printable::printable_text;
 use std::alloc::Global;
 use toml::de::Error;
 

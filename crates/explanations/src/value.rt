@@ -3,8 +3,8 @@ ghost use Rattle.std.specs.Prelude.{◌≡◌, IfOk, string_bytes};
 ghost use Rattle.toml.specs.View.{view};
 ghost use Rattle.explanations.specs.Config as spec;
 
-use crate::printable::quoted_text;
 use cosem_data::memory::Memory;
+use shown_text::printable::quoted_text;
 use std::alloc::Global;
 use toml::Value;
 

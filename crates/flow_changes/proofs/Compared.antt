@@ -1,5 +1,5 @@
 -- Who gains, from a set of clients and from its names.
-use Rattle.std.specs.Prelude.{◌≡◌, ℕ, suc, ◌+◌, ◌-◌, ◌≤◌, ◌==◌, Bool, not, List, [], ◌∷◌, ◌++◌, Option, Some, Result, Ok, Err, filter, flat_map, length, slice_get}
+use Rattle.std.specs.Prelude.{IfOk, ◌≡◌, ℕ, suc, ◌+◌, ◌-◌, ◌≤◌, ◌==◌, Bool, not, List, [], ◌∷◌, ◌++◌, Option, Some, Result, Ok, Err, filter, flat_map, length, slice_get}
 use Rattle.std.specs.List.{enumerate_from}
 use Rattle.std.proofs.Common.{refl, sym, ap, subst, ◌∙◌, inl, inr, arith}
 use Rattle.std.proofs.lemmas.Bool.{ne_eqb}
@@ -13,7 +13,9 @@ use Rattle.plan_lists.specs.Listing.{AreLeastOf}
 use Rattle.plan_lists.specs.declared.fault.ListFault.{ListFault}
 use Rattle.plan_lists.specs.declared.fault.ListFault.TheVariants as faults
 use Rattle.flow_changes.specs.Sides.{IsSide, configuration_of}
-use Rattle.flow_changes.specs.Written.{IsConfiguration, WritesComparison, WritesSides}
+use Rattle.cosem_data.specs.declared.memory.Memory.{Memory}
+use Rattle.flow_changes.specs.declared.compare.Comparison.{Comparison}
+use Rattle.flow_changes.specs.Written.{AreCompared, IsComparison, IsConfiguration, WritesComparison, WritesSides}
 use Rattle.flow_changes.specs.declared.side.Side.{Side}
 use Rattle.flow_changes.proofs.Lists.{filter-agree}
 use Rattle.flow_changes.proofs.Named.{is-more, names-of, some-named}
@@ -63,3 +65,9 @@ pub of-sides : (s t : Side) (P Q : Plan) (p q : Policy) → IsSide s → IsSide 
 of-sides s t P Q p q a b e f g h before after (Err faults.Memory) w = w
 of-sides s t P Q p q a b e f g h before after (Err faults.Write) w = (configuration_of s, configuration_of t, is-configuration s P p a e f, is-configuration t Q q b g h, w)
 of-sides s t P Q p q a b e f g h before after (Ok some) w = (configuration_of s, configuration_of t, is-configuration s P p a e f, is-configuration t Q q b g h, w)
+
+-- and so is what is told of them beside each other
+pub of-compared : (s t : Side) (P Q : Plan) (p q : Policy) → IsSide s → IsSide t → s.plan.now ≡ P → s.policy.now ≡ p → t.plan.now ≡ Q → t.policy.now ≡ q → (r : Result Comparison Memory) →
+    IfOk r (AreCompared (configuration_of s) (configuration_of t)) → IfOk r (IsComparison P p Q q)
+of-compared s t P Q p q a b e f g h (Ok told) are = (configuration_of s, configuration_of t, is-configuration s P p a e f, is-configuration t Q q b g h, are)
+of-compared s t P Q p q a b e f g h (Err fault) are = tt

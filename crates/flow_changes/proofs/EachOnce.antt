@@ -23,8 +23,8 @@ use Rattle.flow_changes.specs.declared.kind.Access.{Access}
 use Rattle.flow_changes.specs.declared.kind.Access.TheVariants as accesses
 use Rattle.flow_changes.specs.declared.kind.Kind.{Kind}
 use Rattle.flow_changes.specs.declared.kind.Kind.TheVariants as kinds
-use Rattle.flow_changes.specs.declared.kind.Reach.{Reach}
-use Rattle.flow_changes.specs.declared.kind.Reach.TheVariants as reaches
+use Rattle.meter_theory.specs.declared.flow.Reach.{Reach}
+use Rattle.meter_theory.specs.declared.flow.Reach.TheVariants as reaches
 
 -- Lists
 

@@ -17,8 +17,8 @@ use Rattle.flow_changes.specs.Facts.{Configuration, Fact, HasCell, HasEdge, HasS
 use Rattle.flow_changes.specs.declared.kind.Access.{Access}
 use Rattle.flow_changes.specs.declared.kind.Access.TheVariants as accesses
 use Rattle.flow_changes.specs.declared.kind.Kind.{Kind}
-use Rattle.flow_changes.specs.declared.kind.Reach.{Reach}
-use Rattle.flow_changes.specs.declared.kind.Reach.TheVariants as reaches
+use Rattle.meter_theory.specs.declared.flow.Reach.{Reach}
+use Rattle.meter_theory.specs.declared.flow.Reach.TheVariants as reaches
 
 same_cause-true : (a b : Cause) → same_cause a b ≡ true → a ≡ b
 same_cause-true causes.Monitored causes.Monitored e = refl

@@ -8,12 +8,13 @@ use Rattle.meter_theory.specs.declared.flow.Edge.{Edge}
 use Rattle.value_text.specs.Edges.{edge_text}
 use Rattle.value_text.specs.Texts.{cell_text}
 use Rattle.flow_changes.specs.Changes.{change_sign, kind_word, line, lines}
-use Rattle.flow_changes.specs.Facts.{HasCell, HasEdge, HasSap, Holds, IsOpen, Reaches, Views, access_word, object_text, reach_word}
+use Rattle.flow_changes.specs.Facts.{HasCell, HasEdge, HasSap, Holds, IsOpen, Reaches, Views, access_word, object_text}
+use Rattle.flow_ways.specs.Why.{reach_word}
 use Rattle.flow_changes.specs.Lines.{cell_lines, edge_lines, head_of, own_head}
 use Rattle.flow_changes.specs.declared.kind.Access.{Access}
 use Rattle.flow_changes.specs.declared.kind.Change.{Change}
 use Rattle.flow_changes.specs.declared.kind.Kind.{Kind}
-use Rattle.flow_changes.specs.declared.kind.Reach.{Reach}
+use Rattle.meter_theory.specs.declared.flow.Reach.{Reach}
 use Rattle.flow_changes.proofs.Lists.{flat_map-of-map, flat_map-agree}
 
 -- sign, kind, name, word and text

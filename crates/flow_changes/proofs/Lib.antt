@@ -15,3 +15,4 @@ pub mod Exact
 pub mod EachOnce
 pub mod RightLines
 pub mod Compared
+mod ReachDifferences

@@ -19,15 +19,17 @@ use Rattle.meter_theory.specs.declared.flow.Label.{Label}
 use Rattle.meter_theory.proofs.ClientSets.{nobody_in}
 use Rattle.meter_theory.proofs.Lists.{in_any}
 use Rattle.flow_changes.specs.Changes.{lacks, line, lines}
-use Rattle.flow_changes.specs.Facts.{Configuration, Fact, HasSap, Holds, IsOpen, Numbered, Reaches, Views, clients_of, facts, is_granted, is_reached, members_for, numbered, object_text, own_facts, reach_word, reached, rights_on, same_fact, shared_policy, told_of_client}
+use Rattle.flow_changes.specs.Facts.{Configuration, Fact, HasSap, Holds, IsOpen, Numbered, Reaches, Views, facts, is_granted, is_reached, members_for, numbered, object_text, own_facts, reached, rights_on, same_fact, shared_policy, told_of_client}
+use Rattle.meter_theory.specs.Ways.{set_for}
+use Rattle.flow_ways.specs.Why.{reach_word}
 use Rattle.flow_changes.specs.Lines.{access_lines, cell_lines, client_lines, is_at, is_held, is_new_reach, is_open, is_other_in, own_head, pair_of, pair_told, reach_lines, right_lines, sees, view_line}
 use Rattle.flow_changes.specs.declared.kind.Access.{Access}
 use Rattle.flow_changes.specs.declared.kind.Access.TheVariants as accesses
 use Rattle.flow_changes.specs.declared.kind.Change.{Change}
 use Rattle.flow_changes.specs.declared.kind.Kind.{Kind}
 use Rattle.flow_changes.specs.declared.kind.Kind.TheVariants as kinds
-use Rattle.flow_changes.specs.declared.kind.Reach.{Reach}
-use Rattle.flow_changes.specs.declared.kind.Reach.TheVariants as reaches
+use Rattle.meter_theory.specs.declared.flow.Reach.{Reach}
+use Rattle.meter_theory.specs.declared.flow.Reach.TheVariants as reaches
 use Rattle.flow_changes.specs.declared.labels.Pair.{Pair}
 use Rattle.flow_changes.proofs.Heads.{held-lines, open-line, reach-lines, sap-line, view-line}
 use Rattle.flow_changes.proofs.Lists.{filter-agree, filter-filter, filter-flat_map, filter-map}
@@ -35,7 +37,7 @@ use Rattle.flow_changes.proofs.Once.{found, found-number}
 use Rattle.flow_changes.proofs.RightsTold.{among-held, among-seen}
 use Rattle.flow_changes.proofs.Told.{among-open, among-own, among-reached, among-sap, of-named}
 
-nobody-reaches : (reach : Reach) (k : ℕ) → has (clients_of reach (record { influence = nobody; learn = nobody })) k ≡ false
+nobody-reaches : (reach : Reach) (k : ℕ) → has (set_for reach (record { influence = nobody; learn = nobody })) k ≡ false
 nobody-reaches reaches.Influence k = nobody_in k
 nobody-reaches reaches.Learn k = nobody_in k
 
@@ -88,16 +90,16 @@ and-false false = refl
 
 -- what the other tells of a cell, by the pair
 reached-there : (reach : Reach) (x : CellRef) (R : Labelling) (o : Option Numbered) (b : Bool) (mine : Label) (kind : Kind) →
-    some_passes (λ n. has (clients_of reach (R x)) n.0 && b) o ≡ is_other_in (option_map (λ n. n.0) o) (clients_of reach (pair_of kind mine (cond b (Some (R x)) None)).theirs)
+    some_passes (λ n. has (set_for reach (R x)) n.0 && b) o ≡ is_other_in (option_map (λ n. n.0) o) (set_for reach (pair_of kind mine (cond b (Some (R x)) None)).theirs)
 reached-there reach x R o true mine kind =
-    passes-agree (λ n. has (clients_of reach (R x)) n.0 && true) (λ n. has (clients_of reach (R x)) n.0) (λ n. and-true (has (clients_of reach (R x)) n.0)) o
-    ∙ sym (other-in o (clients_of reach (R x)))
+    passes-agree (λ n. has (set_for reach (R x)) n.0 && true) (λ n. has (set_for reach (R x)) n.0) (λ n. and-true (has (set_for reach (R x)) n.0)) o
+    ∙ sym (other-in o (set_for reach (R x)))
 reached-there reach x R o false mine kind =
-    passes-agree (λ n. has (clients_of reach (R x)) n.0 && false) (λ n. false) (λ n. and-false (has (clients_of reach (R x)) n.0)) o
+    passes-agree (λ n. has (set_for reach (R x)) n.0 && false) (λ n. false) (λ n. and-false (has (set_for reach (R x)) n.0)) o
     ∙ never o
-    ∙ sym (ap (λ l. is_other_in (option_map (λ n. n.0) o) (clients_of reach l)) (none kind) ∙ nobody-there o)
+    ∙ sym (ap (λ l. is_other_in (option_map (λ n. n.0) o) (set_for reach l)) (none kind) ∙ nobody-there o)
   where
-    nobody-there : (o : Option Numbered) → is_other_in (option_map (λ n. n.0) o) (clients_of reach (record { influence = nobody; learn = nobody })) ≡ false
+    nobody-there : (o : Option Numbered) → is_other_in (option_map (λ n. n.0) o) (set_for reach (record { influence = nobody; learn = nobody })) ≡ false
     nobody-there None = refl
     nobody-there (Some n) = nobody-reaches reach n.0
 
@@ -119,7 +121,7 @@ new-may C D sound n reach x =
     (λ m. among-reached D.plan (labelling_of D.labels) n.1.name reach x m)
     ∙ reached-there reach x (labelling_of D.labels) (found n.1.name 0 D.plan.clients) (is_cell D.plan x) (labelling_of C.labels x) kinds.May)
   where
-    mine : (b : Bool) → is_reached (labelling_of C.labels) n.0 reach x ≡ has (clients_of reach (pair_of kinds.May (labelling_of C.labels x) (cond b (Some (labelling_of D.labels x)) None)).mine) n.0
+    mine : (b : Bool) → is_reached (labelling_of C.labels) n.0 reach x ≡ has (set_for reach (pair_of kinds.May (labelling_of C.labels x) (cond b (Some (labelling_of D.labels x)) None)).mine) n.0
     mine true = refl
     mine false = refl
 
@@ -131,15 +133,15 @@ new-allowed C D sound n reach x i =
     (among-own D C kinds.Allowed (Reaches n.1.name reach x) (allowed-facts D C)
     ∙ of-named D.plan sound n.1.name (λ m. list_any (same_fact (Reaches n.1.name reach x)) (reached D.plan (shared_policy D C) m)) (λ m. is_reached (shared_policy D C) m.0 reach x && is_cell D.plan x)
     (λ m. among-reached D.plan (shared_policy D C) n.1.name reach x m)
-    ∙ passes-agree (λ m. is_reached (shared_policy D C) m.0 reach x && is_cell D.plan x) (λ m. has (clients_of reach (labelling_of_policy D.plan D.policy x)) m.0 && is_cell D.plan x)
-    (λ m. ap (λ b. has (clients_of reach (cond b (labelling_of_policy D.plan D.policy x) (record { influence = nobody; learn = nobody }))) m.0 && is_cell D.plan x) here) (found n.1.name 0 D.plan.clients)
+    ∙ passes-agree (λ m. is_reached (shared_policy D C) m.0 reach x && is_cell D.plan x) (λ m. has (set_for reach (labelling_of_policy D.plan D.policy x)) m.0 && is_cell D.plan x)
+    (λ m. ap (λ b. has (set_for reach (cond b (labelling_of_policy D.plan D.policy x) (record { influence = nobody; learn = nobody }))) m.0 && is_cell D.plan x) here) (found n.1.name 0 D.plan.clients)
     ∙ reached-there reach x (labelling_of_policy D.plan D.policy) (found n.1.name 0 D.plan.clients) (is_cell D.plan x) (labelling_of_policy C.plan C.policy x) kinds.Allowed)
   where
     here : is_cell C.plan x ≡ true
     here = in_any _ (cells C.plan) x i (same_cell-refl x)
 
-    mine : (b : Bool) → has (clients_of reach (cond b (labelling_of_policy C.plan C.policy x) (record { influence = nobody; learn = nobody }))) n.0
-        ≡ has (clients_of reach (pair_of kinds.Allowed (labelling_of_policy C.plan C.policy x) (cond b (Some (labelling_of_policy D.plan D.policy x)) None)).mine) n.0
+    mine : (b : Bool) → has (set_for reach (cond b (labelling_of_policy C.plan C.policy x) (record { influence = nobody; learn = nobody }))) n.0
+        ≡ has (set_for reach (pair_of kinds.Allowed (labelling_of_policy C.plan C.policy x) (cond b (Some (labelling_of_policy D.plan D.policy x)) None)).mine) n.0
     mine true = refl
     mine false = refl
 

@@ -17,14 +17,15 @@ use Rattle.meter_theory.specs.Sound.{IsSound}
 use Rattle.meter_theory.proofs.Agreement.{object-found}
 use Rattle.meter_theory.proofs.Lists.{any_in, in_any, in_append_left, in_append_right, in_filter, in_flat_map, in_map, none_in}
 use Rattle.flow_changes.specs.Changes.{all_kinds, gains, lacks}
-use Rattle.flow_changes.specs.Facts.{Configuration, Fact, HasSap, Holds, IsOpen, Numbered, Reaches, Views, among, clients_of, facts, is_granted, is_reached, members_for, numbered, own_facts, reached, rights_on, same_fact, shared_policy, told_of_client}
+use Rattle.flow_changes.specs.Facts.{Configuration, Fact, HasSap, Holds, IsOpen, Numbered, Reaches, Views, among, facts, is_granted, is_reached, members_for, numbered, own_facts, reached, rights_on, same_fact, shared_policy, told_of_client}
+use Rattle.meter_theory.specs.Ways.{set_for}
 use Rattle.flow_changes.specs.Promises.{HasReach, IsNamed, LiesWithin, NamedHolds, NamedLabelling, NamedReaches, NamedSees, NobodyGains, least, policy_of}
 use Rattle.flow_changes.specs.declared.kind.Access.{Access}
 use Rattle.flow_changes.specs.declared.kind.Access.TheVariants as accesses
 use Rattle.flow_changes.specs.declared.kind.Kind.{Kind}
 use Rattle.flow_changes.specs.declared.kind.Kind.TheVariants as kinds
-use Rattle.flow_changes.specs.declared.kind.Reach.{Reach}
-use Rattle.flow_changes.specs.declared.kind.Reach.TheVariants as reaches
+use Rattle.meter_theory.specs.declared.flow.Reach.{Reach}
+use Rattle.meter_theory.specs.declared.flow.Reach.TheVariants as reaches
 use Rattle.flow_changes.proofs.OwnLines.{allowed-facts, client-facts, may-facts, right-facts}
 use Rattle.flow_changes.proofs.RightsTold.{among-held, among-seen}
 use Rattle.flow_changes.proofs.Told.{among-open, among-own, among-reached, among-sap}
@@ -100,7 +101,7 @@ here C x i = in_any (same_cell x) (cells C.plan) x i (same_cell-refl x)
 
 -- of a cell that both have the shared policy says what the policy says
 shared-is : (C other : Configuration) (c : ℕ) (reach : Reach) (x : CellRef) → IsIn (cells other.plan) x → is_reached (shared_policy C other) c reach x ≡ is_reached (policy_of C) c reach x
-shared-is C other c reach x i = ap (λ b. has (clients_of reach (cond b (labelling_of_policy C.plan C.policy x) (record { influence = nobody; learn = nobody }))) c) (here other x i)
+shared-is C other c reach x i = ap (λ b. has (set_for reach (cond b (labelling_of_policy C.plan C.policy x) (record { influence = nobody; learn = nobody }))) c) (here other x i)
 
 -- whom the policy allows to, it allowed
 pub policy-kept : (old new : Configuration) → NobodyGains old new → (reach : Reach) (n : Numbered) (x : CellRef) → IsIn (cells old.plan) x → HasReach new (policy_of new) reach n x → NamedReaches old (policy_of old) reach n.1.name x

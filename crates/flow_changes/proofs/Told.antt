@@ -14,8 +14,8 @@ use Rattle.meter_theory.specs.Plan.{Client, Plan, cells, is_cell}
 use Rattle.meter_theory.specs.Sound.{IsSound}
 use Rattle.flow_changes.specs.Facts.{Configuration, Fact, HasSap, IsOpen, Numbered, Reaches, among, facts, is_reached, numbered, own_facts, reached, same_fact, same_reach, told_of_client}
 use Rattle.flow_changes.specs.declared.kind.Kind.{Kind}
-use Rattle.flow_changes.specs.declared.kind.Reach.{Reach}
-use Rattle.flow_changes.specs.declared.kind.Reach.TheVariants as reaches
+use Rattle.meter_theory.specs.declared.flow.Reach.{Reach}
+use Rattle.meter_theory.specs.declared.flow.Reach.TheVariants as reaches
 use Rattle.flow_changes.proofs.Lists.{list_any-agree, list_any-and, list_any-filter, list_any-flat_map, list_any-map}
 use Rattle.flow_changes.proofs.Once.{any-once, clients-once, found}
 

@@ -6,23 +6,23 @@ use Rattle.std.specs.Str.{bytes_eq}
 use Rattle.cosem_data.specs.Cells.{cell, same_cell, same_name}
 use Rattle.cosem_data.specs.Names.{name_text}
 use Rattle.cosem_data.specs.declared.cell.CellRef.{CellRef}
-use Rattle.cosem_data.specs.declared.clients.ClientSet.{ClientSet}
 use Rattle.cosem_data.specs.declared.name.LogicalName.{LogicalName}
 use Rattle.meter_theory.specs.Edges.{edges, same_edge}
 use Rattle.meter_theory.specs.Labels.{Labels, Labelling, Policy, has, labelling_of, labelling_of_policy, nobody}
 use Rattle.meter_theory.specs.Plan.{Client, Object, Plan, Right, cells, class_of, interface_of, is_cell}
 use Rattle.meter_theory.specs.Rights.{has_right, lists}
 use Rattle.meter_theory.specs.declared.flow.Edge.{Edge}
-use Rattle.meter_theory.specs.declared.flow.Label.{Label}
 use Rattle.meter_theory.specs.declared.refs.Interface.{Interface}
+use Rattle.meter_theory.specs.Ways.{set_for}
+use Rattle.flow_ways.specs.Why.{reach_word}
 use Rattle.value_text.specs.Edges.{edge_text}
 use Rattle.value_text.specs.Texts.{cell_text}
 use Rattle.flow_changes.specs.declared.kind.Access.{Access}
 use Rattle.flow_changes.specs.declared.kind.Access.TheVariants as accesses
 use Rattle.flow_changes.specs.declared.kind.Kind.{Kind}
 use Rattle.flow_changes.specs.declared.kind.Kind.TheVariants as kinds
-use Rattle.flow_changes.specs.declared.kind.Reach.{Reach}
-use Rattle.flow_changes.specs.declared.kind.Reach.TheVariants as reaches
+use Rattle.meter_theory.specs.declared.flow.Reach.{Reach}
+use Rattle.meter_theory.specs.declared.flow.Reach.TheVariants as reaches
 
 -- a configuration, with the least labels of its plan
 pub record Configuration : Type 0 where
@@ -57,13 +57,9 @@ numbered P = enumerate_from 0 P.clients
 
 -- Cells that clients reach
 
-abbrev pub clients_of : Reach → Label → ClientSet
-clients_of reaches.Influence l = l.influence
-clients_of reaches.Learn l = l.learn
-
 -- the client is in that set of the cell's label
 abbrev pub is_reached : Labelling → ℕ → Reach → CellRef → Bool
-is_reached Q c reach x = has (clients_of reach (Q x)) c
+is_reached Q c reach x = has (set_for reach (Q x)) c
 
 -- each cell of the plan that a labelling has the client influence, then each that it has it learn
 abbrev pub reached : Plan → Labelling → Numbered → List Fact
@@ -155,10 +151,6 @@ abbrev pub among : List Fact → Fact → Bool
 among fs f = list_any (same_fact f) fs
 
 -- Texts
-
-abbrev pub reach_word : Reach → List ℕ
-reach_word reaches.Influence = codes "influence"
-reach_word reaches.Learn = codes "learn"
 
 abbrev pub access_word : Access → List ℕ
 access_word accesses.Get = codes "get"

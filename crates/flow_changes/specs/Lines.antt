@@ -13,14 +13,15 @@ use Rattle.meter_theory.specs.declared.flow.Label.{Label}
 use Rattle.value_text.specs.Edges.{edge_text}
 use Rattle.value_text.specs.Texts.{cell_text}
 use Rattle.flow_changes.specs.Changes.{change_sign, kind_word}
-use Rattle.flow_changes.specs.Facts.{Configuration, access_word, clients_of, is_granted, members_for, object_text}
+use Rattle.flow_changes.specs.Facts.{Configuration, access_word, is_granted, members_for, object_text}
+use Rattle.meter_theory.specs.Ways.{set_for}
 use Rattle.flow_changes.specs.declared.kind.Access.{Access}
 use Rattle.flow_changes.specs.declared.kind.Access.TheVariants as accesses
 use Rattle.flow_changes.specs.declared.kind.Change.{Change}
 use Rattle.flow_changes.specs.declared.kind.Kind.{Kind}
 use Rattle.flow_changes.specs.declared.kind.Kind.TheVariants as kinds
-use Rattle.flow_changes.specs.declared.kind.Reach.{Reach}
-use Rattle.flow_changes.specs.declared.kind.Reach.TheVariants as reaches
+use Rattle.meter_theory.specs.declared.flow.Reach.{Reach}
+use Rattle.meter_theory.specs.declared.flow.Reach.TheVariants as reaches
 use Rattle.flow_changes.specs.declared.labels.Pair.{Pair}
 
 -- Texts
@@ -67,7 +68,11 @@ is_other_in (Some c) set = has set c
 
 -- the client is in the set of the one label, and the other client isn't in that of the other
 abbrev pub is_new_reach : Reach → ℕ → Option ℕ → Pair → Bool
-is_new_reach reach c other pair = has (clients_of reach pair.mine) c && not (is_other_in other (clients_of reach pair.theirs))
+is_new_reach reach c other pair = has (set_for reach pair.mine) c && not (is_other_in other (set_for reach pair.theirs))
+
+-- the other client is in the set of the other label, and the client isn't in that of the one
+abbrev pub is_old_reach : Reach → ℕ → Option ℕ → Pair → Bool
+is_old_reach reach c other pair = is_other_in other (set_for reach pair.theirs) && not (has (set_for reach pair.mine) c)
 
 -- the cells that the one client influences and the other doesn't, then those that it learns
 abbrev pub reach_lines : List ℕ → ℕ → Option ℕ → (CellRef → Pair) → List CellRef → List ℕ

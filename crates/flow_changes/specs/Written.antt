@@ -1,13 +1,16 @@
 -- How a comparison is written. All of it is own profile.
-use Rattle.std.specs.Prelude.{◌≡◌, Bool, List, [], ℕ, Option, Result, Ok, Err}
+use Rattle.std.specs.Prelude.{◌≡◌, Bool, List, [], ℕ, Option, Some, Result, Ok, Err, slice_get}
 use Rattle.std.specs.Io.KnownBytes.{Appends}
-use Rattle.meter_theory.specs.Labels.{Policy}
-use Rattle.meter_theory.specs.Plan.{Plan}
+use Rattle.meter_theory.specs.Labels.{Policy, has}
+use Rattle.meter_theory.specs.Plan.{Client, Plan}
 use Rattle.plan_lists.specs.Listing.{AreLeastOf, WritesText}
 use Rattle.plan_lists.specs.declared.fault.ListFault.{ListFault}
 use Rattle.plan_lists.specs.declared.fault.ListFault.TheVariants as faults
-use Rattle.flow_changes.specs.Changes.{compare_text, somebody_gains}
+use Rattle.flow_changes.specs.Changes.{changes_text, compare_text, gains, somebody_gains}
+use Rattle.flow_changes.specs.Differences.{AreReachChanges}
 use Rattle.flow_changes.specs.Facts.{Configuration}
+use Rattle.flow_changes.specs.declared.compare.Comparison.{Comparison}
+use Rattle.flow_changes.specs.declared.kind.Change.TheVariants as changes
 
 -- the configuration of a plan and a policy, with labels that are the plan's least
 pub record IsConfiguration (P : Plan) (policy : Policy) (C : Configuration) : Type 0 where
@@ -19,6 +22,18 @@ pub record IsConfiguration (P : Plan) (policy : Policy) (C : Configuration) : Ty
 abbrev pub Compares : (old new : Configuration) → (before after : Option (List ℕ)) → Result Bool ListFault → Type 0
 Compares old new before after (Ok some) = (some ≡ somebody_gains old new) × Appends before after (compare_text old new)
 Compares old new before after (Err fault) = WritesText (compare_text old new) before after (Err fault)
+
+-- what is told of two configurations beside each other: the lines of what is gained and lost, who gains, and who may now reach which cells and who no longer
+pub record AreCompared (old new : Configuration) (told : Comparison) : Type 0 where
+  pub lines_are : told.lines.items ≡ changes_text old new
+  pub gainers_are : (c : ℕ) (client : Client) → slice_get new.plan.clients c ≡ Some client → has told.gainers c ≡ gains old new (c, client)
+  pub gained_are : AreReachChanges changes.Gained old new told.gained.items
+  pub lost_are : AreReachChanges changes.Lost old new told.lost.items
+
+-- of two plans with their policies, by their least labels
+abbrev pub IsComparison : Plan → Policy → Plan → Policy → Comparison → Type 0
+IsComparison old old_policy new new_policy told =
+    (C : Configuration) × (D : Configuration) × IsConfiguration old old_policy C × IsConfiguration new new_policy D × AreCompared C D told
 
 -- of two configurations whose labels are known; all is made before the first byte is written, so that nothing was where memory is refused
 abbrev pub WritesSides : (old new : Configuration) → (before after : Option (List ℕ)) → Result Bool ListFault → Type 0

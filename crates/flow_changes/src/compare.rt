@@ -7,8 +7,9 @@ ghost use Rattle.meter_theory.specs.Plan.{Client as ClientValue};
 ghost use Rattle.flow_changes.specs.Changes as changes;
 ghost use Rattle.flow_changes.specs.Facts.{common_facts, numbered, own_facts};
 ghost use Rattle.flow_changes.specs.Sides.{IsSide, configuration_of};
-ghost use Rattle.flow_changes.specs.Written.{WritesComparison, WritesSides};
+ghost use Rattle.flow_changes.specs.Written.{AreCompared, IsComparison, WritesComparison, WritesSides};
 
+use crate::differences::reach_changes;
 use crate::edges::push_edges;
 use crate::kind::{Change, KINDS, Kind};
 use crate::matching::cells_lacked;
@@ -17,6 +18,7 @@ use crate::side::Side;
 use crate::text::{head, push_marked};
 use cosem_data::clients::ClientSet;
 use cosem_data::memory::Memory;
+use meter_theory::flow::Label;
 use object_model::plan::Plan;
 use object_model::policy::Policy;
 use plan_lists::fault::ListFault;
@@ -44,6 +46,52 @@ pub fn write_comparison<W: Write>(
     let old = Side::new(alloc, old, old_policy)?;
     let new = Side::new(alloc, new, new_policy)?;
     write_sides(alloc, &old, &new, writer)
+}
+
+/// How a new configuration differs from an old one, for who shows that in other ways than [`write_comparison`].
+#[derive(Drop)]
+pub struct Comparison {
+    /// The lines of what is gained and lost, as they are written.
+    pub lines: Vec<u8>,
+    /// The clients of the new configuration that gain.
+    pub gainers: ClientSet,
+    /// For each cell of the new configuration the clients that may influence and learn it and couldn't before.
+    pub gained: Vec<Label>,
+    /// For each cell of the new configuration the clients that may no longer influence and learn it.
+    pub lost: Vec<Label>,
+}
+
+/// How a new configuration differs from an old one (own profile). The only error is want of memory.
+pub fn compare(
+    alloc: Global,
+    old: &Plan,
+    old_policy: &Policy,
+    new: &Plan,
+    new_policy: &Policy,
+) -> Result<Comparison, Memory>
+    ensures { IfOk result (IsComparison old.now old_policy.now new.now new_policy.now) }
+{
+    let old = Side::new(alloc, old, old_policy)?;
+    let new = Side::new(alloc, new, new_policy)?;
+    compare_sides(alloc, &old, &new)
+}
+
+/// How two sides differ.
+fn compare_sides(alloc: Global, old: &Side<'_>, new: &Side<'_>) -> Result<Comparison, Memory>
+    requires old { IsSide old.now }
+    requires new { IsSide new.now }
+    ensures { IfOk result (AreCompared (configuration_of old.now) (configuration_of new.now)) }
+{
+    let mut lines = Vec::new(alloc);
+    let gainers = push_changes(alloc, old, new, &mut lines)?;
+    let gained = reach_changes(alloc, Change::Gained, old, new)?;
+    let lost = reach_changes(alloc, Change::Lost, old, new)?;
+    Ok(Comparison {
+        lines,
+        gainers,
+        gained,
+        lost,
+    })
 }
 
 /// Writes how two sides differ, and tells whether somebody gains. All is made before the first byte is written.
@@ -143,15 +191,15 @@ fn push_common(
         OnOk result (text.new.items ≡ text.old.items ++ changes.lines change kind
         (filter (changes.lacks D C kind) (common_facts C kind))) }
 {
-    let head = head(alloc, change, kind)?;
+    let head = head(change, kind).as_bytes();
     match kind {
         Kind::Cell => {
             let marks = cells_lacked(alloc, theirs.plan, mine.table.cells())?;
-            push_marked(&head, &marks, &mine.texts, text)
+            push_marked(head, &marks, &mine.texts, text)
         }
         Kind::Edge => push_edges(
             alloc,
-            &head,
+            head,
             &mine.table,
             &mine.texts,
             theirs.plan,

@@ -1,9 +1,6 @@
 //! The kinds of facts, and their words.
 ghost use Rattle.std.specs.Prelude.{◌≡◌};
 
-use cosem_data::clients::ClientSet;
-use meter_theory::flow::Label;
-
 /// A kind of facts of a configuration (own profile).
 #[derive(Clone, Copy)]
 pub(crate) enum Kind {
@@ -31,24 +28,6 @@ pub(crate) const KINDS: [Kind; 6] = [
     Kind::Edge,
 ];
 
-impl Kind {
-    ghost use Rattle.flow_changes.specs.Changes.{kind_word};
-
-    /// The word of the kind (own profile).
-    pub(crate) fn word(self) -> &'static str
-        ensures { result.now ≡ kind_word self }
-    {
-        match self {
-            Kind::May => "may",
-            Kind::Allowed => "allowed",
-            Kind::Right => "right",
-            Kind::Client => "client",
-            Kind::Cell => "cell",
-            Kind::Edge => "edge",
-        }
-    }
-}
-
 /// Whether a fact is gained or lost (own profile).
 #[derive(Clone, Copy)]
 pub(crate) enum Change {
@@ -56,51 +35,6 @@ pub(crate) enum Change {
     Gained,
     /// The old configuration has it, and the new one lacks it.
     Lost,
-}
-
-impl Change {
-    ghost use Rattle.flow_changes.specs.Changes.{change_sign};
-
-    /// The sign before a fact (own profile).
-    pub(crate) fn sign(self) -> &'static str
-        ensures { result.now ≡ change_sign self }
-    {
-        match self {
-            Change::Gained => "+",
-            Change::Lost => "-",
-        }
-    }
-}
-
-/// What a client does with a cell.
-#[derive(Clone, Copy)]
-pub(crate) enum Reach {
-    Influence,
-    Learn,
-}
-
-impl Reach {
-    ghost use Rattle.flow_changes.specs.Facts.{clients_of, reach_word};
-
-    /// Its word (own profile).
-    pub(crate) fn word(self) -> &'static str
-        ensures { result.now ≡ reach_word self }
-    {
-        match self {
-            Reach::Influence => "influence",
-            Reach::Learn => "learn",
-        }
-    }
-
-    /// The clients of a label that do it.
-    pub(crate) fn of(self, label: &Label) -> ClientSet
-        ensures { result ≡ clients_of self label.now }
-    {
-        match self {
-            Reach::Influence => label.influence,
-            Reach::Learn => label.learn,
-        }
-    }
 }
 
 /// What a right is for (IEC 62056-5-3, GET, SET and ACTION).

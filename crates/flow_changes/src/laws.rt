@@ -10,7 +10,7 @@ ghost use Rattle.flow_changes.specs.Facts.{Configuration, Fact, Numbered, facts,
 ghost use Rattle.flow_changes.specs.Promises.{HasReach, IsNamed, LiesWithin, NamedHolds, NamedLabelling, NamedReaches, NamedSees, NobodyGains, least, policy_of};
 ghost use Rattle.flow_changes.specs.declared.kind.Access.{Access};
 ghost use Rattle.flow_changes.specs.declared.kind.Kind.{Kind};
-ghost use Rattle.flow_changes.specs.declared.kind.Reach.{Reach};
+ghost use Rattle.meter_theory.specs.declared.flow.Reach.{Reach};
 
 /// A fact is gained exactly where the new configuration has it and the old one hasn't, and then once; what is lost is gained
 /// the other way round.

@@ -9,6 +9,7 @@
 
 mod clients;
 pub mod compare;
+mod differences;
 mod edges;
 mod kind;
 mod labels;

@@ -13,7 +13,7 @@ ghost use Rattle.flow_changes.specs.Lines.{ArePairs, reach_lines};
 ghost use Rattle.flow_changes.specs.declared.labels.Pair.{Pair as PairValue};
 
 use crate::clients::push_client;
-use crate::kind::{Change, Kind, Reach};
+use crate::kind::{Change, Kind};
 use crate::labels::{Pair, pairs_of};
 use crate::reaches::push_reach;
 use crate::rights::{Namesakes, push_rights};
@@ -21,6 +21,7 @@ use crate::side::Side;
 use crate::text::head_for;
 use cosem_data::clients::ClientSet;
 use cosem_data::memory::Memory;
+use meter_theory::flow::Reach;
 use object_model::client::Client;
 use object_model::plan::Plan;
 use std::alloc::Global;
@@ -62,7 +63,7 @@ pub(crate) fn push_owned(
 }
 
 /// For kinds of cells that clients reach what both sides say of each cell.
-fn pairs_for(
+pub(crate) fn pairs_for(
     alloc: Global,
     kind: Kind,
     mine: &Side<'_>,

@@ -2,15 +2,17 @@
 ghost use Rattle.std.specs.Prelude.{◌≡◌, ◌++◌, ◌∷◌, [], IfOk, List, OnOk, filter, flat_map, length, map};
 ghost use Rattle.cosem_data.specs.declared.cell.CellRef.{CellRef as CellValue};
 ghost use Rattle.value_text.specs.Texts.{cell_text};
-ghost use Rattle.flow_changes.specs.Facts.{reach_word};
-ghost use Rattle.flow_changes.specs.Lines.{cell_lines, is_new_reach, is_other_in};
+ghost use Rattle.flow_ways.specs.Why.{reach_word};
+ghost use Rattle.flow_changes.specs.Lines.{cell_lines, is_new_reach, is_old_reach, is_other_in};
 ghost use Rattle.flow_changes.specs.declared.labels.Pair.{Pair as PairValue};
 
-use crate::kind::Reach;
 use crate::labels::Pair;
 use crate::text::{head_with, push_marked};
 use cosem_data::clients::ClientSet;
 use cosem_data::memory::Memory;
+use flow_ways::ends::set_for;
+use flow_ways::why::reach_word;
+use meter_theory::flow::Reach;
 use std::alloc::Global;
 
 /// Puts a line behind a text for each cell that a client reaches and the other client, if it is one, doesn't.
@@ -30,7 +32,7 @@ pub(crate) fn push_reach(
         OnOk result (text.new.items ≡ text.old.items ++ cell_lines (head.now ++ (reach_word reach ++ 32 ∷ []))
         (filter (λ x. is_new_reach reach client other (pair x)) cells)) }
 {
-    let head = head_with(alloc, head, reach.word().as_bytes())?;
+    let head = head_with(alloc, head, reach_word(reach).as_bytes())?;
     let marks = marks_of(alloc, reach, client, other, pairs)?;
     push_marked(&head, &marks, texts, text)
 }
@@ -53,10 +55,17 @@ fn marks_of(
 }
 
 /// Whether a client reaches a cell that the other doesn't.
-fn is_new(reach: Reach, client: u8, other: Option<u8>, pair: &Pair) -> bool
+pub(crate) fn is_new(reach: Reach, client: u8, other: Option<u8>, pair: &Pair) -> bool
     ensures { result ≡ is_new_reach reach client other pair.now }
 {
-    reach.of(&pair.mine).has(client) && !is_in(other, reach.of(&pair.theirs))
+    set_for(reach, pair.mine).has(client) && !is_in(other, set_for(reach, pair.theirs))
+}
+
+/// Whether the other client reaches a cell that this one doesn't.
+pub(crate) fn is_old(reach: Reach, client: u8, other: Option<u8>, pair: &Pair) -> bool
+    ensures { result ≡ is_old_reach reach client other pair.now }
+{
+    is_in(other, set_for(reach, pair.theirs)) && !set_for(reach, pair.mine).has(client)
 }
 
 /// Whether a client, if it is one, is in a set.

@@ -8,16 +8,24 @@ use crate::kind::{Change, Kind};
 use cosem_data::memory::Memory;
 use std::alloc::Global;
 
-/// What stands before each fact of a kind.
-pub(crate) fn head(alloc: Global, change: Change, kind: Kind) -> Result<Vec<u8>, Memory>
-    ensures { IfOk result (λ text. text.items ≡ head_of change kind) }
+/// What stands before each fact of a kind that is gained or lost (own profile).
+pub(crate) fn head(change: Change, kind: Kind) -> &'static str
+    ensures { result.now ≡ head_of change kind }
 {
-    let mut text = Vec::new(alloc);
-    text.extend_from_slice(change.sign().as_bytes())?;
-    text.push(b' ')?;
-    text.extend_from_slice(kind.word().as_bytes())?;
-    text.push(b' ')?;
-    Ok(text)
+    match (change, kind) {
+        (Change::Gained, Kind::May) => "+ may ",
+        (Change::Gained, Kind::Allowed) => "+ allowed ",
+        (Change::Gained, Kind::Right) => "+ right ",
+        (Change::Gained, Kind::Client) => "+ client ",
+        (Change::Gained, Kind::Cell) => "+ cell ",
+        (Change::Gained, Kind::Edge) => "+ edge ",
+        (Change::Lost, Kind::May) => "- may ",
+        (Change::Lost, Kind::Allowed) => "- allowed ",
+        (Change::Lost, Kind::Right) => "- right ",
+        (Change::Lost, Kind::Client) => "- client ",
+        (Change::Lost, Kind::Cell) => "- cell ",
+        (Change::Lost, Kind::Edge) => "- edge ",
+    }
 }
 
 /// What stands before each fact of a kind that is a client's own.
@@ -29,7 +37,7 @@ pub(crate) fn head_for(
 ) -> Result<Vec<u8>, Memory>
     ensures { IfOk result (λ text. text.items ≡ own_head change kind name.now) }
 {
-    head_with(alloc, &head(alloc, change, kind)?, name)
+    head_with(alloc, head(change, kind).as_bytes(), name)
 }
 
 /// What stands before a fact, with a word more.

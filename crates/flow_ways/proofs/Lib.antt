@@ -2,6 +2,7 @@ pub mod Reached
 pub mod Noting
 pub mod Numbered
 pub mod Passed
+mod LedTo
 pub mod Found
 pub mod Seeking
 pub mod Granted

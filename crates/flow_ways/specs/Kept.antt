@@ -9,14 +9,18 @@ use Rattle.meter_theory.specs.declared.flow.Edge.{Edge}
 use Rattle.meter_theory.specs.declared.flow.Reach.{Reach}
 use Rattle.meter_theory.specs.declared.flow.Reach.TheVariants.{Influence, Learn}
 use Rattle.flow_edges.specs.Table.{CellEdges}
+use Rattle.flow_edges.specs.declared.table.Link.{Link}
+use Rattle.flow_ways.specs.Arriving.{AreEdgesTo}
 use Rattle.flow_ways.specs.Distances.{AreDistances}
 
--- the edges of the plan, and the distances of its cells: own profile
-pub record AreWaysOf (P : Plan) (table : CellEdges) (influence learn : List (Option ℕ)) : Type 0 where
+-- the edges of the plan, the distances of its cells, and edges by the cells that they lead to: own profile
+pub record AreWaysOf (P : Plan) (table : CellEdges) (influence learn : List (Option ℕ)) (influence_links learn_links : List (List Link)) : Type 0 where
   pub cells_are : table.cells ≡ cells P
   pub edges_are : table.edges ≡ edges P
   pub influence_are : AreDistances P Influence influence
   pub learn_are : AreDistances P Learn learn
+  pub influence_links_are : AreEdgesTo P Influence influence_links
+  pub learn_links_are : AreEdgesTo P Learn learn_links
 
 -- the edge leads to the cell from one that the client has within so many rounds: own profile
 abbrev pub leads_within : Plan → Reach → ℕ → ℕ → CellRef → Edge → Bool

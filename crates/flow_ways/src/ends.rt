@@ -39,7 +39,7 @@ pub(crate) fn near_end(reach: Reach, edge: &Edge) -> CellRef
 }
 
 /// The clients that a label has of this reach.
-pub(crate) fn set_for(reach: Reach, label: Label) -> ClientSet
+pub fn set_for(reach: Reach, label: Label) -> ClientSet
     ensures { result ≡ set_for reach label }
 {
     match reach {

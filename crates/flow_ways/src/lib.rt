@@ -6,8 +6,9 @@
 //! and a cell (`Why`). The theorems are the functions of [`laws`].
 #![tactic(auto)]
 
+mod arriving;
 mod distances;
-mod ends;
+pub mod ends;
 pub mod granting;
 pub mod laws;
 mod rounds;

@@ -1,13 +1,15 @@
 //! The ways of a plan's clients to its cells.
-ghost use Rattle.std.specs.Prelude.{◌≡◌, ◌<◌, ◌+◌, Some, length, option_map, IfOk, IfSome};
+ghost use Rattle.std.specs.Prelude.{◌≡◌, ◌<◌, ◌+◌, Some, length, map, option_map, IfOk, IfSome};
 ghost use Rattle.meter_theory.specs.Plan as theory;
 ghost use Rattle.meter_theory.specs.Sound.{IsSound};
 ghost use Rattle.meter_theory.specs.Ways.{IsDistance, first_edge, is_within, shown_way};
-ghost use Rattle.flow_edges.specs.Table.{IsLink, cell_at, edge_at};
+ghost use Rattle.flow_edges.specs.Table.{AreWithin, IsLink, cell_at, edge_at};
+ghost use Rattle.flow_ways.specs.Arriving.{AreEdgesTo, FindsAllTo};
 ghost use Rattle.flow_ways.specs.Distances.{AreDistances};
 ghost use Rattle.flow_ways.specs.Rounds.{AreLinksOf};
 ghost use Rattle.flow_ways.specs.Kept.{IsShown, leads_within};
 
+use crate::arriving::arriving;
 use crate::distances::distances;
 use crate::ends::{far_of, near_of};
 use cosem_data::cell::CellRef;
@@ -22,16 +24,20 @@ use std::alloc::Global;
 use std::marker::Model;
 
 /// The ways of a plan's clients to its cells: how many edges the shortest have, cell by cell and client by client, and the edges
-/// of the plan. Cells go by their numbers in plan order, clients by their places. Contracts see the plan.
+/// of the plan; for who asks for many ways these also by the cells that they lead to. Cells go by their numbers in plan order,
+/// clients by their places. Contracts see the plan.
 #[derive(Drop)]
 pub struct Ways<'a> {
     plan: &'a Plan,
     table: EdgeTable,
     influence: Vec<Option<usize>>,
     learn: Vec<Option<usize>>,
+    influence_links: Vec<Vec<Link>>,
+    learn_links: Vec<Vec<Link>>,
 }
 
 impl<'a> Model for Ways<'a> {
+    ghost use Rattle.std.specs.Prelude.{map};
     ghost use Rattle.meter_theory.specs.Plan as theory;
     ghost use Rattle.meter_theory.specs.PlanCode.{plan_code};
     ghost use Rattle.flow_ways.specs.Rounds.{AreLinksOf};
@@ -43,7 +49,8 @@ impl<'a> Model for Ways<'a> {
 
     ghost view = { λ w. w.plan.now };
 
-    ghost invariant = { λ w. AreWaysOf w.plan.now w.table w.influence.items w.learn.items };
+    ghost invariant = { λ w. AreWaysOf w.plan.now w.table w.influence.items w.learn.items
+        (map (λ list. list.items) w.influence_links.items) (map (λ list. list.items) w.learn_links.items) };
 }
 
 impl<'a> Ways<'a> {
@@ -60,7 +67,33 @@ impl<'a> Ways<'a> {
             table,
             influence,
             learn,
+            influence_links: Vec::new(alloc),
+            learn_links: Vec::new(alloc),
         })
+    }
+
+    /// The ways of a plan, for who asks for many: none looks at more edges than lead to its cells (own profile). The only error is
+    /// want of memory.
+    pub fn of_many(alloc: Global, plan: &'a Plan) -> Result<Self, Memory>
+        ensures { IfOk result (λ ways. ways ≡ plan.now) }
+    {
+        let ways = Ways::new(alloc, plan)?;
+        let influence_links = ways.arriving(alloc, Reach::Influence)?;
+        let learn_links = ways.arriving(alloc, Reach::Learn)?;
+        Ok(Ways {
+            influence_links,
+            learn_links,
+            ..ways
+        })
+    }
+
+    /// For each cell the links that lead to it.
+    fn arriving(&self, alloc: Global, reach: Reach) -> Result<Vec<Vec<Link>>, Memory>
+        ensures { IfOk result (λ lists. AreEdgesTo self.now reach
+            (map (λ list. list.items) lists.items)) }
+    {
+        self.known();
+        arriving(alloc, reach, self.cells().len(), self.links())
     }
 
     /// The plan.
@@ -151,7 +184,7 @@ impl<'a> Ways<'a> {
         ensures link { IsLink (theory.cells self.now) result }
     {
         self.known();
-        for link in self.links() {
+        for link in self.links_to(reach, cell) {
             if self.leads(reach, client, rounds, cell, *link) {
                 return *link;
             }
@@ -181,6 +214,27 @@ impl<'a> Ways<'a> {
         match self.distance(reach, cell, client) {
             Some(distance) => distance <= rounds,
             None => false,
+        }
+    }
+
+    /// Edges of the plan among which are all that lead to a cell, in their order.
+    fn links_to(&self, reach: Reach, cell: usize) -> &[Link]
+        ensures found { FindsAllTo self.now reach (cell_at (theory.cells self.now) cell) result.now }
+        ensures within { AreWithin (theory.cells self.now) result.now }
+    {
+        match self.lists_for(reach).get(cell) {
+            Some(list) => list,
+            None => self.links(),
+        }
+    }
+
+    /// For each cell, if for any, the links that lead to it.
+    fn lists_for(&self, reach: Reach) -> &[Vec<Link>]
+        ensures { AreEdgesTo self.now reach (map (λ list. list.items) result.now) }
+    {
+        match reach {
+            Reach::Influence => &self.influence_links,
+            Reach::Learn => &self.learn_links,
         }
     }
 

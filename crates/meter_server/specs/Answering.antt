@@ -3,14 +3,13 @@ use Rattle.std.specs.Prelude.{◌≡◌, ◌⊎◌, ◌++◌, ℕ, List, Bool, t
 use Rattle.std.specs.Io.KnownBytes.{Appends}
 use Rattle.std.specs.List.{AllZip}
 use Rattle.command_words.specs.Commands.{Asked, command_of}
-use Rattle.command_words.specs.Commands.Asked.{Demo, Run, Edges, Label, Check, Why, Compare, Quiet, Audit, Session, Serve, Encode, Decode}
+use Rattle.command_words.specs.Commands.Asked.{Demo, Run, Edges, Label, Check, Why, Compare, Report, Quiet, Audit, Session, Serve, Encode, Decode}
 use Rattle.command_words.specs.declared.fault.WordsFault.TheVariants as words
 use Rattle.config_reader.specs.ConfigOf.{config_of}
 use Rattle.config_rules.specs.Faultless.{IsPolicyOf}
 use Rattle.config_rules.specs.PlanOf.{plan_of}
-use Rattle.config_text.specs.Fault.{Fault as Faulty, Fails}
+use Rattle.config_text.specs.Fault.{Fault as Faulty}
 use Rattle.config_text.specs.Parts.{ConfigText}
-use Rattle.config_text.specs.declared.fault.ConfigFault.{ConfigFault}
 use Rattle.verdict.specs.Judging.{IsVerdict, IsWholeVerdict}
 use Rattle.fleet_audit.specs.Reading.{AreTextsOf, FailsFirst}
 use Rattle.fleet_audit.specs.Telling.{TellsAudit}
@@ -28,8 +27,9 @@ use Rattle.meter_server.specs.Files.{ByFile, IsFile}
 use Rattle.meter_server.specs.Looking.{AsksWhy}
 use Rattle.meter_server.specs.Noticing.{NoticesAs}
 use Rattle.meter_server.specs.Outcomes.{error_of, status_of, translated, unless_closed}
-use Rattle.meter_server.specs.Program.{AnswersFrames, AnswersText, IsFaulty, IsJudged, IsJudgedWhole, IsNoCommand, ListsEdges, ListsLabels, TellsVerdict}
-use Rattle.meter_server.specs.Sources.{Given, MayGive, ReadsWhere, is_input}
+use Rattle.meter_server.specs.Program.{AnswersFrames, AnswersText, IsJudged, IsJudgedWhole, IsNoCommand, ListsEdges, ListsLabels, TellsFault, TellsVerdict}
+use Rattle.meter_server.specs.Reporting.{ReportsFile}
+use Rattle.meter_server.specs.Sources.{Given, MayGive, ReadsWhere, is_given_input, is_input}
 use Rattle.meter_server.specs.declared.demo.TheConstants.{DEMO}
 use Rattle.meter_server.specs.declared.outcome.Outcome.{Outcome}
 use Rattle.meter_server.specs.declared.outcome.Outcome.TheVariants.{Done, Judged, JudgedWhole, Words, Unread, Audited, Unaudited, Unserved}
@@ -44,10 +44,6 @@ use Rattle.step_words.specs.declared.translating.TranslationFault.{TranslationFa
 use Rattle.text_files.specs.Files.{MayRead}
 
 -- Verdicts
-
--- a command came to the fault of the configuration in a file
-abbrev pub TellsFault : Source → Outcome → Type 0
-TellsFault config outcome = (fault : ConfigFault) × Fails fault (config_of config.text.now) × IsFaulty config fault outcome
 
 -- a command came to the verdict on the configuration in a file and the labels in another, and to all that fails where that is asked for
 abbrev pub TellsJudgement : (tells_all : Bool) → Source → Source → Outcome → Type 0
@@ -158,6 +154,8 @@ Answers reads (Why path client cell) before after outcome =
     (given : Option Given) × ReadsWhere (is_input path) before.unread after.unread given × ListsFile (AsksWhy client cell) (MayGive reads given) path before.written after.written outcome
 Answers reads (Compare old new) before after outcome =
     (given : Option Given) × ReadsWhere (is_input old || is_input new) before.unread after.unread given × ComparesFiles (MayGive reads given) old new before.written after.written outcome
+Answers reads (Report config labels form) before after outcome =
+    (given : Option Given) × ReadsWhere (is_input config || is_given_input labels) before.unread after.unread given × ReportsFile (MayGive reads given) form labels config before.written after.written outcome
 Answers reads (Quiet config labels client is_verbose) before after outcome = NoticesFiles reads config labels client before after outcome
 Answers reads (Audit workers names tells_progress) before after outcome = (after ≡ before) × AuditsFiles reads names outcome
 Answers reads (Session path) before after outcome = ConnectsFile reads path before after outcome

@@ -5,4 +5,5 @@ pub mod Looking
 pub mod Noticing
 pub mod Outcomes
 pub mod Program
+pub mod Reporting
 pub mod Sources

@@ -7,7 +7,7 @@ use Rattle.config_rules.specs.PlanOf.{plan_of}
 use Rattle.config_text.specs.Fault.{Fault as ConfigFault, Fails}
 use Rattle.config_text.specs.Parts.{ConfigText}
 use Rattle.config_text.specs.declared.fault.ConfigFault.{ConfigFault as FaultTold}
-use Rattle.explanations.specs.Printable.{printable}
+use Rattle.shown_text.specs.Printable.{printable}
 use Rattle.meter_theory.specs.Labels.{Policy}
 use Rattle.meter_theory.specs.Plan.{Plan, cells, client_named}
 use Rattle.plan_lists.specs.Listing.{WritesWhy}

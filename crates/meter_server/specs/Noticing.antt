@@ -1,7 +1,7 @@
 -- Whether a client of a name could notice the lines that are read. All of it is own profile. Texts are lists of bytes.
 use Rattle.std.specs.Prelude.{◌≡◌, ℕ, List, ◌∷◌, ◌++◌, codes, string_bytes, Option, None, Some, Result}
 use Rattle.std.specs.List.{flat_map}
-use Rattle.explanations.specs.Printable.{printable}
+use Rattle.shown_text.specs.Printable.{printable}
 use Rattle.flow_checker.specs.Accepted.{Accepted}
 use Rattle.line_notices.specs.Onlooking.{NoticesLines, onlooker}
 use Rattle.line_server.specs.Lines.{Moment}

@@ -3,7 +3,7 @@ use Rattle.std.specs.Fmt.{decimal}
 use Rattle.std.specs.Prelude.{ℕ, Bool, true, false, ◌&&◌, List, [], ◌++◌, if◌then◌else◌, string_bytes, codes, Result, Ok, Err}
 use Rattle.command_words.specs.declared.fault.WordsFault.{WordsFault}
 use Rattle.command_words.specs.declared.fault.WordsFault.TheVariants as words
-use Rattle.explanations.specs.Printable.{printable}
+use Rattle.shown_text.specs.Printable.{printable}
 use Rattle.fleet_audit.specs.Faults as audits
 use Rattle.fleet_audit.specs.declared.fault.AuditFault.{AuditFault}
 use Rattle.fleet_audit.specs.declared.telling.Told.{Told}

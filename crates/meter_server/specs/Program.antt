@@ -9,6 +9,7 @@ use Rattle.command_words.specs.declared.command.EdgesForm.TheVariants as forms
 use Rattle.command_words.specs.Faults.{HasMistake}
 use Rattle.command_words.specs.declared.fault.WordsFault.TheVariants as words
 use Rattle.config_rules.specs.PlanOf.{plan_of}
+use Rattle.config_reader.specs.ConfigOf.{config_of}
 use Rattle.config_text.specs.Fault.{Fault as ConfigFault, Fails}
 use Rattle.config_text.specs.Parts.{ConfigText}
 use Rattle.config_text.specs.declared.fault.ConfigFault.{ConfigFault as FaultTold}
@@ -96,6 +97,10 @@ RefusesOn config labels P policy true outcome =
 abbrev pub IsFaulty : Source → FaultTold → Outcome → Type 0
 IsFaulty config fault (Judged judged text) = (judged ≡ Config fault) × IsTold (ExplainsFault config fault) (string_bytes text)
 IsFaulty config fault _ = ⊥
+
+-- a command came to the fault of the configuration in a file
+abbrev pub TellsFault : Source → Outcome → Type 0
+TellsFault config outcome = (fault : FaultTold) × Fails fault (config_of config.text.now) × IsFaulty config fault outcome
 
 -- Texts
 

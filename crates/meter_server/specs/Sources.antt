@@ -14,6 +14,11 @@ Given = Result (List ℕ) FileFault
 abbrev pub is_input : List ℕ → Bool
 is_input path = bytes_eq path (codes "-")
 
+-- whether a file's name, if one is given, stands for the input
+abbrev pub is_given_input : Option (List ℕ) → Bool
+is_given_input None = false
+is_given_input (Some path) = is_input path
+
 -- what was read of an input, by its bytes
 abbrev pub given_of : {A : Type 0} → (A → List ℕ) → Result A FileFault → Given
 given_of bytes (Ok text) = Ok (bytes text)

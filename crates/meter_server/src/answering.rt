@@ -12,7 +12,8 @@ use crate::files::{source_of, text_of_file};
 use crate::looking::{Question, tell_why};
 use crate::noticing::{Look, notice_lines};
 use crate::outcome::{Outcome, audited, ended, translated};
-use crate::sources::{Sources, is_either_input, is_input};
+use crate::reporting::report_file;
+use crate::sources::{Sources, is_any_input, is_either_input, is_input};
 use crate::texts::{
     Source, accepted_of_texts, answer_aloud, answer_frames, answer_text, faulty, list_edges,
     list_labels,
@@ -104,6 +105,14 @@ where
         Command::Compare { old, new } => {
             let sources = Sources::new(alloc, files, input, is_either_input(old, new));
             compare_files(alloc, &sources, old, new, output)
+        }
+        Command::Report {
+            config,
+            labels,
+            form,
+        } => {
+            let sources = Sources::new(alloc, files, input, is_any_input(config, labels));
+            report_file(alloc, &sources, config, labels, form, output)
         }
         Command::Quiet {
             config,

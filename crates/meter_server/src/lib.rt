@@ -11,6 +11,7 @@ mod noticing;
 pub mod outcome;
 pub mod output;
 pub mod program;
+mod reporting;
 mod sources;
 mod texts;
 

@@ -10,11 +10,11 @@ use crate::outcome::{Outcome, listed};
 use crate::texts::{Source, faulty};
 use config_reader::read_config;
 use cosem_data::memory::Memory;
-use explanations::printable::printable_text;
 use object_model::plan::Plan;
 use object_model::policy::Policy;
 use plan_lists::fault::ListFault;
 use plan_lists::why::{cell_printed, write_why};
+use shown_text::printable::printable_text;
 use std::alloc::Global;
 use std::io::Write;
 

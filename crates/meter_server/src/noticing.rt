@@ -6,11 +6,11 @@ ghost use Rattle.meter_server.specs.Noticing.{NoticesAs, TellsStranger};
 
 use crate::outcome::{Outcome, outcome_of};
 use cosem_data::memory::Memory;
-use explanations::printable::printable_text;
 use flow_checker::check::Checked;
 use line_notices::onlooking::{Onlooker, notice_all};
 use line_server::fault::LineFault;
 use object_model::plan::Plan;
+use shown_text::printable::printable_text;
 use std::alloc::Global;
 use std::io::{Read, Write};
 

@@ -6,7 +6,6 @@ ghost use Rattle.meter_server.specs.Outcomes.{error_of, line, output_of, status_
 
 use command_words::WordsFault;
 use cosem_data::memory::Memory;
-use explanations::printable::printable_text;
 use fleet_audit::fault::AuditFault;
 use fleet_audit::telling::Told;
 use frame_server::fault::ServeFault;
@@ -14,6 +13,7 @@ use line_server::fault::LineFault;
 use live_server::fault::ServerFault;
 use meter_live::board::Closed;
 use plan_lists::fault::ListFault;
+use shown_text::printable::printable_text;
 use std::alloc::Global;
 use step_words::translating::TranslationFault;
 use text_files::FileFault;

@@ -1,5 +1,5 @@
 //! Files, and the input in place of one (own profile).
-ghost use Rattle.std.specs.Prelude.{◌≡◌, ◌⊎◌, ◌||◌, Err, IfOk, string_bytes};
+ghost use Rattle.std.specs.Prelude.{◌≡◌, ◌⊎◌, ◌||◌, Err, IfOk, option_map, string_bytes};
 ghost use Rattle.meter_server.specs.Sources as spec;
 ghost use Rattle.meter_server.specs.Sources.{given_of};
 ghost use Rattle.step_words.specs.Translating.{ReadsAll};
@@ -20,6 +20,23 @@ pub(crate) fn is_either_input(first: &str, second: &str) -> bool
     ensures { result ≡ spec.is_input first.now || spec.is_input second.now }
 {
     is_input(first) || is_input(second)
+}
+
+/// Whether a file's name, or another where that is given, stands for the input.
+pub(crate) fn is_any_input(name: &str, given: Option<&str>) -> bool
+    ensures { result ≡ spec.is_input name.now || spec.is_given_input (option_map (λ name. name.now) given.entry) }
+{
+    is_input(name) || is_given_input(given)
+}
+
+/// Whether a file's name, if one is given, stands for the input.
+fn is_given_input(name: Option<&str>) -> bool
+    ensures { result ≡ spec.is_given_input (option_map (λ name. name.now) name.entry) }
+{
+    match name {
+        Some(name) => is_input(name),
+        None => false,
+    }
 }
 
 /// Files, and what an input gave in place of the one that is named `-`, where it was read.

@@ -9,9 +9,10 @@ returns c =
     let check = c.with-commands-5.ensures _ _ label c.check_command.ensures.app c.check_command.ensures.local in
     let why = c.with-commands-6.ensures _ _ check c.why_command.ensures.app c.why_command.ensures.local in
     let compare = c.with-commands-7.ensures _ _ why c.compare_command.ensures.app c.compare_command.ensures.local in
-    let quiet = c.with-commands-8.ensures _ _ compare c.quiet_command.ensures.app c.quiet_command.ensures.local in
-    let audit = c.with-commands-9.ensures _ _ quiet c.audit_command.ensures.app c.audit_command.ensures.local in
-    let session = c.with-commands-10.ensures _ _ audit c.session_command.ensures.app c.session_command.ensures.local in
-    let serve = c.with-commands-11.ensures _ _ session c.serve_command.ensures.app c.serve_command.ensures.local in
-    let encode = c.with-commands-12.ensures _ _ serve c.encode_command.ensures.app c.encode_command.ensures.local in
+    let report = c.with-commands-8.ensures _ _ compare c.report_command.ensures.app c.report_command.ensures.local in
+    let quiet = c.with-commands-9.ensures _ _ report c.quiet_command.ensures.app c.quiet_command.ensures.local in
+    let audit = c.with-commands-10.ensures _ _ quiet c.audit_command.ensures.app c.audit_command.ensures.local in
+    let session = c.with-commands-11.ensures _ _ audit c.session_command.ensures.app c.session_command.ensures.local in
+    let serve = c.with-commands-12.ensures _ _ session c.serve_command.ensures.app c.serve_command.ensures.local in
+    let encode = c.with-commands-13.ensures _ _ serve c.encode_command.ensures.app c.encode_command.ensures.local in
     c.with.ensures _ _ encode c.decode_command.ensures.app c.decode_command.ensures.local

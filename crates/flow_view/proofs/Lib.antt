@@ -1,0 +1,9 @@
+pub mod Ranges
+pub mod Grouped
+pub mod Distance
+pub mod Ways
+pub mod GroupRows
+pub mod RowFacts
+pub mod Picked
+pub mod Once
+pub mod Ends

@@ -1,0 +1,12 @@
+pub mod Grouping
+pub mod Keys
+pub mod Equal
+pub mod Found
+pub mod Marks
+pub mod Rows
+pub mod Clients
+pub mod Objects
+pub mod Lines
+pub mod Tables
+pub mod Matrix
+pub mod Page

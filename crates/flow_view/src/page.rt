@@ -1,0 +1,175 @@
+//! The page of a plan.
+ghost use Rattle.std.specs.Prelude.{◌≡◌, IfOk, length, map, option_map};
+ghost use Rattle.std.specs.List.{range_with_len};
+ghost use Rattle.flow_view.specs.Clients.{client_row, client_shown};
+ghost use Rattle.flow_view.specs.Marks.{told};
+ghost use Rattle.flow_view.specs.Page as spec;
+ghost use Rattle.flow_view.specs.Page.{AreEdges, AreMatrix, AreObjects, IsPage, IsPageOf};
+
+use crate::clients::{Kind, client_rows, total_of};
+use crate::edges::{cause_counts, listed_edges};
+use crate::facts::Facts;
+use crate::objects::{object_numbers, object_rows};
+use crate::parts::{MatrixParts, matrix_parts};
+use cosem_data::memory::Memory;
+use flow_edges::edges::edges;
+use flow_page::objects::ObjectRow;
+use flow_page::page::{CauseCount, ClientRow, Page};
+use flow_ways::ways::Ways;
+use label_certificate::numbered::policy_labels;
+use meter_theory::flow::{Edge, Label};
+use object_model::plan::Plan;
+use object_model::policy::Policy;
+use std::alloc::Global;
+
+/// What a page says at its head (own profile).
+#[derive(Drop)]
+pub struct Heading {
+    /// The last part of the name of the configuration's file.
+    pub name: String,
+    /// The line of the verdict.
+    pub verdict: String,
+    /// Whether it accepts.
+    pub accepted: bool,
+    /// Whether it is on labels that were given, and not on the least labels.
+    pub given_labels: bool,
+}
+
+/// What clients have gained and lost against the configuration before: for each cell, in plan order, who has gained influence and
+/// learning, and who has lost them (own profile). Past the end of a list nobody has.
+#[derive(Drop)]
+pub struct Differences {
+    /// Who has gained.
+    pub gained: Vec<Label>,
+    /// Who has lost.
+    pub lost: Vec<Label>,
+}
+
+/// The page of a plan's ways and its policy, under this heading, with marks of what has been gained and lost if that is told (own
+/// profile). It has no changes yet.
+///
+/// # Errors
+/// Memory was refused.
+pub fn page_of(
+    alloc: Global,
+    ways: &Ways<'_>,
+    policy: &Policy,
+    heading: Heading,
+    differences: Option<&Differences>,
+) -> Result<Page, Memory>
+    ensures { IfOk result (λ page.
+        IsPageOf ways.now policy.now (option_map (λ lists. lists.now) differences.entry) heading page) }
+{
+    let allowed = policy_labels(alloc, ways.plan(), ways.cells(), policy)?;
+    let facts = Facts {
+        ways,
+        allowed: &allowed,
+        gained: gained_by(differences),
+        lost: lost_by(differences),
+    };
+    page_from(alloc, &facts, heading)
+}
+
+/// Who has gained each cell.
+fn gained_by<'a>(differences: Option<&'a Differences>) -> &'a [Label]
+    ensures { result.now ≡ spec.gained_by (option_map (λ lists. lists.now) differences.entry) }
+{
+    match differences {
+        Some(differences) => &differences.gained,
+        None => &[],
+    }
+}
+
+/// Who has lost each cell.
+fn lost_by<'a>(differences: Option<&'a Differences>) -> &'a [Label]
+    ensures { result.now ≡ spec.lost_by (option_map (λ lists. lists.now) differences.entry) }
+{
+    match differences {
+        Some(differences) => &differences.lost,
+        None => &[],
+    }
+}
+
+/// The page of these facts.
+fn page_from(alloc: Global, facts: &Facts<'_>, heading: Heading) -> Result<Page, Memory>
+    ensures { IfOk result (λ page. IsPage (told facts.now) heading page) }
+{
+    let clients = client_rows(alloc, facts)?;
+    let matrix = matrix_parts(alloc, facts)?;
+    let objects = objects_of(alloc, facts.ways.plan())?;
+    let edges = edges_of(alloc, facts.ways.plan())?;
+    Ok(page_with(facts, heading, clients, matrix, objects, edges))
+}
+
+/// The page that has these parts.
+fn page_with(
+    facts: &Facts<'_>,
+    heading: Heading,
+    clients: Vec<ClientRow>,
+    matrix: MatrixParts,
+    objects: Vec<ObjectRow>,
+    edges: EdgeParts,
+) -> Page
+    requires clients { map client_shown clients.items
+        ≡ map (client_row (told facts.now)) (range_with_len 0 (length facts.now.ways.now.clients)) }
+    requires matrix { AreMatrix (told facts.now) matrix.rows.items matrix.refused matrix.reached }
+    requires objects { AreObjects facts.now.ways.now objects.items }
+    requires edges { AreEdges facts.now.ways.now edges.count edges.causes.items edges.listed.items }
+    ensures { IsPage (told facts.now) heading result }
+{
+    Page {
+        name: heading.name,
+        verdict: heading.verdict,
+        accepted: heading.accepted,
+        given_labels: heading.given_labels,
+        object_count: facts.ways.plan().objects().len(),
+        cell_count: facts.ways.cells().len(),
+        edge_count: edges.count,
+        by_right: total_of(facts, Kind::ByRight),
+        by_edges: total_of(facts, Kind::ByEdges),
+        not_allowed: total_of(facts, Kind::NotAllowed),
+        no_way: total_of(facts, Kind::NoWay),
+        clients,
+        rows: matrix.rows,
+        refused: matrix.refused,
+        reached: matrix.reached,
+        changes: None,
+        objects,
+        causes: edges.causes,
+        edges: edges.listed,
+    }
+}
+
+/// The objects of a plan, in rows.
+fn objects_of(alloc: Global, plan: &Plan) -> Result<Vec<ObjectRow>, Memory>
+    ensures { IfOk result (λ rows. AreObjects plan.now rows.items) }
+{
+    let numbers = object_numbers(alloc, plan)?;
+    object_rows(alloc, plan, &numbers)
+}
+
+/// What is told of edges.
+#[derive(Drop)]
+struct EdgeParts {
+    /// How many there are.
+    count: usize,
+    /// How many of each cause.
+    causes: Vec<CauseCount>,
+    /// Those that are listed.
+    listed: Vec<Edge>,
+}
+
+/// What is told of the edges of a plan.
+fn edges_of(alloc: Global, plan: &Plan) -> Result<EdgeParts, Memory>
+    ensures { IfOk result (λ parts. AreEdges plan.now parts.count parts.causes.items parts.listed.items) }
+{
+    let all = edges(alloc, plan)?;
+    let count = all.len();
+    let causes = cause_counts(alloc, &all)?;
+    let listed = listed_edges(alloc, all)?;
+    Ok(EdgeParts {
+        count,
+        causes,
+        listed,
+    })
+}

@@ -1,0 +1,101 @@
+-- Reports on who may influence and who may learn what, for other programs. All of it is own profile. Texts are lists of bytes.
+use Rattle.std.specs.Prelude.{◌≡◌, ◌≢◌, ◌⊎◌, ℕ, List, [], ◌∷◌, ◌++◌, Option, None, Some, Result, Ok, Err}
+use Rattle.std.specs.Io.KnownBytes.{Appends}
+use Rattle.command_words.specs.declared.command.ReportForm.{ReportForm}
+use Rattle.command_words.specs.declared.command.ReportForm.TheVariants as forms
+use Rattle.config_reader.specs.ConfigOf.{config_of}
+use Rattle.config_rules.specs.Faultless.{IsPolicyOf}
+use Rattle.config_rules.specs.PlanOf.{plan_of}
+use Rattle.config_text.specs.Parts.{ConfigText}
+use Rattle.flow_checker.specs.Answer.{IsRefusedAs}
+use Rattle.flow_report.specs.Csv.{IsCsv}
+use Rattle.flow_report.specs.Json.{IsJson}
+use Rattle.label_certificate.specs.Faults as label_faults
+use Rattle.label_certificate.specs.LabelText.{labels_of_text}
+use Rattle.label_certificate.specs.declared.fault.LabelFault.{LabelFault}
+use Rattle.meter_theory.specs.Labels.{Admits, Labels, Policy, labelling_of_policy}
+use Rattle.meter_theory.specs.Plan.{Plan}
+use Rattle.plan_lists.specs.Listing as lists
+use Rattle.plan_lists.specs.Listing.{WritesText}
+use Rattle.plan_lists.specs.declared.fault.ListFault.{ListFault}
+use Rattle.plan_lists.specs.declared.fault.ListFault.TheVariants as faults
+use Rattle.text_files.specs.Files.{MayRead}
+use Rattle.verdict.specs.Lines.{verdict_line}
+use Rattle.verdict.specs.declared.Verdict.{Verdict}
+use Rattle.verdict.specs.declared.Verdict.TheVariants as verdicts
+use Rattle.meter_server.specs.Files.{ByFile, IsFile, IsUnread}
+use Rattle.meter_server.specs.Outcomes.{listed}
+use Rattle.meter_server.specs.Program.{IsJudged, TellsFault}
+use Rattle.meter_server.specs.declared.outcome.Outcome.{Outcome}
+use Rattle.meter_server.specs.declared.outcome.Outcome.TheVariants.{Unwritten}
+use Rattle.meter_server.specs.declared.texts.Source.{Source}
+
+-- a line without the newline at its end, if it has one
+abbrev pub IsWithoutEnd : (line text : List ℕ) → Type 0
+IsWithoutEnd line text = (line ≡ text ++ 10 ∷ []) ⊎ (((front : List ℕ) → line ≢ front ++ 10 ∷ []) × (text ≡ line))
+
+-- the text of a report in this form, with this verdict
+abbrev pub IsReport : ReportForm → Plan → Policy → Verdict → List ℕ → Type 0
+IsReport forms.Csv P Q verdict text = IsCsv P Q text
+IsReport forms.Json P Q verdict text = (line : List ℕ) × IsWithoutEnd (verdict_line verdict) line × IsJson P Q line text
+
+-- it was written, or a beginning of it; it is made before the first byte is written
+abbrev pub WritesReport : ReportForm → Plan → Policy → Verdict → (before after : Option (List ℕ)) → Result (Unit {0}) ListFault → Type 0
+WritesReport form P Q verdict before after (Err faults.Memory) = Appends before after []
+WritesReport form P Q verdict before after r = (text : List ℕ) × IsReport form P Q verdict text × WritesText text before after r
+
+-- a command had no memory for its report, and nothing was written
+abbrev pub IsUnwrittenForMemory : Outcome → Type 0
+IsUnwrittenForMemory outcome = outcome ≡ Unwritten faults.Memory
+
+-- labels that are judged for a plan and its policy have this verdict
+abbrev pub IsVerdictOf : Plan → Policy → Labels → Verdict → Type 0
+IsVerdictOf P Q labels verdicts.Accepted = Admits P (labelling_of_policy P Q) labels
+IsVerdictOf P Q labels (verdicts.Refused refused) = IsRefusedAs P (labelling_of_policy P Q) labels refused
+IsVerdictOf P Q labels _ = ⊥
+
+-- a report is written with the verdict on labels; or there was no memory to come to that
+abbrev pub ReportsOn : ReportForm → Plan → Policy → Labels → (before after : Option (List ℕ)) → Outcome → Type 0
+ReportsOn form P Q labels before after outcome =
+    ((verdict : Verdict) × IsVerdictOf P Q labels verdict × (result : Result (Unit {0}) ListFault) × WritesReport form P Q verdict before after result × (outcome ≡ listed result))
+    ⊎ (IsUnwrittenForMemory outcome × (after ≡ before))
+
+-- the least labels of a plan, one for each of its cells
+abbrev pub AreLeastOf : Plan → Labels → Type 0
+AreLeastOf P labels = lists.AreLeastOf P labels
+
+-- the labels in the file with this path
+abbrev pub AreLabelsIn : MayRead → Plan → List ℕ → Labels → Type 0
+AreLabelsIn reads P path labels = (source : Source) × IsFile reads path source × (labels_of_text P source.text.now ≡ Ok labels)
+
+-- the file with this path isn't read, or its labels have a fault, and a command tells that
+abbrev pub FailsLabelsIn : MayRead → Source → Plan → List ℕ → Outcome → Type 0
+FailsLabelsIn reads config P path outcome =
+    IsUnread reads path outcome
+    ⊎ ((source : Source) × IsFile reads path source × (fault : LabelFault) × label_faults.Fails fault (labels_of_text P source.text.now) × IsJudged config source (verdicts.Labels fault) outcome)
+
+-- the labels that are judged: those in a file, where its path is given, and else the least ones
+abbrev pub AreLabelsOf : MayRead → Plan → Option (List ℕ) → Labels → Type 0
+AreLabelsOf reads P None labels = AreLeastOf P labels
+AreLabelsOf reads P (Some path) labels = AreLabelsIn reads P path labels
+
+-- they aren't there, and a command tells why
+abbrev pub FailsLabels : MayRead → Source → Plan → Option (List ℕ) → Outcome → Type 0
+FailsLabels reads config P None outcome = IsUnwrittenForMemory outcome
+FailsLabels reads config P (Some path) outcome = FailsLabelsIn reads config P path outcome
+
+-- how the report on a plan and its policy is written, which the configuration in a file has
+abbrev pub ReportsPlan : MayRead → ReportForm → Option (List ℕ) → (before after : Option (List ℕ)) → Source → Plan → Policy → Outcome → Type 0
+ReportsPlan reads form path before after config P Q outcome =
+    (FailsLabels reads config P path outcome × (after ≡ before))
+    ⊎ ((labels : Labels) × AreLabelsOf reads P path labels × ReportsOn form P Q labels before after outcome)
+
+-- how the report on the configuration in a file is written: its fault is told and explained, or the report on its plan and policy is written
+abbrev pub ReportsSource : MayRead → ReportForm → Option (List ℕ) → (before after : Option (List ℕ)) → Source → Outcome → Type 0
+ReportsSource reads form path before after config outcome =
+    (TellsFault config outcome × (after ≡ before))
+    ⊎ ((said : ConfigText) × (config_of config.text.now ≡ Ok said) × (Q : Policy) × IsPolicyOf said Q × ReportsPlan reads form path before after config (plan_of said) Q outcome)
+
+-- how the report on the configuration in the file with this path is written
+abbrev pub ReportsFile : MayRead → ReportForm → (labels : Option (List ℕ)) → List ℕ → (before after : Option (List ℕ)) → Outcome → Type 0
+ReportsFile reads form labels path before after outcome = ByFile reads path (ReportsSource reads form labels before after) (after ≡ before) outcome
