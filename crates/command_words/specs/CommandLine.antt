@@ -77,9 +77,9 @@ names = record (new_rule (codes "name")) { required = true; action = Some Append
 abbrev pub form : Rule
 form = option_or (codes "format") (codes "text")
 
--- `--format FORM` of a report, which has to stand there (own profile)
+-- `--format FORM` of a report: html where it isn't given (own profile)
 abbrev pub report_form : Rule
-report_form = record (option (codes "format")) { required = true }
+report_form = option_or (codes "format") (codes "html")
 
 -- the file of labels, which needn't stand there (own profile)
 abbrev pub given_labels : Rule
@@ -117,7 +117,7 @@ why_app = with_rule (with_rule (with_rule (new_app (codes "why")) config_file) c
 abbrev pub compare_app : App
 compare_app = with_rule (with_rule (new_app (codes "compare")) old_file) new_file
 
--- `report --format FORM CONFIG [LABELS]` (own profile)
+-- `report [--format FORM] CONFIG [LABELS]` (own profile)
 abbrev pub report_app : App
 report_app = with_rule (with_rule (with_rule (new_app (codes "report")) report_form) config_file) given_labels
 
@@ -164,7 +164,7 @@ app = record { top = program; subs = map (λ command. command.top) commands }
 -- whether this command has a form of this name: of a report, or of a list of edges (own profile)
 abbrev pub is_form : Text → Text → Bool
 is_form command name =
-    if bytes_eq command (codes "report") then bytes_eq name (codes "csv") || bytes_eq name (codes "json")
+    if bytes_eq command (codes "report") then bytes_eq name (codes "html") || (bytes_eq name (codes "csv") || bytes_eq name (codes "json"))
     else bytes_eq name (codes "text") || bytes_eq name (codes "dot")
 
 -- the command and the name of a form that it hasn't, in its rows (own profile)

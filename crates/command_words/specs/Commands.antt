@@ -96,9 +96,9 @@ compare_in rows = do
   new ← first_of (codes "new") rows
   Some (Compare old new)
 
--- the form of a report by its name: no other name than `csv` and `json` is let through (own profile)
+-- the form of a report by its name: no other name than `html`, `csv` and `json` is let through (own profile)
 abbrev pub report_form_named : Text → ReportForm
-report_form_named name = if bytes_eq name (codes "json") then reports.Json else reports.Csv
+report_form_named name = if bytes_eq name (codes "csv") then reports.Csv else if bytes_eq name (codes "json") then reports.Json else reports.Html
 
 -- a configuration, labels if there are, and the form of a report (own profile)
 abbrev pub report_in : List Row → Option Asked

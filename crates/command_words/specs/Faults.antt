@@ -24,7 +24,7 @@ IsToldAs kind faults.Memory = Unit {0}
 
 -- the names of the forms that a command has (own profile)
 abbrev pub forms_listed : Text → List ℕ
-forms_listed command = if bytes_eq command (codes "report") then codes "csv, json" else codes "text, dot"
+forms_listed command = if bytes_eq command (codes "report") then codes "html, csv, json" else codes "text, dot"
 
 -- what is told of the name of a form that a command hasn't which has these (own profile)
 abbrev pub no_form_text : (forms name : Text) → List ℕ

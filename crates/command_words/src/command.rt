@@ -14,6 +14,8 @@ pub enum EdgesForm {
 /// In which form a report is written (own profile).
 #[derive(Clone, Copy, Debug, PartialEq, Eq, Drop)]
 pub enum ReportForm {
+    /// As a page for a browser.
+    Html,
     /// As records between commas.
     Csv,
     /// As one value of JSON.
@@ -58,7 +60,7 @@ pub enum Command<'a> {
         old: &'a str,
         new: &'a str,
     },
-    /// To write who may influence and who may learn what, in this form, with the verdict on these labels where they are given, and
+    /// To write who may change and who may learn what, in this form, with the verdict on these labels where they are given, and
     /// else on the least.
     Report {
         config: &'a str,

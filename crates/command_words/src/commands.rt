@@ -152,8 +152,8 @@ fn report_command<'a>(alloc: Global) -> Result<Command<'a>, AllocError>
     ensures local { IfOk result (λ c. (out-Command c).has_globals ≡ false) }
 {
     Command::new(alloc, "report")
-        .about("Write who may influence and who may learn what, for other programs")
-        .after_help("Example: cosem-flow report --format csv mine.toml > mine.csv")
+        .about("Write a page on who may change and who may learn what")
+        .after_help("Example: cosem-flow report mine.toml > mine.html")
         .arg(report_form(alloc))?
         .arg(config_file(alloc, CONFIG_SOURCE))?
         .arg(given_labels(alloc))
@@ -288,9 +288,11 @@ fn report_form<'a>(alloc: Global) -> Arg<'a>
     Arg::new(alloc, "format")
         .long("format")
         .action(ArgAction::Set)
-        .required(true)
+        .default_value("html")
         .value_name("FORM")
-        .help("The form of the report [possible values: csv, json]")
+        .help(
+            "The form of the report: a page for a browser, or for other programs [possible values: html, csv, json]",
+        )
 }
 
 /// The labels that are judged, where they aren't the least ones.

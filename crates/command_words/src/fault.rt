@@ -44,7 +44,7 @@ pub(crate) fn forms_listed(command: &str) -> &'static str
     ensures { result.now ≡ forms_listed command.now }
 {
     if command == "report" {
-        "csv, json"
+        "html, csv, json"
     } else {
         "text, dot"
     }

@@ -258,20 +258,22 @@ fn is_form(command: &str, name: &str) -> bool
     ensures { result ≡ line.is_form command.now name.now }
 {
     if command == "report" {
-        name == "csv" || name == "json"
+        name == "html" || name == "csv" || name == "json"
     } else {
         name == "text" || name == "dot"
     }
 }
 
-/// The form of a report of this name. No other name than `csv` and `json` is let through.
+/// The form of a report of this name. No other name than `html`, `csv` and `json` is let through.
 fn report_form_named(name: &str) -> ReportForm
     ensures { result ≡ spec.report_form_named name.now }
 {
-    if name == "json" {
+    if name == "csv" {
+        ReportForm::Csv
+    } else if name == "json" {
         ReportForm::Json
     } else {
-        ReportForm::Csv
+        ReportForm::Html
     }
 }
 

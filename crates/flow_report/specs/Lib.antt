@@ -1,4 +1,5 @@
 pub mod Found
 pub mod Csv
+pub mod Html
 pub mod Json
 pub mod Rights

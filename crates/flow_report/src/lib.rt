@@ -1,6 +1,7 @@
-//! The report of what clients may influence and learn of a plan, in forms for machines (own profile).
+//! The report of what clients may influence and learn of a plan, as a page and in forms for machines (own profile).
 //!
 //! - [`csv_form::csv_text`] gives it as CSV, a record for each cell, client and reach.
+//! - [`html_form::html_text`] gives it as a page for a browser.
 //! - [`json_form::json_text`] gives it as JSON, one object with the verdict, the rights and the cells.
 //!
 //! What a form is stands in `specs/`: distances as a function (`Found`), the records of CSV (`Csv`), the objects and rights that are
@@ -9,6 +10,7 @@
 
 pub mod csv_form;
 mod doing;
+pub mod html_form;
 mod json_cells;
 pub mod json_form;
 mod json_rights;

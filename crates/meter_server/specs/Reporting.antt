@@ -1,6 +1,7 @@
--- Reports on who may influence and who may learn what, for other programs. All of it is own profile. Texts are lists of bytes.
-use Rattle.std.specs.Prelude.{◌≡◌, ◌≢◌, ◌⊎◌, ℕ, List, [], ◌∷◌, ◌++◌, Option, None, Some, Result, Ok, Err}
+-- Reports on who may change and who may learn what. All of it is own profile. Texts are lists of bytes.
+use Rattle.std.specs.Prelude.{◌≡◌, ◌≢◌, ◌⊎◌, ℕ, Bool, List, [], ◌∷◌, ◌++◌, is_some, string_bytes, unwrap_or, Option, None, Some, Result, Ok, Err}
 use Rattle.std.specs.Io.KnownBytes.{Appends}
+use Rattle.std.specs.Path.{path_file_name}
 use Rattle.command_words.specs.declared.command.ReportForm.{ReportForm}
 use Rattle.command_words.specs.declared.command.ReportForm.TheVariants as forms
 use Rattle.config_reader.specs.ConfigOf.{config_of}
@@ -9,7 +10,9 @@ use Rattle.config_rules.specs.PlanOf.{plan_of}
 use Rattle.config_text.specs.Parts.{ConfigText}
 use Rattle.flow_checker.specs.Answer.{IsRefusedAs}
 use Rattle.flow_report.specs.Csv.{IsCsv}
+use Rattle.flow_report.specs.Html.{IsHtml}
 use Rattle.flow_report.specs.Json.{IsJson}
+use Rattle.flow_view.specs.declared.page.Heading.{Heading}
 use Rattle.label_certificate.specs.Faults as label_faults
 use Rattle.label_certificate.specs.LabelText.{labels_of_text}
 use Rattle.label_certificate.specs.declared.fault.LabelFault.{LabelFault}
@@ -20,6 +23,7 @@ use Rattle.plan_lists.specs.Listing.{WritesText}
 use Rattle.plan_lists.specs.declared.fault.ListFault.{ListFault}
 use Rattle.plan_lists.specs.declared.fault.ListFault.TheVariants as faults
 use Rattle.text_files.specs.Files.{MayRead}
+use Rattle.verdict.specs.Judging.{is_accepted}
 use Rattle.verdict.specs.Lines.{verdict_line}
 use Rattle.verdict.specs.declared.Verdict.{Verdict}
 use Rattle.verdict.specs.declared.Verdict.TheVariants as verdicts
@@ -34,15 +38,31 @@ use Rattle.meter_server.specs.declared.texts.Source.{Source}
 abbrev pub IsWithoutEnd : (line text : List ℕ) → Type 0
 IsWithoutEnd line text = (line ≡ text ++ 10 ∷ []) ⊎ (((front : List ℕ) → line ≢ front ++ 10 ∷ []) × (text ≡ line))
 
--- the text of a report in this form, with this verdict
-abbrev pub IsReport : ReportForm → Plan → Policy → Verdict → List ℕ → Type 0
-IsReport forms.Csv P Q verdict text = IsCsv P Q text
-IsReport forms.Json P Q verdict text = (line : List ℕ) × IsWithoutEnd (verdict_line verdict) line × IsJson P Q line text
+-- the name of the file with this path: the part behind its directories, if it has one
+abbrev pub name_of : (path : List ℕ) → List ℕ
+name_of path = unwrap_or (path_file_name path) path
+
+-- what a page says at its head of the configuration in the file with this path, and of the verdict on labels that are given or not
+pub record IsHeading (path : List ℕ) (given : Bool) (verdict : Verdict) (heading : Heading) : Type 0 where
+  pub name_is : string_bytes heading.name ≡ name_of path
+  pub verdict_is : IsWithoutEnd (verdict_line verdict) (string_bytes heading.verdict)
+  pub accepted_is : heading.accepted ≡ is_accepted verdict
+  pub given_is : heading.given_labels ≡ given
+
+-- the text of a report as JSON, with this verdict
+abbrev pub IsJsonReport : Plan → Policy → Verdict → List ℕ → Type 0
+IsJsonReport P Q verdict text = (line : List ℕ) × IsWithoutEnd (verdict_line verdict) line × IsJson P Q line text
+
+-- the text of a report in this form, with this verdict on labels that are given or not, of the configuration in the file with this path
+abbrev pub IsReport : ReportForm → (path : List ℕ) → (given : Bool) → Plan → Policy → Verdict → List ℕ → Type 0
+IsReport forms.Html path given P Q verdict text = (heading : Heading) × IsHeading path given verdict heading × IsHtml P Q heading text
+IsReport forms.Csv path given P Q verdict text = IsCsv P Q text
+IsReport forms.Json path given P Q verdict text = IsJsonReport P Q verdict text
 
 -- it was written, or a beginning of it; it is made before the first byte is written
-abbrev pub WritesReport : ReportForm → Plan → Policy → Verdict → (before after : Option (List ℕ)) → Result (Unit {0}) ListFault → Type 0
-WritesReport form P Q verdict before after (Err faults.Memory) = Appends before after []
-WritesReport form P Q verdict before after r = (text : List ℕ) × IsReport form P Q verdict text × WritesText text before after r
+abbrev pub WritesReport : ReportForm → (path : List ℕ) → (given : Bool) → Plan → Policy → Verdict → (before after : Option (List ℕ)) → Result (Unit {0}) ListFault → Type 0
+WritesReport form path given P Q verdict before after (Err faults.Memory) = Appends before after []
+WritesReport form path given P Q verdict before after r = (text : List ℕ) × IsReport form path given P Q verdict text × WritesText text before after r
 
 -- a command had no memory for its report, and nothing was written
 abbrev pub IsUnwrittenForMemory : Outcome → Type 0
@@ -55,9 +75,9 @@ IsVerdictOf P Q labels (verdicts.Refused refused) = IsRefusedAs P (labelling_of_
 IsVerdictOf P Q labels _ = ⊥
 
 -- a report is written with the verdict on labels; or there was no memory to come to that
-abbrev pub ReportsOn : ReportForm → Plan → Policy → Labels → (before after : Option (List ℕ)) → Outcome → Type 0
-ReportsOn form P Q labels before after outcome =
-    ((verdict : Verdict) × IsVerdictOf P Q labels verdict × (result : Result (Unit {0}) ListFault) × WritesReport form P Q verdict before after result × (outcome ≡ listed result))
+abbrev pub ReportsOn : ReportForm → (path : List ℕ) → (given : Bool) → Plan → Policy → Labels → (before after : Option (List ℕ)) → Outcome → Type 0
+ReportsOn form path given P Q labels before after outcome =
+    ((verdict : Verdict) × IsVerdictOf P Q labels verdict × (result : Result (Unit {0}) ListFault) × WritesReport form path given P Q verdict before after result × (outcome ≡ listed result))
     ⊎ (IsUnwrittenForMemory outcome × (after ≡ before))
 
 -- the least labels of a plan, one for each of its cells
@@ -88,7 +108,7 @@ FailsLabels reads config P (Some path) outcome = FailsLabelsIn reads config P pa
 abbrev pub ReportsPlan : MayRead → ReportForm → Option (List ℕ) → (before after : Option (List ℕ)) → Source → Plan → Policy → Outcome → Type 0
 ReportsPlan reads form path before after config P Q outcome =
     (FailsLabels reads config P path outcome × (after ≡ before))
-    ⊎ ((labels : Labels) × AreLabelsOf reads P path labels × ReportsOn form P Q labels before after outcome)
+    ⊎ ((labels : Labels) × AreLabelsOf reads P path labels × ReportsOn form config.file.now (is_some path) P Q labels before after outcome)
 
 -- how the report on the configuration in a file is written: its fault is told and explained, or the report on its plan and policy is written
 abbrev pub ReportsSource : MayRead → ReportForm → Option (List ℕ) → (before after : Option (List ℕ)) → Source → Outcome → Type 0

@@ -1,7 +1,7 @@
-//! Who may influence and who may learn what, for other programs (own profile).
+//! Reports on who may change and who may learn what (own profile).
 ghost use Rattle.std.specs.Prelude.{◌≡◌, IfOk, MatchResult, option_map};
 ghost use Rattle.meter_server.specs.Reporting as spec;
-ghost use Rattle.meter_server.specs.Reporting.{AreLabelsOf, FailsLabels, ReportsFile, ReportsOn, ReportsPlan, IsWithoutEnd, WritesReport};
+ghost use Rattle.meter_server.specs.Reporting.{AreLabelsOf, FailsLabels, IsHeading, IsReport, IsWithoutEnd, ReportsFile, ReportsOn, ReportsPlan, WritesReport};
 ghost use Rattle.command_words.specs.declared.command.ReportForm.TheVariants as forms;
 
 use crate::files::{source_of, text_of_file};
@@ -12,7 +12,9 @@ use config_reader::read_config;
 use cosem_data::memory::Memory;
 use flow_checker::check::{Refused, check};
 use flow_report::csv_form::csv_text;
+use flow_report::html_form::html_text;
 use flow_report::json_form::json_text;
+use flow_view::page::Heading;
 use flow_ways::ways::Ways;
 use label_certificate::labels::Labels;
 use label_certificate::least::make_labels;
@@ -22,9 +24,21 @@ use object_model::policy::Policy;
 use plan_lists::fault::ListFault;
 use std::alloc::Global;
 use std::io::Write;
+use std::path::Path;
 use text_files::TextFiles;
 use verdict::{Verdict, verdict_text};
 use whole_writes::write_whole;
+
+/// What is asked of a report, beside the configuration.
+#[derive(Clone, Copy, Debug)]
+struct Wanted<'a> {
+    /// Its form.
+    form: ReportForm,
+    /// The path of the configuration's file.
+    path: &'a str,
+    /// Whether labels are given.
+    given_labels: bool,
+}
 
 /// Writes the report on the configuration in a file, with the verdict on the labels in another or on the least ones, and says how that
 /// ended.
@@ -80,7 +94,14 @@ fn report_plan<F: TextFiles, O: Write>(
         (O.contents output.old) (O.contents output.new) config.entry plan policy.now result }
 {
     match labels_for(alloc, files, config, &plan, labels) {
-        Ok(labels) => report_on(alloc, plan, policy, &labels, form, output),
+        Ok(found) => {
+            let wanted = Wanted {
+                form,
+                path: config.file,
+                given_labels: labels.is_some(),
+            };
+            report_on(alloc, plan, policy, &found, wanted, output)
+        }
         Err(outcome) => outcome,
     }
 }
@@ -139,10 +160,10 @@ fn report_on<O: Write>(
     plan: Plan,
     policy: &Policy,
     labels: &Labels,
-    form: ReportForm,
+    wanted: Wanted<'_>,
     output: &mut O,
 ) -> Outcome
-    ensures { ReportsOn form plan policy.now labels.now
+    ensures { ReportsOn wanted.entry.form wanted.entry.path.now wanted.entry.given_labels plan policy.now labels.now
         (O.contents output.old) (O.contents output.new) result }
 {
     match check(alloc, plan, policy, labels) {
@@ -151,7 +172,7 @@ fn report_on<O: Write>(
             checked.plan(),
             policy,
             &Verdict::Accepted,
-            form,
+            wanted,
             output,
         )),
         Err((Refused::Memory, _plan)) => Outcome::Unwritten(ListFault::Memory),
@@ -160,7 +181,7 @@ fn report_on<O: Write>(
             &plan,
             policy,
             &Verdict::Refused(refused),
-            form,
+            wanted,
             output,
         )),
     }
@@ -172,14 +193,14 @@ fn write_report<O: Write>(
     plan: &Plan,
     policy: &Policy,
     verdict: &Verdict,
-    form: ReportForm,
+    wanted: Wanted<'_>,
     output: &mut O,
 ) -> Result<(), ListFault>
-    ensures { WritesReport form plan.now policy.now verdict.now
+    ensures { WritesReport wanted.entry.form wanted.entry.path.now wanted.entry.given_labels plan.now policy.now verdict.now
         (O.contents output.old) (O.contents output.new) result }
 {
-    let ways = Ways::new(alloc, plan)?;
-    let text = report_text(alloc, &ways, policy, verdict, form)?;
+    let ways = Ways::of_many(alloc, plan)?;
+    let text = report_text(alloc, &ways, policy, verdict, wanted)?;
     write_whole(output, &text)?;
     Ok(())
 }
@@ -190,13 +211,59 @@ fn report_text(
     ways: &Ways<'_>,
     policy: &Policy,
     verdict: &Verdict,
-    form: ReportForm,
+    wanted: Wanted<'_>,
 ) -> Result<Vec<u8>, Memory>
-    ensures { IfOk result (λ text. spec.IsReport form ways.now policy.now verdict.now text.items) }
+    ensures { IfOk result (λ text. IsReport wanted.entry.form wanted.entry.path.now wanted.entry.given_labels
+        ways.now policy.now verdict.now text.items) }
 {
-    match form {
+    match wanted.form {
+        ReportForm::Html => html_of(alloc, ways, policy, verdict, wanted),
         ReportForm::Csv => csv_text(alloc, ways, policy),
         ReportForm::Json => json_of(alloc, ways, policy, verdict),
+    }
+}
+
+/// The report as a page. The only error is want of memory.
+fn html_of(
+    alloc: Global,
+    ways: &Ways<'_>,
+    policy: &Policy,
+    verdict: &Verdict,
+    wanted: Wanted<'_>,
+) -> Result<Vec<u8>, Memory>
+    ensures { IfOk result (λ text. IsReport forms.Html wanted.entry.path.now wanted.entry.given_labels
+        ways.now policy.now verdict.now text.items) }
+{
+    let heading = heading_of(alloc, verdict, wanted.path, wanted.given_labels)?;
+    let text = html_text(alloc, ways, policy, heading)?;
+    Ok(text.into_bytes())
+}
+
+/// What a page says at its head. The only error is want of memory.
+fn heading_of(
+    alloc: Global,
+    verdict: &Verdict,
+    path: &str,
+    given_labels: bool,
+) -> Result<Heading, Memory>
+    ensures { IfOk result (IsHeading path.now given_labels verdict.now) }
+{
+    let line = verdict_text(alloc, verdict)?;
+    Ok(Heading {
+        name: String::from_str(alloc, name_of(path))?,
+        verdict: String::from_str(alloc, without_end(line.as_str()))?,
+        accepted: verdict.is_accepted(),
+        given_labels,
+    })
+}
+
+/// The name of the file with this path.
+fn name_of(path: &str) -> &str
+    ensures { result.now ≡ spec.name_of path.now }
+{
+    match Path::new(path).file_name() {
+        Some(name) => name,
+        None => path,
     }
 }
 
@@ -207,7 +274,7 @@ fn json_of(
     policy: &Policy,
     verdict: &Verdict,
 ) -> Result<Vec<u8>, Memory>
-    ensures { IfOk result (λ text. spec.IsReport forms.Json ways.now policy.now verdict.now text.items) }
+    ensures { IfOk result (λ text. spec.IsJsonReport ways.now policy.now verdict.now text.items) }
 {
     let line = verdict_text(alloc, verdict)?;
     json_text(alloc, ways, policy, without_end(line.as_str()))

@@ -1,0 +1,6 @@
+pub mod Firsts
+pub mod Found
+pub mod Boxes
+pub mod Arrows
+pub mod Drawn
+pub mod Picture

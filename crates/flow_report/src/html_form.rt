@@ -1,0 +1,68 @@
+//! The report as a page for a browser.
+ghost use Rattle.std.specs.Prelude.{◌≡◌, ◌++◌, IfOk, OnOk, flat_map, map, string_bytes};
+ghost use Rattle.label_certificate.specs.LabelText.{cell_place};
+ghost use Rattle.flow_report.specs.Html.{IsHtml, listed, numbers_in, numbers_of};
+
+use cosem_data::cell::CellRef;
+use cosem_data::memory::Memory;
+use flow_drawing::picture::picture_of;
+use flow_page::matrix::MatrixRow;
+use flow_page::page_text::page_text;
+use flow_picture::svg::picture_text;
+use flow_view::page::{Heading, page_of};
+use flow_ways::ways::Ways;
+use object_model::plan::Plan;
+use object_model::policy::Policy;
+use std::alloc::Global;
+
+/// The report of a plan's ways and a policy as a page for a browser, under this heading: whole in itself, the same bytes for the same
+/// configuration (own profile).
+///
+/// # Errors
+/// Memory was refused.
+pub fn html_text(
+    alloc: Global,
+    ways: &Ways<'_>,
+    policy: &Policy,
+    heading: Heading,
+) -> Result<String, Memory>
+    ensures { IfOk result (λ text. IsHtml ways.now policy.now heading (string_bytes text)) }
+{
+    let page = page_of(alloc, ways, policy, heading, None)?;
+    let groups = groups_of(alloc, ways.plan(), &page.rows)?;
+    let picture = picture_of(alloc, ways, &groups)?;
+    let drawn = picture_text(alloc, &picture)?;
+    page_text(alloc, &page, drawn.as_str())
+}
+
+/// The numbers of the cells of each row.
+fn groups_of(alloc: Global, plan: &Plan, rows: &[MatrixRow]) -> Result<Vec<Vec<usize>>, Memory>
+    ensures { IfOk result (λ groups. map (λ group. group.items) groups.items ≡ numbers_of plan.now rows.now) }
+{
+    let mut groups = Vec::with_capacity(alloc, rows.len())?;
+    for row in rows {
+        groups.push(numbers_in(alloc, plan, &row.cells)?)?;
+    }
+    Ok(groups)
+}
+
+/// The numbers that these cells have in a plan.
+fn numbers_in(alloc: Global, plan: &Plan, cells: &[CellRef]) -> Result<Vec<usize>, Memory>
+    ensures { IfOk result (λ numbers. numbers.items ≡ numbers_in plan.now cells.now) }
+{
+    let mut numbers = Vec::with_capacity(alloc, cells.len())?;
+    for cell in cells {
+        push_number(plan, cell, &mut numbers)?;
+    }
+    Ok(numbers)
+}
+
+/// Puts the number that a cell has in a plan behind others.
+fn push_number(plan: &Plan, cell: &CellRef, numbers: &mut Vec<usize>) -> Result<(), Memory>
+    ensures { OnOk result (numbers.new.items ≡ numbers.old.items ++ listed (cell_place plan.now cell.now)) }
+{
+    match plan.cell_number(cell) {
+        Some(number) => Ok(numbers.push(usize::from(number))?),
+        None => Ok(()),
+    }
+}
