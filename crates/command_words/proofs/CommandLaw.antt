@@ -76,7 +76,7 @@ compare = (
       then _ _ (text_there _ rows t (codes "new") refl) (λ new. refl)),
 )
 
--- `report CONFIG [LABELS]`, with a default for its option
+-- `report CONFIG [LABELS]`, with a default for the form
 report : Told (built_leaf report_app.top)
 report = (
   refl,

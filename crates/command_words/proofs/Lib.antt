@@ -1,5 +1,4 @@
 pub mod CommandLaw
-pub mod CommandLineLemmas
 pub mod EachLemmas
 pub mod LevelLemmas
 pub mod NumberLemmas

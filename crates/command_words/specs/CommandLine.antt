@@ -1,13 +1,24 @@
 -- The command line as clap's definition of a simple command sees it. All of it is own profile.
-use Rattle.std.specs.Prelude.{Bool, List, [], ◌∷◌, ◌||◌, Option, None, Some, codes, false, map, option_and_then, pos, true}
+use Rattle.std.specs.Prelude.{◌≡◌, Bool, List, [], ◌∷◌, ◌||◌, Option, None, Some, codes, false, map, option_and_then, pos, true}
 use Rattle.std.specs.Prelude.{if◌then◌else◌}
 use Rattle.std.specs.Str.{bytes_eq}
 use Rattle.clap.specs.Kinds.{or_else}
-use Rattle.clap.specs.Words.{App, Kinds, Row, Rule, Shape, Text, fault_of, first_of, new_app, new_rule, subcommand_of, with_rule}
+use Rattle.clap.specs.Words.{App, Kinds, Row, Rule, Shape, Text, app_of, fault_of, first_of, new_app, new_rule, rule_of, subcommand_of, with_rule}
 use Rattle.clap.specs.Simple.{new_shape}
+use Rattle.clap.specs.declared.builder.arg.Arg.{Arg}
+use Rattle.clap.specs.declared.builder.command.Command.{Command}
+use Rattle.clap.specs.declared.builder.command.Command.TheViews.{out-Command}
 use Rattle.clap.specs.declared.builder.action.ArgAction.TheVariants.{Append, Count, Set}
 use Rattle.clap.specs.declared.error.kind.ErrorKind.TheVariants.{InvalidValue}
 use Rattle.clap.specs.declared.builder.value_parser.ValueParser.TheVariants.{Signed, Unsigned}
+
+-- an argument that clap sees as this rule, and that isn't handed down to the commands below
+abbrev pub IsArgument : Rule → Arg → Type 0
+IsArgument rule arg = (rule_of arg ≡ rule) × (arg.global ≡ false)
+
+-- a command that clap sees so, and that hands no argument down
+abbrev pub IsCommand : App → Command → Type 0
+IsCommand app command = (app_of command ≡ app) × ((out-Command command).has_globals ≡ false)
 
 -- an argument that has to stand there (own profile)
 abbrev pub needed : Text → Rule
@@ -37,9 +48,13 @@ old_file = needed (codes "old")
 abbrev pub new_file : Rule
 new_file = needed (codes "new")
 
+-- an option without a value, `--id`, also more than once (own profile)
+abbrev pub flag : Text → Rule
+flag id = record (new_rule id) { long = Some id; action = Some Count }
+
 -- `-v` or `--verbose`, also more than once (own profile)
 abbrev pub verbose : Rule
-verbose = record (new_rule (codes "verbose")) { short = Some 118; long = Some (codes "verbose"); action = Some Count }
+verbose = record (flag (codes "verbose")) { short = Some 118 }
 
 -- an option with one value, `--id` (own profile)
 abbrev pub option : Text → Rule
@@ -51,7 +66,7 @@ workers = record (option (codes "workers")) { required = true; parser = Some (Un
 
 -- `--progress`, also more than once (own profile)
 abbrev pub progress : Rule
-progress = record (new_rule (codes "progress")) { long = Some (codes "progress"); action = Some Count }
+progress = flag (codes "progress")
 
 -- an option with one value, which has this one where it isn't given (own profile)
 abbrev pub option_or : Text → Text → Rule
@@ -73,13 +88,13 @@ sessions = record (option_or (codes "sessions") (codes "0")) { parser = Some (Un
 abbrev pub names : Rule
 names = record (new_rule (codes "name")) { required = true; action = Some Append; value_names = 1 }
 
--- `--format FORM`: text where it isn't given (own profile)
-abbrev pub form : Rule
-form = option_or (codes "format") (codes "text")
+-- `--format FORM`, this one where it isn't given (own profile)
+abbrev pub form : Text → Rule
+form default = option_or (codes "format") default
 
--- `--format FORM` of a report: html where it isn't given (own profile)
-abbrev pub report_form : Rule
-report_form = option_or (codes "format") (codes "html")
+-- `--against OLD`, the file of the configuration that a report is compared with (own profile)
+abbrev pub against : Rule
+against = option (codes "against")
 
 -- the file of labels, which needn't stand there (own profile)
 abbrev pub given_labels : Rule
@@ -87,7 +102,7 @@ given_labels = record (new_rule (codes "labels")) { action = Some Set; value_nam
 
 -- `--all`, also more than once (own profile)
 abbrev pub all : Rule
-all = record (new_rule (codes "all")) { long = Some (codes "all"); action = Some Count }
+all = flag (codes "all")
 
 -- `demo` (own profile)
 abbrev pub demo_app : App
@@ -97,9 +112,9 @@ demo_app = with_rule (new_app (codes "demo")) verbose
 abbrev pub run_app : App
 run_app = with_rule (with_rule (new_app (codes "run")) verbose) config_file
 
--- `edges [--format FORM] CONFIG` (own profile)
+-- `edges [--format FORM] CONFIG`: lines where no form is given (own profile)
 abbrev pub edges_app : App
-edges_app = with_rule (with_rule (new_app (codes "edges")) form) config_file
+edges_app = with_rule (with_rule (new_app (codes "edges")) (form (codes "text"))) config_file
 
 -- `label CONFIG` (own profile)
 abbrev pub label_app : App
@@ -117,9 +132,9 @@ why_app = with_rule (with_rule (with_rule (new_app (codes "why")) config_file) c
 abbrev pub compare_app : App
 compare_app = with_rule (with_rule (new_app (codes "compare")) old_file) new_file
 
--- `report [--format FORM] CONFIG [LABELS]` (own profile)
+-- `report [--format FORM] [--against OLD] CONFIG [LABELS]`: a page where no form is given (own profile)
 abbrev pub report_app : App
-report_app = with_rule (with_rule (with_rule (new_app (codes "report")) report_form) config_file) given_labels
+report_app = with_rule (with_rule (with_rule (with_rule (new_app (codes "report")) (form (codes "html"))) against) config_file) given_labels
 
 -- `quiet CONFIG LABELS CLIENT` (own profile)
 abbrev pub quiet_app : App

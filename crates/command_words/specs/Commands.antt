@@ -14,8 +14,10 @@ use Rattle.command_words.specs.declared.command.EdgesForm.TheVariants as forms
 use Rattle.command_words.specs.declared.command.ReportForm.{ReportForm}
 use Rattle.command_words.specs.declared.command.ReportForm.TheVariants as reports
 
--- what is asked for, with the paths of the files that are named: of edges the form; of a verdict whether all that is refused is told; of ways the client and the cell; of a report the labels, if there are, and the form; of whether lines are noticed the client; of an audit how many workers, which names, and whether it is
--- told how far it is; of a served meter the address, the port and how many connections (own profile)
+-- what is asked for, with the paths of the files that are named: of edges the form; of a verdict whether all that is refused is told; of ways the client
+-- and the cell; of a report the labels and the configuration that it is compared with, where they are given, and the form; of whether lines are noticed
+-- the client; of an audit how many workers, which names, and whether it is told how far it is; of a served meter the address, the port and how many
+-- connections (own profile)
 pub data Asked : Type 0 where
   Demo : Bool → Asked
   Run : List ℕ → Bool → Asked
@@ -24,7 +26,7 @@ pub data Asked : Type 0 where
   Check : List ℕ → List ℕ → Bool → Asked
   Why : List ℕ → List ℕ → List ℕ → Asked
   Compare : List ℕ → List ℕ → Asked
-  Report : List ℕ → Option (List ℕ) → ReportForm → Asked
+  Report : List ℕ → Option (List ℕ) → Option (List ℕ) → ReportForm → Asked
   Quiet : List ℕ → List ℕ → List ℕ → Bool → Asked
   Audit : ℕ → List (List ℕ) → Bool → Asked
   Session : List ℕ → Asked
@@ -41,7 +43,8 @@ asked_by (commands.Label config) = Label config.now
 asked_by (commands.Check config labels tells_all) = Check config.now labels.now tells_all
 asked_by (commands.Why config client cell) = Why config.now client.now cell.now
 asked_by (commands.Compare old new) = Compare old.now new.now
-asked_by (commands.Report config labels form) = Report config.now (option_map (λ text. text.now) labels) form
+asked_by (commands.Report config labels against form) =
+    Report config.now (option_map (λ text. text.now) labels) (option_map (λ text. text.now) against) form
 asked_by (commands.Quiet config labels client is_verbose) = Quiet config.now labels.now client.now is_verbose
 asked_by (commands.Audit workers names tells_progress) =
     Audit (non_zero_usize_get workers) (map (λ name. name.now) names.items) tells_progress
@@ -50,17 +53,13 @@ asked_by (commands.Serve config labels bind port sessions) = Serve config.now la
 asked_by commands.Encode = Encode
 asked_by commands.Decode = Decode
 
--- whether each line is to be told of: -v or --verbose stands there (own profile)
-abbrev pub is_verbose : List Row → Bool
-is_verbose rows = nat_lt 0 (count_of (codes "verbose") rows)
+-- whether an option without a value stands there, once or more (own profile)
+abbrev pub has_flag : Text → List Row → Bool
+has_flag id rows = nat_lt 0 (count_of id rows)
 
 -- a configuration, and whether each line is to be told of (own profile)
 abbrev pub run_in : List Row → Option Asked
-run_in rows = option_map (λ config. Run config (is_verbose rows)) (first_of (codes "config") rows)
-
--- whether all that is refused is to be told: --all stands there (own profile)
-abbrev pub tells_all : List Row → Bool
-tells_all rows = nat_lt 0 (count_of (codes "all") rows)
+run_in rows = option_map (λ config. Run config (has_flag (codes "verbose") rows)) (first_of (codes "config") rows)
 
 -- the form of this name: no other name than `text` and `dot` is let through (own profile)
 abbrev pub form_named : Text → EdgesForm
@@ -74,7 +73,7 @@ edges_in rows =
 -- a configuration and labels, and whether all that is refused is to be told (own profile)
 abbrev pub check_in : List Row → Option Asked
 check_in rows =
-    option_and_then (λ config. option_map (λ labels. Check config labels (tells_all rows)) (first_of (codes "labels") rows)) (first_of (codes "config") rows)
+    option_and_then (λ config. option_map (λ labels. Check config labels (has_flag (codes "all") rows)) (first_of (codes "labels") rows)) (first_of (codes "config") rows)
 
 -- go on with what was found, if anything was
 infixl 10 ◌>>=◌
@@ -100,12 +99,12 @@ compare_in rows = do
 abbrev pub report_form_named : Text → ReportForm
 report_form_named name = if bytes_eq name (codes "csv") then reports.Csv else if bytes_eq name (codes "json") then reports.Json else reports.Html
 
--- a configuration, labels if there are, and the form of a report (own profile)
+-- a configuration, the labels and the configuration that it is compared with, where they are given, and the form of a report (own profile)
 abbrev pub report_in : List Row → Option Asked
 report_in rows = do
   config ← first_of (codes "config") rows
   name ← first_of (codes "format") rows
-  Some (Report config (first_of (codes "labels") rows) (report_form_named name))
+  Some (Report config (first_of (codes "labels") rows) (first_of (codes "against") rows) (report_form_named name))
 
 -- a configuration, labels and a client, and whether each line is to be told of (own profile)
 abbrev pub quiet_in : List Row → Option Asked
@@ -113,7 +112,7 @@ quiet_in rows = do
   config ← first_of (codes "config") rows
   labels ← first_of (codes "labels") rows
   client ← first_of (codes "client") rows
-  Some (Quiet config labels client (is_verbose rows))
+  Some (Quiet config labels client (has_flag (codes "verbose") rows))
 
 -- the number of a text of decimal digits, a plus before them or not, where it is from `least` to `most` (own profile)
 abbrev pub number_in : ℕ → ℕ → Text → Option ℕ
@@ -123,16 +122,12 @@ number_in least most text = if is_unsigned_in least most text then Some (digits_
 abbrev pub workers_in : List Row → Option ℕ
 workers_in rows = one_of (codes "workers") rows >>= number_in 1 18446744073709551615
 
--- whether it is to be told how far an audit is: --progress stands there (own profile)
-abbrev pub tells_progress : List Row → Bool
-tells_progress rows = nat_lt 0 (count_of (codes "progress") rows)
-
 -- how many workers, all names, and whether it is told how far the audit is (own profile)
 abbrev pub audit_in : List Row → Option Asked
 audit_in rows = do
   workers ← workers_in rows
   names ← all_of (codes "name") rows
-  Some (Audit workers names (tells_progress rows))
+  Some (Audit workers names (has_flag (codes "progress") rows))
 
 -- the port, at least 1: the option's rule lets no more than 65535 through (own profile)
 abbrev pub port_in : List Row → Option ℕ
@@ -167,7 +162,7 @@ asked_else p =
 -- a command by its name, and what clap found for it in the words (own profile)
 abbrev pub asked_in : Text × List Row → Option Asked
 asked_in p =
-    if bytes_eq p.0 (codes "demo") then Some (Demo (is_verbose p.1))
+    if bytes_eq p.0 (codes "demo") then Some (Demo (has_flag (codes "verbose") p.1))
     else if bytes_eq p.0 (codes "run") then run_in p.1
     else if bytes_eq p.0 (codes "edges") then edges_in p.1
     else if bytes_eq p.0 (codes "label") then option_map Label (first_of (codes "config") p.1)

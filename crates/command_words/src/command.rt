@@ -61,10 +61,11 @@ pub enum Command<'a> {
         new: &'a str,
     },
     /// To write who may change and who may learn what, in this form, with the verdict on these labels where they are given, and
-    /// else on the least.
+    /// else on the least, and with what has changed against another configuration where that is given.
     Report {
         config: &'a str,
         labels: Option<&'a str>,
+        against: Option<&'a str>,
         form: ReportForm,
     },
     /// To print whether a client could notice each step line, by a configuration whose labels are accepted, and to tell what it could

@@ -85,7 +85,7 @@ fn command_named<'a>(
 {
     Ok(match name {
         "demo" => Some(Command::Demo {
-            is_verbose: is_verbose(found),
+            is_verbose: has_flag(found, "verbose"),
         }),
         "run" => run_in(found),
         "edges" => edges_in(found),
@@ -124,7 +124,7 @@ fn run_in<'a>(found: &ArgMatches<'a>) -> Option<Command<'a>>
     let config = value(found, "config")?;
     Some(Command::Run {
         config,
-        is_verbose: is_verbose(found),
+        is_verbose: has_flag(found, "verbose"),
     })
 }
 
@@ -144,7 +144,7 @@ fn check_in<'a>(found: &ArgMatches<'a>) -> Option<Command<'a>>
     Some(Command::Check {
         config,
         labels,
-        tells_all: tells_all(found),
+        tells_all: has_flag(found, "all"),
     })
 }
 
@@ -174,6 +174,7 @@ fn report_in<'a>(found: &ArgMatches<'a>) -> Option<Command<'a>>
     Some(Command::Report {
         config,
         labels: value(found, "labels"),
+        against: value(found, "against"),
         form,
     })
 }
@@ -188,7 +189,7 @@ fn quiet_in<'a>(found: &ArgMatches<'a>) -> Option<Command<'a>>
         config,
         labels,
         client,
-        is_verbose: is_verbose(found),
+        is_verbose: has_flag(found, "verbose"),
     })
 }
 
@@ -206,7 +207,7 @@ fn audit_in<'a>(alloc: Global, found: &ArgMatches<'a>) -> Result<Option<Command<
     Ok(Some(Command::Audit {
         workers,
         names,
-        tells_progress: tells_progress(found),
+        tells_progress: has_flag(found, "progress"),
     }))
 }
 
@@ -225,18 +226,11 @@ fn serve_in<'a>(found: &ArgMatches<'a>) -> Option<Command<'a>>
     })
 }
 
-/// Whether each line is to be told of.
-fn is_verbose<'a>(found: &ArgMatches<'a>) -> bool
-    ensures { result ≡ spec.is_verbose (rows_of (found_of found.now)) }
+/// Whether an option without a value stands there.
+fn has_flag<'a>(found: &ArgMatches<'a>, id: &str) -> bool
+    ensures { result ≡ spec.has_flag id.now (rows_of (found_of found.now)) }
 {
-    0 < found.get_count("verbose")
-}
-
-/// Whether all that is refused is to be told.
-fn tells_all<'a>(found: &ArgMatches<'a>) -> bool
-    ensures { result ≡ spec.tells_all (rows_of (found_of found.now)) }
-{
-    0 < found.get_count("all")
+    0 < found.get_count(id)
 }
 
 /// The command and the name of a form that it hasn't, where the matches have one.
@@ -286,13 +280,6 @@ fn form_named(name: &str) -> EdgesForm
     } else {
         EdgesForm::Text
     }
-}
-
-/// Whether it is to be told how far an audit is.
-fn tells_progress<'a>(found: &ArgMatches<'a>) -> bool
-    ensures { result ≡ spec.tells_progress (rows_of (found_of found.now)) }
-{
-    0 < found.get_count("progress")
 }
 
 /// The first value of an argument.

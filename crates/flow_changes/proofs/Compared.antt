@@ -1,23 +1,25 @@
 -- Who gains, from a set of clients and from its names.
-use Rattle.std.specs.Prelude.{IfOk, ◌≡◌, ℕ, suc, ◌+◌, ◌-◌, ◌≤◌, ◌==◌, Bool, not, List, [], ◌∷◌, ◌++◌, Option, Some, Result, Ok, Err, filter, flat_map, length, slice_get}
+use Rattle.std.specs.Prelude.{IfOk, ◌≡◌, ℕ, suc, ◌+◌, ◌-◌, ◌≤◌, ◌==◌, Bool, not, List, [], ◌∷◌, ◌++◌, Option, Some, Result, Ok, Err, filter, flat_map, length, map, slice_get}
 use Rattle.std.specs.List.{enumerate_from}
-use Rattle.std.proofs.Common.{refl, sym, ap, subst, ◌∙◌, inl, inr, arith}
+use Rattle.std.proofs.Common.{refl, sym, ap, ap₂, subst, ◌∙◌, inl, inr, arith}
 use Rattle.std.proofs.lemmas.Bool.{ne_eqb}
 use Rattle.meter_theory.specs.Labels.{Policy, has}
 use Rattle.meter_theory.specs.Lists.{IsIn}
 use Rattle.meter_theory.specs.Plan.{Client, Plan}
 use Rattle.cosem_data.specs.declared.clients.ClientSet.{ClientSet}
-use Rattle.flow_changes.specs.Changes.{changes_text, compare_text, first_line, gainers, gains, somebody_gains}
+use Rattle.flow_changes.specs.Changes.{all_kinds, changes_of_kind, compare_text, first_line, gainers, gains, kind_lines, somebody_gains}
 use Rattle.flow_changes.specs.Facts.{Configuration, Numbered, numbered}
 use Rattle.plan_lists.specs.Listing.{AreLeastOf}
 use Rattle.plan_lists.specs.declared.fault.ListFault.{ListFault}
 use Rattle.plan_lists.specs.declared.fault.ListFault.TheVariants as faults
 use Rattle.flow_changes.specs.Sides.{IsSide, configuration_of}
 use Rattle.cosem_data.specs.declared.memory.Memory.{Memory}
+use Rattle.flow_changes.specs.Shown.{kind_shown}
 use Rattle.flow_changes.specs.declared.compare.Comparison.{Comparison}
+use Rattle.flow_changes.specs.declared.compare.KindFacts.{KindFacts}
 use Rattle.flow_changes.specs.Written.{AreCompared, IsComparison, IsConfiguration, WritesComparison, WritesSides}
 use Rattle.flow_changes.specs.declared.side.Side.{Side}
-use Rattle.flow_changes.proofs.Lists.{filter-agree}
+use Rattle.flow_changes.proofs.Lists.{filter-agree, flat_map-of-map}
 use Rattle.flow_changes.proofs.Named.{is-more, names-of, some-named}
 
 is-configuration : (s : Side) (P : Plan) (p : Policy) → IsSide s → s.plan.now ≡ P → s.policy.now ≡ p → IsConfiguration P p (configuration_of s)
@@ -56,8 +58,10 @@ pub somebody-is : (C D : Configuration) (names : List ℕ) → names ≡ flat_ma
 somebody-is C D names is = not-empty names ∙ ap is-more is ∙ sym (some-named (gains C D) (numbered D.plan))
 
 -- both texts are that of the comparison
-pub text-is : (C D : Configuration) (first changed : List ℕ) → first ≡ first_line (gainers C D) → changed ≡ [] ++ changes_text C D → first ++ changed ≡ compare_text C D
-text-is C D first changed e f = ap (λ t. t ++ changed) e ∙ ap (λ t. first_line (gainers C D) ++ t) f
+pub text-is : (C D : Configuration) (first rest : List ℕ) (kinds : List KindFacts) → first ≡ first_line (gainers C D) → rest ≡ flat_map kind_lines (map kind_shown kinds) → map kind_shown kinds ≡ [] ++ map (changes_of_kind C D) all_kinds →
+    first ++ rest ≡ compare_text C D
+text-is C D first rest kinds e f g =
+    ap₂ (λ a b. a ++ b) e (f ∙ ap (flat_map kind_lines) g ∙ flat_map-of-map kind_lines (changes_of_kind C D) all_kinds)
 
 -- the comparison of sides is that of their plans and policies
 pub of-sides : (s t : Side) (P Q : Plan) (p q : Policy) → IsSide s → IsSide t → s.plan.now ≡ P → s.policy.now ≡ p → t.plan.now ≡ Q → t.policy.now ≡ q → (before after : Option (List ℕ)) (r : Result Bool ListFault) →

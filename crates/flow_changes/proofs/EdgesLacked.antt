@@ -1,7 +1,7 @@
 -- Links that have no mark among those of another plan are the edges that it lacks.
-use Rattle.std.specs.Prelude.{◌≡◌, ℕ, ◌==◌, ◌<◌, ◌≤◌, Bool, true, false, not, ◌&&◌, List, [], ◌∷◌, ◌++◌, Option, Some, None, codes, filter, flat_map, get_or, length, map}
+use Rattle.std.specs.Prelude.{◌≡◌, ℕ, ◌==◌, ◌<◌, ◌≤◌, Bool, true, false, not, ◌&&◌, List, [], ◌∷◌, Option, Some, None, filter, get_or, length, map}
 use Rattle.std.specs.List.{list_any, position_from}
-use Rattle.std.proofs.Common.{append_assoc, refl, sym, ap, ap₂, subst, ◌∙◌, ◌⊎◌, inl, inr}
+use Rattle.std.proofs.Common.{refl, sym, ap, ap₂, subst, ◌∙◌, ◌⊎◌, inl, inr}
 use Rattle.std.proofs.lemmas.Bool.{cases_eq, cases_lt, eq-eqb, ne_eqb}
 use Rattle.std.proofs.lemmas.List.{get_or-map, get_or_past, length-map}
 use Rattle.cosem_data.specs.Cells.{same_cell}
@@ -10,17 +10,15 @@ use Rattle.cosem_data.proofs.Same.{same_cell-true, same_cell-refl}
 use Rattle.meter_theory.specs.Edges.{edges, same_cause, same_edge}
 use Rattle.meter_theory.specs.Lists.{IsIn, some_passes}
 use Rattle.meter_theory.specs.Plan.{Plan, cells}
-use Rattle.meter_theory.proofs.Lists.{from_filter}
-use Rattle.value_text.specs.Edges.{cause_word, edge_text}
-use Rattle.value_text.specs.Texts.{cell_text}
 use Rattle.flow_edges.specs.Table.{AreCells, AreWithin, CellEdges, IsLink, cell_at, edge_at, no_cell}
 use Rattle.flow_edges.specs.declared.table.Link.{Link}
 use Rattle.flow_edges.proofs.Sources.{numbered, unnumbered}
 use Rattle.label_certificate.specs.LabelText.{cell_place}
 use Rattle.label_certificate.specs.Least.{AreLinks}
-use Rattle.flow_changes.specs.Lines.{edge_lines}
-use Rattle.flow_changes.specs.Marks.{AreBelow, AreMarks, is_marked, link_lines, link_of, link_text, mark_place, same_link}
-use Rattle.flow_changes.proofs.Lists.{filter-agree, filter-map, flat_map-agree, flat_map-of-map, in-at, list_any-agree, list_any-map, list_any-none}
+use Rattle.flow_changes.specs.Facts.{HasEdge}
+use Rattle.flow_changes.specs.Marks.{AreBelow, AreMarks, is_marked, is_there, link_of, same_link}
+use Rattle.flow_changes.specs.declared.causes.CauseSet.{CauseSet}
+use Rattle.flow_changes.proofs.Lists.{filter-agree, filter-map, map-of-map, in-at, list_any-agree, list_any-map, list_any-none}
 
 inside : (cells : List CellRef) (links : List Link) (l : Link) → AreWithin cells links → IsIn links l → IsLink cells l
 inside cells [] l w i = absurd i
@@ -39,16 +37,10 @@ same-numbers cells are i j p q = at (cases_eq i j)
     at (inl same) = subst (λ k. same_cell (cell_at cells i) (cell_at cells k) ≡ true) same (same_cell-refl (cell_at cells i)) ∙ sym (eq-eqb i j same)
     at (inr other) = apart other (same_cell (cell_at cells i) (cell_at cells j)) refl ∙ sym (ne_eqb i j other)
 
--- the line of a link is that of its edge
-link-line : (cells : List CellRef) (l : Link) → IsLink cells l → link_text (map cell_text cells) l ≡ edge_text (edge_at cells l) ++ 10 ∷ []
-link-line cells l w =
-    ap₂ (λ (s t : List ℕ). (s ++ (codes " -> " ++ (t ++ (codes " " ++ cause_word l.cause)))) ++ 10 ∷ [])
-    (get_or-map cell_text cells l.source no_cell [] w.0) (get_or-map cell_text cells l.target no_cell [] w.1)
-
-module _ (theirs : List CellRef) (are : AreCells theirs) (links : List Link) (within : AreWithin theirs links) (marks : List Bool) (marked : AreMarks (length theirs) links marks) where
+module _ (theirs : List CellRef) (are : AreCells theirs) (links : List Link) (within : AreWithin theirs links) (marks : List CauseSet) (marked : AreMarks (length theirs) links marks) where
   -- an edge between cells that are there has its mark
   there : (l : Link) (x y : CellRef) (s t : ℕ) → (s < length theirs) × (cell_at theirs s ≡ x) → (t < length theirs) × (cell_at theirs t ≡ y) →
-      get_or marks (mark_place (length theirs) (record { source = s; target = t; cause = l.cause })) false ≡ list_any (λ k. same_cause l.cause k.cause && (same_cell x (cell_at theirs k.source) && same_cell y (cell_at theirs k.target))) links
+      is_there (length theirs) marks (record { source = s; target = t; cause = l.cause }) ≡ list_any (λ k. same_cause l.cause k.cause && (same_cell x (cell_at theirs k.source) && same_cell y (cell_at theirs k.target))) links
   there l x y s t p q =
       marked.each (record { source = s; target = t; cause = l.cause }) p.0 q.0
       ∙ list_any-agree (same_link (record { source = s; target = t; cause = l.cause })) (λ k. same_cause l.cause k.cause && (same_cell x (cell_at theirs k.source) && same_cell y (cell_at theirs k.target))) links
@@ -85,7 +77,7 @@ module _ (theirs : List CellRef) (are : AreCells theirs) (links : List Link) (wi
 
   -- what is found of the cells of a link
   looked-up : (l : Link) (x y : CellRef) (o p : Option ℕ) → position_from (same_cell x) 0 theirs ≡ o → position_from (same_cell y) 0 theirs ≡ p →
-      some_passes (λ k. get_or marks (mark_place (length theirs) k) false) (link_of l.cause o p)
+      some_passes (is_there (length theirs) marks) (link_of l.cause o p)
       ≡ list_any (λ k. same_cause l.cause k.cause && (same_cell x (cell_at theirs k.source) && same_cell y (cell_at theirs k.target))) links
   looked-up l x y (Some s) (Some t) e f = there l x y s t (numbered theirs x s e) (numbered theirs y t f)
   looked-up l x y (Some s) None e f = no-target l x y (unnumbered theirs y f)
@@ -101,18 +93,16 @@ module _ (theirs : List CellRef) (are : AreCells theirs) (links : List Link) (wi
         (sym (ap (λ z. get_or z l.target None) found ∙ get_or-map (λ x. position_from (same_cell x) 0 theirs) mine l.target no_cell None w.1))
         ∙ sym (list_any-map (same_edge (edge_at mine l)) (edge_at theirs) links)
 
-    -- and the lines of those without are the lines of the edges that it lacks
-    pub lacked-lines : (head : List ℕ) (ours : List Link) → AreWithin mine ours →
-        link_lines head (map cell_text mine) (filter (λ l. not (is_marked numbers (length theirs) marks l)) ours)
-        ≡ edge_lines head (filter (λ e. not (list_any (same_edge e) (map (edge_at theirs) links))) (map (edge_at mine) ours))
-    lacked-lines head ours inner =
-        flat_map-agree (λ l. head ++ link_text (map cell_text mine) l) (λ l. head ++ (edge_text (edge_at mine l) ++ 10 ∷ [])) (filter (λ l. not (is_marked numbers (length theirs) marks l)) ours)
-        (λ l i. ap (λ t. head ++ t) (link-line mine l (inside mine ours l inner (from_filter (λ l. not (is_marked numbers (length theirs) marks l)) ours l i).0)))
-        ∙ ap (flat_map (λ l. head ++ (edge_text (edge_at mine l) ++ 10 ∷ [])))
+    -- and those without are the edges that it lacks
+    pub lacked-edges : (ours : List Link) → AreWithin mine ours →
+        map (λ l. HasEdge (edge_at mine l)) (filter (λ l. not (is_marked numbers (length theirs) marks l)) ours)
+        ≡ map HasEdge (filter (λ e. not (list_any (same_edge e) (map (edge_at theirs) links))) (map (edge_at mine) ours))
+    lacked-edges ours inner =
+        ap (map (λ l. HasEdge (edge_at mine l)))
         (filter-agree (λ l. not (is_marked numbers (length theirs) marks l)) (λ l. not (list_any (same_edge (edge_at mine l)) (map (edge_at theirs) links))) ours
         (λ l i. ap not (marked-is l (inside mine ours l inner i))))
-        ∙ sym (flat_map-of-map (λ e. head ++ (edge_text e ++ 10 ∷ [])) (edge_at mine) (filter (λ l. not (list_any (same_edge (edge_at mine l)) (map (edge_at theirs) links))) ours))
-        ∙ ap (edge_lines head) (sym (filter-map (λ e. not (list_any (same_edge e) (map (edge_at theirs) links))) (edge_at mine) ours))
+        ∙ sym (map-of-map HasEdge (edge_at mine) (filter (λ l. not (list_any (same_edge (edge_at mine l)) (map (edge_at theirs) links))) ours))
+        ∙ ap (map HasEdge) (sym (filter-map (λ e. not (list_any (same_edge e) (map (edge_at theirs) links))) (edge_at mine) ours))
 
 -- Tables of edges
 
@@ -134,22 +124,12 @@ are-below P mine numbers n found long i k is = at (cases_lt i (length mine))
         none : None ≡ Some k → ⊥
         none e = cc
 
--- the lines of the links of a table that have no mark are those of its edges that another plan lacks
+-- the links of a table that have no mark are its edges that another plan lacks
 pub lacked-of : (P : Plan) (mine other : CellEdges) → other ≡ record { cells = cells P; edges = edges P } → AreCells other.cells → (ours links : List Link) → AreWithin mine.cells ours → map (edge_at mine.cells) ours ≡ mine.edges →
-    AreWithin other.cells links → map (edge_at other.cells) links ≡ other.edges → (n m : ℕ) → n ≡ length other.cells → m ≡ length other.cells → (marks : List Bool) → AreMarks m links marks →
-    (numbers : List (Option ℕ)) → numbers ≡ map (cell_place P) mine.cells → (texts : List (List ℕ)) → texts ≡ map cell_text mine.cells → (head : List ℕ) →
-    link_lines head texts (filter (λ l. not (is_marked numbers n marks l)) ours) ≡ edge_lines head (filter (λ e. not (list_any (same_edge e) (edges P))) mine.edges)
-lacked-of P mine other of_plan are ours links inner our_edges within their_edges n m long count marks marked numbers found texts told head =
-    ap₂ (λ t k. link_lines head t (filter (λ l. not (is_marked numbers k marks l)) ours)) told long
-    ∙ lacked-lines other.cells are links within marks (subst (λ k. AreMarks k links marks) count marked) mine.cells numbers (found ∙ ap (λ t. map (λ x. position_from (same_cell x) 0 t.cells) mine.cells) (sym of_plan)) head ours inner
-    ∙ ap₂ (λ es fs. edge_lines head (filter (λ e. not (list_any (same_edge e) es)) fs)) (their_edges ∙ ap (λ t. t.edges) of_plan) our_edges
-
--- The line of a link, piece by piece
-pub link-put : (t₀ t₁ t₂ t₃ t₄ t₅ t₆ t₇ h s t w : List ℕ) → t₁ ≡ t₀ ++ h → t₂ ≡ t₁ ++ s → t₃ ≡ t₂ ++ codes " -> " → t₄ ≡ t₃ ++ t → t₅ ≡ t₄ ++ codes " " → t₆ ≡ t₅ ++ w → t₇ ≡ t₆ ++ 10 ∷ [] →
-    t₇ ≡ t₀ ++ (h ++ ((s ++ (codes " -> " ++ (t ++ (codes " " ++ w)))) ++ 10 ∷ []))
-link-put t₀ t₁ t₂ t₃ t₄ t₅ t₆ t₇ h s t w a b c d e f g =
-    g ∙ ap (λ z. z ++ 10 ∷ []) (f ∙ ap (λ z. z ++ w) (e ∙ ap (λ z. z ++ codes " ") (d ∙ ap (λ z. z ++ t) (c ∙ ap (λ z. z ++ codes " -> ") (b ∙ ap (λ z. z ++ s) a)))))
-    ∙ joined t₀ h s (codes " -> ") t (codes " ") w
-  where
-    joined : (t₀ h s i t j w : List ℕ) → ((((((t₀ ++ h) ++ s) ++ i) ++ t) ++ j) ++ w) ++ 10 ∷ [] ≡ t₀ ++ (h ++ ((s ++ (i ++ (t ++ (j ++ w)))) ++ 10 ∷ []))
-    joined t₀ h s i t j w = simp append_assoc
+    AreWithin other.cells links → map (edge_at other.cells) links ≡ other.edges → (n : ℕ) → n ≡ length other.cells → (marks : List CauseSet) → AreMarks n links marks →
+    (numbers : List (Option ℕ)) → numbers ≡ map (cell_place P) mine.cells → (cs : List CellRef) → cs ≡ mine.cells →
+    map (λ l. HasEdge (edge_at cs l)) (filter (λ l. not (is_marked numbers n marks l)) ours) ≡ map HasEdge (filter (λ e. not (list_any (same_edge e) (edges P))) mine.edges)
+lacked-of P mine other of_plan are ours links inner our_edges within their_edges n long marks marked numbers found cs ours_are =
+    ap₂ (λ xs k. map (λ l. HasEdge (edge_at xs l)) (filter (λ l. not (is_marked numbers k marks l)) ours)) ours_are long
+    ∙ lacked-edges other.cells are links within marks (subst (λ k. AreMarks k links marks) long marked) mine.cells numbers (found ∙ ap (λ t. map (λ x. position_from (same_cell x) 0 t.cells) mine.cells) (sym of_plan)) ours inner
+    ∙ ap₂ (λ es fs. map HasEdge (filter (λ e. not (list_any (same_edge e) es)) fs)) (their_edges ∙ ap (λ t. t.edges) of_plan) our_edges

@@ -14,8 +14,8 @@ use Rattle.meter_theory.specs.declared.flow.Edge.{Edge}
 use Rattle.meter_theory.proofs.Lists.{any_in, from_filter, in_any, in_filter}
 use Rattle.flow_changes.specs.Changes.{gained, lacks}
 use Rattle.flow_changes.specs.Facts.{Configuration, Fact, HasCell, HasEdge, HasSap, Holds, IsOpen, Reaches, Views, among, facts, same_access, same_fact, same_reach}
-use Rattle.flow_changes.specs.declared.kind.Access.{Access}
-use Rattle.flow_changes.specs.declared.kind.Access.TheVariants as accesses
+use Rattle.flow_ways.specs.declared.access.Access.{Access}
+use Rattle.flow_ways.specs.declared.access.Access.TheVariants as accesses
 use Rattle.flow_changes.specs.declared.kind.Kind.{Kind}
 use Rattle.meter_theory.specs.declared.flow.Reach.{Reach}
 use Rattle.meter_theory.specs.declared.flow.Reach.TheVariants as reaches

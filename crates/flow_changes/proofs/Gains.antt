@@ -1,10 +1,9 @@
--- Which clients gain, and the lines of all facts of a kind.
+-- Which clients gain, and all facts of a kind.
 use Rattle.std.specs.Prelude.{◌≡◌, ℕ, ◌+◌, ◌<◌, ◌≤◌, ◌==◌, Bool, true, false, not, ◌||◌, List, [], ◌∷◌, ◌++◌, Some, None, filter, flat_map, get_or, length, map, slice_get, take}
-use Rattle.std.specs.List.{join_with_byte, list_any}
-use Rattle.std.proofs.Common.{◌⊎◌, refl, sym, ap, ap₂, ◌∙◌, append_assoc, arith, inl, inr}
+use Rattle.std.specs.List.{list_any}
+use Rattle.std.proofs.Common.{◌⊎◌, Global, Vec, refl, sym, ap, ap₂, ◌∙◌, arith, inl, inr, vec_len}
 use Rattle.std.proofs.lemmas.Bool.{eq-eqb, ne_eqb}
-use Rattle.std.proofs.lemmas.List.{append-nil, length-append, take_more}
-use Rattle.std.proofs.lemmas.List.Concat.{flat_map-append}
+use Rattle.std.proofs.lemmas.List.{length-append, length-map}
 use Rattle.std.proofs.lemmas.List.Elements.{filter-append}
 use Rattle.std.proofs.lemmas.List.Folds.{list_any_more}
 use Rattle.std.proofs.lemmas.Option.{slice_get_within, slice_get_cases}
@@ -14,44 +13,23 @@ use Rattle.meter_theory.specs.Edges.{edges, same_edge}
 use Rattle.meter_theory.specs.Labels.{has}
 use Rattle.meter_theory.specs.Plan.{Client, Plan, cells, is_cell}
 use Rattle.meter_theory.specs.declared.flow.Edge.{Edge}
-use Rattle.flow_changes.specs.Changes.{all_kinds, change_sign, kind_word, gained, gains, lacks, line, lines}
-use Rattle.flow_changes.specs.Facts.{Configuration, Fact, HasCell, HasEdge, Numbered, among, common_facts, fact_text, facts, numbered, own_facts, same_fact}
-use Rattle.flow_changes.specs.Lines.{cell_lines, edge_lines, head_of}
-use Rattle.flow_changes.specs.declared.kind.Change.{Change}
-use Rattle.flow_changes.specs.declared.kind.Change.TheVariants as changes
+use Rattle.flow_changes.specs.Changes.{KindShown, all_kinds, changes_of_kind, gained, gains, lacks}
+use Rattle.flow_changes.specs.Facts.{Configuration, Fact, HasCell, HasEdge, Numbered, among, common_facts, facts, numbered, own_facts, same_fact}
+use Rattle.flow_changes.specs.Shown.{kind_shown, shown}
+use Rattle.flow_changes.specs.declared.compare.KindFacts.{KindFacts}
+use Rattle.flow_changes.specs.declared.fact.Fact.{Fact as FactKept}
 use Rattle.flow_changes.specs.declared.kind.Kind.{Kind}
 use Rattle.flow_changes.specs.declared.kind.Kind.TheVariants as kinds
-use Rattle.flow_changes.proofs.Heads.{of-cells, of-edges}
-use Rattle.flow_changes.proofs.Lists.{any-of-filter, filter-agree, filter-flat_map, filter-map, list_any-map}
+use Rattle.flow_changes.proofs.Lists.{any-of-filter, filter-agree, filter-flat_map, filter-map, list_any-map, seen-more}
 
--- a line has a byte
-line-some : (change : Change) (kind : Kind) (f : Fact) → 0 < length (line change kind f)
-line-some change kind f = ends (join_with_byte 32 (change_sign change ∷ kind_word kind ∷ fact_text f ∷ []))
-  where
-    ends : (text : List ℕ) → 0 < length (text ++ 10 ∷ [])
-    ends text = omega (arith, length-append text (10 ∷ []))
-
-lines-some : (change : Change) (kind : Kind) (fs : List Fact) → 0 < length fs → 0 < length (lines change kind fs)
-lines-some change kind [] h = absurd (omega arith)
-lines-some change kind (f ∷ fs) h = omega (arith, line-some change kind f, length-append (line change kind f) (lines change kind fs))
-
--- a text grows by the lines of facts where there are some
-pub grows : (change : Change) (kind : Kind) (p : Fact → Bool) (fs : List Fact) (old new : List ℕ) → new ≡ old ++ lines change kind (filter p fs) →
-    (length old < length new → list_any p fs ≡ true) × (length new ≤ length old → list_any p fs ≡ false)
-grows change kind p fs old new e = at (filter p fs) refl
-  where
-    long : length new ≡ length old + length (lines change kind (filter p fs))
-    long = ap length e ∙ length-append old (lines change kind (filter p fs))
-
-    at : (left : List Fact) → filter p fs ≡ left → (length old < length new → list_any p fs ≡ true) × (length new ≤ length old → list_any p fs ≡ false)
-    at [] is =
-        let none : length (filter p fs) ≡ 0 = ap length is in
-        let same : length (lines change kind (filter p fs)) ≡ 0 = ap (λ l. length (lines change kind l)) is in
-        (λ h. absurd (omega (arith, h, long, same)), λ h. (any-of-filter p fs).1 none)
-    at (f ∷ left) is =
-        let one : length (filter p fs) ≡ length (f ∷ left) = ap length is in
-        let some : 0 < length (filter p fs) = omega (arith, one) in
-        (λ h. (any-of-filter p fs).0 some, λ h. absurd (omega (arith, h, long, lines-some change kind (filter p fs) some)))
+-- facts grow by what a filter leaves where something passes
+pub grows : (p : Fact → Bool) (fs : List Fact) (old new : Vec FactKept Global) → map shown new.items ≡ map shown old.items ++ filter p fs →
+    (vec_len old < vec_len new → list_any p fs ≡ true) × (vec_len new ≤ vec_len old → list_any p fs ≡ false)
+grows p fs old new e =
+    let before : length (map shown old.items) ≡ vec_len old = omega (arith, old.ok, length-map old.items shown) in
+    let after : length (map shown new.items) ≡ vec_len new = omega (arith, new.ok, length-map new.items shown) in
+    let long : vec_len new ≡ vec_len old + length (filter p fs) = sym after ∙ ap length e ∙ length-append (map shown old.items) (filter p fs) ∙ ap (λ n. n + length (filter p fs)) before in
+    (λ h. (any-of-filter p fs).0 (omega (arith, h, long)), λ h. (any-of-filter p fs).1 (omega (arith, h, long)))
 
 -- Owners
 
@@ -108,28 +86,19 @@ all-told P p place owners o end c client there = o.told c client there (below (s
     below (inl s) = let there = s.2 in absurd cc
     below (inr past) = omega (arith, past.0, low)
 
--- Lines of all clients
+-- Facts of all clients
 
--- the lines of one client's own facts that the other lacks
-abbrev pub lines_of : Change → Configuration → Configuration → Kind → Numbered → List ℕ
-lines_of change C D kind n = lines change kind (filter (lacks D C kind) (own_facts C D kind n))
+-- one client's own facts that the other lacks
+abbrev pub lacked_of : Configuration → Configuration → Kind → Numbered → List Fact
+lacked_of C D kind n = filter (lacks D C kind) (own_facts C D kind n)
 
-lines-of-lists : {A : Type 0} (change : Change) (kind : Kind) (f : A → List Fact) (xs : List A) → lines change kind (flat_map f xs) ≡ flat_map (λ x. lines change kind (f x)) xs
-lines-of-lists change kind f [] = refl
-lines-of-lists change kind f (x ∷ xs) = flat_map-append (line change kind) (f x) (flat_map f xs) ∙ ap (λ t. lines change kind (f x) ++ t) (lines-of-lists change kind f xs)
-
-pub all-own : (change : Change) (C D : Configuration) (kind : Kind) → flat_map (lines_of change C D kind) (numbered C.plan) ≡ lines change kind (filter (lacks D C kind) (flat_map (own_facts C D kind) (numbered C.plan)))
-all-own change C D kind =
-    sym (lines-of-lists change kind (λ n. filter (lacks D C kind) (own_facts C D kind n)) (numbered C.plan))
-    ∙ ap (lines change kind) (sym (filter-flat_map (lacks D C kind) (own_facts C D kind) (numbered C.plan)))
+pub all-own : (C D : Configuration) (kind : Kind) → flat_map (lacked_of C D kind) (numbered C.plan) ≡ filter (lacks D C kind) (flat_map (own_facts C D kind) (numbered C.plan))
+all-own C D kind = sym (filter-flat_map (lacks D C kind) (own_facts C D kind) (numbered C.plan))
 
 -- own facts and then the common ones are all that are gained
-pub gained-lines : (change : Change) (C D : Configuration) (kind : Kind) →
-    lines change kind (filter (lacks D C kind) (flat_map (own_facts C D kind) (numbered C.plan))) ++ lines change kind (filter (lacks D C kind) (common_facts C kind)) ≡ lines change kind (gained D C kind)
+pub gained-facts : (C D : Configuration) (kind : Kind) → filter (lacks D C kind) (flat_map (own_facts C D kind) (numbered C.plan)) ++ filter (lacks D C kind) (common_facts C kind) ≡ gained D C kind
 unfolding gained facts
-gained-lines change C D kind =
-    sym (ap (lines change kind) (filter-append (lacks D C kind) (flat_map (own_facts C D kind) (numbered C.plan)) (common_facts C kind))
-    ∙ flat_map-append (line change kind) (filter (lacks D C kind) (flat_map (own_facts C D kind) (numbered C.plan))) (filter (lacks D C kind) (common_facts C kind)))
+gained-facts C D kind = sym (filter-append (lacks D C kind) (flat_map (own_facts C D kind) (numbered C.plan)) (common_facts C kind))
 
 -- Common facts
 
@@ -145,39 +114,26 @@ among-edges : (C D : Configuration) (e : Edge) → among (facts D C kinds.Edge) 
 unfolding facts
 among-edges C D e = ap (λ fs. list_any (same_fact (HasEdge e)) (fs ++ map HasEdge (edges D.plan))) (no-own (numbered D.plan)) ∙ list_any-map (same_fact (HasEdge e)) HasEdge (edges D.plan)
 
--- the lines of cells that the other lacks
-pub cells-lines : (change : Change) (C D : Configuration) → lines change kinds.Cell (filter (lacks D C kinds.Cell) (common_facts C kinds.Cell)) ≡ cell_lines (head_of change kinds.Cell) (filter (λ x. not (is_cell D.plan x)) (cells C.plan))
-cells-lines change C D =
-    ap (lines change kinds.Cell) (filter-map (lacks D C kinds.Cell) HasCell (cells C.plan)
-    ∙ ap (map HasCell) (filter-agree (λ x. lacks D C kinds.Cell (HasCell x)) (λ x. not (is_cell D.plan x)) (cells C.plan) (λ x i. ap not (among-cells C D x))))
-    ∙ of-cells change kinds.Cell (filter (λ x. not (is_cell D.plan x)) (cells C.plan))
+-- the cells that the other lacks
+pub cells-lacked : (C D : Configuration) → filter (lacks D C kinds.Cell) (common_facts C kinds.Cell) ≡ map HasCell (filter (λ x. not (is_cell D.plan x)) (cells C.plan))
+cells-lacked C D =
+    filter-map (lacks D C kinds.Cell) HasCell (cells C.plan)
+    ∙ ap (map HasCell) (filter-agree (λ x. lacks D C kinds.Cell (HasCell x)) (λ x. not (is_cell D.plan x)) (cells C.plan) (λ x i. ap not (among-cells C D x)))
 
--- and of edges
-pub edges-lines : (change : Change) (C D : Configuration) → lines change kinds.Edge (filter (lacks D C kinds.Edge) (common_facts C kinds.Edge)) ≡ edge_lines (head_of change kinds.Edge) (filter (λ e. not (list_any (same_edge e) (edges D.plan))) (edges C.plan))
-edges-lines change C D =
-    ap (lines change kinds.Edge) (filter-map (lacks D C kinds.Edge) HasEdge (edges C.plan)
-    ∙ ap (map HasEdge) (filter-agree (λ e. lacks D C kinds.Edge (HasEdge e)) (λ e. not (list_any (same_edge e) (edges D.plan))) (edges C.plan) (λ e i. ap not (among-edges C D e))))
-    ∙ of-edges change kinds.Edge (filter (λ e. not (list_any (same_edge e) (edges D.plan))) (edges C.plan))
+-- and the edges
+pub edges-lacked : (C D : Configuration) → filter (lacks D C kinds.Edge) (common_facts C kinds.Edge) ≡ map HasEdge (filter (λ e. not (list_any (same_edge e) (edges D.plan))) (edges C.plan))
+edges-lacked C D =
+    filter-map (lacks D C kinds.Edge) HasEdge (edges C.plan)
+    ∙ ap (map HasEdge) (filter-agree (λ e. lacks D C kinds.Edge (HasEdge e)) (λ e. not (list_any (same_edge e) (edges D.plan))) (edges C.plan) (λ e i. ap not (among-edges C D e)))
 
 -- Kinds, one by one
 
--- what is told of a kind
-abbrev pub told_of : Configuration → Configuration → Kind → List ℕ
-told_of old new kind = lines changes.Gained kind (gained old new kind) ++ lines changes.Lost kind (gained new old kind)
-
 -- one kind more
-pub kind-more : (old new : Configuration) (all : List Kind) (i : ℕ) (d : Kind) (text one two before : List ℕ) → i < length all → text ≡ before ++ flat_map (told_of old new) (take i all) →
-    one ≡ text ++ lines changes.Gained (get_or all i d) (gained old new (get_or all i d)) → two ≡ one ++ lines changes.Lost (get_or all i d) (gained new old (get_or all i d)) →
-    two ≡ before ++ flat_map (told_of old new) (take (i + 1) all)
-kind-more old new all i d text one two before within so_far first second =
-    let kind = get_or all i d in
-    second ∙ ap (λ t. t ++ lines changes.Lost kind (gained new old kind)) (first ∙ ap (λ t. t ++ lines changes.Gained kind (gained old new kind)) so_far)
-    ∙ append_assoc (before ++ flat_map (told_of old new) (take i all)) (lines changes.Gained kind (gained old new kind)) (lines changes.Lost kind (gained new old kind))
-    ∙ append_assoc before (flat_map (told_of old new) (take i all)) (told_of old new kind)
-    ∙ ap (λ t. before ++ t)
-    (ap (λ t. flat_map (told_of old new) (take i all) ++ t) (sym (append-nil (told_of old new kind)))
-    ∙ sym (flat_map-append (told_of old new) (take i all) (kind ∷ []))
-    ∙ ap (flat_map (told_of old new)) (sym (take_more all i d within)))
+pub kind-more : (old new : Configuration) (all : List Kind) (i : ℕ) (d : Kind) (start : List KindShown) (before after : List KindFacts) (told : KindFacts) → i < length all → map kind_shown before ≡ start ++ map (changes_of_kind old new) (take i all) →
+    told.kind ≡ get_or all i d → map shown told.gained.items ≡ gained old new (get_or all i d) → map shown told.lost.items ≡ gained new old (get_or all i d) → after ≡ before ++ told ∷ [] →
+    map kind_shown after ≡ start ++ map (changes_of_kind old new) (take (i + 1) all)
+kind-more old new all i d start before after told within so_far kind gain lose pushed =
+    seen-more kind_shown (changes_of_kind old new) all i d start before after told within so_far (λ j. record { kind = kind j; gained = gain j; lost = lose j }) pushed
 
 -- whether one of these kinds has a fact of the client that it gains
 abbrev pub gains_by : Configuration → Configuration → List Kind → Numbered → Bool

@@ -2,9 +2,7 @@ pub mod Lists
 pub mod Once
 pub mod Told
 pub mod RightsTold
-pub mod Heads
-pub mod OwnLines
-pub mod MarkedLines
+pub mod OwnFacts
 pub mod MarkPlaces
 pub mod EdgesLacked
 pub mod Labelled
@@ -13,6 +11,6 @@ pub mod Gains
 pub mod Promises
 pub mod Exact
 pub mod EachOnce
-pub mod RightLines
+pub mod RightsHeld
 pub mod Compared
 mod ReachDifferences

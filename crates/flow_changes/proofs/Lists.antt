@@ -1,9 +1,8 @@
--- Tests, filters and texts of lists that are made of others.
+-- Tests and filters of lists that are made of others.
 use Rattle.std.specs.Prelude.{◌≡◌, ℕ, zero, suc, ◌+◌, ◌<◌, Bool, true, false, ◌&&◌, ◌||◌, cond, List, [], ◌∷◌, ◌++◌, filter, flat_map, get_or, length, map, take}
 use Rattle.std.specs.List.{list_any}
 use Rattle.std.proofs.Common.{refl, sym, ap, ap₂, ◌∙◌, append_assoc, arith, inl, inr}
-use Rattle.std.proofs.lemmas.List.{append-nil, map_more, map_push}
-use Rattle.std.proofs.lemmas.List.Concat.{flat_map-append}
+use Rattle.std.proofs.lemmas.List.{append-nil, map-append, map_more, map_push}
 use Rattle.std.proofs.lemmas.List.Elements.{filter-append, filter_more}
 use Rattle.std.proofs.lemmas.List.Folds.{list_any-append}
 use Rattle.meter_theory.specs.Lists.{IsIn}
@@ -46,23 +45,25 @@ map-of-map g f (x ∷ xs) = ap (λ ys. g (f x) ∷ ys) (map-of-map g f xs)
 pub map-more : {A B : Type 0} (f : A → B) (xs : List A) (i : ℕ) (d : A) (before new : List B) (y : B) → i < length xs → before ≡ map f (take i xs) → y ≡ f (get_or xs i d) → new ≡ before ++ y ∷ [] → new ≡ map f (take (i + 1) xs)
 map-more f xs i d before new y less so_far is pushed = pushed ∙ ap₂ (λ ys z. ys ++ z ∷ []) so_far is ∙ sym (map_more f xs i d less)
 
--- the same where elements are seen as something else
-pub seen-more : {A B C : Type 0} (g : C → B) (f : A → B) (xs : List A) (i : ℕ) (d : A) (before new : List C) (y : C) → i < length xs → map g before ≡ map f (take i xs) → g y ≡ f (get_or xs i d) → new ≡ before ++ y ∷ [] →
-    map g new ≡ map f (take (i + 1) xs)
-seen-more g f xs i d before new y less so_far is pushed = ap (map g) pushed ∙ map_push g before y ∙ ap₂ (λ ys z. ys ++ z ∷ []) so_far is ∙ sym (map_more f xs i d less)
+-- the same behind others, where elements are seen as something else
+pub seen-more : {A B C : Type 0} (g : C → B) (f : A → B) (xs : List A) (i : ℕ) (d : A) (start : List B) (before new : List C) (y : C) → i < length xs → map g before ≡ start ++ map f (take i xs) → g y ≡ f (get_or xs i d) → new ≡ before ++ y ∷ [] →
+    map g new ≡ start ++ map f (take (i + 1) xs)
+seen-more g f xs i d start before new y less so_far is pushed =
+    ap (map g) pushed ∙ map_push g before y ∙ ap₂ (λ ys z. ys ++ z ∷ []) so_far is ∙ append_assoc start (map f (take i xs)) (f (get_or xs i d) ∷ []) ∙ ap (λ ys. start ++ ys) (sym (map_more f xs i d less))
 
--- lines of what a filter leaves, one element more
-pub kept-more : {A : Type 0} (line : A → List ℕ) (p : A → Bool) (xs : List A) (i : ℕ) (d : A) (start before : List ℕ) → i < length xs → before ≡ start ++ flat_map line (filter p (take i xs)) → p (get_or xs i d) ≡ false → before ≡ start ++ flat_map line (filter p (take (i + 1) xs))
-kept-more line p xs i d start before less so_far fails =
-    so_far ∙ ap (λ ys. start ++ flat_map line ys) (sym (filter_more p xs i d less ∙ ap (λ b. filter p (take i xs) ++ cond b (get_or xs i d ∷ []) []) fails ∙ append-nil (filter p (take i xs))))
+-- and of what a filter leaves: an element that fails, and one that passes
+pub kept-more : {A B C : Type 0} (g : C → B) (f : A → B) (p : A → Bool) (xs : List A) (i : ℕ) (d : A) (start : List B) (before : List C) → i < length xs → map g before ≡ start ++ map f (filter p (take i xs)) → p (get_or xs i d) ≡ false →
+    map g before ≡ start ++ map f (filter p (take (i + 1) xs))
+kept-more g f p xs i d start before less so_far fails =
+    so_far ∙ ap (λ ys. start ++ map f ys) (sym (filter_more p xs i d less ∙ ap (λ b. filter p (take i xs) ++ cond b (get_or xs i d ∷ []) []) fails ∙ append-nil (filter p (take i xs))))
 
-pub put-more : {A : Type 0} (line : A → List ℕ) (p : A → Bool) (xs : List A) (i : ℕ) (d : A) (start before new : List ℕ) → i < length xs → before ≡ start ++ flat_map line (filter p (take i xs)) → p (get_or xs i d) ≡ true → new ≡ before ++ line (get_or xs i d) →
-    new ≡ start ++ flat_map line (filter p (take (i + 1) xs))
-put-more line p xs i d start before new less so_far passes put =
-    put ∙ ap (λ t. t ++ line (get_or xs i d)) so_far ∙ append_assoc start (flat_map line (filter p (take i xs))) (line (get_or xs i d))
-    ∙ ap (λ t. start ++ (flat_map line (filter p (take i xs)) ++ t)) (sym (append-nil (line (get_or xs i d))))
-    ∙ ap (λ t. start ++ t) (sym (flat_map-append line (filter p (take i xs)) (get_or xs i d ∷ [])))
-    ∙ ap (λ ys. start ++ flat_map line ys) (sym (filter_more p xs i d less ∙ ap (λ b. filter p (take i xs) ++ cond b (get_or xs i d ∷ []) []) passes))
+pub put-more : {A B C : Type 0} (g : C → B) (f : A → B) (p : A → Bool) (xs : List A) (i : ℕ) (d : A) (start : List B) (before new : List C) (y : C) → i < length xs → map g before ≡ start ++ map f (filter p (take i xs)) → p (get_or xs i d) ≡ true → g y ≡ f (get_or xs i d) → new ≡ before ++ y ∷ [] →
+    map g new ≡ start ++ map f (filter p (take (i + 1) xs))
+put-more g f p xs i d start before new y less so_far passes is pushed =
+    ap (map g) pushed ∙ map_push g before y ∙ ap₂ (λ ys z. ys ++ z ∷ []) so_far is
+    ∙ append_assoc start (map f (filter p (take i xs))) (f (get_or xs i d) ∷ [])
+    ∙ ap (λ ys. start ++ ys) (sym (map-append f (filter p (take i xs)) (get_or xs i d ∷ [])))
+    ∙ ap (λ ys. start ++ map f ys) (sym (filter_more p xs i d less ∙ ap (λ b. filter p (take i xs) ++ cond b (get_or xs i d ∷ []) []) passes))
 
 pub filter-map : {A B : Type 0} (p : B → Bool) (f : A → B) (xs : List A) → filter p (map f xs) ≡ map f (filter (λ x. p (f x)) xs)
 filter-map p f [] = refl

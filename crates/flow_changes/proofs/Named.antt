@@ -1,5 +1,5 @@
 -- Names of clients between commas, and clients one by one.
-use Rattle.std.specs.Prelude.{◌≡◌, ℕ, suc, ◌+◌, ◌-◌, ◌≤◌, Bool, true, false, ◌||◌, cond, List, [], ◌∷◌, ◌++◌, Some, None, codes, drop, filter, flat_map, length, map, slice_get, take}
+use Rattle.std.specs.Prelude.{◌≡◌, ℕ, suc, ◌+◌, ◌-◌, ◌≤◌, Bool, true, false, ◌||◌, cond, List, [], ◌∷◌, ◌++◌, Some, None, drop, filter, flat_map, length, map, slice_get, take}
 use Rattle.std.specs.List.{enumerate_from, join_with_byte, list_any}
 use Rattle.std.proofs.Common.{refl, sym, ap, ap₂, ◌∙◌, append_assoc, arith, inl, inr}
 use Rattle.std.proofs.Math.Seq.{drop-cons}
@@ -28,20 +28,20 @@ numbered-end P place e =
       | inr past ↦ ap (enumerate_from place) (drop_all place P.clients past.0)
     ]
 
--- texts of clients, one by one
+-- lists of clients, one by one
 
--- one client's text is put behind others
-pub text-more : (P : Plan) (f : Numbered → List ℕ) (place : ℕ) (client : Client) (text new all : List ℕ) → slice_get P.clients place ≡ Some client →
-    new ≡ text ++ f (place, client) → text ++ flat_map f (numbered_from P place) ≡ all → new ++ flat_map f (numbered_from P (place + 1)) ≡ all
-text-more P f place client text new all there put so_far =
+-- one client's list is put behind others
+pub client-more : {A : Type 0} (P : Plan) (f : Numbered → List A) (place : ℕ) (client : Client) (before new all : List A) → slice_get P.clients place ≡ Some client →
+    new ≡ before ++ f (place, client) → before ++ flat_map f (numbered_from P place) ≡ all → new ++ flat_map f (numbered_from P (place + 1)) ≡ all
+client-more P f place client before new all there put so_far =
     ap (λ t. t ++ flat_map f (numbered_from P (place + 1))) put
-    ∙ append_assoc text (f (place, client)) (flat_map f (numbered_from P (place + 1)))
-    ∙ ap (λ ns. text ++ flat_map f ns) (sym (numbered-more P place client there))
+    ∙ append_assoc before (f (place, client)) (flat_map f (numbered_from P (place + 1)))
+    ∙ ap (λ ns. before ++ flat_map f ns) (sym (numbered-more P place client there))
     ∙ so_far
 
 -- and none is left
-pub text-end : (P : Plan) (f : Numbered → List ℕ) (place : ℕ) (text all : List ℕ) → slice_get P.clients place ≡ None → text ++ flat_map f (numbered_from P place) ≡ all → text ≡ all
-text-end P f place text all none so_far = sym (append-nil text) ∙ ap (λ ns. text ++ flat_map f ns) (sym (numbered-end P place none)) ∙ so_far
+pub client-end : {A : Type 0} (P : Plan) (f : Numbered → List A) (place : ℕ) (before all : List A) → slice_get P.clients place ≡ None → before ++ flat_map f (numbered_from P place) ≡ all → before ≡ all
+client-end P f place before all none so_far = sym (append-nil before) ∙ ap (λ ns. before ++ flat_map f ns) (sym (numbered-end P place none)) ∙ so_far
 
 -- The first line
 
@@ -50,12 +50,7 @@ joined-is : (name : List ℕ) (names : List (List ℕ)) → join_with_byte 44 (n
 joined-is name [] = sym (append-nil name)
 joined-is name (next ∷ names) = ap (λ t. name ++ 44 ∷ t) (joined-is next names)
 
--- without names nobody gains
-pub nobody-listed : (names : List (List ℕ)) → flat_map (λ n. 44 ∷ n) names ≡ [] → codes "nobody" ≡ names_or_nobody names
-nobody-listed [] e = refl
-nobody-listed (name ∷ names) e = cc
-
--- else they stand there without the first comma
+-- they stand there without the first comma
 pub names-listed : (names : List (List ℕ)) (comma : ℕ) (listed : List ℕ) → flat_map (λ n. 44 ∷ n) names ≡ comma ∷ listed → listed ≡ names_or_nobody names
 names-listed [] comma listed e = cc
 names-listed (name ∷ names) comma listed e =

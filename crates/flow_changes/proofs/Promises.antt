@@ -20,13 +20,13 @@ use Rattle.flow_changes.specs.Changes.{all_kinds, gains, lacks}
 use Rattle.flow_changes.specs.Facts.{Configuration, Fact, HasSap, Holds, IsOpen, Numbered, Reaches, Views, among, facts, is_granted, is_reached, members_for, numbered, own_facts, reached, rights_on, same_fact, shared_policy, told_of_client}
 use Rattle.meter_theory.specs.Ways.{set_for}
 use Rattle.flow_changes.specs.Promises.{HasReach, IsNamed, LiesWithin, NamedHolds, NamedLabelling, NamedReaches, NamedSees, NobodyGains, least, policy_of}
-use Rattle.flow_changes.specs.declared.kind.Access.{Access}
-use Rattle.flow_changes.specs.declared.kind.Access.TheVariants as accesses
+use Rattle.flow_ways.specs.declared.access.Access.{Access}
+use Rattle.flow_ways.specs.declared.access.Access.TheVariants as accesses
 use Rattle.flow_changes.specs.declared.kind.Kind.{Kind}
 use Rattle.flow_changes.specs.declared.kind.Kind.TheVariants as kinds
 use Rattle.meter_theory.specs.declared.flow.Reach.{Reach}
 use Rattle.meter_theory.specs.declared.flow.Reach.TheVariants as reaches
-use Rattle.flow_changes.proofs.OwnLines.{allowed-facts, client-facts, may-facts, right-facts}
+use Rattle.flow_changes.proofs.OwnFacts.{allowed-facts, client-facts, may-facts, right-facts}
 use Rattle.flow_changes.proofs.RightsTold.{among-held, among-seen}
 use Rattle.flow_changes.proofs.Told.{among-open, among-own, among-reached, among-sap}
 

@@ -23,6 +23,15 @@ gained old new kind = filter (lacks old new kind) (facts new old kind)
 abbrev pub lost : (old new : Configuration) → Kind → List Fact
 lost old new kind = gained new old kind
 
+-- what is gained and lost of a kind
+pub record KindShown : Type 0 where
+  pub kind : Kind
+  pub gained : List Fact
+  pub lost : List Fact
+
+abbrev pub changes_of_kind : (old new : Configuration) → Kind → KindShown
+changes_of_kind old new kind = record { kind = kind; gained = gained old new kind; lost = lost old new kind }
+
 -- a client of the new configuration gains: of its own facts the old one lacks some
 unfoldable pub gains : (old new : Configuration) → Numbered → Bool
 gains old new c = list_any (λ kind. list_any (lacks old new kind) (own_facts new old kind c)) all_kinds
@@ -55,6 +64,10 @@ line change kind f = join_with_byte 32 (change_sign change ∷ kind_word kind �
 
 abbrev pub lines : Change → Kind → List Fact → List ℕ
 lines change kind fs = flat_map (line change kind) fs
+
+-- what is gained of a kind, then what is lost
+abbrev pub kind_lines : KindShown → List ℕ
+kind_lines k = lines changes.Gained k.kind k.gained ++ lines changes.Lost k.kind k.lost
 
 -- names between commas, or nobody
 abbrev pub names_or_nobody : List (List ℕ) → List ℕ

@@ -9,20 +9,21 @@ use Rattle.cosem_data.specs.declared.cell.CellRef.{CellRef}
 use Rattle.cosem_data.specs.declared.name.LogicalName.{LogicalName}
 use Rattle.meter_theory.specs.Edges.{edges, same_edge}
 use Rattle.meter_theory.specs.Labels.{Labels, Labelling, Policy, has, labelling_of, labelling_of_policy, nobody}
-use Rattle.meter_theory.specs.Plan.{Client, Object, Plan, Right, cells, class_of, interface_of, is_cell}
-use Rattle.meter_theory.specs.Rights.{has_right, lists}
-use Rattle.meter_theory.specs.declared.flow.Edge.{Edge}
-use Rattle.meter_theory.specs.declared.refs.Interface.{Interface}
+use Rattle.meter_theory.specs.Plan.{Client, Object, Plan, cells, class_of, interface_of, is_cell}
+use Rattle.meter_theory.specs.Rights.{has_right}
 use Rattle.meter_theory.specs.Ways.{set_for}
-use Rattle.flow_ways.specs.Why.{reach_word}
-use Rattle.value_text.specs.Edges.{edge_text}
-use Rattle.value_text.specs.Texts.{cell_text}
-use Rattle.flow_changes.specs.declared.kind.Access.{Access}
-use Rattle.flow_changes.specs.declared.kind.Access.TheVariants as accesses
-use Rattle.flow_changes.specs.declared.kind.Kind.{Kind}
-use Rattle.flow_changes.specs.declared.kind.Kind.TheVariants as kinds
+use Rattle.meter_theory.specs.declared.flow.Edge.{Edge}
 use Rattle.meter_theory.specs.declared.flow.Reach.{Reach}
 use Rattle.meter_theory.specs.declared.flow.Reach.TheVariants as reaches
+use Rattle.value_text.specs.Edges.{edge_text}
+use Rattle.value_text.specs.Texts.{cell_text}
+use Rattle.flow_ways.specs.Access as ways
+use Rattle.flow_ways.specs.Access.{access_word, highest_for}
+use Rattle.flow_ways.specs.Why.{reach_word}
+use Rattle.flow_ways.specs.declared.access.Access.{Access}
+use Rattle.flow_ways.specs.declared.access.Access.TheVariants as accesses
+use Rattle.flow_changes.specs.declared.kind.Kind.{Kind}
+use Rattle.flow_changes.specs.declared.kind.Kind.TheVariants as kinds
 
 -- a configuration, with the least labels of its plan
 pub record Configuration : Type 0 where
@@ -72,21 +73,9 @@ shared_policy C other x = cond (is_cell other.plan x) (labelling_of_policy C.pla
 
 -- Rights
 
--- what a right lists for an access
-abbrev pub listed_for : Access → Right → List ℕ
-listed_for accesses.Get r = r.gets
-listed_for accesses.Set r = r.sets
-listed_for accesses.Act r = r.acts
-
 -- a right of the client on the object lists the attribute or the method
 abbrev pub is_granted : Plan → ℕ → Access → CellRef → Bool
-is_granted P c access x = has_right P c x.name (λ r. lists (listed_for access r) x.index)
-
--- the highest attribute, or the highest method
-abbrev pub highest_for : Access → Interface → ℕ
-highest_for accesses.Get interface = interface.attributes
-highest_for accesses.Set interface = interface.attributes
-highest_for accesses.Act interface = interface.methods
+is_granted P c access x = ways.is_granted P c access x.name x.index
 
 -- the attributes of an object, or its methods
 abbrev pub members_for : Access → Object → List CellRef
@@ -151,11 +140,6 @@ abbrev pub among : List Fact → Fact → Bool
 among fs f = list_any (same_fact f) fs
 
 -- Texts
-
-abbrev pub access_word : Access → List ℕ
-access_word accesses.Get = codes "get"
-access_word accesses.Set = codes "set"
-access_word accesses.Act = codes "act"
 
 -- an object as `class_id/logical name`
 abbrev pub object_text : ℕ → LogicalName → List ℕ

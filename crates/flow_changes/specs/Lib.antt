@@ -1,7 +1,8 @@
 pub mod Facts
 pub mod Changes
+pub mod Shown
 pub mod Sides
-pub mod Lines
+pub mod Singles
 pub mod Differences
 pub mod Marks
 pub mod Promises

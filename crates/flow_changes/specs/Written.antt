@@ -1,14 +1,15 @@
 -- How a comparison is written. All of it is own profile.
-use Rattle.std.specs.Prelude.{◌≡◌, Bool, List, [], ℕ, Option, Some, Result, Ok, Err, slice_get}
+use Rattle.std.specs.Prelude.{◌≡◌, Bool, List, [], ℕ, Option, Some, Result, Ok, Err, map, slice_get}
 use Rattle.std.specs.Io.KnownBytes.{Appends}
 use Rattle.meter_theory.specs.Labels.{Policy, has}
 use Rattle.meter_theory.specs.Plan.{Client, Plan}
 use Rattle.plan_lists.specs.Listing.{AreLeastOf, WritesText}
 use Rattle.plan_lists.specs.declared.fault.ListFault.{ListFault}
 use Rattle.plan_lists.specs.declared.fault.ListFault.TheVariants as faults
-use Rattle.flow_changes.specs.Changes.{changes_text, compare_text, gains, somebody_gains}
+use Rattle.flow_changes.specs.Changes.{all_kinds, changes_of_kind, compare_text, gains, somebody_gains}
 use Rattle.flow_changes.specs.Differences.{AreReachChanges}
 use Rattle.flow_changes.specs.Facts.{Configuration}
+use Rattle.flow_changes.specs.Shown.{kind_shown}
 use Rattle.flow_changes.specs.declared.compare.Comparison.{Comparison}
 use Rattle.flow_changes.specs.declared.kind.Change.TheVariants as changes
 
@@ -23,9 +24,9 @@ abbrev pub Compares : (old new : Configuration) → (before after : Option (List
 Compares old new before after (Ok some) = (some ≡ somebody_gains old new) × Appends before after (compare_text old new)
 Compares old new before after (Err fault) = WritesText (compare_text old new) before after (Err fault)
 
--- what is told of two configurations beside each other: the lines of what is gained and lost, who gains, and who may now reach which cells and who no longer
+-- what is told of two configurations beside each other: what is gained and lost of each kind, who gains, and who may now reach which cells and who no longer
 pub record AreCompared (old new : Configuration) (told : Comparison) : Type 0 where
-  pub lines_are : told.lines.items ≡ changes_text old new
+  pub kinds_are : map kind_shown told.kinds.items ≡ map (changes_of_kind old new) all_kinds
   pub gainers_are : (c : ℕ) (client : Client) → slice_get new.plan.clients c ≡ Some client → has told.gainers c ≡ gains old new (c, client)
   pub gained_are : AreReachChanges changes.Gained old new told.gained.items
   pub lost_are : AreReachChanges changes.Lost old new told.lost.items

@@ -1,21 +1,23 @@
 //! The comparison of two configurations.
-ghost use Rattle.std.specs.Prelude.{◌≡◌, ◌++◌, ◌∷◌, [], ℕ, Bool, ◌<◌, IfOk, List, MatchResult, OnErr, OnOk, Some, filter, flat_map, length, map, not, slice_get};
+ghost use Rattle.std.specs.Prelude.{◌≡◌, ◌++◌, ℕ, ◌<◌, IfOk, List, OnErr, OnOk, Some, filter, length, map, slice_get};
 ghost use Rattle.std.specs.Io.KnownBytes.{Appends};
 ghost use Rattle.std.specs.List.{list_any};
 ghost use Rattle.meter_theory.specs.Labels.{has};
 ghost use Rattle.meter_theory.specs.Plan.{Client as ClientValue};
 ghost use Rattle.flow_changes.specs.Changes as changes;
-ghost use Rattle.flow_changes.specs.Facts.{common_facts, numbered, own_facts};
+ghost use Rattle.flow_changes.specs.Facts.{common_facts, own_facts};
+ghost use Rattle.flow_changes.specs.Shown.{kind_shown, shown};
 ghost use Rattle.flow_changes.specs.Sides.{IsSide, configuration_of};
 ghost use Rattle.flow_changes.specs.Written.{AreCompared, IsComparison, WritesComparison, WritesSides};
 
+use crate::cells::push_cells;
 use crate::differences::reach_changes;
 use crate::edges::push_edges;
+use crate::fact::Fact;
 use crate::kind::{Change, KINDS, Kind};
-use crate::matching::cells_lacked;
 use crate::owned::push_owned;
 use crate::side::Side;
-use crate::text::{head, push_marked};
+use crate::text::{first_line, lines_of, names_of};
 use cosem_data::clients::ClientSet;
 use cosem_data::memory::Memory;
 use meter_theory::flow::Label;
@@ -48,11 +50,22 @@ pub fn write_comparison<W: Write>(
     write_sides(alloc, &old, &new, writer)
 }
 
+/// The facts of one kind that are gained and lost.
+#[derive(Drop)]
+pub struct KindFacts<'a> {
+    /// The kind.
+    pub kind: Kind,
+    /// What only the new configuration has, in its order.
+    pub gained: Vec<Fact<'a>>,
+    /// What only the old configuration has, in its order.
+    pub lost: Vec<Fact<'a>>,
+}
+
 /// How a new configuration differs from an old one, for who shows that in other ways than [`write_comparison`].
 #[derive(Drop)]
-pub struct Comparison {
-    /// The lines of what is gained and lost, as they are written.
-    pub lines: Vec<u8>,
+pub struct Comparison<'a> {
+    /// What is gained and lost of each kind, in the order in which kinds are told.
+    pub kinds: Vec<KindFacts<'a>>,
     /// The clients of the new configuration that gain.
     pub gainers: ClientSet,
     /// For each cell of the new configuration the clients that may influence and learn it and couldn't before.
@@ -62,13 +75,13 @@ pub struct Comparison {
 }
 
 /// How a new configuration differs from an old one (own profile). The only error is want of memory.
-pub fn compare(
+pub fn compare<'a>(
     alloc: Global,
-    old: &Plan,
+    old: &'a Plan,
     old_policy: &Policy,
-    new: &Plan,
+    new: &'a Plan,
     new_policy: &Policy,
-) -> Result<Comparison, Memory>
+) -> Result<Comparison<'a>, Memory>
     ensures { IfOk result (IsComparison old.now old_policy.now new.now new_policy.now) }
 {
     let old = Side::new(alloc, old, old_policy)?;
@@ -77,17 +90,21 @@ pub fn compare(
 }
 
 /// How two sides differ.
-fn compare_sides(alloc: Global, old: &Side<'_>, new: &Side<'_>) -> Result<Comparison, Memory>
+fn compare_sides<'a>(
+    alloc: Global,
+    old: &Side<'a, '_>,
+    new: &Side<'a, '_>,
+) -> Result<Comparison<'a>, Memory>
     requires old { IsSide old.now }
     requires new { IsSide new.now }
     ensures { IfOk result (AreCompared (configuration_of old.now) (configuration_of new.now)) }
 {
-    let mut lines = Vec::new(alloc);
-    let gainers = push_changes(alloc, old, new, &mut lines)?;
+    let mut kinds = Vec::new(alloc);
+    let gainers = push_kinds(alloc, old, new, &mut kinds)?;
     let gained = reach_changes(alloc, Change::Gained, old, new)?;
     let lost = reach_changes(alloc, Change::Lost, old, new)?;
     Ok(Comparison {
-        lines,
+        kinds,
         gainers,
         gained,
         lost,
@@ -95,10 +112,10 @@ fn compare_sides(alloc: Global, old: &Side<'_>, new: &Side<'_>) -> Result<Compar
 }
 
 /// Writes how two sides differ, and tells whether somebody gains. All is made before the first byte is written.
-fn write_sides<W: Write>(
+fn write_sides<'a, W: Write>(
     alloc: Global,
-    old: &Side<'_>,
-    new: &Side<'_>,
+    old: &Side<'a, '_>,
+    new: &Side<'a, '_>,
     writer: &mut W,
 ) -> Result<bool, ListFault>
     requires old { IsSide old.now }
@@ -106,11 +123,12 @@ fn write_sides<W: Write>(
     ensures { WritesSides (configuration_of old.now) (configuration_of new.now)
         (W.contents writer.old) (W.contents writer.new) result }
 {
-    let mut changed = Vec::new(alloc);
-    let gaining = push_changes(alloc, old, new, &mut changed)?;
+    let mut kinds = Vec::new(alloc);
+    let gaining = push_kinds(alloc, old, new, &mut kinds)?;
     let names = names_of(alloc, new.plan, gaining)?;
     let first = first_line(alloc, &names)?;
-    write_both(&first, &changed, writer)?;
+    let lines = lines_of(alloc, &kinds)?;
+    write_both(&first, lines.as_bytes(), writer)?;
     Ok(!names.is_empty())
 }
 
@@ -129,124 +147,71 @@ fn write_both<W: Write>(first: &[u8], second: &[u8], writer: &mut W) -> Result<(
     }
 }
 
-/// Puts the lines of all kinds behind a text, of each first what is gained and then what is lost, and gives the clients of
-/// the new side that gain.
-fn push_changes(
+/// Puts what is gained and lost of each kind behind other kinds, and gives the clients of the new side that gain.
+fn push_kinds<'a>(
     alloc: Global,
-    old: &Side<'_>,
-    new: &Side<'_>,
-    text: &mut Vec<u8>,
+    old: &Side<'a, '_>,
+    new: &Side<'a, '_>,
+    kinds: &mut Vec<KindFacts<'a>>,
 ) -> Result<ClientSet, Memory>
     requires old { IsSide old.now }
     requires new { IsSide new.now }
-    ensures text { OnOk result (text.new.items ≡ text.old.items
-        ++ changes.changes_text (configuration_of old.now) (configuration_of new.now)) }
+    ensures kinds { OnOk result (map kind_shown kinds.new.items ≡ map kind_shown kinds.old.items
+        ++ map (changes.changes_of_kind (configuration_of old.now) (configuration_of new.now)) changes.all_kinds) }
     ensures clients { IfOk result (λ set. (c : ℕ) (client : ClientValue) →
         slice_get new.now.plan.now.clients c ≡ Some client →
         has set c ≡ changes.gains (configuration_of old.now) (configuration_of new.now) (c, client)) }
 {
     let mut gaining = ClientSet::new();
     for kind in KINDS {
-        let owners = push_facts(alloc, Change::Gained, kind, new, old, text)?;
-        push_facts(alloc, Change::Lost, kind, old, new, text)?;
+        let mut gained = Vec::new(alloc);
+        let mut lost = Vec::new(alloc);
+        let owners = push_facts(alloc, kind, new, old, &mut gained)?;
+        push_facts(alloc, kind, old, new, &mut lost)?;
+        kinds.push(KindFacts { kind, gained, lost })?;
         gaining = gaining.union(owners);
     }
     Ok(gaining)
 }
 
-/// Puts a line behind a text for each fact of a kind that the other side lacks, and gives the clients whose own one is.
-fn push_facts(
+/// Puts the facts of a kind behind others that the other side lacks, and gives the clients whose own one is.
+fn push_facts<'a>(
     alloc: Global,
-    change: Change,
     kind: Kind,
-    mine: &Side<'_>,
-    theirs: &Side<'_>,
-    text: &mut Vec<u8>,
+    mine: &Side<'a, '_>,
+    theirs: &Side<'a, '_>,
+    facts: &mut Vec<Fact<'a>>,
 ) -> Result<ClientSet, Memory>
     requires mine { IsSide mine.now }
     requires theirs { IsSide theirs.now }
-    ensures text { OnOk result (text.new.items ≡ text.old.items ++ changes.lines change kind
-        (changes.gained (configuration_of theirs.now) (configuration_of mine.now) kind)) }
+    ensures facts { OnOk result (map shown facts.new.items ≡ map shown facts.old.items
+        ++ changes.gained (configuration_of theirs.now) (configuration_of mine.now) kind) }
     ensures clients { let C = configuration_of mine.now in let D = configuration_of theirs.now in
         IfOk result (λ set. (c : ℕ) (client : ClientValue) → slice_get C.plan.clients c ≡ Some client →
         has set c ≡ list_any (changes.lacks D C kind) (own_facts C D kind (c, client))) }
 {
-    let owners = push_owned(alloc, change, kind, mine, theirs, text)?;
-    push_common(alloc, change, kind, mine, theirs, text)?;
+    let owners = push_owned(alloc, kind, mine, theirs, facts)?;
+    push_common(alloc, kind, mine, theirs, facts)?;
     Ok(owners)
 }
 
-/// Puts a line behind a text for each fact of a kind that is no client's and that the other side lacks.
+/// Puts the facts of a kind behind others that are no client's and that the other side lacks.
 fn push_common(
     alloc: Global,
-    change: Change,
     kind: Kind,
-    mine: &Side<'_>,
-    theirs: &Side<'_>,
-    text: &mut Vec<u8>,
+    mine: &Side<'_, '_>,
+    theirs: &Side<'_, '_>,
+    facts: &mut Vec<Fact<'_>>,
 ) -> Result<(), Memory>
     requires mine { IsSide mine.now }
     requires theirs { IsSide theirs.now }
     ensures { let C = configuration_of mine.now in let D = configuration_of theirs.now in
-        OnOk result (text.new.items ≡ text.old.items ++ changes.lines change kind
-        (filter (changes.lacks D C kind) (common_facts C kind))) }
+        OnOk result (map shown facts.new.items ≡ map shown facts.old.items
+        ++ filter (changes.lacks D C kind) (common_facts C kind)) }
 {
-    let head = head(change, kind).as_bytes();
     match kind {
-        Kind::Cell => {
-            let marks = cells_lacked(alloc, theirs.plan, mine.table.cells())?;
-            push_marked(head, &marks, &mine.texts, text)
-        }
-        Kind::Edge => push_edges(
-            alloc,
-            head,
-            &mine.table,
-            &mine.texts,
-            theirs.plan,
-            &theirs.table,
-            text,
-        ),
+        Kind::Cell => push_cells(mine.table.cells(), theirs.plan, facts),
+        Kind::Edge => push_edges(alloc, &mine.table, theirs.plan, &theirs.table, facts),
         _ => Ok(()),
-    }
-}
-
-/// The names of the clients in a set, each behind a comma.
-fn names_of(alloc: Global, plan: &Plan, set: ClientSet) -> Result<Vec<u8>, Memory>
-    ensures { IfOk result (λ names. names.items ≡ flat_map (λ c. 44 ∷ c.1.name)
-        (filter (λ c. has set c.0) (numbered plan.now))) }
-{
-    plan.known();
-    let mut names = Vec::new(alloc);
-    let mut place = 0;
-    while let Some(client) = plan.client(place) {
-        if set.has(place) {
-            names.push(b',')?;
-            names.extend_from_slice(client.name())?;
-        }
-        place += 1;
-    }
-    Ok(names)
-}
-
-/// The line that tells who gains, by names that stand behind commas.
-fn first_line(alloc: Global, names: &[u8]) -> Result<Vec<u8>, Memory>
-    ensures { (list : List (List ℕ)) → names.now ≡ flat_map (λ name. 44 ∷ name) list →
-        IfOk result (λ line. line.items ≡ changes.first_line list) }
-{
-    let mut line = Vec::new(alloc);
-    line.extend_from_slice(b"gained by ")?;
-    line.extend_from_slice(listed(names))?;
-    line.push(b'\n')?;
-    Ok(line)
-}
-
-/// The names without the comma before the first, or nobody.
-fn listed(names: &[u8]) -> &[u8]
-    ensures { (list : List (List ℕ)) → names.now ≡ flat_map (λ name. 44 ∷ name) list →
-        result.now ≡ changes.names_or_nobody list }
-{
-    match names {
-        [] => b"nobody",
-        [_, listed @ ..] => listed,
     }
 }

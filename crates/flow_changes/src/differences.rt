@@ -22,8 +22,8 @@ use std::alloc::Global;
 pub(crate) fn reach_changes(
     alloc: Global,
     change: Change,
-    old: &Side<'_>,
-    new: &Side<'_>,
+    old: &Side<'_, '_>,
+    new: &Side<'_, '_>,
 ) -> Result<Vec<Label>, Memory>
     requires old { IsSide old.now }
     requires new { IsSide new.now }

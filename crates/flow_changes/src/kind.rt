@@ -2,8 +2,8 @@
 ghost use Rattle.std.specs.Prelude.{◌≡◌};
 
 /// A kind of facts of a configuration (own profile).
-#[derive(Clone, Copy)]
-pub(crate) enum Kind {
+#[derive(Clone, Copy, Debug, PartialEq, Eq, Drop)]
+pub enum Kind {
     /// A client may influence or learn a cell, by the least labels.
     May,
     /// The policy allows a client to influence or learn a cell that both configurations have.
@@ -19,7 +19,7 @@ pub(crate) enum Kind {
 }
 
 /// The kinds, in the order in which they are told.
-pub(crate) const KINDS: [Kind; 6] = [
+pub const KINDS: [Kind; 6] = [
     Kind::May,
     Kind::Allowed,
     Kind::Right,
@@ -28,34 +28,43 @@ pub(crate) const KINDS: [Kind; 6] = [
     Kind::Edge,
 ];
 
+impl Kind {
+    ghost use Rattle.flow_changes.specs.Changes.{kind_word};
+
+    /// Its word (own profile).
+    pub(crate) fn word(self) -> &'static str
+        ensures { result.now ≡ kind_word self }
+    {
+        match self {
+            Kind::May => "may",
+            Kind::Allowed => "allowed",
+            Kind::Right => "right",
+            Kind::Client => "client",
+            Kind::Cell => "cell",
+            Kind::Edge => "edge",
+        }
+    }
+}
+
 /// Whether a fact is gained or lost (own profile).
-#[derive(Clone, Copy)]
-pub(crate) enum Change {
+#[derive(Clone, Copy, Debug, PartialEq, Eq, Drop)]
+pub enum Change {
     /// The new configuration has it, and the old one lacks it.
     Gained,
     /// The old configuration has it, and the new one lacks it.
     Lost,
 }
 
-/// What a right is for (IEC 62056-5-3, GET, SET and ACTION).
-#[derive(Clone, Copy)]
-pub(crate) enum Access {
-    Get,
-    Set,
-    Act,
-}
+impl Change {
+    ghost use Rattle.flow_changes.specs.Changes.{change_sign};
 
-impl Access {
-    ghost use Rattle.flow_changes.specs.Facts.{access_word};
-
-    /// Its word (own profile).
-    pub(crate) fn word(self) -> &'static str
-        ensures { result.now ≡ access_word self }
+    /// Its sign (own profile).
+    pub(crate) fn sign(self) -> &'static str
+        ensures { result.now ≡ change_sign self }
     {
         match self {
-            Access::Get => "get",
-            Access::Set => "set",
-            Access::Act => "act",
+            Change::Gained => "+",
+            Change::Lost => "-",
         }
     }
 }

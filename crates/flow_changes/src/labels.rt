@@ -2,7 +2,7 @@
 ghost use Rattle.std.specs.Prelude.{◌≡◌, cond, IfOk, Some, None, length, map};
 ghost use Rattle.meter_theory.specs.Labels as theory;
 ghost use Rattle.meter_theory.specs.Plan as plans;
-ghost use Rattle.flow_changes.specs.Lines.{pair_of};
+ghost use Rattle.flow_changes.specs.Singles.{pair_of};
 
 use crate::kind::Kind;
 use cosem_data::cell::CellRef;

@@ -8,7 +8,7 @@ ghost use Rattle.meter_theory.specs.Sound.{IsSound};
 ghost use Rattle.flow_changes.specs.Changes.{gained};
 ghost use Rattle.flow_changes.specs.Facts.{Configuration, Fact, Numbered, facts, is_granted, members_for, numbered};
 ghost use Rattle.flow_changes.specs.Promises.{HasReach, IsNamed, LiesWithin, NamedHolds, NamedLabelling, NamedReaches, NamedSees, NobodyGains, least, policy_of};
-ghost use Rattle.flow_changes.specs.declared.kind.Access.{Access};
+ghost use Rattle.flow_ways.specs.declared.access.Access.{Access};
 ghost use Rattle.flow_changes.specs.declared.kind.Kind.{Kind};
 ghost use Rattle.meter_theory.specs.declared.flow.Reach.{Reach};
 

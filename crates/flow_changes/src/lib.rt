@@ -2,19 +2,23 @@
 //! are, and which clients gain by that (own profile).
 //!
 //! The definitions stand in `specs/`: the facts of a configuration (`Facts`), what is gained and lost and the text of it
-//! (`Changes`), and how that is written (`Written`). The theorems are the functions of [`laws`].
+//! (`Changes`), what the facts of the code say (`Shown`), and how a comparison is written (`Written`). The theorems are the
+//! functions of [`laws`].
 //!
-//! - [`compare::write_comparison`] writes how two configurations differ.
+//! - [`compare::compare`] tells how two configurations differ, and [`compare::write_comparison`] writes it.
 #![tactic(auto)]
 
+mod causes;
+mod cells;
 mod clients;
 pub mod compare;
 mod differences;
 mod edges;
-mod kind;
+pub mod fact;
+pub mod kind;
 mod labels;
 pub mod laws;
-mod matching;
+mod namesakes;
 mod owned;
 mod reaches;
 mod rights;

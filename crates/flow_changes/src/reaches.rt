@@ -1,57 +1,59 @@
 //! Cells that a client may reach, or is allowed to.
-ghost use Rattle.std.specs.Prelude.{◌≡◌, ◌++◌, ◌∷◌, [], IfOk, List, OnOk, filter, flat_map, length, map};
+ghost use Rattle.std.specs.Prelude.{◌≡◌, ◌++◌, OnOk, length, map};
 ghost use Rattle.cosem_data.specs.declared.cell.CellRef.{CellRef as CellValue};
-ghost use Rattle.value_text.specs.Texts.{cell_text};
-ghost use Rattle.flow_ways.specs.Why.{reach_word};
-ghost use Rattle.flow_changes.specs.Lines.{cell_lines, is_new_reach, is_old_reach, is_other_in};
+ghost use Rattle.flow_changes.specs.Shown.{shown};
+ghost use Rattle.flow_changes.specs.Singles.{is_new_reach, is_old_reach, is_other_in, reach_facts, reached_facts};
 ghost use Rattle.flow_changes.specs.declared.labels.Pair.{Pair as PairValue};
 
+use crate::fact::Fact;
 use crate::labels::Pair;
-use crate::text::{head_with, push_marked};
+use crate::namesakes::Namesakes;
+use cosem_data::cell::CellRef;
 use cosem_data::clients::ClientSet;
 use cosem_data::memory::Memory;
 use flow_ways::ends::set_for;
-use flow_ways::why::reach_word;
 use meter_theory::flow::Reach;
-use std::alloc::Global;
 
-/// Puts a line behind a text for each cell that a client reaches and the other client, if it is one, doesn't.
-pub(crate) fn push_reach(
-    alloc: Global,
-    head: &[u8],
-    reach: Reach,
-    client: u8,
-    other: Option<u8>,
+/// Puts a fact behind others for each of these cells that a client influences and the other, if it is one, doesn't, then for
+/// each that it learns. What both sides say of each cell is given.
+pub(crate) fn push_reaches<'a>(
+    who: &Namesakes<'a>,
+    cells: &[CellRef],
     pairs: &[Pair],
-    texts: &[Vec<u8>],
-    text: &mut Vec<u8>,
+    facts: &mut Vec<Fact<'a>>,
 ) -> Result<(), Memory>
-    requires { length texts.now ≡ length pairs.now }
-    ensures { (cells : List CellValue) (pair : CellValue → PairValue) → pairs.now ≡ map pair cells →
-        map (λ text. text.items) texts.now ≡ map cell_text cells →
-        OnOk result (text.new.items ≡ text.old.items ++ cell_lines (head.now ++ (reach_word reach ++ 32 ∷ []))
-        (filter (λ x. is_new_reach reach client other (pair x)) cells)) }
+    requires { length pairs.now ≡ length cells.now }
+    ensures { (pair : CellValue → PairValue) → pairs.now ≡ map pair cells.now →
+        OnOk result (map shown facts.new.items ≡ map shown facts.old.items
+        ++ reached_facts who.now.name.now who.now.client who.now.other pair cells.now) }
 {
-    let head = head_with(alloc, head, reach_word(reach).as_bytes())?;
-    let marks = marks_of(alloc, reach, client, other, pairs)?;
-    push_marked(&head, &marks, texts, text)
+    push_reach(Reach::Influence, who, cells, pairs, facts)?;
+    push_reach(Reach::Learn, who, cells, pairs, facts)
 }
 
-/// Which of the cells a client reaches and the other doesn't.
-fn marks_of(
-    alloc: Global,
+/// The same of one reach.
+fn push_reach<'a>(
     reach: Reach,
-    client: u8,
-    other: Option<u8>,
+    who: &Namesakes<'a>,
+    cells: &[CellRef],
     pairs: &[Pair],
-) -> Result<Vec<bool>, Memory>
-    ensures { IfOk result (λ marks. marks.items ≡ map (is_new_reach reach client other) pairs.now) }
+    facts: &mut Vec<Fact<'a>>,
+) -> Result<(), Memory>
+    requires { length pairs.now ≡ length cells.now }
+    ensures { (pair : CellValue → PairValue) → pairs.now ≡ map pair cells.now →
+        OnOk result (map shown facts.new.items ≡ map shown facts.old.items
+        ++ reach_facts who.now.name.now reach who.now.client who.now.other pair cells.now) }
 {
-    let mut marks = Vec::with_capacity(alloc, pairs.len())?;
-    for pair in pairs {
-        marks.push(is_new(reach, client, other, pair))?;
+    for (number, cell) in cells.iter().enumerate() {
+        if is_new(reach, who.client, who.other, &pairs[number]) {
+            facts.push(Fact::Reaches {
+                client: who.name,
+                reach,
+                cell: *cell,
+            })?;
+        }
     }
-    Ok(marks)
+    Ok(())
 }
 
 /// Whether a client reaches a cell that the other doesn't.

@@ -1,83 +1,85 @@
-//! Lines of a comparison.
-ghost use Rattle.std.specs.Prelude.{◌≡◌, ◌++◌, ◌∷◌, [], Bool, List, IfOk, OnOk, filter, length, map};
-ghost use Rattle.cosem_data.specs.declared.cell.CellRef.{CellRef as CellValue};
-ghost use Rattle.value_text.specs.Texts.{cell_text};
-ghost use Rattle.flow_changes.specs.Lines.{cell_lines, head_of, own_head};
+//! The text of a comparison.
+ghost use Rattle.std.specs.Prelude.{◌≡◌, ◌++◌, ◌∷◌, [], ℕ, IfOk, List, OnOk, filter, flat_map, map, string_bytes};
+ghost use Rattle.meter_theory.specs.Labels.{has};
+ghost use Rattle.flow_changes.specs.Changes as changes;
+ghost use Rattle.flow_changes.specs.Facts.{numbered};
+ghost use Rattle.flow_changes.specs.Shown.{kind_shown, shown};
 
+use crate::compare::KindFacts;
+use crate::fact::Fact;
 use crate::kind::{Change, Kind};
+use cosem_data::clients::ClientSet;
 use cosem_data::memory::Memory;
+use object_model::plan::Plan;
 use std::alloc::Global;
 
-/// What stands before each fact of a kind that is gained or lost (own profile).
-pub(crate) fn head(change: Change, kind: Kind) -> &'static str
-    ensures { result.now ≡ head_of change kind }
+/// The names of the clients in a set, each behind a comma.
+pub(crate) fn names_of(alloc: Global, plan: &Plan, set: ClientSet) -> Result<Vec<u8>, Memory>
+    ensures { IfOk result (λ names. names.items ≡ flat_map (λ c. 44 ∷ c.1.name)
+        (filter (λ c. has set c.0) (numbered plan.now))) }
 {
-    match (change, kind) {
-        (Change::Gained, Kind::May) => "+ may ",
-        (Change::Gained, Kind::Allowed) => "+ allowed ",
-        (Change::Gained, Kind::Right) => "+ right ",
-        (Change::Gained, Kind::Client) => "+ client ",
-        (Change::Gained, Kind::Cell) => "+ cell ",
-        (Change::Gained, Kind::Edge) => "+ edge ",
-        (Change::Lost, Kind::May) => "- may ",
-        (Change::Lost, Kind::Allowed) => "- allowed ",
-        (Change::Lost, Kind::Right) => "- right ",
-        (Change::Lost, Kind::Client) => "- client ",
-        (Change::Lost, Kind::Cell) => "- cell ",
-        (Change::Lost, Kind::Edge) => "- edge ",
+    plan.known();
+    let mut names = Vec::new(alloc);
+    let mut place = 0;
+    while let Some(client) = plan.client(place) {
+        if set.has(place) {
+            names.push(b',')?;
+            names.extend_from_slice(client.name())?;
+        }
+        place += 1;
+    }
+    Ok(names)
+}
+
+/// The line that tells who gains, by names that stand behind commas.
+pub(crate) fn first_line(alloc: Global, names: &[u8]) -> Result<Vec<u8>, Memory>
+    ensures { (list : List (List ℕ)) → names.now ≡ flat_map (λ name. 44 ∷ name) list →
+        IfOk result (λ line. line.items ≡ changes.first_line list) }
+{
+    let mut line = Vec::new(alloc);
+    line.extend_from_slice(b"gained by ")?;
+    line.extend_from_slice(listed(names))?;
+    line.push(b'\n')?;
+    Ok(line)
+}
+
+/// The names without the comma before the first, or nobody.
+fn listed(names: &[u8]) -> &[u8]
+    ensures { (list : List (List ℕ)) → names.now ≡ flat_map (λ name. 44 ∷ name) list →
+        result.now ≡ changes.names_or_nobody list }
+{
+    match names {
+        [] => b"nobody",
+        [_, listed @ ..] => listed,
     }
 }
 
-/// What stands before each fact of a kind that is a client's own.
-pub(crate) fn head_for(
-    alloc: Global,
-    change: Change,
-    kind: Kind,
-    name: &[u8],
-) -> Result<Vec<u8>, Memory>
-    ensures { IfOk result (λ text. text.items ≡ own_head change kind name.now) }
+/// The lines of these kinds, of each first what is gained and then what is lost.
+pub(crate) fn lines_of(alloc: Global, kinds: &[KindFacts<'_>]) -> Result<String, Memory>
+    ensures { IfOk result (λ text. string_bytes text ≡ flat_map changes.kind_lines (map kind_shown kinds.now)) }
 {
-    head_with(alloc, head(change, kind).as_bytes(), name)
-}
-
-/// What stands before a fact, with a word more.
-pub(crate) fn head_with(alloc: Global, head: &[u8], word: &[u8]) -> Result<Vec<u8>, Memory>
-    ensures { IfOk result (λ text. text.items ≡ head.now ++ (word.now ++ 32 ∷ [])) }
-{
-    let mut text = Vec::new(alloc);
-    text.extend_from_slice(head)?;
-    text.extend_from_slice(word)?;
-    text.push(b' ')?;
+    let mut text = String::new(alloc);
+    for told in kinds {
+        push_lines(Change::Gained, told.kind, &told.gained, &mut text)?;
+        push_lines(Change::Lost, told.kind, &told.lost, &mut text)?;
+    }
     Ok(text)
 }
 
-/// Puts a line for each cell that is marked behind a text: what stands before it, and the cell's text.
-pub(crate) fn push_marked(
-    head: &[u8],
-    marks: &[bool],
-    texts: &[Vec<u8>],
-    text: &mut Vec<u8>,
+/// Puts a line behind a text for each of these facts.
+fn push_lines(
+    change: Change,
+    kind: Kind,
+    facts: &[Fact<'_>],
+    text: &mut String,
 ) -> Result<(), Memory>
-    requires { length texts.now ≡ length marks.now }
-    ensures { (cells : List CellValue) (p : CellValue → Bool) → marks.now ≡ map p cells →
-        map (λ text. text.items) texts.now ≡ map cell_text cells →
-        OnOk result (text.new.items ≡ text.old.items ++ cell_lines head.now (filter p cells)) }
+    ensures { OnOk result (string_bytes text.new
+        ≡ string_bytes text.old ++ changes.lines change kind (map shown facts.now)) }
 {
-    for (number, mark) in marks.iter().enumerate() {
-        if *mark {
-            push_line(head, &texts[number], text)?;
-        }
+    let sign = change.sign();
+    let word = kind.word();
+    for fact in facts {
+        write!(text, "{sign} {word} {fact}\n")?;
     }
-    Ok(())
-}
-
-/// Puts a line behind a text.
-pub(crate) fn push_line(head: &[u8], words: &[u8], text: &mut Vec<u8>) -> Result<(), Memory>
-    ensures { OnOk result (text.new.items
-        ≡ text.old.items ++ (head.now ++ (words.now ++ 10 ∷ []))) }
-{
-    text.extend_from_slice(head)?;
-    text.extend_from_slice(words)?;
-    text.push(b'\n')?;
     Ok(())
 }

@@ -3,8 +3,8 @@ use Rattle.std.proofs.Common.{◌≡◌, ◌<◌, ◌≤◌, ◌+◌, ◌-◌, �
 use Rattle.std.specs.List.{filter, range_with_len}
 use Rattle.cosem_data.specs.declared.clients.ClientSet.{ClientSet}
 use Rattle.meter_theory.specs.Labels.{has}
+use Rattle.alike_items.proofs.Ranges.{filter-more}
 use Rattle.flow_drawing.specs.Boxes.{members}
-use Rattle.flow_drawing.proofs.Ranges.{filter-more}
 
 -- those of the first clients who pass, and no other
 pub record AreSoFar (test : ℕ → Bool) (k : ℕ) (set : ClientSet) : Type 0 where

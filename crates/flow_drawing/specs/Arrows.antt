@@ -3,9 +3,9 @@ use Rattle.std.specs.Prelude.{◌≡◌, ◌≤◌, true, false, ℕ, Bool, ◌=
 use Rattle.std.specs.List.{All, AllPairs, count_by, filter_map, list_any, position_from}
 use Rattle.meter_theory.specs.Edges.{same_cause}
 use Rattle.meter_theory.specs.declared.flow.Cause.{Cause}
+use Rattle.alike_items.specs.Grouping.{firsts}
 use Rattle.flow_edges.specs.declared.table.Link.{Link}
 use Rattle.flow_picture.specs.declared.picture.Arrow.{Arrow}
-use Rattle.flow_drawing.specs.Firsts.{firsts}
 use Rattle.flow_drawing.specs.declared.arrows.Between.{Between}
 
 -- the number of a cell stands in a box

@@ -9,8 +9,8 @@ use Rattle.meter_theory.specs.declared.flow.Reach.{Reach}
 use Rattle.meter_theory.specs.declared.flow.Reach.TheVariants.{Influence, Learn}
 use Rattle.meter_theory.specs.declared.limits.TheConstants.{CLIENTS}
 use Rattle.flow_edges.specs.Table.{cell_at}
+use Rattle.flow_ways.specs.Found.{distance_of}
 use Rattle.flow_picture.specs.declared.picture.PictureBox.{PictureBox}
-use Rattle.flow_drawing.specs.Found.{distance_of}
 use Rattle.flow_drawing.specs.declared.boxes.By.{By}
 use Rattle.flow_drawing.specs.declared.boxes.By.TheVariants.{Right, Any}
 

@@ -1,11 +1,12 @@
 -- Which cells stand in boxes.
-use Rattle.std.specs.Prelude.{ℕ, Bool, ◌==◌, ◌&&◌, ◌||◌, cond, nat_le, nat_lt, List, length, map, Option, Some, None, false, slice_get}
+use Rattle.std.specs.Prelude.{ℕ, Bool, ◌==◌, ◌&&◌, ◌||◌, cond, nat_le, nat_lt, List, length, map}
 use Rattle.std.specs.List.{filter, list_any, range_with_len}
 use Rattle.cosem_data.specs.declared.cell.CellRef.{CellRef}
 use Rattle.meter_theory.specs.Plan.{Plan, cells}
+use Rattle.alike_items.specs.Grouping.{firsts, groups, same_at}
 use Rattle.flow_edges.specs.declared.table.Link.{Link}
 use Rattle.flow_drawing.specs.Arrows.{all_between, same_between}
-use Rattle.flow_drawing.specs.Firsts.{firsts, groups}
+use Rattle.flow_drawing.specs.declared.classes.Kind.{Kind}
 use Rattle.flow_drawing.specs.declared.limits.TheConstants.{ARROWS, BOXES}
 
 -- the cell with this number is an end of an edge
@@ -27,18 +28,16 @@ boxes_of count links given = filter (has_end links) (map (known_of count) given)
 abbrev pub are_few : List Link → List (List ℕ) → Bool
 are_few links boxes = nat_le (length boxes) BOXES && nat_le (length (firsts same_between (all_between boxes links))) ARROWS
 
--- both are cells, of one class and attribute
-abbrev pub are_alike : Option CellRef → Option CellRef → Bool
-are_alike (Some x) (Some y) = (x.class_id == y.class_id) && (x.index == y.index)
-are_alike (Some x) None = false
-are_alike None y = false
+-- two cells are of one class and attribute
+abbrev pub same_kind : CellRef → CellRef → Bool
+same_kind x y = (x.class_id == y.class_id) && (x.index == y.index)
 
-abbrev pub same_kind : List CellRef → ℕ → ℕ → Bool
-same_kind cells i j = are_alike (slice_get cells i) (slice_get cells j)
+abbrev pub kind_of : CellRef → Kind
+kind_of x = record { class_id = x.class_id; index = x.index }
 
 -- the cells of a plan by class and attribute, in the order of the first cells: own profile
 abbrev pub by_class : Plan → List (List ℕ)
-by_class P = groups (same_kind (cells P)) (range_with_len 0 (length (cells P)))
+by_class P = groups (same_at same_kind (cells P)) (range_with_len 0 (length (cells P)))
 
 -- the boxes of the given groups, or those by class and attribute where the given make too many boxes or arrows: own profile
 abbrev pub drawn : Plan → List Link → List (List ℕ) → List (List ℕ)

@@ -1,5 +1,3 @@
-pub mod Firsts
-pub mod Found
 pub mod Boxes
 pub mod Arrows
 pub mod Drawn

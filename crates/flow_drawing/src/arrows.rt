@@ -1,12 +1,11 @@
 //! The arrows between boxes.
-ghost use Rattle.std.specs.Prelude.{◌≡◌, ◌++◌, IfOk, None, OnOk, get_or, map};
+ghost use Rattle.std.specs.Prelude.{◌≡◌, IfOk, None, get_or, map};
 ghost use Rattle.std.specs.List.{All, count_by, list_any, position_from};
-ghost use Rattle.std.specs.Option.{option_to_list};
+ghost use Rattle.alike_items.specs.Grouping.{firsts};
 ghost use Rattle.flow_drawing.specs.Arrows as spec;
 ghost use Rattle.flow_drawing.specs.Boxes.{IsBox};
-ghost use Rattle.flow_drawing.specs.Firsts.{firsts};
 
-use crate::pushing::push_if;
+use alike_items::pushing::{push_if, push_some};
 use cosem_data::memory::Memory;
 use flow_edges::table::Link;
 use flow_picture::picture::Arrow;
@@ -61,16 +60,6 @@ pub(crate) fn all_between(
         push_some(between_of(&places, *link), &mut all)?;
     }
     Ok(all)
-}
-
-/// Puts an item behind others, if there is one. The only error is want of memory.
-fn push_some(item: Option<Between>, list: &mut Vec<Between>) -> Result<(), Memory>
-    ensures { OnOk result (list.new.items ≡ list.old.items ++ option_to_list item) }
-{
-    if let Some(item) = item {
-        list.push(item)?;
-    }
-    Ok(())
 }
 
 /// From which box to which an edge leads, if both ends stand in boxes, by the places of cells.

@@ -3,9 +3,7 @@ ghost use Rattle.std.specs.Prelude.{◌≡◌, ◌<◌, ℕ, ◌==◌, ◌&&◌,
 ghost use Rattle.std.specs.List.{All, list_any};
 ghost use Rattle.meter_theory.specs.Labels.{has};
 ghost use Rattle.meter_theory.specs.Plan as theory;
-ghost use Rattle.flow_edges.specs.Table.{cell_at};
 ghost use Rattle.flow_drawing.specs.Boxes as spec;
-ghost use Rattle.flow_drawing.specs.Found.{distance_of};
 
 use cosem_data::clients::ClientSet;
 use cosem_data::memory::Memory;
@@ -97,7 +95,8 @@ fn has_cell(ways: &Ways<'_>, by: By, reach: Reach, client: u8, cell: usize) -> b
     requires cell { cell < length (theory.cells ways.now) }
     ensures { result ≡ spec.has_cell ways.now by reach client cell }
 {
-    is_by(by, distance(ways, reach, client, cell))
+    ways.plan().known();
+    is_by(by, ways.distance(reach, cell, client))
 }
 
 /// Whether a client at this distance has a cell.
@@ -110,14 +109,4 @@ fn is_by(by: By, distance: Option<usize>) -> bool
         (By::Any, Some(_)) => true,
         (_, None) => false,
     }
-}
-
-/// How many edges the shortest ways of a client to a cell have, by their numbers, if there are ways.
-fn distance(ways: &Ways<'_>, reach: Reach, client: u8, cell: usize) -> Option<usize>
-    requires client { client < length ways.now.clients }
-    requires cell { cell < length (theory.cells ways.now) }
-    ensures { result ≡ distance_of ways.now reach client (cell_at (theory.cells ways.now) cell) }
-{
-    ways.plan().known();
-    ways.distance(reach, cell, client)
 }

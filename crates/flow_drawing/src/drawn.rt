@@ -7,7 +7,7 @@ ghost use Rattle.flow_drawing.specs.Drawn as spec;
 use crate::arrows::{all_between, first_between};
 use crate::classes::by_class;
 use crate::limits::{ARROWS, BOXES};
-use crate::pushing::push_if;
+use alike_items::pushing::push_if;
 use cosem_data::memory::Memory;
 use flow_edges::table::Link;
 use flow_ways::ways::Ways;

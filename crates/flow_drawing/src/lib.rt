@@ -2,9 +2,8 @@
 //!
 //! - [`picture::picture_of`] makes it.
 //!
-//! What it should be stands in `specs/`: distances as a function (`Found`), items that are alike put together (`Firsts`), what is
-//! told of a box (`Boxes`), the arrows between boxes (`Arrows`), which cells stand in boxes (`Drawn`), and the whole (`Picture`).
-//! The theorems are the functions of [`laws`].
+//! What it should be stands in `specs/`: what is told of a box (`Boxes`), the arrows between boxes (`Arrows`), which cells stand in
+//! boxes (`Drawn`), and the whole (`Picture`). The theorems are the functions of [`laws`].
 #![tactic(auto)]
 
 mod arrows;
@@ -14,4 +13,3 @@ mod drawn;
 pub mod laws;
 mod limits;
 pub mod picture;
-mod pushing;

@@ -10,7 +10,7 @@ ghost use Rattle.flow_drawing.specs.Picture.{IsDrawn, IsPictureOf, client_at};
 use crate::arrows::{arrows_of, place_of};
 use crate::boxes::boxes_told;
 use crate::drawn::drawn;
-use crate::pushing::push_if;
+use alike_items::pushing::push_if;
 use cosem_data::cell::CellRef;
 use cosem_data::memory::Memory;
 use flow_edges::edges::edge_table;

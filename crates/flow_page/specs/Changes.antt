@@ -5,13 +5,13 @@ use Rattle.std.specs.Fmt.{decimal}
 use Rattle.shown_text.specs.Html.{html_text}
 use Rattle.flow_page.specs.Lists.{in_turn, name_text, region_text, separated}
 use Rattle.flow_page.specs.Ways.{way_text}
-use Rattle.flow_page.specs.declared.changes.Change.{Change}
-use Rattle.flow_page.specs.declared.changes.Change.TheVariants.{Gained, Lost}
+use Rattle.flow_changes.specs.declared.kind.Change.{Change}
+use Rattle.flow_changes.specs.declared.kind.Change.TheVariants.{Gained, Lost}
+use Rattle.flow_changes.specs.declared.kind.Kind.{Kind}
+use Rattle.flow_changes.specs.declared.kind.Kind.TheVariants as kinds
 use Rattle.flow_page.specs.declared.changes.ChangedFact.{ChangedFact}
 use Rattle.flow_page.specs.declared.changes.Changes.{Changes}
 use Rattle.flow_page.specs.declared.changes.KindChanges.{KindChanges}
-use Rattle.flow_page.specs.declared.changes.Subject.{Subject}
-use Rattle.flow_page.specs.declared.changes.Subject.TheVariants.{Reach, Policy, Rights, Clients, Cells, Edges}
 use Rattle.flow_page.specs.declared.ways.WayLine.{WayLine}
 
 -- whether a fact is gained or lost: own profile
@@ -19,14 +19,14 @@ abbrev pub change_text : Change → List ℕ
 change_text Gained = codes "<span class=\"plus\">+ new</span>"
 change_text Lost = codes "<span class=\"minus\">&minus; gone</span>"
 
--- what facts are about: own profile
-abbrev pub subject_text : Subject → List ℕ
-subject_text Reach = codes "Influence and learning"
-subject_text Policy = codes "Policy"
-subject_text Rights = codes "Rights"
-subject_text Clients = codes "Clients"
-subject_text Cells = codes "Cells"
-subject_text Edges = codes "Edges"
+-- what the facts of a kind are about: own profile
+abbrev pub title_text : Kind → List ℕ
+title_text kinds.May = codes "Influence and learning"
+title_text kinds.Allowed = codes "Policy"
+title_text kinds.Right = codes "Rights"
+title_text kinds.Client = codes "Clients"
+title_text kinds.Cell = codes "Cells"
+title_text kinds.Edge = codes "Edges"
 
 -- the way by which a client now reaches a cell, if the fact is of that: own profile
 abbrev pub new_way_text : List WayLine → List ℕ
@@ -49,7 +49,7 @@ row_text x = codes "<tr>" ++ fields_text x
 -- the field of a kind, which is as high as all rows of it: own profile
 abbrev pub head_text : KindChanges → List ℕ
 head_text k = in_turn (
-    codes "<th scope=\"rowgroup\" rowspan=\"" ∷ decimal (vec_len k.facts) ∷ codes "\">" ∷ subject_text k.subject ∷ codes "</th>" ∷ [])
+    codes "<th scope=\"rowgroup\" rowspan=\"" ∷ decimal (vec_len k.facts) ∷ codes "\">" ∷ title_text k.kind ∷ codes "</th>" ∷ [])
 
 -- rows of a kind, of which the first begins with its field: own profile
 abbrev pub rows_text : KindChanges → List ChangedFact → List ℕ
@@ -57,17 +57,17 @@ rows_text k [] = []
 rows_text k (x ∷ xs) = in_turn (codes "<tr>" ∷ head_text k ∷ fields_text x ∷ flat_map row_text xs ∷ [])
 
 -- so many changes of a kind for which the page has no room: own profile
-abbrev pub more_text : Subject → ℕ → List ℕ
-more_text subject n =
+abbrev pub more_text : Kind → ℕ → List ℕ
+more_text kind n =
     if n == 0 then [] else
     in_turn (
-    codes "<tr><th scope=\"rowgroup\">" ∷ subject_text subject ∷ codes "</th><td colspan=\"3\">and " ∷ decimal n
+    codes "<tr><th scope=\"rowgroup\">" ∷ title_text kind ∷ codes "</th><td colspan=\"3\">and " ∷ decimal n
     ∷ codes " more, printed by <code>cosem-flow compare</code></td></tr>\n"
     ∷ [])
 
 -- the rows of a kind: own profile
 abbrev pub kind_text : KindChanges → List ℕ
-kind_text k = in_turn (codes "<tbody>\n" ∷ rows_text k k.facts.items ∷ more_text k.subject k.more ∷ codes "</tbody>\n" ∷ [])
+kind_text k = in_turn (codes "<tbody>\n" ∷ rows_text k k.facts.items ∷ more_text k.kind k.more ∷ codes "</tbody>\n" ∷ [])
 
 -- the clients that gain: own profile
 abbrev pub gainers_text : List (String Global) → List ℕ

@@ -1,5 +1,5 @@
 -- The clients of a page.
-use Rattle.std.specs.Prelude.{ℕ, zero, suc, Bool, true, false, ◌||◌, nat_lt, List, [], ◌∷◌, codes, flat_map, if◌then◌else◌}
+use Rattle.std.specs.Prelude.{ℕ, zero, suc, Bool, true, false, ◌||◌, nat_lt, List, [], ◌∷◌, ◌++◌, codes, flat_map, if◌then◌else◌}
 use Rattle.std.specs.Fmt.{decimal}
 use Rattle.meter_theory.specs.declared.flow.Reach.{Reach}
 use Rattle.meter_theory.specs.declared.flow.Reach.TheVariants.{Influence, Learn}
@@ -67,9 +67,15 @@ item_text who =
 
 -- The table
 
+-- the table: own profile
+abbrev pub rows_table : List ClientRow → List ℕ
+rows_table clients = in_turn (region_text (codes "clients") ∷ HEAD.now ∷ flat_map row_text clients ∷ codes "</tbody></table></div>\n" ∷ [])
+
+-- the table, if there are clients: own profile
+abbrev pub table_text : List ClientRow → List ℕ
+table_text [] = codes "<p>There are no clients.</p>\n"
+table_text (who ∷ others) = rows_table (who ∷ others)
+
 -- the clients: own profile
 abbrev pub clients_text : Page → List ℕ
-clients_text page = in_turn (
-    codes "<h2 id=\"clients\">Clients</h2>\n" ∷ region_text (codes "clients") ∷ HEAD.now
-    ∷ flat_map row_text page.clients.items ∷ codes "</tbody></table></div>\n"
-    ∷ [])
+clients_text page = codes "<h2 id=\"clients\">Clients</h2>\n" ++ table_text page.clients.items

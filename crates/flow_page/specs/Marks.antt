@@ -7,8 +7,8 @@ use Rattle.flow_ways.specs.Why.{request_text}
 use Rattle.flow_ways.specs.declared.granting.GrantedRequest.TheVariants.{Get, Set, Act, Execute}
 use Rattle.flow_page.specs.Lists.{in_turn, separated}
 use Rattle.flow_page.specs.Ways.{anchor_text, line_text}
-use Rattle.flow_page.specs.declared.changes.Change.{Change}
-use Rattle.flow_page.specs.declared.changes.Change.TheVariants.{Gained, Lost}
+use Rattle.flow_changes.specs.declared.kind.Change.{Change}
+use Rattle.flow_changes.specs.declared.kind.Change.TheVariants.{Gained, Lost}
 use Rattle.flow_page.specs.declared.matrix.Found.{Found}
 use Rattle.flow_page.specs.declared.matrix.Found.TheVariants.{Right, Edges}
 use Rattle.flow_page.specs.declared.matrix.Mark.{Mark}

@@ -11,7 +11,7 @@ use Rattle.flow_page.specs.Words.{cell_name}
 use Rattle.flow_page.specs.declared.matrix.MatrixRow.{MatrixRow}
 use Rattle.flow_page.specs.declared.matrix.Opening.{Opening}
 use Rattle.flow_page.specs.declared.matrix.Opening.TheVariants.{First, Next, Same}
-use Rattle.flow_page.specs.declared.matrix_text.TheConstants.{KEY, CHANGES_KEY, HEADING, SHARED, FILTER, MANY_ROWS, MANY_CLIENTS}
+use Rattle.flow_page.specs.declared.matrix_text.TheConstants.{KEY, CHANGES_KEY, HEADING, NOBODY, SHARED, FILTER, MANY_ROWS, MANY_CLIENTS}
 use Rattle.flow_page.specs.declared.page.ClientRow.{ClientRow}
 use Rattle.flow_page.specs.declared.page.Page.{Page}
 
@@ -117,7 +117,16 @@ abbrev pub rows_end : List MatrixRow → List ℕ
 rows_end [] = []
 rows_end (r ∷ rs) = codes "</tbody>\n"
 
+-- the matrix with what stands before it: own profile
+abbrev pub rows_table : Page → List ℕ
+rows_table page = in_turn (
+    front_text page ∷ table_head page ∷ flat_map row_text page.rows.items ∷ rows_end page.rows.items ∷ codes "</table></div>\n" ∷ [])
+
+-- the same for these clients, or that there are none: own profile
+abbrev pub table_text : Page → List ClientRow → List ℕ
+table_text page [] = NOBODY.now
+table_text page (who ∷ others) = rows_table page
+
 -- the matrix: own profile
 abbrev pub matrix_text : Page → List ℕ
-matrix_text page = in_turn (
-    front_text page ∷ table_head page ∷ flat_map row_text page.rows.items ∷ rows_end page.rows.items ∷ codes "</table></div>\n" ∷ [])
+matrix_text page = table_text page page.clients.items

@@ -1,5 +1,5 @@
 -- The objects of a configuration, and the rights on them.
-use Rattle.std.specs.Prelude.{ℕ, ◌==◌, Bool, true, false, not, ◌&&◌, ◌||◌, List, [], ◌∷◌, codes, flat_map, if◌then◌else◌, length}
+use Rattle.std.specs.Prelude.{ℕ, ◌==◌, Bool, true, false, not, ◌&&◌, ◌||◌, List, [], ◌∷◌, ◌++◌, codes, flat_map, if◌then◌else◌, length}
 use Rattle.std.specs.Fmt.{decimal}
 use Rattle.cosem_data.specs.Names as names
 use Rattle.cosem_data.specs.declared.name.LogicalName.{LogicalName}
@@ -8,6 +8,7 @@ use Rattle.flow_page.specs.Lists.{between, in_turn, region_text, separated}
 use Rattle.flow_page.specs.Words.{class_name}
 use Rattle.flow_page.specs.declared.objects.Held.{Held}
 use Rattle.flow_page.specs.declared.objects.ObjectRow.{ObjectRow}
+use Rattle.flow_page.specs.declared.page.ClientRow.{ClientRow}
 use Rattle.flow_page.specs.declared.page.Page.{Page}
 
 -- What a client may do with an object
@@ -84,14 +85,23 @@ row_text r = in_turn (
 -- The table
 
 -- the head of the table: own profile
-abbrev pub table_head : Page → List ℕ
-table_head page = in_turn (
-    codes "<h2 id=\"objects\">Objects and rights</h2>\n" ∷ region_text (codes "objects")
+abbrev pub table_head : List ClientRow → List ℕ
+table_head clients = in_turn (
+    region_text (codes "objects")
     ∷ codes "<table><thead><tr><th scope=\"col\">Logical name</th><th scope=\"col\">Class</th><th scope=\"col\">Class name</th><th scope=\"col\">Inputs</th>"
-    ∷ flat_map (between (codes "<th scope=\"col\">") client_name (codes "</th>")) page.clients.items
-    ∷ codes "</tr></thead>\n"
+    ∷ flat_map (between (codes "<th scope=\"col\">") client_name (codes "</th>")) clients
+    ∷ codes "</tr></thead>\n<tbody>\n"
     ∷ [])
+
+-- the table: own profile
+abbrev pub rows_table : List ClientRow → List ObjectRow → List ℕ
+rows_table clients rows = in_turn (table_head clients ∷ flat_map row_text rows ∷ codes "</tbody></table></div>\n" ∷ [])
+
+-- the table, if there are objects: own profile
+abbrev pub table_text : List ClientRow → List ObjectRow → List ℕ
+table_text clients [] = codes "<p>There are no objects.</p>\n"
+table_text clients (row ∷ rows) = rows_table clients (row ∷ rows)
 
 -- the objects and the rights on them: own profile
 abbrev pub objects_text : Page → List ℕ
-objects_text page = in_turn (table_head page ∷ codes "<tbody>\n" ∷ flat_map row_text page.objects.items ∷ codes "</tbody></table></div>\n" ∷ [])
+objects_text page = codes "<h2 id=\"objects\">Objects and rights</h2>\n" ++ table_text page.clients.items page.objects.items

@@ -1,14 +1,6 @@
 //! What has changed against the configuration before.
 use crate::ways::WayLine;
-
-/// Whether something is gained or lost.
-#[derive(Clone, Copy, Debug, PartialEq, Eq, Drop)]
-pub enum Change {
-    /// The new configuration has it, and the old one lacks it.
-    Gained,
-    /// The old configuration has it, and the new one lacks it.
-    Lost,
-}
+use flow_changes::kind::{Change, Kind};
 
 /// What has changed.
 #[derive(Drop)]
@@ -22,29 +14,12 @@ pub struct Changes {
 /// What has changed of one kind of facts.
 #[derive(Drop)]
 pub struct KindChanges {
-    /// What these facts are about.
-    pub subject: Subject,
+    /// The kind.
+    pub kind: Kind,
     /// The changes, of which there is at least one.
     pub facts: Vec<ChangedFact>,
     /// How many more there are than the page has room for.
     pub more: usize,
-}
-
-/// What facts are about.
-#[derive(Clone, Copy, Debug, PartialEq, Eq, Drop)]
-pub enum Subject {
-    /// Who may influence and learn which cell.
-    Reach,
-    /// What the policy allows.
-    Policy,
-    /// What rights allow.
-    Rights,
-    /// Service access points of clients, and whether they need a password.
-    Clients,
-    /// Which cells there are.
-    Cells,
-    /// Which edges there are.
-    Edges,
 }
 
 /// A fact that is gained or lost.

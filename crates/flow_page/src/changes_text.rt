@@ -2,44 +2,51 @@
 ghost use Rattle.std.specs.Prelude.{◌≡◌, ◌++◌, OnOk, string_bytes};
 ghost use Rattle.flow_page.specs.Changes as spec;
 
-use crate::changes::{Change, ChangedFact, Changes, KindChanges, Subject};
+use crate::changes::{ChangedFact, Changes, KindChanges};
 use crate::lists::{Region, push_separated};
 use crate::ways::WayLine;
 use crate::ways_text::push_way;
 use cosem_data::memory::Memory;
+use flow_changes::kind::{Change, Kind};
 use shown_text::html::{Escaped, Piece, push_all};
 use std::fmt;
 
 /// Whether something is gained or lost, with the class that shows it.
-impl fmt::Display for Change {
+#[derive(Clone, Copy, Drop)]
+struct Sign(Change);
+
+impl fmt::Display for Sign {
     ghost use Rattle.std.specs.Prelude.{Some};
     ghost use Rattle.flow_page.specs.Changes.{change_text};
 
-    ghost output = { λ change. Some (change_text change) };
+    ghost output = { λ sign. Some (change_text sign.0) };
 
     fn fmt<W: fmt::Write>(&self, f: &mut fmt::Formatter<W>) -> fmt::Result {
-        match self {
+        match self.0 {
             Change::Gained => f.write_str("<span class=\"plus\">+ new</span>"),
             Change::Lost => f.write_str("<span class=\"minus\">&minus; gone</span>"),
         }
     }
 }
 
-/// What facts are about, in words.
-impl fmt::Display for Subject {
-    ghost use Rattle.std.specs.Prelude.{Some};
-    ghost use Rattle.flow_page.specs.Changes.{subject_text};
+/// What the facts of a kind are about.
+#[derive(Clone, Copy, Drop)]
+struct Title(Kind);
 
-    ghost output = { λ subject. Some (subject_text subject) };
+impl fmt::Display for Title {
+    ghost use Rattle.std.specs.Prelude.{Some};
+    ghost use Rattle.flow_page.specs.Changes.{title_text};
+
+    ghost output = { λ title. Some (title_text title.0) };
 
     fn fmt<W: fmt::Write>(&self, f: &mut fmt::Formatter<W>) -> fmt::Result {
-        match self {
-            Subject::Reach => f.write_str("Influence and learning"),
-            Subject::Policy => f.write_str("Policy"),
-            Subject::Rights => f.write_str("Rights"),
-            Subject::Clients => f.write_str("Clients"),
-            Subject::Cells => f.write_str("Cells"),
-            Subject::Edges => f.write_str("Edges"),
+        match self.0 {
+            Kind::May => f.write_str("Influence and learning"),
+            Kind::Allowed => f.write_str("Policy"),
+            Kind::Right => f.write_str("Rights"),
+            Kind::Client => f.write_str("Clients"),
+            Kind::Cell => f.write_str("Cells"),
+            Kind::Edge => f.write_str("Edges"),
         }
     }
 }
@@ -60,9 +67,9 @@ impl ChangedFact {
     fn push_fields(&self, page: &mut String) -> Result<(), Memory>
         ensures { OnOk result (string_bytes page.new ≡ string_bytes page.old ++ spec.fields_text self.now) }
     {
-        let change = self.change;
+        let sign = Sign(self.change);
         let words = Escaped(&self.words);
-        write!(page, "<td>{change}</td><td><code>{words}</code></td>")?;
+        write!(page, "<td>{sign}</td><td><code>{words}</code></td>")?;
         write!(page, "<td>")?;
         push_new_way(&self.way, page)?;
         write!(page, "</td></tr>\n")?;
@@ -85,7 +92,7 @@ impl Piece for ChangedFact {
 /// So many changes of a kind for which the page has no room.
 #[derive(Clone, Copy, Drop)]
 struct More {
-    subject: Subject,
+    kind: Kind,
     changes: usize,
 }
 
@@ -93,15 +100,16 @@ impl fmt::Display for More {
     ghost use Rattle.std.specs.Prelude.{Some};
     ghost use Rattle.flow_page.specs.Changes.{more_text};
 
-    ghost output = { λ more. Some (more_text more.subject more.changes) };
+    ghost output = { λ more. Some (more_text more.kind more.changes) };
 
     fn fmt<W: fmt::Write>(&self, f: &mut fmt::Formatter<W>) -> fmt::Result {
-        let More { subject, changes } = *self;
+        let More { kind, changes } = *self;
+        let title = Title(kind);
         match changes {
             0 => f.write_str(""),
             _ => write!(
                 f,
-                "<tr><th scope=\"rowgroup\">{subject}</th><td colspan=\"3\">and {changes} more, printed by <code>cosem-flow compare</code></td></tr>\n"
+                "<tr><th scope=\"rowgroup\">{title}</th><td colspan=\"3\">and {changes} more, printed by <code>cosem-flow compare</code></td></tr>\n"
             ),
         }
     }
@@ -113,10 +121,10 @@ impl KindChanges {
         ensures { OnOk result (string_bytes page.new ≡ string_bytes page.old ++ spec.head_text self.now) }
     {
         let rows = self.facts.len();
-        let subject = self.subject;
+        let title = Title(self.kind);
         write!(
             page,
-            "<th scope=\"rowgroup\" rowspan=\"{rows}\">{subject}</th>"
+            "<th scope=\"rowgroup\" rowspan=\"{rows}\">{title}</th>"
         )?;
         Ok(())
     }
@@ -146,7 +154,7 @@ impl Piece for KindChanges {
 
     fn push(&self, page: &mut String) -> Result<(), Memory> {
         let more = More {
-            subject: self.subject,
+            kind: self.kind,
             changes: self.more,
         };
         write!(page, "<tbody>\n")?;

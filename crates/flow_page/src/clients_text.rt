@@ -179,16 +179,35 @@ pub(crate) fn push_items(clients: &[ClientRow], page: &mut String) -> Result<(),
     Ok(())
 }
 
+/// Puts the table of clients behind a text.
+fn push_rows(clients: &[ClientRow], page: &mut String) -> Result<(), Memory>
+    ensures { OnOk result (string_bytes page.new ≡ string_bytes page.old ++ spec.rows_table clients.now) }
+{
+    write!(page, "{}", Region("clients"))?;
+    write!(page, "{HEAD}")?;
+    push_all(clients, page)?;
+    write!(page, "</tbody></table></div>\n")?;
+    Ok(())
+}
+
+/// Puts the table of clients behind a text, or that there are none.
+fn push_table(clients: &[ClientRow], page: &mut String) -> Result<(), Memory>
+    ensures { OnOk result (string_bytes page.new ≡ string_bytes page.old ++ spec.table_text clients.now) }
+{
+    if clients.is_empty() {
+        write!(page, "<p>There are no clients.</p>\n")?;
+        Ok(())
+    } else {
+        push_rows(clients, page)
+    }
+}
+
 impl Page {
     /// Puts the clients behind a text. The only error is want of memory.
     pub(crate) fn push_clients(&self, page: &mut String) -> Result<(), Memory>
         ensures { OnOk result (string_bytes page.new ≡ string_bytes page.old ++ spec.clients_text self.now) }
     {
         write!(page, "<h2 id=\"clients\">Clients</h2>\n")?;
-        write!(page, "{}", Region("clients"))?;
-        write!(page, "{HEAD}")?;
-        push_all(&self.clients, page)?;
-        write!(page, "</tbody></table></div>\n")?;
-        Ok(())
+        push_table(&self.clients, page)
     }
 }

@@ -2,10 +2,10 @@
 ghost use Rattle.std.specs.Prelude.{◌≡◌, ◌++◌, OnOk, string_bytes};
 ghost use Rattle.flow_page.specs.Marks as spec;
 
-use crate::changes::Change;
 use crate::lists::push_separated;
 use crate::matrix::{Found, Mark, WayLink};
 use cosem_data::memory::Memory;
+use flow_changes::kind::Change;
 use flow_ways::granting::GrantedRequest;
 use meter_theory::flow::Reach;
 use shown_text::html::Piece;

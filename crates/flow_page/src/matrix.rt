@@ -1,7 +1,7 @@
 //! The matrix of a page: who reaches what.
-use crate::changes::Change;
 use crate::ways::{Anchor, WayLine};
 use cosem_data::cell::CellRef;
+use flow_changes::kind::Change;
 use flow_ways::granting::GrantedRequest;
 use meter_theory::flow::Reach;
 

@@ -23,6 +23,11 @@ const CHANGES_KEY: &str = "<li>+ gained</li><li>&minus; lost</li>";
 const HEADING: &str = r#"<h2 id="matrix">Who reaches what</h2>
 <p>For each cell and client: may it change the cell, and may it learn it, by a right of its own or by way of the meter&#39;s edges."#;
 
+/// What stands in its place where there are no clients.
+const NOBODY: &str = r#"<h2 id="matrix">Who reaches what</h2>
+<p>There are no clients: nobody reaches a cell.</p>
+"#;
+
 /// What is said where cells share rows.
 const SHARED: &str = " Alike cells share a row; its first cell stands for them in the ways.";
 
@@ -300,9 +305,21 @@ impl Page {
         Ok(())
     }
 
-    /// Puts the matrix behind a text. The only error is want of memory.
+    /// Puts the matrix behind a text, or that there are no clients. The only error is want of memory.
     pub(crate) fn push_matrix(&self, page: &mut String) -> Result<(), Memory>
         ensures { OnOk result (string_bytes page.new ≡ string_bytes page.old ++ spec.matrix_text self.now) }
+    {
+        if self.clients.is_empty() {
+            write!(page, "{NOBODY}")?;
+            Ok(())
+        } else {
+            self.push_matrix_table(page)
+        }
+    }
+
+    /// Puts the matrix with what stands before it behind a text.
+    fn push_matrix_table(&self, page: &mut String) -> Result<(), Memory>
+        ensures { OnOk result (string_bytes page.new ≡ string_bytes page.old ++ spec.rows_table self.now) }
     {
         self.push_matrix_front(page)?;
         self.push_matrix_head(page)?;

@@ -4,7 +4,7 @@ ghost use Rattle.flow_page.specs.Objects as spec;
 
 use crate::lists::{Region, push_between, push_separated};
 use crate::objects::{Held, ObjectRow};
-use crate::page::Page;
+use crate::page::{ClientRow, Page};
 use crate::words::class_name;
 use cosem_data::memory::Memory;
 use cosem_data::name::LogicalName;
@@ -134,30 +134,49 @@ impl Piece for ObjectRow {
     }
 }
 
-impl Page {
-    /// Puts the head of the table of objects behind a text.
-    fn push_objects_head(&self, page: &mut String) -> Result<(), Memory>
-        ensures { OnOk result (string_bytes page.new ≡ string_bytes page.old ++ spec.table_head self.now) }
-    {
-        write!(page, "<h2 id=\"objects\">Objects and rights</h2>\n")?;
-        write!(page, "{}", Region("objects"))?;
-        write!(
-            page,
-            "<table><thead><tr><th scope=\"col\">Logical name</th><th scope=\"col\">Class</th><th scope=\"col\">Class name</th><th scope=\"col\">Inputs</th>"
-        )?;
-        push_between("<th scope=\"col\">", &self.clients, "</th>", page)?;
-        write!(page, "</tr></thead>\n")?;
-        Ok(())
-    }
+/// Puts the head of the table of objects behind a text.
+fn push_head(clients: &[ClientRow], page: &mut String) -> Result<(), Memory>
+    ensures { OnOk result (string_bytes page.new ≡ string_bytes page.old ++ spec.table_head clients.now) }
+{
+    write!(page, "{}", Region("objects"))?;
+    write!(
+        page,
+        "<table><thead><tr><th scope=\"col\">Logical name</th><th scope=\"col\">Class</th><th scope=\"col\">Class name</th><th scope=\"col\">Inputs</th>"
+    )?;
+    push_between("<th scope=\"col\">", clients, "</th>", page)?;
+    write!(page, "</tr></thead>\n<tbody>\n")?;
+    Ok(())
+}
 
+/// Puts the table of objects behind a text.
+fn push_rows(clients: &[ClientRow], rows: &[ObjectRow], page: &mut String) -> Result<(), Memory>
+    ensures { OnOk result (string_bytes page.new ≡ string_bytes page.old ++ spec.rows_table clients.now rows.now) }
+{
+    push_head(clients, page)?;
+    push_all(rows, page)?;
+    write!(page, "</tbody></table></div>\n")?;
+    Ok(())
+}
+
+/// Puts the table of objects behind a text, or that there are none.
+fn push_table(clients: &[ClientRow], rows: &[ObjectRow], page: &mut String) -> Result<(), Memory>
+    ensures { OnOk result (string_bytes page.new ≡ string_bytes page.old ++ spec.table_text clients.now rows.now) }
+{
+    if rows.is_empty() {
+        write!(page, "<p>There are no objects.</p>\n")?;
+        Ok(())
+    } else {
+        push_rows(clients, rows, page)
+    }
+}
+
+impl Page {
     /// Puts the objects and the rights on them behind a text. The only error is want of memory.
     pub(crate) fn push_objects(&self, page: &mut String) -> Result<(), Memory>
         ensures { OnOk result (string_bytes page.new ≡ string_bytes page.old ++ spec.objects_text self.now) }
     {
-        self.push_objects_head(page)?;
-        write!(page, "<tbody>\n")?;
-        push_all(&self.objects, page)?;
-        write!(page, "</tbody></table></div>\n")?;
+        write!(page, "<h2 id=\"objects\">Objects and rights</h2>\n")?;
+        push_table(&self.clients, &self.objects, page)?;
         Ok(())
     }
 }

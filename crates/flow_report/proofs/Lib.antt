@@ -1,4 +1,3 @@
-pub mod Distance
 pub mod Records
 pub mod Values
 pub mod NoFloats

@@ -9,11 +9,12 @@ use Rattle.meter_theory.specs.declared.flow.Reach.TheVariants.{Influence, Learn}
 use Rattle.value_text.specs.Texts.{cell_text}
 use Rattle.serde_json.specs.Data.{string}
 use Rattle.serde_json.specs.Written.{has_float}
-use Rattle.flow_report.specs.Found.{Distances}
+use Rattle.flow_ways.specs.Access.{highest_for}
+use Rattle.flow_ways.specs.Found.{Distances}
+use Rattle.flow_ways.specs.declared.access.Access.{Access}
+use Rattle.flow_ways.specs.declared.access.Access.TheVariants.{Get, Set, Act}
 use Rattle.flow_report.specs.Json as spec
-use Rattle.flow_report.specs.Rights.{Head, Rights, highest}
-use Rattle.flow_report.specs.declared.doing.Doing.{Doing}
-use Rattle.flow_report.specs.declared.doing.Doing.TheVariants.{Get, Set, Act}
+use Rattle.flow_report.specs.Rights.{Head, Rights}
 use Rattle.flow_report.proofs.Values.{NoFloatMembers, no-float-array, no-float-object, no-floats-flat, no-floats-if, no-floats-map, no-floats-members}
 
 allowed-none : (names : List (List ℕ)) (set : ClientSet) → has_float (spec.allowed names set) ≡ false
@@ -39,11 +40,11 @@ cell-none names found x label =
     no-float-object ((codes "cell", string (cell_text x)) ∷ spec.reach_member names found x label Influence ∷ spec.reach_member names found x label Learn ∷ [])
     (refl, (reach-none names label.influence (λ c. found Influence c x), (reach-none names label.learn (λ c. found Learn c x), tt)))
 
-indexes-none : (rights : Rights) (c : ℕ) (o : Head) (doing : Doing) → has_float (spec.indexes rights c o doing) ≡ false
-indexes-none rights c o doing =
-    let f = spec.index_if (rights.allows doing c o.name) in
-    let places = range_with_len 1 (highest doing o.interface) in
-    no-float-array (flat_map f places) (no-floats-flat f places (λ i. no-floats-if (rights.allows doing c o.name i) (spec.count i) refl))
+indexes-none : (rights : Rights) (c : ℕ) (o : Head) (access : Access) → has_float (spec.indexes rights c o access) ≡ false
+indexes-none rights c o access =
+    let f = spec.index_if (rights.allows c access o.name) in
+    let places = range_with_len 1 (highest_for access o.interface) in
+    no-float-array (flat_map f places) (no-floats-flat f places (λ i. no-floats-if (rights.allows c access o.name i) (spec.count i) refl))
 
 right-none : (names : List (List ℕ)) (rights : Rights) (c : ℕ) (o : Head) → has_float (spec.right_data names rights c o) ≡ false
 right-none names rights c o =

@@ -5,12 +5,15 @@ use Rattle.cosem_data.specs.declared.cell.CellRef.{CellRef}
 use Rattle.label_certificate.specs.LabelText.{cell_place}
 use Rattle.meter_theory.specs.Labels.{Policy}
 use Rattle.meter_theory.specs.Plan.{Plan}
+use Rattle.flow_changes.specs.Written.{IsComparison}
+use Rattle.flow_changes.specs.declared.compare.Comparison.{Comparison}
 use Rattle.flow_drawing.specs.Picture.{IsPictureOf}
 use Rattle.flow_page.specs.Page.{page_text}
 use Rattle.flow_page.specs.declared.matrix.MatrixRow.{MatrixRow}
 use Rattle.flow_page.specs.declared.page.Page.{Page}
 use Rattle.flow_picture.specs.Svg.{IsPicture}
 use Rattle.flow_picture.specs.declared.picture.Picture.{Picture}
+use Rattle.flow_report.specs.declared.html_form.Before.{Before}
 use Rattle.flow_view.specs.Page.{IsPageOf}
 use Rattle.flow_view.specs.declared.page.Heading.{Heading}
 
@@ -27,10 +30,20 @@ numbers_in P xs = flat_map (λ x. listed (cell_place P x)) xs
 abbrev pub numbers_of : Plan → List MatrixRow → List (List ℕ)
 numbers_of P rows = map (λ row. numbers_in P row.cells.items) rows
 
--- the text of the page of a plan and a policy under this heading, with the picture of the edges between its rows
-pub record IsHtml (P : Plan) (Q : Policy) (heading : Heading) (text : List ℕ) : Type 0 where
+-- a plan and a policy
+abbrev pub configuration_of : Before → Plan × Policy
+configuration_of before = (before.plan.now, before.policy.now)
+
+-- what a page shows of a plan and a policy under this heading, compared with those before where these are given
+abbrev pub IsPageAgainst : Plan → Policy → (before : Option (Plan × Policy)) → Heading → Page → Type 0
+IsPageAgainst P Q None heading page = IsPageOf P Q None heading page
+IsPageAgainst P Q (Some before) heading page =
+    (told : Comparison) × IsComparison before.0 before.1 P Q told × IsPageOf P Q (Some told) heading page
+
+-- the text of that page, with the picture of the edges between its rows
+pub record IsHtml (P : Plan) (Q : Policy) (before : Option (Plan × Policy)) (heading : Heading) (text : List ℕ) : Type 0 where
   pub page : Page
-  pub page_is : IsPageOf P Q None heading page
+  pub page_is : IsPageAgainst P Q before heading page
   pub picture : Picture
   pub picture_is : IsPictureOf P (numbers_of P page.rows.items) picture
   pub drawn : List ℕ

@@ -17,12 +17,13 @@ use Rattle.serde_json.specs.Data.{Data, Members, array, no_members, number, obje
 use Rattle.serde_json.specs.View.{items_of}
 use Rattle.serde_json.specs.Written.{compact_text}
 use Rattle.value_text.specs.Texts.{cell_text}
+use Rattle.flow_ways.specs.Access.{access_word, highest_for}
+use Rattle.flow_ways.specs.Found.{AreDistancesOf, Distances}
 use Rattle.flow_ways.specs.Why.{reach_word}
+use Rattle.flow_ways.specs.declared.access.Access.{Access}
+use Rattle.flow_ways.specs.declared.access.Access.TheVariants.{Get, Set, Act}
 use Rattle.flow_report.specs.Csv.{client_names}
-use Rattle.flow_report.specs.Found.{AreDistancesOf, Distances}
-use Rattle.flow_report.specs.Rights.{Head, Rights, heads_of, highest, rights_of}
-use Rattle.flow_report.specs.declared.doing.Doing.{Doing}
-use Rattle.flow_report.specs.declared.doing.Doing.TheVariants.{Get, Set, Act}
+use Rattle.flow_report.specs.Rights.{Head, Rights, heads_of, rights_of}
 
 -- Values
 
@@ -88,21 +89,16 @@ cells_data names found labels xs = array_of (map (λ x. cell_data names found x 
 abbrev pub head_text : Head → List ℕ
 head_text o = decimal o.interface.class_id ++ (47 ∷ name_text o.name.0)
 
-abbrev pub doing_word : Doing → List ℕ
-doing_word Get = codes "get"
-doing_word Set = codes "set"
-doing_word Act = codes "act"
-
 -- an index, if a right allows it: own profile
 abbrev pub index_if : (ℕ → Bool) → ℕ → List Data
 index_if allows index = cond (allows index) (count index ∷ []) []
 
 -- those that rights allow a client on an object, joined, from the least on: own profile
-abbrev pub indexes : Rights → ℕ → Head → Doing → Data
-indexes rights c o doing = array_of (flat_map (index_if (rights.allows doing c o.name)) (range_with_len 1 (highest doing o.interface)))
+abbrev pub indexes : Rights → ℕ → Head → Access → Data
+indexes rights c o access = array_of (flat_map (index_if (rights.allows c access o.name)) (range_with_len 1 (highest_for access o.interface)))
 
-abbrev pub indexes_member : Rights → ℕ → Head → Doing → Member
-indexes_member rights c o doing = (doing_word doing, indexes rights c o doing)
+abbrev pub indexes_member : Rights → ℕ → Head → Access → Member
+indexes_member rights c o access = (access_word access, indexes rights c o access)
 
 -- what a client may do with an object: own profile
 abbrev pub right_data : (names : List (List ℕ)) → Rights → ℕ → Head → Data

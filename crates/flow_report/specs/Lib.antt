@@ -1,4 +1,3 @@
-pub mod Found
 pub mod Csv
 pub mod Html
 pub mod Json

@@ -2,11 +2,11 @@
 -- in them.
 use Rattle.std.specs.Prelude.{ℕ, Bool, List, map}
 use Rattle.cosem_data.specs.declared.name.LogicalName.{LogicalName}
-use Rattle.meter_theory.specs.Plan.{Object, Plan, Right, interface_of}
-use Rattle.meter_theory.specs.Rights.{has_right, in_view, lists}
+use Rattle.meter_theory.specs.Plan.{Object, Plan, interface_of}
+use Rattle.meter_theory.specs.Rights.{in_view}
 use Rattle.meter_theory.specs.declared.refs.Interface.{Interface}
-use Rattle.flow_report.specs.declared.doing.Doing.{Doing}
-use Rattle.flow_report.specs.declared.doing.Doing.TheVariants.{Get, Set, Act}
+use Rattle.flow_ways.specs.Access.{is_granted}
+use Rattle.flow_ways.specs.declared.access.Access.{Access}
 
 -- an object: its logical name and its interface class
 pub record Head : Type 0 where
@@ -19,23 +19,11 @@ head_of o = record { name = o.name; interface = interface_of o.part }
 abbrev pub heads_of : Plan → List Head
 heads_of P = map head_of P.objects
 
--- the indexes that a right lists
-abbrev pub listed : Doing → Right → List ℕ
-listed Get r = r.gets
-listed Set r = r.sets
-listed Act r = r.acts
-
--- how many of them a class has (IEC 62056-6-2)
-abbrev pub highest : Doing → Interface → ℕ
-highest Get interface = interface.attributes
-highest Set interface = interface.attributes
-highest Act interface = interface.methods
-
 -- whether a client sees an object, and may get or set its attribute or call its method with an index
 pub record Rights : Type 0 where
   pub views : ℕ → LogicalName → Bool
-  pub allows : Doing → ℕ → LogicalName → ℕ → Bool
+  pub allows : ℕ → Access → LogicalName → ℕ → Bool
 
 -- by some right of the plan
 abbrev pub rights_of : Plan → Rights
-rights_of P = record { views = in_view P; allows = λ doing c name index. has_right P c name (λ r. lists (listed doing r) index) }
+rights_of P = record { views = in_view P; allows = is_granted P }

@@ -2,17 +2,16 @@
 ghost use Rattle.std.specs.Prelude.{◌≡◌, ◌<◌, ◌∷◌, [], IfOk, OnOk, flat_map, length, map, string_bytes};
 ghost use Rattle.meter_theory.specs.Labels.{labelling_of_policy};
 ghost use Rattle.meter_theory.specs.Plan as theory;
-ghost use Rattle.meter_theory.specs.Ways as reaching;
 ghost use Rattle.value_text.specs.Texts.{cell_text};
 ghost use Rattle.flow_edges.specs.Table.{cell_at};
+ghost use Rattle.flow_ways.specs.Found.{distance_of};
 ghost use Rattle.flow_report.specs.Csv as spec;
 ghost use Rattle.flow_report.specs.Csv.{AreWritten, IsBetween, IsCsv, client_names};
-ghost use Rattle.flow_report.specs.Found.{distance_of};
 
 use cosem_data::cell::CellRef;
-use cosem_data::clients::ClientSet;
 use cosem_data::memory::Memory;
 use csv::{Writer, WriterBuilder};
+use flow_ways::ends::set_for;
 use flow_ways::ways::Ways;
 use flow_ways::why::reach_word;
 use label_certificate::numbered::policy_labels;
@@ -223,16 +222,6 @@ fn yes_or_no(holds: bool) -> &'static str
     ensures { result.now ≡ spec.yes_or_no holds }
 {
     if holds { "yes" } else { "no" }
-}
-
-/// The clients that a label has of this reach.
-pub(crate) fn set_for(reach: Reach, label: Label) -> ClientSet
-    ensures { result ≡ reaching.set_for reach label }
-{
-    match reach {
-        Reach::Influence => label.influence,
-        Reach::Learn => label.learn,
-    }
 }
 
 /// Writes a record of these fields. The error is that the write was refused.

@@ -1,12 +1,14 @@
 //! The report as a page for a browser.
-ghost use Rattle.std.specs.Prelude.{◌≡◌, ◌++◌, IfOk, OnOk, flat_map, map, string_bytes};
+ghost use Rattle.std.specs.Prelude.{◌≡◌, ◌++◌, IfOk, OnOk, flat_map, map, option_map, string_bytes};
 ghost use Rattle.label_certificate.specs.LabelText.{cell_place};
-ghost use Rattle.flow_report.specs.Html.{IsHtml, listed, numbers_in, numbers_of};
+ghost use Rattle.flow_report.specs.Html.{IsHtml, IsPageAgainst, configuration_of, listed, numbers_in, numbers_of};
 
 use cosem_data::cell::CellRef;
 use cosem_data::memory::Memory;
+use flow_changes::compare::compare;
 use flow_drawing::picture::picture_of;
 use flow_page::matrix::MatrixRow;
+use flow_page::page::Page;
 use flow_page::page_text::page_text;
 use flow_picture::svg::picture_text;
 use flow_view::page::{Heading, page_of};
@@ -15,8 +17,17 @@ use object_model::plan::Plan;
 use object_model::policy::Policy;
 use std::alloc::Global;
 
-/// The report of a plan's ways and a policy as a page for a browser, under this heading: whole in itself, the same bytes for the same
-/// configuration (own profile).
+/// A plan and the policy of its configuration, with which another is compared.
+#[derive(Clone, Copy)]
+pub struct Before<'a> {
+    /// The plan.
+    pub plan: &'a Plan,
+    /// The policy.
+    pub policy: &'a Policy,
+}
+
+/// The report of a plan's ways and a policy as a page for a browser, under this heading, and with what has changed where a
+/// configuration before is given: whole in itself, the same bytes for the same configurations (own profile).
 ///
 /// # Errors
 /// Memory was refused.
@@ -24,15 +35,35 @@ pub fn html_text(
     alloc: Global,
     ways: &Ways<'_>,
     policy: &Policy,
+    before: Option<Before<'_>>,
     heading: Heading,
 ) -> Result<String, Memory>
-    ensures { IfOk result (λ text. IsHtml ways.now policy.now heading (string_bytes text)) }
+    ensures { IfOk result (λ text. IsHtml ways.now policy.now (option_map configuration_of before.entry) heading (string_bytes text)) }
 {
-    let page = page_of(alloc, ways, policy, heading, None)?;
+    let page = page_against(alloc, ways, policy, before, heading)?;
     let groups = groups_of(alloc, ways.plan(), &page.rows)?;
     let picture = picture_of(alloc, ways, &groups)?;
     let drawn = picture_text(alloc, &picture)?;
     page_text(alloc, &page, drawn.as_str())
+}
+
+/// What a page shows of a plan's ways and a policy, compared with the configuration before where that is given.
+fn page_against(
+    alloc: Global,
+    ways: &Ways<'_>,
+    policy: &Policy,
+    before: Option<Before<'_>>,
+    heading: Heading,
+) -> Result<Page, Memory>
+    ensures { IfOk result (IsPageAgainst ways.now policy.now (option_map configuration_of before.entry) heading) }
+{
+    match before {
+        Some(before) => {
+            let told = compare(alloc, before.plan, before.policy, ways.plan(), policy)?;
+            page_of(alloc, ways, policy, heading, Some(&told))
+        }
+        None => page_of(alloc, ways, policy, heading, None),
+    }
 }
 
 /// The numbers of the cells of each row.

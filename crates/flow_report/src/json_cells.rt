@@ -4,18 +4,17 @@ ghost use Rattle.serde_json.specs.Data.{put as with_member, string as string_dat
 ghost use Rattle.serde_json.specs.View.{members_view, view};
 ghost use Rattle.meter_theory.specs.Labels.{labelling_of_policy};
 ghost use Rattle.meter_theory.specs.Plan as theory;
-ghost use Rattle.meter_theory.specs.Ways as reaching;
 ghost use Rattle.value_text.specs.Texts.{cell_text};
 ghost use Rattle.flow_edges.specs.Table.{cell_at};
+ghost use Rattle.flow_ways.specs.Found.{distance_of};
 ghost use Rattle.flow_report.specs.Csv.{client_names};
-ghost use Rattle.flow_report.specs.Found.{distance_of};
 ghost use Rattle.flow_report.specs.Json as spec;
 
-use crate::csv_form::set_for;
 use crate::json_values::{client_name, push_text, push_value, put_member, put_text};
 use cosem_data::cell::CellRef;
 use cosem_data::clients::ClientSet;
 use cosem_data::memory::Memory;
+use flow_ways::ends::set_for;
 use flow_ways::ways::Ways;
 use flow_ways::why::reach_word;
 use label_certificate::numbered::policy_labels;

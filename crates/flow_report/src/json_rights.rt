@@ -7,9 +7,9 @@ ghost use Rattle.flow_report.specs.Csv.{client_names};
 ghost use Rattle.flow_report.specs.Json as spec;
 ghost use Rattle.flow_report.specs.Rights.{head_of, heads_of, rights_of};
 
-use crate::doing::{Doing, allows, doing_word, highest};
 use crate::json_values::{client_name, push_text, push_value, put_member, put_text};
 use cosem_data::memory::Memory;
+use flow_ways::access::Access;
 use object_model::instance::Instance;
 use object_model::object::Object;
 use object_model::plan::Plan;
@@ -110,9 +110,9 @@ fn right_value(alloc: Global, plan: &Plan, client: u8, object: &Object) -> Resul
     put_text(alloc, "client", client_name(plan, client), &mut members)?;
     let text = object_text(alloc, object)?;
     put_text(alloc, "object", &text, &mut members)?;
-    put_indexes(alloc, plan, client, object, Doing::Get, &mut members)?;
-    put_indexes(alloc, plan, client, object, Doing::Set, &mut members)?;
-    put_indexes(alloc, plan, client, object, Doing::Act, &mut members)?;
+    put_indexes(alloc, plan, client, object, Access::Get, &mut members)?;
+    put_indexes(alloc, plan, client, object, Access::Set, &mut members)?;
+    put_indexes(alloc, plan, client, object, Access::Act, &mut members)?;
     Ok(Value::Object(members))
 }
 
@@ -122,14 +122,14 @@ fn put_indexes(
     plan: &Plan,
     client: u8,
     object: &Object,
-    doing: Doing,
+    access: Access,
     members: &mut Map<String, Value>,
 ) -> Result<(), Memory>
     ensures { OnOk result (members_view members.new.entries ≡ spec.put_all (members_view members.old.entries)
-        (spec.indexes_member (rights_of plan.now) client (head_of object.now) doing ∷ [])) }
+        (spec.indexes_member (rights_of plan.now) client (head_of object.now) access ∷ [])) }
 {
-    let value = indexes_value(alloc, plan, client, object, doing)?;
-    put_member(alloc, doing_word(doing), value, members)
+    let value = indexes_value(alloc, plan, client, object, access)?;
+    put_member(alloc, access.word(), value, members)
 }
 
 /// The indexes at which rights allow a client to do something with an object.
@@ -138,15 +138,15 @@ fn indexes_value(
     plan: &Plan,
     client: u8,
     object: &Object,
-    doing: Doing,
+    access: Access,
 ) -> Result<Value, Memory>
-    ensures { IfOk result (λ value. view value ≡ spec.indexes (rights_of plan.now) client (head_of object.now) doing) }
+    ensures { IfOk result (λ value. view value ≡ spec.indexes (rights_of plan.now) client (head_of object.now) access) }
 {
     let instance = plan.instance(&object.name());
-    let count = highest(doing, object.part().interface());
+    let highest = access.highest(&object.part().interface());
     let mut list = Vec::new(alloc);
-    for place in 0..count {
-        push_index(&instance, doing, client, place + 1, &mut list)?;
+    for place in 0..highest {
+        push_index(&instance, access, client, place + 1, &mut list)?;
     }
     Ok(Value::Array(list))
 }
@@ -154,15 +154,15 @@ fn indexes_value(
 /// Puts an index behind others, if rights allow a client to do something with an object at it.
 fn push_index(
     instance: &Instance<'_>,
-    doing: Doing,
+    access: Access,
     client: u8,
     index: u8,
     list: &mut Vec<Value>,
 ) -> Result<(), Memory>
     ensures { OnOk result (map view list.new.items ≡ map view list.old.items
-        ++ spec.index_if ((rights_of instance.now.plan).allows doing client instance.now.name) index) }
+        ++ spec.index_if ((rights_of instance.now.plan).allows client access instance.now.name) index) }
 {
-    if allows(instance, doing, client, index) {
+    if access.is_granted(instance, client, index) {
         push_value(Value::from(index), list)
     } else {
         Ok(())

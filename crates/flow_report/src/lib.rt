@@ -4,15 +4,13 @@
 //! - [`html_form::html_text`] gives it as a page for a browser.
 //! - [`json_form::json_text`] gives it as JSON, one object with the verdict, the rights and the cells.
 //!
-//! What a form is stands in `specs/`: distances as a function (`Found`), the records of CSV (`Csv`), the objects and rights that are
-//! shown (`Rights`) and the values of JSON (`Json`). The theorems are the functions of [`laws`].
+//! What a form is stands in `specs/`: the records of CSV (`Csv`), the page (`Html`), the objects and rights that are shown (`Rights`)
+//! and the values of JSON (`Json`).
 #![tactic(auto)]
 
 pub mod csv_form;
-mod doing;
 pub mod html_form;
 mod json_cells;
 pub mod json_form;
 mod json_rights;
 mod json_values;
-pub mod laws;

@@ -9,14 +9,14 @@ use Rattle.meter_theory.specs.declared.flow.Reach.{Reach}
 use Rattle.meter_theory.proofs.Ways.{distance-first, shown-way}
 use Rattle.flow_ways.specs.Granting.{shown_request}
 use Rattle.flow_ways.specs.Why.{way_end}
+use Rattle.flow_ways.specs.Found.{distance_of}
 use Rattle.flow_ways.specs.declared.granting.GrantedRequest.{GrantedRequest}
 use Rattle.flow_ways.proofs.Granted.{shown-there}
 use Rattle.flow_ways.proofs.Told.{way-granted}
+use Rattle.flow_ways.proofs.Distance.{are-distances}
 use Rattle.flow_page.specs.declared.matrix.Found.{Found}
 use Rattle.flow_page.specs.declared.matrix.Found.TheVariants.{Right, Edges}
-use Rattle.flow_view.specs.Found.{distance_of}
 use Rattle.flow_view.specs.Marks.{found_at, found_of, request_of}
-use Rattle.flow_view.proofs.Distance.{are-distances}
 
 module _ (P : Plan) (sound : IsSound P) (reach : Reach) (c : ℕ) (x : CellRef) (there : IsIn (cells P) x) where
   end-request : (d : ℕ) → distance_of P reach c x ≡ Some d → (request : GrantedRequest) × (shown_request P reach c (way_end reach x (shown_way P reach c d x)) ≡ Some request)

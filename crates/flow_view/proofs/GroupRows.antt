@@ -1,18 +1,13 @@
 -- Groups, and single numbers, are rows of items.
-use Rattle.std.proofs.Common.{◌≡◌, ℕ, zero, suc, ◌<◌, ◌≤◌, Bool, true, false, cond, not, List, [], ◌∷◌, ◌++◌, get_or, length, refl, ap, sym, subst, ◌∙◌, arith}
-use Rattle.std.specs.List.{All, filter, list_any, range_with_len}
-use Rattle.std.proofs.lemmas.List.Elements.{All-append, All-cons, All-filter, All-map, All-nil}
+use Rattle.std.proofs.Common.{◌≡◌, ℕ, zero, suc, ◌<◌, ◌≤◌, Bool, true, false, cond, List, [], ◌∷◌, get_or, length, refl, ap, sym, subst, zero-add, ◌∙◌, arith}
+use Rattle.std.specs.List.{filter, range_with_len}
+use Rattle.std.proofs.lemmas.List.Elements.{All-cons, All-filter, All-map, All-nil}
 use Rattle.std.proofs.lemmas.List.FromFn.{get_or-range_with_len, length-range_with_len}
-use Rattle.std.proofs.lemmas.List.Sums.{count_by-le-length, length-filter}
-use Rattle.flow_view.specs.Grouping.{AreGrouped, firsts, firsts_behind}
+use Rattle.std.proofs.lemmas.List.Sums.{length-filter}
+use Rattle.alike_items.specs.Grouping.{AreGrouped, firsts}
+use Rattle.alike_items.proofs.Firsts.{firsts-below}
+use Rattle.alike_items.proofs.Ranges.{count-few, range-below}
 use Rattle.flow_view.specs.Rows.{AreRowsOf, IsRow, singles}
-
-pub range-below : (n : ℕ) → All (λ i. i < n) (range_with_len 0 n)
-range-below n k d less =
-    let low = subst (λ m. k < m) (length-range_with_len 0 n) less in
-    let at = get_or-range_with_len 0 n k d low in
-    let P : ℕ → Type 0 = λ i. i < n in
-    subst P (sym at) (omega (arith, low))
 
 -- those that pass a test are at least one where one does
 filter-some : (test : ℕ → Bool) (xs : List ℕ) (k : ℕ) → k < length xs → test (get_or xs k 0) ≡ true → 1 ≤ length (filter test xs)
@@ -26,29 +21,13 @@ filter-some test (x ∷ xs) (suc k) less passes = at (test x) (filter-some test 
     at true rest = omega arith
     at false rest = rest
 
--- firsts are among the items
-firsts-are : {A : Type 0} (P : A → Type 0) (same : A → A → Bool) (known xs : List A) → All P known → All P xs → All P (firsts_behind same known xs)
-firsts-are P same known [] before here = before
-firsts-are P same known (x ∷ xs) before here =
-    firsts-are P same (known ++ cond (not (list_any (λ y. same y x) known)) (x ∷ []) []) xs
-    (All-append P known (cond (not (list_any (λ y. same y x) known)) (x ∷ []) []) before (at (not (list_any (λ y. same y x) known))))
-    (λ k d less. here (suc k) d (omega (arith, less)))
-  where
-    at : (b : Bool) → All P (cond b (x ∷ []) [])
-    at true = All-cons P x [] (here 0 x (omega arith)) (All-nil P)
-    at false = All-nil P
-
-pub firsts-below : (same : ℕ → ℕ → Bool) (n : ℕ) → All (λ i. i < n) (firsts same (range_with_len 0 n))
-unfolding firsts
-firsts-below same n = firsts-are (λ i. i < n) same [] (range_with_len 0 n) (All-nil (λ i. i < n)) (range-below n)
-
 group-row : (test : ℕ → Bool) (n x : ℕ) → x < n → test x ≡ true → IsRow n (filter test (range_with_len 0 n))
 group-row test n x less passes =
-    let here : x < length (range_with_len 0 n) = omega (arith, less, length-range_with_len 0 n) in
-    let at : get_or (range_with_len 0 n) x 0 ≡ x = omega (arith, get_or-range_with_len 0 n x 0 less) in
+    let here : x < length (range_with_len 0 n) = subst (λ m. x < m) (sym (length-range_with_len 0 n)) less in
+    let at : get_or (range_with_len 0 n) x 0 ≡ x = get_or-range_with_len 0 n x 0 less ∙ zero-add x in
     record {
       some = filter-some test (range_with_len 0 n) x here (ap test at ∙ passes);
-      few = omega (arith, length-filter test (range_with_len 0 n), count_by-le-length test (range_with_len 0 n), length-range_with_len 0 n);
+      few = subst (λ m. m ≤ n) (sym (length-filter test (range_with_len 0 n))) (count-few test n);
       within = All-filter test (λ i. i < n) (range_with_len 0 n) (range-below n);
     }
 

@@ -1,7 +1,3 @@
-pub mod Ranges
-pub mod Grouped
-pub mod Distance
-pub mod Ways
 pub mod GroupRows
 pub mod RowFacts
 pub mod Picked

@@ -6,12 +6,12 @@ use Rattle.std.specs.Option.{option_to_list}
 use Rattle.std.proofs.lemmas.List.Elements.{All-append, All-cons, All-nil, All-take}
 use Rattle.meter_theory.specs.declared.flow.Reach.{Reach}
 use Rattle.meter_theory.specs.declared.flow.Reach.TheVariants.{Influence, Learn}
+use Rattle.alike_items.proofs.Ranges.{range-below}
 use Rattle.flow_ways.specs.declared.granting.GrantedRequest.{GrantedRequest}
 use Rattle.flow_view.specs.Marks.{Told}
 use Rattle.flow_view.specs.Tables.{ArePicks, IsPick, client_picks, pick_of, picks, reach_picks, row_picks}
 use Rattle.flow_view.specs.declared.picks.Pick.{Pick}
 use Rattle.flow_view.specs.declared.picks.Sort.{Sort}
-use Rattle.flow_view.proofs.GroupRows.{range-below}
 
 all-flat : {A B : Type 0} (P : B → Type 0) (f : A → List B) (xs : List A) → All (λ x. All P (f x)) xs → All P (flat_map f xs)
 all-flat P f [] h = All-nil P

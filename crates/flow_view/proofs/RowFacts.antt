@@ -6,7 +6,7 @@ use Rattle.std.proofs.lemmas.List.{get_or-map, length-map}
 use Rattle.std.proofs.lemmas.List.FromFn.{length-range_with_len}
 use Rattle.meter_theory.specs.Plan.{Plan, cells}
 use Rattle.meter_theory.specs.Sound.{IsSound}
-use Rattle.flow_view.specs.Grouping.{AreGrouped}
+use Rattle.alike_items.specs.Grouping.{AreGrouped}
 use Rattle.flow_view.specs.Marks.{Told}
 use Rattle.flow_view.specs.Objects.{AreObjectRows, object_key}
 use Rattle.flow_view.specs.Rows.{AreRows, AreRowsOf, IsRow, row_key, singles}

@@ -6,9 +6,9 @@ use Rattle.meter_theory.specs.Rights.{in_view}
 use Rattle.meter_theory.specs.declared.flow.Reach.{Reach}
 use Rattle.meter_theory.specs.declared.flow.Reach.TheVariants.{Influence, Learn}
 use Rattle.flow_edges.specs.Table.{cell_at}
+use Rattle.flow_ways.specs.Found.{distance_of}
 use Rattle.flow_page.specs.declared.page.ClientRow.{ClientRow}
 use Rattle.flow_page.specs.declared.page.Counts.{Counts}
-use Rattle.flow_view.specs.Found.{distance_of}
 use Rattle.flow_view.specs.Marks.{Told, has_at}
 use Rattle.flow_view.specs.declared.clients.Kind.{Kind}
 use Rattle.flow_view.specs.declared.clients.Kind.TheVariants.{ByRight, ByEdges, NotAllowed, NoWay}

@@ -13,8 +13,8 @@ use Rattle.meter_theory.specs.declared.flow.Reach.{Reach}
 use Rattle.meter_theory.specs.declared.flow.Reach.TheVariants.{Influence, Learn}
 use Rattle.flow_ways.specs.declared.granting.GrantedRequest.{GrantedRequest}
 use Rattle.flow_ways.specs.declared.granting.GrantedRequest.TheVariants as request
-use Rattle.flow_page.specs.declared.changes.Change.{Change}
-use Rattle.flow_page.specs.declared.changes.Change.TheVariants.{Gained, Lost}
+use Rattle.flow_changes.specs.declared.kind.Change.{Change}
+use Rattle.flow_changes.specs.declared.kind.Change.TheVariants.{Gained, Lost}
 use Rattle.flow_view.specs.Keys.{ObjectFacts, RowFacts, object_facts, row_facts}
 use Rattle.flow_view.specs.declared.keys.MarkKey.{MarkKey}
 use Rattle.flow_view.specs.declared.keys.ObjectKey.{ObjectKey}

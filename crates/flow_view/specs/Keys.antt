@@ -1,8 +1,8 @@
 -- What rows have alike that are shown as one.
 use Rattle.std.specs.Prelude.{ℕ, Bool, List, Option, Some, None}
+use Rattle.flow_ways.specs.declared.granting.GrantedRequest.TheVariants as request
 use Rattle.flow_page.specs.declared.matrix.Found.{Found}
 use Rattle.flow_page.specs.declared.matrix.Found.TheVariants as found
-use Rattle.flow_ways.specs.declared.granting.GrantedRequest.TheVariants as request
 use Rattle.flow_view.specs.declared.keys.MarkKey.{MarkKey}
 use Rattle.flow_view.specs.declared.keys.ObjectKey.{ObjectKey}
 use Rattle.flow_view.specs.declared.keys.RowKey.{RowKey}

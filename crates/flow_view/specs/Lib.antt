@@ -1,7 +1,5 @@
-pub mod Grouping
 pub mod Keys
 pub mod Equal
-pub mod Found
 pub mod Marks
 pub mod Rows
 pub mod Clients
@@ -9,4 +7,5 @@ pub mod Objects
 pub mod Lines
 pub mod Tables
 pub mod Matrix
+pub mod Changes
 pub mod Page

@@ -6,13 +6,13 @@ use Rattle.meter_theory.specs.Plan.{Plan}
 use Rattle.meter_theory.specs.declared.flow.Edge.{Edge}
 use Rattle.meter_theory.specs.declared.flow.Reach.{Reach}
 use Rattle.meter_theory.specs.declared.flow.Reach.TheVariants.{Influence, Learn}
+use Rattle.flow_ways.specs.Found.{way_of}
 use Rattle.flow_ways.specs.Granting.{shown_request}
 use Rattle.flow_ways.specs.Why.{way_end}
 use Rattle.flow_ways.specs.declared.granting.GrantedRequest.{GrantedRequest}
 use Rattle.flow_page.specs.declared.ways.WayLine.{WayLine}
 use Rattle.flow_page.specs.declared.ways.WayLine.TheVariants as line
 use Rattle.flow_view.specs.Clients.{client_at}
-use Rattle.flow_view.specs.Marks.{way_of}
 use Rattle.flow_view.specs.declared.limits.TheConstants.{LONG, TIP}
 
 -- a line: the request of a client, an edge, or how many edges the way of a client to a cell has (own profile)
@@ -55,9 +55,13 @@ whole_lines reach client x es request = unless_long client x es (all_lines reach
 abbrev pub lines_of : Plan → Reach → ℕ → CellRef → List Line
 lines_of P reach c x = for_some (way_of P reach c x) (edge_lines reach (client_at P c).name x)
 
--- the first lines of the way that is shown with its request, 6 at most: own profile
+-- the lines of the way that is shown with its request, if there is a way: own profile
 abbrev pub whole_lines_of : Plan → Reach → ℕ → CellRef → List Edge → List Line
 whole_lines_of P reach c x es = whole_lines reach (client_at P c).name x es (shown_request P reach c (way_end reach x es))
 
+abbrev pub whole_way_of : Plan → Reach → ℕ → CellRef → List Line
+whole_way_of P reach c x = for_some (way_of P reach c x) (whole_lines_of P reach c x)
+
+-- the first of them, 6 at most: own profile
 abbrev pub title_of : Plan → Reach → ℕ → CellRef → List Line
-title_of P reach c x = take TIP (for_some (way_of P reach c x) (whole_lines_of P reach c x))
+title_of P reach c x = take TIP (whole_way_of P reach c x)

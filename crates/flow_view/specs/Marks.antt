@@ -3,19 +3,18 @@ use Rattle.std.specs.Prelude.{ℕ, zero, suc, Bool, cond, List, Option, Some, No
 use Rattle.cosem_data.specs.declared.cell.CellRef.{CellRef}
 use Rattle.meter_theory.specs.Labels.{has}
 use Rattle.meter_theory.specs.Plan.{Plan, cells}
-use Rattle.meter_theory.specs.Ways.{set_for, shown_way}
-use Rattle.meter_theory.specs.declared.flow.Edge.{Edge}
+use Rattle.meter_theory.specs.Ways.{set_for}
 use Rattle.meter_theory.specs.declared.flow.Label.{Label}
 use Rattle.meter_theory.specs.declared.flow.Reach.{Reach}
 use Rattle.flow_edges.specs.Table.{cell_at}
+use Rattle.flow_ways.specs.Found.{distance_of, way_of}
 use Rattle.flow_ways.specs.Granting.{shown_request}
 use Rattle.flow_ways.specs.Why.{way_end}
 use Rattle.flow_ways.specs.declared.granting.GrantedRequest.{GrantedRequest}
-use Rattle.flow_page.specs.declared.changes.Change.{Change}
-use Rattle.flow_page.specs.declared.changes.Change.TheVariants.{Gained, Lost}
+use Rattle.flow_changes.specs.declared.kind.Change.{Change}
+use Rattle.flow_changes.specs.declared.kind.Change.TheVariants.{Gained, Lost}
 use Rattle.flow_page.specs.declared.matrix.Found.{Found}
 use Rattle.flow_page.specs.declared.matrix.Found.TheVariants.{Right, Edges}
-use Rattle.flow_view.specs.Found.{distance_of}
 use Rattle.flow_view.specs.declared.facts.Facts.{Facts}
 use Rattle.flow_view.specs.declared.marks.Standing.{Standing}
 
@@ -38,11 +37,7 @@ has_by reach c (Some label) = has (set_for reach label) c
 abbrev pub has_at : List Label → Reach → ℕ → ℕ → Bool
 has_at labels reach c i = has_by reach c (slice_get labels i)
 
--- the edges of the way that is shown, from the cell on, if there is a way: own profile
-abbrev pub way_of : Plan → Reach → ℕ → CellRef → Option (List Edge)
-way_of P reach c x = option_map (λ d. shown_way P reach c d x) (distance_of P reach c x)
-
--- the request at its other end: own profile
+-- the request at the other end of the way that is shown: own profile
 abbrev pub request_of : Plan → Reach → ℕ → CellRef → Option GrantedRequest
 request_of P reach c x = option_and_then (λ es. shown_request P reach c (way_end reach x es)) (way_of P reach c x)
 

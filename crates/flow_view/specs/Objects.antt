@@ -4,41 +4,25 @@ use Rattle.std.specs.Bool.{MatchBool}
 use Rattle.std.specs.List.{range_with_len}
 use Rattle.cosem_data.specs.declared.name.LogicalName.{LogicalName}
 use Rattle.meter_theory.specs.Edges.{same_cause}
-use Rattle.meter_theory.specs.Plan.{Object, Plan, Right, ScriptTable, interface_of}
-use Rattle.meter_theory.specs.Rights.{has_right, in_view, lists}
+use Rattle.meter_theory.specs.Plan.{Object, Plan, ScriptTable, interface_of}
+use Rattle.meter_theory.specs.Rights.{in_view}
 use Rattle.meter_theory.specs.declared.flow.Cause.{Cause}
 use Rattle.meter_theory.specs.declared.flow.Cause.TheVariants as cause
 use Rattle.meter_theory.specs.declared.flow.Edge.{Edge}
-use Rattle.meter_theory.specs.declared.refs.Interface.{Interface}
+use Rattle.alike_items.specs.Grouping.{AreGrouped}
+use Rattle.flow_ways.specs.Access.{highest_for, is_granted}
+use Rattle.flow_ways.specs.declared.access.Access.{Access}
+use Rattle.flow_ways.specs.declared.access.Access.TheVariants.{Get, Set, Act}
 use Rattle.flow_page.specs.declared.objects.Held.{Held}
 use Rattle.flow_page.specs.declared.objects.ObjectRow.{ObjectRow}
 use Rattle.flow_page.specs.declared.page.CauseCount.{CauseCount}
-use Rattle.flow_view.specs.Grouping.{AreGrouped}
 use Rattle.flow_view.specs.Keys.{ObjectFacts}
 use Rattle.flow_view.specs.Rows.{singles}
-use Rattle.flow_view.specs.declared.doing.Doing.{Doing}
-use Rattle.flow_view.specs.declared.doing.Doing.TheVariants.{Get, Set, Act}
 use Rattle.flow_view.specs.declared.limits.TheConstants.{EDGES, ROWS}
 
 -- the object at a place
 abbrev pub object_at : Plan → ℕ → Object
 object_at P k = get_or P.objects k (record { name = record { 0 = [] }; fed = false; part = ScriptTable [] })
-
--- the indexes that a right lists
-abbrev pub listed : Doing → Right → List ℕ
-listed Get r = r.gets
-listed Set r = r.sets
-listed Act r = r.acts
-
--- how many of them a class has (IEC 62056-6-2)
-abbrev pub highest : Doing → Interface → ℕ
-highest Get interface = interface.attributes
-highest Set interface = interface.attributes
-highest Act interface = interface.methods
-
--- a right allows a client to get or set the attribute of an object, or to call its method, with this index
-abbrev pub allows : Plan → Doing → ℕ → LogicalName → ℕ → Bool
-allows P doing c name index = has_right P c name (λ r. lists (listed doing r) index)
 
 -- What clients may do
 
@@ -47,8 +31,8 @@ abbrev pub index_if : (ℕ → Bool) → ℕ → List ℕ
 index_if test k = cond (test (k + 1)) ((k + 1) ∷ []) []
 
 -- those that rights allow, joined, from the least on: own profile
-abbrev pub indexes : Plan → Object → ℕ → Doing → List ℕ
-indexes P o c doing = flat_map (index_if (allows P doing c o.name)) (range_with_len 0 (highest doing (interface_of o.part)))
+abbrev pub indexes : Plan → Object → ℕ → Access → List ℕ
+indexes P o c access = flat_map (index_if (is_granted P c access o.name)) (range_with_len 0 (highest_for access (interface_of o.part)))
 
 -- what a client may do with an object: own profile
 pub record HeldShown : Type 0 where
@@ -66,8 +50,8 @@ held_of P o c = record { sees = in_view P c o.name; gets = indexes P o c Get; se
 -- Rows
 
 -- whether rights allow a client each index: own profile
-abbrev pub answers : Plan → Object → ℕ → Doing → List Bool
-answers P o c doing = map (λ k. allows P doing c o.name (k + 1)) (range_with_len 0 (highest doing (interface_of o.part)))
+abbrev pub answers : Plan → Object → ℕ → Access → List Bool
+answers P o c access = map (λ k. is_granted P c access o.name (k + 1)) (range_with_len 0 (highest_for access (interface_of o.part)))
 
 -- whether a client sees an object, and what it may do with it: own profile
 abbrev pub client_answers : Plan → Object → ℕ → List Bool

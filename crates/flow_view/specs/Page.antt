@@ -7,11 +7,13 @@ use Rattle.meter_theory.specs.Plan.{Plan, cells}
 use Rattle.meter_theory.specs.declared.flow.Edge.{Edge}
 use Rattle.meter_theory.specs.declared.flow.Label.{Label}
 use Rattle.meter_theory.specs.declared.flow.Reach.TheVariants.{Influence, Learn}
+use Rattle.flow_changes.specs.declared.compare.Comparison.{Comparison}
 use Rattle.flow_page.specs.declared.matrix.MatrixRow.{MatrixRow}
 use Rattle.flow_page.specs.declared.objects.ObjectRow.{ObjectRow}
 use Rattle.flow_page.specs.declared.page.CauseCount.{CauseCount}
 use Rattle.flow_page.specs.declared.page.Page.{Page}
 use Rattle.flow_page.specs.declared.ways.WayTable.{WayTable}
+use Rattle.flow_view.specs.Changes.{AreChangesOf}
 use Rattle.flow_view.specs.Clients.{client_row, client_shown, count_of}
 use Rattle.flow_view.specs.Marks.{Told}
 use Rattle.flow_view.specs.Matrix.{matrix_row, row_shown}
@@ -20,7 +22,6 @@ use Rattle.flow_view.specs.Rows.{AreRows}
 use Rattle.flow_view.specs.Tables.{IsTable, reached_left, reached_told, refused_left, refused_told}
 use Rattle.flow_view.specs.declared.clients.Kind.{Kind}
 use Rattle.flow_view.specs.declared.clients.Kind.TheVariants.{ByRight, ByEdges, NotAllowed, NoWay}
-use Rattle.flow_view.specs.declared.page.Differences.{Differences}
 use Rattle.flow_view.specs.declared.page.Heading.{Heading}
 use Rattle.flow_view.specs.declared.parts.Chosen.{Chosen}
 
@@ -64,7 +65,7 @@ pub record AreEdges (P : Plan) (count : ℕ) (counts : List CauseCount) (listed 
   pub counts_are : counts ≡ map (cause_count (edges P)) causes
   pub listed_are : listed ≡ listed_edges (edges P)
 
--- the page: own profile
+-- the page, but for what has changed: own profile
 pub record IsPage (t : Told) (heading : Heading) (page : Page) : Type 0 where
   -- what its heading says
   pub name_is : page.name ≡ heading.name
@@ -82,29 +83,29 @@ pub record IsPage (t : Told) (heading : Heading) (page : Page) : Type 0 where
   pub clients_are : map client_shown page.clients.items ≡ map (client_row t) (range_with_len 0 (length t.plan.clients))
   -- the matrix, and both tables of ways
   pub matrix_is : AreMatrix t page.rows.items page.refused page.reached
-  -- what has changed is put in by others
-  pub changes_is : page.changes ≡ None
   -- the objects and the edges
   pub objects_are : AreObjects t.plan page.objects.items
   pub edges_are : AreEdges t.plan page.edge_count page.causes.items page.edges.items
 
 -- for each cell in plan order who has gained it, and who has lost it, if that is told
-abbrev pub gained_by : Option Differences → List Label
+abbrev pub gained_by : Option Comparison → List Label
 gained_by None = []
-gained_by (Some differences) = differences.gained.items
+gained_by (Some comparison) = comparison.gained.items
 
-abbrev pub lost_by : Option Differences → List Label
+abbrev pub lost_by : Option Comparison → List Label
 lost_by None = []
-lost_by (Some differences) = differences.lost.items
+lost_by (Some comparison) = comparison.lost.items
 
--- the page of a plan and a policy: own profile
-abbrev pub told_of : Plan → Policy → Option Differences → Told
-told_of P Q differences = record {
+-- what is told of a plan and a policy, and of a comparison with the configuration before where there is one: own profile
+abbrev pub told_of : Plan → Policy → Option Comparison → Told
+told_of P Q comparison = record {
   plan = P;
   allowed = map (labelling_of_policy P Q) (cells P);
-  gained = gained_by differences;
-  lost = lost_by differences;
+  gained = gained_by comparison;
+  lost = lost_by comparison;
 }
 
-abbrev pub IsPageOf : Plan → Policy → Option Differences → Heading → Page → Type 0
-IsPageOf P Q differences heading page = IsPage (told_of P Q differences) heading page
+-- the page of that, with what has changed: own profile
+pub record IsPageOf (P : Plan) (Q : Policy) (comparison : Option Comparison) (heading : Heading) (page : Page) : Type 0 where
+  pub page_is : IsPage (told_of P Q comparison) heading page
+  pub changes_are : AreChangesOf P comparison page.changes

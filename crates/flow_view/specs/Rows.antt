@@ -5,9 +5,9 @@ use Rattle.std.specs.List.{All, range_with_len}
 use Rattle.meter_theory.specs.Plan.{cells}
 use Rattle.meter_theory.specs.declared.flow.Reach.{Reach}
 use Rattle.meter_theory.specs.declared.flow.Reach.TheVariants.{Influence, Learn}
+use Rattle.alike_items.specs.Grouping.{AreGrouped}
 use Rattle.flow_edges.specs.Table.{cell_at}
 use Rattle.flow_ways.specs.declared.granting.GrantedRequest.{GrantedRequest}
-use Rattle.flow_view.specs.Grouping.{AreGrouped}
 use Rattle.flow_view.specs.Keys.{RowFacts, word_of}
 use Rattle.flow_view.specs.Marks.{Told, request_of, standing_of}
 use Rattle.flow_view.specs.declared.keys.MarkKey.{MarkKey}

@@ -6,7 +6,9 @@ use Rattle.cosem_data.specs.declared.cell.CellRef.{CellRef}
 use Rattle.meter_theory.specs.Plan.{Plan, cells}
 use Rattle.meter_theory.specs.declared.flow.Reach.{Reach}
 use Rattle.meter_theory.specs.declared.flow.Reach.TheVariants.{Influence, Learn}
+use Rattle.alike_items.specs.Grouping.{AreGrouped}
 use Rattle.flow_edges.specs.Table.{cell_at, no_cell}
+use Rattle.flow_ways.specs.Found.{distance_of}
 use Rattle.flow_ways.specs.declared.granting.GrantedRequest.{GrantedRequest}
 use Rattle.flow_ways.specs.declared.granting.GrantedRequest.TheVariants.{Get}
 use Rattle.flow_page.specs.declared.ways.Anchor.{Anchor}
@@ -15,8 +17,6 @@ use Rattle.flow_page.specs.declared.ways.WayRow.{WayRow}
 use Rattle.flow_page.specs.declared.ways.WayTable.{WayTable}
 use Rattle.flow_view.specs.Clients.{client_at}
 use Rattle.flow_view.specs.Equal.{same_reach}
-use Rattle.flow_view.specs.Found.{distance_of}
-use Rattle.flow_view.specs.Grouping.{AreGrouped}
 use Rattle.flow_view.specs.Lines.{Line, line_shown, lines_of}
 use Rattle.flow_view.specs.Marks.{Told, has_at, request_of}
 use Rattle.flow_view.specs.declared.keys.WayKey.{WayKey}

@@ -37,26 +37,7 @@ fn push_count(edges: &[Edge], cause: Cause, counts: &mut Vec<CauseCount>) -> Res
 fn count(edges: &[Edge], cause: Cause) -> usize
     ensures { result ≡ count_by (λ e. theory.same_cause e.cause cause) edges.now }
 {
-    edges
-        .iter()
-        .filter(|edge| same_cause(edge.cause, cause))
-        .count()
-}
-
-/// Whether two causes are the same.
-fn same_cause(cause: Cause, other: Cause) -> bool
-    ensures { result ≡ theory.same_cause cause other }
-{
-    match (cause, other) {
-        (Cause::Monitored, Cause::Monitored) => true,
-        (Cause::Monitor, Cause::Monitor) => true,
-        (Cause::Captured, Cause::Captured) => true,
-        (Cause::Menu, Cause::Menu) => true,
-        (Cause::Period, Cause::Period) => true,
-        (Cause::Schedule, Cause::Schedule) => true,
-        (Cause::Clock, Cause::Clock) => true,
-        _ => false,
-    }
+    edges.iter().filter(|edge| edge.cause == cause).count()
 }
 
 /// These edges, or none if there are more than 500 (own profile). The only error is want of memory.

@@ -3,7 +3,7 @@ ghost use Rattle.std.specs.Prelude.{◌≡◌};
 ghost use Rattle.flow_view.specs.Equal as spec;
 
 use crate::keys::{MarkKey, ObjectKey, RowKey, WayKey, Word};
-use flow_page::changes::Change;
+use flow_changes::kind::Change;
 use flow_ways::granting::GrantedRequest;
 use meter_theory::flow::Reach;
 

@@ -3,10 +3,10 @@ ghost use Rattle.std.specs.Prelude.{◌≡◌, ◌++◌, IfOk, OnOk, flat_map, l
 ghost use Rattle.std.specs.List.{range_with_len};
 ghost use Rattle.flow_view.specs.Objects as spec;
 
-use crate::doing::{Doing, allows, highest};
-use crate::pushing::push_if;
+use alike_items::pushing::push_if;
 use cosem_data::memory::Memory;
 use flow_page::objects::Held;
+use flow_ways::access::Access;
 use object_model::object::Object;
 use object_model::plan::Plan;
 use std::alloc::Global;
@@ -31,9 +31,9 @@ pub(crate) fn held_by_clients(
 fn held_by(alloc: Global, plan: &Plan, object: &Object, client: u8) -> Result<Held, Memory>
     ensures { IfOk result (λ held. spec.held_shown held ≡ spec.held_of plan.now object.now client) }
 {
-    let gets = indexes(alloc, plan, object, client, Doing::Get)?;
-    let sets = indexes(alloc, plan, object, client, Doing::Set)?;
-    let acts = indexes(alloc, plan, object, client, Doing::Act)?;
+    let gets = indexes(alloc, plan, object, client, Access::Get)?;
+    let sets = indexes(alloc, plan, object, client, Access::Set)?;
+    let acts = indexes(alloc, plan, object, client, Access::Act)?;
     Ok(Held {
         sees: plan.instance(&object.name()).in_view(client),
         gets,
@@ -48,14 +48,14 @@ fn indexes(
     plan: &Plan,
     object: &Object,
     client: u8,
-    doing: Doing,
+    access: Access,
 ) -> Result<Vec<u8>, Memory>
-    ensures { IfOk result (λ list. list.items ≡ spec.indexes plan.now object.now client doing) }
+    ensures { IfOk result (λ list. list.items ≡ spec.indexes plan.now object.now client access) }
 {
     let instance = plan.instance(&object.name());
     let mut list = Vec::new(alloc);
-    for place in 0..highest(doing, object.part().interface()) {
-        let allowed = allows(&instance, doing, client, place + 1);
+    for place in 0..access.highest(&object.part().interface()) {
+        let allowed = access.is_granted(&instance, client, place + 1);
         push_if(allowed, place + 1, &mut list)?;
     }
     Ok(list)
@@ -87,9 +87,9 @@ fn push_client(
 ) -> Result<(), Memory>
     ensures { OnOk result (list.new.items ≡ list.old.items ++ spec.client_answers plan.now object.now client) }
 {
-    let gets = answers(alloc, plan, object, client, Doing::Get)?;
-    let sets = answers(alloc, plan, object, client, Doing::Set)?;
-    let acts = answers(alloc, plan, object, client, Doing::Act)?;
+    let gets = answers(alloc, plan, object, client, Access::Get)?;
+    let sets = answers(alloc, plan, object, client, Access::Set)?;
+    let acts = answers(alloc, plan, object, client, Access::Act)?;
     list.push(plan.instance(&object.name()).in_view(client))?;
     list.extend_from_slice(&gets)?;
     list.extend_from_slice(&sets)?;
@@ -103,14 +103,14 @@ fn answers(
     plan: &Plan,
     object: &Object,
     client: u8,
-    doing: Doing,
+    access: Access,
 ) -> Result<Vec<bool>, Memory>
-    ensures { IfOk result (λ list. list.items ≡ spec.answers plan.now object.now client doing) }
+    ensures { IfOk result (λ list. list.items ≡ spec.answers plan.now object.now client access) }
 {
     let instance = plan.instance(&object.name());
     let mut list = Vec::new(alloc);
-    for place in 0..highest(doing, object.part().interface()) {
-        list.push(allows(&instance, doing, client, place + 1))?;
+    for place in 0..access.highest(&object.part().interface()) {
+        list.push(access.is_granted(&instance, client, place + 1))?;
     }
     Ok(list)
 }

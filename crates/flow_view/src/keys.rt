@@ -1,11 +1,11 @@
 //! What rows have alike that are shown as one.
 ghost use Rattle.std.specs.Prelude.{◌≡◌, IfOk, map};
-ghost use Rattle.flow_view.specs.Grouping.{AreGrouped, numbers_of};
+ghost use Rattle.alike_items.specs.Grouping.{AreGrouped, numbers_of};
 ghost use Rattle.flow_view.specs.Keys.{object_facts, row_facts, word_of};
 
-use crate::grouping::grouped;
+use alike_items::grouping::grouped;
 use cosem_data::memory::Memory;
-use flow_page::changes::Change;
+use flow_changes::kind::Change;
 use flow_page::matrix::Found;
 use flow_ways::granting::GrantedRequest;
 use meter_theory::flow::Reach;

@@ -6,17 +6,12 @@ ghost use Rattle.meter_theory.specs.Lists.{IsIn};
 ghost use Rattle.meter_theory.specs.Plan.{Plan, cells};
 ghost use Rattle.meter_theory.specs.Sound.{IsSound};
 ghost use Rattle.meter_theory.specs.declared.flow.Reach.{Reach};
-ghost use Rattle.flow_page.specs.declared.matrix.Found.{Found as FoundValue};
+ghost use Rattle.alike_items.specs.Grouping.{IsInOne};
+ghost use Rattle.flow_ways.specs.Found.{distance_of};
 ghost use Rattle.flow_ways.specs.declared.granting.GrantedRequest.{GrantedRequest};
-ghost use Rattle.flow_view.specs.Found.{AreDistancesOf, distance_of};
-ghost use Rattle.flow_view.specs.Grouping.{IsInOne};
+ghost use Rattle.flow_page.specs.declared.matrix.Found.{Found as FoundValue};
 ghost use Rattle.flow_view.specs.Marks.{Told, found_of, request_of};
 ghost use Rattle.flow_view.specs.Rows.{AreRows, row_key};
-
-/// The first rounds within which clients have cells are their distances.
-pub fn first_rounds_are_distances()
-    ensures { (P : Plan) → IsSound P → AreDistancesOf P (distance_of P) }
-{}
 
 /// Each cell stands in exactly one row of the matrix, and the cells of a row have alike what they share it for: class, attribute,
 /// and for each client and reach the word of what is found, whether it is allowed, its change, and what request is refused.

@@ -2,18 +2,17 @@
 //!
 //! - [`page::page_of`] makes it.
 //!
-//! What it should be stands in `specs/`: distances as a function (`Found`), what is told of a cell, a client and a reach (`Marks`),
-//! which cells share a row (`Grouping`, `Keys`, `Rows`), the clients and how many cells each reaches (`Clients`), the objects with
-//! the rights on them and the edges (`Objects`), the lines of a way (`Lines`), which ways are told and in which tables (`Tables`),
-//! the rows with their marks (`Matrix`), and the whole (`Page`). The theorems are the functions of [`laws`].
+//! What it should be stands in `specs/`: what is told of a cell, a client and a reach (`Marks`), which cells share a row (`Keys`,
+//! `Rows`), the clients and how many cells each reaches (`Clients`), the objects with the rights on them and the edges (`Objects`),
+//! the lines of a way (`Lines`), which ways are told and in which tables (`Tables`), the rows with their marks (`Matrix`), what has
+//! changed (`Changes`), and the whole (`Page`). The theorems are the functions of [`laws`].
 #![tactic(auto)]
 
+mod changes;
 mod clients;
-mod doing;
 mod edges;
 mod equal;
 mod facts;
-mod grouping;
 mod held;
 mod keys;
 pub mod laws;
@@ -25,6 +24,5 @@ mod objects;
 pub mod page;
 mod parts;
 mod picks;
-mod pushing;
 mod rows;
 mod tables;

@@ -12,5 +12,8 @@ pub(crate) const LONG: usize = 24;
 /// The most lines of a way that a mark tells.
 pub(crate) const TIP: usize = 6;
 
+/// The most changes of a kind that are told.
+pub(crate) const CHANGES: usize = 500;
+
 /// The most edges that are listed.
 pub(crate) const EDGES: usize = 500;

@@ -7,12 +7,13 @@ ghost use Rattle.flow_view.specs.Lines as spec;
 ghost use Rattle.flow_view.specs.Lines.{line_shown};
 
 use crate::limits::{LONG, TIP};
-use crate::marks::{way, way_end};
+use crate::marks::way;
 use cosem_data::cell::CellRef;
 use cosem_data::memory::Memory;
 use flow_page::ways::WayLine;
 use flow_ways::granting::{GrantedRequest, shown_request};
 use flow_ways::ways::Ways;
+use flow_ways::why::way_end;
 use meter_theory::flow::{Edge, Reach};
 use object_model::plan::Plan;
 use std::alloc::Global;
@@ -52,12 +53,28 @@ pub(crate) fn title_of(
     ensures { IfOk result (λ lines. map line_shown lines.items
         ≡ spec.title_of ways.now reach client (cell_at (theory.cells ways.now) cell)) }
 {
-    let mut lines = match way(alloc, ways, reach, client, cell)? {
-        Some(edges) => whole_lines_of(alloc, ways, reach, client, cell, edges)?,
-        None => Vec::new(alloc),
-    };
+    let mut lines = whole_way_of(alloc, ways, reach, client, cell)?;
     lines.truncate(TIP);
     Ok(lines)
+}
+
+/// The lines of the way that is shown with its request, if there is a way. The only error is want of memory.
+pub(crate) fn whole_way_of(
+    alloc: Global,
+    ways: &Ways<'_>,
+    reach: Reach,
+    client: u8,
+    cell: usize,
+) -> Result<Vec<WayLine>, Memory>
+    requires cell { cell < length (theory.cells ways.now) }
+    requires client { client < length ways.now.clients }
+    ensures { IfOk result (λ lines. map line_shown lines.items
+        ≡ spec.whole_way_of ways.now reach client (cell_at (theory.cells ways.now) cell)) }
+{
+    match way(alloc, ways, reach, client, cell)? {
+        Some(edges) => whole_lines_of(alloc, ways, reach, client, cell, edges),
+        None => Ok(Vec::new(alloc)),
+    }
 }
 
 /// The lines of a way to a cell with its request.

@@ -1,21 +1,19 @@
 //! What is told of a cell, a client and a reach.
 ghost use Rattle.std.specs.Prelude.{◌≡◌, ◌<◌, IfOk, length, option_map};
 ghost use Rattle.meter_theory.specs.Plan as theory;
-ghost use Rattle.meter_theory.specs.Ways as reaching;
 ghost use Rattle.flow_edges.specs.Table.{cell_at};
-ghost use Rattle.flow_ways.specs.Why as why;
-ghost use Rattle.flow_view.specs.Found.{distance_of};
+ghost use Rattle.flow_ways.specs.Found.{distance_of, way_of};
 ghost use Rattle.flow_view.specs.Marks as spec;
 ghost use Rattle.flow_view.specs.Marks.{told};
 
 use crate::facts::Facts;
-use cosem_data::cell::CellRef;
-use cosem_data::clients::ClientSet;
 use cosem_data::memory::Memory;
-use flow_page::changes::Change;
+use flow_changes::kind::Change;
 use flow_page::matrix::Found;
+use flow_ways::ends::set_for;
 use flow_ways::granting::{GrantedRequest, shown_request};
 use flow_ways::ways::Ways;
+use flow_ways::why::way_end;
 use meter_theory::flow::{Edge, Label, Reach};
 use std::alloc::Global;
 
@@ -40,7 +38,7 @@ pub(crate) fn way(
     requires cell { cell < length (theory.cells ways.now) }
     requires client { client < length ways.now.clients }
     ensures { IfOk result (λ way. option_map (λ edges. edges.items) way
-        ≡ spec.way_of ways.now reach client (cell_at (theory.cells ways.now) cell)) }
+        ≡ way_of ways.now reach client (cell_at (theory.cells ways.now) cell)) }
 {
     ways.plan().known();
     ways.shown(alloc, reach, cell, client)
@@ -64,26 +62,6 @@ pub(crate) fn request(
             let end = way_end(reach, &ways.cells()[cell], &edges);
             Ok(shown_request(ways.plan(), ways.cells(), reach, client, &end))
         }
-    }
-}
-
-/// The cell at the other end of a way.
-pub(crate) fn way_end(reach: Reach, cell: &CellRef, edges: &[Edge]) -> CellRef
-    ensures { result ≡ why.way_end reach cell.now edges.now }
-{
-    match edges.last() {
-        Some(edge) => near_end(reach, edge),
-        None => *cell,
-    }
-}
-
-/// The end of an edge from which a way goes on.
-fn near_end(reach: Reach, edge: &Edge) -> CellRef
-    ensures { result ≡ reaching.near_end reach edge.now }
-{
-    match reach {
-        Reach::Influence => edge.source,
-        Reach::Learn => edge.target,
     }
 }
 
@@ -150,15 +128,5 @@ pub(crate) fn has_at(labels: &[Label], reach: Reach, client: u8, place: usize) -
     match labels.get(place) {
         Some(label) => set_for(reach, *label).has(client),
         None => false,
-    }
-}
-
-/// The clients that a label has of this reach.
-fn set_for(reach: Reach, label: Label) -> ClientSet
-    ensures { result ≡ reaching.set_for reach label }
-{
-    match reach {
-        Reach::Influence => label.influence,
-        Reach::Learn => label.learn,
     }
 }

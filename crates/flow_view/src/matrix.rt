@@ -2,8 +2,8 @@
 ghost use Rattle.std.specs.Prelude.{◌≡◌, ◌<◌, ◌++◌, IfOk, OnOk, cond, flat_map, length, map, option_map, Some, None};
 ghost use Rattle.std.specs.List.{All, range_with_len};
 ghost use Rattle.meter_theory.specs.Plan as theory;
+ghost use Rattle.alike_items.specs.Grouping.{numbers_of};
 ghost use Rattle.flow_edges.specs.Table.{cell_at};
-ghost use Rattle.flow_view.specs.Grouping.{numbers_of};
 ghost use Rattle.flow_view.specs.Marks.{told};
 ghost use Rattle.flow_view.specs.Matrix as spec;
 ghost use Rattle.flow_view.specs.Rows.{AreRowsOf};

@@ -1,7 +1,7 @@
 //! The objects of a plan, in rows of those that are alike.
 ghost use Rattle.std.specs.Prelude.{◌≡◌, ◌<◌, IfOk, length, map};
 ghost use Rattle.std.specs.List.{All, range_with_len};
-ghost use Rattle.flow_view.specs.Grouping.{numbers_of};
+ghost use Rattle.alike_items.specs.Grouping.{numbers_of};
 ghost use Rattle.flow_view.specs.Keys.{object_facts};
 ghost use Rattle.flow_view.specs.Objects as spec;
 ghost use Rattle.flow_view.specs.Rows.{AreRowsOf, IsRow};

@@ -1,18 +1,22 @@
 //! The page of a plan.
 ghost use Rattle.std.specs.Prelude.{◌≡◌, IfOk, length, map, option_map};
 ghost use Rattle.std.specs.List.{range_with_len};
+ghost use Rattle.flow_view.specs.Changes.{AreChangesOf};
 ghost use Rattle.flow_view.specs.Clients.{client_row, client_shown};
 ghost use Rattle.flow_view.specs.Marks.{told};
 ghost use Rattle.flow_view.specs.Page as spec;
 ghost use Rattle.flow_view.specs.Page.{AreEdges, AreMatrix, AreObjects, IsPage, IsPageOf};
 
+use crate::changes::changes_of;
 use crate::clients::{Kind, client_rows, total_of};
 use crate::edges::{cause_counts, listed_edges};
 use crate::facts::Facts;
 use crate::objects::{object_numbers, object_rows};
 use crate::parts::{MatrixParts, matrix_parts};
 use cosem_data::memory::Memory;
+use flow_changes::compare::Comparison;
 use flow_edges::edges::edges;
+use flow_page::changes::Changes;
 use flow_page::objects::ObjectRow;
 use flow_page::page::{CauseCount, ClientRow, Page};
 use flow_ways::ways::Ways;
@@ -35,18 +39,8 @@ pub struct Heading {
     pub given_labels: bool,
 }
 
-/// What clients have gained and lost against the configuration before: for each cell, in plan order, who has gained influence and
-/// learning, and who has lost them (own profile). Past the end of a list nobody has.
-#[derive(Drop)]
-pub struct Differences {
-    /// Who has gained.
-    pub gained: Vec<Label>,
-    /// Who has lost.
-    pub lost: Vec<Label>,
-}
-
-/// The page of a plan's ways and its policy, under this heading, with marks of what has been gained and lost if that is told (own
-/// profile). It has no changes yet.
+/// The page of a plan's ways and its policy, under this heading, and with what has changed where it is compared with the
+/// configuration before (own profile).
 ///
 /// # Errors
 /// Memory was refused.
@@ -55,50 +49,71 @@ pub fn page_of(
     ways: &Ways<'_>,
     policy: &Policy,
     heading: Heading,
-    differences: Option<&Differences>,
+    comparison: Option<&Comparison<'_>>,
 ) -> Result<Page, Memory>
     ensures { IfOk result (λ page.
-        IsPageOf ways.now policy.now (option_map (λ lists. lists.now) differences.entry) heading page) }
+        IsPageOf ways.now policy.now (option_map (λ told. told.now) comparison.entry) heading page) }
 {
     let allowed = policy_labels(alloc, ways.plan(), ways.cells(), policy)?;
     let facts = Facts {
         ways,
         allowed: &allowed,
-        gained: gained_by(differences),
-        lost: lost_by(differences),
+        gained: gained_by(comparison),
+        lost: lost_by(comparison),
     };
-    page_from(alloc, &facts, heading)
+    let changes = changes_by(alloc, ways, comparison)?;
+    page_from(alloc, &facts, heading, changes)
 }
 
 /// Who has gained each cell.
-fn gained_by<'a>(differences: Option<&'a Differences>) -> &'a [Label]
-    ensures { result.now ≡ spec.gained_by (option_map (λ lists. lists.now) differences.entry) }
+fn gained_by<'a>(comparison: Option<&'a Comparison<'_>>) -> &'a [Label]
+    ensures { result.now ≡ spec.gained_by (option_map (λ told. told.now) comparison.entry) }
 {
-    match differences {
-        Some(differences) => &differences.gained,
+    match comparison {
+        Some(comparison) => &comparison.gained,
         None => &[],
     }
 }
 
 /// Who has lost each cell.
-fn lost_by<'a>(differences: Option<&'a Differences>) -> &'a [Label]
-    ensures { result.now ≡ spec.lost_by (option_map (λ lists. lists.now) differences.entry) }
+fn lost_by<'a>(comparison: Option<&'a Comparison<'_>>) -> &'a [Label]
+    ensures { result.now ≡ spec.lost_by (option_map (λ told. told.now) comparison.entry) }
 {
-    match differences {
-        Some(differences) => &differences.lost,
+    match comparison {
+        Some(comparison) => &comparison.lost,
         None => &[],
     }
 }
 
+/// What has changed, where there is a comparison.
+fn changes_by(
+    alloc: Global,
+    ways: &Ways<'_>,
+    comparison: Option<&Comparison<'_>>,
+) -> Result<Option<Changes>, Memory>
+    ensures { IfOk result (AreChangesOf ways.now (option_map (λ told. told.now) comparison.entry)) }
+{
+    match comparison {
+        Some(comparison) => Ok(Some(changes_of(alloc, ways, comparison)?)),
+        None => Ok(None),
+    }
+}
+
 /// The page of these facts.
-fn page_from(alloc: Global, facts: &Facts<'_>, heading: Heading) -> Result<Page, Memory>
-    ensures { IfOk result (λ page. IsPage (told facts.now) heading page) }
+fn page_from(
+    alloc: Global,
+    facts: &Facts<'_>,
+    heading: Heading,
+    changes: Option<Changes>,
+) -> Result<Page, Memory>
+    ensures page { IfOk result (λ page. IsPage (told facts.now) heading page) }
+    ensures changes { IfOk result (λ page. page.changes ≡ changes) }
 {
     let clients = client_rows(alloc, facts)?;
     let matrix = matrix_parts(alloc, facts)?;
     let objects = objects_of(alloc, facts.ways.plan())?;
     let edges = edges_of(alloc, facts.ways.plan())?;
-    Ok(page_with(facts, heading, clients, matrix, objects, edges))
+    Ok(page_with(facts, heading, clients, matrix, changes, objects, edges))
 }
 
 /// The page that has these parts.
@@ -107,6 +122,7 @@ fn page_with(
     heading: Heading,
     clients: Vec<ClientRow>,
     matrix: MatrixParts,
+    changes: Option<Changes>,
     objects: Vec<ObjectRow>,
     edges: EdgeParts,
 ) -> Page
@@ -115,7 +131,8 @@ fn page_with(
     requires matrix { AreMatrix (told facts.now) matrix.rows.items matrix.refused matrix.reached }
     requires objects { AreObjects facts.now.ways.now objects.items }
     requires edges { AreEdges facts.now.ways.now edges.count edges.causes.items edges.listed.items }
-    ensures { IsPage (told facts.now) heading result }
+    ensures page { IsPage (told facts.now) heading result }
+    ensures changes { result.changes ≡ changes }
 {
     Page {
         name: heading.name,
@@ -133,7 +150,7 @@ fn page_with(
         rows: matrix.rows,
         refused: matrix.refused,
         reached: matrix.reached,
-        changes: None,
+        changes,
         objects,
         causes: edges.causes,
         edges: edges.listed,

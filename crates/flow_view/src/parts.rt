@@ -1,7 +1,7 @@
 //! The matrix and both tables of ways.
 ghost use Rattle.std.specs.Prelude.{◌≡◌, ◌++◌, IfOk, length};
 ghost use Rattle.meter_theory.specs.Plan as theory;
-ghost use Rattle.flow_view.specs.Grouping.{numbers_of};
+ghost use Rattle.alike_items.specs.Grouping.{numbers_of};
 ghost use Rattle.flow_view.specs.Marks.{told};
 ghost use Rattle.flow_view.specs.Page.{AreChosen, AreMatrix, AreParts};
 ghost use Rattle.flow_view.specs.Rows.{AreRowsOf};

@@ -1,9 +1,8 @@
 //! Which ways tables tell.
 ghost use Rattle.std.specs.Prelude.{◌≡◌, ◌<◌, ◌-◌, ◌++◌, IfOk, OnOk, length, take};
 ghost use Rattle.std.specs.List.{list_any};
-ghost use Rattle.std.specs.Option.{option_to_list};
 ghost use Rattle.meter_theory.specs.Plan as theory;
-ghost use Rattle.flow_view.specs.Grouping.{numbers_of};
+ghost use Rattle.alike_items.specs.Grouping.{numbers_of};
 ghost use Rattle.flow_view.specs.Marks.{told};
 ghost use Rattle.flow_view.specs.Rows.{AreRowsOf};
 ghost use Rattle.flow_view.specs.Tables as spec;
@@ -12,6 +11,7 @@ use crate::equal::same_reach;
 use crate::facts::Facts;
 use crate::marks::{distance, has_at, request};
 use crate::rows::first_cell;
+use alike_items::pushing::push_some;
 use cosem_data::memory::Memory;
 use flow_ways::granting::GrantedRequest;
 use meter_theory::flow::Reach;
@@ -98,16 +98,6 @@ fn reach_picks(
         push_some(pick, &mut list)?;
     }
     Ok(list)
-}
-
-/// Puts a way behind others, if there is one.
-fn push_some(pick: Option<Pick>, list: &mut Vec<Pick>) -> Result<(), Memory>
-    ensures { OnOk result (list.new.items ≡ list.old.items ++ option_to_list pick) }
-{
-    if let Some(pick) = pick {
-        list.push(pick)?;
-    }
-    Ok(())
 }
 
 /// The way of a client to the first cell of a row, if it is of this sort.

@@ -2,8 +2,8 @@
 ghost use Rattle.std.specs.Prelude.{◌≡◌, ◌<◌, ◌∷◌, ◌++◌, [], IfOk, OnOk, cond, flat_map, length, map, None};
 ghost use Rattle.std.specs.List.{range_with_len};
 ghost use Rattle.meter_theory.specs.Plan as theory;
+ghost use Rattle.alike_items.specs.Grouping.{numbers_of};
 ghost use Rattle.flow_edges.specs.Table.{cell_at};
-ghost use Rattle.flow_view.specs.Grouping.{numbers_of};
 ghost use Rattle.flow_view.specs.Keys.{row_facts};
 ghost use Rattle.flow_view.specs.Marks.{request_of, told};
 ghost use Rattle.flow_view.specs.Rows as spec;

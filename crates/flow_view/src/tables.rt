@@ -2,7 +2,7 @@
 ghost use Rattle.std.specs.Prelude.{◌≡◌, ◌<◌, ◌≤◌, ◌*◌, IfOk, cond, length, map, Some, None};
 ghost use Rattle.std.specs.List.{All};
 ghost use Rattle.meter_theory.specs.Plan as theory;
-ghost use Rattle.flow_view.specs.Grouping.{numbers_of};
+ghost use Rattle.alike_items.specs.Grouping.{numbers_of};
 ghost use Rattle.flow_view.specs.Rows.{AreRowsOf, IsRow};
 ghost use Rattle.flow_view.specs.Tables as spec;
 ghost use Rattle.flow_view.specs.Tables.{IsTable, ArePicks};

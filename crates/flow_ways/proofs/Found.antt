@@ -4,7 +4,9 @@ use Rattle.std.specs.List.{list_any, range_with_len}
 use Rattle.std.proofs.lemmas.Bool.{false≢true}
 use Rattle.std.proofs.lemmas.List.{get_or_default}
 use Rattle.cosem_data.specs.declared.cell.MethodRef.{MethodRef}
+use Rattle.cosem_data.specs.declared.name.LogicalName.{LogicalName}
 use Rattle.meter_theory.specs.Plan.{Object, Script, ScriptTable, interface_of}
+use Rattle.meter_theory.specs.declared.refs.Interface.{Interface}
 
 -- the first that passes, behind what fails
 pub found-here : {A : Type 0} (test : A → Bool) (xs : List A) (k : ℕ) (d : A) → k < length xs → ((j : ℕ) → j < k → test (get_or xs j d) ≡ false) → test (get_or xs k d) ≡ true →
@@ -94,6 +96,10 @@ last-or-before j k h = grind arith
 -- the method of an object with this index
 abbrev pub method_at : Object → ℕ → MethodRef
 method_at o i = record { class_id = (interface_of o.part).class_id; name = o.name; index = i }
+
+pub as-method : (o : Object) (interface : Interface) (name : LogicalName) (k : ℕ) → interface ≡ interface_of o.part → name ≡ o.name →
+    record { class_id = interface.class_id; name = name; index = k + 1 } ≡ method_at o (1 + k)
+as-method o interface name k same named = let next : k + 1 ≡ 1 + k = omega arith in λ i. record { class_id = (same i).class_id; name = named i; index = next i }
 
 -- an object that no plan has
 abbrev pub no_object : Object

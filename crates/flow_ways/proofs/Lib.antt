@@ -5,6 +5,8 @@ pub mod Passed
 mod LedTo
 pub mod Found
 pub mod Seeking
+pub mod Nearby
 pub mod Granted
 pub mod Shown
 pub mod Told
+pub mod Distance

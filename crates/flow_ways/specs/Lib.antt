@@ -2,6 +2,8 @@ pub mod Ends
 pub mod Rounds
 pub mod Arriving
 pub mod Distances
+pub mod Found
 pub mod Kept
 pub mod Granting
 pub mod Why
+pub mod Access

@@ -29,7 +29,7 @@ pub(crate) fn far_of(reach: Reach, link: Link) -> usize
 }
 
 /// The end of an edge from which a way goes on.
-pub(crate) fn near_end(reach: Reach, edge: &Edge) -> CellRef
+pub fn near_end(reach: Reach, edge: &Edge) -> CellRef
     ensures { result ≡ near_end reach edge.now }
 {
     match reach {

@@ -1,5 +1,5 @@
 //! The right that is shown of those that grant a client a cell, as the request that it allows.
-ghost use Rattle.std.specs.Prelude.{◌≡◌, ◌&&◌, false, find, flat_map, map};
+ghost use Rattle.std.specs.Prelude.{◌≡◌, ◌&&◌, ℕ, false, find, flat_map, map};
 ghost use Rattle.class_control.specs.ScriptView.{script_of};
 ghost use Rattle.meter_theory.specs.Edges.{among};
 ghost use Rattle.meter_theory.specs.Plan as theory;
@@ -19,6 +19,9 @@ use object_model::object::Object;
 use object_model::part::Part;
 use object_model::plan::Plan;
 use std::convert::Infallible;
+
+/// How many cells an object has at most beside one.
+const OTHERS: usize = 3;
 
 /// A request that a right allows, by which a client influences or learns a cell (IEC 62056-5-3, GET, SET, ACTION).
 #[derive(Clone, Copy, Debug, PartialEq, Eq, Drop)]
@@ -48,11 +51,28 @@ pub fn shown_request(
 {
     match reach {
         Reach::Learn => Some(GrantedRequest::Get(*cell)),
-        Reach::Influence => match first_set(plan, cells, client, cell) {
+        Reach::Influence => match first_set(plan, around(plan, cells, cell), client, cell) {
             Some(set) => Some(GrantedRequest::Set(set)),
             None => first_call(plan, client, cell),
         },
     }
+}
+
+/// Of the cells of a plan those that stand around one: all of its object are among them, and no write of another changes it. Where it
+/// is no cell of the plan there are none, and no write changes it.
+fn around<'a>(plan: &Plan, cells: &'a [CellRef], cell: &CellRef) -> &'a [CellRef]
+    requires { cells.now ≡ theory.cells plan.now }
+    ensures { (client : ℕ) → find (λ y. may_set plan.now client y && among (steps.changed_by_write y) cell.now) result.now
+        ≡ spec.first_set plan.now client cell.now }
+{
+    plan.known();
+    let Some(number) = plan.cell_number(cell) else {
+        return &[];
+    };
+    let number = usize::from(number);
+    let first = number.saturating_sub(OTHERS);
+    let end = cells.len().min(number + OTHERS + 1);
+    &cells[first..end]
 }
 
 /// The first of these cells that the client may set and whose write changes the cell.

@@ -6,6 +6,7 @@ ghost use Rattle.meter_theory.specs.Ways.{IsDistance, first_edge, is_within, sho
 ghost use Rattle.flow_edges.specs.Table.{AreWithin, IsLink, cell_at, edge_at};
 ghost use Rattle.flow_ways.specs.Arriving.{AreEdgesTo, FindsAllTo};
 ghost use Rattle.flow_ways.specs.Distances.{AreDistances};
+ghost use Rattle.flow_ways.specs.Found.{distance_of, way_of};
 ghost use Rattle.flow_ways.specs.Rounds.{AreLinksOf};
 ghost use Rattle.flow_ways.specs.Kept.{IsShown, leads_within};
 
@@ -121,8 +122,10 @@ impl<'a> Ways<'a> {
     pub fn distance(&self, reach: Reach, cell: usize, client: u8) -> Option<usize>
         requires cell { cell < length (theory.cells self.now) }
         requires client { client < CLIENTS }
-        ensures { IsDistance self.now reach client (cell_at (theory.cells self.now) cell) result }
+        ensures distance { IsDistance self.now reach client (cell_at (theory.cells self.now) cell) result }
+        ensures found { result ≡ distance_of self.now reach client (cell_at (theory.cells self.now) cell) }
     {
+        self.known();
         let numbers = self.distances(reach);
         numbers[cell * CLIENTS + usize::from(client)]
     }
@@ -138,8 +141,10 @@ impl<'a> Ways<'a> {
     ) -> Result<Option<Vec<Edge>>, Memory>
         requires cell { cell < length (theory.cells self.now) }
         requires client { client < CLIENTS }
-        ensures { IfOk result (λ shown. IsShown self.now reach client
+        ensures shown { IfOk result (λ shown. IsShown self.now reach client
             (cell_at (theory.cells self.now) cell) (option_map (λ edges. edges.items) shown)) }
+        ensures found { IfOk result (λ shown. option_map (λ edges. edges.items) shown
+            ≡ way_of self.now reach client (cell_at (theory.cells self.now) cell)) }
     {
         self.known();
         match self.distance(reach, cell, client) {

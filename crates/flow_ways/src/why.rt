@@ -140,7 +140,7 @@ fn push_way(
 }
 
 /// The cell at the other end of a way.
-fn way_end(reach: Reach, cell: &CellRef, edges: &[Edge]) -> CellRef
+pub fn way_end(reach: Reach, cell: &CellRef, edges: &[Edge]) -> CellRef
     ensures { result ≡ spec.way_end reach cell.now edges.now }
 {
     match edges.last() {

@@ -154,8 +154,9 @@ Answers reads (Why path client cell) before after outcome =
     (given : Option Given) × ReadsWhere (is_input path) before.unread after.unread given × ListsFile (AsksWhy client cell) (MayGive reads given) path before.written after.written outcome
 Answers reads (Compare old new) before after outcome =
     (given : Option Given) × ReadsWhere (is_input old || is_input new) before.unread after.unread given × ComparesFiles (MayGive reads given) old new before.written after.written outcome
-Answers reads (Report config labels form) before after outcome =
-    (given : Option Given) × ReadsWhere (is_input config || is_given_input labels) before.unread after.unread given × ReportsFile (MayGive reads given) form labels config before.written after.written outcome
+Answers reads (Report config labels against form) before after outcome =
+    (given : Option Given) × ReadsWhere (is_input config || (is_given_input labels || is_given_input against)) before.unread after.unread given
+    × ReportsFile (MayGive reads given) form (record { labels = labels; old = against }) config before.written after.written outcome
 Answers reads (Quiet config labels client is_verbose) before after outcome = NoticesFiles reads config labels client before after outcome
 Answers reads (Audit workers names tells_progress) before after outcome = (after ≡ before) × AuditsFiles reads names outcome
 Answers reads (Session path) before after outcome = ConnectsFile reads path before after outcome

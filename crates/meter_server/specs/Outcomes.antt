@@ -123,7 +123,7 @@ side_line side verdict = side_words side ++ verdict_line verdict
 
 -- what is told where a new configuration gives clients what the old one doesn't
 abbrev pub gives_more : List ℕ
-gives_more = codes "cosem-flow: the new configuration gives clients what the old one does not\n  ask for the ways with cosem-flow why\n"
+gives_more = codes "cosem-flow: the new configuration gives clients what the old one does not\n  ask for the ways with cosem-flow why, or see all of it with cosem-flow report --against\n"
 
 -- what standard output tells behind what the command wrote: its verdict or verdicts and all that fails, help or the version
 abbrev pub output_of : Outcome → List ℕ

@@ -1,5 +1,5 @@
 -- Reports on who may change and who may learn what. All of it is own profile. Texts are lists of bytes.
-use Rattle.std.specs.Prelude.{◌≡◌, ◌≢◌, ◌⊎◌, ℕ, Bool, List, [], ◌∷◌, ◌++◌, is_some, string_bytes, unwrap_or, Option, None, Some, Result, Ok, Err}
+use Rattle.std.specs.Prelude.{◌≡◌, ◌≢◌, ◌⊎◌, ℕ, Bool, List, [], ◌∷◌, ◌++◌, is_some, option_map, string_bytes, unwrap_or, Option, None, Some, Result, Ok, Err}
 use Rattle.std.specs.Io.KnownBytes.{Appends}
 use Rattle.std.specs.Path.{path_file_name}
 use Rattle.command_words.specs.declared.command.ReportForm.{ReportForm}
@@ -27,11 +27,14 @@ use Rattle.verdict.specs.Judging.{is_accepted}
 use Rattle.verdict.specs.Lines.{verdict_line}
 use Rattle.verdict.specs.declared.Verdict.{Verdict}
 use Rattle.verdict.specs.declared.Verdict.TheVariants as verdicts
+use Rattle.meter_server.specs.Comparing.{FailsSide, IsMadeOf}
 use Rattle.meter_server.specs.Files.{ByFile, IsFile, IsUnread}
 use Rattle.meter_server.specs.Outcomes.{listed}
 use Rattle.meter_server.specs.Program.{IsJudged, TellsFault}
 use Rattle.meter_server.specs.declared.outcome.Outcome.{Outcome}
 use Rattle.meter_server.specs.declared.outcome.Outcome.TheVariants.{Unwritten}
+use Rattle.meter_server.specs.declared.outcome.Side.TheVariants as sides
+use Rattle.meter_server.specs.declared.reporting.Beside.{Beside}
 use Rattle.meter_server.specs.declared.texts.Source.{Source}
 
 -- a line without the newline at its end, if it has one
@@ -53,16 +56,20 @@ pub record IsHeading (path : List ℕ) (given : Bool) (verdict : Verdict) (headi
 abbrev pub IsJsonReport : Plan → Policy → Verdict → List ℕ → Type 0
 IsJsonReport P Q verdict text = (line : List ℕ) × IsWithoutEnd (verdict_line verdict) line × IsJson P Q line text
 
+-- a plan and a policy with which those of a report are compared, where there are any
+abbrev pub Against : Type 0
+Against = Option (Plan × Policy)
+
 -- the text of a report in this form, with this verdict on labels that are given or not, of the configuration in the file with this path
-abbrev pub IsReport : ReportForm → (path : List ℕ) → (given : Bool) → Plan → Policy → Verdict → List ℕ → Type 0
-IsReport forms.Html path given P Q verdict text = (heading : Heading) × IsHeading path given verdict heading × IsHtml P Q heading text
-IsReport forms.Csv path given P Q verdict text = IsCsv P Q text
-IsReport forms.Json path given P Q verdict text = IsJsonReport P Q verdict text
+abbrev pub IsReport : ReportForm → (path : List ℕ) → (given : Bool) → Against → Plan → Policy → Verdict → List ℕ → Type 0
+IsReport forms.Html path given against P Q verdict text = (heading : Heading) × IsHeading path given verdict heading × IsHtml P Q against heading text
+IsReport forms.Csv path given against P Q verdict text = IsCsv P Q text
+IsReport forms.Json path given against P Q verdict text = IsJsonReport P Q verdict text
 
 -- it was written, or a beginning of it; it is made before the first byte is written
-abbrev pub WritesReport : ReportForm → (path : List ℕ) → (given : Bool) → Plan → Policy → Verdict → (before after : Option (List ℕ)) → Result (Unit {0}) ListFault → Type 0
-WritesReport form path given P Q verdict before after (Err faults.Memory) = Appends before after []
-WritesReport form path given P Q verdict before after r = (text : List ℕ) × IsReport form path given P Q verdict text × WritesText text before after r
+abbrev pub WritesReport : ReportForm → (path : List ℕ) → (given : Bool) → Against → Plan → Policy → Verdict → (before after : Option (List ℕ)) → Result (Unit {0}) ListFault → Type 0
+WritesReport form path given against P Q verdict before after (Err faults.Memory) = Appends before after []
+WritesReport form path given against P Q verdict before after r = (text : List ℕ) × IsReport form path given against P Q verdict text × WritesText text before after r
 
 -- a command had no memory for its report, and nothing was written
 abbrev pub IsUnwrittenForMemory : Outcome → Type 0
@@ -75,9 +82,9 @@ IsVerdictOf P Q labels (verdicts.Refused refused) = IsRefusedAs P (labelling_of_
 IsVerdictOf P Q labels _ = ⊥
 
 -- a report is written with the verdict on labels; or there was no memory to come to that
-abbrev pub ReportsOn : ReportForm → (path : List ℕ) → (given : Bool) → Plan → Policy → Labels → (before after : Option (List ℕ)) → Outcome → Type 0
-ReportsOn form path given P Q labels before after outcome =
-    ((verdict : Verdict) × IsVerdictOf P Q labels verdict × (result : Result (Unit {0}) ListFault) × WritesReport form path given P Q verdict before after result × (outcome ≡ listed result))
+abbrev pub ReportsOn : ReportForm → (path : List ℕ) → (given : Bool) → Against → Plan → Policy → Labels → (before after : Option (List ℕ)) → Outcome → Type 0
+ReportsOn form path given against P Q labels before after outcome =
+    ((verdict : Verdict) × IsVerdictOf P Q labels verdict × (result : Result (Unit {0}) ListFault) × WritesReport form path given against P Q verdict before after result × (outcome ≡ listed result))
     ⊎ (IsUnwrittenForMemory outcome × (after ≡ before))
 
 -- the least labels of a plan, one for each of its cells
@@ -104,18 +111,43 @@ abbrev pub FailsLabels : MayRead → Source → Plan → Option (List ℕ) → O
 FailsLabels reads config P None outcome = IsUnwrittenForMemory outcome
 FailsLabels reads config P (Some path) outcome = FailsLabelsIn reads config P path outcome
 
--- how the report on a plan and its policy is written, which the configuration in a file has
-abbrev pub ReportsPlan : MayRead → ReportForm → Option (List ℕ) → (before after : Option (List ℕ)) → Source → Plan → Policy → Outcome → Type 0
-ReportsPlan reads form path before after config P Q outcome =
-    (FailsLabels reads config P path outcome × (after ≡ before))
-    ⊎ ((labels : Labels) × AreLabelsOf reads P path labels × ReportsOn form config.file.now (is_some path) P Q labels before after outcome)
+-- with what a report is compared: the configuration in a file, where its path is given
+abbrev pub IsAgainst : MayRead → Option (List ℕ) → Against → Type 0
+IsAgainst reads None against = against ≡ None
+IsAgainst reads (Some path) against = (made : Plan × Policy) × IsMadeOf reads path made × (against ≡ Some made)
+
+-- that file isn't read, or its configuration has a fault, and a command tells that
+abbrev pub FailsAgainst : MayRead → Option (List ℕ) → Outcome → Type 0
+FailsAgainst reads None outcome = ⊥
+FailsAgainst reads (Some path) outcome = FailsSide reads sides.Old path outcome
+
+-- how the report on a plan and its policy is written with the verdict on labels, compared with the configuration in a file where its path is given
+abbrev pub ReportsAgainst : MayRead → ReportForm → (old : Option (List ℕ)) → (path : List ℕ) → (given : Bool) → (before after : Option (List ℕ)) → Plan → Policy → Labels → Outcome → Type 0
+ReportsAgainst reads form old path given before after P Q labels outcome =
+    (FailsAgainst reads old outcome × (after ≡ before))
+    ⊎ ((against : Against) × IsAgainst reads old against × ReportsOn form path given against P Q labels before after outcome)
+
+-- the paths of the files beside the configuration that a report is on: those of labels and of an old configuration, where they are given
+pub record Paths : Type 0 where
+  pub labels : Option (List ℕ)
+  pub old : Option (List ℕ)
+
+abbrev pub paths_of : Beside → Paths
+paths_of beside = record { labels = option_map (λ path. path.now) beside.labels; old = option_map (λ path. path.now) beside.old }
+
+-- how the report on a plan and its policy is written, which the configuration in a file has: the labels are read first
+abbrev pub ReportsPlan : MayRead → ReportForm → Paths → (before after : Option (List ℕ)) → Source → Plan → Policy → Outcome → Type 0
+ReportsPlan reads form paths before after config P Q outcome =
+    (FailsLabels reads config P paths.labels outcome × (after ≡ before))
+    ⊎ ((labels : Labels) × AreLabelsOf reads P paths.labels labels
+    × ReportsAgainst reads form paths.old config.file.now (is_some paths.labels) before after P Q labels outcome)
 
 -- how the report on the configuration in a file is written: its fault is told and explained, or the report on its plan and policy is written
-abbrev pub ReportsSource : MayRead → ReportForm → Option (List ℕ) → (before after : Option (List ℕ)) → Source → Outcome → Type 0
-ReportsSource reads form path before after config outcome =
+abbrev pub ReportsSource : MayRead → ReportForm → Paths → (before after : Option (List ℕ)) → Source → Outcome → Type 0
+ReportsSource reads form paths before after config outcome =
     (TellsFault config outcome × (after ≡ before))
-    ⊎ ((said : ConfigText) × (config_of config.text.now ≡ Ok said) × (Q : Policy) × IsPolicyOf said Q × ReportsPlan reads form path before after config (plan_of said) Q outcome)
+    ⊎ ((said : ConfigText) × (config_of config.text.now ≡ Ok said) × (Q : Policy) × IsPolicyOf said Q × ReportsPlan reads form paths before after config (plan_of said) Q outcome)
 
 -- how the report on the configuration in the file with this path is written
-abbrev pub ReportsFile : MayRead → ReportForm → (labels : Option (List ℕ)) → List ℕ → (before after : Option (List ℕ)) → Outcome → Type 0
-ReportsFile reads form labels path before after outcome = ByFile reads path (ReportsSource reads form labels before after) (after ≡ before) outcome
+abbrev pub ReportsFile : MayRead → ReportForm → Paths → List ℕ → (before after : Option (List ℕ)) → Outcome → Type 0
+ReportsFile reads form paths path before after outcome = ByFile reads path (ReportsSource reads form paths before after) (after ≡ before) outcome

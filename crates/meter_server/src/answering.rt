@@ -12,7 +12,7 @@ use crate::files::{source_of, text_of_file};
 use crate::looking::{Question, tell_why};
 use crate::noticing::{Look, notice_lines};
 use crate::outcome::{Outcome, audited, ended, translated};
-use crate::reporting::report_file;
+use crate::reporting::{Beside, report_file};
 use crate::sources::{Sources, is_any_input, is_either_input, is_input};
 use crate::texts::{
     Source, accepted_of_texts, answer_aloud, answer_frames, answer_text, faulty, list_edges,
@@ -109,10 +109,16 @@ where
         Command::Report {
             config,
             labels,
+            against,
             form,
         } => {
-            let sources = Sources::new(alloc, files, input, is_any_input(config, labels));
-            report_file(alloc, &sources, config, labels, form, output)
+            let is_named = is_any_input(config, labels, against);
+            let sources = Sources::new(alloc, files, input, is_named);
+            let beside = Beside {
+                labels,
+                old: against,
+            };
+            report_file(alloc, &sources, config, beside, form, output)
         }
         Command::Quiet {
             config,

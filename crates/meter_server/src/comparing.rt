@@ -55,7 +55,7 @@ fn compare_with<F: TextFiles, O: Write>(
 }
 
 /// The plan and the policy of the configuration in a file, or how a command ends that needs them.
-fn made_of<F: TextFiles>(
+pub(crate) fn made_of<F: TextFiles>(
     alloc: Global,
     files: &F,
     side: Side,

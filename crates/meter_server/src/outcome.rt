@@ -21,7 +21,7 @@ use verdict::{Verdict, verdict_text};
 
 /// What is told where a new configuration gives clients what the old one doesn't.
 const GIVES_MORE: &str =
-    "cosem-flow: the new configuration gives clients what the old one does not\n  ask for the ways with cosem-flow why\n";
+    "cosem-flow: the new configuration gives clients what the old one does not\n  ask for the ways with cosem-flow why, or see all of it with cosem-flow report --against\n";
 
 /// Which of two configurations that are compared.
 #[derive(Clone, Copy, Debug, PartialEq, Eq, Drop)]

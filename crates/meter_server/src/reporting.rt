@@ -1,18 +1,20 @@
 //! Reports on who may change and who may learn what (own profile).
-ghost use Rattle.std.specs.Prelude.{◌≡◌, IfOk, MatchResult, option_map};
+ghost use Rattle.std.specs.Prelude.{◌≡◌, IfOk, MatchResult, Some, option_map};
+ghost use Rattle.flow_report.specs.Html.{configuration_of};
 ghost use Rattle.meter_server.specs.Reporting as spec;
-ghost use Rattle.meter_server.specs.Reporting.{AreLabelsOf, FailsLabels, IsHeading, IsReport, IsWithoutEnd, ReportsFile, ReportsOn, ReportsPlan, WritesReport};
+ghost use Rattle.meter_server.specs.Reporting.{AreLabelsOf, FailsLabels, IsHeading, IsReport, IsWithoutEnd, ReportsAgainst, ReportsFile, ReportsOn, ReportsPlan, WritesReport};
 ghost use Rattle.command_words.specs.declared.command.ReportForm.TheVariants as forms;
 
+use crate::comparing::made_of;
 use crate::files::{source_of, text_of_file};
-use crate::outcome::{Outcome, listed};
+use crate::outcome::{Outcome, Side, listed};
 use crate::texts::{Source, faulty, judged};
 use command_words::ReportForm;
 use config_reader::read_config;
 use cosem_data::memory::Memory;
 use flow_checker::check::{Refused, check};
 use flow_report::csv_form::csv_text;
-use flow_report::html_form::html_text;
+use flow_report::html_form::{Before, html_text};
 use flow_report::json_form::json_text;
 use flow_view::page::Heading;
 use flow_ways::ways::Ways;
@@ -29,6 +31,15 @@ use text_files::TextFiles;
 use verdict::{Verdict, verdict_text};
 use whole_writes::write_whole;
 
+/// The files beside the configuration that a report is on, where they are given.
+#[derive(Clone, Copy)]
+pub(crate) struct Beside<'a> {
+    /// The labels that are judged.
+    pub(crate) labels: Option<&'a str>,
+    /// The configuration before.
+    pub(crate) old: Option<&'a str>,
+}
+
 /// What is asked of a report, beside the configuration.
 #[derive(Clone, Copy, Debug)]
 struct Wanted<'a> {
@@ -40,21 +51,21 @@ struct Wanted<'a> {
     given_labels: bool,
 }
 
-/// Writes the report on the configuration in a file, with the verdict on the labels in another or on the least ones, and says how that
-/// ended.
+/// Writes the report on the configuration in a file, with the verdict on the labels in another or on the least ones, and with what has
+/// changed against the configuration in a third where that is given, and says how that ended.
 pub(crate) fn report_file<F: TextFiles, O: Write>(
     alloc: Global,
     files: &F,
     config: &str,
-    labels: Option<&str>,
+    beside: Beside<'_>,
     form: ReportForm,
     output: &mut O,
 ) -> Outcome
-    ensures { ReportsFile (F.may_read files.now) form (option_map (λ path. path.now) labels.entry) config.now
+    ensures { ReportsFile (F.may_read files.now) form (spec.paths_of beside.entry) config.now
         (O.contents output.old) (O.contents output.new) result }
 {
     match text_of_file(alloc, files, config) {
-        Ok(text) => report_source(alloc, files, source_of(config, &text), labels, form, output),
+        Ok(text) => report_source(alloc, files, source_of(config, &text), beside, form, output),
         Err(outcome) => outcome,
     }
 }
@@ -64,16 +75,16 @@ fn report_source<F: TextFiles, O: Write>(
     alloc: Global,
     files: &F,
     config: Source<'_>,
-    labels: Option<&str>,
+    beside: Beside<'_>,
     form: ReportForm,
     output: &mut O,
 ) -> Outcome
-    ensures { spec.ReportsSource (F.may_read files.now) form (option_map (λ path. path.now) labels.entry)
+    ensures { spec.ReportsSource (F.may_read files.now) form (spec.paths_of beside.entry)
         (O.contents output.old) (O.contents output.new) config.entry result }
 {
     match read_config(alloc, config.text) {
         Ok((plan, policy)) => report_plan(
-            alloc, files, config, plan, &policy, labels, form, output,
+            alloc, files, config, plan, &policy, beside, form, output,
         ),
         Err(fault) => faulty(alloc, config, fault),
     }
@@ -86,21 +97,23 @@ fn report_plan<F: TextFiles, O: Write>(
     config: Source<'_>,
     plan: Plan,
     policy: &Policy,
-    labels: Option<&str>,
+    beside: Beside<'_>,
     form: ReportForm,
     output: &mut O,
 ) -> Outcome
-    ensures { ReportsPlan (F.may_read files.now) form (option_map (λ path. path.now) labels.entry)
+    ensures { ReportsPlan (F.may_read files.now) form (spec.paths_of beside.entry)
         (O.contents output.old) (O.contents output.new) config.entry plan policy.now result }
 {
-    match labels_for(alloc, files, config, &plan, labels) {
+    match labels_for(alloc, files, config, &plan, beside.labels) {
         Ok(found) => {
             let wanted = Wanted {
                 form,
                 path: config.file,
-                given_labels: labels.is_some(),
+                given_labels: beside.labels.is_some(),
             };
-            report_on(alloc, plan, policy, &found, wanted, output)
+            report_against(
+                alloc, files, beside.old, plan, policy, &found, wanted, output,
+            )
         }
         Err(outcome) => outcome,
     }
@@ -154,23 +167,72 @@ fn labels_in<F: TextFiles>(
     }
 }
 
-/// Writes the report on a plan and its policy, with the verdict on labels.
-fn report_on<O: Write>(
+/// Writes the report on a plan and its policy, with the verdict on labels, and with what has changed against the configuration in a
+/// file where that is given.
+fn report_against<F: TextFiles, O: Write>(
     alloc: Global,
+    files: &F,
+    old: Option<&str>,
     plan: Plan,
     policy: &Policy,
     labels: &Labels,
     wanted: Wanted<'_>,
     output: &mut O,
 ) -> Outcome
-    ensures { ReportsOn wanted.entry.form wanted.entry.path.now wanted.entry.given_labels plan policy.now labels.now
-        (O.contents output.old) (O.contents output.new) result }
+    ensures { ReportsAgainst (F.may_read files.now) wanted.entry.form (option_map (λ path. path.now) old.entry) wanted.entry.path.now
+        wanted.entry.given_labels (O.contents output.old) (O.contents output.new) plan policy.now labels.now result }
+{
+    match old {
+        None => report_on(alloc, plan, policy, labels, None, wanted, output),
+        Some(path) => report_after(alloc, files, path, plan, policy, labels, wanted, output),
+    }
+}
+
+/// Writes the report on a plan and its policy, with the verdict on labels and with what has changed against the configuration in a file.
+fn report_after<F: TextFiles, O: Write>(
+    alloc: Global,
+    files: &F,
+    old: &str,
+    plan: Plan,
+    policy: &Policy,
+    labels: &Labels,
+    wanted: Wanted<'_>,
+    output: &mut O,
+) -> Outcome
+    ensures { ReportsAgainst (F.may_read files.now) wanted.entry.form (Some old.now) wanted.entry.path.now
+        wanted.entry.given_labels (O.contents output.old) (O.contents output.new) plan policy.now labels.now result }
+{
+    match made_of(alloc, files, Side::Old, old) {
+        Ok((before, before_policy)) => {
+            let before = Before {
+                plan: &before,
+                policy: &before_policy,
+            };
+            report_on(alloc, plan, policy, labels, Some(before), wanted, output)
+        }
+        Err(outcome) => outcome,
+    }
+}
+
+/// Writes the report on a plan and its policy, with the verdict on labels, compared with what was before where that is given.
+fn report_on<O: Write>(
+    alloc: Global,
+    plan: Plan,
+    policy: &Policy,
+    labels: &Labels,
+    before: Option<Before<'_>>,
+    wanted: Wanted<'_>,
+    output: &mut O,
+) -> Outcome
+    ensures { ReportsOn wanted.entry.form wanted.entry.path.now wanted.entry.given_labels (option_map configuration_of before.entry)
+        plan policy.now labels.now (O.contents output.old) (O.contents output.new) result }
 {
     match check(alloc, plan, policy, labels) {
         Ok(checked) => listed(write_report(
             alloc,
             checked.plan(),
             policy,
+            before,
             &Verdict::Accepted,
             wanted,
             output,
@@ -180,6 +242,7 @@ fn report_on<O: Write>(
             alloc,
             &plan,
             policy,
+            before,
             &Verdict::Refused(refused),
             wanted,
             output,
@@ -192,15 +255,17 @@ fn write_report<O: Write>(
     alloc: Global,
     plan: &Plan,
     policy: &Policy,
+    before: Option<Before<'_>>,
     verdict: &Verdict,
     wanted: Wanted<'_>,
     output: &mut O,
 ) -> Result<(), ListFault>
-    ensures { WritesReport wanted.entry.form wanted.entry.path.now wanted.entry.given_labels plan.now policy.now verdict.now
+    ensures { WritesReport wanted.entry.form wanted.entry.path.now wanted.entry.given_labels (option_map configuration_of before.entry)
+        plan.now policy.now verdict.now
         (O.contents output.old) (O.contents output.new) result }
 {
     let ways = Ways::of_many(alloc, plan)?;
-    let text = report_text(alloc, &ways, policy, verdict, wanted)?;
+    let text = report_text(alloc, &ways, policy, before, verdict, wanted)?;
     write_whole(output, &text)?;
     Ok(())
 }
@@ -210,14 +275,15 @@ fn report_text(
     alloc: Global,
     ways: &Ways<'_>,
     policy: &Policy,
+    before: Option<Before<'_>>,
     verdict: &Verdict,
     wanted: Wanted<'_>,
 ) -> Result<Vec<u8>, Memory>
     ensures { IfOk result (λ text. IsReport wanted.entry.form wanted.entry.path.now wanted.entry.given_labels
-        ways.now policy.now verdict.now text.items) }
+        (option_map configuration_of before.entry) ways.now policy.now verdict.now text.items) }
 {
     match wanted.form {
-        ReportForm::Html => html_of(alloc, ways, policy, verdict, wanted),
+        ReportForm::Html => html_of(alloc, ways, policy, before, verdict, wanted),
         ReportForm::Csv => csv_text(alloc, ways, policy),
         ReportForm::Json => json_of(alloc, ways, policy, verdict),
     }
@@ -228,14 +294,15 @@ fn html_of(
     alloc: Global,
     ways: &Ways<'_>,
     policy: &Policy,
+    before: Option<Before<'_>>,
     verdict: &Verdict,
     wanted: Wanted<'_>,
 ) -> Result<Vec<u8>, Memory>
     ensures { IfOk result (λ text. IsReport forms.Html wanted.entry.path.now wanted.entry.given_labels
-        ways.now policy.now verdict.now text.items) }
+        (option_map configuration_of before.entry) ways.now policy.now verdict.now text.items) }
 {
     let heading = heading_of(alloc, verdict, wanted.path, wanted.given_labels)?;
-    let text = html_text(alloc, ways, policy, heading)?;
+    let text = html_text(alloc, ways, policy, before, heading)?;
     Ok(text.into_bytes())
 }
 

@@ -22,11 +22,12 @@ pub(crate) fn is_either_input(first: &str, second: &str) -> bool
     is_input(first) || is_input(second)
 }
 
-/// Whether a file's name, or another where that is given, stands for the input.
-pub(crate) fn is_any_input(name: &str, given: Option<&str>) -> bool
-    ensures { result ≡ spec.is_input name.now || spec.is_given_input (option_map (λ name. name.now) given.entry) }
+/// Whether a file's name, or one of two others where these are given, stands for the input.
+pub(crate) fn is_any_input(name: &str, first: Option<&str>, second: Option<&str>) -> bool
+    ensures { result ≡ spec.is_input name.now || (spec.is_given_input (option_map (λ name. name.now) first.entry)
+        || spec.is_given_input (option_map (λ name. name.now) second.entry)) }
 {
-    is_input(name) || is_given_input(given)
+    is_input(name) || is_given_input(first) || is_given_input(second)
 }
 
 /// Whether a file's name, if one is given, stands for the input.

@@ -15,6 +15,16 @@ pub(crate) fn value_of(alloc: Global, bytes: &[u8]) -> Result<Data, Fail> {
     }
 }
 
+/// The same in a box.
+pub(crate) fn boxed_value(alloc: Global, bytes: &[u8]) -> Result<Box<Data>, Fail> {
+    Ok(Box::new(alloc, value_of(alloc, bytes)?)?)
+}
+
+/// What is told of these bytes is right.
+pub(crate) fn is_right(rt: &impl Abort, holds: bool, bytes: &[u8]) {
+    assert!(rt; holds, "{bytes:?}");
+}
+
 /// The value is the one that these bytes encode.
 pub(crate) fn is_encoded(
     rt: &impl Abort,
@@ -22,8 +32,8 @@ pub(crate) fn is_encoded(
     value: &Data,
     bytes: &[u8],
 ) -> Result<(), Fail> {
-    let want = value_of(alloc, bytes)?;
-    assert!(rt; *value == want, "{value:?}");
+    let want = boxed_value(alloc, bytes)?;
+    assert!(rt; *value == *want, "{value:?}");
     Ok(())
 }
 
@@ -58,16 +68,24 @@ pub(crate) enum Step<'a> {
     Hides(u8),
 }
 
-/// Why the value that these bytes encode isn't written, or None where it is.
-fn fault_of<L: Lend, C: InterfaceClass<L>>(
+/// What was read is the value that these bytes encode.
+pub(crate) fn is_read(
+    rt: &impl Abort,
     a: Global,
-    lent: &L,
-    object: &mut C,
-    index: u8,
+    read: Result<Data, ClassFault>,
     bytes: &[u8],
-) -> Result<Option<ClassFault>, Fail> {
-    let value = value_of(a, bytes)?;
-    Ok(object.write(lent.again(), index, value).err())
+) -> Result<(), Fail> {
+    is_encoded(rt, a, &read?, bytes)
+}
+
+/// A read or a write of an attribute has this fault, or none.
+pub(crate) fn has_fault(
+    rt: &impl Abort,
+    index: u8,
+    done: Result<Data, ClassFault>,
+    want: Option<ClassFault>,
+) {
+    assert!(rt; done.err() == want, "at {index}");
 }
 
 /// Takes these steps, for which the plan lends this.
@@ -79,33 +97,20 @@ pub(crate) fn take<L: Lend, C: InterfaceClass<L>>(
     steps: &[Step],
 ) -> Result<(), Fail> {
     for step in steps {
-        let (index, fault, want) = match step {
+        match step {
             Step::Writes(index, bytes, want) => {
-                let fault = fault_of(a, lent, object, *index, bytes)?;
-                (*index, fault, want.err())
+                let value = value_of(a, bytes)?;
+                let written = object.write(lent.again(), *index, value);
+                has_fault(rt, *index, written, want.err());
             }
             Step::Shows(index, bytes) => {
-                shows(rt, a, lent.again(), object, *index, bytes)?;
-                (*index, None, None)
+                is_read(rt, a, object.read(a, lent.again(), *index), bytes)?;
             }
             Step::Hides(index) => {
                 let read = object.read(a, lent.again(), *index);
-                (*index, read.err(), Some(ClassFault::NoIndex))
+                has_fault(rt, *index, read, Some(ClassFault::NoIndex));
             }
-        };
-        assert!(rt; fault == want, "{fault:?} at {index}");
+        }
     }
     Ok(())
-}
-
-/// The attribute is read as the value that these bytes encode.
-pub(crate) fn shows<L, C: InterfaceClass<L>>(
-    rt: &impl Abort,
-    a: Global,
-    lent: L,
-    object: &C,
-    index: u8,
-    bytes: &[u8],
-) -> Result<(), Fail> {
-    is_encoded(rt, a, &object.read(a, lent, index)?, bytes)
 }

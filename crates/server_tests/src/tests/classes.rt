@@ -1,6 +1,6 @@
 ghost use Rattle.std.specs.Prelude.{◌≡◌};
 
-use super::attributes::{Step, shows, take, value_of};
+use super::attributes::{Step, boxed_value, is_read, is_right, take};
 use cosem_class::class::{ClassFault, InterfaceClass, Lent};
 use cosem_class::data1::{Data1, DataPart};
 use cosem_class::judge::judge_kind;
@@ -38,7 +38,7 @@ static ARRAYS: [(&[u8], Result<(), ClassFault>); 2] = [
 
 /// Judges the value that these bytes encode for a cell of an array.
 fn judge_array(alloc: Global, bytes: &[u8]) -> Result<Result<(), ClassFault>, Fail> {
-    let value = value_of(alloc, bytes)?;
+    let value = boxed_value(alloc, bytes)?;
     Ok(judge_kind(Kind::Array, &value))
 }
 
@@ -47,7 +47,7 @@ fn judge_array(alloc: Global, bytes: &[u8]) -> Result<Result<(), ClassFault>, Fa
 fn the_depth_of_a_cell_is_met_exactly(rt: HostRuntime) -> Result<(), Fail> {
     for (bytes, want) in &ARRAYS {
         let judged = judge_array(rt.alloc(), bytes)?;
-        assert!(rt; judged == *want, "{bytes:?}");
+        is_right(&rt, judged == *want, bytes);
     }
     Ok(())
 }
@@ -131,9 +131,9 @@ fn writes_and_resets(
 ) -> Result<(), Fail> {
     take(rt, a, &lent(part), object, &STEPS_OF_A_REGISTER)?;
     assert!(rt; call(a, part, object, 2) == Err(ClassFault::NoIndex));
-    shows(rt, a, lent(part), object, 2, &EIGHT)?;
+    is_read(rt, a, object.read(a, lent(part), 2), &EIGHT)?;
     call(a, part, object, 1)?;
-    shows(rt, a, lent(part), object, 2, &SEVEN)
+    is_read(rt, a, object.read(a, lent(part), 2), &SEVEN)
 }
 
 #[test]

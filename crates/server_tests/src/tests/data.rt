@@ -1,5 +1,7 @@
-use super::attributes::value_of;
+use super::attributes::{boxed_value, is_right};
 use cosem_data::name::LogicalName;
+use std::alloc::Global;
+use std::process::Abort;
 use std::test::Fail;
 
 /// Total active energy import, as the OBIS table of IEC 62056-6-1 has it.
@@ -27,12 +29,18 @@ static NUMBERS: [(&[u8], Option<i128>); 11] = [
     (&[0], None),
 ];
 
+/// The value that these bytes encode has this number, or none.
+fn is_number(rt: &impl Abort, a: Global, bytes: &[u8], number: Option<i128>) -> Result<(), Fail> {
+    let value = boxed_value(a, bytes)?;
+    is_right(rt, value.number() == number, bytes);
+    is_right(rt, value.kind().is_number() == number.is_some(), bytes);
+    Ok(())
+}
+
 #[test]
 fn numbers_are_read_in_full(rt: HostRuntime) -> Result<(), Fail> {
     for (bytes, number) in &NUMBERS {
-        let value = value_of(rt.alloc(), bytes)?;
-        assert!(rt; value.number() == *number, "not {number:?}");
-        assert!(rt; value.kind().is_number() == number.is_some());
+        is_number(&rt, rt.alloc(), bytes, *number)?;
     }
     Ok(())
 }

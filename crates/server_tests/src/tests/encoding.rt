@@ -1,4 +1,5 @@
 //! Encodings that can't be read. What values are read and written as is stored in the cases of `words`.
+use super::attributes::is_right;
 use cosem_axdr::fault::ReadFault;
 use cosem_axdr::reading::read_data;
 use cosem_data::memory::Memory;
@@ -37,7 +38,7 @@ fn tells_the_first_fault(rt: HostRuntime) -> Result<(), Fail> {
         if fault == Some(ReadFault::Memory) {
             return Err(Memory.into());
         }
-        assert!(rt; fault == *want, "in {bytes:?}");
+        is_right(&rt, fault == *want, bytes);
     }
     Ok(())
 }

@@ -9,26 +9,33 @@ use std::alloc::Global;
 use std::process::Abort;
 use std::test::Fail;
 
-/// A run over the input, its reader and writer failing at these calls (0 for none), ends so and writes so many bytes: a
-/// beginning of the whole text.
-fn ends(
+/// A run ended so and wrote so many bytes: a beginning of the whole text.
+fn is_end(
     rt: &impl Abort,
-    alloc: Global,
-    plan: &Plan,
-    (input, whole): (&[u8], &[u8]),
-    (fails_read, fails_write): (u64, u64),
+    answer: Result<u64, LineFault>,
+    written: &[u8],
+    whole: &[u8],
     (want, count): (Result<u64, LineFault>, usize),
 ) -> Result<(), Fail> {
-    let mut reader = SlowReader::new(input, fails_read);
-    let mut writer = SlowWriter::new(alloc, fails_write)?;
-    let answer = run_lines(alloc, plan, &mut reader, &mut writer);
     if answer == Err(LineFault::Memory) {
         return Err(Memory.into());
     }
-    assert!(rt; count <= whole.len());
-    assert_eq!(rt; writer.held.as_slice(), &whole[..count]);
-    assert_eq!(rt; answer, want, "behind {count} bytes");
+    let is_right = answer == want && whole.get(..count) == Some(written);
+    assert!(rt; is_right, "another end, or not behind {count} bytes");
     Ok(())
+}
+
+/// The run of a row over its input, its reader and writer failing at these calls (0 for none), ends as the row has it.
+fn ends(rt: &impl Abort, alloc: Global, plan: &Plan, row: &Row) -> Result<(), Fail> {
+    let ((input, whole), (fails_read, fails_write), end) = *row;
+    let mut writer = SlowWriter::new(alloc, fails_write)?;
+    let answer = run_lines(
+        alloc,
+        plan,
+        &mut SlowReader::new(input, fails_read),
+        &mut writer,
+    );
+    is_end(rt, answer, writer.held.as_slice(), whole, end)
 }
 
 /// A comment, an empty line, digits in either case, and a last line without its end.
@@ -76,9 +83,9 @@ static ROWS: [Row; 12] = [
     (UNREADABLE, (0, 5), (Err(LineFault::Write), 4)),
 ];
 
-fn all_end(rt: &impl Abort, alloc: Global, plan: &Plan, rows: &[Row]) -> Result<(), Fail> {
-    for row in rows {
-        ends(rt, alloc, plan, row.0, row.1, row.2)?;
+fn all_end(rt: &impl Abort, alloc: Global, plan: &Plan) -> Result<(), Fail> {
+    for row in &ROWS {
+        ends(rt, alloc, plan, row)?;
     }
     Ok(())
 }
@@ -86,5 +93,5 @@ fn all_end(rt: &impl Abort, alloc: Global, plan: &Plan, rows: &[Row]) -> Result<
 #[test]
 fn a_failing_call_ends_a_run(rt: HostRuntime) -> Result<(), Fail> {
     let plan = plan_of(rt.alloc(), TEXT)?;
-    all_end(&rt, rt.alloc(), &plan, &ROWS)
+    all_end(&rt, rt.alloc(), &plan)
 }

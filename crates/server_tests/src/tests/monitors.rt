@@ -10,6 +10,7 @@ use cosem_data::kind::Kind;
 use cosem_data::name::LogicalName;
 use meter_theory::refs::{ScriptRef, UpDown};
 use std::alloc::Global;
+use std::process::Abort;
 use std::test::Fail;
 
 /// A register monitor.
@@ -57,11 +58,12 @@ fn watch(part: &MonitorPart) -> Watch<'_> {
 }
 
 /// A monitor of this part before its first evaluation.
-fn monitor(alloc: Global, part: &MonitorPart) -> Result<Monitor, Fail> {
-    Ok(Monitor {
+fn monitor(alloc: Global, part: &MonitorPart) -> Result<Box<Monitor>, Fail> {
+    let monitor = Monitor {
         thresholds: part.start.try_clone(alloc)?,
         seen: Data::NullData,
-    })
+    };
+    Ok(Box::new(alloc, monitor)?)
 }
 
 /// The threshold at the start.
@@ -101,9 +103,14 @@ static STEPS: [Step<'static>; 15] = [
     Step::Shows(2, &[0x01, 0x01, 0x06, 0, 0, 0, 7]),
 ];
 
+/// A monitor of this part takes the steps.
+fn takes(rt: &impl Abort, a: Global, part: &MonitorPart) -> Result<(), Fail> {
+    let mut object = monitor(a, part)?;
+    take(rt, a, &watch(part), &mut *object, &STEPS)
+}
+
 #[test]
 fn a_monitor_is_read_and_its_thresholds_written(rt: HostRuntime) -> Result<(), Fail> {
-    let a = rt.alloc();
-    let part = monitor_part(a)?;
-    take(&rt, a, &watch(&part), &mut monitor(a, &part)?, &STEPS)
+    let part = monitor_part(rt.alloc())?;
+    takes(&rt, rt.alloc(), &part)
 }

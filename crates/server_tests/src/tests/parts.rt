@@ -1,8 +1,8 @@
-use super::attributes::{is_encoded, value_of};
+use super::attributes::{boxed_value, is_encoded, is_right};
 use super::monitors::{MONITORED_VALUE, ONE_PAIR, ONE_THRESHOLD, TWO_THRESHOLDS, monitor_part};
-use super::profiles::{DEVICE_ALONE, ENERGY_ALONE, energy_menu, two_entries};
+use super::profiles::{DEVICE_ALONE, ENERGY_ALONE, two_entries};
 use super::schedules::{
-    EACH_MONTH_END, SCRIPT_1, SCRIPT_4, SCRIPT_OF_TABLE, TWO_NOONS, schedule_part, script_menu,
+    EACH_MONTH_END, SCRIPT_1, SCRIPT_4, SCRIPT_OF_TABLE, TWO_NOONS, schedule_part,
 };
 use super::scripts::{TWO_SCRIPTS, scripts};
 use class_control::monitor::Monitor;
@@ -20,16 +20,15 @@ const NAME: LogicalName = LogicalName([1, 0, 99, 1, 0, 255]);
 
 /// A part of an object of this class: a profile of two entries, two scripts, a monitor with one threshold, a schedule of type 1 with
 /// one time, with wildcards. Profile and schedule may have a menu.
-fn part_of(alloc: Global, class_id: u16, has_menu: bool) -> Result<Part, Fail> {
-    Ok(match (class_id, has_menu) {
-        (7, false) => Part::ProfileGeneric(two_entries(alloc, Vec::new(alloc))?),
-        (7, true) => Part::ProfileGeneric(two_entries(alloc, energy_menu(alloc)?)?),
-        (9, _) => Part::ScriptTable(scripts(alloc)?),
-        (21, _) => Part::RegisterMonitor(monitor_part(alloc)?),
-        (22, false) => Part::SingleActionSchedule(schedule_part(alloc, Vec::new(alloc))?),
-        (22, true) => Part::SingleActionSchedule(schedule_part(alloc, script_menu(alloc)?)?),
+fn part_of(alloc: Global, class_id: u16, has_menu: bool) -> Result<Box<Part>, Fail> {
+    let part = match class_id {
+        7 => Part::ProfileGeneric(two_entries(alloc, has_menu)?),
+        9 => Part::ScriptTable(scripts(alloc)?),
+        21 => Part::RegisterMonitor(monitor_part(alloc)?),
+        22 => Part::SingleActionSchedule(schedule_part(alloc, has_menu)?),
         _ => return Err("a class without a part".into()),
-    })
+    };
+    Ok(Box::new(alloc, part)?)
 }
 
 /// A fixed attribute, and the bytes that encode its value.
@@ -150,28 +149,31 @@ fn starts(rt: &impl Abort, part: &Part, class_id: u16, cells: &[(u8, Kind)]) {
     }
 }
 
-/// The part fixes attributes so.
-fn fixes(rt: &impl Abort, a: Global, part: &Part, fixed: &[Fixed]) -> Result<(), Fail> {
-    for (index, bytes) in fixed {
-        is_encoded(rt, a, &part.fixed(a, *index)?, bytes)?;
-    }
-    Ok(())
+/// The part fixes an attribute so.
+fn fixes(rt: &impl Abort, a: Global, part: &Part, fixed: &Fixed) -> Result<(), Fail> {
+    let (index, bytes) = *fixed;
+    is_encoded(rt, a, &part.fixed(a, index)?, bytes)
 }
 
-/// The part judges values so.
-fn judges(rt: &impl Abort, a: Global, part: &Part, judged: &[Judged]) -> Result<(), Fail> {
-    for (index, bytes, want) in judged {
-        let judged = part.judge(Kind::DoubleLongUnsigned, *index, &value_of(a, bytes)?);
-        assert!(rt; judged == *want, "{bytes:?}");
-    }
+/// The part judges a value so.
+fn judges(rt: &impl Abort, a: Global, part: &Part, judged: &Judged) -> Result<(), Fail> {
+    let (index, bytes, want) = *judged;
+    let value = boxed_value(a, bytes)?;
+    let judged = part.judge(Kind::DoubleLongUnsigned, index, &value);
+    is_right(rt, judged == want, bytes);
     Ok(())
 }
 
 /// A part is as it is told.
 fn is_told(rt: &impl Abort, a: Global, part: &Part, told: &Told) -> Result<(), Fail> {
     starts(rt, part, told.class_id, told.cells);
-    fixes(rt, a, part, told.fixed)?;
-    judges(rt, a, part, told.judged)
+    for fixed in told.fixed {
+        fixes(rt, a, part, fixed)?;
+    }
+    for judged in told.judged {
+        judges(rt, a, part, judged)?;
+    }
+    Ok(())
 }
 
 /// A part of the class is as it is told. It is lent to what tries it, since an owner has to drop it at each of its ends, which is long

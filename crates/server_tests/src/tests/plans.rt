@@ -15,26 +15,42 @@ use std::alloc::Global;
 use std::process::Abort;
 use std::test::Fail;
 
-/// The cells of the plan, and their values at the start.
-static CELLS: [CellRef; 3] = [
-    CellRef {
-        class_id: 3,
-        name: ENERGY,
-        index: 2,
-    },
-    CellRef {
-        class_id: 1,
-        name: ALARM,
-        index: 2,
-    },
-    CellRef {
-        class_id: 1,
-        name: DEVICE,
-        index: 2,
-    },
-];
+/// The value of the register, of the alarm and of the device's identifier.
+const REGISTER_VALUE: CellRef = CellRef {
+    class_id: 3,
+    name: ENERGY,
+    index: 2,
+};
 
-static VALUES: [&str; 3] = ["060001E240", "1100", "0900"];
+const ALARM_VALUE: CellRef = CellRef {
+    class_id: 1,
+    name: ALARM,
+    index: 2,
+};
+
+const DEVICE_VALUE: CellRef = CellRef {
+    class_id: 1,
+    name: DEVICE,
+    index: 2,
+};
+
+/// An attribute that is no cell.
+const NO_CELL: CellRef = CellRef {
+    class_id: 1,
+    name: ENERGY,
+    index: 2,
+};
+
+/// The cells of the plan.
+static CELLS: [CellRef; 3] = [REGISTER_VALUE, ALARM_VALUE, DEVICE_VALUE];
+
+/// What they hold at the start. Of an attribute that is no cell null-data is held.
+static START: [(CellRef, &str); 4] = [
+    (REGISTER_VALUE, "060001E240"),
+    (ALARM_VALUE, "1100"),
+    (DEVICE_VALUE, "0900"),
+    (NO_CELL, "00"),
+];
 
 fn has_its_clients(rt: &impl Abort, plan: &Plan) {
     let is_reader = match plan.client(READER) {
@@ -60,19 +76,13 @@ fn has_its_cells(rt: &impl Abort, alloc: Global, plan: &Plan) -> Result<(), Memo
     Ok(())
 }
 
-/// Of an attribute that is no cell null-data is held.
 fn holds_the_start(rt: &impl Abort, alloc: Global, plan: &Plan, meter: &Meter) -> Result<(), Fail>
     requires { IsState plan.now meter.now }
 {
-    for (at, want) in CELLS.iter().zip(&VALUES) {
-        is_written(rt, alloc, meter.value(alloc, plan, at), want)?;
+    for (cell, want) in &START {
+        is_written(rt, alloc, meter.value(alloc, plan, cell), want)?;
     }
-    is_written(
-        rt,
-        alloc,
-        meter.value(alloc, plan, &cell(1, ENERGY, 2)),
-        "00",
-    )
+    Ok(())
 }
 
 /// A copy of the meter holds the start too.
@@ -119,9 +129,16 @@ fn labels_each_cell(rt: &impl Abort, policy: &Policy) {
     has_just(rt, device.learn, &[READER, INSTALLER, MANAGER]);
 }
 
+/// The policy of a configuration.
+fn policy_of(alloc: Global, text: &str) -> Result<Box<Policy>, Fail> {
+    let (plan, policy) = read_config(alloc, text)?;
+    drop(plan);
+    Ok(Box::new(alloc, policy)?)
+}
+
 #[test]
 fn a_policy_labels_each_cell(rt: HostRuntime) -> Result<(), Fail> {
-    let (_plan, policy) = read_config(rt.alloc(), TEXT)?;
+    let policy = policy_of(rt.alloc(), TEXT)?;
     labels_each_cell(&rt, &policy);
     Ok(())
 }

@@ -7,7 +7,7 @@ ghost use Rattle.meter_theory.specs.Menus.{has_menu};
 ghost use Rattle.meter_theory.specs.Value.{OneOf, meets};
 ghost use Rattle.server_tests.specs.Profiles.{MayStandIn};
 
-use super::attributes::{Step, shows, take};
+use super::attributes::{Step, is_read, take};
 use civil_moment::moment::Moment;
 use class_profile::due::is_due;
 use class_profile::profile::{Profile, ProfilePart};
@@ -37,18 +37,23 @@ const DEVICE: CellRef = CellRef {
     index: 2,
 };
 
-/// A profile of two entries, each of energy and device, with this menu of captured cells.
-pub(crate) fn two_entries(alloc: Global, menu: Vec<Vec<CellRef>>) -> Result<ProfilePart, Fail> {
+/// A profile of two entries, each of energy and device, with a menu of captured cells or without one.
+pub(crate) fn two_entries(alloc: Global, has_menu: bool) -> Result<ProfilePart, Fail> {
+    let menu = if has_menu {
+        energy_menu(alloc)?
+    } else {
+        Vec::new(alloc)
+    };
     Ok(ProfilePart {
-        captured: vec![in alloc; ENERGY, DEVICE]?,
         menu,
+        captured: vec![in alloc; ENERGY, DEVICE]?,
         capture_period: 900,
         profile_entries: 2,
     })
 }
 
 /// A menu of energy alone.
-pub(crate) fn energy_menu(alloc: Global) -> Result<Vec<Vec<CellRef>>, Fail> {
+fn energy_menu(alloc: Global) -> Result<Vec<Vec<CellRef>>, Fail> {
     let energy = vec![in alloc; ENERGY]?;
     Ok(vec![in alloc; energy]?)
 }
@@ -63,11 +68,23 @@ fn lent(part: &ProfilePart) -> Lent<'_, ProfilePart>
     }
 }
 
+/// The attribute is read as the value that these bytes encode.
+fn shows(
+    rt: &impl Abort,
+    a: Global,
+    part: &ProfilePart,
+    object: &Profile,
+    index: u8,
+    bytes: &[u8],
+) -> Result<(), Fail> {
+    is_read(rt, a, object.read(a, lent(part), index), bytes)
+}
+
 /// The object at the start.
-fn at_start(alloc: Global, part: &ProfilePart) -> Result<Profile, Memory>
-    ensures { IfOk result (λ object. MayStandIn part.now object) }
+fn at_start(alloc: Global, part: &ProfilePart) -> Result<Box<Profile>, Memory>
+    ensures { IfOk result (λ object. MayStandIn part.now object.value) }
 {
-    Profile::start(alloc, part)
+    Ok(Box::new(alloc, Profile::start(alloc, part)?)?)
 }
 
 /// A value of energy and one of device.
@@ -117,6 +134,23 @@ fn has_columns(part: &ProfilePart, count: usize) -> bool
     part.captured.len() == count
 }
 
+/// A capture that is taken back leaves the buffer, which these bytes encode.
+fn is_taken_back(
+    rt: &impl Abort,
+    a: Global,
+    part: &ProfilePart,
+    object: &mut Profile,
+    value: u8,
+    before: &[u8],
+) -> Result<(), Fail>
+    requires before { MayStandIn part.now object.old }
+    ensures { OnOk result (MayStandIn part.now object.new) }
+{
+    let captured = object.capture(a, part, row(a, value)?)?;
+    object.take_back(captured);
+    shows(rt, a, part, object, 2, before)
+}
+
 /// Captures a value of energy and one of device. The buffer before is the value that these bytes encode, as it is after a
 /// capture that is taken back.
 fn captures(
@@ -131,10 +165,8 @@ fn captures(
     ensures { OnOk result (MayStandIn part.now object.new) }
 {
     assert!(rt; has_columns(part, 2));
-    shows(rt, a, lent(part), object, 2, before)?;
-    let captured = object.capture(a, part, row(a, value)?)?;
-    object.take_back(captured);
-    shows(rt, a, lent(part), object, 2, before)?;
+    shows(rt, a, part, object, 2, before)?;
+    is_taken_back(rt, a, part, object, value, before)?;
     call(rt, a, part, object, 2, row(a, value)?)?;
     Ok(())
 }
@@ -168,10 +200,11 @@ fn resets(
     requires before { MayStandIn part.now object.old }
 {
     let cleared = object.clear();
-    shows(rt, a, lent(part), object, 2, &[0x01, 0x00])?;
+    let empty = object.read(a, lent(part), 2);
     object.restore(cleared);
-    shows(rt, a, lent(part), object, 2, before)?;
-    shows(rt, a, lent(part), object, 7, in_use)?;
+    is_read(rt, a, empty, &[0x01, 0x00])?;
+    shows(rt, a, part, object, 2, before)?;
+    shows(rt, a, part, object, 7, in_use)?;
     calls(rt, a, part, object, 1, Ok(()));
     Ok(())
 }
@@ -196,30 +229,38 @@ const LAST_ENTRIES: [u8; 20] = [
     0x02, 0x02, 0x06, 0, 0, 0, 3, 0x11, 3, // energy and device
 ];
 
-/// The last two of three entries are kept, and a reset empties the buffer. Then the profile is read and its period set.
-fn keeps_the_last(
+/// Captures three times. There are no methods 0 and 3.
+fn captures_thrice(
     rt: &impl Abort,
     a: Global,
     part: &ProfilePart,
     object: &mut Profile,
 ) -> Result<(), Fail>
     requires before { MayStandIn part.now object.old }
+    ensures { OnOk result (MayStandIn part.now object.new) }
 {
     captures(rt, a, part, object, 1, &[0x01, 0x00])?;
-    shows(rt, a, lent(part), object, 7, &[0x06, 0, 0, 0, 1])?;
+    shows(rt, a, part, object, 7, &[0x06, 0, 0, 0, 1])?;
     captures(rt, a, part, object, 2, &FIRST_ENTRY)?;
     captures(rt, a, part, object, 3, &FIRST_ENTRIES)?;
     calls(rt, a, part, object, 0, Err(ClassFault::NoIndex));
     calls(rt, a, part, object, 3, Err(ClassFault::NoIndex));
-    resets(rt, a, part, object, &LAST_ENTRIES, &[0x06, 0, 0, 0, 2])?;
-    take(rt, a, &lent(part), object, &STEPS)
+    Ok(())
+}
+
+/// The last two of three entries are kept, and a reset empties the buffer. Then the profile is read and its period set.
+fn keeps_the_last(rt: &impl Abort, a: Global, part: &ProfilePart) -> Result<(), Fail> {
+    let mut object = at_start(a, part)?;
+    captures_thrice(rt, a, part, &mut object)?;
+    resets(rt, a, part, &mut object, &LAST_ENTRIES, &[0x06, 0, 0, 0, 2])?;
+    take(rt, a, &lent(part), &mut *object, &STEPS)
 }
 
 #[test]
 fn the_last_entries_are_kept_and_the_period_is_set(rt: HostRuntime) -> Result<(), Fail> {
     let a = rt.alloc();
-    let part = two_entries(a, Vec::new(a))?;
-    keeps_the_last(&rt, a, &part, &mut at_start(a, &part)?)
+    let part = two_entries(a, false)?;
+    keeps_the_last(&rt, a, &part)
 }
 
 /// A profile that has captured once takes the steps.
@@ -231,7 +272,7 @@ fn takes_with_entry(
 ) -> Result<(), Fail> {
     let mut object = at_start(a, part)?;
     captures(rt, a, part, &mut object, 1, &[0x01, 0x00])?;
-    take(rt, a, &lent(part), &mut object, steps)
+    take(rt, a, &lent(part), &mut *object, steps)
 }
 
 fn is_chosen(rt: &impl Abort, a: Global, part: &ProfilePart) -> Result<(), Fail> {
@@ -242,7 +283,7 @@ fn is_chosen(rt: &impl Abort, a: Global, part: &ProfilePart) -> Result<(), Fail>
 #[test]
 fn captured_cells_are_chosen(rt: HostRuntime) -> Result<(), Fail> {
     let a = rt.alloc();
-    let part = two_entries(a, energy_menu(a)?)?;
+    let part = two_entries(a, true)?;
     is_chosen(&rt, a, &part)
 }
 

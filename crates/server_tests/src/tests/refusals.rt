@@ -1,6 +1,6 @@
 ghost use Rattle.meter_theory.specs.States.{IsState};
 
-use super::samples::{ENERGY, encode, plan_of, started};
+use super::samples::{ENERGY, encode, is_text, plan_of, started};
 use super::steps::Event::{CaptureAt, Evaluate, Input, ScheduleAt, Tick};
 use super::steps::{
     AB, C, Event, GET_ALARM, OCTETS_TEXT, PROFILE, SCHEDULE, SET_AB, TABLE, is_this, step,
@@ -252,7 +252,7 @@ fn are_held(
     requires { IsState plan.now meter.now }
 {
     let held = all_held(rt, alloc, plan, cells, meter)?;
-    assert_eq!(rt; held.as_str(), want);
+    is_text(rt, held.as_str(), want);
     Ok(())
 }
 
@@ -273,6 +273,11 @@ fn is_replied(
     is_this(rt, alloc, &reply, want)
 }
 
+/// The step of an event, in a box.
+fn boxed_step(alloc: Global, event: &Event) -> Result<Box<Step>, Fail> {
+    Ok(Box::new(alloc, step(alloc, event)?)?)
+}
+
 /// The step of a row has its reply, also where memory is refused once.
 fn survives(
     rt: &impl Abort,
@@ -285,8 +290,23 @@ fn survives(
     requires { IsState plan.now meter.old }
     ensures { IsState plan.now meter.new }
 {
-    let step = step(alloc, row.0)?;
+    let step = boxed_step(alloc, &row.0)?;
     is_replied(rt, alloc, plan, cells, meter, &step, row.1)
+}
+
+/// The cells hold what is told behind the step of a row.
+fn holds_row(
+    rt: &impl Abort,
+    alloc: Global,
+    plan: &Plan,
+    cells: &[CellRef],
+    meter: &Meter,
+    row: &Row,
+) -> Result<(), Memory>
+    requires { IsState plan.now meter.now }
+{
+    let all = all_of(alloc, row)?;
+    are_held(rt, alloc, plan, cells, meter, all.as_str())
 }
 
 /// Each step has its reply and leaves in the cells what its row says.
@@ -296,14 +316,12 @@ fn survives_all(
     plan: &Plan,
     cells: &[CellRef],
     meter: &mut Meter,
-    table: &[Row],
 ) -> Result<(), Fail>
     requires { IsState plan.now meter.old }
 {
-    for row in table {
+    for row in &ROWS {
         survives(rt, alloc, plan, cells, meter, row)?;
-        let all = all_of(alloc, row)?;
-        are_held(rt, alloc, plan, cells, meter, all.as_str())?;
+        holds_row(rt, alloc, plan, cells, meter, row)?;
     }
     Ok(())
 }
@@ -316,7 +334,7 @@ fn survives_from_start(
     cells: &[CellRef],
 ) -> Result<(), Fail> {
     let mut meter = started(plan, alloc)?;
-    survives_all(rt, alloc, plan, cells, &mut meter, &ROWS)
+    survives_all(rt, alloc, plan, cells, &mut meter)
 }
 
 fn survives_in(rt: &impl Abort, alloc: Global, plan: &Plan) -> Result<(), Fail> {

@@ -34,7 +34,7 @@ static CROSSINGS: [(Event, &str, &str); 13] = [
 fn steps_of_crossings(alloc: Global) -> Result<Vec<Step>, Fail> {
     let mut steps = Vec::new(alloc);
     for row in &CROSSINGS {
-        steps.push(step(alloc, row.0)?)?;
+        steps.push(step(alloc, &row.0)?)?;
     }
     Ok(steps)
 }
@@ -49,6 +49,24 @@ fn are_told(rt: &impl Abort, alloc: Global, replies: &[Reply]) -> Result<&'stati
     Ok(alarm)
 }
 
+/// The replies are the first ones, all where it took all steps, and the meter stands behind their steps.
+fn stands_behind(
+    rt: &impl Abort,
+    alloc: Global,
+    plan: &Plan,
+    meter: &Meter,
+    replies: &[Reply],
+    is_whole: bool,
+) -> Result<(), Fail>
+    requires { IsState plan.now meter.now }
+{
+    assert!(rt; is_whole == (replies.len() == CROSSINGS.len()));
+    let alarm = are_told(rt, alloc, replies)?;
+    let held = meter.value(alloc, plan, &cell(1, ALARM, 2));
+    is_written(rt, alloc, held, alarm)?;
+    if is_whole { Ok(()) } else { Err(Memory.into()) }
+}
+
 /// Where memory is refused, the replies are the first ones and the meter stands behind their steps.
 fn are_run(
     rt: &impl Abort,
@@ -59,15 +77,10 @@ fn are_run(
 ) -> Result<(), Fail>
     requires { IsState plan.now meter.old }
 {
-    let (replies, is_whole) = match run(alloc, plan, meter, steps) {
-        Ok(replies) => (replies, true),
-        Err(Stopped { replies }) => (replies, false),
-    };
-    let held = meter.value(alloc, plan, &cell(1, ALARM, 2));
-    assert_eq!(rt; is_whole, replies.len() == CROSSINGS.len());
-    let alarm = are_told(rt, alloc, &replies)?;
-    is_written(rt, alloc, held, alarm)?;
-    if is_whole { Ok(()) } else { Err(Memory.into()) }
+    match run(alloc, plan, meter, steps) {
+        Ok(replies) => stands_behind(rt, alloc, plan, meter, &replies, true),
+        Err(Stopped { replies }) => stands_behind(rt, alloc, plan, meter, &replies, false),
+    }
 }
 
 /// A meter at its start runs the steps.

@@ -89,28 +89,39 @@ pub(super) fn value_of(alloc: Global, text: &str) -> Result<Data, Fail> {
     attributes::value_of(alloc, &bytes)
 }
 
-/// Whether the value has this encoding, in upper case hex.
-fn encodes_so(rt: &impl Abort, alloc: Global, value: &Data, want: &str) -> Result<bool, Memory> {
-    let text = written(rt, alloc, value)?;
-    Ok(text.as_str() == want)
+/// The texts are the same.
+pub(super) fn is_text(rt: &impl Abort, text: &str, want: &str) {
+    assert!(rt; text == want, "{text}, not {want}");
 }
 
 /// The value has this encoding, in upper case hex.
+pub(super) fn encodes_so(
+    rt: &impl Abort,
+    alloc: Global,
+    value: &Data,
+    want: &str,
+) -> Result<(), Fail> {
+    let text = written(rt, alloc, value)?;
+    is_text(rt, text.as_str(), want);
+    Ok(())
+}
+
+/// The value, where there was memory for it, has this encoding, in upper case hex.
 pub(super) fn is_written(
     rt: &impl Abort,
     alloc: Global,
     value: Result<Data, Memory>,
     want: &str,
 ) -> Result<(), Fail> {
-    let is_right = encodes_so(rt, alloc, &value?, want)?;
-    assert!(rt; is_right, "not {want}");
-    Ok(())
+    let value = value?;
+    encodes_so(rt, alloc, &value, want)
 }
 
-/// The plan of a configuration.
-pub(super) fn plan_of(alloc: Global, text: &str) -> Result<Plan, Fail> {
+/// The plan of a configuration. It stands in a box, as other large values here: wherever a value is owned, a proof says where each
+/// part of it stands, which is long, and a box has no parts.
+pub(super) fn plan_of(alloc: Global, text: &str) -> Result<Box<Plan>, Fail> {
     let (plan, _policy) = read_config(alloc, text)?;
-    Ok(plan)
+    Ok(Box::new(alloc, plan)?)
 }
 
 /// A meter of the plan at its start.

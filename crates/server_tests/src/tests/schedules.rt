@@ -29,21 +29,26 @@ fn element(alloc: Global, time: &[u8], date: &[u8]) -> Result<Data, Memory> {
     structure(alloc, [time, date])
 }
 
-/// Script 3 is run at the end of each month, or one of the menu: of type 1, one time, with wildcards.
-pub(crate) fn schedule_part(alloc: Global, menu: Vec<ScriptRef>) -> Result<SchedulePart, Fail> {
+/// Script 3 is run at the end of each month, or one of the menu where there is one: of type 1, one time, with wildcards.
+pub(crate) fn schedule_part(alloc: Global, has_menu: bool) -> Result<SchedulePart, Fail> {
+    let menu = if has_menu {
+        script_menu(alloc)?
+    } else {
+        Vec::new(alloc)
+    };
     Ok(SchedulePart {
+        menu,
         executed_script: ScriptRef {
             table: SCRIPTS,
             script: 3,
         },
-        menu,
         execution_type: 1,
         start: array(alloc, [element(alloc, &MIDNIGHT, &MONTH_END)?])?,
     })
 }
 
 /// A menu of script 1.
-pub(crate) fn script_menu(alloc: Global) -> Result<Vec<ScriptRef>, Fail> {
+fn script_menu(alloc: Global) -> Result<Vec<ScriptRef>, Fail> {
     let script = ScriptRef {
         table: SCRIPTS,
         script: 1,
@@ -121,28 +126,28 @@ static STEPS_WITH_MENU: [Step<'static>; 12] = [
 ];
 
 /// A schedule at the start takes the steps.
-fn takes(rt: &impl Abort, a: Global, part: &SchedulePart, steps: &[Step]) -> Result<(), Fail> {
+fn takes_from_start(
+    rt: &impl Abort,
+    a: Global,
+    part: &SchedulePart,
+    steps: &[Step],
+) -> Result<(), Fail> {
     let lent = Lent {
         name: SCHEDULE,
         part,
     };
-    take(rt, a, &lent, &mut Schedule::start(a, part)?, steps)
+    let mut schedule = Box::new(a, Schedule::start(a, part)?)?;
+    take(rt, a, &lent, &mut *schedule, steps)
 }
 
-/// So does one with this menu.
-fn takes_with_menu(
-    rt: &impl Abort,
-    a: Global,
-    menu: Vec<ScriptRef>,
-    steps: &[Step],
-) -> Result<(), Fail> {
-    let part = schedule_part(a, menu)?;
-    takes(rt, a, &part, steps)
+/// A schedule with a menu, or without one, takes the steps.
+fn takes(rt: &impl Abort, a: Global, has_menu: bool, steps: &[Step]) -> Result<(), Fail> {
+    let part = schedule_part(a, has_menu)?;
+    takes_from_start(rt, a, &part, steps)
 }
 
 #[test]
 fn a_schedule_is_read_and_written(rt: HostRuntime) -> Result<(), Fail> {
-    let a = rt.alloc();
-    takes_with_menu(&rt, a, Vec::new(a), &STEPS)?;
-    takes_with_menu(&rt, a, script_menu(a)?, &STEPS_WITH_MENU)
+    takes(&rt, rt.alloc(), false, &STEPS)?;
+    takes(&rt, rt.alloc(), true, &STEPS_WITH_MENU)
 }

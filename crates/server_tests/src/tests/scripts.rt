@@ -1,4 +1,4 @@
-use super::attributes::{Step, take, value_of};
+use super::attributes::{Step, boxed_value, is_right, take};
 use class_control::action::Action;
 use class_control::parts::ScriptTablePart;
 use class_control::script::Script;
@@ -99,9 +99,9 @@ static CALLS: [Call; 6] = [
 /// A call has its result.
 fn is_called(rt: &impl Abort, a: Global, part: &ScriptTablePart, call: &Call) -> Result<(), Fail> {
     let (method, bytes, want) = *call;
-    let argument = value_of(a, bytes)?;
+    let argument = boxed_value(a, bytes)?;
     let done = ScriptTable.invoke(a, lent(part), method, &argument, Items::new(Vec::new(a)));
-    assert!(rt; done == want, "{bytes:?}");
+    is_right(rt, done == want, bytes);
     Ok(())
 }
 

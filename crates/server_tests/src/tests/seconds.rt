@@ -1,5 +1,6 @@
 //! Seconds that pass one by one, and moments that are set one by one.
 
+use super::attributes::is_right;
 use super::samples::plan_of;
 use civil_moment::moment::Moment;
 use cosem_data::memory::Memory;
@@ -51,29 +52,37 @@ fn hour_of_moments(alloc: Global) -> Result<String, Fail> {
     Ok(text)
 }
 
+/// So many lines were read, and what was written are the replies.
+fn are_replies(
+    rt: &impl Abort,
+    read: Result<u64, LineFault>,
+    written: &[u8],
+    count: u64,
+) -> Result<(), Fail> {
+    if read == Err(LineFault::Memory) {
+        return Err(Memory.into());
+    }
+    assert!(rt; read == Ok(count));
+    is_right(rt, written == REPLIES.as_bytes(), written);
+    Ok(())
+}
+
 /// A run of the lines is answered by the replies, and all of them are read.
 fn is_answered(
     rt: &impl Abort,
     alloc: Global,
     plan: &Plan,
-    lines: &str,
+    lines: String,
     count: u64,
 ) -> Result<(), Fail> {
     let mut written = Vec::new(alloc);
-    let read = run_lines(alloc, plan, &mut lines.as_bytes(), &mut written);
-    if read == Err(LineFault::Memory) {
-        return Err(Memory.into());
-    }
-    assert!(rt; read == Ok(count));
-    assert_eq!(rt; written.as_slice(), REPLIES.as_bytes());
-    Ok(())
+    let read = run_lines(alloc, plan, &mut lines.as_str().as_bytes(), &mut written);
+    are_replies(rt, read, written.as_slice(), count)
 }
 
 fn are_alike(rt: &impl Abort, alloc: Global, plan: &Plan) -> Result<(), Fail> {
-    let ticks = hour_of_ticks(alloc)?;
-    is_answered(rt, alloc, plan, ticks.as_str(), 4)?;
-    let moments = hour_of_moments(alloc)?;
-    is_answered(rt, alloc, plan, moments.as_str(), 3602)
+    is_answered(rt, alloc, plan, hour_of_ticks(alloc)?, 4)?;
+    is_answered(rt, alloc, plan, hour_of_moments(alloc)?, 3602)
 }
 
 #[test]

@@ -1,6 +1,6 @@
 //! A meter with an object of each class, the steps that it takes, and its replies.
 
-use super::samples::{ALARM, ENERGY, cell, value_of, written};
+use super::samples::{ALARM, ENERGY, cell, encodes_so, is_text, value_of};
 use civil_moment::moment::Moment;
 use cosem_data::data::Data;
 use cosem_data::name::LogicalName;
@@ -133,27 +133,27 @@ fn selection(alloc: Global, text: &str) -> Result<Option<(u8, Argument)>, Fail> 
 }
 
 /// The step of an event.
-pub(super) fn step(alloc: Global, event: Event) -> Result<Step, Fail> {
+pub(super) fn step(alloc: Global, event: &Event) -> Result<Step, Fail> {
     Ok(match event {
         Event::Get(named, text) => Step::Get {
             client: MANAGER,
-            attribute: descriptor(named),
+            attribute: descriptor(*named),
             selection: selection(alloc, text)?,
         },
         Event::Set(named, text) => Step::Set {
             client: MANAGER,
-            attribute: descriptor(named),
+            attribute: descriptor(*named),
             selected: false,
             value: argument(alloc, text)?,
         },
         Event::Act(named, text) => Step::Act {
             client: MANAGER,
-            method: descriptor(named),
+            method: descriptor(*named),
             argument: argument(alloc, text)?,
         },
         Event::Input(energy) => Step::Input {
             cell: cell(3, ENERGY, 2),
-            value: Data::DoubleLongUnsigned(energy),
+            value: Data::DoubleLongUnsigned(*energy),
         },
         Event::Evaluate => Step::Evaluate { monitor: MONITOR },
         Event::ClockAt(text) => Step::ClockAt {
@@ -172,11 +172,10 @@ pub(super) fn is_this(
     reply: &Reply,
     want: &str,
 ) -> Result<(), Fail> {
-    let text = match reply {
-        Reply::Value(value) => written(rt, alloc, value)?,
-        Reply::Code(code) => format!(in alloc; "{}", code.code())?,
-        Reply::Quiet => String::from_str(alloc, "quiet")?,
-    };
-    assert_eq!(rt; text.as_str(), want);
+    match reply {
+        Reply::Value(value) => encodes_so(rt, alloc, value, want)?,
+        Reply::Code(code) => is_text(rt, format!(in alloc; "{}", code.code())?.as_str(), want),
+        Reply::Quiet => is_text(rt, "quiet", want),
+    }
     Ok(())
 }

@@ -1,3 +1,4 @@
+use super::attributes::{has_fault, is_read};
 use super::samples::{
     ALARM, ENERGY, INSTALLER, MANAGER, NOBODY, READER, TEXT, cell, is_written, plan_of,
 };
@@ -44,20 +45,19 @@ fn has_attribute(rt: &impl Abort, alloc: Global, plan: &Plan, row: &Row) -> Resu
     is_written(rt, alloc, value, want)
 }
 
-fn have_attributes(rt: &impl Abort, alloc: Global, plan: &Plan, rows: &[Row]) -> Result<(), Fail> {
-    for row in rows {
+fn have_attributes(rt: &impl Abort, alloc: Global, plan: &Plan) -> Result<(), Fail> {
+    for row in &ROWS {
         has_attribute(rt, alloc, plan, row)?;
     }
     Ok(())
 }
 
-/// Attributes that the view of a client without rights is asked for, and their values.
-static READINGS: [(u8, &str); 2] = [(1, "09060000280000FF"), (8, "1602")];
+/// Attributes that the view of a client without rights is asked for, and the bytes that encode their values.
+static READINGS: [(u8, &[u8]); 2] = [(1, &[0x09, 0x06, 0, 0, 0x28, 0, 0, 0xFF]), (8, &[0x16, 2])];
 
 fn are_read(rt: &impl Abort, alloc: Global, view: &View) -> Result<(), Fail> {
     for (index, want) in &READINGS {
-        let value = view.read(alloc, (), *index)?;
-        is_written(rt, alloc, Ok(value), want)?;
+        is_read(rt, alloc, view.read(alloc, (), *index), want)?;
     }
     Ok(())
 }
@@ -65,8 +65,12 @@ fn are_read(rt: &impl Abort, alloc: Global, view: &View) -> Result<(), Fail> {
 /// User information (5) and secret (7) have no value, and the class has no attribute 9.
 fn no_index_is_told(rt: &impl Abort, alloc: Global, view: &View) {
     for index in [5, 7, 9] {
-        let other = view.read(alloc, (), index).err();
-        assert_eq!(rt; other, Some(ClassFault::NoIndex), "{index}");
+        has_fault(
+            rt,
+            index,
+            view.read(alloc, (), index),
+            Some(ClassFault::NoIndex),
+        );
     }
 }
 
@@ -83,7 +87,8 @@ fn get(plan: &Plan, client: u8) -> Result<(), AccessCode> {
 }
 
 /// A client's SET of the alarm.
-fn set(plan: &Plan, client: u8, value: Argument) -> Result<(), AccessCode> {
+fn set(plan: &Plan, client: u8) -> Result<(), AccessCode> {
+    let value = Argument::Value(Data::Unsigned(1));
     permit_set(plan, client, &descriptor((1, ALARM, 2)), false, &value)
 }
 
@@ -95,14 +100,13 @@ fn act(plan: &Plan, client: u8) -> Result<(), AccessCode> {
 
 /// A GET, a SET and an ACTION of a client are answered so.
 fn are_answered(rt: &impl Abort, plan: &Plan, client: u8, want: Result<(), AccessCode>) {
-    let value = Argument::Value(Data::Unsigned(1));
-    assert!(rt; set(plan, client, value) == want, "SET by {client}");
-    assert!(rt; get(plan, client) == want, "GET by {client}");
-    assert!(rt; act(plan, client) == want, "ACTION by {client}");
+    let done = (get(plan, client), set(plan, client), act(plan, client));
+    assert!(rt; done == (want, want, want), "client {client}");
 }
 
 fn no_value_is_refused(rt: &impl Abort, plan: &Plan) {
-    let absent = set(plan, MANAGER, Argument::Absent);
+    let alarm = descriptor((1, ALARM, 2));
+    let absent = permit_set(plan, MANAGER, &alarm, false, &Argument::Absent);
     assert!(rt; absent == Err(AccessCode::TypeUnmatched));
 }
 
@@ -114,7 +118,7 @@ fn requests_are_permitted(rt: &impl Abort, plan: &Plan) {
 }
 
 fn all_see_their_objects(rt: &impl Abort, alloc: Global, plan: &Plan) -> Result<(), Fail> {
-    have_attributes(rt, alloc, plan, &ROWS)?;
+    have_attributes(rt, alloc, plan)?;
     is_seen(rt, alloc, &View::of(plan, INSTALLER))?;
     requests_are_permitted(rt, plan);
     Ok(())

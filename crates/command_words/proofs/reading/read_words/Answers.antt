@@ -10,7 +10,7 @@ use Rattle.command_words.proofs.reading.read_words.Goals as goal
 pub command_of_matches-requires : goal.command_of_matches-requires
 command_of_matches-requires c =
     let words : List Text = map (λ w. w.now) c.args.words.now in
-    let app_is : app_of c.in-Ok.commands ≡ app = c.in-Ok.ensures in
+    let app_is : app_of c.in-Ok.commands ≡ app = c.in-Ok.ensures.0 in
     let m = c.in-Ok-try_get_matches_from in
     let none = ap (λ (a : App). fault_of a words) (sym app_is) ∙ m.ensures.kinds (ap is_simple_and_free app_is) in
     let rows = (m.ensures.matches (ap is_simple app_is)).1 ∙ ap (λ (a : App). subcommand_of a words) app_is in
@@ -19,7 +19,7 @@ command_of_matches-requires c =
 pub returns-in-Ok-try_get_matches_from-clause-command : goal.returns-in-Ok-try_get_matches_from-clause-command
 returns-in-Ok-try_get_matches_from-clause-command c =
     let words : List Text = map (λ w. w.now) c.args.words.now in
-    let app_is : app_of c.in-Ok.commands ≡ app = c.in-Ok.ensures in
+    let app_is : app_of c.in-Ok.commands ≡ app = c.in-Ok.ensures.0 in
     let m = c.in-Ok-try_get_matches_from in
     let none = ap (λ (a : App). fault_of a words) (sym app_is) ∙ m.ensures.kinds (ap is_simple_and_free app_is) in
     let rows = (m.ensures.matches (ap is_simple app_is)).1 ∙ ap (λ (a : App). subcommand_of a words) app_is in
@@ -29,7 +29,7 @@ returns-in-Ok-try_get_matches_from-clause-command c =
 pub returns-in-Ok-try_get_matches_from-clause-no_command : goal.returns-in-Ok-try_get_matches_from-clause-no_command
 returns-in-Ok-try_get_matches_from-clause-no_command c =
     let words : List Text = map (λ w. w.now) c.args.words.now in
-    let app_is : app_of c.in-Ok.commands ≡ app = c.in-Ok.ensures in
+    let app_is : app_of c.in-Ok.commands ≡ app = c.in-Ok.ensures.0 in
     let m = c.in-Ok-try_get_matches_from in
     let none = ap (λ (a : App). fault_of a words) (sym app_is) ∙ m.ensures.kinds (ap is_simple_and_free app_is) in
     let rows = (m.ensures.matches (ap is_simple app_is)).1 ∙ ap (λ (a : App). subcommand_of a words) app_is in
@@ -39,7 +39,7 @@ returns-in-Ok-try_get_matches_from-clause-no_command c =
 pub returns-in-Ok-try_get_matches_from-clause-usage : goal.returns-in-Ok-try_get_matches_from-clause-usage
 returns-in-Ok-try_get_matches_from-clause-usage c =
     let words : List Text = map (λ w. w.now) c.args.words.now in
-    let app_is : app_of c.in-Ok.commands ≡ app = c.in-Ok.ensures in
+    let app_is : app_of c.in-Ok.commands ≡ app = c.in-Ok.ensures.0 in
     let m = c.in-Ok-try_get_matches_from in
     let none = ap (λ (a : App). fault_of a words) (sym app_is) ∙ m.ensures.kinds (ap is_simple_and_free app_is) in
     let rows = (m.ensures.matches (ap is_simple app_is)).1 ∙ ap (λ (a : App). subcommand_of a words) app_is in
@@ -49,7 +49,7 @@ returns-in-Ok-try_get_matches_from-clause-usage c =
 pub returns-in-Err-clause-no_command : goal.returns-in-Err-clause-no_command
 returns-in-Err-clause-no_command c =
     let words : List Text = map (λ w. w.now) c.args.words.now in
-    let app_is : app_of c.in-Ok.commands ≡ app = c.in-Ok.ensures in
+    let app_is : app_of c.in-Ok.commands ≡ app = c.in-Ok.ensures.0 in
     let e = c.in-Err in
     let kinds = claps-kind words (kind_of e.error) (subst (λ (a : App). (kind_of e.error ≡ OutOfMemory) ⊎ IsAmong (kind_of e.error) (fault_of a words)) app_is (e.ensures.kinds (ap is_simple_and_free app_is))) in
     told-no_command words (kind_of e.error) c.fault_told.result c.fault_told.ensures kinds
@@ -57,7 +57,7 @@ returns-in-Err-clause-no_command c =
 pub returns-in-Err-clause-help : goal.returns-in-Err-clause-help
 returns-in-Err-clause-help c =
     let words : List Text = map (λ w. w.now) c.args.words.now in
-    let app_is : app_of c.in-Ok.commands ≡ app = c.in-Ok.ensures in
+    let app_is : app_of c.in-Ok.commands ≡ app = c.in-Ok.ensures.0 in
     let e = c.in-Err in
     let kinds = claps-kind words (kind_of e.error) (subst (λ (a : App). (kind_of e.error ≡ OutOfMemory) ⊎ IsAmong (kind_of e.error) (fault_of a words)) app_is (e.ensures.kinds (ap is_simple_and_free app_is))) in
     told-help (kinds_of words) (kind_of e.error) c.fault_told.result c.fault_told.ensures kinds
@@ -65,7 +65,7 @@ returns-in-Err-clause-help c =
 pub returns-in-Err-clause-version : goal.returns-in-Err-clause-version
 returns-in-Err-clause-version c =
     let words : List Text = map (λ w. w.now) c.args.words.now in
-    let app_is : app_of c.in-Ok.commands ≡ app = c.in-Ok.ensures in
+    let app_is : app_of c.in-Ok.commands ≡ app = c.in-Ok.ensures.0 in
     let e = c.in-Err in
     let kinds = claps-kind words (kind_of e.error) (subst (λ (a : App). (kind_of e.error ≡ OutOfMemory) ⊎ IsAmong (kind_of e.error) (fault_of a words)) app_is (e.ensures.kinds (ap is_simple_and_free app_is))) in
     told-version (kinds_of words) (kind_of e.error) c.fault_told.result c.fault_told.ensures kinds
@@ -73,7 +73,7 @@ returns-in-Err-clause-version c =
 pub returns-in-Err-clause-usage : goal.returns-in-Err-clause-usage
 returns-in-Err-clause-usage c =
     let words : List Text = map (λ w. w.now) c.args.words.now in
-    let app_is : app_of c.in-Ok.commands ≡ app = c.in-Ok.ensures in
+    let app_is : app_of c.in-Ok.commands ≡ app = c.in-Ok.ensures.0 in
     let e = c.in-Err in
     let kinds = claps-kind words (kind_of e.error) (subst (λ (a : App). (kind_of e.error ≡ OutOfMemory) ⊎ IsAmong (kind_of e.error) (fault_of a words)) app_is (e.ensures.kinds (ap is_simple_and_free app_is))) in
     told-usage (kinds_of words) (kind_of e.error) c.fault_told.result c.fault_told.ensures kinds

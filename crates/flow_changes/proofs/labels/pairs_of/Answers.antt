@@ -3,7 +3,7 @@ use Rattle.std.proofs.lemmas.List.{take_all}
 use Rattle.cosem_data.specs.declared.cell.CellRef.{CellRef}
 use Rattle.meter_theory.specs.Plan.{is_cell}
 use Rattle.flow_edges.specs.Table.{no_cell}
-use Rattle.flow_changes.specs.Lines.{pair_of}
+use Rattle.flow_changes.specs.Singles.{pair_of}
 use Rattle.flow_changes.specs.declared.labels.Pair.{Pair}
 use Rattle.flow_changes.proofs.Labelled.{label-at-number}
 use Rattle.flow_changes.proofs.Lists.{map-more}

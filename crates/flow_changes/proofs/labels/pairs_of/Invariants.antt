@@ -1,7 +1,7 @@
 use Rattle.std.proofs.Common.{◌≡◌, cond, map, take, Some, None}
 use Rattle.meter_theory.specs.Labels.{Labelling}
 use Rattle.meter_theory.specs.Plan.{cells, is_cell}
-use Rattle.flow_changes.specs.Lines.{pair_of}
+use Rattle.flow_changes.specs.Singles.{pair_of}
 use Rattle.flow_changes.proofs.labels.pairs_of.Given as goal
 
 abbrev pub invariant-loop-number : goal.invariant-loop-number

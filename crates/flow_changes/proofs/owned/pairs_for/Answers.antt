@@ -1,7 +1,7 @@
 use Rattle.std.proofs.Common.{◌≡◌, ◌∙◌, IfOk, Some, None, ap, map, subst, sym, cond}
 use Rattle.meter_theory.specs.Labels.{labelling_of, labelling_of_policy}
 use Rattle.meter_theory.specs.Plan.{cells, is_cell}
-use Rattle.flow_changes.specs.Lines.{ArePairs, pair_of}
+use Rattle.flow_changes.specs.Singles.{ArePairs, pair_of}
 use Rattle.flow_changes.specs.Sides.{configuration_of}
 use Rattle.flow_changes.proofs.owned.pairs_for.Goals as goal
 

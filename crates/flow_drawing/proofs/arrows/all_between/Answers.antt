@@ -1,8 +1,8 @@
 use Rattle.std.proofs.Common.{◌∙◌, get_or, map, subst, sym}
+use Rattle.alike_items.proofs.Ranges.{picked-more}
 use Rattle.flow_ways.proofs.Passed.{no_link}
 use Rattle.flow_drawing.specs.Arrows.{ArePlaces, between_of}
 use Rattle.flow_drawing.proofs.Kept.{between-is}
-use Rattle.flow_drawing.proofs.Ranges.{picked-more}
 use Rattle.flow_drawing.proofs.arrows.all_between.Goals as goal
 
 pub loop-link-preserved : goal.loop-link-preserved

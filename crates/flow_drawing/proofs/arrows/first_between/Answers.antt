@@ -1,8 +1,8 @@
 use Rattle.std.proofs.Common.{◌∙◌, sym, ap}
 use Rattle.std.specs.List.{list_any}
+use Rattle.alike_items.proofs.Firsts.{firsts-added, firsts-none}
+use Rattle.alike_items.proofs.Ranges.{take-more}
 use Rattle.flow_drawing.specs.Arrows.{same_between}
-use Rattle.flow_drawing.proofs.Firsts.{firsts-added, firsts-none}
-use Rattle.flow_drawing.proofs.Ranges.{take-more}
 use Rattle.flow_drawing.proofs.arrows.first_between.Goals as goal
 
 pub loop-one-init : goal.loop-one-init

@@ -1,6 +1,6 @@
 use Rattle.std.proofs.Common.{◌≡◌, take}
+use Rattle.alike_items.specs.Grouping.{firsts}
 use Rattle.flow_drawing.specs.Arrows.{same_between}
-use Rattle.flow_drawing.specs.Firsts.{firsts}
 use Rattle.flow_drawing.proofs.arrows.first_between.Given as goal
 
 abbrev pub invariant-loop-one : goal.invariant-loop-one

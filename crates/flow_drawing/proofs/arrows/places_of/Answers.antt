@@ -1,7 +1,7 @@
 use Rattle.std.proofs.Common.{◌∙◌, ◌++◌, ◌∷◌, [], ap, map, arith}
+use Rattle.alike_items.proofs.Ranges.{map-next}
 use Rattle.flow_drawing.specs.Arrows.{place_of}
 use Rattle.flow_drawing.proofs.Kept.{places-are}
-use Rattle.flow_drawing.proofs.Ranges.{map-next}
 use Rattle.flow_drawing.proofs.arrows.places_of.Goals as goal
 
 pub loop-number-preserved : goal.loop-number-preserved

@@ -1,7 +1,7 @@
 use Rattle.std.proofs.Common.{◌∙◌, ap, sym, is_none, map}
+use Rattle.alike_items.proofs.Ranges.{mapped-next, turned}
 use Rattle.flow_edges.specs.Table.{cell_at}
 use Rattle.flow_drawing.specs.Arrows.{place_of}
-use Rattle.flow_drawing.proofs.Ranges.{mapped-next, turned}
 use Rattle.flow_drawing.proofs.picture.alone.Goals as goal
 
 pub loop-number-preserved : goal.loop-number-preserved

@@ -1,7 +1,7 @@
 use Rattle.std.proofs.Common.{subst, ◌∙◌}
 use Rattle.meter_theory.specs.Sound.{IsSound}
-use Rattle.flow_report.specs.Found.{distance_of}
-use Rattle.flow_report.proofs.Distance.{are-distances}
+use Rattle.flow_ways.specs.Found.{distance_of}
+use Rattle.flow_ways.proofs.Distance.{are-distances}
 use Rattle.flow_report.proofs.csv_form.csv_text.Goals as goal
 
 pub returns-in-Ok : goal.returns-in-Ok

@@ -1,8 +1,8 @@
 use Rattle.std.proofs.Common.{subst, sym}
 use Rattle.meter_theory.specs.Plan.{cells}
 use Rattle.flow_edges.specs.Table.{cell_at}
+use Rattle.flow_ways.specs.Found.{distance_of}
 use Rattle.flow_report.specs.Csv.{AreWritten, client_names, client_rows, first_rows}
-use Rattle.flow_report.specs.Found.{distance_of}
 use Rattle.flow_report.proofs.Records.{client-more, more-written}
 use Rattle.flow_report.proofs.csv_form.write_cell.Goals as goal
 

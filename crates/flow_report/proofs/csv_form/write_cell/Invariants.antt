@@ -1,7 +1,7 @@
 use Rattle.flow_edges.specs.Table.{cell_at}
 use Rattle.meter_theory.specs.Plan.{cells}
+use Rattle.flow_ways.specs.Found.{distance_of}
 use Rattle.flow_report.specs.Csv.{AreWritten, client_names, first_rows}
-use Rattle.flow_report.specs.Found.{distance_of}
 use Rattle.flow_report.proofs.csv_form.write_cell.Given as goal
 
 -- the records of the clients before

@@ -1,8 +1,8 @@
 use Rattle.std.proofs.Common.{flat_map, take}
 use Rattle.meter_theory.specs.Labels.{labelling_of_policy}
 use Rattle.meter_theory.specs.Plan.{cells}
+use Rattle.flow_ways.specs.Found.{distance_of}
 use Rattle.flow_report.specs.Csv.{AreWritten, cell_rows, client_names}
-use Rattle.flow_report.specs.Found.{distance_of}
 use Rattle.flow_report.proofs.csv_form.write_cells.Given as goal
 
 -- the records of the cells before

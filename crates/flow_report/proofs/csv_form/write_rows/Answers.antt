@@ -2,8 +2,8 @@ use Rattle.std.proofs.Common.{◌∷◌, [], flat_map}
 use Rattle.std.proofs.lemmas.Result.{on_ok_weaker}
 use Rattle.meter_theory.specs.Labels.{labelling_of_policy}
 use Rattle.meter_theory.specs.Plan.{cells}
+use Rattle.flow_ways.specs.Found.{distance_of}
 use Rattle.flow_report.specs.Csv.{cell_rows, client_names, header}
-use Rattle.flow_report.specs.Found.{distance_of}
 use Rattle.flow_report.proofs.Records.{more-written}
 use Rattle.flow_report.proofs.csv_form.write_rows.Goals as goal
 

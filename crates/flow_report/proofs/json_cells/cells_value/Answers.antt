@@ -6,8 +6,8 @@ use Rattle.meter_theory.specs.Labels.{labelling_of_policy}
 use Rattle.meter_theory.specs.Plan.{cells}
 use Rattle.flow_edges.specs.Table.{cell_at, no_cell}
 use Rattle.cosem_data.specs.declared.cell.CellRef.{CellRef}
+use Rattle.flow_ways.specs.Found.{distance_of}
 use Rattle.flow_report.specs.Csv.{client_names}
-use Rattle.flow_report.specs.Found.{distance_of}
 use Rattle.flow_report.specs.Json.{array_of, cell_data}
 use Rattle.flow_report.proofs.Values.{item-more}
 use Rattle.flow_report.proofs.json_cells.cells_value.Goals as goal

@@ -2,8 +2,8 @@ use Rattle.std.proofs.Common.{◌≡◌, map, take}
 use Rattle.serde_json.specs.View.{view}
 use Rattle.meter_theory.specs.Labels.{labelling_of_policy}
 use Rattle.meter_theory.specs.Plan.{cells}
+use Rattle.flow_ways.specs.Found.{distance_of}
 use Rattle.flow_report.specs.Csv.{client_names}
-use Rattle.flow_report.specs.Found.{distance_of}
 use Rattle.flow_report.specs.Json.{cell_data}
 use Rattle.flow_report.proofs.json_cells.cells_value.Given as goal
 

@@ -5,8 +5,8 @@ use Rattle.serde_json.specs.Data.{no_members, object}
 use Rattle.serde_json.proofs.Views.{view-Object}
 use Rattle.meter_theory.specs.Plan.{cells}
 use Rattle.flow_edges.specs.Table.{cell_at}
+use Rattle.flow_ways.specs.Found.{distance_of}
 use Rattle.flow_report.specs.Csv.{client_names}
-use Rattle.flow_report.specs.Found.{distance_of}
 use Rattle.flow_report.specs.Json.{may_client, put_all}
 use Rattle.flow_report.proofs.Records.{client-more}
 use Rattle.flow_report.proofs.Values.{put-more}

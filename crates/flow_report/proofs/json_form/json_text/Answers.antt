@@ -4,11 +4,11 @@ use Rattle.meter_theory.specs.Labels.{labelling_of_policy}
 use Rattle.meter_theory.specs.Plan.{cells}
 use Rattle.meter_theory.specs.Sound.{IsSound}
 use Rattle.serde_json.specs.Written.{has_float}
+use Rattle.flow_ways.specs.Found.{distance_of}
+use Rattle.flow_ways.proofs.Distance.{are-distances}
 use Rattle.flow_report.specs.Csv.{client_names}
-use Rattle.flow_report.specs.Found.{distance_of}
 use Rattle.flow_report.specs.Json.{json_line}
 use Rattle.flow_report.specs.Rights.{heads_of, rights_of}
-use Rattle.flow_report.proofs.Distance.{are-distances}
 use Rattle.flow_report.proofs.NoFloats.{report-none}
 use Rattle.flow_report.proofs.json_form.json_text.Goals as goal
 

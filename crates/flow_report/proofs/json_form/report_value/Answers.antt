@@ -4,8 +4,8 @@ use Rattle.serde_json.specs.View.{members_view}
 use Rattle.serde_json.proofs.Views.{view-Object}
 use Rattle.meter_theory.specs.Labels.{labelling_of_policy}
 use Rattle.meter_theory.specs.Plan.{Plan, cells}
+use Rattle.flow_ways.specs.Found.{distance_of}
 use Rattle.flow_report.specs.Csv.{client_names}
-use Rattle.flow_report.specs.Found.{distance_of}
 use Rattle.flow_report.specs.Json as spec
 use Rattle.flow_report.specs.Rights.{Head, heads_of, rights_of}
 use Rattle.flow_report.proofs.json_form.report_value.Goals as goal

@@ -7,4 +7,4 @@ use Rattle.flow_report.proofs.json_rights.indexes_value.Given as goal
 
 -- the indexes before
 abbrev pub invariant-loop-place : goal.invariant-loop-place
-invariant-loop-place l = map view l.list.items ≡ flat_map (index_if ((rights_of l.plan).allows l.doing l.client l.object.name)) (range_with_len 1 l.place)
+invariant-loop-place l = map view l.list.items ≡ flat_map (index_if ((rights_of l.plan).allows l.client l.access l.object.name)) (range_with_len 1 l.place)

@@ -1,6 +1,6 @@
+use Rattle.alike_items.proofs.Ranges.{viewed-next}
 use Rattle.flow_view.specs.Clients.{client_row, client_shown}
 use Rattle.flow_view.specs.Marks.{told}
-use Rattle.flow_view.proofs.Ranges.{viewed-next}
 use Rattle.flow_view.proofs.clients.client_rows.Goals as goal
 
 pub loop-client-preserved : goal.loop-client-preserved

@@ -1,9 +1,9 @@
 use Rattle.std.proofs.Common.{length, subst, ◌+◌, cond, sym, ap, ◌∙◌, add-zero, arith}
 use Rattle.meter_theory.specs.Sound.{IsSound}
+use Rattle.alike_items.proofs.Ranges.{count-few, count-next}
 use Rattle.object_model.proofs.Numbers.{cells-few}
 use Rattle.flow_view.specs.Clients.{counts_at}
 use Rattle.flow_view.specs.Marks.{told}
-use Rattle.flow_view.proofs.Ranges.{count-few, count-next}
 use Rattle.flow_view.proofs.clients.count.Goals as goal
 use Rattle.flow_view.proofs.clients.count.Goals.{then-counts_at, else-counts_at}
 

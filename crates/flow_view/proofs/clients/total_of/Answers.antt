@@ -1,7 +1,7 @@
 use Rattle.std.proofs.Common.{◌+◌, ◌∙◌, ap₂, sym, arith}
+use Rattle.alike_items.proofs.Ranges.{sum-more}
 use Rattle.flow_view.specs.Marks.{told}
 use Rattle.flow_view.specs.Page.{client_total}
-use Rattle.flow_view.proofs.Ranges.{sum-more}
 use Rattle.flow_view.proofs.clients.total_of.Goals as goal
 
 pub loop-client-preserved : goal.loop-client-preserved

@@ -1,5 +1,5 @@
+use Rattle.alike_items.proofs.Ranges.{flat-next}
 use Rattle.flow_view.specs.Objects.{client_answers}
-use Rattle.flow_view.proofs.Ranges.{flat-next}
 use Rattle.flow_view.proofs.held.answers_to_clients.Goals as goal
 
 pub loop-client-preserved : goal.loop-client-preserved

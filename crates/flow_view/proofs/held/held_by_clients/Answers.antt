@@ -1,5 +1,5 @@
+use Rattle.alike_items.proofs.Ranges.{viewed-next}
 use Rattle.flow_view.specs.Objects.{held_of, held_shown}
-use Rattle.flow_view.proofs.Ranges.{viewed-next}
 use Rattle.flow_view.proofs.held.held_by_clients.Goals as goal
 
 pub loop-client-preserved : goal.loop-client-preserved

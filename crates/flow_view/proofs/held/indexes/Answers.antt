@@ -1,7 +1,8 @@
 use Rattle.std.proofs.Common.{◌+◌, ◌∷◌, [], ◌++◌, cond, ap, ◌∙◌}
+use Rattle.alike_items.proofs.Ranges.{flat-next}
 use Rattle.object_model.specs.InstanceView.{AtName}
-use Rattle.flow_view.specs.Objects.{allows, index_if}
-use Rattle.flow_view.proofs.Ranges.{flat-next}
+use Rattle.flow_ways.specs.Access.{is_granted}
+use Rattle.flow_view.specs.Objects.{index_if}
 use Rattle.flow_view.proofs.held.indexes.Goals as goal
 
 pub loop-place-preserved : goal.loop-place-preserved
@@ -9,8 +10,8 @@ loop-place-preserved c =
     let P = c.args.plan.now in
     let index = c.loop-place.place + 1 in
     let allowed =
-    c.allows-allowed.ensures
-    ∙ (ap (λ (i : AtName). allows i.plan c.args.doing c.args.client i.name index) c.instance-instance.ensures
-    ∙ ap (λ n. allows P c.args.doing c.args.client n index) c.name.ensures) in
-    flat-next (index_if (allows P c.args.doing c.args.client c.args.object.now.name)) c.loop-place.place c.loop-place.list.items c.push_if.new.list.items c.loop-place.invariant
+    c.is_granted-allowed.ensures
+    ∙ (ap (λ (i : AtName). is_granted i.plan c.args.client c.args.access i.name index) c.instance-instance.ensures
+    ∙ ap (λ n. is_granted P c.args.client c.args.access n index) c.name.ensures) in
+    flat-next (index_if (is_granted P c.args.client c.args.access c.args.object.now.name)) c.loop-place.place c.loop-place.list.items c.push_if.new.list.items c.loop-place.invariant
     (c.in_ok-push_if.ensures ∙ ap (λ b. c.loop-place.list.items ++ cond b (index ∷ []) []) allowed)

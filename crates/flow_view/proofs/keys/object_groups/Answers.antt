@@ -1,7 +1,7 @@
 use Rattle.std.proofs.lemmas.Result.{IfOk-weaker}
+use Rattle.alike_items.proofs.Grouped.{are-grouped}
 use Rattle.flow_view.specs.Equal.{same_object, same_objects-Decides}
 use Rattle.flow_view.specs.Keys.{object_facts}
-use Rattle.flow_view.proofs.Grouped.{are-grouped}
 use Rattle.flow_view.proofs.keys.object_groups.Goals as goal
 
 pub returns : goal.returns

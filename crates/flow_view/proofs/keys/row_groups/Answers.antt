@@ -1,7 +1,7 @@
 use Rattle.std.proofs.lemmas.Result.{IfOk-weaker}
+use Rattle.alike_items.proofs.Grouped.{are-grouped}
 use Rattle.flow_view.specs.Equal.{same_cells-Decides, same_row}
 use Rattle.flow_view.specs.Keys.{row_facts}
-use Rattle.flow_view.proofs.Grouped.{are-grouped}
 use Rattle.flow_view.proofs.keys.row_groups.Goals as goal
 
 pub returns : goal.returns

@@ -1,9 +1,9 @@
 use Rattle.std.proofs.Common.{subst, map}
 use Rattle.std.proofs.lemmas.List.{map-id}
 use Rattle.std.proofs.lemmas.Result.{IfOk-weaker}
+use Rattle.alike_items.specs.Grouping.{AreGrouped}
+use Rattle.alike_items.proofs.Grouped.{are-grouped}
 use Rattle.flow_view.specs.Equal.{same_way, same_way-Decides}
-use Rattle.flow_view.specs.Grouping.{AreGrouped}
-use Rattle.flow_view.proofs.Grouped.{are-grouped}
 use Rattle.flow_view.proofs.keys.way_groups.Goals as goal
 
 pub returns : goal.returns

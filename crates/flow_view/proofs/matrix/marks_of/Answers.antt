@@ -1,7 +1,7 @@
 use Rattle.std.proofs.Common.{map}
+use Rattle.alike_items.proofs.Ranges.{flat-next}
 use Rattle.flow_view.specs.Marks.{told}
 use Rattle.flow_view.specs.Matrix as spec
-use Rattle.flow_view.proofs.Ranges.{flat-next}
 use Rattle.flow_view.proofs.matrix.marks_of.Goals as goal
 
 pub loop-client-preserved : goal.loop-client-preserved

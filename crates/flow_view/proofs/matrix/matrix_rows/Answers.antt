@@ -1,7 +1,7 @@
 use Rattle.std.proofs.Common.{map}
+use Rattle.alike_items.proofs.Ranges.{viewed-next}
 use Rattle.flow_view.specs.Marks.{told}
 use Rattle.flow_view.specs.Matrix as spec
-use Rattle.flow_view.proofs.Ranges.{viewed-next}
 use Rattle.flow_view.proofs.matrix.matrix_rows.Goals as goal
 
 pub loop-row-preserved : goal.loop-row-preserved

@@ -1,6 +1,6 @@
+use Rattle.alike_items.proofs.Ranges.{viewed-next}
 use Rattle.flow_view.specs.Keys.{object_facts}
 use Rattle.flow_view.specs.Objects.{object_key}
-use Rattle.flow_view.proofs.Ranges.{viewed-next}
 use Rattle.flow_view.proofs.objects.object_keys.Goals as goal
 
 pub loop-number-preserved : goal.loop-number-preserved

@@ -1,8 +1,8 @@
 use Rattle.std.proofs.Common.{◌++◌, ◌∙◌, ap, map}
 use Rattle.std.specs.Option.{option_to_list}
+use Rattle.alike_items.proofs.Ranges.{flat-next}
 use Rattle.flow_view.specs.Marks.{told}
 use Rattle.flow_view.specs.Tables as spec
-use Rattle.flow_view.proofs.Ranges.{flat-next}
 use Rattle.flow_view.proofs.picks.reach_picks.Goals as goal
 
 pub loop-row-preserved : goal.loop-row-preserved

@@ -1,6 +1,6 @@
+use Rattle.alike_items.proofs.Ranges.{flat-next}
 use Rattle.flow_view.specs.Marks.{told}
 use Rattle.flow_view.specs.Rows.{client_keys}
-use Rattle.flow_view.proofs.Ranges.{flat-next}
 use Rattle.flow_view.proofs.rows.mark_keys.Goals as goal
 
 pub loop-client-preserved : goal.loop-client-preserved

@@ -1,7 +1,7 @@
+use Rattle.alike_items.proofs.Ranges.{viewed-next}
 use Rattle.flow_view.specs.Keys.{row_facts}
 use Rattle.flow_view.specs.Marks.{told}
 use Rattle.flow_view.specs.Rows.{row_key}
-use Rattle.flow_view.proofs.Ranges.{viewed-next}
 use Rattle.flow_view.proofs.rows.row_keys.Goals as goal
 
 pub loop-cell-preserved : goal.loop-cell-preserved

@@ -1,5 +1,5 @@
 use Rattle.std.proofs.Common.{◌∷◌, []}
-use Rattle.flow_view.proofs.Ranges.{viewed-next}
+use Rattle.alike_items.proofs.Ranges.{viewed-next}
 use Rattle.flow_view.proofs.rows.singles.Goals as goal
 
 pub loop-number-preserved : goal.loop-number-preserved

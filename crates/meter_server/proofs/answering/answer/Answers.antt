@@ -1,7 +1,7 @@
 use Rattle.std.proofs.Common.{codes, refl, subst, option_map, string_bytes}
 use Rattle.meter_server.specs.Answering.{JudgesFiles}
 use Rattle.meter_server.specs.Comparing.{ComparesFiles}
-use Rattle.meter_server.specs.Reporting.{ReportsFile}
+use Rattle.meter_server.specs.Reporting.{Paths, ReportsFile}
 use Rattle.meter_server.specs.Sources.{MayGive, ReadsWhere, given_of}
 use Rattle.meter_server.specs.declared.demo.TheConstants.{DEMO}
 use Rattle.meter_server.specs.declared.texts.Source.{Source}
@@ -42,7 +42,7 @@ returns-in-Report-clause-answers g c =
     let reads = g.F.TextFiles.may_read in
     let sources = c.new-sources-in-Report in
     let given = option_map (given_of string_bytes) sources.result.given in
-    let labels = option_map (λ path. path.now) c.in-Report.labels in
-    let read = subst (λ is_named. ReadsWhere is_named (g.I.Read.remaining c.args.input.now) (g.I.Read.remaining sources.new.input) given) c.is_any_input.ensures sources.ensures.given in
-    let told = subst (λ files. ReportsFile (MayGive (reads files) given) c.in-Report.form labels c.in-Report.config.now (g.O.Write.contents c.args.output.now) (g.O.Write.contents c.report_file.new.output) c.report_file.result) sources.ensures.files c.report_file.ensures in
+    let paths : Paths = record { labels = option_map (λ path. path.now) c.in-Report.labels; old = option_map (λ path. path.now) c.in-Report.against } in
+    let read = subst (λ is_named. ReadsWhere is_named (g.I.Read.remaining c.args.input.now) (g.I.Read.remaining sources.new.input) given) c.is_any_input-is_named.ensures sources.ensures.given in
+    let told = subst (λ files. ReportsFile (MayGive (reads files) given) c.in-Report.form paths c.in-Report.config.now (g.O.Write.contents c.args.output.now) (g.O.Write.contents c.report_file.new.output) c.report_file.result) sources.ensures.files c.report_file.ensures in
     rw c.in-Report.is (given, read, told)

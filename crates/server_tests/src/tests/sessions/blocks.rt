@@ -119,6 +119,11 @@ fn next(block: u32) -> [u8; 7] {
     [0xC0, 2, 0xC1, a, b, c, d]
 }
 
+/// The request for the block of this number: that of the value, or that of a later block.
+fn request<'a>(block: u32, first: &'a [u8], later: &'a [u8]) -> &'a [u8] {
+    if block == 1 { first } else { later }
+}
+
 /// The manager opens an association and captures 1,000 rows.
 fn fills(
     rt: &impl Abort,
@@ -137,49 +142,58 @@ fn fills(
     Ok(())
 }
 
-/// The manager sets the identifier and captures it, so that the buffer loses its first row.
+/// Behind the first block the manager sets the identifier and captures it, so that the buffer loses its first row.
 fn shifts(
     rt: &impl Abort,
     alloc: Global,
     manager: &mut Session<'_>,
     asker: &mut Solo<'_>,
+    block: u32,
 ) -> Result<(), Memory>
     requires { asker.old.plan ≡ manager.old.plan }
     ensures asker_plan { asker.new.plan ≡ asker.old.plan }
     ensures plan { manager.new.plan ≡ manager.old.plan }
 {
+    if block > 1 {
+        return Ok(());
+    }
     is_answered(rt, alloc, manager, asker, MANAGER, SET, IS_SET)?;
-    is_answered(rt, alloc, manager, asker, MANAGER, CAPTURE, IS_CAPTURED)?;
-    Ok(())
+    is_answered(rt, alloc, manager, asker, MANAGER, CAPTURE, IS_CAPTURED)
 }
 
-/// The reader's request is answered by the block of this number, with these raw bytes.
+/// The answer is the block of this number, with these raw bytes.
+fn is_block_of(rt: &impl Abort, answer: &[u8], sending: &Sending, (number, raw): (u32, &[u8])) {
+    let is_last = number == sending.blocks;
+    let length = if is_last {
+        sending.last_length
+    } else {
+        sending.length
+    };
+    let is_whole = is_block(answer, is_last, number, length, raw);
+    assert!(rt; is_whole && answer.len() <= sending.limit, "block {number}");
+}
+
+/// The reader's request for the block of this number is answered by it, with these raw bytes.
 fn is_sent_block(
     rt: &impl Abort,
     alloc: Global,
     reader: &mut Session<'_>,
     asker: &mut Solo<'_>,
     sending: &Sending,
-    request: &[u8],
     block: (u32, &[u8]),
 ) -> Result<(), Memory>
     requires { asker.old.plan ≡ reader.old.plan }
     ensures asker_plan { asker.new.plan ≡ asker.old.plan }
     ensures plan { reader.new.plan ≡ reader.old.plan }
 {
+    let later = next(block.0.saturating_sub(1));
+    let request = request(block.0, GET_BUFFER, &later);
     let answer = reader.answer(alloc, READER, request, asker)?;
-    let (number, raw) = block;
-    assert!(rt; answer.len() <= sending.limit, "block {number}");
-    let is_whole = if number == sending.blocks {
-        is_block(&answer, true, number, sending.last_length, raw)
-    } else {
-        is_block(&answer, false, number, sending.length, raw)
-    };
-    assert!(rt; is_whole, "block {number}");
+    is_block_of(rt, &answer, sending, block);
     Ok(())
 }
 
-/// The reader is sent the bytes in blocks, though the buffer changes behind the first.
+/// The reader is sent the bytes block by block, though the buffer changes behind the first.
 fn is_sent(
     rt: &impl Abort,
     alloc: Global,
@@ -193,42 +207,32 @@ fn is_sent(
     requires manager_plan { asker.old.plan ≡ manager.old.plan }
 {
     is_answered(rt, alloc, reader, asker, READER, sending.aarq, AARE)?;
-    assert!(rt; sending.most <= bytes.len());
-    let (first, behind) = bytes.split_at(sending.most);
-    is_sent_block(rt, alloc, reader, asker, sending, GET_BUFFER, (1, first))?;
-    shifts(rt, alloc, manager, asker)?;
-    sends_others(rt, alloc, reader, asker, sending, behind)
-}
-
-/// The reader is sent the bytes behind the first block, block by block.
-fn sends_others(
-    rt: &impl Abort,
-    alloc: Global,
-    reader: &mut Session<'_>,
-    asker: &mut Solo<'_>,
-    sending: &Sending,
-    bytes: &[u8],
-) -> Result<(), Memory>
-    requires { asker.old.plan ≡ reader.old.plan }
-{
     assert!(rt; sending.most > 0);
-    for (sent, raw) in (1..sending.blocks).zip(bytes.chunks(sending.most)) {
-        let request = next(sent);
-        is_sent_block(
-            rt,
-            alloc,
-            reader,
-            asker,
-            sending,
-            &request,
-            (sent.saturating_add(1), raw),
-        )?;
+    for (number, raw) in (1..=sending.blocks).zip(bytes.chunks(sending.most)) {
+        is_sent_block(rt, alloc, reader, asker, sending, (number, raw))?;
+        shifts(rt, alloc, manager, asker, number)?;
     }
     Ok(())
 }
 
-/// A new meter's buffer is filled and sent.
+/// The meter's buffer is filled by this manager and sent.
 fn is_filled_and_sent(
+    rt: &impl Abort,
+    alloc: Global,
+    manager: &mut Session<'_>,
+    asker: &mut Solo<'_>,
+    sending: &Sending,
+    bytes: &[u8],
+) -> Result<(), Memory>
+    requires { asker.old.plan ≡ manager.old.plan }
+{
+    fills(rt, alloc, manager, asker)?;
+    let mut reader = Session::new(asker.plan());
+    is_sent(rt, alloc, &mut reader, manager, asker, sending, bytes)
+}
+
+/// A new meter's buffer is filled and sent.
+fn is_sent_by_new(
     rt: &impl Abort,
     alloc: Global,
     plan: &Plan,
@@ -237,30 +241,20 @@ fn is_filled_and_sent(
 ) -> Result<(), Memory> {
     let mut asker = Solo::new(plan, started(plan, alloc)?);
     let mut manager = Session::new(plan);
-    let mut reader = Session::new(plan);
-    fills(rt, alloc, &mut manager, &mut asker)?;
-    is_sent(
-        rt,
-        alloc,
-        &mut reader,
-        &mut manager,
-        &mut asker,
-        sending,
-        bytes,
-    )
+    is_filled_and_sent(rt, alloc, &mut manager, &mut asker, sending, bytes)
 }
 
 /// To clients of all limits go these bytes.
-fn all_are_sent(rt: &impl Abort, alloc: Global, plan: &Plan, bytes: &[u8]) -> Result<(), Memory> {
-    assert_eq!(rt; bytes.len(), 104_004);
+fn all_are_sent(rt: &impl Abort, alloc: Global, plan: &Plan, bytes: &[u8]) -> Result<(), Fail> {
+    assert!(rt; bytes.len() == 104_004);
     for sending in &SENDINGS {
-        is_filled_and_sent(rt, alloc, plan, sending, bytes)?;
+        is_sent_by_new(rt, alloc, plan, sending, bytes)?;
     }
     Ok(())
 }
 
 /// To clients of all limits go the same bytes, those of the buffer as it was when it was asked for.
-fn buffer_is_sent(rt: &impl Abort, alloc: Global, plan: &Plan) -> Result<(), Memory> {
+fn buffer_is_sent(rt: &impl Abort, alloc: Global, plan: &Plan) -> Result<(), Fail> {
     let bytes = buffer(alloc)?;
     all_are_sent(rt, alloc, plan, &bytes)
 }
@@ -268,5 +262,5 @@ fn buffer_is_sent(rt: &impl Abort, alloc: Global, plan: &Plan) -> Result<(), Mem
 #[test]
 fn a_long_value_goes_in_blocks(rt: HostRuntime) -> Result<(), Fail> {
     let plan = plan_of(rt.alloc(), TEXT)?;
-    Ok(buffer_is_sent(&rt, rt.alloc(), &plan)?)
+    buffer_is_sent(&rt, rt.alloc(), &plan)
 }

@@ -40,34 +40,59 @@ pub(super) fn frames() -> &'static [u8] {
 }
 
 /// The frames that are read are answered by a new meter.
-pub(super) fn serve_new(
+pub(super) fn serve_new<W: Write>(
     alloc: Global,
     plan: &Plan,
     reader: &mut SlowReader<'_>,
-    writer: &mut SlowWriter,
+    writer: &mut W,
 ) -> Result<Result<u64, ServeFault>, Memory> {
     let mut asker = Solo::new(plan, started(plan, alloc)?);
     Ok(serve(alloc, reader, writer, plan, &mut asker))
 }
 
-/// The frames of the input are answered by a new meter, reader and writer failing at these calls (0 for none). The end is this, and
-/// so many bytes of the answers are written.
+/// A call of the reader and one of the writer, at which they fail (0 for none).
+type Fails = (u64, u64);
+
+/// The end of a connection, and how many bytes of the answers are written.
+type End = (Result<u64, ServeFault>, usize);
+
+/// Whether so many bytes of the answers are written.
+fn are_answers(written: &[u8], count: usize) -> bool {
+    written == ANSWERS.get(..count).unwrap_or(&[])
+}
+
+/// A connection whose reader and writer fail so has this end.
+fn is_end(
+    rt: &impl Abort,
+    (fails_read, fails_write): Fails,
+    end: Result<u64, ServeFault>,
+    written: &[u8],
+    (want, count): End,
+) {
+    let is_right = end == want && are_answers(written, count);
+    assert!(rt;
+        is_right,
+        "reading fails at {fails_read}, writing at {fails_write}"
+    );
+}
+
+/// The frames of the input are answered by a new meter, where reader and writer fail so, and the connection has this end.
 fn ends(
     rt: &impl Abort,
     alloc: Global,
     plan: &Plan,
     input: &[u8],
-    (fails_read, fails_write): (u64, u64),
-    (want, count): (Result<u64, ServeFault>, usize),
+    fails: Fails,
+    want: End,
 ) -> Result<(), Memory> {
-    let mut reader = SlowReader::new(input, fails_read);
-    let mut writer = SlowWriter::new(alloc, fails_write)?;
-    let end = serve_new(alloc, plan, &mut reader, &mut writer)?;
-    let is_right = end == want && writer.held.as_slice() == ANSWERS.get(..count).unwrap_or(&[]);
-    assert!(rt;
-        is_right,
-        "reading fails at {fails_read}, writing at {fails_write}"
-    );
+    let mut writer = SlowWriter::new(alloc, fails.1)?;
+    let end = serve_new(
+        alloc,
+        plan,
+        &mut SlowReader::new(input, fails.0),
+        &mut writer,
+    )?;
+    is_end(rt, fails, end, writer.held.as_slice(), want);
     Ok(())
 }
 
@@ -129,15 +154,16 @@ impl Write for Stuck {
 }
 
 /// A writer that takes no byte fails as one that refuses.
-#[test]
-fn a_writer_that_takes_no_byte_ends_a_connection(rt: HostRuntime) -> Result<(), Fail> {
-    let alloc = rt.alloc();
-    let plan = plan_of(alloc, TEXT)?;
-    let mut asker = Solo::new(&plan, started(&plan, alloc)?);
-    let mut reader = SlowReader::new(frames(), 0);
-    let end = serve(alloc, &mut reader, &mut Stuck, &plan, &mut asker);
+fn is_stuck(rt: &impl Abort, alloc: Global, plan: &Plan) -> Result<(), Fail> {
+    let end = serve_new(alloc, plan, &mut SlowReader::new(frames(), 0), &mut Stuck)?;
     assert!(rt; end == Err(ServeFault::Write));
     Ok(())
+}
+
+#[test]
+fn a_writer_that_takes_no_byte_ends_a_connection(rt: HostRuntime) -> Result<(), Fail> {
+    let plan = plan_of(rt.alloc(), TEXT)?;
+    is_stuck(&rt, rt.alloc(), &plan)
 }
 
 /// The number of the seat at the gate.
@@ -166,30 +192,42 @@ impl Gate for OnceOpen {
     }
 }
 
-/// A seat that gives up before its second frame has answered the first alone, and passed the gate behind it.
-#[test]
-fn a_seat_that_gives_up_answers_no_more(rt: HostRuntime) -> Result<(), Fail> {
-    let alloc = rt.alloc();
-    let plan = plan_of(alloc, TEXT)?;
-    let mut asker = Solo::new(&plan, started(&plan, alloc)?);
+/// The three frames are answered by a new meter that is asked at the gate.
+fn serve_at(
+    alloc: Global,
+    plan: &Plan,
+    writer: &mut SlowWriter,
+    gate: &OnceOpen,
+) -> Result<Result<u64, ServeFault>, Memory> {
+    let mut asker = Solo::new(plan, started(plan, alloc)?);
     let mut reader = SlowReader::new(frames(), 0);
+    let seat = Seat { number: SEAT, gate };
+    Ok(serve_gated(alloc, &mut reader, writer, plan, &mut asker, &seat))
+}
+
+/// The seat came to the gate twice, and passed it once.
+fn has_passed_once(rt: &impl Abort, gate: &OnceOpen) {
+    let begun = gate.begun.load(Ordering::SeqCst);
+    let done = gate.done.load(Ordering::SeqCst);
+    assert!(rt; (begun, done) == (2, 1));
+}
+
+/// A seat that gives up before its second frame has answered the first alone, and passed the gate behind it.
+fn gives_up(rt: &impl Abort, alloc: Global, plan: &Plan) -> Result<(), Fail> {
     let mut writer = SlowWriter::new(alloc, 0)?;
     let gate = OnceOpen {
         begun: AtomicU64::new(0),
         done: AtomicU64::new(0),
     };
-    let seat = Seat {
-        number: SEAT,
-        gate: &gate,
-    };
-    let end = serve_gated(alloc, &mut reader, &mut writer, &plan, &mut asker, &seat);
+    let end = serve_at(alloc, plan, &mut writer, &gate)?;
     assert!(rt; end == Err(ServeFault::GaveUp));
-    assert!(rt; writer.held.as_slice() == ANSWERS.get(..51).unwrap_or(&[]));
-    assert!(rt;
-        (
-            gate.begun.load(Ordering::SeqCst),
-            gate.done.load(Ordering::SeqCst)
-        ) == (2, 1)
-    );
+    assert!(rt; are_answers(writer.held.as_slice(), 51));
+    has_passed_once(rt, &gate);
     Ok(())
+}
+
+#[test]
+fn a_seat_that_gives_up_answers_no_more(rt: HostRuntime) -> Result<(), Fail> {
+    let plan = plan_of(rt.alloc(), TEXT)?;
+    gives_up(&rt, rt.alloc(), &plan)
 }

@@ -65,6 +65,22 @@ static TURNS: [Turn; 6] = [
     (NEXT_OF_2, THIRD, THIRD),
 ];
 
+/// Where memory was refused to the session, it has no association.
+fn has_no_association(
+    rt: &impl Abort,
+    alloc: Global,
+    session: &mut Session<'_>,
+    asker: &mut Solo<'_>,
+) -> Result<(), Memory>
+    requires { asker.old.plan ≡ session.old.plan }
+    ensures asker_plan { asker.new.plan ≡ asker.old.plan }
+    ensures plan { session.new.plan ≡ session.old.plan }
+{
+    let (apdu, want) = (GET_REGISTER, NOT_ALLOWED);
+    is_answered(rt, alloc, session, asker, MANAGER, apdu, want)?;
+    Err(Memory)
+}
+
 /// An APDU has its answer, also where the meter is refused memory and it is sent once more. Where memory is refused to the session, it has
 /// no association.
 fn goes_on(
@@ -85,18 +101,7 @@ fn goes_on(
             assert!(rt; is_refused);
             is_answered(rt, alloc, session, asker, MANAGER, apdu, want)
         }
-        Err(_) => {
-            is_answered(
-                rt,
-                alloc,
-                session,
-                asker,
-                MANAGER,
-                GET_REGISTER,
-                NOT_ALLOWED,
-            )?;
-            Err(Memory)
-        }
+        Err(_) => has_no_association(rt, alloc, session, asker),
     }
 }
 
@@ -206,7 +211,8 @@ impl<'a> Asker for Refused<'a> {
 
     ghost answers = { λ _ _ _ _. ⊤ };
 
-    fn ask(&mut self, _alloc: Global, _step: Step) -> Result<Reply, Memory> {
+    fn ask(&mut self, _alloc: Global, step: Step) -> Result<Reply, Memory> {
+        drop(step);
         Err(Memory)
     }
 }
@@ -230,7 +236,8 @@ fn all_fail(
     requires { asker.old.plan.now ≡ session.old.plan }
 {
     for (apdu, want) in &REFUSALS {
-        is_answered(rt, alloc, session, asker, MANAGER, apdu, want)?;
+        let answer = session.answer(alloc, MANAGER, apdu, asker)?;
+        assert!(rt; answer.as_slice() == *want);
     }
     Ok(())
 }

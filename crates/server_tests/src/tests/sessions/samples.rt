@@ -4,7 +4,7 @@ use acse_session::session::Session;
 use cosem_data::memory::Memory;
 use std::alloc::Global;
 use std::process::Abort;
-use xdlms_services::asker::Asker;
+use xdlms_services::solo::Solo;
 
 /// The wPorts of two clients of `TEXT`.
 pub const READER: u16 = 32;
@@ -73,17 +73,17 @@ pub const CAPTURE: &[u8] = &[0xC3, 1, 0xC1, 0, 7, 1, 0, 0x63, 1, 0, 0xFF, 2, 0];
 pub const IS_CAPTURED: &[u8] = &[0xC7, 1, 0xC1, 0, 0];
 
 /// Whether the answer to the APDU from this wPort is the first one, and whether it is the second one.
-pub(super) fn answered<A: Asker>(
+pub(super) fn answered(
     alloc: Global,
     session: &mut Session<'_>,
-    asker: &mut A,
+    asker: &mut Solo<'_>,
     source: u16,
     apdu: &[u8],
     first: &[u8],
     second: &[u8],
 ) -> Result<(bool, bool), Memory>
-    requires { A.plan_of asker.old ≡ session.old.plan }
-    ensures asker_plan { A.plan_of asker.new ≡ A.plan_of asker.old }
+    requires { asker.old.plan ≡ session.old.plan }
+    ensures asker_plan { asker.new.plan ≡ asker.old.plan }
     ensures plan { session.new.plan ≡ session.old.plan }
 {
     let answer = session.answer(alloc, source, apdu, asker)?;
@@ -91,17 +91,17 @@ pub(super) fn answered<A: Asker>(
 }
 
 /// The APDU from this wPort is answered so.
-pub(super) fn is_answered<A: Asker>(
+pub(super) fn is_answered(
     rt: &impl Abort,
     alloc: Global,
     session: &mut Session<'_>,
-    asker: &mut A,
+    asker: &mut Solo<'_>,
     source: u16,
     apdu: &[u8],
     want: &[u8],
 ) -> Result<(), Memory>
-    requires { A.plan_of asker.old ≡ session.old.plan }
-    ensures asker_plan { A.plan_of asker.new ≡ A.plan_of asker.old }
+    requires { asker.old.plan ≡ session.old.plan }
+    ensures asker_plan { asker.new.plan ≡ asker.old.plan }
     ensures plan { session.new.plan ≡ session.old.plan }
 {
     let (is_right, _) = answered(alloc, session, asker, source, apdu, want, want)?;

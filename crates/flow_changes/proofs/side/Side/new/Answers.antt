@@ -1,7 +1,6 @@
 use Rattle.std.proofs.Common.{◌∙◌, ap, map}
 use Rattle.meter_theory.specs.Labels.{label_at, nobody, or_else}
 use Rattle.meter_theory.specs.Plan.{cells}
-use Rattle.value_text.specs.Texts.{cell_text}
 use Rattle.flow_changes.proofs.Lists.{map-of-map}
 use Rattle.flow_changes.proofs.side.Side.new.Goals as goal
 
@@ -13,7 +12,6 @@ returns-clause-side c =
       sound = sound;
       least = record { least = c.in_ok-labels.ensures.least; cells_are = c.in_ok-labels.ensures.cells };
       tabled = c.in_ok-table.ensures;
-      told = c.in_ok-texts.ensures ∙ ap (map cell_text) (c.cells-2.ensures ∙ ap (λ t. t.cells) c.in_ok-table.ensures);
       reached = c.in_ok-may.ensures
           ∙ ap (map (or_else (record { influence = nobody; learn = nobody }))) (c.deref.ensures.value ∙ c.in_ok-found.ensures ∙ ap (λ ls. map (label_at ls) (cells P)) c.entries.ensures)
           ∙ map-of-map (or_else (record { influence = nobody; learn = nobody })) (label_at c.in_ok-labels.labels) (cells P);

@@ -9,10 +9,10 @@ pub returns-in-Some : goal.returns-in-Some
 returns-in-Some c =
     let P = c.args.self.now in
     ap (no_more c.args.rounds) (sym c.in-Some.is)
-    ∙ distance-within P c.known.ensures.sound c.args.reach c.args.client c.args.rounds (cell_at (cells P) c.args.cell) c.distance.result (item_at (cells P) c.args.cell c.requires.cell) c.distance.ensures
+    ∙ distance-within P c.known.ensures.sound c.args.reach c.args.client c.args.rounds (cell_at (cells P) c.args.cell) c.distance.result (item_at (cells P) c.args.cell c.requires.cell) c.distance.ensures.distance
 
 pub returns-in-None : goal.returns-in-None
 returns-in-None c =
     let P = c.args.self.now in
     ap (no_more c.args.rounds) (sym c.in-None.is)
-    ∙ distance-within P c.known.ensures.sound c.args.reach c.args.client c.args.rounds (cell_at (cells P) c.args.cell) c.distance.result (item_at (cells P) c.args.cell c.requires.cell) c.distance.ensures
+    ∙ distance-within P c.known.ensures.sound c.args.reach c.args.client c.args.rounds (cell_at (cells P) c.args.cell) c.distance.result (item_at (cells P) c.args.cell c.requires.cell) c.distance.ensures.distance

@@ -1,0 +1,7 @@
+use Rattle.flow_changes.proofs.RightsHeld.{held-is}
+use Rattle.flow_changes.proofs.rights.is_held.Goals as goal
+
+pub returns-then-is_of_class : goal.returns-then-is_of_class
+returns-then-is_of_class c =
+    held-is c.args.plan.now c.args.client c.in-Some.client c.args.access c.args.member.now c.instance-instance.result c.is_of_class.result c.is_granted.result c.in-Some.is c.instance-instance.ensures
+    c.is_of_class.ensures c.if-is_of_class.true c.is_granted.ensures

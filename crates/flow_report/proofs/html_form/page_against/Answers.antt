@@ -1,0 +1,27 @@
+use Rattle.std.proofs.Common.{IfOk, Some, Ok, Err, Result, option_map, subst, sym}
+use Rattle.cosem_data.specs.declared.memory.Memory.{Memory}
+use Rattle.meter_theory.specs.Labels.{Policy}
+use Rattle.meter_theory.specs.Plan.{Plan}
+use Rattle.flow_changes.specs.Written.{IsComparison}
+use Rattle.flow_changes.specs.declared.compare.Comparison.{Comparison}
+use Rattle.flow_page.specs.declared.page.Page.{Page}
+use Rattle.flow_report.specs.Html.{IsPageAgainst, configuration_of}
+use Rattle.flow_view.specs.Page.{IsPageOf}
+use Rattle.flow_view.specs.declared.page.Heading.{Heading}
+use Rattle.flow_report.proofs.html_form.page_against.Goals as goal
+
+compared : (P : Plan) (Q : Policy) (before : Plan × Policy) (heading : Heading) (told : Comparison) (r : Result Page Memory) → IsComparison before.0 before.1 P Q told →
+    IfOk r (λ page. IsPageOf P Q (Some told) heading page) → IfOk r (IsPageAgainst P Q (Some before) heading)
+compared P Q before heading told (Ok page) is page_is = (told, is, page_is)
+compared P Q before heading told (Err fault) is page_is = tt
+
+pub returns-in_ok-told-in-Some : goal.returns-in_ok-told-in-Some
+returns-in_ok-told-in-Some c =
+    let P = c.args.ways.now in
+    let Q = c.args.policy.now in
+    let old = c.in-Some.before.plan.now in
+    let old_policy = c.in-Some.before.policy.now in
+    let told = c.in_ok-told-in-Some.told in
+    let is = subst (λ p. IsComparison old old_policy p Q told) c.plan.ensures c.in_ok-told-in-Some.ensures in
+    subst (λ before. IfOk c.page_of.result (IsPageAgainst P Q (option_map configuration_of before) c.args.heading)) (sym c.in-Some.is)
+    (compared P Q (old, old_policy) c.args.heading told c.page_of.result is c.page_of.ensures)

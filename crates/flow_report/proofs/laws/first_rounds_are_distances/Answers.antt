@@ -1,5 +1,0 @@
-use Rattle.flow_report.proofs.Distance.{are-distances}
-use Rattle.flow_report.proofs.laws.first_rounds_are_distances.Goals as goal
-
-pub returns : goal.returns
-returns c = are-distances

@@ -1,0 +1,9 @@
+use Rattle.std.proofs.Common.{Some, inr, refl}
+use Rattle.meter_theory.specs.Labels.{Policy}
+use Rattle.meter_theory.specs.Plan.{Plan}
+use Rattle.meter_server.proofs.reporting.report_after.Goals as goal
+
+pub returns-in-Ok : goal.returns-in-Ok
+returns-in-Ok g c =
+    let made : Plan × Policy = (c.in-Ok.before, c.in-Ok.before_policy) in
+    inr (Some made, (made, c.in-Ok.ensures, refl), c.report_on.ensures)
