@@ -7,7 +7,7 @@ Told are the instructions for a mixed line of the demo, and for one that is judg
 of that configuration's text, for a GET of a buffer of 1,000 rows, whole and by 10 rows, for a capture into full buffers of
 10 and 1,000 rows, for a second over 512 objects of which 20 have a turn at it, told by `tick 3600` and by 3,600 lines `at`, and for a GET
 and a SET of one session that is served over TCP: each such figure is a run with many lines less one with few. And those of whole runs of `why` and
-of `compare` beside one of `label`, for a configuration of 512 objects with some 250,000 edges. Run `tools/build` first; another program of the same words can be named, to be counted beside it.
+of `compare` beside one of `label`, and of `report` beside those of `label` and `edges`, for a configuration of 512 objects with some 250,000 edges. Run `tools/build` first; another program of the same words can be named, to be counted beside it.
 """
 import datetime
 import itertools
@@ -123,7 +123,8 @@ def main():
         label = counted(program, text, nothing, ("label",))
         why = counted(program, text, nothing, ("why",), ("client_5", f"3/{check.name_of(0, 100)}/2"))
         both = counted(program, text, nothing, ("compare",), (other,))
-        print(f"over 512 objects: label {label}, why {why / label:.2f} times that, compare {both / label:.2f} times")
+        report = counted(program, text, nothing, ("report",)) / (label + counted(program, text, nothing, ("edges",)))
+        print(f"over 512 objects: label {label}, why {why / label:.2f} times that, compare {both / label:.2f} times; report {report:.2f} times label and edges")
 
 
 if __name__ == "__main__":
