@@ -1,0 +1,17 @@
+use Rattle.bare_plans.proofs.Flow.{cells-same, edges-same, policy-same, ways-same, within-same}
+use Rattle.bare_plans.proofs.laws.flow_hangs_on_no_value.Goals as goal
+
+pub returns-clause-cells : goal.returns-clause-cells
+returns-clause-cells c = cells-same
+
+pub returns-clause-edges : goal.returns-clause-edges
+returns-clause-edges c = edges-same
+
+pub returns-clause-within : goal.returns-clause-within
+returns-clause-within c = within-same
+
+pub returns-clause-ways : goal.returns-clause-ways
+returns-clause-ways c = ways-same
+
+pub returns-clause-policy : goal.returns-clause-policy
+returns-clause-policy c = policy-same
