@@ -136,7 +136,7 @@ module _ (P : Plan) where
   calls-same m (RegisterMonitor monitored thresholds actions) = plain-same P m.name (RegisterMonitor monitored thresholds actions) m.index
   calls-same m (SingleActionSchedule script type times) = plain-same P m.name (SingleActionSchedule script type times) m.index
 
-  method-changes-same : (m : MethodRef) → method_changes_of (bare P) m ≡ method_changes_of P m
+  pub method-changes-same : (m : MethodRef) → method_changes_of (bare P) m ≡ method_changes_of P m
   method-changes-same m = ap (λ o. changed (for_some o (λ o. calls_in (bare P) m o.part))) (found-object P m.name) ∙ at (object_at P m.name)
     where
       at : (o : Option Object) → changed (for_some (option_map bare_object o) (λ o. calls_in (bare P) m o.part)) ≡ changed (for_some o (λ o. calls_in P m o.part))
@@ -168,7 +168,7 @@ module _ (P : Plan) where
   some-edge test other same [] = refl
   some-edge test other same (x ∷ xs) = ap₂ (λ a b. a || b) (same x) (some-edge test other same xs)
 
-  first-edge : {A : Type 0} (test other : A → Bool) → ((x : A) → test x ≡ other x) → (xs : List A) → find test xs ≡ find other xs
+  pub first-edge : {A : Type 0} (test other : A → Bool) → ((x : A) → test x ≡ other x) → (xs : List A) → find test xs ≡ find other xs
   first-edge test other same [] = refl
   first-edge test other same (x ∷ xs) = ap₂ (λ b rest. cond b (Some x) rest) (same x) (first-edge test other same xs)
 
