@@ -88,7 +88,7 @@ module _ (P : Plan) where
   order-same : (xs : List CellRef) → in_plan_order (bare P) xs ≡ in_plan_order P xs
   order-same xs = ap (filter (among xs)) (cells-same P)
 
-  clock-same : told_clock (bare P) ≡ told_clock P
+  pub clock-same : told_clock (bare P) ≡ told_clock P
   clock-same = ap (λ o. for_some o (λ o. clock_time o.name ∷ [])) (found-map bare_object (λ o. class_of o.part == 8) (λ o. ap (λ k. k == 8) (class-same o.part)) P.objects) ∙ at (clock_object P)
     where
       at : (o : Option Object) → for_some (option_map bare_object o) (λ o. clock_time o.name ∷ []) ≡ for_some o (λ o. clock_time o.name ∷ [])

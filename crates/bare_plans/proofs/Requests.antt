@@ -23,7 +23,7 @@ use Rattle.bare_plans.specs.Bare.{bare, bare_object, bare_part, bare_script}
 use Rattle.bare_plans.proofs.Flow.{cells-same, first-edge, method-changes-same, ways-same, within-same}
 use Rattle.bare_plans.proofs.Scripts.{found-map, found-object, plain-same, script-same}
 
-interface-same : (p : Part) → interface_of (bare_part p) ≡ interface_of p
+pub interface-same : (p : Part) → interface_of (bare_part p) ≡ interface_of p
 interface-same (Data1 start) = refl
 interface-same (Register start default scaler_unit) = refl
 interface-same (ProfileGeneric captured period entries) = refl
