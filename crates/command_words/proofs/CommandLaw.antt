@@ -1,8 +1,9 @@
 -- Words in which clap finds no fault are a command.
-use Rattle.std.proofs.Common.{◌≡◌, ◌∙◌, Bool, true, false, not, ◌&&◌, ◌||◌, List, [], Option, Some, None, IfSome, is_some, option_and_then, option_map, bytes_eq, find, fold, codes, inl, inr, refl, true≢false, sym, ap, subst, arith}
+use Rattle.std.proofs.Common.{◌≡◌, ◌∙◌, ◌∷◌, Bool, true, false, not, ◌&&◌, ◌||◌, List, [], Option, Some, None, IfSome, is_some, option_and_then, option_map, bytes_eq, find, fold, codes, inl, inr, refl, true≢false, sym, ap, ap₂, subst, arith}
 use Rattle.std.specs.Option.{option_map_or}
-use Rattle.std.specs.List.{list_any}
-use Rattle.std.proofs.lemmas.Bool.{or_cases}
+use Rattle.std.specs.List.{list_all, list_any}
+use Rattle.std.specs.Prelude.{if◌then◌else◌}
+use Rattle.std.proofs.lemmas.Bool.{and_parts, or_cases}
 use Rattle.std.proofs.Math.Bool.{and-true}
 use Rattle.std.proofs.lemmas.Slice.Eq.{bytes_eq-Decides}
 use Rattle.clap.specs.Words.{App, Row, Shape, Text, built, fault_of, subcommand_of}
@@ -11,9 +12,9 @@ use Rattle.clap.specs.Simple.{argument_words, built_leaf, entered, help_shape, l
 use Rattle.clap.specs.ValueTests.{is_unsigned_in}
 use Rattle.clap.specs.Walk.{answers_to, nothing_held, rows_after, settled, stop_after, walk_from, walked}
 use Rattle.command_words.specs.CommandLine.{app, audit_app, check_app, compare_app, decode_app, demo_app, edges_app, encode_app, label_app, quiet_app, report_app, run_app, serve_app, session_app, why_app}
-use Rattle.command_words.specs.Commands.{asked_in}
+use Rattle.command_words.specs.Commands.{asked_in, has}
 use Rattle.command_words.proofs.EachLemmas.{Each, each_found, no_kinds}
-use Rattle.command_words.proofs.LevelLemmas.{IsTaken, level_taken, nothing_wanted, number_there, text_there, texts_there}
+use Rattle.command_words.proofs.LevelLemmas.{IsTaken, always_has, level_taken, nothing_wanted, number_there, text_there, texts_there}
 use Rattle.command_words.proofs.NumberLemmas.{signed_unsigned, unsigned_wider}
 use Rattle.command_words.proofs.RowLemmas.{Gives}
 use Rattle.command_words.proofs.WalkKeeps.{IsNoHelp, walk_fine}
@@ -26,10 +27,17 @@ other e = absurd (true≢false (sym e))
 abbrev Told : Shape → Type 0
 Told s = (s.aliases ≡ []) × (bytes_eq s.name (codes "help") ≡ false → (rows : List Row) → IsTaken s rows → is_some (asked_in (s.name, rows)) ≡ true)
 
--- some value, and then another
-then : {A B : Type 0} (o : Option A) (f : A → Option B) → is_some o ≡ true → ((x : A) → is_some (f x) ≡ true) → is_some (option_and_then f o) ≡ true
-then None f has later = other has
-then (Some x) f has later = later x
+-- a command that has all that it needs asks for something
+asked : {A : Type 0} (x : A) (b : Bool) → b ≡ true → is_some (if b then Some x else None) ≡ true
+asked x b all = ap (λ (d : Bool). is_some (if d then Some x else None)) all
+
+both : (a b : Bool) → a ≡ true → b ≡ true → (a && b) ≡ true
+both a b this that = ap₂ (λ x y. x && y) this that
+
+-- the arguments are there that it always has
+has-taken : (s : Shape) (rows : List Row) → IsTaken s rows → (ids : List Text) → list_all (λ id. always_has id s) ids ≡ true → has ids rows ≡ true
+has-taken s rows t [] e = refl
+has-taken s rows t (id ∷ ids) e = let parts = and_parts (always_has id s) _ e in both _ _ (text_there s rows t id parts.0) (has-taken s rows t ids parts.1)
 
 -- `demo`, which asks for nothing else
 demo : Told (built_leaf demo_app.top)
@@ -37,68 +45,41 @@ demo = (refl, λ no_help rows t. refl)
 
 -- `run CONFIG`
 run : Told (built_leaf run_app.top)
-run = (refl, λ no_help rows t. then _ _ (text_there _ rows t (codes "config") refl) (λ config. refl))
+run = (refl, λ no_help rows t. asked _ _ (has-taken _ rows t (codes "config" ∷ []) refl))
 
 -- `edges CONFIG`, with a default for its option
 edges : Told (built_leaf edges_app.top)
-edges = (
-  refl,
-  λ no_help rows t. then _ _ (text_there _ rows t (codes "config") refl) (λ config.
-      then _ _ (text_there _ rows t (codes "format") refl) (λ form. refl)),
-)
+edges = (refl, λ no_help rows t. asked _ _ (has-taken _ rows t (codes "config" ∷ codes "format" ∷ []) refl))
 
 -- `label CONFIG`
 label : Told (built_leaf label_app.top)
-label = (refl, λ no_help rows t. then _ _ (text_there _ rows t (codes "config") refl) (λ config. refl))
+label = (refl, λ no_help rows t. asked _ _ (has-taken _ rows t (codes "config" ∷ []) refl))
 
 -- `check CONFIG LABELS`
 check : Told (built_leaf check_app.top)
-check = (
-  refl,
-  λ no_help rows t. then _ _ (text_there _ rows t (codes "config") refl) (λ config.
-      then _ _ (text_there _ rows t (codes "labels") refl) (λ labels. refl)),
-)
+check = (refl, λ no_help rows t. asked _ _ (has-taken _ rows t (codes "config" ∷ codes "labels" ∷ []) refl))
 
 -- `why CONFIG CLIENT CELL`
 why : Told (built_leaf why_app.top)
-why = (
-  refl,
-  λ no_help rows t. then _ _ (text_there _ rows t (codes "config") refl) (λ config.
-      then _ _ (text_there _ rows t (codes "client") refl) (λ client.
-      then _ _ (text_there _ rows t (codes "cell") refl) (λ cell. refl))),
-)
+why = (refl, λ no_help rows t. asked _ _ (has-taken _ rows t (codes "config" ∷ codes "client" ∷ codes "cell" ∷ []) refl))
 
 -- `compare OLD NEW`
 compare : Told (built_leaf compare_app.top)
-compare = (
-  refl,
-  λ no_help rows t. then _ _ (text_there _ rows t (codes "old") refl) (λ old.
-      then _ _ (text_there _ rows t (codes "new") refl) (λ new. refl)),
-)
+compare = (refl, λ no_help rows t. asked _ _ (has-taken _ rows t (codes "old" ∷ codes "new" ∷ []) refl))
 
 -- `report CONFIG [LABELS]`, with a default for the form
 report : Told (built_leaf report_app.top)
-report = (
-  refl,
-  λ no_help rows t. then _ _ (text_there _ rows t (codes "config") refl) (λ config.
-      then _ _ (text_there _ rows t (codes "format") refl) (λ form. refl)),
-)
+report = (refl, λ no_help rows t. asked _ _ (has-taken _ rows t (codes "config" ∷ codes "format" ∷ []) refl))
 
 -- `quiet CONFIG LABELS CLIENT`
 quiet : Told (built_leaf quiet_app.top)
-quiet = (
-  refl,
-  λ no_help rows t. then _ _ (text_there _ rows t (codes "config") refl) (λ config.
-      then _ _ (text_there _ rows t (codes "labels") refl) (λ labels.
-      then _ _ (text_there _ rows t (codes "client") refl) (λ client. refl))),
-)
+quiet = (refl, λ no_help rows t. asked _ _ (has-taken _ rows t (codes "config" ∷ codes "labels" ∷ codes "client" ∷ []) refl))
 
 -- `audit --workers N NAME...`: a number from 1 to 64 is one from 1 on
 audit : Told (built_leaf audit_app.top)
 audit = (
   refl,
-  λ no_help rows t. then _ _ (number_there _ rows t (codes "workers") refl 1 18446744073709551615 workers) (λ count.
-      then _ _ (texts_there _ rows t (codes "name") refl) (λ names. refl)),
+  λ no_help rows t. asked _ _ (both _ _ (number_there _ rows t (codes "workers") refl 1 18446744073709551615 workers) (texts_there _ rows t (codes "name") refl)),
 )
   where
     workers : Each (Gives (is_unsigned_in 1 18446744073709551615) (codes "workers")) (built_leaf audit_app.top).rules
@@ -106,17 +87,14 @@ audit = (
 
 -- `session CONFIG`
 session : Told (built_leaf session_app.top)
-session = (refl, λ no_help rows t. then _ _ (text_there _ rows t (codes "config") refl) (λ config. refl))
+session = (refl, λ no_help rows t. asked _ _ (has-taken _ rows t (codes "config" ∷ []) refl))
 
 -- `serve CONFIG LABELS`, with a default for each of its three options
 serve : Told (built_leaf serve_app.top)
 serve = (
   refl,
-  λ no_help rows t. then _ _ (text_there _ rows t (codes "config") refl) (λ config.
-      then _ _ (text_there _ rows t (codes "labels") refl) (λ labels.
-      then _ _ (text_there _ rows t (codes "bind") refl) (λ bind.
-      then _ _ (number_there _ rows t (codes "port") refl 1 65535 port) (λ number.
-      then _ _ (number_there _ rows t (codes "sessions") refl 0 18446744073709551615 sessions) (λ count. refl))))),
+  λ no_help rows t. asked _ _ (both _ _ (has-taken _ rows t (codes "config" ∷ codes "labels" ∷ codes "bind" ∷ []) refl)
+      (both _ _ (number_there _ rows t (codes "port") refl 1 65535 port) (number_there _ rows t (codes "sessions") refl 0 18446744073709551615 sessions))),
 )
   where
     port : Each (Gives (is_unsigned_in 1 65535) (codes "port")) (built_leaf serve_app.top).rules

@@ -11,7 +11,7 @@ use Rattle.clap.specs.Faults.{check_fault, defaults_fault, level_fault, settle_f
 use Rattle.clap.specs.Kinds.{check_kinds}
 use Rattle.clap.specs.Takes.{is_given}
 use Rattle.clap.specs.Walk.{has_row, nothing_held, reading_by, rows_after, settled, walk_from, walked}
-use Rattle.command_words.specs.Commands.{◌>>=◌, number_in}
+use Rattle.command_words.specs.Said.{◌>>=◌, number_in}
 use Rattle.command_words.proofs.EachLemmas.{Each, each_found, no_kinds}
 use Rattle.command_words.proofs.RowLemmas.{Gives, Starts, all_there, default_row, defaults_start, first_there, given_row, is_defaulted, one_passes, starts_if_any, used_starts}
 use Rattle.command_words.proofs.WalkKeeps.{settled_keeps, walk_fine}

@@ -1,6 +1,9 @@
+pub mod BuildLemmas
 pub mod CommandLaw
 pub mod EachLemmas
+pub mod FindLemmas
 pub mod LevelLemmas
+pub mod MatchesLemmas
 pub mod NumberLemmas
 pub mod RowLemmas
 pub mod WalkKeeps

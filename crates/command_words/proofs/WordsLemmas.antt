@@ -80,6 +80,23 @@ module _ (words : List Text) (rows : Option (Text × List Row)) (none : fault_of
   form-usage (Ok command) told = tt
   form-usage (Err fault) told = usage (unknown_form rows) fault refl told
 
+-- such a fault is no help and no version
+no_help : (P : Type 0) (u : Option (Text × Text)) (fault : WordsFault) → IsNoForm u fault → IfHelp fault P × IfVersion fault P
+no_help P u faults.Memory told = (tt, tt)
+no_help P u (faults.Usage text) told = (tt, tt)
+no_help P None (faults.Help text) told = absurd told
+no_help P None (faults.Version text) told = absurd told
+no_help P (Some name) (faults.Help text) told = absurd told
+no_help P (Some name) (faults.Version text) told = absurd told
+
+pub form-help : (P : Type 0) (u : Option (Text × Text)) (r : Result Command WordsFault) → IfErr r (IsNoForm u) → IfErr r (λ fault. IfHelp fault P)
+form-help P u (Ok command) told = tt
+form-help P u (Err fault) told = (no_help P u fault told).0
+
+pub form-version : (P : Type 0) (u : Option (Text × Text)) (r : Result Command WordsFault) → IfErr r (IsNoForm u) → IfErr r (λ fault. IfVersion fault P)
+form-version P u (Ok command) told = tt
+form-version P u (Err fault) told = (no_help P u fault told).1
+
 -- a fault that is told as clap's error, and what it says of the words
 pub told-no_command : (words : List Text) (kind : ErrorKind) (fault : WordsFault) → IsToldAs kind fault → (kind ≡ OutOfMemory) ⊎ IsAmong kind (kinds_of words)
     → UnlessMemory fault (command_of words ≡ None)

@@ -1,5 +1,5 @@
 -- The command line as clap's definition of a simple command sees it. All of it is own profile.
-use Rattle.std.specs.Prelude.{◌≡◌, Bool, List, [], ◌∷◌, ◌||◌, Option, None, Some, codes, false, map, option_and_then, pos, true}
+use Rattle.std.specs.Prelude.{◌≡◌, Bool, List, [], ◌∷◌, ◌||◌, Option, None, Some, codes, false, find, map, option_and_then, pos, true}
 use Rattle.std.specs.Prelude.{if◌then◌else◌}
 use Rattle.std.specs.Str.{bytes_eq}
 use Rattle.clap.specs.Kinds.{or_else}
@@ -10,6 +10,8 @@ use Rattle.clap.specs.declared.builder.command.Command.{Command}
 use Rattle.clap.specs.declared.builder.command.Command.TheViews.{out-Command}
 use Rattle.clap.specs.declared.builder.action.ArgAction.TheVariants.{Append, Count, Set}
 use Rattle.clap.specs.declared.error.kind.ErrorKind.TheVariants.{InvalidValue}
+use Rattle.command_words.specs.declared.name.CommandName.{CommandName}
+use Rattle.command_words.specs.declared.name.CommandName.TheVariants as commands
 use Rattle.clap.specs.declared.builder.value_parser.ValueParser.TheVariants.{Signed, Unsigned}
 
 -- an argument that clap sees as this rule, and that isn't handed down to the commands below
@@ -168,18 +170,47 @@ program = record (new_shape (codes "cosem-flow")) { has_version = true; subcomma
 abbrev pub bare_program : App
 bare_program = record { top = record program { is_leaf = true }; subs = [] }
 
--- the commands of the program (own profile)
-abbrev pub commands : List App
-commands = demo_app ∷ run_app ∷ edges_app ∷ label_app ∷ check_app ∷ why_app ∷ compare_app ∷ report_app ∷ quiet_app ∷ audit_app ∷ session_app ∷ serve_app ∷ encode_app ∷ decode_app ∷ []
+-- what clap sees of a command (own profile)
+abbrev pub app_named : CommandName → App
+app_named commands.Demo = demo_app
+app_named commands.Run = run_app
+app_named commands.Edges = edges_app
+app_named commands.Label = label_app
+app_named commands.Check = check_app
+app_named commands.Why = why_app
+app_named commands.Compare = compare_app
+app_named commands.Report = report_app
+app_named commands.Quiet = quiet_app
+app_named commands.Audit = audit_app
+app_named commands.Session = session_app
+app_named commands.Serve = serve_app
+app_named commands.Encode = encode_app
+app_named commands.Decode = decode_app
+
+-- all commands, in the order of the help (own profile)
+abbrev pub all_names : List CommandName
+all_names = commands.Demo ∷ commands.Run ∷ commands.Edges ∷ commands.Label ∷ commands.Check ∷ commands.Why ∷ commands.Compare ∷ commands.Report ∷ commands.Quiet ∷ commands.Audit ∷ commands.Session ∷ commands.Serve ∷ commands.Encode ∷ commands.Decode ∷ []
+
+-- the name of a command among the words
+abbrev pub word_of : CommandName → Text
+word_of name = (app_named name).top.name
+
+-- the command that a word names
+abbrev pub named : Text → Option CommandName
+named word = find (λ name. bytes_eq word (word_of name)) all_names
 
 -- the program with its commands (own profile)
 abbrev pub app : App
-app = record { top = program; subs = map (λ command. command.top) commands }
+app = record { top = program; subs = map (λ name. (app_named name).top) all_names }
+
+-- whether a report has a form of this name (own profile)
+abbrev pub is_report_form : Text → Bool
+is_report_form name = bytes_eq name (codes "html") || (bytes_eq name (codes "csv") || bytes_eq name (codes "json"))
 
 -- whether this command has a form of this name: of a report, or of a list of edges (own profile)
 abbrev pub is_form : Text → Text → Bool
 is_form command name =
-    if bytes_eq command (codes "report") then bytes_eq name (codes "html") || (bytes_eq name (codes "csv") || bytes_eq name (codes "json"))
+    if bytes_eq command (codes "report") then is_report_form name
     else bytes_eq name (codes "text") || bytes_eq name (codes "dot")
 
 -- the command and the name of a form that it hasn't, in its rows (own profile)

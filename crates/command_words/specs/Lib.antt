@@ -1,3 +1,5 @@
 pub mod CommandLine
 pub mod Commands
 pub mod Faults
+pub mod Rows
+pub mod Said

@@ -1,5 +1,7 @@
 //! What a command line asks for.
 
+use crate::name::CommandName;
+use std::fmt;
 use std::num::{NonZeroU16, NonZeroUsize};
 
 /// In which form edges are printed (own profile).
@@ -23,7 +25,7 @@ pub enum ReportForm {
 }
 
 /// What a command line asks for, with the paths of the files that it names (own profile).
-#[derive(Debug, Drop)]
+#[derive(Drop)]
 pub enum Command<'a> {
     /// To answer step lines by the demo configuration, and to tell of each line in words where that is asked for.
     Demo {
@@ -100,4 +102,33 @@ pub enum Command<'a> {
     Encode,
     /// To make step lines and replies into words.
     Decode,
+}
+
+/// Shows which command it is, and not what it holds.
+impl fmt::Debug for Command<'_> {
+    fn fmt<W: fmt::Write>(&self, f: &mut fmt::Formatter<W>) -> fmt::Result {
+        f.write_str(self.name().word())
+    }
+}
+
+impl Command<'_> {
+    /// Which command it is.
+    fn name(&self) -> CommandName {
+        match self {
+            Command::Demo { .. } => CommandName::Demo,
+            Command::Run { .. } => CommandName::Run,
+            Command::Edges { .. } => CommandName::Edges,
+            Command::Label { .. } => CommandName::Label,
+            Command::Check { .. } => CommandName::Check,
+            Command::Why { .. } => CommandName::Why,
+            Command::Compare { .. } => CommandName::Compare,
+            Command::Report { .. } => CommandName::Report,
+            Command::Quiet { .. } => CommandName::Quiet,
+            Command::Audit { .. } => CommandName::Audit,
+            Command::Session { .. } => CommandName::Session,
+            Command::Serve { .. } => CommandName::Serve,
+            Command::Encode => CommandName::Encode,
+            Command::Decode => CommandName::Decode,
+        }
+    }
 }

@@ -5,7 +5,10 @@
 pub mod command;
 mod commands;
 pub mod fault;
+mod name;
 pub mod reading;
+mod rows;
+mod words;
 
 pub use command::{Command, EdgesForm, ReportForm};
 pub use fault::WordsFault;

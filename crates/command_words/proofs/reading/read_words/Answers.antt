@@ -3,7 +3,7 @@ use Rattle.clap.specs.Words.{App, IsAmong, Text, app_of, fault_of, is_simple, is
 use Rattle.clap.specs.declared.error.kind.ErrorKind.TheVariants.{OutOfMemory}
 use Rattle.command_words.specs.CommandLine.{app, kinds_of}
 use Rattle.command_words.specs.Commands.{asked_in}
-use Rattle.command_words.proofs.WordsLemmas.{claps-kind, form-command, form-no_command, form-usage, told-help, told-no_command, told-usage, told-version}
+use Rattle.command_words.proofs.WordsLemmas.{claps-kind, form-command, form-help, form-no_command, form-usage, form-version, told-help, told-no_command, told-usage, told-version}
 use Rattle.command_words.proofs.CommandLaw.{words_without_fault_are_a_command}
 use Rattle.command_words.proofs.reading.read_words.Goals as goal
 
@@ -77,3 +77,9 @@ returns-in-Err-clause-usage c =
     let e = c.in-Err in
     let kinds = claps-kind words (kind_of e.error) (subst (λ (a : App). (kind_of e.error ≡ OutOfMemory) ⊎ IsAmong (kind_of e.error) (fault_of a words)) app_is (e.ensures.kinds (ap is_simple_and_free app_is))) in
     told-usage (kinds_of words) (kind_of e.error) c.fault_told.result c.fault_told.ensures kinds
+
+pub returns-in-Ok-try_get_matches_from-clause-help : goal.returns-in-Ok-try_get_matches_from-clause-help
+returns-in-Ok-try_get_matches_from-clause-help c = form-help _ _ c.command_of_matches.result c.command_of_matches.ensures.fault
+
+pub returns-in-Ok-try_get_matches_from-clause-version : goal.returns-in-Ok-try_get_matches_from-clause-version
+returns-in-Ok-try_get_matches_from-clause-version c = form-version _ _ c.command_of_matches.result c.command_of_matches.ensures.fault
