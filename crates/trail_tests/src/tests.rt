@@ -1,0 +1,4 @@
+mod files;
+mod heads;
+mod samples;
+mod stops;
