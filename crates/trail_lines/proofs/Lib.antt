@@ -1,0 +1,5 @@
+pub mod Spaces
+pub mod Clients
+pub mod Bytes
+pub mod Steps
+pub mod Written
