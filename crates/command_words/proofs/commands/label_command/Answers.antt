@@ -1,4 +1,0 @@
-use Rattle.command_words.proofs.commands.label_command.Goals as goal
-
-pub returns : goal.returns
-returns c = c.with_arg.ensures _ _ c.new_command-command.ensures c.config_file.ensures
