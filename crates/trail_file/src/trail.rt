@@ -1,8 +1,8 @@
 //! A trail's file while it is written.
-ghost use Rattle.std.specs.Prelude.{◌≡◌, ◌++◌, ◌∷◌, [], true, IsTrue, Err, IfErr, OnOk};
+ghost use Rattle.std.specs.Prelude.{◌≡◌, ◌≤◌, ◌+◌, ◌-◌, ◌^◌, ◌++◌, ◌∷◌, [], true, length, IsTrue, Err, IfErr, OnOk};
 ghost use Rattle.sqlite_disk.specs.Disk.{Only};
 ghost use Rattle.trail_file.specs.Faults.{is_before_writing};
-ghost use Rattle.trail_file.specs.Text.{is_one_line, recovered};
+ghost use Rattle.trail_file.specs.Text.{block, is_one_line, recovered};
 ghost use Rattle.trail_file.specs.Rest.{EachLeft, IsBatch, IsBeforeOrAfter, IsSettled, StandsFor};
 
 use crate::entry::batch_of;
@@ -43,6 +43,7 @@ impl<D: Disk> TrailFile<D> {
             (IsBeforeOrAfter (recovered (D.Disk.seen self.old.disk)) ((note.now, line.now) ∷ [])) }
         ensures not_kept { result ≡ Err TrailFault.NotKept → IsTrue (D.Disk.is_clean self.new.disk)
             → EachLeft (D.Disk.may_leave self.new.disk) (StandsFor (recovered (D.Disk.seen self.old.disk))) }
+        ensures full { result ≡ Err TrailFault.Full → 2 ^ 64 - 1 ≤ self.old.end + length (block note.now line.now) }
         ensures untouched { IfErr result (λ fault. IsTrue (is_before_writing fault) → self.new ≡ self.old) }
     {
         let batch = batch_of(alloc, note, line)?;
@@ -73,6 +74,7 @@ impl<D: Disk> TrailFile<D> {
             (IsBeforeOrAfter (recovered (D.Disk.seen self.old.disk)) (recovered batch.now)) }
         ensures not_kept { result ≡ Err TrailFault.NotKept → IsTrue (D.Disk.is_clean self.new.disk)
             → EachLeft (D.Disk.may_leave self.new.disk) (StandsFor (recovered (D.Disk.seen self.old.disk))) }
+        ensures full { result ≡ Err TrailFault.Full → 2 ^ 64 - 1 ≤ self.old.end + length batch.now }
         ensures untouched { IfErr result (λ fault. IsTrue (is_before_writing fault) → self.new ≡ self.old) }
     {
         let behind = behind_latch(alloc, batch)?;
