@@ -138,13 +138,14 @@ fn is_tick(step: &Step) -> bool
 /// The line of a step.
 ///
 /// # Errors
-/// `Memory`; and `NotKept` where it has none.
+/// `Memory`, also where no line says the step, as none is that a line or an APDU brought: nothing was written then either, and later
+/// steps are kept.
 fn line_of(alloc: Global, plan: &Plan, step: &Step) -> Result<String, KeepFault>
     ensures { IfOk result (λ line. Says plan.now (step_of step.now ∷ []) (string_bytes line)) }
 {
     match write_step(alloc, plan, step)? {
         Some(line) => Ok(line),
-        None => Err(KeepFault::NotKept),
+        None => Err(KeepFault::Memory),
     }
 }
 
