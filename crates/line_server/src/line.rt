@@ -96,7 +96,7 @@ fn with_return(returns: bool, said: Line<'_>) -> Line<'_>
 }
 
 /// The place of the first space.
-fn first_space(text: &[u8]) -> Option<usize>
+pub fn first_space(text: &[u8]) -> Option<usize>
     ensures first { result ≡ spec.first_space text.now }
     ensures within { IfSome result (λ k. k < length text.now) }
 {
@@ -177,7 +177,7 @@ fn input_of(plan: &Plan, name: Option<LogicalName>, value: Option<Data>) -> Line
 
 /// The cell that an input goes to: attribute 2 of the object with this name. Where there is none it may be that of any
 /// class, for the input then changes nothing.
-fn input_cell(plan: &Plan, name: LogicalName) -> CellRef
+pub fn input_cell(plan: &Plan, name: LogicalName) -> CellRef
     ensures { result ≡ spec.input_cell plan.now name }
 {
     let class_id = match plan.object_at(&name) {

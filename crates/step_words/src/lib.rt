@@ -19,3 +19,5 @@ mod runs;
 pub mod steps;
 pub mod texts;
 pub mod translating;
+
+pub use requests::USUAL_INVOKE;

@@ -16,8 +16,8 @@ use xdlms_services::Request;
 /// The selector of an access by entry (IEC 62056-6-2, Profile generic).
 pub(crate) const BY_ENTRY: u8 = 2;
 
-/// The invoke byte that has no words.
-pub(crate) const USUAL_INVOKE: u8 = 0xC1;
+/// The Invoke-Id-And-Priority that has no words: id 1, confirmed, of high priority (IEC 62056-5-3).
+pub const USUAL_INVOKE: u8 = 0xC1;
 
 /// The service, and the class, name and index of what is named.
 fn push_named(

@@ -30,12 +30,14 @@ struct Front {
     flag: u8,
 }
 
-/// The tags of the requests.
+/// The tag of a GET (IEC 62056-5-3, Get-Request).
 pub(crate) const GET_REQUEST: u8 = 0xC0;
 
-pub(crate) const SET_REQUEST: u8 = 0xC1;
+/// The tag of a SET (IEC 62056-5-3, Set-Request).
+pub const SET_REQUEST: u8 = 0xC1;
 
-pub(crate) const ACTION_REQUEST: u8 = 0xC3;
+/// The tag of an ACTION (IEC 62056-5-3, Action-Request).
+pub const ACTION_REQUEST: u8 = 0xC3;
 
 /// The form for one attribute or method, in one APDU.
 pub(crate) const NORMAL: u8 = 1;

@@ -11,10 +11,11 @@ use cosem_data::memory::Memory;
 use meter_theory::refs::Descriptor;
 use object_model::argument::Argument;
 
-/// The flag of a selection or a parameter that isn't there, and of one that is.
-const ABSENT: u8 = 0;
+/// The flag of a selection or a parameter that isn't there.
+pub const ABSENT: u8 = 0;
 
-const PRESENT: u8 = 1;
+/// The flag of a selection or a parameter that follows.
+pub const PRESENT: u8 = 1;
 
 /// Puts the APDU of a request behind what is there: Get-Request-Normal, Get-Request-Next, Set-Request-Normal or
 /// Action-Request-Normal of IEC 62056-5-3, each value in its shortest encoding.
@@ -87,8 +88,17 @@ fn put_next(invoke: u8, block: u32, out: &mut Vec<u8>) -> Result<(), Memory>
     Ok(())
 }
 
-/// What stands in front of a request, up to the index of what it names.
-fn put_front(service: u8, invoke: u8, named: &Descriptor, out: &mut Vec<u8>) -> Result<(), Memory>
+/// Puts what stands in front of a request, up to the index of what it names: Get-Request-Normal, Set-Request-Normal or
+/// Action-Request-Normal of IEC 62056-5-3, by the tag of its service.
+///
+/// # Errors
+/// `Memory` where memory is refused; the vector then begins with what it had before.
+pub fn put_front(
+    service: u8,
+    invoke: u8,
+    named: &Descriptor,
+    out: &mut Vec<u8>,
+) -> Result<(), Memory>
     ensures ok { OnOk result (out.new.items ≡ out.old.items ++ front_bytes service invoke named.now) }
     ensures err { OnErr result (Extends out.old.items out.new.items) }
 {
