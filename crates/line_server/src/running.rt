@@ -2,6 +2,8 @@
 ghost use Rattle.std.specs.Prelude.{◌≡◌, ◌+◌, ◌++◌, ◌⊎◌, List, ℕ, Some, Ok, Err, IfOk, OnErr, OnOk, length};
 ghost use Rattle.meter_theory.specs.Plan.{start};
 ghost use Rattle.meter_theory.specs.States.{IsState};
+ghost use Rattle.meter_theory.specs.Steps.{next};
+ghost use Rattle.meter_core.specs.StepView.{step_of};
 ghost use Rattle.line_server.specs.Doing.{AnswersAsk, TakesLine};
 ghost use Rattle.line_server.specs.Lines.{with_last};
 ghost use Rattle.line_server.specs.declared.reason.Reason.{Reason as Why};
@@ -17,6 +19,7 @@ use crate::lines::{AnswersLines, answer_lines};
 use crate::reason::Reason;
 use crate::text::{put_reply, put_unreadable};
 use cosem_data::memory::Memory;
+use meter_core::step::Step;
 use object_model::meter::Meter;
 use object_model::plan::Plan;
 use std::alloc::Global;
@@ -76,6 +79,17 @@ impl<'a> LineMeter<'a> {
         ensures { result.now ≡ self.now.meter }
     {
         self.asker.meter()
+    }
+
+    /// Takes a step of the meter itself, of which nothing is written. The only error is that memory was refused, and then nothing
+    /// changes.
+    pub fn take(&mut self, alloc: Global, step: Step) -> Result<(), Memory>
+        ensures ok { OnOk result (self.new
+            ≡ record { plan = self.old.plan; meter = next self.old.plan self.old.meter (step_of step) }) }
+        ensures err { OnErr result (self.new ≡ self.old) }
+    {
+        self.asker.ask(alloc, step)?;
+        Ok(())
     }
 
     /// The meter has a value of the declared kind in each cell of its plan.

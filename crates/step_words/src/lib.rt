@@ -20,4 +20,5 @@ pub mod steps;
 pub mod texts;
 pub mod translating;
 
+pub use replies::result_words;
 pub use requests::USUAL_INVOKE;

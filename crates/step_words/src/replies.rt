@@ -30,8 +30,8 @@ const EXCEPTION_RESPONSE: u8 = 0xD8;
 /// The form for one attribute or method, in one APDU.
 const NORMAL: u8 = 1;
 
-/// A result and its number (IEC 62056-5-3, Data-Access-Result).
-fn result_words(code: u8) -> Option<&'static [u8]>
+/// A result and its number (IEC 62056-5-3, Data-Access-Result). None where the number is of no result that a meter answers.
+pub fn result_words(code: u8) -> Option<&'static [u8]>
     ensures { option_map (λ x. x.now) result ≡ spec.result_words code }
 {
     let words: &[u8] = match code {

@@ -2,6 +2,7 @@
 //!
 //! - [`trail::TrailFile`] is the file while it is written: [`trail::TrailFile::append`] and [`trail::TrailFile::commit`].
 //! - [`opening::open`] opens a file, whatever a crash left of it, and makes the head of a new one.
+//! - [`reading::read_entries`] reads the entries of a file's bytes, without opening it as a trail.
 //! - [`head::Head`] is what a file begins with, [`entry::Entry`] what it has behind that.
 //! - [`stopping`] has an append on a machine that stops in its midst.
 //!
@@ -31,7 +32,7 @@ pub mod head;
 mod latch;
 mod mending;
 pub mod opening;
-mod reading;
+pub mod reading;
 pub mod stopping;
 pub mod trail;
 pub mod version;

@@ -8,7 +8,7 @@ use crate::latch::{NEWLINE, OPEN};
 use std::alloc::{AllocError, Global};
 
 /// The entries that are whole, and how many bytes they take.
-pub(crate) fn read_entries(alloc: Global, bytes: &[u8]) -> Result<(Vec<Entry>, usize), AllocError>
+pub fn read_entries(alloc: Global, bytes: &[u8]) -> Result<(Vec<Entry>, usize), AllocError>
     ensures entries { IfOk result (λ r. map entry_of r.0.items ≡ recovered bytes.now) }
     ensures within { IfOk result (λ r. r.1 ≤ length bytes.now) }
     ensures front { IfOk result (λ r. IsFront (take r.1 bytes.now) (recovered bytes.now)) }
