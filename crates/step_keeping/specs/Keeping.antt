@@ -4,6 +4,8 @@ use Rattle.meter_theory.specs.Plan.{Plan, start}
 use Rattle.meter_theory.specs.Replies.{run}
 use Rattle.meter_theory.specs.State.{State}
 use Rattle.meter_theory.specs.Steps.{Step, Tick}
+use Rattle.step_keeping.specs.declared.fault.KeepFault.{KeepFault}
+use Rattle.step_keeping.specs.declared.fault.KeepFault.TheVariants.{Memory, Unwritten, NotKept, InDoubt}
 
 -- so many seconds
 abbrev pub ticks : ℕ → List Step
@@ -19,6 +21,13 @@ abbrev pub StillKept : (old new : Option (List Step)) → Type 0
 StillKept old None = Unit {0}
 StillKept old (Some all) = old ≡ Some all
 
+-- what is kept once a step isn't: the same where nothing was written, and else it is no longer known
+abbrev pub IsKeptAfter : KeepFault → (old new : Option (List Step)) → Type 0
+IsKeptAfter Memory old new = new ≡ old
+IsKeptAfter Unwritten old new = new ≡ old
+IsKeptAfter NotKept old new = new ≡ None
+IsKeptAfter InDoubt old new = new ≡ None
+
 -- a crash leaves all steps but seconds at the end that had waited
 abbrev pub IsLeft : (all left : List Step) → Type 0
 IsLeft all left = (n : ℕ) × (all ≡ left ++ ticks n)
@@ -28,6 +37,10 @@ abbrev pub IsKept : Plan → Option (List Step) → State → Type 0
 IsKept P None s = Unit {0}
 IsKept P (Some all) s = s ≡ run P (start P) all
 
+-- these steps are kept, if it is known which
+abbrev pub AreKept : (kept : Option (List Step)) → List Step → Type 0
+AreKept kept steps = StillKept (Some steps) kept
+
 -- no step is kept, if that is known
 abbrev pub KeepsNone : Option (List Step) → Type 0
-KeepsNone kept = StillKept (Some []) kept
+KeepsNone kept = AreKept kept []

@@ -9,6 +9,9 @@ pub enum KeepFault {
     /// Memory was refused, and nothing was written: what was kept before is kept, and more may be.
     #[error("out of memory")]
     Memory,
+    /// The step can't be written, and nothing was: what was kept before is kept, and more may be.
+    #[error("the step can't be written")]
+    Unwritten,
     /// No crash leaves the step, and no further step is kept.
     #[error("the step isn't kept, and no other will be")]
     NotKept,

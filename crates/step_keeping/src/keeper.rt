@@ -9,11 +9,11 @@ use std::alloc::Global;
 /// A place where the steps that changed a meter are kept, each before it is answered. Seconds that only moved the clock may wait for
 /// the next step that does more.
 pub trait Keeps {
-    ghost use Rattle.std.specs.Prelude.{◌≡◌, ◌⊎◌, [], ◌∷◌, ◌++◌, Err, List, None, OnErr, OnOk, Option, Some};
+    ghost use Rattle.std.specs.Prelude.{◌≡◌, ◌⊎◌, [], ◌∷◌, ◌++◌, Err, IfErr, List, None, OnOk, Option, Some};
     ghost use Rattle.meter_theory.specs.Plan as theory;
     ghost use Rattle.meter_theory.specs.Steps as steps;
     ghost use Rattle.meter_core.specs.StepView.{step_of};
-    ghost use Rattle.step_keeping.specs.Keeping.{IsLeft, kept_behind, StillKept};
+    ghost use Rattle.step_keeping.specs.Keeping.{IsKeptAfter, IsLeft, kept_behind};
     ghost use Rattle.step_keeping.specs.declared.fault.KeepFault.TheVariants as faults;
 
     /// The steps of a meter of this plan that were kept, in their order; none are known where nothing is kept, or no longer.
@@ -25,7 +25,7 @@ pub trait Keeps {
     /// Keeps a step that this port took, which was answered so.
     ///
     /// # Errors
-    /// `Memory`, and then all is as it was; `NotKept` and `InDoubt`, and then what is kept is no longer known.
+    /// `Memory` and `Unwritten`, and then all is as it was; `NotKept` and `InDoubt`, and then what is kept is no longer known.
     fn keep(
         &mut self,
         alloc: Global,
@@ -38,8 +38,7 @@ pub trait Keeps {
         // Once the step is kept each crash leaves it, but for seconds that wait.
         ensures durable { OnOk result ((all : List steps.Step) → kept plan.now self.new ≡ Some all →
             (left : List steps.Step) → may_leave plan.now self.new left → IsLeft all left) }
-        ensures err { OnErr result (StillKept (kept plan.now self.old) (kept plan.now self.new)) }
-        ensures memory { result ≡ Err faults.Memory → kept plan.now self.new ≡ kept plan.now self.old }
+        ensures err { IfErr result (λ fault. IsKeptAfter fault (kept plan.now self.old) (kept plan.now self.new)) }
         ensures not_kept { result ≡ Err faults.NotKept → (all : List steps.Step) → kept plan.now self.old ≡ Some all →
             (left : List steps.Step) → may_leave plan.now self.new left → IsLeft all left }
         // Whatever comes, a crash leaves all steps that were kept before, with this one or without.

@@ -2,7 +2,7 @@
 //!
 //! - [`trail::TrailFile`] is the file while it is written: [`trail::TrailFile::append`] and [`trail::TrailFile::commit`].
 //! - [`opening::open`] opens a file, whatever a crash left of it, and makes the head of a new one.
-//! - [`reading::read_entries`] reads the entries of a file's bytes, without opening it as a trail.
+//! - [`reading::read_entries`] reads the entries of a file's bytes, without opening it as a trail; [`reading::first_entry`] lends the first.
 //! - [`head::Head`] is what a file begins with, [`entry::Entry`] what it has behind that.
 //! - [`stopping`] has an append on a machine that stops in its midst.
 //!

@@ -26,7 +26,7 @@ pub fn read_entries(alloc: Global, bytes: &[u8]) -> Result<(Vec<Entry>, usize), 
 }
 
 /// The note and the line of the first entry, and what follows it.
-pub(crate) fn first_entry(bytes: &[u8]) -> Option<(&[u8], &[u8], &[u8])>
+pub fn first_entry(bytes: &[u8]) -> Option<(&[u8], &[u8], &[u8])>
     ensures { MatchOption result (recovered bytes.now ≡ [])
         (λ r. (bytes.now ≡ 35 ∷ (r.0.now ++ 10 ∷ (r.1.now ++ 10 ∷ r.2.now)))
         × (is_one_line r.0.now ≡ true) × (is_one_line r.1.now ≡ true)) }

@@ -1,7 +1,6 @@
 -- The bytes of the texts of lines: none is a space or a newline where none may be.
-use Rattle.std.proofs.Common.{◌≡◌, ◌≢◌, ◌∙◌, ℕ, ◌+◌, ◌/◌, ◌%◌, ◌<◌, Bool, true, false, eqb, List, [], ◌∷◌, ◌++◌, Option, None, Some, ap, arith, inl, inr, refl, subst, sym}
-use Rattle.std.specs.Prelude.{All, slice_index}
-use Rattle.std.specs.List.{AllByRecursion}
+use Rattle.std.proofs.Common.{◌≡◌, ◌≢◌, ◌∙◌, ℕ, ◌/◌, ◌%◌, ◌<◌, List, [], ◌∷◌, None, Some, ap, arith, refl, sym}
+use Rattle.std.specs.Prelude.{slice_index}
 use Rattle.std.specs.Result.{result_ok}
 use Rattle.std.proofs.lemmas.List.Elements.{All-cons, All-nil}
 use Rattle.hex.specs.Hex.{encode_upper, encode_with, upper_digits}

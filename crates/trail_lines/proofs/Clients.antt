@@ -1,9 +1,8 @@
 -- A client of a sound plan is found by its name, with which no step of the meter itself begins.
-use Rattle.std.proofs.Common.{◌≡◌, ◌≢◌, ◌∙◌, ℕ, zero, suc, ◌+◌, ◌&&◌, ◌||◌, Bool, true, false, not, cond, List, [], ◌∷◌, Option, None, Some, ap, arith, inl, inr, map, refl, subst, sym}
-use Rattle.std.specs.Prelude.{codes, slice_get}
-use Rattle.std.specs.List.{list_all, position_from}
+use Rattle.std.proofs.Common.{◌≡◌, ◌∙◌, ℕ, zero, suc, ◌+◌, Bool, true, false, cond, List, [], ◌∷◌, Some, ap, arith, inl, inr, map, refl, subst, sym}
+use Rattle.std.specs.Prelude.{slice_get}
+use Rattle.std.specs.List.{position_from}
 use Rattle.std.specs.Str.{bytes_eq}
-use Rattle.std.proofs.lemmas.Bool.{and_parts, true≢false}
 use Rattle.std.proofs.lemmas.Slice.Eq.{bytes_eq-Decides}
 use Rattle.meter_theory.specs.Lists.{AreDistinct, IsIn}
 use Rattle.meter_theory.specs.Plan.{Client, Plan, client_named}

@@ -3,3 +3,4 @@ pub mod Clients
 pub mod Bytes
 pub mod Steps
 pub mod Written
+pub mod Alone

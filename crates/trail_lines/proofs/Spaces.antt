@@ -1,6 +1,6 @@
 -- A line is taken apart at its first space.
-use Rattle.std.proofs.Common.{◌≡◌, ◌∙◌, ℕ, zero, suc, ◌+◌, ◌<◌, Bool, true, false, not, cond, eqb, ltb, List, [], ◌∷◌, ◌++◌, Option, None, Some, ap, arith, drop, length, refl, subst, sym, take}
-use Rattle.std.specs.Prelude.{position, unwrap_or}
+use Rattle.std.proofs.Common.{◌≡◌, ◌∙◌, ℕ, suc, ◌+◌, ◌<◌, not, cond, eqb, ltb, List, [], ◌∷◌, None, Some, ap, arith, drop, length, refl, take}
+use Rattle.std.specs.Prelude.{unwrap_or}
 use Rattle.std.specs.List.{position_or_len}
 use Rattle.std.proofs.lemmas.Bool.{lt-ltb, ne_eqb}
 use Rattle.std.proofs.lemmas.List.{length-append}

@@ -1,5 +1,5 @@
 -- What was written of a step says that step.
-use Rattle.std.proofs.Common.{◌≡◌, ◌≢◌, ◌∙◌, ℕ, ◌+◌, ◌&&◌, ◌||◌, ◌==◌, ◌≤◌, ◌<◌, Bool, true, false, not, cond, eqb, List, [], ◌∷◌, Option, None, Some, ap, arith, inl, inr, length, map, option_map, refl, subst, sym, drop}
+use Rattle.std.proofs.Common.{◌≡◌, ◌≢◌, ◌∙◌, ℕ, ◌+◌, ◌&&◌, ◌||◌, ◌==◌, ◌≤◌, ◌<◌, Bool, true, false, not, cond, eqb, List, [], ◌∷◌, None, Some, ap, arith, inl, length, map, option_map, refl, subst, sym, drop}
 use Rattle.std.specs.Prelude.{codes, nat_le, option_and_then, slice_get, if◌then◌else◌}
 use Rattle.std.specs.Fmt.{decimal}
 use Rattle.std.specs.List.{cons_option, list_all}

@@ -1,5 +1,5 @@
 -- What is written of steps are lines that say these steps.
-use Rattle.std.proofs.Common.{◌≡◌, ◌∙◌, ℕ, ◌≤◌, ◌<◌, false, List, [], ◌∷◌, ◌++◌, Option, None, Some, ap, arith, inl, length, refl, sym}
+use Rattle.std.proofs.Common.{◌≡◌, ◌∙◌, ℕ, ◌≤◌, ◌<◌, false, List, [], ◌∷◌, Some, ap, arith, inl, length, refl}
 use Rattle.std.specs.Prelude.{codes, option_and_then, slice_get}
 use Rattle.std.specs.Fmt.{decimal}
 use Rattle.hex.specs.Hex.{encode_upper}
@@ -20,7 +20,6 @@ use Rattle.object_model.specs.declared.argument.Argument.{Argument}
 use Rattle.object_model.specs.declared.argument.Argument.TheVariants.{Value}
 use Rattle.meter_core.specs.StepView.{argument_of}
 use Rattle.xdlms_services.specs.Asking.{Asked, asking_at, asking_of}
-use Rattle.xdlms_services.specs.Reading.{request_at}
 use Rattle.xdlms_services.specs.Requests.{CanAsk, IsArgumentInRange, IsDescriptorInRange, IsWritableParameter, request_bytes}
 use Rattle.xdlms_services.specs.declared.request.Request.TheVariants as requests
 use Rattle.xdlms_services.specs.declared.writing.Service.TheVariants as services
@@ -32,7 +31,7 @@ use Rattle.step_words.proofs.Ranges.{AreBytes}
 use Rattle.step_keeping.specs.Keeping.{ticks}
 use Rattle.trail_lines.specs.Writing.{IsName, Says, seconds_text, worded}
 use Rattle.trail_lines.specs.declared.limits.TheConstants.{MOVE_SECONDS}
-use Rattle.trail_lines.specs.declared.writing.TheConstants.{INVOKE}
+use Rattle.step_words.specs.declared.requests.TheConstants.{USUAL_INVOKE}
 use Rattle.trail_lines.proofs.Clients.{there}
 use Rattle.trail_lines.proofs.Bytes.{hex-lacks, is-line, moment-lacks}
 use Rattle.trail_lines.proofs.Steps.{ask-says, capture-says, clock-says, evaluate-says, input-says, lacks_word, name-lacks, name-text-lacks, run-says, seconds-say}
@@ -94,18 +93,18 @@ asked-line P sound c x is (b ∷ bs) some low asked asks = record {
 -- what the bytes of a SET and of an ACTION ask
 
 abbrev pub set-asked : ℕ → Descriptor → Data → Asked
-set-asked c d v = record { service = services.Set; invoke = INVOKE; step = theory.Set c d false (argument_of (Value v)) }
+set-asked c d v = record { service = services.Set; invoke = USUAL_INVOKE; step = theory.Set c d false (argument_of (Value v)) }
 
-pub set-asks : (c : ℕ) (d : Descriptor) (v : Data) (apdu : List ℕ) → apdu ≡ request_bytes (requests.Set INVOKE d false (Value v)) →
+pub set-asks : (c : ℕ) (d : Descriptor) (v : Data) (apdu : List ℕ) → apdu ≡ request_bytes (requests.Set USUAL_INVOKE d false (Value v)) →
     HasLengths (tree v) → depth (tree v) ≤ 16 → IsDescriptorInRange d → HasRanges (tree v) → asking_at c apdu ≡ Some (set-asked c d v)
 set-asks c d v apdu is lengths nested named ranges =
-    let can : CanAsk (requests.Set INVOKE d false (Value v)) = ((refl, (lengths, nested)), (omega arith, named, ranges)) in
-    ap (asking_at c) is ∙ ap (option_and_then (asking_of c)) (written_requests_are_read_lem (requests.Set INVOKE d false (Value v)) can)
+    let can : CanAsk (requests.Set USUAL_INVOKE d false (Value v)) = ((refl, (lengths, nested)), (omega arith, named, ranges)) in
+    ap (asking_at c) is ∙ ap (option_and_then (asking_of c)) (written_requests_are_read_lem (requests.Set USUAL_INVOKE d false (Value v)) can)
 
 abbrev pub act-asked : ℕ → Descriptor → Argument → Asked
-act-asked c d a = record { service = services.Act; invoke = INVOKE; step = theory.Act c d (argument_of a) }
+act-asked c d a = record { service = services.Act; invoke = USUAL_INVOKE; step = theory.Act c d (argument_of a) }
 
-pub act-asks : (c : ℕ) (d : Descriptor) (a : Argument) (apdu : List ℕ) → apdu ≡ request_bytes (requests.Act INVOKE d a) →
+pub act-asks : (c : ℕ) (d : Descriptor) (a : Argument) (apdu : List ℕ) → apdu ≡ request_bytes (requests.Act USUAL_INVOKE d a) →
     IsWritableParameter a → IsDescriptorInRange d → IsArgumentInRange a → asking_at c apdu ≡ Some (act-asked c d a)
 act-asks c d a apdu is can named ranges =
-    ap (asking_at c) is ∙ ap (option_and_then (asking_of c)) (written_requests_are_read_lem (requests.Act INVOKE d a) (can, (omega arith, named, ranges)))
+    ap (asking_at c) is ∙ ap (option_and_then (asking_of c)) (written_requests_are_read_lem (requests.Act USUAL_INVOKE d a) (can, (omega arith, named, ranges)))

@@ -20,7 +20,8 @@ use Rattle.xdlms_services.specs.declared.request.Request.TheVariants as requests
 use Rattle.line_server.specs.Lines.{IsLine}
 use Rattle.line_server.specs.Spelling.{input_cell}
 use Rattle.trail_lines.specs.Reading.{says}
-use Rattle.trail_lines.specs.declared.writing.TheConstants.{INVOKE, LONGEST, NESTED}
+use Rattle.step_words.specs.declared.requests.TheConstants.{USUAL_INVOKE}
+use Rattle.trail_lines.specs.declared.writing.TheConstants.{LONGEST, NESTED}
 
 -- Which steps have a line
 
@@ -69,8 +70,8 @@ asked_text P c apdu = client_text (slice_get P.clients c) apdu
 -- the line of a step: of a SET or an ACTION the client's name and its shortest request
 abbrev pub step_text : Plan → Step → List ℕ
 step_text P (steps.Get c d selection) = []
-step_text P (steps.Set c d selected value) = asked_text P c (request_bytes (requests.Set INVOKE d selected value))
-step_text P (steps.Act c d argument) = asked_text P c (request_bytes (requests.Act INVOKE d argument))
+step_text P (steps.Set c d selected value) = asked_text P c (request_bytes (requests.Set USUAL_INVOKE d selected value))
+step_text P (steps.Act c d argument) = asked_text P c (request_bytes (requests.Act USUAL_INVOKE d argument))
 step_text P (steps.Input x value) = worded (codes "in") (worded (name_text x.name.0) (encode_upper (canonical (tree value))))
 step_text P (steps.Evaluate monitor) = worded (codes "eval") (name_text monitor.0)
 step_text P (steps.CaptureAt profile) = worded (codes "capture-if-due") (name_text profile.0)

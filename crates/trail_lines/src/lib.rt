@@ -2,10 +2,12 @@
 //! in a form of its own where a step line would bring more.
 //!
 //! - [`line::read_trail_line`] tells what a line says.
+//! - [`running::run_trail`] has a meter alone answer lines of a trail.
 //! - [`writing::write_step`] and [`writing::write_seconds`] write lines that say a step, and seconds that passed.
 #![tactic(auto)]
 
 pub mod limits;
 pub mod line;
+pub mod running;
 mod words;
 pub mod writing;

@@ -9,7 +9,7 @@ use crate::words::{CAPTURE_IF_DUE, MOVE_CLOCK, RUN_IF_DUE, SET_CLOCK};
 use civil_moment::moment::Moment;
 use cosem_data::memory::Memory;
 use cosem_data::name::LogicalName;
-use line_server::line::{Line, read_line};
+use line_server::line::{Line, first_space, read_line};
 use line_server::reason::Reason;
 use object_model::plan::Plan;
 use std::alloc::Global;
@@ -32,8 +32,6 @@ pub enum TrailLine<'a> {
     RunIfDue(LogicalName),
 }
 
-const SPACE: u8 = b' ';
-
 /// What a line of a trail says; the byte that ends it is no part of it. An APDU is decoded into the room, whatever it holds. The
 /// only error is want of memory.
 pub fn read_trail_line<'a>(
@@ -44,18 +42,17 @@ pub fn read_trail_line<'a>(
 ) -> Result<TrailLine<'a>, Memory>
     ensures { IfOk result (λ x. x ≡ trail_line_of plan.now line.now) }
 {
-    match own_at(line, first_space(line)) {
+    match own_line(line) {
         Some(own) => Ok(own),
         None => Ok(TrailLine::Said(read_line(alloc, plan, line, room)?)),
     }
 }
 
-/// The place of the first space.
-fn first_space(line: &[u8]) -> Option<usize>
-    ensures first { result ≡ spelling.first_space line.now }
-    ensures within { IfSome result (λ k. k < length line.now) }
+/// What a line says that begins with a word of the trail alone; None for any other, which says what it says as a step line.
+pub fn own_line(line: &[u8]) -> Option<TrailLine<'static>>
+    ensures { result ≡ spec.own_at line.now (spelling.first_space line.now) }
 {
-    line.iter().position(|b| *b == SPACE)
+    own_at(line, first_space(line))
 }
 
 /// What a line says that has its first space at this place, and begins with a word of the trail alone.

@@ -30,23 +30,9 @@ use meter_theory::refs::Descriptor;
 use object_model::argument::Argument;
 use object_model::plan::Plan;
 use std::alloc::Global;
-
-/// The tags of a SET and of an ACTION, and that of their normal form (IEC 62056-5-3, Set-Request-Normal and
-/// Action-Request-Normal).
-const SET_REQUEST: u8 = 0xC1;
-
-const ACTION_REQUEST: u8 = 0xC3;
-
-const NORMAL: u8 = 1;
-
-/// The flag of a selection or a parameter that isn't there, and of one that is.
-const ABSENT: u8 = 0;
-
-const PRESENT: u8 = 1;
-
-/// The Invoke-Id-And-Priority of a request that is written: id 1, confirmed, of high priority (IEC 62056-5-3). No reply of the
-/// trail is sent, so that any would do (own profile).
-pub const INVOKE: u8 = 0xC1;
+use step_words::USUAL_INVOKE;
+use xdlms_services::reading::{ACTION_REQUEST, SET_REQUEST};
+use xdlms_services::requests::{ABSENT, PRESENT, put_front};
 
 /// A value of a line is nested at most so deep, which is what is read of values.
 pub const NESTED: u8 = 16;
@@ -164,17 +150,7 @@ fn input_line(
 fn is_input_cell(plan: &Plan, cell: &CellRef) -> bool
     ensures { result ≡ same_cell cell.now (input_cell plan.now cell.now.name) }
 {
-    let class_id = match plan.object_at(&cell.name) {
-        Some(object) => object.part().class_id(),
-        None => 1,
-    };
-    let name = cell.name;
-    *cell
-        == CellRef {
-            class_id,
-            name,
-            index: 2,
-        }
+    *cell == line_server::line::input_cell(plan, cell.name)
 }
 
 /// Whether a value can be written in hex, and is read again.
@@ -206,7 +182,8 @@ fn set_line(
     }
     small_has_lengths();
     let mut apdu = Vec::new(alloc);
-    put_front(SET_REQUEST, attribute, &mut apdu)?;
+    know_descriptor(*attribute);
+    put_front(SET_REQUEST, USUAL_INVOKE, attribute, &mut apdu)?;
     apdu.push(ABSENT)?;
     write_data(data, &mut apdu)?;
     asked_line(alloc, plan, client, &apdu)
@@ -229,7 +206,8 @@ fn act_line(
         return Ok(None);
     }
     let mut apdu = Vec::new(alloc);
-    put_front(ACTION_REQUEST, method, &mut apdu)?;
+    know_descriptor(*method);
+    put_front(ACTION_REQUEST, USUAL_INVOKE, method, &mut apdu)?;
     put_parameter(argument, &mut apdu)?;
     asked_line(alloc, plan, client, &apdu)
 }
@@ -259,19 +237,6 @@ fn put_parameter(argument: &Argument, apdu: &mut Vec<u8>) -> Result<(), Memory>
     small_has_lengths();
     apdu.push(PRESENT)?;
     write_data(value, apdu)
-}
-
-/// What stands in front of a request, up to the index of what it names.
-fn put_front(service: u8, named: &Descriptor, apdu: &mut Vec<u8>) -> Result<(), Memory>
-    ensures bytes { OnOk result (apdu.new.items ≡ apdu.old.items ++ front_bytes service INVOKE named.now) }
-    ensures ranges { OnOk result (IsDescriptorInRange named.now) }
-{
-    know_descriptor(*named);
-    apdu.extend_from_slice(&[service, NORMAL, INVOKE])?;
-    apdu.extend_from_slice(&named.class_id.to_be_bytes())?;
-    apdu.extend_from_slice(&named.name.0)?;
-    apdu.extend_from_slice(&named.index.to_be_bytes())?;
-    Ok(())
 }
 
 /// Bytes are below 256. It does nothing when it runs.

@@ -22,11 +22,11 @@ one-line (b ∷ text) h = ap₂ (λ x y. not x && y) (ne_eqb b 10 h.0) (one-line
 pub is-one-line : (text : List ℕ) → IsLine text → is_one_line text ≡ true
 is-one-line text h = one-line text (recursion_from_All (λ b. b ≢ 10) text h)
 
-steps-more : (P : Plan) (es fs : List Entry) → steps_in P (es ++ fs) ≡ steps_in P es ++ steps_in P fs
+pub steps-more : (P : Plan) (es fs : List Entry) → steps_in P (es ++ fs) ≡ steps_in P es ++ steps_in P fs
 steps-more P [] fs = refl
 steps-more P (e ∷ es) fs = ap (λ ss. says P e.1 ++ ss) (steps-more P es fs) ∙ sym (append_assoc (says P e.1) (steps_in P es) (steps_in P fs))
 
-steps-of-one : (P : Plan) (note line : List ℕ) → steps_in P ((note, line) ∷ []) ≡ says P line
+pub steps-of-one : (P : Plan) (note line : List ℕ) → steps_in P ((note, line) ∷ []) ≡ says P line
 steps-of-one P note line = append-nil (says P line)
 
 -- the steps of a file with a batch more

@@ -1,5 +1,5 @@
 //! A trail's file as the place where the steps of a live meter are kept.
-ghost use Rattle.std.specs.Prelude.{◌≡◌, ◌≤◌, ◌++◌, ◌∷◌, [], false, true, Err, IfOk, IsTrue, List, OnErr, OnOk, string_bytes};
+ghost use Rattle.std.specs.Prelude.{◌≡◌, ◌≤◌, ◌++◌, ◌∷◌, [], false, true, Err, IfErr, IfOk, IsTrue, List, OnErr, OnOk, Option, string_bytes};
 ghost use Rattle.meter_core.specs.StepView.{step_of};
 ghost use Rattle.meter_theory.specs.Plan as plans;
 ghost use Rattle.meter_theory.specs.Steps as theory;
@@ -11,7 +11,7 @@ ghost use Rattle.trail_lines.specs.Reading.{says};
 ghost use Rattle.trail_lines.specs.Writing.{Says};
 ghost use Rattle.trail_lines.specs.declared.limits.TheConstants as limits;
 ghost use Rattle.trail_store.specs.Stored.{AreWaited, IsAdded, IsAtRest, kept_in, steps_in};
-ghost use Rattle.step_keeping.specs.Keeping.{ticks};
+ghost use Rattle.step_keeping.specs.Keeping.{IsKeptAfter, ticks};
 
 use crate::notes::Notes;
 use cosem_data::memory::Memory;
@@ -77,6 +77,7 @@ impl<D: Disk + Drop, T: Notes + Drop> TrailStore<D, T> {
             (D.Disk.seen self.old.trail.disk) (D.Disk.seen self.new.trail.disk) (D.Disk.may_leave self.new.trail.disk) (recovered batch.now)) }
         ensures memory { result ≡ Err KeepFault.Memory → (self.new.trail ≡ self.old.trail)
             × (self.new.is_open ≡ true) × (self.new.waiting ≡ self.old.waiting) }
+        ensures written { result ≡ Err KeepFault.Unwritten → ⊥ }
         ensures shut { (result ≡ Err KeepFault.Memory → ⊥) → OnErr result (self.new.is_open ≡ false) }
         ensures not_kept { result ≡ Err KeepFault.NotKept → IsTrue (D.Disk.is_clean self.old.trail.disk) →
             EachLeft (D.Disk.may_leave self.new.trail.disk) (StandsFor (recovered (D.Disk.seen self.old.trail.disk))) }
@@ -138,14 +139,15 @@ fn is_tick(step: &Step) -> bool
 /// The line of a step.
 ///
 /// # Errors
-/// `Memory`, also where no line says the step, as none is that a line or an APDU brought: nothing was written then either, and later
-/// steps are kept.
+/// `Memory`, and `Unwritten` where no line says the step, as none is that a line or an APDU brought.
 fn line_of(alloc: Global, plan: &Plan, step: &Step) -> Result<String, KeepFault>
-    ensures { IfOk result (λ line. Says plan.now (step_of step.now ∷ []) (string_bytes line)) }
+    ensures line { IfOk result (λ line. Says plan.now (step_of step.now ∷ []) (string_bytes line)) }
+    // Nothing was written.
+    ensures err { IfErr result (λ fault. (kept : Option (List theory.Step)) → IsKeptAfter fault kept kept) }
 {
     match write_step(alloc, plan, step)? {
         Some(line) => Ok(line),
-        None => Err(KeepFault::Memory),
+        None => Err(KeepFault::Unwritten),
     }
 }
 
@@ -214,6 +216,7 @@ fn commit<D: Disk + Drop>(
     ensures not_kept { result ≡ Err KeepFault.NotKept → IsTrue (D.Disk.is_clean trail.new.disk) →
         EachLeft (D.Disk.may_leave trail.new.disk) (StandsFor (recovered (D.Disk.seen trail.old.disk))) }
     ensures memory { result ≡ Err KeepFault.Memory → trail.new ≡ trail.old }
+    ensures written { result ≡ Err KeepFault.Unwritten → ⊥ }
 {
     match trail.commit(alloc, batch) {
         Ok(()) => Ok(()),

@@ -1,4 +1,7 @@
 mod files;
 mod heads;
+mod past;
+mod printed;
+mod running;
 mod samples;
 mod stops;

@@ -19,7 +19,7 @@ returns-clause-crash g c all kept left l =
     let step = step_of c.args.step.now in
     let was = g.D.Disk.is_clean f.trail.disk in
     let old = g.D.Disk.seen f.trail.disk in
-    let line : says P c.deref-2.result.now ≡ step ∷ [] = ap (says P) c.deref-2.ensures ∙ c.in_ok-line.ensures.said in
+    let line : says P c.deref-2.result.now ≡ step ∷ [] = ap (says P) c.deref-2.ensures ∙ c.in_ok-line.ensures.line.said in
     let steps : steps_in P (recovered c.deref-3.result.now) ≡ ticks f.waiting ++ step ∷ [] =
     ap (λ b. steps_in P (recovered b)) c.deref-3.ensures.value ∙ c.in_ok-batch.ensures.steps ∙ ap (λ ss. ticks f.waiting ++ ss) line in
     let is_open : f.is_open ≡ true = search rules in

@@ -1,0 +1,14 @@
+-- Events in words, as they are put together. All of it is own profile.
+use Rattle.std.specs.Prelude.{ℕ, List, [], ◌++◌, Option, Some, None}
+use Rattle.std.specs.Borrow.{Bor}
+use Rattle.std.specs.Fmt.{decimal}
+use Rattle.peer_watch.specs.declared.words.Words.{Words}
+
+-- a number between words, where there is one
+abbrev pub numbered : Option (Bor (List ℕ) × ℕ × Bor (List ℕ)) → List ℕ
+numbered (Some number) = number.0.now ++ (decimal number.1 ++ number.2.now)
+numbered None = []
+
+-- the words of the event, those that it brings, and its number
+abbrev pub words_text : Words → List ℕ
+words_text words = words.own.now ++ (words.brought.now ++ numbered words.number.0)

@@ -1,0 +1,4 @@
+pub mod Entries
+pub mod Passing
+pub mod Pieces
+pub mod Printed
