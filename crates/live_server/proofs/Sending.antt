@@ -1,5 +1,9 @@
 -- What a live meter answers can be sent, and what a reader saw it goes on to see.
-use Rattle.std.proofs.Common.{◌≡◌, List, sym, subst}
+use Rattle.std.proofs.Common.{◌≡◌, List, sym, subst, Result, Ok, Err}
+use Rattle.std.specs.Prelude.{IfOk}
+use Rattle.meter_core.specs.StepView.{reply_of}
+use Rattle.meter_core.specs.declared.reply.Reply.{Reply as Answer}
+use Rattle.meter_live.specs.declared.fault.LiveFault.{LiveFault}
 use Rattle.meter_theory.specs.Plan.{Plan, start}
 use Rattle.meter_theory.specs.Replies.{Reply, reply_to, run}
 use Rattle.meter_theory.specs.Sound.{IsSound}
@@ -23,6 +27,11 @@ answers-sendable P sound (Evaluate n) reply h = λ service e. absurd e
 answers-sendable P sound (ScheduleAt n) reply h = λ service e. absurd e
 answers-sendable P sound Tick reply h = λ service e. absurd e
 answers-sendable P sound (ClockAt m) reply h = λ service e. absurd e
+
+-- what is answered by a port, where a step is taken
+pub taken-sendable : (P : Plan) → IsSound P → (step : Step) (r : Result Answer LiveFault) → IfOk r (λ reply. Answers P step (reply_of reply)) → IfOk r (λ reply. IsSendable step (reply_of reply))
+taken-sendable P sound step (Ok reply) is = answers-sendable P sound step (reply_of reply) is
+taken-sendable P sound step (Err fault) is = tt
 
 -- what a reader answers
 pub read-sendable : (P : Plan) → IsSound P → (seen : List Step) (step : Step) (reply : Reply) → reply ≡ reply_to P (run P (start P) seen) step → IsSendable step reply

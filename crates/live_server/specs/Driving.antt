@@ -20,6 +20,10 @@ use Rattle.line_server.specs.declared.line.Line.{Line}
 abbrev pub memory_text : ℕ → List ℕ
 memory_text number = codes "line " ++ (decimal number ++ codes ": memory\n")
 
+-- what is told of a step of a line that can't be kept
+abbrev pub unkept_text : ℕ → List ℕ
+unkept_text number = codes "line " ++ (decimal number ++ codes ": not kept\n")
+
 -- a text was told whole, or, where that wasn't so, at most a beginning of it
 abbrev pub Tells : Option (List ℕ) → Option (List ℕ) → List ℕ → Bool → Type 0
 Tells old new text true = Appends old new text
@@ -39,13 +43,17 @@ following old = record { share = old.share; told = old.told; number = (old.numbe
 abbrev pub IsCounted : Plan → Hand → steps.Step → Reply → Hand → Type 0
 IsCounted P old step reply new = Answers P step reply × Counts P old.share step new.share × (new.told ≡ old.told)
 
--- a step is refused for memory, which is told, and nothing else changes
+-- what is told, and nothing else changes
 abbrev pub IsTold : Hand → List ℕ → Hand → Type 0
 IsTold old text new = (is_whole : Bool) × Tells old.told new.told text is_whole × (new.share ≡ old.share)
 
+-- a step is refused, for memory or since it can't be kept, which is told
+abbrev pub IsRefused : Hand → Hand → Type 0
+IsRefused old new = (new.number ≡ old.number) × (IsTold old (memory_text old.number) new ⊎ IsTold old (unkept_text old.number) new)
+
 -- Each step of a line is taken, or is told and passed over: the next goes on.
 abbrev pub TakesOrTells : Plan → Hand → steps.Step → Result Reply Memory → Hand → Type 0
-TakesOrTells P old step (Ok reply) new = (new.number ≡ old.number) × (IsCounted P old step reply new ⊎ IsTold old (memory_text old.number) new)
+TakesOrTells P old step (Ok reply) new = ((new.number ≡ old.number) × IsCounted P old step reply new) ⊎ IsRefused old new
 TakesOrTells P old step (Err refused) new = ⊥
 
 -- that a line is no step of the meter itself, as the APDU of a client, is told

@@ -1,13 +1,14 @@
 -- What is told where connections are no longer served (own profile).
 use Rattle.std.specs.Prelude.{ℕ, ◌<◌, List, codes}
 use Rattle.live_server.specs.declared.fault.ServerFault.{ServerFault}
-use Rattle.live_server.specs.declared.fault.ServerFault.TheVariants.{Listen, Memory, GaveUp, Board}
+use Rattle.live_server.specs.declared.fault.ServerFault.TheVariants.{Listen, Memory, GaveUp, Board, Full}
 
 abbrev pub fault_words : ServerFault → List ℕ
 fault_words Listen = codes "connections can't be taken there"
 fault_words Memory = codes "out of memory"
 fault_words GaveUp = codes "a seat gave up"
 fault_words Board = codes "the meter has no port for a seat"
+fault_words Full = codes "more steps were kept than can be counted"
 
 -- at one of the seats of a server, it may give up
 abbrev pub MayGiveUp : (ℕ → Type 0) → Type 0

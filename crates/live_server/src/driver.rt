@@ -1,6 +1,6 @@
 //! The driver of a live meter: inputs, evaluations and moments come as lines (own profile).
 ghost use Rattle.std.specs.Prelude.{◌≡◌};
-ghost use Rattle.live_server.specs.Driving.{DrivesLine, TellsOf};
+ghost use Rattle.live_server.specs.Driving.{DrivesLine, IsRefused, TellsOf};
 
 use crate::asking::PortAsker;
 use crate::by_line::ByLine;
@@ -12,24 +12,27 @@ use line_server::line::read_line;
 use line_server::lines::{AnswersLines, answer_lines};
 use meter_core::reply::Reply;
 use meter_core::step::Step;
+use meter_live::fault::LiveFault;
 use meter_live::names::Naming;
 use meter_theory::access::AccessCode;
 use std::alloc::Global;
 use std::io::{self, Read, Write};
 use std::marker::Model;
 use std::sync::Wait;
+use step_keeping::keeper::Keeps;
 use xdlms_services::asker::Asker;
 
 /// Takes the steps of a line at a seat, which is told of none of them. A step that is refused for memory is told, and passed
 /// over. Contracts see what the share counts, what was told, and the number of the line.
 #[derive(Drop)]
-struct Taker<'b, N: Naming, W: Wait + Drop, R: Wait, F: Write + Drop> {
-    seat: PortAsker<'b, N, W, R>,
+struct Taker<'b, N: Naming, W: Wait + Drop, R: Wait, F: Write + Drop, K: Keeps + Drop> {
+    seat: PortAsker<'b, N, W, R, K>,
     notices: Notices<F>,
     number: u64,
 }
 
-impl<'b, N: Naming, W: Wait + Drop, R: Wait, F: Write + Drop> Model for Taker<'b, N, W, R, F> {
+impl<'b, N: Naming, W: Wait + Drop, R: Wait, F: Write + Drop, K: Keeps + Drop> Model
+    for Taker<'b, N, W, R, F, K> {
     ghost use Rattle.std.specs.Coded.{codes};
     ghost use Rattle.meter_live.specs.Codes.{tally_code};
     ghost use Rattle.live_server.specs.Driving.{Hand};
@@ -41,7 +44,8 @@ impl<'b, N: Naming, W: Wait + Drop, R: Wait, F: Write + Drop> Model for Taker<'b
     ghost view = { λ t. record { share = t.seat.share; told = F.contents t.notices.faults; number = t.number } };
 }
 
-impl<'b, N: Naming, W: Wait + Drop, R: Wait, F: Write + Drop> Asker for Taker<'b, N, W, R, F> {
+impl<'b, N: Naming, W: Wait + Drop, R: Wait, F: Write + Drop, K: Keeps + Drop> Asker
+    for Taker<'b, N, W, R, F, K> {
     ghost use Rattle.live_server.specs.Driving.{TakesOrTells};
 
     ghost plan_of = { λ _. N.accepted.plan };
@@ -52,26 +56,57 @@ impl<'b, N: Naming, W: Wait + Drop, R: Wait, F: Write + Drop> Asker for Taker<'b
     fn ask(&mut self, alloc: Global, step: Step) -> Result<Reply, Memory> {
         match self.seat.take(alloc, step) {
             Ok(reply) => Ok(reply),
-            Err(_) => {
-                self.notices.tell_memory(self.number);
+            Err(fault) => {
+                self.tell(fault);
                 Ok(Reply::Code(AccessCode::TemporaryFailure))
             }
         }
     }
 }
 
+impl<'b, N: Naming, W: Wait + Drop, R: Wait, F: Write + Drop, K: Keeps + Drop> Taker<
+    'b,
+    N,
+    W,
+    R,
+    F,
+    K,
+> {
+    /// Tells of a step of the line that was refused.
+    fn tell(&mut self, fault: LiveFault)
+        ensures { IsRefused self.old self.new }
+    {
+        match fault {
+            LiveFault::Memory | LiveFault::Full => {
+                self.notices.tell_memory(self.number);
+            }
+            LiveFault::NotKept | LiveFault::InDoubt => {
+                self.notices.tell_unkept(self.number);
+            }
+        }
+    }
+}
+
 /// Takes the meter's own steps from lines, at a seat, which tells of them once behind each line. A line that is no such step,
-/// and so the APDU of a client too, is told as `line N: unreadable`, and each step that is refused for memory as
-/// `line N: memory`, and so is a line that is refused memory before its steps; then the next goes on. What is told takes no memory.
+/// and so the APDU of a client too, is told as `line N: unreadable`, each step that is refused for memory as `line N: memory`, and one
+/// that can't be kept as `line N: not kept`; a line that is refused memory before its steps is told as `line N: memory` too. Then the
+/// next goes on. What is told takes no memory.
 #[derive(Drop)]
-pub(crate) struct Driver<'b, N: Naming, W: Wait + Drop, R: Wait, F: Write + Drop> {
-    taker: Taker<'b, N, W, R, F>,
+pub(crate) struct Driver<'b, N: Naming, W: Wait + Drop, R: Wait, F: Write + Drop, K: Keeps + Drop> {
+    taker: Taker<'b, N, W, R, F, K>,
     apdu: Vec<u8>,
 }
 
-impl<'b, N: Naming, W: Wait + Drop, R: Wait, F: Write + Drop> Driver<'b, N, W, R, F> {
+impl<'b, N: Naming, W: Wait + Drop, R: Wait, F: Write + Drop, K: Keeps + Drop> Driver<
+    'b,
+    N,
+    W,
+    R,
+    F,
+    K,
+> {
     /// A driver at this seat, with what it tells by. No line is taken yet.
-    pub fn new(alloc: Global, seat: PortAsker<'b, N, W, R>, notices: Notices<F>) -> Self
+    pub fn new(alloc: Global, seat: PortAsker<'b, N, W, R, K>, notices: Notices<F>) -> Self
         ensures { result.taker
             ≡ record { share = seat.entry.share; told = F.contents notices.faults; number = 0 } }
     {
@@ -87,7 +122,7 @@ impl<'b, N: Naming, W: Wait + Drop, R: Wait, F: Write + Drop> Driver<'b, N, W, R
     }
 
     /// Its seat, once all lines were taken.
-    pub(crate) fn into_seat(self) -> PortAsker<'b, N, W, R>
+    pub(crate) fn into_seat(self) -> PortAsker<'b, N, W, R, K>
         ensures { result.share ≡ self.entry.taker.share }
     {
         let Driver { taker, apdu: _apdu } = self;
@@ -125,8 +160,8 @@ impl<'b, N: Naming, W: Wait + Drop, R: Wait, F: Write + Drop> Driver<'b, N, W, R
     }
 }
 
-impl<'b, N: Naming, W: Wait + Drop, R: Wait, F: Write + Drop> AnswersLines
-    for Driver<'b, N, W, R, F> {
+impl<'b, N: Naming, W: Wait + Drop, R: Wait, F: Write + Drop, K: Keeps + Drop> AnswersLines
+    for Driver<'b, N, W, R, F, K> {
     ghost use Rattle.std.specs.Prelude.{◌≡◌, []};
     ghost use Rattle.live_server.specs.Driving.{DrivesLine, following};
 
@@ -152,9 +187,9 @@ impl<'b, N: Naming, W: Wait + Drop, R: Wait, F: Write + Drop> AnswersLines
 }
 
 /// Takes the steps of a line, or tells that it has none, or that memory was refused to read it. The room is for an APDU.
-fn take_line<N: Naming, W: Wait + Drop, R: Wait, F: Write + Drop>(
+fn take_line<N: Naming, W: Wait + Drop, R: Wait, F: Write + Drop, K: Keeps + Drop>(
     alloc: Global,
-    taker: &mut Taker<'_, N, W, R, F>,
+    taker: &mut Taker<'_, N, W, R, F, K>,
     room: &mut Vec<u8>,
     line: &[u8],
 )
@@ -173,8 +208,8 @@ fn take_line<N: Naming, W: Wait + Drop, R: Wait, F: Write + Drop>(
 }
 
 /// Tells that a line is no step of the meter itself, where it isn't.
-fn tell_left<N: Naming, W: Wait + Drop, R: Wait, F: Write + Drop>(
-    taker: &mut Taker<'_, N, W, R, F>,
+fn tell_left<N: Naming, W: Wait + Drop, R: Wait, F: Write + Drop, K: Keeps + Drop>(
+    taker: &mut Taker<'_, N, W, R, F, K>,
     left: &Left<'_>,
 )
     ensures { TellsOf left.now taker.old taker.new }

@@ -15,6 +15,8 @@ pub enum ServerFault {
     GaveUp,
     /// The board had no port for a seat, or wasn't closed for want of a share.
     Board,
+    /// More steps were kept than can be counted.
+    Full,
 }
 
 impl ServerFault {
@@ -29,6 +31,7 @@ impl ServerFault {
             ServerFault::Memory => "out of memory",
             ServerFault::GaveUp => "a seat gave up",
             ServerFault::Board => "the meter has no port for a seat",
+            ServerFault::Full => "more steps were kept than can be counted",
         }
     }
 }

@@ -2,7 +2,7 @@
 ghost use Rattle.std.specs.Prelude.{◌≡◌, ◌++◌, [], codes, string_bytes, IfOk};
 ghost use Rattle.std.specs.Fmt.{decimal};
 ghost use Rattle.line_server.specs.Spelling.{unreadable_text};
-ghost use Rattle.live_server.specs.Driving.{Tells, memory_text};
+ghost use Rattle.live_server.specs.Driving.{Tells, memory_text, unkept_text};
 
 use cosem_data::memory::Memory;
 use std::alloc::Global;
@@ -49,6 +49,18 @@ impl<F: Write + Drop> Notices<F> {
     {
         self.text.clear();
         let Ok(()) = write!(self.text, "line {number}: memory\n") else {
+            return false;
+        };
+        self.write()
+    }
+
+    /// Tells that a step of the line with this number can't be kept, and wasn't taken, and says whether that was written whole.
+    pub(crate) fn tell_unkept(&mut self, number: u64) -> bool
+        ensures { Tells (F.contents self.old.faults) (F.contents self.new.faults)
+            (unkept_text number) result }
+    {
+        self.text.clear();
+        let Ok(()) = write!(self.text, "line {number}: not kept\n") else {
             return false;
         };
         self.write()

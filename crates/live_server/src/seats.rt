@@ -3,7 +3,7 @@ ghost use Rattle.std.specs.Prelude.{◌≡◌, ◌<◌, ◌⊎◌, ◌↔◌, tr
 ghost use Rattle.live_server.specs.Seats.{AreTaken};
 ghost use Rattle.live_server.specs.Faults.{IsFaultBy, MayGiveUp};
 
-use crate::asking::PortAsker;
+use crate::asking::{PortAsker, Standing};
 use crate::fault::ServerFault;
 use gates::Gate;
 use meter_live::board::Board;
@@ -12,18 +12,36 @@ use meter_live::names::Naming;
 use meter_live::share::Share;
 use std::alloc::Global;
 use std::sync::{Mutex, Wait};
+use step_keeping::keeper::Keeps;
 
 /// How many connections are answered at once (own profile).
 pub(crate) const SEATS: usize = 64;
 
+/// What becomes of the steps of so many seats' connections, 64 at most, each under a lock of its own.
+pub(crate) fn clear_standings(
+    alloc: Global,
+    count: usize,
+) -> Result<Vec<Mutex<Standing>>, ServerFault>
+    ensures { IfErr result (λ fault. fault ≡ ServerFault.Memory) }
+{
+    let mut standings = Vec::new(alloc);
+    for _ in 0..count.min(SEATS) {
+        standings
+            .push(Mutex::new(Standing::CLEAR))
+            .map_err(|_| ServerFault::Memory)?;
+    }
+    Ok(standings)
+}
+
 /// Opens a seat at a port of its own.
-pub(crate) fn open_seat<'b, N: Naming, W: Wait + Drop, R: Wait>(
+pub(crate) fn open_seat<'b, N: Naming, W: Wait + Drop, R: Wait, K: Keeps + Drop>(
     rt: &'b R,
-    board: &'b Board<N, W>,
-) -> Result<PortAsker<'b, N, W, R>, ServerFault>
+    board: &'b Board<N, W, K>,
+    standing: Option<&'b Mutex<Standing>>,
+) -> Result<PortAsker<'b, N, W, R, K>, ServerFault>
     ensures { IfErr result (λ fault. (fault ≡ ServerFault.Board) ⊎ (fault ≡ ServerFault.Memory)) }
 {
-    PortAsker::open(rt, board).map_err(fault_of_port)
+    PortAsker::open(rt, board, standing).map_err(fault_of_port)
 }
 
 /// Why no seat is opened where a board opens no port: memory was refused, or all its ports were opened.
@@ -37,17 +55,18 @@ fn fault_of_port(fault: PortFault) -> ServerFault
     }
 }
 
-/// Opens a seat for each connection that is answered at once, under a lock of its own.
-pub(crate) fn open_seats<'b, N: Naming, W: Wait + Drop, R: Wait>(
+/// Opens a seat for each connection that is answered at once, under a lock of its own, which notes there what becomes of its steps.
+pub(crate) fn open_seats<'b, N: Naming, W: Wait + Drop, R: Wait, K: Keeps + Drop>(
     rt: &'b R,
     alloc: Global,
-    board: &'b Board<N, W>,
-) -> Result<Vec<Mutex<PortAsker<'b, N, W, R>>>, ServerFault>
+    board: &'b Board<N, W, K>,
+    standings: &'b [Mutex<Standing>],
+) -> Result<Vec<Mutex<PortAsker<'b, N, W, R, K>>>, ServerFault>
     ensures { IfErr result (λ fault. (fault ≡ ServerFault.Board) ⊎ (fault ≡ ServerFault.Memory)) }
 {
     let mut seats = Vec::new(alloc);
-    for _ in 0..SEATS {
-        let seat = open_seat(rt, board)?;
+    for standing in standings {
+        let seat = open_seat(rt, board, Some(standing))?;
         seats
             .push(Mutex::new(seat))
             .map_err(|_| ServerFault::Memory)?;
@@ -56,10 +75,10 @@ pub(crate) fn open_seats<'b, N: Naming, W: Wait + Drop, R: Wait>(
 }
 
 /// The shares of all seats, and of the driver's.
-pub(crate) fn shares_of<N: Naming, W: Wait + Drop, R: Wait>(
+pub(crate) fn shares_of<N: Naming, W: Wait + Drop, R: Wait, K: Keeps + Drop>(
     alloc: Global,
-    driver: PortAsker<'_, N, W, R>,
-    seats: Vec<Mutex<PortAsker<'_, N, W, R>>>,
+    driver: PortAsker<'_, N, W, R, K>,
+    seats: Vec<Mutex<PortAsker<'_, N, W, R, K>>>,
 ) -> Result<Vec<Share<N>>, ServerFault>
     ensures { IfErr result (λ fault. fault ≡ ServerFault.Memory) }
 {
@@ -85,10 +104,10 @@ pub(crate) struct Taken<'g, G: Gate> {
 }
 
 impl<'g, G: Gate> Taken<'g, G> {
-    /// No seat is taken yet, and none gave up at this gate.
-    pub(crate) fn new(gate: &'g G) -> Taken<'g, G> {
+    /// None of so many seats is taken yet, and none gave up at this gate. Those that aren't there are taken for good.
+    pub(crate) fn new(gate: &'g G, count: usize) -> Taken<'g, G> {
         Taken {
-            is_taken: [false; SEATS],
+            is_taken: taken_from(count),
             gave_up: false,
             gate,
         }
@@ -155,4 +174,13 @@ pub(crate) fn is_last(count: u64, sessions: u64) -> bool
     ensures { IsTrue result ↔ (count ≡ sessions) }
 {
     count == sessions
+}
+
+/// Whether each of 64 seats is taken: those from this one on.
+fn taken_from(count: usize) -> [bool; SEATS] {
+    let mut is_taken = [true; SEATS];
+    for seat in 0..count.min(SEATS) {
+        is_taken[seat] = false;
+    }
+    is_taken
 }

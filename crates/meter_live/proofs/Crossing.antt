@@ -15,7 +15,9 @@ use Rattle.cosem_data.proofs.Crosses.{Crosses, crosses}
 use Rattle.object_model.proofs.Crossing.{meter_crosses}
 use Rattle.flow_checker.proofs.Crossing.{checked_crosses}
 use Rattle.meter_core.proofs.Crossing.{reply_crosses, step_crosses}
+use Rattle.step_keeping.specs.declared.keeper.Keeps as keepers
 use Rattle.meter_live.specs.declared.names.Naming as naming
+use Rattle.meter_live.specs.contracts.archive.Archive as archives
 use Rattle.meter_live.specs.contracts.board.Board as boards
 use Rattle.meter_live.specs.contracts.board.Board.TheInside as boards_inside
 use Rattle.meter_live.specs.contracts.board.Port as ports
@@ -82,10 +84,6 @@ pen_send = view_send _ _ _ _ _
 outbox_send : IsSend outboxes.the_row
 outbox_send = view_send _ _ _ _ _ (declared_send outboxes_inside.the_type (search (change_send, sendable) depth 12, (pen_send, tt)))
 
-live_send : IsSend lives.the_row
-live_send = view_send _ _ _ _ _
-    (declared_send lives_inside.the_type (traced_crosses.send, (outbox_send, (histories.the_send, (front.the_send, tt)))))
-
 reader_send : IsSend readers.the_row
 reader_send = view_send _ _ _ _ _
     (declared_send readers_inside.the_type (search (ends.the_send, shown_sync, send, sync, frees) depth 12, (front.the_send, tt)))
@@ -104,10 +102,18 @@ module _ (N : RattleType) (g : naming.Ghosts N.Denot) where
   rest_send = view_send _ _ _ _ _
       (declared_send (rests_inside.the_type N g) (search (parts.the_send, sendable) depth 12, (search (parts.the_send, sendable) depth 12, tt)))
 
-module _ (N W : RattleType) (g : naming.Ghosts N.Denot) (n : IsSend N) (w : IsSend W) where
-  desk_send : IsSend (desks.the_row N W g)
-  desk_send = let rest = rest_send N g in view_send _ _ _ _ _ (declared_send (desks_inside.the_type N W g) (
-    live_send,
+-- where steps are written goes to a thread with what keeps them, and so does the meter
+module _ (K : RattleType) (h : keepers.Ghosts K.Denot) (k : IsSend K) where
+  archive_send : IsSend (archives.the_row K h)
+  archive_send = declared_send (archives.the_type K h) (as_row_send (row_field K) k, (histories.the_send, (front.the_send, tt)))
+
+  live_send : IsSend (lives.the_row K h)
+  live_send = view_send _ _ _ _ _ (declared_send (lives_inside.the_type K h) (traced_crosses.send, (outbox_send, (archive_send, tt))))
+
+module _ (N W K : RattleType) (g : naming.Ghosts N.Denot) (h : keepers.Ghosts K.Denot) (n : IsSend N) (w : IsSend W) (k : IsSend K) where
+  desk_send : IsSend (desks.the_row N W K g h)
+  desk_send = let rest = rest_send N g in view_send _ _ _ _ _ (declared_send (desks_inside.the_type N W K g h) (
+    live_send K h k,
     (
       as_row_send (row_field W) w,
       (
@@ -120,9 +126,9 @@ module _ (N W : RattleType) (g : naming.Ghosts N.Denot) (n : IsSend N) (w : IsSe
     ),
   ))
 
-  board_sync : IsSync (boards.the_row N W g)
+  board_sync : IsSync (boards.the_row N W K g h)
   board_sync = view_sync _ _ _ _ _
-      (declared_sync (boards_inside.the_type N W g) (search (desk_send, std.crosses, sendable) depth 12, (checked_crosses.sync, tt)))
+      (declared_sync (boards_inside.the_type N W K g h) (search (desk_send, std.crosses, sendable) depth 12, (checked_crosses.sync, tt)))
 
-  pub port_send : (a : NamedLft) → IsSend (ports.the_row a N W g)
-  port_send a = declared_send (ports.the_type a N W g) (shr_send a.mir a.lft _ board_sync, (search sendable depth 12, tt))
+  pub port_send : (a : NamedLft) → IsSend (ports.the_row a N W K g h)
+  port_send a = declared_send (ports.the_type a N W K g h) (shr_send a.mir a.lft _ board_sync, (search sendable depth 12, tt))

@@ -6,5 +6,6 @@ pub mod Fronts
 pub mod Kept
 pub mod Lasts
 pub mod Notes
+mod Stays
 pub mod Telling
 pub mod Trails

@@ -1,6 +1,7 @@
 pub mod Changes
 pub mod Codes
 pub mod Copies
+pub mod Keeping
 pub mod Marks
 pub mod Outgoing
 pub mod Tally

@@ -37,7 +37,7 @@ pub record Desked : Type 0 where
   pub left : ℕ
 
 -- by the books as many steps were taken, and as many changes, as the meter counts
-pub record Keeps (t : Told) (steps changes : ℕ) : Type 0 where
+pub record IsBooked (t : Told) (steps changes : ℕ) : Type 0 where
   pub counted : t.meter.count ≡ steps
   pub changed : t.meter.changes ≡ changes
 

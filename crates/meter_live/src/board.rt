@@ -10,7 +10,9 @@ ghost use Rattle.meter_live.specs.Changes.{Answers};
 ghost use Rattle.meter_live.specs.Codes.{step_code};
 ghost use Rattle.meter_live.specs.Tally.{Counts, HasSeen, IsUnused};
 ghost use Rattle.meter_live.specs.Told.{IsToldOf};
+ghost use Rattle.step_keeping.specs.Keeping.{KeepsNone};
 
+use crate::archive::Archive;
 use crate::desk::{BoardReader, Desk};
 use crate::fault::{LiveFault, PortFault, ReaderFault};
 use crate::history::{Front, History};
@@ -28,6 +30,7 @@ use std::alloc::Global;
 use std::marker::Model;
 use std::sync::ledger::Blank;
 use std::sync::{Mutex, MutexGuard, Wait};
+use step_keeping::keeper::Keeps;
 
 /// A board has at most so many ports, numbered from 0, each with a reader (own profile).
 pub const PORTS: u16 = 256;
@@ -58,12 +61,12 @@ impl Blanks {
 
 /// A live meter under a lock, with its plan beside the lock. Contracts see what was accepted.
 #[derive(Drop)]
-pub struct Board<N: Naming, W: Wait + Drop> {
-    desk: Mutex<Desk<N, W>>,
+pub struct Board<N: Naming, W: Wait + Drop, K: Keeps + Drop> {
+    desk: Mutex<Desk<N, W, K>>,
     checked: Checked,
 }
 
-impl<N: Naming, W: Wait + Drop> Model for Board<N, W> {
+impl<N: Naming, W: Wait + Drop, K: Keeps + Drop> Model for Board<N, W, K> {
     ghost use Rattle.std.specs.Prelude.{◌≡◌};
     ghost use Rattle.std.specs.Coded.{codes};
     ghost use Rattle.flow_checker.specs.Accepted.{Accepted};
@@ -80,8 +83,8 @@ impl<N: Naming, W: Wait + Drop> Model for Board<N, W> {
 
 /// What a thread asks by. It borrows the board, so that none outlives it.
 #[derive(Drop)]
-pub struct Port<'b, N: Naming, W: Wait + Drop> {
-    board: &'b Board<N, W>,
+pub struct Port<'b, N: Naming, W: Wait + Drop, K: Keeps + Drop> {
+    board: &'b Board<N, W, K>,
     number: u8,
 }
 
@@ -101,13 +104,13 @@ pub struct Closed {
 /// A board that wasn't closed, since there were fewer shares than opened ports. Both are handed back. Contracts see the shares, how
 /// many ports were opened, and how many could still be opened.
 #[derive(Drop)]
-pub struct NotAll<N: Naming, W: Wait + Drop> {
-    desk: Desk<N, W>,
+pub struct NotAll<N: Naming, W: Wait + Drop, K: Keeps + Drop> {
+    desk: Desk<N, W, K>,
     checked: Checked,
     shares: Vec<Share<N>>,
 }
 
-impl<N: Naming, W: Wait + Drop> Model for NotAll<N, W> {
+impl<N: Naming, W: Wait + Drop, K: Keeps + Drop> Model for NotAll<N, W, K> {
     ghost use Rattle.std.specs.Prelude.{◌≡◌, ◌<◌, vec_len};
     ghost use Rattle.std.specs.Coded.{codes};
     ghost use Rattle.meter_live.specs.Codes.{tally_code};
@@ -122,7 +125,7 @@ impl<N: Naming, W: Wait + Drop> Model for NotAll<N, W> {
     ghost invariant = { λ n. (n.checked ≡ N.accepted) × (vec_len n.shares < n.desk.opened) };
 }
 
-impl<N: Naming, W: Wait + Drop> NotAll<N, W> {
+impl<N: Naming, W: Wait + Drop, K: Keeps + Drop> NotAll<N, W, K> {
     /// How many ports were opened.
     pub fn opened(&self) -> usize
         ensures { result ≡ self.now.opened }
@@ -131,7 +134,7 @@ impl<N: Naming, W: Wait + Drop> NotAll<N, W> {
     }
 
     /// The board, which isn't closed, and the shares that were given.
-    pub fn into_parts(self) -> (Board<N, W>, Vec<Share<N>>)
+    pub fn into_parts(self) -> (Board<N, W, K>, Vec<Share<N>>)
         ensures { result.1.items ≡ self.shares }
     {
         let NotAll {
@@ -139,26 +142,25 @@ impl<N: Naming, W: Wait + Drop> NotAll<N, W> {
             checked,
             shares,
         } = self;
-        let board = Board {
-            desk: Mutex::new(desk),
-            checked,
-        };
-        (board, shares)
+        (Board::of(desk, checked), shares)
     }
 }
 
-impl<N: Naming, W: Wait + Drop> Board<N, W> {
-    /// Opens a board of a meter that no step has reached. Where memory is refused, what was accepted is given back.
+impl<N: Naming, W: Wait + Drop, K: Keeps + Drop> Board<N, W, K> {
+    /// Opens a board of a meter that no step has reached, of which nothing is kept yet. Where memory is refused, what was accepted is
+    /// given back.
     pub fn open(
         rt: W,
         alloc: Global,
         checked: Checked,
+        keeper: K,
         blanks: Blanks,
-    ) -> Result<Board<N, W>, Checked>
+    ) -> Result<Board<N, W, K>, Checked>
         requires plan { checked ≡ N.accepted }
         requires book { blanks.history ≡ N.book }
         requires steps { blanks.steps.name ≡ N.steps }
         requires changes { blanks.changes.name ≡ N.changes }
+        requires unkept { KeepsNone (K.kept checked.plan keeper) }
         ensures err { IfErr result (λ given. given ≡ checked) }
     {
         let Ok(beside) = checked.share() else {
@@ -170,11 +172,23 @@ impl<N: Naming, W: Wait + Drop> Board<N, W> {
             steps,
             changes,
         } = blanks;
-        let live = Live::of(&rt, alloc, checked, history, written, usize::from(PORTS))?;
-        Ok(Board {
-            desk: Mutex::new(Desk::new(rt, alloc, live, steps, changes)),
-            checked: beside,
-        })
+        let archive = Archive {
+            keeper,
+            history,
+            written,
+        };
+        let live = Live::of(&rt, alloc, checked, archive, usize::from(PORTS))?;
+        Ok(Board::of(Desk::new(rt, alloc, live, steps, changes), beside))
+    }
+
+    /// A board of this desk, with what was accepted beside the lock.
+    pub(crate) fn of(desk: Desk<N, W, K>, checked: Checked) -> Self
+        requires { checked ≡ N.accepted }
+    {
+        Board {
+            desk: Mutex::new(desk),
+            checked,
+        }
     }
 
     /// The plan, without the lock.
@@ -192,12 +206,12 @@ impl<N: Naming, W: Wait + Drop> Board<N, W> {
     }
 
     /// Holds the lock, to look at the meter with its trail: until the guard is let go no step is taken. Readers go on.
-    pub fn lock<R: Wait>(&self, rt: &R) -> MutexGuard<'_, Desk<N, W>> {
+    pub fn lock<R: Wait>(&self, rt: &R) -> MutexGuard<'_, Desk<N, W, K>> {
         self.desk.lock(rt)
     }
 
     /// A new port, and the share that counts what it takes.
-    pub fn port<R: Wait>(&self, rt: &R) -> Result<(Port<'_, N, W>, Share<N>), PortFault>
+    pub fn port<R: Wait>(&self, rt: &R) -> Result<(Port<'_, N, W, K>, Share<N>), PortFault>
         ensures { IfOk result (λ r. IsUnused r.1) }
     {
         let (number, share) = self.desk.lock(rt).open_port()?;
@@ -212,7 +226,7 @@ impl<N: Naming, W: Wait + Drop> Board<N, W> {
 
     /// Closes the board, once the shares of all opened ports are back: the numbers of steps and changes are their sums. It waits
     /// for the readers. The only error is that there are fewer shares than ports that were opened.
-    pub fn close<R: Wait>(self, rt: &R, shares: Vec<Share<N>>) -> Result<Closed, NotAll<N, W>>
+    pub fn close<R: Wait>(self, rt: &R, shares: Vec<Share<N>>) -> Result<Closed, NotAll<N, W, K>>
         ensures count { IfOk result (λ c. c.count ≡ sum_by (λ s. s.steps) shares.items) }
         ensures changes { IfOk result (λ c. c.changes ≡ sum_by (λ s. s.changes) shares.items) }
         ensures plan { IfOk result (λ c. c.plan ≡ N.accepted) }
@@ -249,7 +263,7 @@ impl<N: Naming, W: Wait + Drop> Board<N, W> {
     }
 }
 
-impl<'b, N: Naming, W: Wait + Drop> Port<'b, N, W> {
+impl<'b, N: Naming, W: Wait + Drop, K: Keeps + Drop> Port<'b, N, W, K> {
     /// The plan, without the lock.
     pub fn plan(&self) -> &'b Plan
         ensures { result.now ≡ N.accepted.plan }

@@ -11,6 +11,7 @@ ghost use Rattle.meter_live.specs.Changes.{Answers, answer_after, is_get, takes_
 ghost use Rattle.meter_live.specs.Marks.{LieOnOne};
 ghost use Rattle.meter_live.specs.Tally.{Counts, HasSeen, IsUnused};
 ghost use Rattle.meter_live.specs.Told.{IsToldOf, acted, posted, put_by};
+ghost use Rattle.step_keeping.specs.Keeping.{IsKept};
 
 use crate::fault::{LiveFault, PortFault, ReadRefused, ReaderFault};
 use crate::live::Live;
@@ -24,10 +25,12 @@ use meter_core::judged::Judged;
 use meter_core::reply::Reply;
 use meter_core::step::Step;
 use object_model::meter::Meter;
+use object_model::plan::Plan;
 use std::alloc::Global;
 use std::marker::{Model, PhantomData};
 use std::sync::Wait;
 use std::sync::ledger::{Blank, Book};
+use step_keeping::keeper::{Keeps, Unkept};
 
 /// A reader of the published copies of a board's meter. Contracts see the steps that it has seen.
 #[derive(Drop)]
@@ -77,8 +80,8 @@ impl<N: Naming> BoardReader<N> {
 
 /// A live meter and the books of what was taken. It keeps a handle, since its drop waits for the readers. Contracts see the meter, how
 /// many ports were opened, and how many could still be opened.
-pub struct Desk<N: Naming, W: Wait + Drop> {
-    live: Live,
+pub struct Desk<N: Naming, W: Wait + Drop, K: Keeps + Drop> {
+    live: Live<K>,
     rt: W,
     steps: Book<StepLedger<N>>,
     changes: Book<ChangeLedger<N>>,
@@ -89,13 +92,13 @@ pub struct Desk<N: Naming, W: Wait + Drop> {
     of: PhantomData<N>,
 }
 
-impl<N: Naming, W: Wait + Drop> Model for Desk<N, W> {
+impl<N: Naming, W: Wait + Drop, K: Keeps + Drop> Model for Desk<N, W, K> {
     ghost use Rattle.std.specs.Prelude.{◌≡◌, ◌+◌, vec_len};
     ghost use Rattle.std.specs.Coded.{codes};
     ghost use Rattle.logbook.specs.Pages.{book_coded};
     ghost use Rattle.meter_theory.specs.PlanCode.{plan_code, state_code};
     ghost use Rattle.meter_live.specs.Codes.{step_code, taken_code};
-    ghost use Rattle.meter_live.specs.Told.{Desked, Keeps};
+    ghost use Rattle.meter_live.specs.Told.{Desked, IsBooked};
 
     ghost Value = { Desked };
 
@@ -104,17 +107,18 @@ impl<N: Naming, W: Wait + Drop> Model for Desk<N, W> {
     ghost view = { λ d. record { live = d.live; opened = vec_len d.ports; left = d.left } };
 
     ghost invariant = { λ d. (d.live.meter.accepted ≡ N.accepted) × (d.live.book ≡ N.book)
-        × Keeps d.live d.steps.total d.changes.total × (d.left + vec_len d.ports ≡ 256) };
+        × IsBooked d.live d.steps.total d.changes.total × (d.left + vec_len d.ports ≡ 256) };
 }
 
-impl<N: Naming, W: Wait + Drop> Desk<N, W> {
+impl<N: Naming, W: Wait + Drop, K: Keeps + Drop> Desk<N, W, K> {
     /// A desk of a meter that no step has reached, without ports.
-    pub(crate) fn new(rt: W, alloc: Global, live: Live, steps: Blank, changes: Blank) -> Desk<N, W>
+    pub(crate) fn new(rt: W, alloc: Global, live: Live<K>, steps: Blank, changes: Blank) -> Self
         requires plan { live.meter.accepted ≡ N.accepted }
         requires book { live.book ≡ N.book }
         requires unused { (live.meter.count ≡ 0) × (live.meter.changes ≡ 0) }
         requires steps { (steps.name ≡ N.steps) × (steps.parts ≡ 256) }
         requires changes { (changes.name ≡ N.changes) × (changes.parts ≡ 256) }
+        ensures { result.live ≡ live }
     {
         let (steps, all_steps) = steps.open::<StepLedger<N>>();
         let (changes, all_changes) = changes.open::<ChangeLedger<N>>();
@@ -141,6 +145,21 @@ impl<N: Naming, W: Wait + Drop> Desk<N, W> {
         ensures { result.now ≡ self.now.live.meter }
     {
         self.live.meter()
+    }
+
+    /// What keeps the steps: the meter's state is the run of those that are kept, where these are known.
+    pub fn keeper(&self) -> &K
+        ensures { IsKept N.accepted.plan (K.kept N.accepted.plan result.now) self.now.live.meter.state }
+    {
+        self.live.keeper()
+    }
+
+    /// The plan, which was accepted.
+    pub(crate) fn plan(&self) -> &Plan
+        ensures plan { result.now ≡ N.accepted.plan }
+        ensures accepted { self.now.live.meter.accepted ≡ N.accepted }
+    {
+        self.live.plan()
     }
 
     /// One step of a port, which its share counts.
@@ -311,7 +330,34 @@ impl<N: Naming, W: Wait + Drop> Desk<N, W> {
     }
 }
 
-impl<N: Naming, W: Wait + Drop> Drop for Desk<N, W> {
+impl<N: Naming, W: Wait + Drop> Desk<N, W, Unkept> {
+    /// The same desk, whose meter has its further steps kept behind those of which it is the run.
+    pub(crate) fn kept_by<K: Keeps + Drop>(self, keeper: K) -> Desk<N, W, K>
+        requires { IsKept N.accepted.plan (K.kept N.accepted.plan keeper) self.live.meter.state }
+        ensures { result ≡ self }
+    {
+        let Desk {
+            live,
+            rt,
+            steps,
+            changes,
+            left,
+            ports,
+            of: _,
+        } = self;
+        Desk {
+            live: live.kept_by(keeper),
+            rt,
+            steps,
+            changes,
+            left,
+            ports,
+            of: PhantomData,
+        }
+    }
+}
+
+impl<N: Naming, W: Wait + Drop, K: Keeps + Drop> Drop for Desk<N, W, K> {
     fn drop(self) {
         let Self {
             live,
@@ -327,7 +373,11 @@ impl<N: Naming, W: Wait + Drop> Drop for Desk<N, W> {
 }
 
 /// Counts a change of a live meter on a share, which knows the whole history then.
-fn count_change<N: Naming>(live: &Live, changes: &mut Book<ChangeLedger<N>>, share: &mut Share<N>)
+fn count_change<N: Naming, K: Keeps + Drop>(
+    live: &Live<K>,
+    changes: &mut Book<ChangeLedger<N>>,
+    share: &mut Share<N>,
+)
     requires book { live.now.book ≡ N.book }
     requires kept { live.now.meter.changes ≡ changes.old.total + 1 }
     ensures total { changes.new.total ≡ changes.old.total + 1 }

@@ -2,6 +2,7 @@
 ghost use Rattle.std.specs.Prelude.{◌≡◌};
 
 use cosem_data::memory::Memory;
+use step_keeping::fault::KeepFault;
 
 /// Why a step was not taken.
 #[derive(Clone, Copy, PartialEq, Eq, Debug)]
@@ -10,6 +11,10 @@ pub enum LiveFault {
     Memory,
     /// No step can be counted any more: 2^64 - 1 were taken.
     Full,
+    /// The step can't be kept, and no crash leaves it.
+    NotKept,
+    /// A crash may leave the step or not: it wasn't taken, and what is kept is no longer known.
+    InDoubt,
 }
 
 impl From<Memory> for LiveFault {
@@ -20,6 +25,21 @@ impl From<Memory> for LiveFault {
 
     fn from(_memory: Memory) -> LiveFault {
         LiveFault::Memory
+    }
+}
+
+impl From<KeepFault> for LiveFault {
+    ghost use Rattle.std.specs.Prelude.{◌≡◌};
+    ghost use Rattle.meter_live.specs.Keeping.{fault_of};
+
+    ghost from_gives = { λ kept fault. fault ≡ fault_of kept };
+
+    fn from(fault: KeepFault) -> LiveFault {
+        match fault {
+            KeepFault::Memory => LiveFault::Memory,
+            KeepFault::Unwritten | KeepFault::NotKept => LiveFault::NotKept,
+            KeepFault::InDoubt => LiveFault::InDoubt,
+        }
     }
 }
 

@@ -9,6 +9,7 @@
 //! published of it (`Told`), and the rule of the published copies (`Copies`).
 #![tactic(auto)]
 
+mod archive;
 pub mod board;
 pub mod change;
 pub mod desk;
@@ -19,7 +20,9 @@ pub mod names;
 mod outbox;
 mod pen;
 pub mod reader;
+pub mod resuming;
 mod rule;
 pub mod share;
 pub mod shown;
 pub mod traced;
+mod unmoved;

@@ -6,7 +6,9 @@ ghost use Rattle.meter_core.specs.StepView.{reply_of, step_of};
 ghost use Rattle.meter_theory.specs.States.{IsState};
 ghost use Rattle.meter_live.specs.Marks.{LieOnOne};
 ghost use Rattle.meter_live.specs.Outgoing.{ShowsSame};
+ghost use Rattle.step_keeping.specs.Keeping.{IsKept, KeepsNone};
 
+use crate::archive::Archive;
 use crate::change::Change;
 use crate::fault::LiveFault;
 use crate::history::{Front, History};
@@ -22,23 +24,25 @@ use object_model::plan::Plan;
 use std::alloc::Global;
 use std::marker::Model;
 use std::sync::Wait;
+use step_keeping::keeper::{Keeps, Unkept};
 
-/// A meter of an accepted plan, which takes steps, and publishes those that may have changed it. It can't be dropped: it ends by
-/// [`Live::end`], which waits for the readers.
-pub struct Live {
+/// A meter of an accepted plan, which takes steps, has those kept that change it, and publishes those that may have changed it. Its state
+/// is the run of the steps that are kept, where these are known. It can't be dropped: it ends by [`Live::end`], which waits for the
+/// readers.
+pub struct Live<K: Keeps + Drop> {
     meter: TracedMeter,
     outbox: Outbox,
-    history: History,
-    written: Front,
+    archive: Archive<K>,
 }
 
-impl Model for Live {
+impl<K: Keeps + Drop> Model for Live<K> {
     ghost use Rattle.std.specs.Prelude.{◌≡◌};
     ghost use Rattle.std.specs.Coded.{codes};
     ghost use Rattle.logbook.specs.Pages.{book_coded};
     ghost use Rattle.meter_theory.specs.PlanCode.{plan_code, state_code};
     ghost use Rattle.meter_live.specs.Codes.{step_code, taken_code};
     ghost use Rattle.meter_live.specs.Told.{Told, IsTold, told_by, written_of};
+    ghost use Rattle.step_keeping.specs.Keeping.{IsKept};
 
     ghost Value = { Told };
 
@@ -47,28 +51,36 @@ impl Model for Live {
     ghost view = { λ l. told_by l.meter l.outbox };
 
     ghost invariant = { λ l. IsTold l.outbox.plan (told_by l.meter l.outbox)
-        × (l.history ≡ l.outbox.book) × (l.written ≡ written_of (told_by l.meter l.outbox)) };
+        × (l.archive.written ≡ written_of (told_by l.meter l.outbox))
+        × IsKept l.meter.accepted.plan (K.kept l.meter.accepted.plan l.archive.keeper) l.meter.state };
 }
 
-impl Live {
+impl<K: Keeps + Drop> Live<K> {
     ghost use Rattle.meter_live.specs.Trail.{IsTraced, reply_now, unstepped};
     ghost use Rattle.meter_live.specs.Told.{Told, IsPublished, acted, posted, written_of};
 
-    /// A meter that no step has reached, with room for so many readers at once. Where memory is refused, what was accepted is given
-    /// back.
+    /// A meter that no step has reached, of which nothing is kept yet, with room for so many readers at once. Where memory is refused,
+    /// what was accepted is given back.
     pub fn new<R: Wait>(
         rt: &R,
         alloc: Global,
         checked: Checked,
+        keeper: K,
         readers: usize,
-    ) -> Result<Live, Checked>
-        requires { (0 < readers) × (readers < 2 ^ 32) }
+    ) -> Result<Live<K>, Checked>
+        requires readers { (0 < readers) × (readers < 2 ^ 32) }
+        requires unkept { KeepsNone (K.kept checked.plan keeper) }
         ensures ok { IfOk result (λ l. (l.meter ≡ unstepped checked) × (l.published ≡ [])
             × (l.pending ≡ [])) }
         ensures err { IfErr result (λ given. given ≡ checked) }
     {
         let (history, written) = History::open();
-        Live::of(rt, alloc, checked, history, written, readers)
+        let archive = Archive {
+            keeper,
+            history,
+            written,
+        };
+        Live::of(rt, alloc, checked, archive, readers)
     }
 
     /// A meter that no step has reached, whose published steps will be this history.
@@ -76,23 +88,22 @@ impl Live {
         rt: &R,
         alloc: Global,
         checked: Checked,
-        history: History,
-        written: Front,
+        archive: Archive<K>,
         readers: usize,
-    ) -> Result<Live, Checked>
+    ) -> Result<Live<K>, Checked>
         requires readers { (0 < readers) × (readers < 2 ^ 32) }
-        requires empty { (written.book ≡ history) × (written.steps ≡ []) }
+        requires empty { archive.written.steps ≡ [] }
+        requires unkept { KeepsNone (K.kept checked.plan archive.keeper) }
         ensures ok { IfOk result (λ l. l
-            ≡ record { meter = unstepped checked; book = history; published = []; pending = [] }) }
+            ≡ record { meter = unstepped checked; book = archive.history; published = []; pending = [] }) }
         ensures err { IfErr result (λ given. given ≡ checked) }
     {
         let meter = TracedMeter::new(alloc, checked)?;
-        match Outbox::new(rt, alloc, meter.checked(), &written, readers) {
+        match Outbox::new(rt, alloc, meter.checked(), &archive.written, readers) {
             Ok(outbox) => Ok(Live {
                 meter,
                 outbox,
-                history,
-                written,
+                archive,
             }),
             Err(_) => Err(meter.into_parts().0),
         }
@@ -122,11 +133,18 @@ impl Live {
         &self.meter
     }
 
+    /// What keeps the steps: the meter's state is the run of those that are kept, where these are known.
+    pub fn keeper(&self) -> &K
+        ensures { IsKept self.now.meter.accepted.plan (K.kept self.now.meter.accepted.plan result.now) self.now.meter.state }
+    {
+        &self.archive.keeper
+    }
+
     /// The whole history of the steps that may have changed the meter.
     pub(crate) fn written(&self) -> &Front
         ensures { result.now ≡ written_of self.now }
     {
-        &self.written
+        &self.archive.written
     }
 
     /// A reader that has seen what is published. None where `left_right` gave no reading end, as where all its room is taken.
@@ -153,8 +171,8 @@ impl Live {
     }
 
     /// Takes one step of a port, which the plan has judged, and answers it: the state afterwards and the reply are those of the
-    /// old state, the step stands behind the trail, and one that may change the meter in the history, behind the pending ones.
-    /// Where it is refused, nothing changes.
+    /// old state, the step stands behind the trail, and one that may change the meter in the history, behind the pending ones. One by
+    /// which the meter doesn't stay as it was is kept first. Where it is refused, nothing changes.
     pub fn act(&mut self, alloc: Global, port: u8, judged: Judged) -> Result<Reply, LiveFault>
         requires { IsJudged self.old.meter.accepted.plan judged }
         ensures reply { IfOk result (λ reply. reply_of reply
@@ -166,8 +184,7 @@ impl Live {
         let Live {
             meter,
             outbox,
-            history,
-            written,
+            archive,
         } = self;
         if meter.is_full() {
             return Err(LiveFault::Full);
@@ -176,7 +193,7 @@ impl Live {
             return Ok(meter.pass(alloc, port, judged)?);
         }
         let change = roomy_change(alloc, outbox, &judged)?;
-        let reply = meter.act(alloc, port, judged, history, written, &change)?;
+        let reply = meter.act(alloc, port, judged, archive, &change)?;
         outbox.put(change);
         Ok(reply)
     }
@@ -190,7 +207,7 @@ impl Live {
             × IsPrefix reader.old.seen reader.new.seen) }
         ensures err { OnErr result ((self.new ≡ self.old) × (reader.new ≡ reader.old)) }
     {
-        self.outbox.tell(rt, &self.written, reader)
+        self.outbox.tell(rt, &self.archive.written, reader)
     }
 
     /// Waits for the readers, and leaves what was accepted, the state, and the numbers of steps and changes.
@@ -202,8 +219,7 @@ impl Live {
         let Live {
             meter,
             outbox,
-            history: _history,
-            written: _written,
+            archive: _archive,
         } = self;
         outbox.end(rt);
         meter.into_parts()
@@ -212,6 +228,35 @@ impl Live {
     /// Ends the live meter, after waiting for its readers.
     pub fn end<R: Wait>(self, rt: &R) {
         let _parts = self.into_parts(rt);
+    }
+}
+
+impl Live<Unkept> {
+    /// The same meter, whose further steps are kept behind those of which it is the run.
+    pub(crate) fn kept_by<K: Keeps + Drop>(self, keeper: K) -> Live<K>
+        requires { IsKept self.meter.accepted.plan (K.kept self.meter.accepted.plan keeper) self.meter.state }
+        ensures { result ≡ self }
+    {
+        let Live {
+            meter,
+            outbox,
+            archive,
+        } = self;
+        let Archive {
+            keeper: _unkept,
+            history,
+            written,
+        } = archive;
+        let archive = Archive {
+            keeper,
+            history,
+            written,
+        };
+        Live {
+            meter,
+            outbox,
+            archive,
+        }
     }
 }
 

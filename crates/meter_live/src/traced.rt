@@ -6,12 +6,16 @@ ghost use Rattle.meter_core.specs.StepView.{reply_of, step_of};
 ghost use Rattle.meter_theory.specs.Replies.{reply_to};
 ghost use Rattle.meter_theory.specs.States.{IsState};
 ghost use Rattle.meter_theory.specs.Steps.{next};
+ghost use Rattle.meter_live.specs.Keeping.{kept_by};
 ghost use Rattle.meter_live.specs.Marks.{longer};
 ghost use Rattle.meter_live.specs.Trail.{HasRoom, behind, closed_by};
 ghost use Rattle.meter_live.specs.declared.traced.TheConstants as limits;
+ghost use Rattle.step_keeping.specs.Keeping.{IsKept, StillKept};
 
+use crate::archive::{Answered, Archive};
 use crate::change::Change;
-use crate::history::{Front, History};
+use crate::fault::LiveFault;
+use crate::unmoved::is_unmoved;
 use cosem_data::memory::Memory;
 use flow_checker::check::Checked;
 use meter_core::apply::{Applied, apply_judged};
@@ -24,6 +28,7 @@ use object_model::meter::Meter;
 use object_model::plan::Plan;
 use std::alloc::Global;
 use std::marker::Model;
+use step_keeping::keeper::Keeps;
 
 /// A trail has at most so many entries (own profile).
 pub(crate) const TRAIL: usize = 4096;
@@ -226,27 +231,29 @@ impl TracedMeter {
         Ok(told)
     }
 
-    /// Takes a step that may change the meter, writes it into the history, and answers it. The only error is that memory was
-    /// refused, or that the history had others, and then nothing changes.
-    pub(crate) fn act(
+    /// Takes a step that may change the meter, has it kept and writes it into the history, and answers it. The only error is that memory
+    /// was refused, that the step isn't kept, or that the history had others, and then nothing changes, but that it may no longer be
+    /// known what is kept.
+    pub(crate) fn act<K: Keeps + Drop>(
         &mut self,
         alloc: Global,
         port: u8,
         judged: Judged,
-        history: &History,
-        written: &mut Front,
+        archive: &mut Archive<K>,
         change: &Change,
-    ) -> Result<Reply, Memory>
+    ) -> Result<Reply, LiveFault>
         requires countable { self.old.count < 2 ^ 64 - 1 }
         requires judged { IsJudged self.old.accepted.plan judged }
         requires loud { is_changing self.old.accepted.plan (step_of judged.step) ≡ true }
-        requires book { history.now ≡ written.old.book }
+        requires kept { IsKept self.old.accepted.plan (K.kept self.old.accepted.plan archive.old.keeper) self.old.state }
         requires change { change.now ≡ step_of judged.step }
         ensures reply { IfOk result (λ reply. reply_of reply
             ≡ reply_now self.old (step_of judged.step)) }
         ensures live { OnOk result (self.new ≡ after self.old port (step_of judged.step)) }
-        ensures written { OnOk result (written.new ≡ longer written.old (step_of judged.step)) }
-        ensures err { OnErr result ((self.new ≡ self.old) × (written.new ≡ written.old)) }
+        ensures written { OnOk result (archive.new.written ≡ longer archive.old.written (step_of judged.step)) }
+        ensures kept { IsKept self.old.accepted.plan (K.kept self.old.accepted.plan archive.new.keeper) self.new.state }
+        ensures counted { result ≡ Err LiveFault.Full → ⊥ }
+        ensures err { OnErr result ((self.new ≡ self.old) × (archive.new.written ≡ archive.old.written)) }
     {
         let plan = self.checked.plan();
         let noted = taken(
@@ -254,9 +261,9 @@ impl TracedMeter {
             plan,
             &mut self.state,
             &mut self.trail,
+            port,
             &judged,
-            history,
-            written,
+            archive,
             change,
         )?;
         let told = put_entry(&mut self.trail, &mut self.opening, port, judged, noted);
@@ -303,21 +310,22 @@ fn answered(
     })
 }
 
-/// Makes room for a step, takes it and writes it into the history. All that can be refused comes before the first change that
-/// stays.
-fn taken(
+/// Makes room for a step, takes it, has it kept and writes it into the history. All that can be refused comes before the first change
+/// that stays.
+fn taken<K: Keeps + Drop>(
     alloc: Global,
     plan: &Plan,
     state: &mut Meter,
     trail: &mut Vec<Entry>,
+    port: u8,
     judged: &Judged,
-    history: &History,
-    written: &mut Front,
+    archive: &mut Archive<K>,
     change: &Change,
-) -> Result<Noted, Memory>
+) -> Result<Noted, LiveFault>
     requires of_plan { IsState plan.now state.old }
     requires judged { IsJudged plan.now judged.now }
-    requires book { history.now ≡ written.old.book }
+    requires kept { IsKept plan.now (K.kept plan.now archive.old.keeper) state.old }
+    requires change { change.now ≡ step_of judged.now.step }
     ensures ok { OnOk result (state.new ≡ next plan.now state.old (step_of judged.now.step)) }
     ensures fits { IsState plan.now state.new }
     ensures trail { trail.new.items ≡ trail.old.items }
@@ -325,11 +333,13 @@ fn taken(
     ensures closed { IfOk result (λ noted. noted.closed ≡ closed_by trail.old.items state.old) }
     ensures reply { IfOk result (λ noted. (reply_of noted.reply
         ≡ reply_to plan.now state.old (step_of judged.now.step)) × (noted.told ≡ noted.reply)) }
-    ensures written { OnOk result (written.new ≡ longer written.old change.now) }
-    ensures err { OnErr result ((state.new ≡ state.old) × (written.new ≡ written.old)) }
+    ensures written { OnOk result (archive.new.written ≡ longer archive.old.written (step_of judged.now.step)) }
+    ensures kept { IsKept plan.now (K.kept plan.now archive.new.keeper) state.new }
+    ensures counted { result ≡ Err LiveFault.Full → ⊥ }
+    ensures err { OnErr result ((state.new ≡ state.old) × (archive.new.written ≡ archive.old.written)) }
 {
     let closed = make_room(alloc, trail, state)?;
-    let (reply, told) = apply_written(alloc, plan, state, judged, history, written, change)?;
+    let (reply, told) = apply_kept(alloc, plan, state, port, judged, archive, change)?;
     Ok(Noted {
         closed,
         reply,
@@ -349,48 +359,68 @@ fn answer(alloc: Global, plan: &Plan, meter: &mut Meter, judged: &Judged) -> Res
     Ok(reply)
 }
 
-/// Takes a step and writes it into the history, and answers it twice: for the trail and for who asked. The only error is that
-/// memory was refused, or that the history had others; then the meter and the beginning are as they were.
-fn apply_written(
+/// Takes a step, has it kept and writes it into the history, and answers it twice: for the trail and for who asked. Where that is refused
+/// the meter and the history are as they were.
+fn apply_kept<K: Keeps + Drop>(
     alloc: Global,
     plan: &Plan,
     meter: &mut Meter,
+    port: u8,
     judged: &Judged,
-    history: &History,
-    written: &mut Front,
+    archive: &mut Archive<K>,
     change: &Change,
-) -> Result<(Reply, Reply), Memory>
+) -> Result<(Reply, Reply), LiveFault>
     requires of_plan { IsState plan.now meter.old }
     requires judged { IsJudged plan.now judged.now }
-    requires book { history.now ≡ written.old.book }
+    requires kept { IsKept plan.now (K.kept plan.now archive.old.keeper) meter.old }
+    requires change { change.now ≡ step_of judged.now.step }
     ensures state { IsState plan.now meter.new }
     ensures ok { OnOk result (meter.new ≡ next plan.now meter.old (step_of judged.now.step)) }
     ensures replies { IfOk result (λ r. (reply_of r.0
         ≡ reply_to plan.now meter.old (step_of judged.now.step)) × (r.1 ≡ r.0)) }
-    ensures written { OnOk result (written.new ≡ longer written.old change.now) }
-    ensures err { OnErr result ((meter.new ≡ meter.old) × (written.new ≡ written.old)) }
+    ensures written { OnOk result (archive.new.written ≡ longer archive.old.written (step_of judged.now.step)) }
+    ensures kept { IsKept plan.now (K.kept plan.now archive.new.keeper) meter.new }
+    ensures counted { result ≡ Err LiveFault.Full → ⊥ }
+    ensures err { OnErr result ((meter.new ≡ meter.old) × (archive.new.written ≡ archive.old.written)) }
 {
     let Applied { reply, back } = apply_judged(alloc, plan, meter, judged)?;
-    if let Ok(told) = reply.try_clone(alloc) {
-        if write(history, written, change) {
-            return Ok((reply, told));
+    let is_same = is_unmoved(plan, meter, &back);
+    let answered = Answered {
+        port,
+        change,
+        reply: &reply,
+    };
+    match settle(alloc, plan, is_same, answered, archive) {
+        Ok(told) => {
+            drop(back);
+            Ok((reply, told))
+        }
+        Err(fault) => {
+            take_back(plan, meter, back);
+            Err(fault)
         }
     }
-    take_back(plan, meter, back);
-    Err(Memory)
 }
 
-/// Writes a step into the history, behind a beginning of it, and says whether the history had no others there.
-fn write(history: &History, written: &mut Front, change: &Change) -> bool
-    requires { history.now ≡ written.old.book }
-    ensures { written.new ≡ cond result (longer written.old change.now) written.old }
+/// Copies the reply to a step for who asked, has the step kept, and writes it into the history.
+fn settle<K: Keeps + Drop>(
+    alloc: Global,
+    plan: &Plan,
+    is_same: bool,
+    answered: Answered<'_>,
+    archive: &mut Archive<K>,
+) -> Result<Reply, LiveFault>
+    ensures told { IfOk result (λ told. told ≡ answered.entry.reply.now) }
+    ensures written { OnOk result (archive.new.written ≡ longer archive.old.written answered.entry.change.now) }
+    ensures kept { OnOk result (K.kept plan.now archive.new.keeper
+        ≡ kept_by is_same (K.kept plan.now archive.old.keeper) answered.entry.change.now) }
+    ensures err { OnErr result ((archive.new.written ≡ archive.old.written)
+        × StillKept (K.kept plan.now archive.old.keeper) (K.kept plan.now archive.new.keeper)) }
+    ensures counted { result ≡ Err LiveFault.Full → ⊥ }
 {
-    let mut front = written.again();
-    if !front.add(history, change) {
-        return false;
-    }
-    *written = front;
-    true
+    let told = answered.reply.try_clone(alloc)?;
+    archive.put(alloc, plan, is_same, answered)?;
+    Ok(told)
 }
 
 /// Makes room for an entry. Where the trail is full it is to be closed, and a copy of the state is given. The only error is that

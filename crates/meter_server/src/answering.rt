@@ -26,6 +26,8 @@ use fleet_audit::telling::{audit_texts, audit_texts_aloud};
 use fleet_audit::watch::Unwatched;
 use flow_checker::check::Checked;
 use live_server::serving::{Place, serve_at};
+use live_server::sitting::Manners;
+use peer_watch::rules::Rules;
 use std::alloc::Global;
 use std::io::{Read, Write};
 use std::net::{Net, TcpListener, TcpStream};
@@ -42,6 +44,17 @@ use verdict::Verdict;
 const DEMO_SOURCE: Source<'static> = Source {
     file: "demo.toml",
     text: DEMO,
+};
+
+/// What holds of the connections of a served meter: 64 at once; one that sent nothing whole for 180 seconds is closed (IEC 62056-6-2,
+/// TCP-UDP setup, inactivity_time_out); the answer waits half a second behind the first refused association of a connection.
+const MANNERS: Manners = Manners {
+    seats: 64,
+    rules: Rules {
+        idle: 180,
+        penalty: 500,
+    },
+    is_verbose: false,
 };
 
 /// Does what a command asks for.
@@ -163,6 +176,7 @@ fn place_of(bind: &str, port: NonZeroU16, sessions: u64) -> Place<'_>
         address: bind,
         port,
         sessions,
+        manners: MANNERS,
     }
 }
 
@@ -306,7 +320,12 @@ fn serve_files<H, F, I, E>(
     errors: &mut E,
 ) -> Outcome
 where
-    H: AllocGlobal + Net<Stream = TcpStream, Listener = TcpListener> + Threads + Wait + Sync,
+    H: AllocGlobal
+        + Clock
+        + Net<Stream = TcpStream, Listener = TcpListener>
+        + Threads
+        + Wait
+        + Sync,
     F: TextFiles,
     I: Read + Send,
     E: Write + Send,

@@ -16,21 +16,27 @@ use std::alloc::Global;
 use std::process::Abort;
 use std::sync::Wait;
 use std::test::Fail;
+use step_keeping::keeper::Unkept;
 
 /// A live meter of the accepted plan. Where memory is refused it is made once more of what was given back.
-fn begun<R: Wait>(rt: &R, alloc: Global) -> Result<Live, Fail> {
-    let checked = match Live::new(rt, alloc, accepted(alloc, TEXT)?, 1) {
+fn begun<R: Wait>(rt: &R, alloc: Global) -> Result<Live<Unkept>, Fail> {
+    let checked = match Live::new(rt, alloc, accepted(alloc, TEXT)?, Unkept, 1) {
         Ok(live) => return Ok(live),
         Err(checked) => checked,
     };
-    match Live::new(rt, alloc, checked, 1) {
+    match Live::new(rt, alloc, checked, Unkept, 1) {
         Ok(live) => Ok(live),
         Err(_) => Err("refused once more".into()),
     }
 }
 
 /// Takes a step by port 7. Where memory is refused nothing was counted or kept, and the step is taken once more.
-fn taken(rt: &impl Abort, alloc: Global, live: &mut Live, step: &Step) -> Result<Reply, Fail>
+fn taken(
+    rt: &impl Abort,
+    alloc: Global,
+    live: &mut Live<Unkept>,
+    step: &Step,
+) -> Result<Reply, Fail>
     ensures { live.new.book ≡ live.old.book }
 {
     let count = live.meter().count();
@@ -47,14 +53,14 @@ fn taken(rt: &impl Abort, alloc: Global, live: &mut Live, step: &Step) -> Result
 }
 
 /// A GET of the register is answered by its value at the start.
-fn takes_get(rt: &impl Abort, alloc: Global, live: &mut Live) -> Result<(), Fail> {
+fn takes_get(rt: &impl Abort, alloc: Global, live: &mut Live<Unkept>) -> Result<(), Fail> {
     let number = number_in(&taken(rt, alloc, live, &get_energy())?);
     assert!(rt; number == Some(u64::from(ENERGY)));
     Ok(())
 }
 
 /// A value that comes into the register has no answer.
-fn takes_input(rt: &impl Abort, alloc: Global, live: &mut Live) -> Result<(), Fail>
+fn takes_input(rt: &impl Abort, alloc: Global, live: &mut Live<Unkept>) -> Result<(), Fail>
     ensures { live.new.book ≡ live.old.book }
 {
     let is_quiet = is_quiet(&taken(rt, alloc, live, &energy_is(5))?);
@@ -63,7 +69,7 @@ fn takes_input(rt: &impl Abort, alloc: Global, live: &mut Live) -> Result<(), Fa
 }
 
 /// So many steps were taken, and the trail has so many entries.
-fn has_taken(rt: &impl Abort, live: &Live, count: u64, entries: usize) {
+fn has_taken(rt: &impl Abort, live: &Live<Unkept>, count: u64, entries: usize) {
     assert!(rt; live.meter().count() == count);
     assert!(rt; live.meter().trail().len() == entries);
 }
@@ -72,7 +78,7 @@ fn has_taken(rt: &impl Abort, live: &Live, count: u64, entries: usize) {
 fn take_past_the_trail(
     rt: &impl Abort,
     alloc: Global,
-    live: &mut Live,
+    live: &mut Live<Unkept>,
     first: &Step,
 ) -> Result<(), Fail> {
     taken(rt, alloc, live, first)?;
@@ -88,7 +94,7 @@ fn take_past_the_trail(
 }
 
 /// What the cells hold in the state now.
-fn values_now(alloc: Global, live: &Live) -> Result<Vec<Data>, Fail> {
+fn values_now(alloc: Global, live: &Live<Unkept>) -> Result<Vec<Data>, Fail> {
     live.known();
     let mut values = Vec::new(alloc);
     for cell in &live.plan().cells(alloc)? {
@@ -98,7 +104,7 @@ fn values_now(alloc: Global, live: &Live) -> Result<Vec<Data>, Fail> {
 }
 
 /// What they hold in the state where the trail begins.
-fn values_where_it_begins(alloc: Global, live: &Live) -> Result<Vec<Data>, Fail> {
+fn values_where_it_begins(alloc: Global, live: &Live<Unkept>) -> Result<Vec<Data>, Fail> {
     live.known();
     let mut values = Vec::new(alloc);
     for cell in &live.plan().cells(alloc)? {
@@ -108,7 +114,7 @@ fn values_where_it_begins(alloc: Global, live: &Live) -> Result<Vec<Data>, Fail>
 }
 
 /// The alarm in the state where the trail begins.
-fn alarm_where_it_begins(alloc: Global, live: &Live) -> Result<Option<u64>, Fail> {
+fn alarm_where_it_begins(alloc: Global, live: &Live<Unkept>) -> Result<Option<u64>, Fail> {
     live.known();
     let opening = live.meter().opening();
     let value = opening.value(alloc, live.plan(), &ALARM_CELL)?;
@@ -119,7 +125,7 @@ fn alarm_where_it_begins(alloc: Global, live: &Live) -> Result<Option<u64>, Fail
 fn is_closed(
     rt: &impl Abort,
     alloc: Global,
-    live: &mut Live,
+    live: &mut Live<Unkept>,
     first: &Step,
     alarm: u64,
 ) -> Result<(), Fail> {
@@ -172,7 +178,7 @@ fn sees(rt: &impl Abort, alloc: Global, reader: &mut Reader, number: u64)
 fn is_told<R: Wait + Abort>(
     rt: &R,
     alloc: Global,
-    live: &mut Live,
+    live: &mut Live<Unkept>,
     reader: &mut Reader,
 ) -> Result<(), Fail>
     requires { reader.old.book ≡ live.old.book }
@@ -187,7 +193,11 @@ fn is_told<R: Wait + Abort>(
     Ok(())
 }
 
-fn is_told_from_start<R: Wait + Abort>(rt: &R, alloc: Global, live: &mut Live) -> Result<(), Fail> {
+fn is_told_from_start<R: Wait + Abort>(
+    rt: &R,
+    alloc: Global,
+    live: &mut Live<Unkept>,
+) -> Result<(), Fail> {
     let Some(mut reader) = live.reader() else {
         return Err("no reader".into());
     };

@@ -16,6 +16,7 @@ use std::marker::Brand;
 use std::process::Abort;
 use std::sync::Wait;
 use std::test::Fail;
+use step_keeping::keeper::Unkept;
 
 /// The register as the reader sees it.
 fn read<N: Naming>(alloc: Global, reader: &mut BoardReader<N>) -> Result<Option<u64>, ReadRefused> {
@@ -37,7 +38,7 @@ fn sees<N: Naming>(rt: &impl Abort, alloc: Global, reader: &mut BoardReader<N>, 
 fn put<N: Naming, W: Wait + Drop, R: Wait + Abort>(
     rt: &R,
     alloc: Global,
-    port: &Port<'_, N, W>,
+    port: &Port<'_, N, W, Unkept>,
     share: &mut Share<N>,
     reader: &mut BoardReader<N>,
     value: u32,
@@ -56,7 +57,7 @@ fn put<N: Naming, W: Wait + Drop, R: Wait + Abort>(
 fn put_and_read<N: Naming, W: Wait + Drop, R: Wait + Abort>(
     rt: &R,
     alloc: Global,
-    port: &Port<'_, N, W>,
+    port: &Port<'_, N, W, Unkept>,
     share: &mut Share<N>,
     reader: &mut BoardReader<N>,
     old: u32,
@@ -75,7 +76,7 @@ fn put_and_read<N: Naming, W: Wait + Drop, R: Wait + Abort>(
 fn is_denied<N: Naming, W: Wait + Drop, R: Wait + Abort>(
     rt: &R,
     alloc: Global,
-    port: &Port<'_, N, W>,
+    port: &Port<'_, N, W, Unkept>,
     share: &mut Share<N>,
 ) {
     let denied = match port.act(rt, alloc, share, set_denied()) {
@@ -94,8 +95,8 @@ fn is_denied<N: Naming, W: Wait + Drop, R: Wait + Abort>(
 fn use_reader<N: Naming, W: Wait + Drop, R: Wait + Abort>(
     rt: &R,
     alloc: Global,
-    board: &Board<N, W>,
-    port: &Port<'_, N, W>,
+    board: &Board<N, W, Unkept>,
+    port: &Port<'_, N, W, Unkept>,
     share: &mut Share<N>,
     reader: &mut BoardReader<N>,
 ) -> Result<(), Fail> {
@@ -115,7 +116,7 @@ fn use_reader<N: Naming, W: Wait + Drop, R: Wait + Abort>(
 fn use_port<N: Naming, W: Wait + Drop, R: Wait + Abort>(
     rt: &R,
     alloc: Global,
-    board: &Board<N, W>,
+    board: &Board<N, W, Unkept>,
 ) -> Result<Share<N>, Fail> {
     let (port, mut share) = opened(rt, board)?;
     let mut reader = port.reader(rt)?;
@@ -139,7 +140,7 @@ fn hold_day<N: Naming, W: Wait + Drop, R: Wait + Abort>(
     requires steps { blanks.steps.name ≡ N.steps }
     requires changes { blanks.changes.name ≡ N.changes }
 {
-    let board = match Board::<N, W>::open(keep, alloc, checked, blanks) {
+    let board = match Board::<N, W, Unkept>::open(keep, alloc, checked, Unkept, blanks) {
         Ok(board) => board,
         Err(checked) => return Ok(Some(checked)),
     };
@@ -186,8 +187,8 @@ const PORTS: usize = 256;
 /// Opens a port, where memory is refused at most once.
 fn opened<'b, N: Naming, W: Wait + Drop, R: Wait>(
     rt: &R,
-    board: &'b Board<N, W>,
-) -> Result<(Port<'b, N, W>, Share<N>), PortFault> {
+    board: &'b Board<N, W, Unkept>,
+) -> Result<(Port<'b, N, W, Unkept>, Share<N>), PortFault> {
     match board.port(rt) {
         Err(PortFault::Memory) => board.port(rt),
         opened => opened,
@@ -197,7 +198,7 @@ fn opened<'b, N: Naming, W: Wait + Drop, R: Wait>(
 /// Opens so many ports.
 fn push_ports<N: Naming, W: Wait + Drop, R: Wait>(
     rt: &R,
-    board: &Board<N, W>,
+    board: &Board<N, W, Unkept>,
     shares: &mut Vec<Share<N>>,
     count: usize,
 ) -> Result<(), Fail> {
@@ -212,7 +213,7 @@ fn push_ports<N: Naming, W: Wait + Drop, R: Wait>(
 fn push_last<N: Naming, W: Wait + Drop, R: Wait + Abort>(
     rt: &R,
     alloc: Global,
-    board: &Board<N, W>,
+    board: &Board<N, W, Unkept>,
     shares: &mut Vec<Share<N>>,
 ) -> Result<(), Fail> {
     let (last, mut share) = opened(rt, board)?;
@@ -226,7 +227,7 @@ fn push_last<N: Naming, W: Wait + Drop, R: Wait + Abort>(
 fn push_all_ports<N: Naming, W: Wait + Drop, R: Wait + Abort>(
     rt: &R,
     alloc: Global,
-    board: &Board<N, W>,
+    board: &Board<N, W, Unkept>,
     shares: &mut Vec<Share<N>>,
 ) -> Result<(), Fail> {
     let (first, share) = opened(rt, board)?;
@@ -253,7 +254,7 @@ fn fill_board<N: Naming, W: Wait + Drop, R: Wait + Abort>(
     requires steps { blanks.steps.name ≡ N.steps }
     requires changes { blanks.changes.name ≡ N.changes }
 {
-    let Ok(board) = Board::<N, W>::open(keep, alloc, checked, blanks) else {
+    let Ok(board) = Board::<N, W, Unkept>::open(keep, alloc, checked, Unkept, blanks) else {
         return Err("not opened".into());
     };
     let mut shares = Vec::with_capacity(alloc, PORTS)?;

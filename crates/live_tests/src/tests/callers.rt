@@ -24,6 +24,7 @@ use std::net::{Net, TcpListener, TcpStream};
 use std::sync::Wait;
 use std::thread::Threads;
 use std::time::Clock;
+use step_keeping::keeper::Unkept;
 use text_files::TextFiles;
 
 /// The exit status is the definition's.
@@ -48,7 +49,7 @@ pub(super) fn one_begins_the_other<N: Naming>(one: &BoardReader<N>, other: &Boar
 }
 
 /// What a reader has seen, and what is published, lie on one list.
-pub(super) fn lie_on_one(live: &Live, one: &Reader, other: &Reader)
+pub(super) fn lie_on_one(live: &Live<Unkept>, one: &Reader, other: &Reader)
     requires { (one.now.book ≡ live.now.book) × (other.now.book ≡ live.now.book) }
     ensures { LieOnOne one.now.seen live.now.published }
 {

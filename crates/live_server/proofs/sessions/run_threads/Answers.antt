@@ -12,7 +12,7 @@ use Rattle.live_server.proofs.sessions.run_threads.Goals as goal
 pub join-driver-requires-send-F : goal.join-driver-requires-send-F
 join-driver-requires-send-F g c κs within =
     let b = c.type_bounds in param_send 1 _ (arg_send _ no _ (three_send _ _ _ _ send
-    (driver_send (param 0 g.row.N) (param 1 g.row.W) g.N.Naming b.send-N b.send-W _ (param 2 g.row.R) b.sync-R
+    (driver_send (param 0 g.row.N) (param 1 g.row.W) (param 6 g.row.K) g.N.Naming g.K.Keeps b.send-N b.send-W b.send-K _ (param 2 g.row.R) b.sync-R
     (outputs.the_row _ (param 4 g.row.F) (param 2 g.row.R)) (output_writes.ghosts (param 4 g.row.F) (param 2 g.row.R) g.F.Write g.F.Write-dict g.R.Wait g.R.Wait-dict g.F.Destruct-dict)
     (output_send _ (param 4 g.row.F) (param 2 g.row.R) b.send-F b.sync-R))
     (by_line_send (param 3 g.row.I) g.I.Read b.send-I)))
@@ -21,6 +21,6 @@ join-driver-requires-send-F g c κs within =
 pub join-driver-requires-send-A : goal.join-driver-requires-send-A
 join-driver-requires-send-A g c κs within =
     let b = c.type_bounds in param_send _ _ (arg_send _ no _
-    (driver_send (param 0 g.row.N) (param 1 g.row.W) g.N.Naming b.send-N b.send-W _ (param 2 g.row.R) b.sync-R
+    (driver_send (param 0 g.row.N) (param 1 g.row.W) (param 6 g.row.K) g.N.Naming g.K.Keeps b.send-N b.send-W b.send-K _ (param 2 g.row.R) b.sync-R
     (outputs.the_row _ (param 4 g.row.F) (param 2 g.row.R)) (output_writes.ghosts (param 4 g.row.F) (param 2 g.row.R) g.F.Write g.F.Write-dict g.R.Wait g.R.Wait-dict g.F.Destruct-dict)
     (output_send _ (param 4 g.row.F) (param 2 g.row.R) b.send-F b.sync-R)))

@@ -10,7 +10,9 @@ use super::samples::{
 use gates::{Gate, Go, Open};
 use live_server::fault::ServerFault;
 use live_server::sessions::{Driven, Service, serve_accepted};
+use live_server::sitting::Manners;
 use meter_live::board::Closed;
+use peer_watch::rules::Rules;
 use std::alloc::Global;
 use std::io::{ErrorKind, Read, Write};
 use std::net::{Net, SocketAddr, TcpListener, TcpStream};
@@ -19,7 +21,18 @@ use std::sync::Wait;
 use std::sync::atomic::{AtomicU64, Ordering};
 use std::test::Fail;
 use std::thread::Threads;
+use std::time::Clock;
 use std::{io, thread};
+
+/// Connections at all seats, of which none is idle for too long, and no refusal waits.
+const MANNERS: Manners = Manners {
+    seats: 64,
+    rules: Rules {
+        idle: 0,
+        penalty: 0,
+    },
+    is_verbose: false,
+};
 
 /// What clients ask of a meter.
 #[derive(Clone, Copy)]
@@ -64,6 +77,7 @@ fn ends_driven<R, G, I, F>(
 where
     R: Abort
         + AllocGlobal
+        + Clock
         + Net<Stream = TcpStream, Listener = TcpListener>
         + Threads
         + Wait
@@ -85,6 +99,7 @@ where
                 listener: &listener,
                 sessions,
                 gate,
+                manners: MANNERS,
             };
             serve_accepted(rt, alloc, checked, service, Driven { steps, faults })
         },
@@ -106,6 +121,7 @@ fn serves_driven<R, G, I, F>(
 where
     R: Abort
         + AllocGlobal
+        + Clock
         + Net<Stream = TcpStream, Listener = TcpListener>
         + Threads
         + Wait
@@ -133,6 +149,7 @@ pub(super) fn serves<R, G>(
 where
     R: Abort
         + AllocGlobal
+        + Clock
         + Net<Stream = TcpStream, Listener = TcpListener>
         + Threads
         + Wait

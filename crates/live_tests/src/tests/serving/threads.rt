@@ -16,6 +16,7 @@ use std::sync::atomic::{AtomicBool, Ordering};
 use std::test::Fail;
 use std::thread;
 use std::thread::Threads;
+use step_keeping::keeper::Unkept;
 
 /// How often a thread looks whether the other has come so far.
 const TURNS: u32 = 1_000_000;
@@ -52,7 +53,11 @@ fn reads<N: Naming>(alloc: Global, mut reader: BoardReader<N>, steps: &Steps) ->
 }
 
 /// Holds the lock until the other thread has read, and says whether it has.
-fn holds<N: Naming, W: Wait + Drop, R: Wait>(rt: &R, board: &Board<N, W>, steps: &Steps) -> bool {
+fn holds<N: Naming, W: Wait + Drop, R: Wait>(
+    rt: &R,
+    board: &Board<N, W, Unkept>,
+    steps: &Steps,
+) -> bool {
     let _guard = board.lock(rt);
     steps.is_locked.store(true, Ordering::SeqCst);
     is_set(&steps.is_read)
@@ -62,7 +67,7 @@ fn holds<N: Naming, W: Wait + Drop, R: Wait>(rt: &R, board: &Board<N, W>, steps:
 fn is_read_while_held<N, W, R>(
     rt: &R,
     alloc: Global,
-    board: &Board<N, W>,
+    board: &Board<N, W, Unkept>,
     reader: BoardReader<N>,
 ) -> bool
 where
@@ -84,7 +89,7 @@ where
 }
 
 /// Opens a port, whose reader reads while the lock is held.
-fn use_port<N, W, R>(rt: &R, alloc: Global, board: &Board<N, W>) -> Result<Share<N>, Fail>
+fn use_port<N, W, R>(rt: &R, alloc: Global, board: &Board<N, W, Unkept>) -> Result<Share<N>, Fail>
 where
     N: Naming + Send,
     W: Wait + Drop,
@@ -113,7 +118,7 @@ where
     requires steps { blanks.steps.name ≡ N.steps }
     requires changes { blanks.changes.name ≡ N.changes }
 {
-    let Ok(board) = Board::<N, W>::open(keep, alloc, checked, blanks) else {
+    let Ok(board) = Board::<N, W, Unkept>::open(keep, alloc, checked, Unkept, blanks) else {
         return Err("not opened".into());
     };
     let share = use_port(rt, alloc, &board)?;

@@ -1,5 +1,5 @@
-use Rattle.std.proofs.Common.{◌≡◌, ◌+◌, ◌∷◌, ◌++◌, [], true, ap, sym, subst, ◌∙◌}
-use Rattle.std.specs.Prelude.{cond, is_some}
+use Rattle.std.proofs.Common.{◌≡◌, ◌+◌, true, ap, sym, subst, ◌∙◌}
+use Rattle.std.specs.Prelude.{cond}
 use Rattle.meter_core.specs.StepView.{reply_of, step_of}
 use Rattle.meter_live.proofs.Trails.{after_is, traced_made}
 use Rattle.meter_live.proofs.traced.TracedMeter.act.Goals as goal
@@ -12,7 +12,7 @@ use Rattle.meter_theory.specs.States.{IsState}
 use Rattle.meter_theory.specs.Steps.{next}
 
 pub invariant_of-self-2 : goal.invariant_of-self-2
-invariant_of-self-2 c =
+invariant_of-self-2 g c =
     let f = c.self.inside in
     let P = f.checked.plan in
     let t : Traced = traced f.checked f.opening f.state f.trail.items f.count f.changes in

@@ -1,5 +1,5 @@
-use Rattle.std.proofs.Common.{◌≡◌, ◌∷◌, ◌++◌, [], ap, sym, subst, ◌∙◌, arith, false}
-use Rattle.std.specs.Prelude.{cond, is_some}
+use Rattle.std.proofs.Common.{◌≡◌, ap, sym, subst, ◌∙◌, arith, false}
+use Rattle.std.specs.Prelude.{cond}
 use Rattle.meter_core.specs.Changing.{is_changing}
 use Rattle.meter_core.specs.StepView.{reply_of, step_of}
 use Rattle.meter_live.proofs.Changing.{unchanged}

@@ -1,7 +1,7 @@
 use Rattle.std.proofs.Common.{ap, ◌∙◌}
 use Rattle.std.proofs.lemmas.Grind.{merely}
 use Rattle.std.specs.Prelude.{Err}
-use Rattle.live_server.proofs.sessions.sit.Goals as goal
+use Rattle.live_server.proofs.sitting.sit.Goals as goal
 
 pub give_up-requires : goal.give_up-requires
 give_up-requires g c =

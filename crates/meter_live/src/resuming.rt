@@ -1,0 +1,156 @@
+//! A board that goes on from the steps that were kept.
+ghost use Rattle.std.specs.Prelude.{◌≡◌, [], false, Ok, OnOk};
+ghost use Rattle.meter_theory.specs.Replies.{run};
+ghost use Rattle.meter_live.specs.Tally.{IsUnused};
+ghost use Rattle.step_keeping.specs.Keeping.{AreKept};
+
+use crate::archive::Archive;
+use crate::board::{Blanks, Board, PORTS};
+use crate::desk::{BoardReader, Desk};
+use crate::fault::{LiveFault, PortFault, ReaderFault};
+use crate::live::Live;
+use crate::names::Naming;
+use crate::share::Share;
+use flow_checker::check::Checked;
+use meter_core::judged::Judged;
+use std::alloc::Global;
+use std::sync::{Mutex, Wait};
+use step_keeping::keeper::{Keeps, Unkept};
+use step_keeping::recalling::Recalls;
+
+/// Why a board doesn't go on from the steps that were kept.
+#[derive(Clone, Copy, PartialEq, Eq, Debug)]
+pub enum ResumeFault {
+    /// Memory was refused.
+    Memory,
+    /// No step can be counted any more: 2^64 - 1 were taken.
+    Full,
+}
+
+impl From<LiveFault> for ResumeFault {
+    fn from(fault: LiveFault) -> ResumeFault {
+        match fault {
+            LiveFault::Full => ResumeFault::Full,
+            // Nothing is kept while steps are taken again, so that no other is refused.
+            LiveFault::Memory | LiveFault::NotKept | LiveFault::InDoubt => ResumeFault::Memory,
+        }
+    }
+}
+
+impl From<PortFault> for ResumeFault {
+    fn from(_fault: PortFault) -> ResumeFault {
+        ResumeFault::Memory
+    }
+}
+
+impl From<ReaderFault> for ResumeFault {
+    fn from(_fault: ReaderFault) -> ResumeFault {
+        ResumeFault::Memory
+    }
+}
+
+impl<N: Naming, W: Wait + Drop, K: Keeps + Drop> Board<N, W, K> {
+    /// Opens a board of a meter that takes the steps which were kept, and has each further one kept behind them. The share counts the
+    /// steps that were kept: the board is closed with it.
+    ///
+    /// # Errors
+    /// So many steps can't be counted, or memory was refused.
+    pub fn resume<R: Wait, P: Recalls + Drop>(
+        waits: &R,
+        rt: W,
+        alloc: Global,
+        checked: Checked,
+        past: P,
+        keeper: K,
+        blanks: Blanks,
+    ) -> Result<(Board<N, W, K>, Share<N>), ResumeFault>
+        requires plan { checked ≡ N.accepted }
+        requires book { blanks.history ≡ N.book }
+        requires steps { blanks.steps.name ≡ N.steps }
+        requires changes { blanks.changes.name ≡ N.changes }
+        requires kept { AreKept (K.kept N.accepted.plan keeper) (P.left past) }
+    {
+        let Ok(beside) = checked.share() else {
+            return Err(ResumeFault::Memory);
+        };
+        let Blanks {
+            history,
+            written,
+            steps,
+            changes,
+        } = blanks;
+        let archive = Archive {
+            keeper: Unkept,
+            history,
+            written,
+        };
+        let Ok(live) = Live::of(&rt, alloc, checked, archive, usize::from(PORTS)) else {
+            return Err(ResumeFault::Memory);
+        };
+        let mut past = past;
+        let mut desk = Desk::new(rt, alloc, live, steps, changes);
+        let share = desk.restore(waits, alloc, &mut past)?;
+        Ok((Board::of(desk.kept_by(keeper), beside), share))
+    }
+}
+
+impl<N: Naming, W: Wait + Drop> Desk<N, W, Unkept> {
+    /// Takes the steps that were kept, in their order, at a port of its own, and publishes them. The share counts them.
+    fn restore<R: Wait, P: Recalls>(
+        &mut self,
+        rt: &R,
+        alloc: Global,
+        past: &mut P,
+    ) -> Result<Share<N>, ResumeFault>
+        ensures { OnOk result (self.new.live.meter.state
+            ≡ run N.accepted.plan self.old.live.meter.state (P.left past.old)) }
+    {
+        let (port, mut share) = self.open_port()?;
+        let mut reader = self.give_reader(port)?;
+        self.take_all(rt, alloc, port, &mut share, &mut reader, past)?;
+        Ok(share)
+    }
+
+    /// Takes all steps that were kept at a port.
+    fn take_all<R: Wait, P: Recalls>(
+        &mut self,
+        rt: &R,
+        alloc: Global,
+        port: u8,
+        share: &mut Share<N>,
+        reader: &mut BoardReader<N>,
+        past: &mut P,
+    ) -> Result<(), ResumeFault>
+        ensures { OnOk result (self.new.live.meter.state
+            ≡ run N.accepted.plan self.old.live.meter.state (P.left past.old)) }
+    {
+        for _ in 0..u64::MAX {
+            if !self.take_next(rt, alloc, port, share, reader, past)? {
+                return Ok(());
+            }
+        }
+        Err(ResumeFault::Full)
+    }
+
+    /// Takes the next step that was kept at a port, and says whether there was one.
+    fn take_next<R: Wait, P: Recalls>(
+        &mut self,
+        rt: &R,
+        alloc: Global,
+        port: u8,
+        share: &mut Share<N>,
+        reader: &mut BoardReader<N>,
+        past: &mut P,
+    ) -> Result<bool, ResumeFault>
+        ensures same { OnOk result (run N.accepted.plan self.new.live.meter.state (P.left past.new)
+            ≡ run N.accepted.plan self.old.live.meter.state (P.left past.old)) }
+        ensures end { result ≡ Ok false → P.left past.new ≡ [] }
+    {
+        let Some(step) = past.recall() else {
+            return Ok(false);
+        };
+        let judged = Judged::by(self.plan(), step);
+        drop(self.put(rt, alloc, port, share, reader, judged)?);
+        Ok(true)
+    }
+}
