@@ -1,5 +1,5 @@
 -- What a share counts. All of it is own profile.
-use Rattle.std.specs.Prelude.{◌≡◌, ℕ, ◌+◌, ◌≤◌, ◌++◌, ◌∷◌, [], MatchBool, List, length}
+use Rattle.std.specs.Prelude.{◌≡◌, ℕ, ◌+◌, ◌≤◌, ◌++◌, ◌∷◌, [], MatchBool, List, length, sum_by}
 use Rattle.meter_core.specs.Changing.{is_changing}
 use Rattle.meter_theory.specs.Plan.{Plan}
 use Rattle.meter_theory.specs.Steps.{Step}
@@ -36,3 +36,22 @@ pub record Counts (P : Plan) (old : Tally) (step : Step) (new : Tally) : Type 0 
   pub steps : new.steps ≡ old.steps + 1
   pub changes : new.changes ≡ old.changes + changes_of P step
   pub written : MatchBool (is_changing P step) (EndsWith new.written step × HasSeen new new.written) (new.written ≡ old.written)
+
+-- how many changes these steps are
+abbrev pub changes_in : Plan → List Step → ℕ
+changes_in P steps = sum_by (changes_of P) steps
+
+-- these steps are counted, and no other
+pub record CountsOnly (P : Plan) (taken : List Step) (t : Tally) : Type 0 where
+  pub steps : t.steps ≡ length taken
+  pub changes : t.changes ≡ changes_in P taken
+
+-- these steps more
+pub record CountsAll (P : Plan) (old : Tally) (taken : List Step) (new : Tally) : Type 0 where
+  pub steps : new.steps ≡ old.steps + length taken
+  pub changes : new.changes ≡ old.changes + changes_in P taken
+
+-- what is counted once the steps are taken that are left is as much as it was
+pub record CountsOn (P : Plan) (old : Tally) (before : List Step) (new : Tally) (left : List Step) : Type 0 where
+  pub steps : new.steps + length left ≡ old.steps + length before
+  pub changes : new.changes + changes_in P left ≡ old.changes + changes_in P before

@@ -1,5 +1,5 @@
 //! What lies under the lock of a board.
-ghost use Rattle.std.specs.Prelude.{◌≡◌, ◌≢◌, ◌⊎◌, ◌+◌, ◌++◌, ◌∷◌, [], ◌≤◌, ◌↔◌, List, true, Err, IfOk, IfErr, OnOk, OnErr, MatchBool, sum_by, vec_len};
+ghost use Rattle.std.specs.Prelude.{◌≡◌, ◌≢◌, ◌⊎◌, ◌+◌, ◌-◌, ◌^◌, ◌++◌, ◌∷◌, [], ◌≤◌, ◌↔◌, List, true, Err, IfOk, IfErr, OnOk, OnErr, MatchBool, sum_by, vec_len};
 ghost use Rattle.std.specs.Coded.{codes};
 ghost use mathlib.Core.List.{IsPrefix};
 ghost use Rattle.meter_core.specs.Judging.{IsJudged};
@@ -175,6 +175,7 @@ impl<N: Naming, W: Wait + Drop, K: Keeps + Drop> Desk<N, W, K> {
             (λ reply. Answers N.accepted.plan (step_of judged.step) (reply_of reply)) }
         ensures live { OnOk result (self.new.live ≡ acted self.old.live port (step_of judged.step)) }
         ensures share { OnOk result (Counts N.accepted.plan share.old (step_of judged.step) share.new) }
+        ensures full { (result ≡ Err LiveFault.Full) ↔ (self.old.live.meter.count ≡ 2 ^ 64 - 1) }
         ensures err { OnErr result ((share.new ≡ share.old) × (self.new.live ≡ self.old.live)) }
     {
         let Desk {
@@ -244,6 +245,7 @@ impl<N: Naming, W: Wait + Drop, K: Keeps + Drop> Desk<N, W, K> {
         ensures told { IfOk result
             (λ r. IsToldOf N.accepted.plan (step_of judged.step) r.1 reader.old reader.new) }
         ensures seen { IfOk result (λ r. r.1 ≡ true → HasSeen share.new reader.new) }
+        ensures full { (result ≡ Err LiveFault.Full) ↔ (self.old.live.meter.count ≡ 2 ^ 64 - 1) }
         ensures err { OnErr result ((share.new ≡ share.old) × (reader.new ≡ reader.old)
             × (self.new.live ≡ self.old.live)) }
     {

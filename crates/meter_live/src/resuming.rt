@@ -1,7 +1,7 @@
 //! A board that goes on from the steps that were kept.
-ghost use Rattle.std.specs.Prelude.{◌≡◌, [], false, Ok, OnOk};
+ghost use Rattle.std.specs.Prelude.{◌≡◌, ◌+◌, ◌^◌, ◌≤◌, [], false, true, length, Err, IfOk, Ok, OnOk};
 ghost use Rattle.meter_theory.specs.Replies.{run};
-ghost use Rattle.meter_live.specs.Tally.{IsUnused};
+ghost use Rattle.meter_live.specs.Tally.{CountsAll, CountsOn, CountsOnly, IsUnused};
 ghost use Rattle.step_keeping.specs.Keeping.{AreKept};
 
 use crate::archive::Archive;
@@ -11,12 +11,16 @@ use crate::fault::{LiveFault, PortFault, ReaderFault};
 use crate::live::Live;
 use crate::names::Naming;
 use crate::share::Share;
+use cosem_data::memory::Memory;
 use flow_checker::check::Checked;
 use meter_core::judged::Judged;
 use std::alloc::Global;
 use std::sync::{Mutex, Wait};
 use step_keeping::keeper::{Keeps, Unkept};
 use step_keeping::recalling::Recalls;
+
+/// So many of the steps that were kept are taken before it is told of them: to tell of each would take longer than the steps do.
+const TOLD_AT_ONCE: u16 = 1024;
 
 /// Why a board doesn't go on from the steps that were kept.
 #[derive(Clone, Copy, PartialEq, Eq, Debug)]
@@ -28,6 +32,11 @@ pub enum ResumeFault {
 }
 
 impl From<LiveFault> for ResumeFault {
+    ghost use Rattle.std.specs.Prelude.{◌≡◌};
+    ghost use Rattle.meter_live.specs.Keeping.{fault_again};
+
+    ghost from_gives = { λ live fault. fault ≡ fault_again live };
+
     fn from(fault: LiveFault) -> ResumeFault {
         match fault {
             LiveFault::Full => ResumeFault::Full,
@@ -37,13 +46,34 @@ impl From<LiveFault> for ResumeFault {
     }
 }
 
+impl From<Memory> for ResumeFault {
+    ghost use Rattle.std.specs.Prelude.{◌≡◌};
+    ghost use Rattle.meter_live.specs.declared.resuming.ResumeFault.TheVariants as resumes;
+
+    ghost from_gives = { λ _ fault. fault ≡ resumes.Memory };
+
+    fn from(_memory: Memory) -> ResumeFault {
+        ResumeFault::Memory
+    }
+}
+
 impl From<PortFault> for ResumeFault {
+    ghost use Rattle.std.specs.Prelude.{◌≡◌};
+    ghost use Rattle.meter_live.specs.declared.resuming.ResumeFault.TheVariants.{Memory};
+
+    ghost from_gives = { λ _ fault. fault ≡ Memory };
+
     fn from(_fault: PortFault) -> ResumeFault {
         ResumeFault::Memory
     }
 }
 
 impl From<ReaderFault> for ResumeFault {
+    ghost use Rattle.std.specs.Prelude.{◌≡◌};
+    ghost use Rattle.meter_live.specs.declared.resuming.ResumeFault.TheVariants.{Memory};
+
+    ghost from_gives = { λ _ fault. fault ≡ Memory };
+
     fn from(_fault: ReaderFault) -> ResumeFault {
         ResumeFault::Memory
     }
@@ -69,6 +99,8 @@ impl<N: Naming, W: Wait + Drop, K: Keeps + Drop> Board<N, W, K> {
         requires steps { blanks.steps.name ≡ N.steps }
         requires changes { blanks.changes.name ≡ N.changes }
         requires kept { AreKept (K.kept N.accepted.plan keeper) (P.left past) }
+        ensures share { IfOk result (λ r. CountsOnly N.accepted.plan (P.left past) r.1) }
+        ensures full { result ≡ Err ResumeFault.Full → 2 ^ 64 ≤ length (P.left past) }
     {
         let Ok(beside) = checked.share() else {
             return Err(ResumeFault::Memory);
@@ -102,8 +134,11 @@ impl<N: Naming, W: Wait + Drop> Desk<N, W, Unkept> {
         alloc: Global,
         past: &mut P,
     ) -> Result<Share<N>, ResumeFault>
-        ensures { OnOk result (self.new.live.meter.state
+        ensures state { OnOk result (self.new.live.meter.state
             ≡ run N.accepted.plan self.old.live.meter.state (P.left past.old)) }
+        ensures share { IfOk result (λ share. CountsOnly N.accepted.plan (P.left past.old) share) }
+        ensures full { result ≡ Err ResumeFault.Full
+            → 2 ^ 64 ≤ self.old.live.meter.count + length (P.left past.old) }
     {
         let (port, mut share) = self.open_port()?;
         let mut reader = self.give_reader(port)?;
@@ -111,7 +146,7 @@ impl<N: Naming, W: Wait + Drop> Desk<N, W, Unkept> {
         Ok(share)
     }
 
-    /// Takes all steps that were kept at a port.
+    /// Takes all steps that were kept at a port, and tells of them.
     fn take_all<R: Wait, P: Recalls>(
         &mut self,
         rt: &R,
@@ -121,36 +156,47 @@ impl<N: Naming, W: Wait + Drop> Desk<N, W, Unkept> {
         reader: &mut BoardReader<N>,
         past: &mut P,
     ) -> Result<(), ResumeFault>
-        ensures { OnOk result (self.new.live.meter.state
+        ensures state { OnOk result (self.new.live.meter.state
             ≡ run N.accepted.plan self.old.live.meter.state (P.left past.old)) }
+        ensures share { OnOk result (CountsAll N.accepted.plan share.old (P.left past.old) share.new) }
+        ensures full { result ≡ Err ResumeFault.Full
+            → 2 ^ 64 ≤ self.old.live.meter.count + length (P.left past.old) }
     {
-        for _ in 0..u64::MAX {
-            if !self.take_next(rt, alloc, port, share, reader, past)? {
-                return Ok(());
+        let mut untold = 0u16;
+        while self.take_next(alloc, port, share, past)? {
+            untold += 1;
+            if untold == TOLD_AT_ONCE {
+                untold = 0;
+                self.tell(rt, share, reader)?;
             }
         }
-        Err(ResumeFault::Full)
+        self.tell(rt, share, reader)?;
+        Ok(())
     }
 
     /// Takes the next step that was kept at a port, and says whether there was one.
-    fn take_next<R: Wait, P: Recalls>(
+    fn take_next<P: Recalls>(
         &mut self,
-        rt: &R,
         alloc: Global,
         port: u8,
         share: &mut Share<N>,
-        reader: &mut BoardReader<N>,
         past: &mut P,
     ) -> Result<bool, ResumeFault>
         ensures same { OnOk result (run N.accepted.plan self.new.live.meter.state (P.left past.new)
             ≡ run N.accepted.plan self.old.live.meter.state (P.left past.old)) }
-        ensures end { result ≡ Ok false → P.left past.new ≡ [] }
+        ensures share { OnOk result (CountsOn N.accepted.plan share.old (P.left past.old) share.new (P.left past.new)) }
+        ensures count { OnOk result (self.new.live.meter.count + length (P.left past.new)
+            ≡ self.old.live.meter.count + length (P.left past.old)) }
+        ensures full { result ≡ Err ResumeFault.Full
+            → 2 ^ 64 ≤ self.old.live.meter.count + length (P.left past.old) }
+        ensures next { result ≡ Ok true → length (P.left past.old) ≡ length (P.left past.new) + 1 }
+        ensures end { result ≡ Ok false → (P.left past.old ≡ []) × (P.left past.new ≡ []) }
     {
         let Some(step) = past.recall() else {
             return Ok(false);
         };
         let judged = Judged::by(self.plan(), step);
-        drop(self.put(rt, alloc, port, share, reader, judged)?);
+        drop(self.act(alloc, port, share, judged)?);
         Ok(true)
     }
 }

@@ -6,7 +6,7 @@ use meter_core::step::Step;
 use std::alloc::{AllocFailed, Global};
 use std::time::Clock;
 use std::{fmt, str};
-use step_keeping::ports::{CLOCK, seat_of};
+use step_keeping::ports::seat_of;
 use step_words::result_words;
 use trail_store::notes::Notes;
 use utc_moment::moment::UtcMoment;
@@ -28,7 +28,6 @@ impl fmt::Display for Taker {
     fn fmt<W: fmt::Write>(&self, f: &mut fmt::Formatter<W>) -> fmt::Result {
         match seat_of(self.port) {
             Some(seat) => write!(f, "seat {seat}"),
-            None if self.port == CLOCK => f.write_str("clock"),
             None => f.write_str("driver"),
         }
     }

@@ -4,7 +4,7 @@ use Rattle.meter_core.specs.StepView.{step_of}
 use Rattle.meter_theory.specs.State.{State}
 use Rattle.meter_theory.specs.Steps.{Step, next}
 use Rattle.meter_live.specs.Keeping.{kept_by}
-use Rattle.meter_live.proofs.Stays.{kept-after}
+use Rattle.meter_live.proofs.Stays.{kept-after, stays-same}
 use Rattle.step_keeping.specs.Keeping.{IsKept}
 use Rattle.meter_live.proofs.traced.apply_kept.Goals as goal
 
@@ -19,4 +19,4 @@ returns-in-Ok-clause-kept g c =
     let kept_is : g.K.Keeps.kept P c.settle.new.archive.keeper ≡ kept_by is_same before step = c.in-Ok.ensures.kept ∙ ap (kept_by is_same before) c.requires.change in
     subst (λ (s : State). IsKept P (g.K.Keeps.kept P c.settle.new.archive.keeper) s) (sym next_is)
     (subst (λ (k : Option (List Step)). IsKept P k (next P old step)) (sym kept_is)
-    (kept-after P is_same before old step (λ e. sym next_is ∙ (sym (c.is_unmoved-is_same.ensures.same e) ∙ c.in_ok-reply.ensures.before)) c.requires.kept))
+    (kept-after P is_same before old step (λ e. sym next_is ∙ (sym (stays-same P c.apply_judged.new.meter c.in_ok-reply.field-0.back (c.is_unmoved-is_same.ensures.0 e)) ∙ c.in_ok-reply.ensures.before)) c.requires.kept))

@@ -13,4 +13,4 @@ kept_by-requires g c =
     let past = g.P.Recalls.left c.args.past in
     let first : c.new-desk.result.live.meter.state ≡ start P =
     ap (λ (t : Told). t.meter.state) (c.new-desk.ensures ∙ c.in-Ok-of.ensures.ok) ∙ ap (λ (a : Accepted). start a.plan) c.requires.plan in
-    kept-from P (g.K.Keeps.kept P c.args.keeper) past c.restore.new.self.live.meter.state c.requires.kept (c.in_ok-share.ensures ∙ ap (λ (s : State). run P s past) first)
+    kept-from P (g.K.Keeps.kept P c.args.keeper) past c.restore.new.self.live.meter.state c.requires.kept (c.in_ok-share.ensures.state ∙ ap (λ (s : State). run P s past) first)
