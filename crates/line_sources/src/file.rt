@@ -16,30 +16,18 @@ pub struct Opened<F: Read + Drop> {
     pub is_fifo: bool,
 }
 
-/// What can be opened to be read.
-pub trait Opens {
-    /// What is read.
-    type File: Read + Drop;
-
-    /// Opens it. That waits for the writer of a FIFO.
+/// What opens files to be read, each as an `F`.
+pub trait Opens<F: Read + Drop> {
+    /// Opens the file at a path. That waits for the writer of a FIFO.
     ///
     /// # Errors
     /// The system's.
-    fn open(&self) -> io::Result<Opened<Self::File>>;
+    fn open(&self, path: &str) -> io::Result<Opened<F>>;
 }
 
-/// A file of the system, by its path.
-#[derive(Clone, Copy, Drop)]
-pub struct FileAt<'r> {
-    pub system: &'r HostRuntime,
-    pub path: &'r str,
-}
-
-impl Opens for FileAt<'_> {
-    type File = File;
-
-    fn open(&self) -> io::Result<Opened<File>> {
-        let file = File::open(self.system, self.path)?;
+impl Opens<File> for HostRuntime {
+    fn open(&self, path: &str) -> io::Result<Opened<File>> {
+        let file = File::open(self, path)?;
         let is_fifo = file.metadata()?.file_type().is_fifo();
         Ok(Opened { file, is_fifo })
     }
@@ -55,35 +43,35 @@ enum Reading<F: Read + Drop> {
     Ended,
 }
 
-/// The lines of what is opened, at the first read. A file is read once; a FIFO is opened again whenever its writers have closed it, so
-/// its lines never end. What ends without a line feed is given one, so that the lines of two writers don't run together. Where it can't
-/// be opened or read, that is the error.
+/// The lines of a file, which is opened at the first read. A file is read once; a FIFO is opened again whenever its writers have closed
+/// it, so its lines never end. What ends without a line feed is given one, so that the lines of two writers don't run together. Where it
+/// can't be opened or read, that is the error.
 #[derive(Drop)]
-pub struct FileLines<O: Opens + Drop> {
-    place: O,
-    reading: Reading<O::File>,
+pub struct FileLines<'o, 'p, O: Opens<F>, F: Read + Drop> {
+    opener: &'o O,
+    path: &'p str,
+    reading: Reading<F>,
     /// Whether a line has begun, and not ended.
     is_within: bool,
 }
 
-impl<O: Opens + Drop> FileLines<O> {
-    /// The lines there. Nothing is opened yet.
-    pub fn new(place: O) -> Self {
+impl<'o, 'p, O: Opens<F>, F: Read + Drop> FileLines<'o, 'p, O, F> {
+    /// The lines of the file at this path. Nothing is opened yet.
+    pub fn new(opener: &'o O, path: &'p str) -> Self {
         FileLines {
-            place,
+            opener,
+            path,
             reading: Reading::Closed,
             is_within: false,
         }
     }
-}
 
-impl<O: Opens + Drop> FileLines<O> {
     /// Opens the file where it isn't open, and reads on. None where its writers have closed it, and no line is to be ended.
     fn read_open(&mut self, buf: &mut [u8]) -> io::Result<Option<usize>>
         ensures { IfOk result (λ read. IfSome read (λ count. count ≤ length buf.new)) }
     {
         if let Reading::Closed = self.reading {
-            self.reading = Reading::Open(self.place.open()?);
+            self.reading = Reading::Open(self.opener.open(self.path)?);
         }
         let Reading::Open(opened) = &mut self.reading else {
             return Ok(Some(0));
@@ -124,7 +112,7 @@ fn after<F: Read + Drop>(is_fifo: bool) -> Reading<F> {
     }
 }
 
-impl<O: Opens + Drop> Read for FileLines<O> {
+impl<O: Opens<F>, F: Read + Drop> Read for FileLines<'_, '_, O, F> {
     fn read(&mut self, buf: &mut [u8]) -> io::Result<usize> {
         if buf.is_empty() {
             return Ok(0);
