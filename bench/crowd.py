@@ -15,7 +15,7 @@ more of what happened to the meter, in its order, and of its own writes at once:
   again once the session wrote, or saw another value;
 - rows have such inputs and alarms, none with an older input than the row before, or than the first one that was seen before.
 
-In the end the server must end by itself with status 0, and have told nothing but where it listens. What isn't as it must be is told, the
+In the end the server must end by itself with status 0, and have told nothing but where it listens and that the lines have ended. What isn't as it must be is told, the
 first such thing, with status 1. Run `tools/build` first.
 """
 import math

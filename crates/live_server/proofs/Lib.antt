@@ -2,4 +2,5 @@ pub mod Ahead
 pub mod Asked
 pub mod CrossingCalls
 pub mod CrossingPorts
+mod Freed
 pub mod Sending

@@ -9,12 +9,16 @@ use Rattle.meter_theory.specs.Steps as steps
 use Rattle.meter_live.specs.Changes.{Answers}
 use Rattle.meter_live.specs.Tally.{Tally, Counts}
 use Rattle.line_server.specs.Doing.{TakesAll}
+use Rattle.line_server.specs.Faults.{reason_words}
 use Rattle.line_server.specs.Spelling.{line_of, unreadable_text}
 use Rattle.line_server.specs.Driving.{left_of}
 use Rattle.line_server.specs.Running.{own_steps}
 use Rattle.line_server.specs.declared.driving.Left.{Left}
 use Rattle.line_server.specs.declared.driving.Left.TheVariants.{Nothing, Ask, Unreadable}
 use Rattle.line_server.specs.declared.line.Line.{Line}
+use Rattle.live_server.specs.declared.notices.NoStep.{NoStep}
+use Rattle.live_server.specs.declared.notices.NoStep.TheVariants as kinds
+use Rattle.live_server.specs.declared.notices.NoStep.TheVariants.{Apdu}
 
 -- what is told of a line for which memory was refused, or of a step of it
 abbrev pub memory_text : ℕ → List ℕ
@@ -23,6 +27,21 @@ memory_text number = codes "line " ++ (decimal number ++ codes ": memory\n")
 -- what is told of a step of a line that can't be kept
 abbrev pub unkept_text : ℕ → List ℕ
 unkept_text number = codes "line " ++ (decimal number ++ codes ": not kept\n")
+
+-- why a line is no step of the meter itself
+abbrev pub no_step_words : NoStep → List ℕ
+no_step_words Apdu = codes "clients ask over TCP, and not by a line"
+no_step_words (kinds.Unreadable reason) = reason_words reason
+
+-- what is told of a line that is no step of the meter itself, and where that is asked for why
+abbrev pub unread_text : (is_verbose : Bool) → ℕ → List ℕ → List ℕ
+unread_text false number words = unreadable_text number
+unread_text true number words = codes "line " ++ (decimal number ++ (codes ": unreadable: " ++ (words ++ codes "\n")))
+
+-- what is told where no further line comes
+abbrev pub end_text : (is_read : Bool) → List ℕ
+end_text true = codes "cosem-flow: the lines have ended: the meter takes no further step of its own\n"
+end_text false = codes "cosem-flow: the lines can't be read on: the meter takes no further step of its own\n"
 
 -- a text was told whole, or, where that wasn't so, at most a beginning of it
 abbrev pub Tells : Option (List ℕ) → Option (List ℕ) → List ℕ → Bool → Type 0
@@ -57,15 +76,15 @@ TakesOrTells P old step (Ok reply) new = ((new.number ≡ old.number) × IsCount
 TakesOrTells P old step (Err refused) new = ⊥
 
 -- that a line is no step of the meter itself, as the APDU of a client, is told
-abbrev pub TellsOf : Left → Hand → Hand → Type 0
-TellsOf Nothing old new = new ≡ old
-TellsOf (Ask ask) old new = IsTold old (unreadable_text old.number) new
-TellsOf (Unreadable why) old new = IsTold old (unreadable_text old.number) new
+abbrev pub TellsOf : (is_verbose : Bool) → Left → Hand → Hand → Type 0
+TellsOf is_verbose Nothing old new = new ≡ old
+TellsOf is_verbose (Ask ask) old new = IsTold old (unread_text is_verbose old.number (no_step_words Apdu)) new
+TellsOf is_verbose (Unreadable why) old new = IsTold old (unread_text is_verbose old.number (no_step_words (kinds.Unreadable why))) new
 
 -- what a line does: its steps are taken one after another, and it is told where it is something else
-abbrev pub Drives : Plan → Hand → Line → Hand → Type 0
-Drives P old line new = (mid : Hand) × TakesAll (TakesOrTells P) old (own_steps P line) mid × TellsOf (left_of line) mid new
+abbrev pub Drives : Plan → (is_verbose : Bool) → Hand → Line → Hand → Type 0
+Drives P is_verbose old line new = (mid : Hand) × TakesAll (TakesOrTells P) old (own_steps P line) mid × TellsOf is_verbose (left_of line) mid new
 
 -- the same of the text of a line, unless memory was refused to read it, which is told
-abbrev pub DrivesLine : Plan → Hand → List ℕ → Hand → Type 0
-DrivesLine P old text new = Drives P old (line_of P text) new ⊎ IsTold old (memory_text old.number) new
+abbrev pub DrivesLine : Plan → (is_verbose : Bool) → Hand → List ℕ → Hand → Type 0
+DrivesLine P is_verbose old text new = Drives P is_verbose old (line_of P text) new ⊎ IsTold old (memory_text old.number) new

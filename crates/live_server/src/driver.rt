@@ -1,10 +1,10 @@
 //! The driver of a live meter: inputs, evaluations and moments come as lines (own profile).
 ghost use Rattle.std.specs.Prelude.{◌≡◌};
-ghost use Rattle.live_server.specs.Driving.{DrivesLine, IsRefused, TellsOf};
+ghost use Rattle.live_server.specs.Driving.{DrivesLine, IsRefused, IsTold, TellsOf, no_step_words, unread_text};
 
 use crate::asking::PortAsker;
 use crate::by_line::ByLine;
-use crate::notices::Notices;
+use crate::notices::{NoStep, Notices};
 use cosem_data::memory::Memory;
 use line_server::driving::{Left, take_own};
 use line_server::fault::LineFault;
@@ -88,13 +88,15 @@ impl<'b, N: Naming, W: Wait + Drop, R: Wait, F: Write + Drop, K: Keeps + Drop> T
 }
 
 /// Takes the meter's own steps from lines, at a seat, which tells of them once behind each line. A line that is no such step,
-/// and so the APDU of a client too, is told as `line N: unreadable`, each step that is refused for memory as `line N: memory`, and one
+/// and so the APDU of a client too, is told as `line N: unreadable`, with the reason where that is asked for, each step that is refused for memory as `line N: memory`, and one
 /// that can't be kept as `line N: not kept`; a line that is refused memory before its steps is told as `line N: memory` too. Then the
 /// next goes on. What is told takes no memory.
 #[derive(Drop)]
 pub(crate) struct Driver<'b, N: Naming, W: Wait + Drop, R: Wait, F: Write + Drop, K: Keeps + Drop> {
     taker: Taker<'b, N, W, R, F, K>,
     apdu: Vec<u8>,
+    /// Whether it is told why a line is no step.
+    is_verbose: bool,
 }
 
 impl<'b, N: Naming, W: Wait + Drop, R: Wait, F: Write + Drop, K: Keeps + Drop> Driver<
@@ -106,9 +108,15 @@ impl<'b, N: Naming, W: Wait + Drop, R: Wait, F: Write + Drop, K: Keeps + Drop> D
     K,
 > {
     /// A driver at this seat, with what it tells by. No line is taken yet.
-    pub fn new(alloc: Global, seat: PortAsker<'b, N, W, R, K>, notices: Notices<F>) -> Self
-        ensures { result.taker
+    pub fn new(
+        alloc: Global,
+        seat: PortAsker<'b, N, W, R, K>,
+        notices: Notices<F>,
+        is_verbose: bool,
+    ) -> Self
+        ensures taker { result.taker
             ≡ record { share = seat.entry.share; told = F.contents notices.faults; number = 0 } }
+        ensures verbose { result.is_verbose ≡ is_verbose }
     {
         let taker = Taker {
             seat,
@@ -118,6 +126,7 @@ impl<'b, N: Naming, W: Wait + Drop, R: Wait, F: Write + Drop, K: Keeps + Drop> D
         Driver {
             taker,
             apdu: Vec::new(alloc),
+            is_verbose,
         }
     }
 
@@ -125,7 +134,11 @@ impl<'b, N: Naming, W: Wait + Drop, R: Wait, F: Write + Drop, K: Keeps + Drop> D
     pub(crate) fn into_seat(self) -> PortAsker<'b, N, W, R, K>
         ensures { result.share ≡ self.entry.taker.share }
     {
-        let Driver { taker, apdu: _apdu } = self;
+        let Driver {
+            taker,
+            apdu: _apdu,
+            is_verbose: _,
+        } = self;
         let Taker {
             seat,
             notices: _notices,
@@ -134,18 +147,27 @@ impl<'b, N: Naming, W: Wait + Drop, R: Wait, F: Write + Drop, K: Keeps + Drop> D
         seat
     }
 
-    /// Takes the lines that are read, to their end or to a read that fails. A line that can't be kept for want of memory is
-    /// told and passed over.
+    /// Takes the lines that are read, to their end or to a read that fails, which is told. A line that can't be kept for want of memory
+    /// is told and passed over.
     pub(crate) fn take_lines<I: Read + Drop>(&mut self, alloc: Global, lines: &mut ByLine<I>) {
+        let is_read = self.take_readable(alloc, lines);
+        self.taker.notices.tell_end(is_read);
+    }
+
+    /// Takes the lines that are read, and says whether that was to their end.
+    fn take_readable<I: Read + Drop>(&mut self, alloc: Global, lines: &mut ByLine<I>) -> bool {
         for _ in 0..u64::MAX {
-            let Err(LineFault::Memory) = answer_lines(alloc, self, lines, &mut io::sink()) else {
-                return;
-            };
+            match answer_lines(alloc, self, lines, &mut io::sink()) {
+                Ok(_) => return true,
+                Err(LineFault::Memory) => {}
+                Err(_) => return false,
+            }
             self.lose_line();
             if lines.end_line().is_err() {
-                return;
+                return false;
             }
         }
+        false
     }
 
     /// Tells of a line that couldn't be kept for want of memory.
@@ -166,7 +188,8 @@ impl<'b, N: Naming, W: Wait + Drop, R: Wait, F: Write + Drop, K: Keeps + Drop> A
     ghost use Rattle.live_server.specs.Driving.{DrivesLine, following};
 
     // Lines are counted by the driver, since some may be lost. Nothing waits to be written: what is told is written at once.
-    ghost answers = { λ old _ line text new. (text ≡ []) × DrivesLine N.accepted.plan (following old.taker) line new.taker };
+    ghost answers = { λ old _ line text new. (text ≡ []) × (new.is_verbose ≡ old.is_verbose)
+        × DrivesLine N.accepted.plan old.is_verbose (following old.taker) line new.taker };
 
     // No line ends the driver.
     ghost stops = { λ _ _ _ _ _. ⊥ };
@@ -178,9 +201,13 @@ impl<'b, N: Naming, W: Wait + Drop, R: Wait, F: Write + Drop, K: Keeps + Drop> A
         line: &[u8],
         _waiting: &mut Vec<u8>,
     ) -> Result<(), LineFault> {
-        let Driver { taker, apdu } = self;
+        let Driver {
+            taker,
+            apdu,
+            is_verbose,
+        } = self;
         taker.number = taker.number.wrapping_add(1);
-        take_line(alloc, taker, apdu, line);
+        take_line(alloc, taker, apdu, line, *is_verbose);
         taker.seat.tell();
         Ok(())
     }
@@ -192,8 +219,9 @@ fn take_line<N: Naming, W: Wait + Drop, R: Wait, F: Write + Drop, K: Keeps + Dro
     taker: &mut Taker<'_, N, W, R, F, K>,
     room: &mut Vec<u8>,
     line: &[u8],
+    is_verbose: bool,
 )
-    ensures { DrivesLine N.accepted.plan taker.old line.now taker.new }
+    ensures { DrivesLine N.accepted.plan is_verbose taker.old line.now taker.new }
 {
     let plan = taker.seat.plan();
     let Ok(line) = read_line(alloc, plan, line, room) else {
@@ -204,20 +232,35 @@ fn take_line<N: Naming, W: Wait + Drop, R: Wait, F: Write + Drop, K: Keeps + Dro
         // No step is an error: the taker tells of those that are refused.
         unreachable!();
     };
-    tell_left(taker, &left);
+    tell_left(taker, &left, is_verbose);
 }
 
 /// Tells that a line is no step of the meter itself, where it isn't.
 fn tell_left<N: Naming, W: Wait + Drop, R: Wait, F: Write + Drop, K: Keeps + Drop>(
     taker: &mut Taker<'_, N, W, R, F, K>,
     left: &Left<'_>,
+    is_verbose: bool,
 )
-    ensures { TellsOf left.now taker.old taker.new }
+    ensures { TellsOf is_verbose left.now taker.old taker.new }
 {
     match left {
         Left::Nothing => {}
-        Left::Ask(_) | Left::Unreadable(_) => {
-            taker.notices.tell_unreadable(taker.number);
-        }
+        Left::Ask(_) => tell_no_step(taker, NoStep::Apdu, is_verbose),
+        Left::Unreadable(why) => tell_no_step(taker, NoStep::Unreadable(*why), is_verbose),
+    }
+}
+
+/// Tells that the line is no step of the meter itself, and where that is asked for why.
+fn tell_no_step<N: Naming, W: Wait + Drop, R: Wait, F: Write + Drop, K: Keeps + Drop>(
+    taker: &mut Taker<'_, N, W, R, F, K>,
+    why: NoStep,
+    is_verbose: bool,
+)
+    ensures { IsTold taker.old (unread_text is_verbose taker.old.number (no_step_words why)) taker.new }
+{
+    if is_verbose {
+        taker.notices.tell_why_unreadable(taker.number, why);
+    } else {
+        taker.notices.tell_unreadable(taker.number);
     }
 }

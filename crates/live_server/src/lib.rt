@@ -3,6 +3,7 @@
 //! - [`serving::serve_at`] binds a place, and answers connections there.
 //! - [`sessions::serve_sessions`] answers connections, each in a thread of its own, on one board.
 //! - [`asking::PortAsker`] is what a session asks: a port of the board, with its share and its reader.
+//! - [`output::SharedOutput`] is written by the threads of a server, and by what makes the driver's lines.
 //! - [`driver::Driver`] takes the meter's own steps from lines, and tells of those that are refused by its [`notices::Notices`].
 #![tactic(auto)]
 
@@ -13,7 +14,7 @@ pub mod driver;
 pub mod fault;
 mod log;
 pub mod notices;
-mod output;
+pub mod output;
 mod seats;
 pub mod serving;
 pub mod sessions;

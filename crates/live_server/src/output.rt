@@ -1,18 +1,18 @@
-//! The output of faults, which more threads than one write.
+//! An output that more threads than one write.
 use std::io::{self, Write};
 use std::sync::{Mutex, Wait};
 
-/// The output of faults, under a lock: the driver's lines are told there, and connections that can't be taken. What others write
-/// to it is not known here.
+/// An output under a lock, as that of faults: the driver's lines are told there, and connections that can't be taken. What others
+/// write to it is not known here.
 #[derive(Drop)]
-pub(crate) struct SharedOutput<'a, F: Write + Drop, R: Wait> {
+pub struct SharedOutput<'a, F: Write + Drop, R: Wait> {
     rt: &'a R,
     output: &'a Mutex<F>,
 }
 
 impl<'a, F: Write + Drop, R: Wait> SharedOutput<'a, F, R> {
     /// The output under this lock.
-    pub(crate) fn new(rt: &'a R, output: &'a Mutex<F>) -> Self {
+    pub fn new(rt: &'a R, output: &'a Mutex<F>) -> Self {
         SharedOutput { rt, output }
     }
 }

@@ -1,6 +1,6 @@
 //! The seats of a board, and which are taken.
 ghost use Rattle.std.specs.Prelude.{◌≡◌, ◌<◌, ◌⊎◌, ◌↔◌, true, false, Some, IfErr, IfSome, IsTrue, MatchOption, slice_get, slice_set, unwrap_or};
-ghost use Rattle.live_server.specs.Seats.{AreTaken};
+ghost use Rattle.live_server.specs.Seats.{AreTaken, AreTakenFrom};
 ghost use Rattle.live_server.specs.Faults.{IsFaultBy, MayGiveUp};
 
 use crate::asking::{PortAsker, Standing};
@@ -105,7 +105,9 @@ pub(crate) struct Taken<'g, G: Gate> {
 
 impl<'g, G: Gate> Taken<'g, G> {
     /// None of so many seats is taken yet, and none gave up at this gate. Those that aren't there are taken for good.
-    pub(crate) fn new(gate: &'g G, count: usize) -> Taken<'g, G> {
+    pub(crate) fn new(gate: &'g G, count: usize) -> Taken<'g, G>
+        ensures { AreTakenFrom count result.is_taken }
+    {
         Taken {
             is_taken: taken_from(count),
             gave_up: false,
@@ -177,7 +179,9 @@ pub(crate) fn is_last(count: u64, sessions: u64) -> bool
 }
 
 /// Whether each of 64 seats is taken: those from this one on.
-fn taken_from(count: usize) -> [bool; SEATS] {
+fn taken_from(count: usize) -> [bool; SEATS]
+    ensures { AreTakenFrom count result }
+{
     let mut is_taken = [true; SEATS];
     for seat in 0..count.min(SEATS) {
         is_taken[seat] = false;

@@ -30,9 +30,8 @@ pub struct Place<'a> {
     pub manners: Manners,
 }
 
-/// Takes connections at a place, tells on the error stream where that is, and answers them as `serve_sessions` does, by a live
-/// meter of what was accepted, whose own steps come as lines, and of which nothing is kept. Lines that are no such steps are told on the
-/// error stream too.
+/// Takes connections at a place, tells where faults are told where that is, and answers them as `serve_sessions` does, by a live
+/// meter of what was accepted, whose own steps come as lines, and of which nothing is kept.
 ///
 /// # Errors
 /// The place can't be bound, or as `serve_sessions`.
@@ -40,8 +39,7 @@ pub fn serve_at<R, I, E>(
     rt: &R,
     checked: Checked,
     place: Place<'_>,
-    steps: I,
-    mut errors: E,
+    driven: Driven<'_, I, E>,
 ) -> Result<Closed, ServerFault>
 where
     R: AllocGlobal
@@ -55,11 +53,17 @@ where
     ensures plan { IfOk result (λ closed. closed.plan ≡ checked) }
     ensures meter { IfOk result (λ closed. IsState checked.plan closed.meter) }
 {
-    let listener = bound(rt, place, &mut errors)?;
+    let Driven {
+        steps,
+        mut faults,
+        is_over,
+    } = driven;
+    let listener = bound(rt, place, &mut faults)?;
     let service = service_at(&listener, place);
     let driven = Driven {
         steps,
-        faults: errors,
+        faults,
+        is_over,
     };
     serve_accepted(rt, rt.alloc(), checked, service, driven)
 }
@@ -74,8 +78,7 @@ pub fn serve_kept_at<R, I, E, K, P>(
     past: P,
     keeper: K,
     place: Place<'_>,
-    steps: I,
-    mut errors: E,
+    driven: Driven<'_, I, E>,
 ) -> Result<Closed, ServerFault>
 where
     R: AllocGlobal
@@ -92,11 +95,17 @@ where
     ensures plan { IfOk result (λ closed. closed.plan ≡ checked) }
     ensures meter { IfOk result (λ closed. IsState checked.plan closed.meter) }
 {
-    let listener = bound(rt, place, &mut errors)?;
+    let Driven {
+        steps,
+        mut faults,
+        is_over,
+    } = driven;
+    let listener = bound(rt, place, &mut faults)?;
     let service = service_at(&listener, place);
     let driven = Driven {
         steps,
-        faults: errors,
+        faults,
+        is_over,
     };
     serve_kept(rt, rt.alloc(), checked, past, keeper, service, driven)
 }

@@ -41,11 +41,13 @@ pub struct Service<'a, G: Gate> {
     pub manners: Manners,
 }
 
-/// The driver's lines, and where it is told which of them are refused.
+/// The driver's lines, where it is told which of them are refused, and what is set once no further connection is answered: lines that
+/// would never end by themselves end by it.
 #[derive(Drop)]
-pub struct Driven<I: Read + Drop, F: Write + Drop> {
+pub struct Driven<'o, I: Read + Drop, F: Write + Drop> {
     pub steps: I,
     pub faults: F,
+    pub is_over: &'o Mutex<bool>,
 }
 
 /// Answers so many connections, each in a thread of its own at the lowest free seat, and takes the meter's own steps from the
@@ -61,7 +63,7 @@ pub fn serve_sessions<N, W, R, I, F, G, K>(
     board: Board<N, W, K>,
     past: Option<Share<N>>,
     service: Service<'_, G>,
-    driven: Driven<I, F>,
+    driven: Driven<'_, I, F>,
 ) -> Result<Closed, ServerFault>
 where
     N: Naming + Send + Sync,
@@ -99,7 +101,7 @@ fn run_sessions<N, W, R, I, F, G, K>(
     board: &Board<N, W, K>,
     past: Option<Share<N>>,
     service: Service<'_, G>,
-    driven: Driven<I, F>,
+    driven: Driven<'_, I, F>,
 ) -> Result<Vec<Share<N>>, ServerFault>
 where
     N: Naming + Send + Sync,
@@ -111,11 +113,17 @@ where
     K: Keeps + Drop + Send,
     ensures { IfErr result (λ fault. IsFaultBy G.may_give_up fault) }
 {
-    let Driven { steps, faults } = driven;
+    let Driven {
+        steps,
+        faults,
+        is_over,
+    } = driven;
     let lines = ByLine::new(alloc, steps).map_err(|_| ServerFault::Memory)?;
     let standings = clear_standings(alloc, service.manners.seats)?;
     let output = Mutex::new(faults);
-    let mut shares = run_lent(rt, alloc, board, &service, lines, &output, &standings)?;
+    let mut shares = run_lent(
+        rt, alloc, board, &service, lines, is_over, &output, &standings,
+    )?;
     if let Some(past) = past {
         shares.push(past).map_err(|_| ServerFault::Memory)?;
     }
@@ -129,6 +137,7 @@ fn run_lent<'b, N, W, R, I, F, G, K>(
     board: &'b Board<N, W, K>,
     service: &Service<'_, G>,
     lines: ByLine<I>,
+    is_over: &Mutex<bool>,
     output: &'b Mutex<F>,
     standings: &'b [Mutex<Standing>],
 ) -> Result<Vec<Share<N>>, ServerFault>
@@ -145,7 +154,8 @@ where
     let notices = Notices::new(alloc, SharedOutput::new(rt, output)).map_err(
         |_| ServerFault::Memory,
     )?;
-    let driver = Driver::new(alloc, open_seat(rt, board, None)?, notices);
+    let is_verbose = service.manners.is_verbose;
+    let driver = Driver::new(alloc, open_seat(rt, board, None)?, notices, is_verbose);
     let seats = open_seats(rt, alloc, board, standings)?;
     let driver = run_threads(
         rt,
@@ -153,6 +163,7 @@ where
         service,
         driver,
         lines,
+        is_over,
         seats.as_slice(),
         output,
         standings,
@@ -167,6 +178,7 @@ fn run_threads<'b, N, W, R, I, F, G, K>(
     service: &Service<'_, G>,
     driver: Driver<'b, N, W, R, SharedOutput<'b, F, R>, K>,
     lines: ByLine<I>,
+    is_over: &Mutex<bool>,
     seats: &[Mutex<PortAsker<'b, N, W, R, K>>],
     output: &'b Mutex<F>,
     standings: &'b [Mutex<Standing>],
@@ -186,7 +198,7 @@ where
     let (driver, ended) = thread::join(
         rt,
         move || drive(alloc, driver, lines),
-        || accept_all(rt, alloc, seats, lent, service),
+        || accept_until_over(rt, alloc, seats, lent, service, is_over),
     );
     ended.map_err(|_| ServerFault::Listen)?;
     shared.ended()?;
@@ -209,6 +221,28 @@ where
 {
     driver.take_lines(alloc, &mut lines);
     driver
+}
+
+/// Takes connections as `accept_all` does, and sets then that all is over.
+fn accept_until_over<'g, N, W, R, G, F, K>(
+    rt: &R,
+    alloc: Global,
+    seats: &[Mutex<PortAsker<'_, N, W, R, K>>],
+    shared: &Shared<'g, '_, G, F>,
+    service: &Service<'g, G>,
+    is_over: &Mutex<bool>,
+) -> io::Result<()>
+where
+    N: Naming + Send + Sync,
+    W: Wait + Drop + Send + Sync,
+    R: Clock + Threads + Wait + Sync,
+    G: Gate + Sync,
+    F: Write + Send + Drop,
+    K: Keeps + Drop + Send,
+{
+    let ended = accept_all(rt, alloc, seats, shared, service);
+    *is_over.lock(rt) = true;
+    ended
 }
 
 /// Takes connections until there were so many, or the listening fails, and waits for their threads. One that can't be taken is
@@ -280,7 +314,7 @@ pub fn serve_accepted<R, I, F, G>(
     alloc: Global,
     checked: Checked,
     service: Service<'_, G>,
-    driven: Driven<I, F>,
+    driven: Driven<'_, I, F>,
 ) -> Result<Closed, ServerFault>
 where
     R: Clock + Threads + Wait + Sync,
@@ -308,7 +342,7 @@ pub fn serve_kept<R, I, F, G, K, P>(
     past: P,
     keeper: K,
     service: Service<'_, G>,
-    driven: Driven<I, F>,
+    driven: Driven<'_, I, F>,
 ) -> Result<Closed, ServerFault>
 where
     R: Clock + Threads + Wait + Sync,
@@ -351,7 +385,7 @@ fn open_and_serve<N, W, R, I, F, G>(
     checked: Checked,
     blanks: Blanks,
     service: Service<'_, G>,
-    driven: Driven<I, F>,
+    driven: Driven<'_, I, F>,
 ) -> Result<Closed, ServerFault>
 where
     N: Naming + Send + Sync,
@@ -383,7 +417,7 @@ fn resume_and_serve<N, W, R, I, F, G, K, P>(
     kept: Kept<K, P>,
     blanks: Blanks,
     service: Service<'_, G>,
-    driven: Driven<I, F>,
+    driven: Driven<'_, I, F>,
 ) -> Result<Closed, ServerFault>
 where
     N: Naming + Send + Sync,

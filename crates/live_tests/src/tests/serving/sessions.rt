@@ -17,8 +17,8 @@ use std::alloc::Global;
 use std::io::{ErrorKind, Read, Write};
 use std::net::{Net, SocketAddr, TcpListener, TcpStream};
 use std::process::Abort;
-use std::sync::Wait;
 use std::sync::atomic::{AtomicU64, Ordering};
+use std::sync::{Mutex, Wait};
 use std::test::Fail;
 use std::thread::Threads;
 use std::time::Clock;
@@ -91,6 +91,7 @@ where
     listener.set_nonblocking(matches!(clients, Clients::ComeLate(_)))?;
     let address = listener.local_addr()?;
     let checked = accepted(alloc, TEXT)?;
+    let is_over = Mutex::new(false);
     let (answered, served) = thread::join(
         rt,
         || ask(rt, alloc, address, clients),
@@ -101,7 +102,12 @@ where
                 gate,
                 manners: MANNERS,
             };
-            serve_accepted(rt, alloc, checked, service, Driven { steps, faults })
+            let driven = Driven {
+                steps,
+                faults,
+                is_over: &is_over,
+            };
+            serve_accepted(rt, alloc, checked, service, driven)
         },
     );
     assert!(rt; answered.is_some());
@@ -300,9 +306,14 @@ const LINES: &[u8] =
     b"\nin 1.0.1.8.0.255 060000005A\nreader C001C100030100010800FF0200\n\nnothing\ntick 2\nat 2023-02-29T00:00:00\n\
       in 1.0.1.8.0.255 0600000064\neval 0.0.16.1.0.255\nat 2024-02-29T00:00:00";
 
-/// What is told of the lines that are none.
+/// What is told of the lines that are none, and of their end.
 const TOLD: &[u8] =
-    b"line 1: unreadable\nline 3: unreadable\nline 5: unreadable\nline 7: unreadable\n";
+    b"line 1: unreadable\nline 3: unreadable\nline 5: unreadable\nline 7: unreadable\n\
+      cosem-flow: the lines have ended: the meter takes no further step of its own\n";
+
+/// What is told of a line that is none, and of a read that fails behind it.
+const TOLD_BEFORE: &[u8] =
+    b"line 1: unreadable\ncosem-flow: the lines can't be read on: the meter takes no further step of its own\n";
 
 /// The reader is answered the last of the inputs in the end, the manager the alarm that the monitor's script wrote, and the
 /// installer that an entry is in use.
@@ -382,7 +393,7 @@ fn the_driver_outlives_its_streams(rt: HostRuntime) -> Result<(), Fail> {
     let mut faults = Vec::new(rt.alloc());
     let cut = Broken(b"nothing\nin 1.0.1.8.0.255 060000005A\nin 1.0.1.8.0.255 06000000");
     serves_driven(&rt, Clients::Read, 1, &Open, cut, &mut faults, (1, 1))?;
-    assert!(rt; faults.as_slice() == b"line 1: unreadable\n".as_slice());
+    assert!(rt; faults.as_slice() == TOLD_BEFORE);
     let lines: &[u8] = b"nothing\nin 1.0.1.8.0.255 060000005A\n";
     let full = Full(ErrorKind::StorageFull);
     serves_driven(&rt, Clients::Read, 1, &Open, lines, full, (1, 1))
@@ -443,7 +454,7 @@ impl Write for Counting<'_> {
     }
 }
 
-/// A reader connects once something is told, and gets the register.
+/// A reader connects once it is told that the lines have ended, and of a connection, and gets the register.
 fn come_late<R: Net<Stream = TcpStream>>(
     rt: &R,
     alloc: Global,
@@ -451,7 +462,7 @@ fn come_late<R: Net<Stream = TcpStream>>(
     told: &AtomicU64,
 ) -> Option<()> {
     for _ in 0..u64::MAX {
-        if told.load(Ordering::SeqCst) > 0 {
+        if told.load(Ordering::SeqCst) > 1 {
             break;
         }
         thread::yield_now();
@@ -467,6 +478,6 @@ fn a_connection_that_cant_be_taken_is_told(rt: HostRuntime) -> Result<(), Fail> 
     let none: &[u8] = b"";
     let clients = Clients::ComeLate(&told);
     serves_driven(&rt, clients, 1, &Open, none, Counting(&told), (0, 0))?;
-    assert!(rt; told.load(Ordering::SeqCst) == 1);
+    assert!(rt; told.load(Ordering::SeqCst) == 2);
     Ok(())
 }
