@@ -1,7 +1,10 @@
 mod files;
 mod heads;
+mod keepers;
+mod lent;
 mod past;
 mod printed;
 mod running;
 mod samples;
 mod stops;
+mod waiting;

@@ -5,6 +5,7 @@ use cosem_data::memory::Memory;
 use std::alloc::Global;
 use std::io;
 use std::io::{ErrorKind, Read, Write};
+use std::test::Fail;
 
 /// A reader that moves one byte a call and fails at one call, counted from 1 (0 for none).
 #[derive(Drop)]
@@ -87,4 +88,18 @@ impl Write for SlowWriter {
     fn flush(&mut self) -> io::Result<()> {
         Ok(())
     }
+}
+
+/// What is read, a few bytes at once, until it ends or fails; and whether it fails.
+pub(super) fn read_all<R: Read>(alloc: Global, reader: &mut R) -> Result<(Vec<u8>, bool), Fail> {
+    let mut text = Vec::new(alloc);
+    let mut piece = [0u8; 5];
+    for _ in 0..99 {
+        match reader.read(&mut piece) {
+            Ok(0) => return Ok((text, false)),
+            Ok(count) => text.extend_from_slice(piece.get(..count).unwrap_or(&[]))?,
+            Err(_) => return Ok((text, true)),
+        }
+    }
+    Err("no end".into())
 }

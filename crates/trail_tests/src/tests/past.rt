@@ -37,9 +37,9 @@ const STEPS: &str = "set-clock 2024-02-28T22:29:59\n\
     in 1.0.1.8.0.255 0600000009\n\
     manager C101C100010000600B00FF02001101\n";
 
-/// The entries of a file with this text.
-fn entries_of(alloc: Global, text: &str) -> Result<Vec<Entry>, Fail> {
-    let Some(mut disk) = holding(Memory::new(alloc), text.as_bytes()) else {
+/// The entries of a file with these bytes.
+fn entries_of(alloc: Global, bytes: &[u8]) -> Result<Vec<Entry>, Fail> {
+    let Some(mut disk) = holding(Memory::new(alloc), bytes) else {
         return Err(Fail::from(TrailFault::Memory));
     };
     Ok(open(alloc, &mut disk, &HEAD)?.entries)
@@ -68,7 +68,7 @@ fn five_entries_are_handed_out_step_by_step(rt: HostRuntime) -> Result<(), Fail>
     let alloc = rt.alloc();
     let plan = plan_of(alloc)?;
     let text = format!(in alloc; "{HEAD_TEXT}{ENTRIES}")?;
-    let entries = entries_of(alloc, &text)?;
+    let entries = entries_of(alloc, text.as_bytes())?;
     assert_eq!(rt; entries.len(), 5);
     let mut past = Past::of(alloc, &plan, &entries)?;
     let steps = recalled(alloc, &plan, &mut past)?;
@@ -79,7 +79,7 @@ fn five_entries_are_handed_out_step_by_step(rt: HostRuntime) -> Result<(), Fail>
 /// What handing out ends by, of a file whose second line is this.
 fn fault_of(alloc: Global, plan: &Plan, line: &str) -> Result<Option<PastFault>, Fail> {
     let text = format!(in alloc; "{HEAD_TEXT}#\nmove-clock 86400\n#\n{line}\n\n")?;
-    let entries = entries_of(alloc, &text)?;
+    let entries = entries_of(alloc, text.as_bytes())?;
     Ok(Past::of(alloc, plan, &entries).err())
 }
 

@@ -22,7 +22,7 @@ const ENTRIES: &str = "# 2026-11-28T18:53:41Z seat 3: success (0)\n\
     # by \x1b[31mhand: \"?\"\n\
     reader C001C100030100010800FF0200\n";
 
-const HEAD_LINE: &str =
+pub(super) const HEAD_LINE: &str =
     "# cosem-flow 0.1.0, configuration 000102030405060708090a0b0c0d0e0f101112131415161718191a1b1c1d1eff\n";
 
 /// The lines of the entries.

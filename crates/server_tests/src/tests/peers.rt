@@ -1,0 +1,3 @@
+mod idle;
+mod lines;
+mod refusals;
