@@ -26,13 +26,14 @@ use fleet_audit::telling::{audit_texts, audit_texts_aloud};
 use fleet_audit::watch::Unwatched;
 use flow_checker::check::Checked;
 use live_server::serving::{Place, serve_at};
+use live_server::sessions::Driven;
 use live_server::sitting::Manners;
 use peer_watch::rules::Rules;
 use std::alloc::Global;
 use std::io::{Read, Write};
 use std::net::{Net, TcpListener, TcpStream};
 use std::num::{NonZeroU16, NonZeroUsize};
-use std::sync::Wait;
+use std::sync::{Mutex, Wait};
 use std::thread::Threads;
 use std::time::Clock;
 use step_words::texts::Way;
@@ -333,7 +334,15 @@ where
         (I.remaining input.old) (I.remaining input.new) result }
 {
     match accepted_of_files(rt.alloc(), files, config, labels, false) {
-        Ok(checked) => ended(serve_at(rt, checked, place, input, errors)),
+        Ok(checked) => {
+            let is_over = Mutex::new(false);
+            let driven = Driven {
+                steps: input,
+                faults: errors,
+                is_over: &is_over,
+            };
+            ended(serve_at(rt, checked, place, driven))
+        }
         Err(outcome) => outcome,
     }
 }
