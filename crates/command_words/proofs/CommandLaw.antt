@@ -1,5 +1,6 @@
 -- Words in which clap finds no fault are a command.
-use Rattle.std.proofs.Common.{◌≡◌, ◌∙◌, ◌∷◌, Bool, true, false, not, ◌&&◌, ◌||◌, List, [], Option, Some, None, IfSome, is_some, option_and_then, option_map, bytes_eq, find, fold, codes, inl, inr, refl, true≢false, sym, ap, ap₂, subst, arith}
+use Rattle.std.proofs.Common.{◌≡◌, ◌∙◌, ◌∷◌, Bool, true, false, not, ◌&&◌, ◌||◌, List, [], Option, Some, None, IfSome, is_some, option_and_then, option_map, bytes_eq, find, fold, codes, inl, inr, refl, true≢false, sym, ap, ap₂, subst, arith, neg_ℤ, pos}
+use Rattle.std.proofs.lemmas.Int.{ints}
 use Rattle.std.specs.Option.{option_map_or}
 use Rattle.std.specs.List.{list_all, list_any}
 use Rattle.std.specs.Prelude.{if◌then◌else◌}
@@ -8,15 +9,17 @@ use Rattle.std.proofs.Math.Bool.{and-true}
 use Rattle.std.proofs.lemmas.Slice.Eq.{bytes_eq-Decides}
 use Rattle.clap.specs.Words.{App, Row, Shape, Text, built, fault_of, subcommand_of}
 use Rattle.clap.specs.Faults.{built_fault, defaults_fault, entered_fault, level_fault, settle_fault, walk_fault}
-use Rattle.clap.specs.Simple.{argument_words, built_leaf, entered, help_shape, label_of, names_of, rows_at}
-use Rattle.clap.specs.ValueTests.{is_unsigned_in}
+use Rattle.clap.specs.Simple.{argument_words, built_leaf, entered, filled, help_shape, label_of, names_of, rows_at}
+use Rattle.clap.specs.ValueTests.{is_signed_in, is_unsigned_in}
 use Rattle.clap.specs.Walk.{answers_to, nothing_held, rows_after, settled, stop_after, walk_from, walked}
-use Rattle.command_words.specs.CommandLine.{app, audit_app, check_app, compare_app, decode_app, demo_app, edges_app, encode_app, label_app, quiet_app, report_app, run_app, serve_app, session_app, why_app}
+use Rattle.command_words.specs.CommandLine.{app, audit_app, check_app, compare_app, decode_app, demo_app, edges_app, encode_app, label_app, quiet_app, report_app, run_app, serve_app, session_app, trail_app, why_app}
+use Rattle.command_words.specs.CommandLine as line
 use Rattle.command_words.specs.Commands.{asked_in, has}
 use Rattle.command_words.proofs.EachLemmas.{Each, each_found, no_kinds}
-use Rattle.command_words.proofs.LevelLemmas.{IsTaken, always_has, level_taken, nothing_wanted, number_there, text_there, texts_there}
+use Rattle.command_words.proofs.LevelLemmas.{IsTaken, always_has, integer_if_there, level_taken, nothing_wanted, number_there, text_there}
+use Rattle.command_words.proofs.IntegerLemmas.{integer_wider}
 use Rattle.command_words.proofs.NumberLemmas.{signed_unsigned, unsigned_wider}
-use Rattle.command_words.proofs.RowLemmas.{Gives}
+use Rattle.command_words.proofs.RowLemmas.{Gives, single_gives}
 use Rattle.command_words.proofs.WalkKeeps.{IsNoHelp, walk_fine}
 
 -- what can't be, as that an argument is another
@@ -75,33 +78,61 @@ report = (refl, λ no_help rows t. asked _ _ (has-taken _ rows t (codes "config"
 quiet : Told (built_leaf quiet_app.top)
 quiet = (refl, λ no_help rows t. asked _ _ (has-taken _ rows t (codes "config" ∷ codes "labels" ∷ codes "client" ∷ []) refl))
 
--- `audit --workers N NAME...`: a number from 1 to 64 is one from 1 on
+-- `audit --workers N [NAME...]`: a number from 1 to 64 is one from 1 on
 audit : Told (built_leaf audit_app.top)
 audit = (
   refl,
-  λ no_help rows t. asked _ _ (both _ _ (number_there _ rows t (codes "workers") refl 1 18446744073709551615 workers) (texts_there _ rows t (codes "name") refl)),
+  λ no_help rows t. asked _ _ (number_there _ rows t (codes "workers") refl 1 18446744073709551615 workers),
 )
   where
     workers : Each (Gives (is_unsigned_in 1 18446744073709551615) (codes "workers")) (built_leaf audit_app.top).rules
-    workers = ((λ own. (refl, (λ v taken. unsigned_wider 1 64 18446744073709551615 v (omega arith) taken), refl)), (other, (other, (other, tt))))
+    workers = single_gives (is_unsigned_in 1 18446744073709551615) (codes "workers") (built_leaf audit_app.top).rules (filled line.workers) refl refl
+        (refl, (λ v taken. unsigned_wider 1 64 18446744073709551615 v (omega arith) taken), refl)
 
 -- `session CONFIG`
 session : Told (built_leaf session_app.top)
 session = (refl, λ no_help rows t. asked _ _ (has-taken _ rows t (codes "config" ∷ []) refl))
 
--- `serve CONFIG LABELS`, with a default for each of its three options
+-- `serve CONFIG LABELS`, with a default for each of its options that the meter needs
 serve : Told (built_leaf serve_app.top)
 serve = (
   refl,
   λ no_help rows t. asked _ _ (both _ _ (has-taken _ rows t (codes "config" ∷ codes "labels" ∷ codes "bind" ∷ []) refl)
-      (both _ _ (number_there _ rows t (codes "port") refl 1 65535 port) (number_there _ rows t (codes "sessions") refl 0 18446744073709551615 sessions))),
+      (both _ _ (number_there _ rows t (codes "port") refl 1 65535 port)
+      (both _ _ (number_there _ rows t (codes "sessions") refl 0 18446744073709551615 sessions)
+      (both _ _ (number_there _ rows t (codes "seats") refl 1 18446744073709551615 seats)
+      (both _ _ (number_there _ rows t (codes "idle") refl 0 4294967295 idle)
+      (both _ _ (number_there _ rows t (codes "penalty") refl 0 4294967295 penalty)
+      (integer_if_there _ rows t (codes "offset") (neg_ℤ (pos 32768)) (pos 32767) offset))))))),
 )
   where
     port : Each (Gives (is_unsigned_in 1 65535) (codes "port")) (built_leaf serve_app.top).rules
-    port = (other, (other, (other, ((λ own. (refl, (λ v taken. signed_unsigned 1 65535 v (omega arith) (omega arith) taken), refl)), (other, (other, tt))))))
+    port = single_gives (is_unsigned_in 1 65535) (codes "port") (built_leaf serve_app.top).rules (filled line.port) refl refl
+        (refl, (λ v taken. signed_unsigned 1 65535 v (omega arith) (omega arith) taken), refl)
 
     sessions : Each (Gives (is_unsigned_in 0 18446744073709551615) (codes "sessions")) (built_leaf serve_app.top).rules
-    sessions = (other, (other, (other, (other, ((λ own. (refl, (λ v taken. taken), refl)), (other, tt))))))
+    sessions = single_gives (is_unsigned_in 0 18446744073709551615) (codes "sessions") (built_leaf serve_app.top).rules (filled line.sessions) refl refl
+        (refl, (λ v taken. taken), refl)
+
+    seats : Each (Gives (is_unsigned_in 1 18446744073709551615) (codes "seats")) (built_leaf serve_app.top).rules
+    seats = single_gives (is_unsigned_in 1 18446744073709551615) (codes "seats") (built_leaf serve_app.top).rules (filled line.seats) refl refl
+        (refl, (λ v taken. unsigned_wider 1 64 18446744073709551615 v (omega arith) taken), refl)
+
+    idle : Each (Gives (is_unsigned_in 0 4294967295) (codes "idle")) (built_leaf serve_app.top).rules
+    idle = single_gives (is_unsigned_in 0 4294967295) (codes "idle") (built_leaf serve_app.top).rules (filled line.idle) refl refl
+        (refl, (λ v taken. unsigned_wider 0 86400 4294967295 v (omega arith) taken), refl)
+
+    penalty : Each (Gives (is_unsigned_in 0 4294967295) (codes "penalty")) (built_leaf serve_app.top).rules
+    penalty = single_gives (is_unsigned_in 0 4294967295) (codes "penalty") (built_leaf serve_app.top).rules (filled line.penalty) refl refl
+        (refl, (λ v taken. unsigned_wider 0 8000 4294967295 v (omega arith) taken), refl)
+
+    offset : Each (Gives (is_signed_in (neg_ℤ (pos 32768)) (pos 32767)) (codes "offset")) (built_leaf serve_app.top).rules
+    offset = single_gives (is_signed_in (neg_ℤ (pos 32768)) (pos 32767)) (codes "offset") (built_leaf serve_app.top).rules (filled line.offset) refl refl
+        (refl, (λ v taken. integer_wider (neg_ℤ (pos 840)) (pos 840) v (omega (arith, ints)) (omega (arith, ints)) taken), refl)
+
+-- `trail FILE`
+trail : Told (built_leaf trail_app.top)
+trail = (refl, λ no_help rows t. asked _ _ (has-taken _ rows t (codes "file" ∷ []) refl))
 
 -- `encode`
 encode : Told (built_leaf encode_app.top)
@@ -117,7 +148,7 @@ help = (refl, λ no_help rows t. other (sym no_help))
 
 -- all that the program has
 all_told : Each Told (built app).subs
-all_told = (demo, (run, (edges, (label, (check, (why, (compare, (report, (quiet, (audit, (session, (serve, (encode, (decode, (help, tt)))))))))))))))
+all_told = (demo, (run, (edges, (label, (check, (why, (compare, (report, (quiet, (audit, (session, (serve, (trail, (encode, (decode, (help, tt))))))))))))))))
 
 module _ (above : App) (required : above.top.subcommand_required ≡ true) (helps : above.top.disable_help_subcommand ≡ false) (told : Each Told above.subs) where
   -- the subcommand at which the words stop

@@ -1,19 +1,19 @@
 -- One level of a command whose words have no fault: what clap keeps of its arguments.
-use Rattle.std.proofs.Common.{◌≡◌, ◌∙◌, ℕ, Bool, true, false, cond, not, ◌&&◌, ◌||◌, List, [], ◌∷◌, Some, None, is_some, bytes_eq, find, fold, inl, inr, ◌==◌, refl, true≢false, sym, ap, subst}
+use Rattle.std.proofs.Common.{◌≡◌, ◌∙◌, ℕ, ℤ, Bool, true, false, cond, not, ◌&&◌, ◌||◌, List, [], ◌∷◌, Option, Some, None, is_some, bytes_eq, find, fold, inl, inr, ◌==◌, refl, true≢false, sym, ap, subst}
 use Rattle.std.specs.List.{list_all, list_any}
 use Rattle.std.proofs.lemmas.Bool.{and_parts, eqb-true, not-false, not-true, or_cases, or_parts, or_right}
 use Rattle.std.proofs.lemmas.Slice.Eq.{bytes_eq-Decides}
-use Rattle.std.specs.Str.Parse.{digits_value, without_leading_plus}
-use Rattle.clap.specs.ValueTests.{is_unsigned_in}
-use Rattle.clap.specs.Words.{Row, Rule, Shape, Text, all_of, first_of, one_of}
+use Rattle.std.specs.Str.Parse.{digits_value, signed_digits_value, without_leading_plus}
+use Rattle.clap.specs.ValueTests.{is_signed_in, is_unsigned_in}
+use Rattle.clap.specs.Words.{Row, Rule, Shape, Text, first_of, one_of}
 use Rattle.clap.specs.Facts.{unwrap_or_range}
 use Rattle.clap.specs.Faults.{check_fault, defaults_fault, level_fault, settle_fault, use_fault, walk_fault}
 use Rattle.clap.specs.Kinds.{check_kinds}
 use Rattle.clap.specs.Takes.{is_given}
 use Rattle.clap.specs.Walk.{has_row, nothing_held, reading_by, rows_after, settled, walk_from, walked}
-use Rattle.command_words.specs.Said.{◌>>=◌, number_in}
+use Rattle.command_words.specs.Found.{◌>>=◌, integer_in, number_in}
 use Rattle.command_words.proofs.EachLemmas.{Each, each_found, no_kinds}
-use Rattle.command_words.proofs.RowLemmas.{Gives, Starts, all_there, default_row, defaults_start, first_there, given_row, is_defaulted, one_passes, starts_if_any, used_starts}
+use Rattle.command_words.proofs.RowLemmas.{Gives, Starts, default_row, defaults_start, first_there, given_row, is_defaulted, one_passes, passes_if_there, starts_if_any, used_starts}
 use Rattle.command_words.proofs.WalkKeeps.{settled_keeps, walk_fine}
 
 -- the rows of a command that took its words
@@ -115,13 +115,18 @@ module _ (s : Shape) (rows : List Row) (t : IsTaken s rows) (id : Text) (e : alw
   pub text_there : is_some (first_of id rows) ≡ true
   text_there = first_there (λ _. true) id rows always_row always_starts
 
-  -- and all its values
-  pub texts_there : is_some (all_of id rows) ≡ true
-  texts_there = all_there (λ _. true) id rows always_row always_starts
-
   -- a number from `least` to `most`, where its parser takes no other
   pub number_there : (least most : ℕ) → Each (Gives (is_unsigned_in least most) id) s.rules → is_some (one_of id rows >>= number_in least most) ≡ true
   number_there least most gives =
       let one = one_passes (is_unsigned_in least most) id rows always_row (t.starts (is_unsigned_in least most) id gives) in
       ap (λ o. is_some (o >>= number_in least most)) one.1
       ∙ ap (λ b. is_some (cond b (Some (digits_value 10 (without_leading_plus one.0))) None)) one.2
+
+-- a number that needn't be given, where it is given
+pub integer_if_there : (s : Shape) (rows : List Row) → IsTaken s rows → (id : Text) (least most : ℤ) → Each (Gives (is_signed_in least most) id) s.rules
+    → (not (is_some (first_of id rows)) || is_some (one_of id rows >>= integer_in least most)) ≡ true
+integer_if_there s rows t id least most gives = elim (passes_if_there (is_signed_in least most) id rows (t.starts (is_signed_in least most) id gives)) [
+  | inl none ↦ ap (λ (o : Option Text). not (is_some o) || is_some (one_of id rows >>= integer_in least most)) none
+  | inr one ↦ or_right (not (is_some (first_of id rows))) _ (ap (λ (o : Option Text). is_some (o >>= integer_in least most)) one.1
+      ∙ ap (λ b. is_some (cond b (Some (signed_digits_value 10 one.0)) None)) one.2)
+]

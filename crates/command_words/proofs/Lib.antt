@@ -2,6 +2,7 @@ pub mod BuildLemmas
 pub mod CommandLaw
 pub mod EachLemmas
 pub mod FindLemmas
+pub mod IntegerLemmas
 pub mod LevelLemmas
 pub mod MatchesLemmas
 pub mod NumberLemmas

@@ -9,7 +9,7 @@ use Rattle.clap.specs.ValueTests.{is_signed_in, is_unsigned_in}
 use Rattle.clap.specs.Values.{IsSignedIn, IsUnsignedIn}
 use Rattle.clap.specs.Words.{ReadsOne, Text, without_minus}
 use Rattle.clap.specs.declared.builder.value_parser.ValueParser.TheVariants as vp
-use Rattle.command_words.specs.Said.{◌>>=◌, number_in}
+use Rattle.command_words.specs.Found.{◌>>=◌, number_in}
 
 -- a number, where it is at least so much
 abbrev pub at_least : ℕ → Option ℕ → Option ℕ

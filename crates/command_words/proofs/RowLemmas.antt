@@ -1,10 +1,12 @@
 -- The rows that clap keeps of an argument with values: each has a first value, and that one passes a test.
-use Rattle.std.proofs.Common.{◌≡◌, ◌∙◌, ◌⊎◌, inl, inr, ◌+◌, min, ℕ, Bool, true, false, cond, ◌&&◌, ◌||◌, List, [], ◌∷◌, ◌++◌, length, Option, Some, find, fold, bytes_eq, refl, true≢false, is_some, option_map, option_and_then, slice_get, sym, ap, subst}
+use Rattle.std.proofs.Common.{◌≡◌, ◌∙◌, ◌⊎◌, inl, inr, ◌+◌, min, ℕ, Bool, true, false, cond, not, ◌&&◌, ◌||◌, List, [], ◌∷◌, ◌++◌, length, Option, Some, None, find, fold, bytes_eq, refl, true≢false, is_some, option_map, option_and_then, slice_get, sym, ap, subst}
 use Rattle.std.specs.List.{list_any}
+use Rattle.std.specs.Prelude.{if◌then◌else◌}
 use Rattle.std.specs.Option.{option_map_or}
-use Rattle.std.proofs.lemmas.Bool.{or_cases, or_left, or_right, and_parts}
+use Rattle.std.proofs.lemmas.Bool.{not-true, or_cases, or_left, or_parts, or_right, and_parts}
+use Rattle.std.proofs.lemmas.Option.{same_Some}
 use Rattle.std.proofs.lemmas.Slice.Eq.{bytes_eq-Decides}
-use Rattle.clap.specs.Words.{Row, Rule, Text, all_of, count_of, count_text, first_of, one_of, read_as}
+use Rattle.clap.specs.Words.{Row, Rule, Text, count_of, count_text, first_of, one_of, read_as}
 use Rattle.clap.specs.Facts.{explicit_source, parser_of_value, unwrap_or_range}
 use Rattle.clap.specs.Faults.{action_fault, use_fault, values_fault}
 use Rattle.clap.specs.Kinds.{range_kinds}
@@ -46,6 +48,32 @@ Passes passes a = ((unwrap_or_range a.range).start_inclusive ≡ 1)
 -- an argument, where it is this one
 abbrev pub Gives : (Text → Bool) → Text → Rule → Type 0
 Gives passes id a = bytes_eq a.id id ≡ true → Passes passes a
+
+-- no other argument has the id of one that has it
+abbrev pub is_single : Text → List Rule → Bool
+is_single id [] = true
+is_single id (a ∷ rules) = if bytes_eq a.id id then not (list_any (λ b. bytes_eq b.id id) rules) else is_single id rules
+
+-- of arguments without this one
+none_gives : (passes : Text → Bool) (id : Text) (rules : List Rule) → list_any (λ a. bytes_eq a.id id) rules ≡ false → Each (Gives passes id) rules
+none_gives passes id [] none = tt
+none_gives passes id (a ∷ rules) none =
+    let parts = or_parts (bytes_eq a.id id) _ none in
+    ((λ own. absurd (true≢false (sym own ∙ parts.0))), none_gives passes id rules parts.1)
+
+-- of arguments of which this is the only one with its id
+pub single_gives : (passes : Text → Bool) (id : Text) (rules : List Rule) (a : Rule) → find (λ b. bytes_eq b.id id) rules ≡ Some a → is_single id rules ≡ true
+    → Passes passes a → Each (Gives passes id) rules
+single_gives passes id [] a is single good = tt
+single_gives passes id (r ∷ rules) a is single good =
+    go (bytes_eq r.id id) refl is single (λ later once. single_gives passes id rules a later once good)
+  where
+    go : (b : Bool) → bytes_eq r.id id ≡ b → cond b (Some r) (find (λ b. bytes_eq b.id id) rules) ≡ Some a
+        → (if b then not (list_any (λ b. bytes_eq b.id id) rules) else is_single id rules) ≡ true
+        → (find (λ b. bytes_eq b.id id) rules ≡ Some a → is_single id rules ≡ true → Each (Gives passes id) rules)
+        → Each (Gives passes id) (r ∷ rules)
+    go true own same single later = ((λ e. subst (Passes passes) (sym (same_Some r a same)) good), none_gives passes id rules (not-true _ single))
+    go false other found single later = ((λ e. absurd (true≢false (sym e ∙ other))), later found single)
 
 -- ---- one use of an argument
 
@@ -233,11 +261,7 @@ found_row passes id (r ∷ rs) has all = go (bytes_eq r.id id) refl has (λ late
     go false is has later = later has
 
 module _ (passes : Text → Bool) (id : Text) (rows : List Row) (has : has_row id rows ≡ true) (all : Each (Starts passes id) rows) where
-  -- it has values
-  pub all_there : is_some (all_of id rows) ≡ true
-  all_there = ap (λ (o : Option Row). is_some (option_map (λ r. r.values) o)) (found_row passes id rows has all).1
-
-  -- and a first one
+  -- it has a first value
   pub first_there : is_some (first_of id rows) ≡ true
   first_there =
       let found = found_row passes id rows has all in
@@ -257,3 +281,22 @@ module _ (passes : Text → Bool) (id : Text) (rows : List Row) (has : has_row i
       go : (how : Reading) (vs : List Text) → starts passes how vs ≡ true → (t : Text) × (option_map (read_as how) (slice_get vs 0) ≡ Some t) × (passes t ≡ true)
       go how [] e = absurd (true≢false (sym e))
       go how (v ∷ vs) e = (read_as how v, refl, e)
+
+-- an argument without a row has no value
+none_there : (id : Text) (rows : List Row) → has_row id rows ≡ false → first_of id rows ≡ None
+none_there id [] none = refl
+none_there id (r ∷ rs) none = go (bytes_eq r.id id) none (none_there id rs)
+  where
+    go : (b : Bool) → (b || has_row id rs) ≡ false → (has_row id rs ≡ false → first_of id rs ≡ None)
+        → option_and_then (λ (x : Row). slice_get x.values 0) (cond b (Some r) (find (λ x. bytes_eq x.id id) rs)) ≡ None
+    go true none later = absurd (true≢false none)
+    go false none later = later none
+
+-- so it has none, or what is read of its first passes
+pub passes_if_there : (passes : Text → Bool) (id : Text) (rows : List Row) → Each (Starts passes id) rows
+    → (first_of id rows ≡ None) ⊎ ((t : Text) × (one_of id rows ≡ Some t) × (passes t ≡ true))
+passes_if_there passes id rows all = go (has_row id rows) refl
+  where
+    go : (b : Bool) → has_row id rows ≡ b → (first_of id rows ≡ None) ⊎ ((t : Text) × (one_of id rows ≡ Some t) × (passes t ≡ true))
+    go true has = inr (one_passes passes id rows has all)
+    go false none = inl (none_there id rows none)

@@ -5,21 +5,21 @@ use Rattle.std.specs.Prelude.{option_and_then, if◌then◌else◌}
 use Rattle.clap.specs.Kinds.{or_else}
 use Rattle.clap.specs.Words.{IsAmong, Kinds, Row, Text, fault_of, subcommand_of}
 use Rattle.clap.specs.declared.error.kind.ErrorKind.{ErrorKind}
-use Rattle.clap.specs.declared.error.kind.ErrorKind.TheVariants.{DisplayHelp, DisplayVersion, InvalidValue, OutOfMemory}
-use Rattle.command_words.specs.CommandLine.{app, form_kinds, kinds_of, unknown_form}
+use Rattle.clap.specs.declared.error.kind.ErrorKind.TheVariants.{DisplayHelp, DisplayVersion, OutOfMemory}
+use Rattle.command_words.specs.CommandLine.{Misuse, UnknownForm, OffsetAlone, ClockBesideSteps, TrailAloud, Nameless, app, kinds_of, misuse_in, misuse_kind, misuse_kinds}
 use Rattle.command_words.specs.Commands.{Asked, asked_by, asked_in, command_of}
-use Rattle.command_words.specs.Faults.{HasMistake, IfHelp, IfUsage, IfVersion, IsNoForm, IsToldAs, UnlessMemory}
+use Rattle.command_words.specs.Faults.{HasMistake, IfHelp, IfUsage, IfVersion, IsMistake, IsMisuse, IsToldAs, UnlessMemory}
 use Rattle.command_words.specs.declared.command.Command.{Command}
 use Rattle.command_words.specs.declared.fault.WordsFault.{WordsFault}
 use Rattle.command_words.specs.declared.fault.WordsFault.TheVariants as faults
 
--- where clap finds no fault, and each form is known, the matches say the command
+-- where clap finds no fault, and there is no misuse, the matches say the command
 pub command_of-taken : (words : List Text) (rows : Option (Text × List Row)) (asked : Option Asked) → fault_of app words ≡ [] → rows ≡ subcommand_of app words
-    → unknown_form rows ≡ None → asked ≡ option_and_then asked_in rows → command_of words ≡ asked
+    → misuse_in rows ≡ None → asked ≡ option_and_then asked_in rows → command_of words ≡ asked
 unfolding command_of
 command_of-taken words rows asked none is known said =
     let P : Kinds → Type 0 = λ ks. (if length ks == 0 then option_and_then asked_in (subcommand_of app words) else None) ≡ asked in
-    let all : kinds_of words ≡ [] = ap₂ or_else none (ap form_kinds (ap unknown_form (sym is) ∙ known)) in
+    let all : kinds_of words ≡ [] = ap₂ or_else none (ap misuse_kinds (ap misuse_in (sym is) ∙ known)) in
     subst P (sym all) (ap (option_and_then asked_in) (sym is) ∙ sym said)
 
 -- the kinds of clap's error are among all
@@ -29,7 +29,7 @@ among-first kind (k ∷ ks) next h = h
 
 pub claps-kind : (words : List Text) (kind : ErrorKind) → (kind ≡ OutOfMemory) ⊎ IsAmong kind (fault_of app words) → (kind ≡ OutOfMemory) ⊎ IsAmong kind (kinds_of words)
 claps-kind words kind (inl h) = inl h
-claps-kind words kind (inr h) = inr (among-first kind (fault_of app words) (form_kinds (unknown_form (subcommand_of app words))) h)
+claps-kind words kind (inr h) = inr (among-first kind (fault_of app words) (misuse_kinds (misuse_in (subcommand_of app words))) h)
 
 no_end : (n : ℕ) → (suc n == 0) ≡ false
 no_end n = grind (arith, nat_tests)
@@ -43,59 +43,67 @@ pub command_of-fault : (words : List Text) (kind : ErrorKind) → IsAmong kind (
 unfolding command_of
 command_of-fault words kind h = some_kind kind (kinds_of words) _ h
 
--- what is told of a form that isn't known is a mistake in the words
-form_kind : (words : List Text) (rows : Option (Text × List Row)) (name : Text × Text) → fault_of app words ≡ [] → rows ≡ subcommand_of app words → unknown_form rows ≡ Some name → IsAmong InvalidValue (kinds_of words)
-form_kind words rows name none is unknown =
-    let kinds : kinds_of words ≡ InvalidValue ∷ [] = ap₂ or_else none (ap form_kinds (ap unknown_form (sym is) ∙ unknown)) in
-    subst (IsAmong InvalidValue) (sym kinds) (inl refl)
+-- what is told of a misuse is a mistake in the words
+its_kind : (words : List Text) (rows : Option (Text × List Row)) (misuse : Misuse) → fault_of app words ≡ [] → rows ≡ subcommand_of app words
+    → misuse_in rows ≡ Some misuse → IsAmong (misuse_kind misuse) (kinds_of words)
+its_kind words rows misuse none is wrong =
+    let kinds : kinds_of words ≡ misuse_kind misuse ∷ [] = ap₂ or_else none (ap misuse_kinds (ap misuse_in (sym is) ∙ wrong)) in
+    subst (IsAmong (misuse_kind misuse)) (sym kinds) (inl refl)
 
--- what is told of matches with a form that isn't known, and what they ask for else
+its_mistake : (misuse : Misuse) → IsMistake (misuse_kind misuse)
+its_mistake (UnknownForm command name) = ((λ same. cc), (λ same. cc))
+its_mistake OffsetAlone = ((λ same. cc), (λ same. cc))
+its_mistake ClockBesideSteps = ((λ same. cc), (λ same. cc))
+its_mistake TrailAloud = ((λ same. cc), (λ same. cc))
+its_mistake Nameless = ((λ same. cc), (λ same. cc))
+
+-- what is told of matches with a misuse, and what they ask for else
 module _ (words : List Text) (rows : Option (Text × List Row)) (none : fault_of app words ≡ []) (is : rows ≡ subcommand_of app words) where
-  pub form-command : (r : Result Command WordsFault) → IfOk r (λ _. unknown_form rows ≡ None) → IfOk r (λ command. Some (asked_by command) ≡ option_and_then asked_in rows)
+  pub misuse-command : (r : Result Command WordsFault) → IfOk r (λ _. misuse_in rows ≡ None) → IfOk r (λ command. Some (asked_by command) ≡ option_and_then asked_in rows)
       → IfOk r (λ command. command_of words ≡ Some (asked_by command))
-  form-command (Ok command) known said = command_of-taken words rows (Some (asked_by command)) none is known said
-  form-command (Err fault) known said = tt
+  misuse-command (Ok command) known said = command_of-taken words rows (Some (asked_by command)) none is known said
+  misuse-command (Err fault) known said = tt
 
-  no_command : (u : Option (Text × Text)) (fault : WordsFault) → unknown_form rows ≡ u → IsNoForm u fault → UnlessMemory fault (command_of words ≡ None)
+  no_command : (u : Option Misuse) (fault : WordsFault) → misuse_in rows ≡ u → IsMisuse u fault → UnlessMemory fault (command_of words ≡ None)
   no_command u faults.Memory e told = tt
   no_command None (faults.Help text) e told = absurd told
   no_command None (faults.Version text) e told = absurd told
   no_command None (faults.Usage text) e told = absurd told
-  no_command (Some name) (faults.Help text) e told = absurd told
-  no_command (Some name) (faults.Version text) e told = absurd told
-  no_command (Some name) (faults.Usage text) e told = command_of-fault words InvalidValue (form_kind words rows name none is e)
+  no_command (Some misuse) (faults.Help text) e told = absurd told
+  no_command (Some misuse) (faults.Version text) e told = absurd told
+  no_command (Some misuse) (faults.Usage text) e told = command_of-fault words (misuse_kind misuse) (its_kind words rows misuse none is e)
 
-  pub form-no_command : (r : Result Command WordsFault) → IfErr r (IsNoForm (unknown_form rows)) → IfErr r (λ fault. UnlessMemory fault (command_of words ≡ None))
-  form-no_command (Ok command) told = tt
-  form-no_command (Err fault) told = no_command (unknown_form rows) fault refl told
+  pub misuse-no_command : (r : Result Command WordsFault) → IfErr r (IsMisuse (misuse_in rows)) → IfErr r (λ fault. UnlessMemory fault (command_of words ≡ None))
+  misuse-no_command (Ok command) told = tt
+  misuse-no_command (Err fault) told = no_command (misuse_in rows) fault refl told
 
-  usage : (u : Option (Text × Text)) (fault : WordsFault) → unknown_form rows ≡ u → IsNoForm u fault → IfUsage fault (HasMistake (kinds_of words))
+  usage : (u : Option Misuse) (fault : WordsFault) → misuse_in rows ≡ u → IsMisuse u fault → IfUsage fault (HasMistake (kinds_of words))
   usage u faults.Memory e told = tt
   usage u (faults.Help text) e told = tt
   usage u (faults.Version text) e told = tt
   usage None (faults.Usage text) e told = absurd told
-  usage (Some name) (faults.Usage text) e told = (InvalidValue, form_kind words rows name none is e, ((λ same. cc), (λ same. cc)))
+  usage (Some misuse) (faults.Usage text) e told = (misuse_kind misuse, its_kind words rows misuse none is e, its_mistake misuse)
 
-  pub form-usage : (r : Result Command WordsFault) → IfErr r (IsNoForm (unknown_form rows)) → IfErr r (λ fault. IfUsage fault (HasMistake (kinds_of words)))
-  form-usage (Ok command) told = tt
-  form-usage (Err fault) told = usage (unknown_form rows) fault refl told
+  pub misuse-usage : (r : Result Command WordsFault) → IfErr r (IsMisuse (misuse_in rows)) → IfErr r (λ fault. IfUsage fault (HasMistake (kinds_of words)))
+  misuse-usage (Ok command) told = tt
+  misuse-usage (Err fault) told = usage (misuse_in rows) fault refl told
 
 -- such a fault is no help and no version
-no_help : (P : Type 0) (u : Option (Text × Text)) (fault : WordsFault) → IsNoForm u fault → IfHelp fault P × IfVersion fault P
+no_help : (P : Type 0) (u : Option Misuse) (fault : WordsFault) → IsMisuse u fault → IfHelp fault P × IfVersion fault P
 no_help P u faults.Memory told = (tt, tt)
 no_help P u (faults.Usage text) told = (tt, tt)
 no_help P None (faults.Help text) told = absurd told
 no_help P None (faults.Version text) told = absurd told
-no_help P (Some name) (faults.Help text) told = absurd told
-no_help P (Some name) (faults.Version text) told = absurd told
+no_help P (Some misuse) (faults.Help text) told = absurd told
+no_help P (Some misuse) (faults.Version text) told = absurd told
 
-pub form-help : (P : Type 0) (u : Option (Text × Text)) (r : Result Command WordsFault) → IfErr r (IsNoForm u) → IfErr r (λ fault. IfHelp fault P)
-form-help P u (Ok command) told = tt
-form-help P u (Err fault) told = (no_help P u fault told).0
+pub misuse-help : (P : Type 0) (u : Option Misuse) (r : Result Command WordsFault) → IfErr r (IsMisuse u) → IfErr r (λ fault. IfHelp fault P)
+misuse-help P u (Ok command) told = tt
+misuse-help P u (Err fault) told = (no_help P u fault told).0
 
-pub form-version : (P : Type 0) (u : Option (Text × Text)) (r : Result Command WordsFault) → IfErr r (IsNoForm u) → IfErr r (λ fault. IfVersion fault P)
-form-version P u (Ok command) told = tt
-form-version P u (Err fault) told = (no_help P u fault told).1
+pub misuse-version : (P : Type 0) (u : Option Misuse) (r : Result Command WordsFault) → IfErr r (IsMisuse u) → IfErr r (λ fault. IfVersion fault P)
+misuse-version P u (Ok command) told = tt
+misuse-version P u (Err fault) told = (no_help P u fault told).1
 
 -- a fault that is told as clap's error, and what it says of the words
 pub told-no_command : (words : List Text) (kind : ErrorKind) (fault : WordsFault) → IsToldAs kind fault → (kind ≡ OutOfMemory) ⊎ IsAmong kind (kinds_of words)

@@ -1,11 +1,13 @@
 -- What the words of a command line ask for. All of it is own profile.
 use Rattle.std.specs.Prelude.{◌==◌, ◌&&◌, Bool, List, ◌∷◌, [], ℕ, Option, Some, None, codes, is_some, length, map, option_and_then, option_map, true, unwrap_or}
 use Rattle.std.specs.Prelude.{if◌then◌else◌}
-use Rattle.std.specs.Int.NonZero.{non_zero_u16_get, non_zero_usize_get}
+use Rattle.std.specs.Int.NonZero.{non_zero_usize_get}
 use Rattle.std.specs.List.{list_all}
-use Rattle.clap.specs.Words.{Row, Text, all_of, first_of, subcommand_of}
+use Rattle.clap.specs.Words.{Row, Text, first_of, subcommand_of}
 use Rattle.command_words.specs.CommandLine.{app, kinds_of, named}
-use Rattle.command_words.specs.Said.{Said, port_in, said_in, sessions_in, workers_in}
+use Rattle.command_words.specs.Found.{count_in}
+use Rattle.command_words.specs.Said.{Said, said_in}
+use Rattle.command_words.specs.Serving.{Served, has_numbers, served_by}
 use Rattle.command_words.specs.declared.command.Command.{Command}
 use Rattle.command_words.specs.declared.command.Command.TheVariants as commands
 use Rattle.command_words.specs.declared.command.EdgesForm.{EdgesForm}
@@ -13,13 +15,14 @@ use Rattle.command_words.specs.declared.command.ReportForm.{ReportForm}
 use Rattle.command_words.specs.declared.name.CommandName.{CommandName}
 use Rattle.command_words.specs.declared.name.CommandName.TheVariants as names
 
--- what is asked for, with the paths of the files that are named: of edges the form; of a verdict whether all that is refused is told; of ways the client
--- and the cell; of a report the labels and the configuration that it is compared with, where they are given, and the form; of whether lines are noticed
--- the client; of an audit how many workers, which names, and whether it is told how far it is; of a served meter the address, the port and how many
--- connections (own profile)
+-- what is asked for, with the paths of the files that are named: of lines whether they are told of, and whether a trail's are among them; of edges the
+-- form; of a verdict whether all that is refused is told; of ways the client and the cell; of a report the labels and the configuration that it is
+-- compared with, where they are given, and the form; of whether lines are noticed the client; of an audit how many workers, which names, the file of
+-- further names, where it is given, and whether verdicts are explained and it is told how far it is; of a served meter how it is served;
+-- of a trail the client and the moment, where they are given, and whether it is printed as JSON; of a translation whether it is one of values (own profile)
 pub data Asked : Type 0 where
   Demo : Bool → Asked
-  Run : List ℕ → Bool → Asked
+  Run : List ℕ → Bool → Bool → Asked
   Edges : List ℕ → EdgesForm → Asked
   Label : List ℕ → Asked
   Check : List ℕ → List ℕ → Bool → Asked
@@ -27,16 +30,17 @@ pub data Asked : Type 0 where
   Compare : List ℕ → List ℕ → Asked
   Report : List ℕ → Option (List ℕ) → Option (List ℕ) → ReportForm → Asked
   Quiet : List ℕ → List ℕ → List ℕ → Bool → Asked
-  Audit : ℕ → List (List ℕ) → Bool → Asked
+  Audit : ℕ → List (List ℕ) → Option (List ℕ) → Bool → Bool → Asked
   Session : List ℕ → Asked
-  Serve : List ℕ → List ℕ → List ℕ → ℕ → ℕ → Asked
-  Encode : Asked
-  Decode : Asked
+  Serve : List ℕ → List ℕ → Served → Asked
+  Trail : List ℕ → Option (List ℕ) → Option (List ℕ) → Bool → Asked
+  Encode : Bool → Asked
+  Decode : Bool → Asked
 
 -- what a command asks for
 abbrev pub asked_by : Command → Asked
 asked_by (commands.Demo is_verbose) = Demo is_verbose
-asked_by (commands.Run config is_verbose) = Run config.now is_verbose
+asked_by (commands.Run config is_verbose reads_trail) = Run config.now is_verbose reads_trail
 asked_by (commands.Edges config form) = Edges config.now form
 asked_by (commands.Label config) = Label config.now
 asked_by (commands.Check config labels tells_all) = Check config.now labels.now tells_all
@@ -45,17 +49,19 @@ asked_by (commands.Compare old new) = Compare old.now new.now
 asked_by (commands.Report config labels against form) =
     Report config.now (option_map (λ text. text.now) labels) (option_map (λ text. text.now) against) form
 asked_by (commands.Quiet config labels client is_verbose) = Quiet config.now labels.now client.now is_verbose
-asked_by (commands.Audit workers names tells_progress) =
-    Audit (non_zero_usize_get workers) (map (λ name. name.now) names.items) tells_progress
+asked_by (commands.Audit workers names names_file explains tells_progress) =
+    Audit (non_zero_usize_get workers) (map (λ name. name.now) names.items) (option_map (λ text. text.now) names_file) explains tells_progress
 asked_by (commands.Session config) = Session config.now
-asked_by (commands.Serve config labels bind port sessions) = Serve config.now labels.now bind.now (non_zero_u16_get port) sessions
-asked_by commands.Encode = Encode
-asked_by commands.Decode = Decode
+asked_by (commands.Serve config labels serving) = Serve config.now labels.now (served_by serving)
+asked_by (commands.Trail file client since is_json) =
+    Trail file.now (option_map (λ text. text.now) client) (option_map (λ text. text.now) since) is_json
+asked_by (commands.Encode is_value) = Encode is_value
+asked_by (commands.Decode is_value) = Decode is_value
 
 -- what a command asks for, by what its words say (own profile)
 abbrev pub asked_as : CommandName → Said → Asked
 asked_as names.Demo said = Demo said.is_verbose
-asked_as names.Run said = Run said.config said.is_verbose
+asked_as names.Run said = Run said.config said.is_verbose said.reads_trail
 asked_as names.Edges said = Edges said.config said.edges_form
 asked_as names.Label said = Label said.config
 asked_as names.Check said = Check said.config said.labels said.tells_all
@@ -63,11 +69,12 @@ asked_as names.Why said = Why said.config said.client said.cell
 asked_as names.Compare said = Compare said.old said.new
 asked_as names.Report said = Report said.config said.given_labels said.against said.report_form
 asked_as names.Quiet said = Quiet said.config said.labels said.client said.is_verbose
-asked_as names.Audit said = Audit said.workers (unwrap_or said.names []) said.tells_progress
+asked_as names.Audit said = Audit said.workers (unwrap_or said.names []) said.names_file said.explains said.tells_progress
 asked_as names.Session said = Session said.config
-asked_as names.Serve said = Serve said.config said.labels said.bind said.port said.sessions
-asked_as names.Encode said = Encode
-asked_as names.Decode said = Decode
+asked_as names.Serve said = Serve said.config said.labels said.serving
+asked_as names.Trail said = Trail said.file said.given_client said.since said.is_json
+asked_as names.Encode said = Encode said.is_value
+asked_as names.Decode said = Decode said.is_value
 
 -- whether each of these arguments is there (own profile)
 abbrev pub has : List Text → List Row → Bool
@@ -84,9 +91,10 @@ has_all names.Why rows = has (codes "config" ∷ codes "client" ∷ codes "cell"
 has_all names.Compare rows = has (codes "old" ∷ codes "new" ∷ []) rows
 has_all names.Report rows = has (codes "config" ∷ codes "format" ∷ []) rows
 has_all names.Quiet rows = has (codes "config" ∷ codes "labels" ∷ codes "client" ∷ []) rows
-has_all names.Audit rows = is_some (workers_in rows) && is_some (all_of (codes "name") rows)
+has_all names.Audit rows = is_some (count_in (codes "workers") rows)
 has_all names.Session rows = has (codes "config" ∷ []) rows
-has_all names.Serve rows = has (codes "config" ∷ codes "labels" ∷ codes "bind" ∷ []) rows && (is_some (port_in rows) && is_some (sessions_in rows))
+has_all names.Serve rows = has (codes "config" ∷ codes "labels" ∷ codes "bind" ∷ []) rows && has_numbers rows
+has_all names.Trail rows = has (codes "file" ∷ []) rows
 has_all names.Encode rows = true
 has_all names.Decode rows = true
 

@@ -4,6 +4,7 @@ use Rattle.std.specs.Str.{bytes_eq}
 use Rattle.clap.specs.Words.{IsAmong, Kinds, Text}
 use Rattle.clap.specs.declared.error.kind.ErrorKind.{ErrorKind}
 use Rattle.clap.specs.declared.error.kind.ErrorKind.TheVariants.{DisplayHelp, DisplayVersion, OutOfMemory}
+use Rattle.command_words.specs.CommandLine.{Misuse, UnknownForm, OffsetAlone, ClockBesideSteps, TrailAloud, Nameless}
 use Rattle.command_words.specs.declared.fault.WordsFault.{WordsFault}
 use Rattle.command_words.specs.declared.fault.WordsFault.TheVariants as faults
 
@@ -31,17 +32,33 @@ abbrev pub no_form_text : (forms name : Text) → List ℕ
 no_form_text forms name =
     codes "error: invalid value '" ++ (name ++ (codes "' for '--format <FORM>'\n  [possible values: " ++ (forms ++ codes "]\n\nFor more information, try '--help'.\n")))
 
--- the fault tells that, or memory was refused (own profile)
-abbrev pub TellsNoForm : (forms name : Text) → WordsFault → Type 0
-TellsNoForm forms name (faults.Usage text) = string_bytes text ≡ no_form_text forms name
-TellsNoForm forms name faults.Memory = Unit {0}
-TellsNoForm forms name _ = ⊥
+-- what is told of something that isn't there and has to be (own profile)
+abbrev pub missing_text : (what : Text) → List ℕ
+missing_text what = codes "error: the following required arguments were not provided:\n  " ++ (what ++ codes "\n\nFor more information, try '--help'.\n")
 
--- the fault that the name of a form is that a command hasn't, or memory was refused (own profile)
-abbrev pub IsNoForm : Option (Text × Text) → WordsFault → Type 0
-IsNoForm (Some unknown) fault = TellsNoForm (forms_listed unknown.0) unknown.1 fault
-IsNoForm None faults.Memory = Unit {0}
-IsNoForm None _ = ⊥
+-- what is told of two options that can't stand together (own profile)
+abbrev pub conflict_text : (one other : Text) → List ℕ
+conflict_text one other = codes "error: the argument '" ++ (one ++ (codes "' cannot be used with '" ++ (other ++ codes "'\n\nFor more information, try '--help'.\n")))
+
+-- what is told of what is wrong with words that clap takes (own profile)
+abbrev pub misuse_text : Misuse → List ℕ
+misuse_text (UnknownForm command name) = no_form_text (forms_listed command) name
+misuse_text OffsetAlone = missing_text (codes "--clock")
+misuse_text ClockBesideSteps = conflict_text (codes "--clock") (codes "--steps <FILE>")
+misuse_text TrailAloud = conflict_text (codes "--trail") (codes "--verbose")
+misuse_text Nameless = missing_text (codes "<NAME>...")
+
+-- the fault tells this text, or memory was refused (own profile)
+abbrev pub TellsText : List ℕ → WordsFault → Type 0
+TellsText told (faults.Usage text) = string_bytes text ≡ told
+TellsText told faults.Memory = Unit {0}
+TellsText told _ = ⊥
+
+-- the fault that this is, where something is wrong with words that clap takes, or memory was refused (own profile)
+abbrev pub IsMisuse : Option Misuse → WordsFault → Type 0
+IsMisuse (Some misuse) fault = TellsText (misuse_text misuse) fault
+IsMisuse None faults.Memory = Unit {0}
+IsMisuse None _ = ⊥
 
 -- the text that is shown for a fault (own profile)
 abbrev pub fault_text : WordsFault → List ℕ

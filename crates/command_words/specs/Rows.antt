@@ -1,10 +1,10 @@
 -- What clap sees of the rows of the table of commands. All of it is own profile.
 use Rattle.std.specs.Prelude.{Some, fold, length, map}
 use Rattle.clap.specs.Words.{App, Rule, new_app, new_rule, with_rule}
-use Rattle.command_words.specs.declared.rows.ArgumentRow.{ArgumentRow}
+use Rattle.command_words.specs.declared.arguments.ArgumentRow.{ArgumentRow}
 use Rattle.command_words.specs.declared.rows.CommandRow.{CommandRow}
-use Rattle.command_words.specs.declared.rows.Standing.{Standing}
-use Rattle.command_words.specs.declared.rows.Standing.TheVariants.{Placed, Named, Lettered, Numbered}
+use Rattle.command_words.specs.declared.arguments.Standing.{Standing}
+use Rattle.command_words.specs.declared.arguments.Standing.TheVariants.{Placed, Named, Lettered, Numbered}
 
 -- the rule of a row, but for how the argument is named
 abbrev pub placed_rule : ArgumentRow → Rule

@@ -1,8 +1,9 @@
 //! What a command line asks for.
 
 use crate::name::CommandName;
+use crate::serving::Serving;
 use std::fmt;
-use std::num::{NonZeroU16, NonZeroUsize};
+use std::num::NonZeroUsize;
 
 /// In which form edges are printed (own profile).
 #[derive(Clone, Copy, Debug, PartialEq, Eq, Drop)]
@@ -31,10 +32,12 @@ pub enum Command<'a> {
     Demo {
         is_verbose: bool,
     },
-    /// To answer step lines by a configuration, and to tell of each line in words where that is asked for.
+    /// To answer step lines by a configuration, with lines of a trail's file among them where these are asked for, and to tell of each
+    /// line in words where that is asked for.
     Run {
         config: &'a str,
         is_verbose: bool,
+        reads_trail: bool,
     },
     /// To print the edges of a configuration, in this form.
     Edges {
@@ -79,29 +82,41 @@ pub enum Command<'a> {
         is_verbose: bool,
     },
     /// To print the verdicts on configurations and their labels, which so many workers come to, from 1 to 64. Each name stands for
-    /// two files, NAME.toml and NAME.labels. Where that is asked for, it is told how far the audit is.
+    /// two files, NAME.toml and NAME.labels; behind the names come those of a file, where it is given. Where that is asked for, it is
+    /// told what explains each verdict that doesn't accept, and how far the audit is.
     Audit {
         workers: NonZeroUsize,
         names: Vec<&'a str>,
+        names_file: Option<&'a str>,
+        explains: bool,
         tells_progress: bool,
     },
     /// To answer the frames of one connection by a configuration.
     Session {
         config: &'a str,
     },
-    /// To answer connections over TCP by a configuration, where the labels for it are accepted: at this address and port, so many
-    /// connections before the end, or without end where that is 0.
+    /// To answer connections over TCP by a configuration, where the labels for it are accepted, in this way.
     Serve {
         config: &'a str,
         labels: &'a str,
-        bind: &'a str,
-        port: NonZeroU16,
-        sessions: u64,
+        serving: Serving<'a>,
     },
-    /// To make steps in words into step lines.
-    Encode,
-    /// To make step lines and replies into words.
-    Decode,
+    /// To print the steps that a trail's file keeps: only those of the client of this name, and only those from this moment on, where
+    /// they are given, and as one value of JSON where that is asked for. The moment is the text of the words, which may be none.
+    Trail {
+        file: &'a str,
+        client: Option<&'a str>,
+        since: Option<&'a str>,
+        is_json: bool,
+    },
+    /// To make steps in words into step lines, or values in words into their encodings.
+    Encode {
+        is_value: bool,
+    },
+    /// To make step lines and replies into words, or the encodings of values.
+    Decode {
+        is_value: bool,
+    },
 }
 
 /// Shows which command it is, and not what it holds.
@@ -127,8 +142,9 @@ impl Command<'_> {
             Command::Audit { .. } => CommandName::Audit,
             Command::Session { .. } => CommandName::Session,
             Command::Serve { .. } => CommandName::Serve,
-            Command::Encode => CommandName::Encode,
-            Command::Decode => CommandName::Decode,
+            Command::Trail { .. } => CommandName::Trail,
+            Command::Encode { .. } => CommandName::Encode,
+            Command::Decode { .. } => CommandName::Decode,
         }
     }
 }

@@ -4,8 +4,9 @@ ghost use Rattle.command_words.specs.CommandLine as spec;
 ghost use Rattle.command_words.specs.CommandLine.{IsArgument, IsCommand};
 ghost use Rattle.command_words.specs.Rows.{app_of_row, placed_rule, rule_of_row};
 
+use crate::arguments::{ArgumentRow, Standing};
 use crate::name::NAMES;
-use crate::rows::{ArgumentRow, CommandRow, Standing, row_of};
+use crate::rows::{CommandRow, row_of};
 use clap::{Arg, Command};
 use std::alloc::{AllocError, Global};
 

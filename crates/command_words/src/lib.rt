@@ -2,14 +2,18 @@
 //! profile).
 #![tactic(auto)]
 
+mod arguments;
 pub mod command;
 mod commands;
 pub mod fault;
+mod misuse;
 mod name;
 pub mod reading;
 mod rows;
+pub mod serving;
 mod words;
 
 pub use command::{Command, EdgesForm, ReportForm};
 pub use fault::WordsFault;
 pub use reading::read_words;
+pub use serving::Serving;

@@ -17,12 +17,13 @@ pub(crate) enum CommandName {
     Audit,
     Session,
     Serve,
+    Trail,
     Encode,
     Decode,
 }
 
 /// All commands, in the order of the help.
-pub(crate) const NAMES: [CommandName; 14] = [
+pub(crate) const NAMES: [CommandName; 15] = [
     CommandName::Demo,
     CommandName::Run,
     CommandName::Edges,
@@ -35,6 +36,7 @@ pub(crate) const NAMES: [CommandName; 14] = [
     CommandName::Audit,
     CommandName::Session,
     CommandName::Serve,
+    CommandName::Trail,
     CommandName::Encode,
     CommandName::Decode,
 ];
@@ -69,6 +71,7 @@ impl CommandName {
             CommandName::Audit => "audit",
             CommandName::Session => "session",
             CommandName::Serve => "serve",
+            CommandName::Trail => "trail",
             CommandName::Encode => "encode",
             CommandName::Decode => "decode",
         }

@@ -8,13 +8,14 @@ ghost use Rattle.command_words.specs.Commands.{asked_by, command_of};
 ghost use Rattle.command_words.specs.CommandLine.{kinds_of};
 ghost use Rattle.command_words.specs.Said.{said_by};
 ghost use Rattle.command_words.specs.declared.name.CommandName.TheVariants as names;
-ghost use Rattle.command_words.specs.Faults.{HasMistake, IfHelp, IfUsage, IfVersion, IsNoForm, UnlessMemory};
+ghost use Rattle.command_words.specs.Faults.{HasMistake, IfHelp, IfUsage, IfVersion, IsMisuse, UnlessMemory};
 
 use crate::command::Command;
 use crate::commands::all_commands;
-use crate::fault::{WordsFault, fault_told, forms_listed, no_form};
+use crate::fault::{WordsFault, fault_told, misuse_told};
+use crate::misuse::misuse_in;
 use crate::name::CommandName;
-use crate::words::{Words, value, words_in};
+use crate::words::{Words, words_in};
 use clap::ArgMatches;
 use std::alloc::{AllocError, Global};
 
@@ -47,13 +48,13 @@ fn command_of_matches<'a>(
     matches: &ArgMatches<'a>,
 ) -> Result<Command<'a>, WordsFault>
     requires { is_some (option_and_then spec.asked_in (subcommand_rows_of matches.now)) ≡ true }
-    ensures form { IfOk result (λ _. line.unknown_form (subcommand_rows_of matches.now) ≡ None) }
+    ensures fine { IfOk result (λ _. line.misuse_in (subcommand_rows_of matches.now) ≡ None) }
     ensures command { IfOk result (λ command. Some (asked_by command)
         ≡ option_and_then spec.asked_in (subcommand_rows_of matches.now)) }
-    ensures fault { IfErr result (IsNoForm (line.unknown_form (subcommand_rows_of matches.now))) }
+    ensures fault { IfErr result (IsMisuse (line.misuse_in (subcommand_rows_of matches.now))) }
 {
-    if let Some((command, name)) = unknown_form(matches) {
-        return Err(no_form(alloc, forms_listed(command), name));
+    if let Some(misuse) = misuse_in(matches) {
+        return Err(misuse_told(alloc, misuse));
     }
     match command_in(alloc, matches) {
         Ok(command) => Ok(command),
@@ -91,6 +92,7 @@ fn command_named<'a>(
         CommandName::Run => Command::Run {
             config: words.config,
             is_verbose: words.is_verbose,
+            reads_trail: words.reads_trail,
         },
         CommandName::Edges => Command::Edges {
             config: words.config,
@@ -132,12 +134,20 @@ fn command_named<'a>(
         CommandName::Serve => Command::Serve {
             config: words.config,
             labels: words.labels,
-            bind: words.bind,
-            port: words.port,
-            sessions: words.sessions,
+            serving: words.serving,
         },
-        CommandName::Encode => Command::Encode,
-        CommandName::Decode => Command::Decode,
+        CommandName::Trail => Command::Trail {
+            file: words.file,
+            client: words.given_client,
+            since: words.since,
+            is_json: words.is_json,
+        },
+        CommandName::Encode => Command::Encode {
+            is_value: words.is_value,
+        },
+        CommandName::Decode => Command::Decode {
+            is_value: words.is_value,
+        },
     })
 }
 
@@ -154,40 +164,10 @@ fn audit<'a>(alloc: Global, words: &Words<'_, 'a>) -> Result<Command<'a>, AllocE
         Ok(names) => Ok(Command::Audit {
             workers: words.workers,
             names,
+            names_file: words.names_file,
+            explains: words.explains,
             tells_progress: words.tells_progress,
         }),
         Err(error) => Err(error),
     }
-}
-
-/// The command and the name of a form that it hasn't, where the matches have one.
-fn unknown_form<'m, 'a>(matches: &'m ArgMatches<'a>) -> Option<(&'m str, &'a str)>
-    ensures { option_map (λ unknown. (unknown.0.now, unknown.1.now)) result
-        ≡ line.unknown_form (subcommand_rows_of matches.now) }
-{
-    let Some((command, found)) = matches.subcommand() else {
-        return None;
-    };
-    match value(found, "format") {
-        Some(name) if !is_form(command, name) => Some((command, name)),
-        _ => None,
-    }
-}
-
-/// Whether a command has a form of this name.
-fn is_form(command: &str, name: &str) -> bool
-    ensures { result ≡ line.is_form command.now name.now }
-{
-    if command == "report" {
-        is_report_form(name)
-    } else {
-        name == "text" || name == "dot"
-    }
-}
-
-/// Whether a report has a form of this name. It is a function of its own since a choice of many texts is long to prove.
-fn is_report_form(name: &str) -> bool
-    ensures { result ≡ line.is_report_form name.now }
-{
-    name == "html" || name == "csv" || name == "json"
 }

@@ -1,12 +1,14 @@
 //! What clap has found of the words of a command, each argument by itself.
 ghost use Rattle.std.specs.Prelude.{◌≡◌, map, option_map};
-ghost use Rattle.std.specs.Int.NonZero.{non_zero_u16_get, non_zero_usize_get};
+ghost use Rattle.std.specs.Int.NonZero.{non_zero_usize_get};
 ghost use Rattle.clap.specs.Words.{all_of, first_of, found_of, rows_of};
+ghost use Rattle.command_words.specs.Found as found_spec;
 ghost use Rattle.command_words.specs.Said as spec;
 
 use crate::command::{EdgesForm, ReportForm};
+use crate::serving::{Serving, serving_in};
 use clap::ArgMatches;
-use std::num::{NonZeroU16, NonZeroUsize};
+use std::num::NonZeroUsize;
 
 /// What the words of a command say, argument by argument. Where an argument isn't there its place has what stands for nothing:
 /// clap takes no words that lack one which the command needs. It owns nothing, so that whatever is made of it is short to prove.
@@ -18,17 +20,23 @@ pub(crate) struct Words<'m, 'a> {
     pub(crate) cell: &'a str,
     pub(crate) old: &'a str,
     pub(crate) new: &'a str,
-    pub(crate) bind: &'a str,
+    pub(crate) file: &'a str,
     pub(crate) given_labels: Option<&'a str>,
     pub(crate) against: Option<&'a str>,
+    pub(crate) given_client: Option<&'a str>,
+    pub(crate) since: Option<&'a str>,
     pub(crate) edges_form: EdgesForm,
     pub(crate) report_form: ReportForm,
     pub(crate) names: Option<&'m [&'a str]>,
+    pub(crate) names_file: Option<&'a str>,
     pub(crate) workers: NonZeroUsize,
-    pub(crate) port: NonZeroU16,
-    pub(crate) sessions: u64,
+    pub(crate) serving: Serving<'a>,
     pub(crate) is_verbose: bool,
+    pub(crate) is_json: bool,
+    pub(crate) is_value: bool,
+    pub(crate) reads_trail: bool,
     pub(crate) tells_all: bool,
+    pub(crate) explains: bool,
     pub(crate) tells_progress: bool,
 }
 
@@ -43,17 +51,23 @@ pub(crate) fn words_in<'m, 'a>(found: &'m ArgMatches<'a>) -> Words<'m, 'a>
         cell: text(found, "cell"),
         old: text(found, "old"),
         new: text(found, "new"),
-        bind: text(found, "bind"),
+        file: text(found, "file"),
         given_labels: value(found, "labels"),
         against: value(found, "against"),
+        given_client: value(found, "client"),
+        since: value(found, "since"),
         edges_form: edges_form_named(text(found, "format")),
         report_form: report_form_named(text(found, "format")),
         names: values(found, "name"),
-        workers: workers(found),
-        port: port(found),
-        sessions: sessions(found),
+        names_file: value(found, "names"),
+        workers: count(found, "workers"),
+        serving: serving_in(found),
         is_verbose: has_flag(found, "verbose"),
+        is_json: has_flag(found, "json"),
+        is_value: has_flag(found, "value"),
+        reads_trail: has_flag(found, "trail"),
         tells_all: has_flag(found, "all"),
+        explains: has_flag(found, "explain"),
         tells_progress: has_flag(found, "progress"),
     }
 }
@@ -66,8 +80,8 @@ pub(crate) fn value<'a>(found: &ArgMatches<'a>, id: &str) -> Option<&'a str>
 }
 
 /// The first value of an argument.
-fn text<'a>(found: &ArgMatches<'a>, id: &str) -> &'a str
-    ensures { result.now ≡ spec.text id.now (rows_of (found_of found.now)) }
+pub(crate) fn text<'a>(found: &ArgMatches<'a>, id: &str) -> &'a str
+    ensures { result.now ≡ found_spec.text id.now (rows_of (found_of found.now)) }
 {
     match value(found, id) {
         Some(text) => text,
@@ -76,7 +90,7 @@ fn text<'a>(found: &ArgMatches<'a>, id: &str) -> &'a str
 }
 
 /// All values of an argument, where it has any.
-fn values<'m, 'a>(found: &'m ArgMatches<'a>, id: &str) -> Option<&'m [&'a str]>
+pub(crate) fn values<'m, 'a>(found: &'m ArgMatches<'a>, id: &str) -> Option<&'m [&'a str]>
     ensures { option_map (λ texts. map (λ text. text.now) texts.now) result
         ≡ all_of id.now (rows_of (found_of found.now)) }
 {
@@ -84,8 +98,8 @@ fn values<'m, 'a>(found: &'m ArgMatches<'a>, id: &str) -> Option<&'m [&'a str]>
 }
 
 /// Whether an option without a value stands there.
-fn has_flag<'a>(found: &ArgMatches<'a>, id: &str) -> bool
-    ensures { result ≡ spec.has_flag id.now (rows_of (found_of found.now)) }
+pub(crate) fn has_flag(found: &ArgMatches<'_>, id: &str) -> bool
+    ensures { result ≡ found_spec.has_flag id.now (rows_of (found_of found.now)) }
 {
     0 < found.get_count(id)
 }
@@ -114,50 +128,19 @@ fn edges_form_named(name: &str) -> EdgesForm
     }
 }
 
-/// How many workers share the work, at least one.
-fn workers(found: &ArgMatches<'_>) -> NonZeroUsize
-    ensures { non_zero_usize_get result ≡ spec.workers (rows_of (found_of found.now)) }
+/// How many, at least one.
+pub(crate) fn count(found: &ArgMatches<'_>, id: &str) -> NonZeroUsize
+    ensures { non_zero_usize_get result ≡ found_spec.count id.now (rows_of (found_of found.now)) }
 {
-    match given_workers(found) {
-        Some(workers) => workers,
+    match given_count(found, id) {
+        Some(count) => count,
         None => NonZeroUsize::MIN,
     }
 }
 
-fn given_workers(found: &ArgMatches<'_>) -> Option<NonZeroUsize>
-    ensures { option_map non_zero_usize_get result ≡ spec.workers_in (rows_of (found_of found.now)) }
+fn given_count(found: &ArgMatches<'_>, id: &str) -> Option<NonZeroUsize>
+    ensures { option_map non_zero_usize_get result
+        ≡ found_spec.count_in id.now (rows_of (found_of found.now)) }
 {
-    NonZeroUsize::new(found.get_one("workers")?)
-}
-
-/// The port, at least 1.
-fn port(found: &ArgMatches<'_>) -> NonZeroU16
-    ensures { non_zero_u16_get result ≡ spec.port (rows_of (found_of found.now)) }
-{
-    match given_port(found) {
-        Some(port) => port,
-        None => NonZeroU16::MIN,
-    }
-}
-
-fn given_port(found: &ArgMatches<'_>) -> Option<NonZeroU16>
-    ensures { option_map non_zero_u16_get result ≡ spec.port_in (rows_of (found_of found.now)) }
-{
-    NonZeroU16::new(found.get_one("port")?)
-}
-
-/// How many connections, 0 for no end.
-fn sessions(found: &ArgMatches<'_>) -> u64
-    ensures { result ≡ spec.sessions (rows_of (found_of found.now)) }
-{
-    match given_sessions(found) {
-        Some(sessions) => sessions,
-        None => 0,
-    }
-}
-
-fn given_sessions(found: &ArgMatches<'_>) -> Option<u64>
-    ensures { result ≡ spec.sessions_in (rows_of (found_of found.now)) }
-{
-    found.get_one("sessions")
+    NonZeroUsize::new(found.get_one(id)?)
 }

@@ -10,6 +10,7 @@ use std::net::{Net, TcpListener, TcpStream};
 use std::sync::Wait;
 use std::thread::Threads;
 use std::time::Clock;
+use step_stores::host::HostStores;
 use text_files::TextFiles;
 
 /// The words of the command lines over a configuration and labels in memory, one a line.
@@ -141,14 +142,14 @@ impl Run {
             + Sync,
     {
         if matches!(kind, Kind::Command) {
-            self.is_told(rt, host)
+            self.is_told(rt, host, &HostStores { rt: host })
         } else {
-            self.is_told(rt, &self.texts)
+            self.is_told(rt, &self.texts, &HostStores { rt: host })
         }
     }
 
     /// Whether the program tells what it must where it reads these files.
-    fn is_told<H, F>(&self, rt: &H, files: &F) -> bool
+    fn is_told<H, F>(&self, rt: &H, files: &F, stores: &HostStores<'_>) -> bool
     where
         H: AllocGlobal
             + Clock
@@ -161,7 +162,16 @@ impl Run {
         let mut input = self.input.as_slice();
         let mut output = Vec::new(rt.alloc());
         let mut errors = Vec::new(rt.alloc());
-        let status = run_program(rt, files, &self.words, &mut input, &mut output, &mut errors);
+        let status = run_program(
+            rt,
+            files,
+            stores,
+            stores.rt,
+            &self.words,
+            &mut input,
+            &mut output,
+            &mut errors,
+        );
         self.wanted.is_told(status, &output, &errors)
     }
 }

@@ -13,6 +13,7 @@ use std::alloc::{AllocError, Global};
 use std::io::{ErrorKind, IsTerminal};
 use std::process::ExitCode;
 use std::{env, io};
+use step_stores::host::HostStores;
 
 /// Why the words of the command line can't be had.
 #[derive(Clone, Copy)]
@@ -51,6 +52,8 @@ fn main(rt: HostRuntime) -> ExitCode {
     };
     let status = run_program(
         &rt,
+        &rt,
+        &HostStores { rt: &rt },
         &rt,
         &words,
         &mut rt.reader(),

@@ -73,3 +73,39 @@ name_of d = option_and_then as_str (get (codes "name") d)
 abbrev pub object_name : Data → List ℕ → Option (List ℕ)
 object_name whole place =
     if bytes_eq (front 91 place) (codes "object") then option_and_then name_of (step_in whole (front 46 place)) else None
+
+-- what all steps but the last lead to, and the last step (own profile)
+abbrev pub last_step : Data → List (List ℕ) → Option (Data × List ℕ)
+last_step d [] = None
+last_step d (step ∷ []) = Some (d, step)
+last_step d (step ∷ next ∷ steps) = option_and_then (λ found. last_step found (next ∷ steps)) (step_in d step)
+
+-- the table in which a place lies, and the last step to it (own profile)
+abbrev pub last_at : Data → List ℕ → Option (Data × List ℕ)
+last_at whole place = if is_quoted place then None else last_step whole (parts 46 place)
+
+-- the key of a step, without its index (own profile)
+abbrev pub key_of : List ℕ → List ℕ
+key_of step = front 91 step
+
+-- the key at which a place lies, and nothing where its steps lead nowhere (own profile)
+abbrev pub key_in : Option (Data × List ℕ) → List ℕ
+key_in None = []
+key_in (Some last) = key_of last.1
+
+abbrev pub key_at : Data → List ℕ → List ℕ
+key_at whole place = key_in (last_at whole place)
+
+-- the value at a key of the table in which a place lies (own profile)
+abbrev pub beside : List ℕ → Data → List ℕ → Option Data
+beside key whole place = option_and_then (λ last. get key last.0) (last_at whole place)
+
+-- the text at a place (own profile)
+abbrev pub text_at : Data → List ℕ → Option (List ℕ)
+text_at whole place = option_and_then as_str (value_at whole place)
+
+-- the key of the step before the last, or this one where there is no other (own profile)
+abbrev pub parent_from : List ℕ → List (List ℕ) → List ℕ
+parent_from parent [] = parent
+parent_from parent (step ∷ []) = parent
+parent_from parent (step ∷ next ∷ steps) = parent_from (key_of step) (next ∷ steps)

@@ -5,3 +5,13 @@ pub mod Advice
 pub mod Config
 pub mod Labels
 pub mod Refusals
+pub mod Causes
+pub mod Hexes
+pub mod Numbers
+pub mod KeyWords
+pub mod Objects
+pub mod Indexes
+pub mod Asked
+pub mod Near
+pub mod Known
+pub mod Standing

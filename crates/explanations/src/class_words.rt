@@ -56,7 +56,7 @@ fn mark_before(place: usize, count: usize) -> &'static str
 }
 
 /// Numbers as a list, as `1, 3 and 7`. The error is that memory was refused.
-fn listed(alloc: Global, numbers: &[u16]) -> Result<String, Memory>
+pub(crate) fn listed(alloc: Global, numbers: &[u16]) -> Result<String, Memory>
     ensures { IfOk result (λ words. string_bytes words ≡ spec.listed numbers.now) }
 {
     let mut words = String::new(alloc);

@@ -1,18 +1,19 @@
 //! The explanation of a configuration's fault (own profile).
 ghost use Rattle.std.specs.Prelude.{◌≡◌, ◌++◌, IfOk, OnOk, option_map, string_bytes};
-ghost use Rattle.toml.specs.View.{view};
+ghost use Rattle.toml.specs.View.{table_view, view};
 ghost use Rattle.explanations.specs.Config as spec;
 ghost use Rattle.explanations.specs.Config.{Explains};
 
 use crate::advice::{meaning_at, mending_at};
 use crate::following::{object_name, shown_at};
+use crate::standing::with_stand;
 use crate::syntax::explain_no_toml;
-use crate::value::value_words;
+use crate::value::{decoded_line, value_words};
 use config_text::fault::{Code, ConfigFault};
 use cosem_data::memory::Memory;
 use shown_text::printable::printable_text;
 use std::alloc::Global;
-use toml::Value;
+use toml::{Table, Value};
 
 /// The line that tells the name of an object, if there is one.
 fn object_line(alloc: Global, name: Option<&str>) -> Result<String, Memory>
@@ -42,18 +43,43 @@ fn value_line(alloc: Global, value: Option<&Value>) -> Result<String, Memory>
     }
 }
 
+/// The lines that tell what stands at a place: the object's name, the text, and the value that the text is.
+fn shown_lines(alloc: Global, code: Code, place: &str, whole: &Value) -> Result<String, Memory>
+    ensures { IfOk result (λ lines. string_bytes lines
+        ≡ spec.shown_lines code place.now (view whole.now)) }
+{
+    let object = object_line(alloc, object_name(whole, place))?;
+    let value = value_line(alloc, shown_at(code, whole, place))?;
+    let decoded = decoded_line(alloc, code, whole, place)?;
+    Ok(format!(in alloc; "{object}{value}{decoded}")?)
+}
+
 /// What is told of a fault at a place of a text that is this table.
 fn told(alloc: Global, file: &str, code: Code, place: &str, whole: &Value) -> Result<String, Memory>
     ensures { IfOk result (λ told. string_bytes told
         ≡ spec.told file.now code place.now (view whole.now)) }
 {
-    let object = object_line(alloc, object_name(whole, place))?;
-    let value = value_line(alloc, shown_at(code, whole, place))?;
-    let meaning = meaning_at(alloc, code, place)?;
+    let lines = shown_lines(alloc, code, place, whole)?;
+    let meaning = meaning_at(alloc, code, whole, place)?;
     let mending = mending_at(alloc, code, whole, place)?;
     let file = printable_text(alloc, file)?;
     let place = printable_text(alloc, place)?;
-    Ok(format!(in alloc; "cosem-flow: {file}: {place}: {meaning}\n{object}{value}  {mending}\n")?)
+    Ok(format!(in alloc; "cosem-flow: {file}: {place}: {meaning}\n{lines}  {mending}\n")?)
+}
+
+/// What is told of a fault at a place of a text that is this table, with the line and the column.
+fn explain_found(
+    alloc: Global,
+    file: &str,
+    text: &str,
+    code: Code,
+    place: &str,
+    whole: Table,
+) -> Result<String, Memory>
+    ensures { IfOk result (λ told. spec.ExplainsFound file.now text.now code place.now (table_view whole) (string_bytes told)) }
+{
+    let file = with_stand(alloc, file, text, code, place)?;
+    told(alloc, file.as_str(), code, place, &Value::Table(whole))
 }
 
 /// What is told where memory was refused.
@@ -68,15 +94,17 @@ fn no_memory(alloc: Global, file: &str) -> Result<String, Memory>
 
 /// Explains a fault that the text of a configuration has, in lines (own profile):
 ///
-///     cosem-flow: FILE: PLACE: MEANING
+///     cosem-flow: FILE:LINE:COLUMN: PLACE: MEANING
 ///       the object is NAME
 ///       the text there is VALUE
+///       which is DECODED
 ///       HOW TO MEND
 ///
-/// The second line is there where the place lies in an object that has a text as its name, the third where the place leads to a
-/// value that is no password; it isn't there for a key that isn't known, which may be a password's. A text that isn't TOML is told
-/// with the line and the column where its reader stopped in place of PLACE. What comes from the text, and FILE, is shown without
-/// control characters.
+/// Line and column are those of the value there, of a key that isn't known, or of the table in which a key is missing. The second line is
+/// there where the place lies in an object that has a text as its name, the third where the place leads to a value that is no password;
+/// it isn't there for a key that isn't known, which may be a password's. The fourth is there where a value was asked and the text is the
+/// hex text of one. Of a text that isn't TOML line and column are those where its
+/// reader stopped, and there is no PLACE. What comes from the text, and FILE, is shown without control characters.
 ///
 /// # Errors
 /// Memory was refused.
@@ -91,7 +119,7 @@ pub fn explain_config(
     match fault {
         ConfigFault::Memory => no_memory(alloc, file),
         ConfigFault::Found { code, place } => match toml::table_from_str(alloc, text) {
-            Ok(table) => told(alloc, file, *code, place.as_str(), &Value::Table(table)),
+            Ok(table) => explain_found(alloc, file, text, *code, place.as_str(), table),
             Err(error) => explain_no_toml(alloc, file, text, &error),
         },
     }

@@ -9,7 +9,7 @@ use toml::Value;
 use value_words::numbers::number_in;
 
 /// The number of the code of a key that is missing or unknown.
-const UNKNOWN_KEY: u8 = 2;
+pub(crate) const UNKNOWN_KEY: u8 = 2;
 
 /// The highest index that a place may have.
 const HIGHEST_INDEX: u64 = 999_999;
@@ -27,7 +27,7 @@ fn index_in(text: &str) -> Option<usize>
 }
 
 /// What a step leads to from a value: a key, or a key with an index in brackets.
-fn step_in<'a>(value: &'a Value, step: &str) -> Option<&'a Value>
+pub(crate) fn step_in<'a>(value: &'a Value, step: &str) -> Option<&'a Value>
     ensures { option_map (λ found. view found.now) result ≡ spec.step_in (view value.now) step.now }
 {
     match first_part('[', step) {
@@ -55,14 +55,14 @@ fn follow<'a>(whole: &'a Value, steps: &str) -> Option<&'a Value>
 }
 
 /// Whether there is a quotation mark among bytes.
-fn is_quoted(place: &[u8]) -> bool
+pub(crate) fn is_quoted(place: &[u8]) -> bool
     ensures { result ≡ spec.is_quoted place.now }
 {
     place.iter().any(|byte| *byte == b'"')
 }
 
 /// The value at a place, as `object[6].name`, if it leads to one. A place with a key between quotation marks leads nowhere.
-fn value_at<'a>(whole: &'a Value, place: &str) -> Option<&'a Value>
+pub(crate) fn value_at<'a>(whole: &'a Value, place: &str) -> Option<&'a Value>
     ensures { option_map (λ found. view found.now) result ≡ spec.value_at (view whole.now) place.now }
 {
     if is_quoted(place.as_bytes()) {

@@ -4,13 +4,11 @@ ghost use Rattle.explanations.specs.Labels as spec;
 ghost use Rattle.explanations.specs.Labels.{explanation, meaning, mending};
 
 use crate::split::first_part;
+use crate::value::SHOWN;
 use cosem_data::memory::Memory;
 use label_certificate::fault::{LabelCode, LabelFault};
 use shown_text::printable::{printable_text, push_printable};
 use std::alloc::Global;
-
-/// How many bytes of a line are shown.
-const SHOWN: usize = 200;
 
 /// What a code means, in one sentence.
 fn meaning_of(code: LabelCode) -> &'static str
@@ -58,7 +56,7 @@ fn line_at(text: &str, number: u64) -> Option<&str>
 }
 
 /// What is shown of a line: all of it, or its beginning where it is long.
-fn shown_line(alloc: Global, line: &[u8]) -> Result<String, Memory>
+pub(crate) fn shown_line(alloc: Global, line: &[u8]) -> Result<String, Memory>
     ensures { IfOk result (λ shown. string_bytes shown ≡ spec.shown_line line.now) }
 {
     let mut shown = String::new(alloc);

@@ -7,12 +7,23 @@
 #![tactic(auto)]
 
 mod advice;
+mod asked;
+mod causes;
 mod class_words;
 pub mod config;
 mod following;
+mod hexes;
+mod indexes;
+mod key_words;
+mod known;
 pub mod labels;
+mod last;
 mod meaning;
+mod near;
+mod numbers;
+mod objects;
 pub mod refusal;
 mod split;
+mod standing;
 mod syntax;
 mod value;

@@ -2,7 +2,8 @@
 ghost use Rattle.std.specs.Prelude.{◌≡◌, IfOk, string_bytes};
 ghost use Rattle.toml.specs.Errors.{IsMemory, IsWithin, span_start};
 ghost use Rattle.explanations.specs.Config as spec;
-ghost use Rattle.explanations.specs.Config.{TellsStop, place_behind};
+ghost use Rattle.explanations.specs.Config.{TellsStop};
+ghost use Rattle.explanations.specs.Standing.{place_behind};
 
 use cosem_data::memory::Memory;
 use shown_text::printable::printable_text;
@@ -10,7 +11,7 @@ use std::alloc::Global;
 use toml::de::Error;
 
 /// The line and the column behind bytes, both from 1. A column counts characters.
-fn position_behind(before: &[u8]) -> (u64, u64)
+pub(crate) fn position_behind(before: &[u8]) -> (u64, u64)
     ensures { result ≡ place_behind 1 1 before.now }
 {
     let mut line: u64 = 1;
@@ -40,7 +41,7 @@ fn no_toml_at(
     let file = printable_text(alloc, file)?;
     let message = printable_text(alloc, message)?;
     Ok(format!(in alloc;
-        "cosem-flow: {file}: line {line}, column {column}: the text isn't TOML: {message}\n  write each key with its value, as version = 1\n"
+        "cosem-flow: {file}:{line}:{column}: the text isn't TOML: {message}\n  write each key with its value, as version = 1\n"
     )?)
 }
 

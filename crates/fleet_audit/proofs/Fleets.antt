@@ -1,18 +1,18 @@
 -- Names, the files that they stand for, and how these are read in parts.
-use Rattle.std.proofs.Common.{◌≡◌, ℕ, suc, ◌+◌, ◌*◌, ◌/◌, ◌%◌, ◌<◌, ◌≤◌, min, List, [], ◌∷◌, ◌++◌, length, map, take, drop, get_or, refl, sym, ap, subst, ◌∙◌, append_assoc, append-nil, arith, Result, Ok, Err, MatchResult, Vec, Global}
+use Rattle.std.proofs.Common.{◌≡◌, ℕ, suc, ◌+◌, ◌*◌, ◌/◌, ◌%◌, ◌<◌, ◌≤◌, min, List, [], ◌∷◌, ◌++◌, length, map, take, drop, get_or, refl, sym, ap, subst, ◌∙◌, append_assoc, append-nil, arith, Result, Ok, Err, IfOk, OnOk, Global, String, string_bytes}
+use Rattle.std.specs.declared.alloc.AllocError.{AllocError}
 use Rattle.std.specs.List.{AllZip}
 use Rattle.std.proofs.lemmas.Bool.{cases_lt}
-use Rattle.std.proofs.lemmas.List.{drop_all, drop-drop, drop_more, map-append, take-append-drop, take_more}
+use Rattle.std.proofs.lemmas.List.{drop_all, drop-drop, map-append, take-append-drop, take_more}
 use Rattle.std.proofs.lemmas.Nat.{div-add-mod', mod_below}
-use Rattle.std.proofs.lemmas.Slice.Zip.{all_zipped_more}
 use mathlib.Core.Logic.{⊎_elim}
 use native.Mathlib.Nat.{add-mul, one-mul, suc-mul}
 use denote.Ref.{Bor}
 use Rattle.fleet_audit.specs.declared.text.Text.{Text}
 use Rattle.fleet_audit.proofs.Joined.{joined}
-use Rattle.fleet_audit.specs.declared.reading.FleetFault.{FleetFault}
-use Rattle.fleet_audit.specs.declared.reading.FleetFault.TheVariants.{Unread, Memory}
-use Rattle.fleet_audit.specs.Reading.{AreTextsOf, TellsFirst, TellsName, part}
+use Rattle.fleet_audit.specs.declared.reading.Reading.{Reading}
+use Rattle.fleet_audit.specs.declared.reading.UnreadFile.{UnreadFile}
+use Rattle.fleet_audit.specs.Reading.{AreAllUnread, AreTextsOf, IsReadAs, IsReading, config_path, labels_path, part, texts_of, unread_of}
 use Rattle.text_files.specs.Files.{MayRead}
 
 -- names that are lent
@@ -25,39 +25,62 @@ said names = map (λ name. name.now) names
 
 -- what the reading of a part came to
 abbrev pub Part : Type 0
-Part = Result (Vec Text Global) FleetFault
+Part = Result Reading AllocError
 
 said-append : (xs ys : Names) → said (xs ++ ys) ≡ said xs ++ said ys
 said-append xs ys = map-append (λ (name : Bor (List ℕ)). name.now) xs ys
 
+-- lists that are empty together are so by themselves
+front-empty : (files more : List UnreadFile) → files ++ more ≡ [] → files ≡ []
+front-empty [] more none = refl
+front-empty (file ∷ files) more none = cc
+
+behind-empty : (files more : List UnreadFile) → files ++ more ≡ [] → more ≡ []
+behind-empty [] more none = none
+behind-empty (file ∷ files) more none = cc
+
 -- ---- name by name
 
-module _ (reads : MayRead) (names : Names) (i : ℕ) (d : Bor (List ℕ)) (within : i < length names) where
-  -- the names as far as this one
-  as-far : said (take (i + 1) names) ≡ said (take i names) ++ (get_or names i d).now ∷ []
-  as-far = ap said (take_more names i d within) ∙ said-append (take i names) (get_or names i d ∷ [])
+module _ (reads : MayRead) where
+  -- what isn't read of names, and of names behind them
+  pub all-unread : (names behind : List (List ℕ)) (files more : List UnreadFile) → AreAllUnread reads names files → AreAllUnread reads behind more → AreAllUnread reads (names ++ behind) (files ++ more)
+  all-unread [] behind files more h k = subst (λ (l : List UnreadFile). AreAllUnread reads behind (l ++ more)) (sym h) k
+  all-unread (name ∷ names) behind files more h k = (
+    h.0,
+    h.1,
+    h.2 ++ more,
+    ap (λ (l : List UnreadFile). l ++ more) h.3 ∙ append_assoc (h.0 ++ h.1) h.2 more,
+    h.4,
+    h.5,
+    all-unread names behind h.2 more h.6 k,
+  )
 
-  -- all names, cut at this one
-  cut-here : said names ≡ said (take i names) ++ (get_or names i d).now ∷ said (drop (i + 1) names)
-  cut-here = ap said (sym (take-append-drop i names) ∙ ap (λ l. take i names ++ l) (drop_more names i d within)) ∙ said-append (take i names) (get_or names i d ∷ drop (i + 1) names)
+  -- what the reading of names came to, and of names behind them
+  pub read-on : (names behind : List (List ℕ)) (texts others : List Text) (files more : List UnreadFile) → IsReading reads names texts files → IsReading reads behind others more
+      → IsReading reads (names ++ behind) (texts ++ others) (files ++ more)
+  read-on names behind texts others files more h k =
+      (all-unread names behind files more h.0 k.0, λ none. joined (AreTextsOf reads) names behind texts others (h.1 (front-empty files more none)) (k.1 (behind-empty files more none)))
 
-  -- the texts of one name more
-  pub texts-more : (texts : List Text) (text : Text) → AllZip (AreTextsOf reads) (said (take i names)) texts → AreTextsOf reads (get_or names i d).now text → AllZip (AreTextsOf reads) (said (take (i + 1) names)) (texts ++ text ∷ [])
-  texts-more texts text before here =
-      subst (λ (l : List (List ℕ)). AllZip (AreTextsOf reads) l (texts ++ text ∷ [])) (sym as-far) (all_zipped_more (AreTextsOf reads) (said (take i names)) texts (get_or names i d).now text before here)
+  -- what the two files of a name came to
+  pub named : (name : List ℕ) (config labels : Result (String Global) UnreadFile) → IsReadAs reads (config_path name) config → IsReadAs reads (labels_path name) labels
+      → IsReading reads (name ∷ []) (texts_of config labels) (unread_of config ++ unread_of labels)
+  named name (Ok config) (Ok labels) h k = (([], [], [], refl, (string_bytes config, h), (string_bytes labels, k), refl), λ none. (record { config = h; labels = k }, tt))
+  named name (Ok config) (Err file) h k = (([], file ∷ [], [], refl, (string_bytes config, h), k, refl), λ none. cc)
+  named name (Err file) (Ok labels) h k = ((file ∷ [], [], [], refl, h, (string_bytes labels, k), refl), λ none. cc)
+  named name (Err file) (Err other) h k = ((file ∷ [], other ∷ [], [], refl, h, k, refl), λ none. cc)
 
-  -- what isn't read of this name is the first that isn't read of all
-  pub first-here : (texts : List Text) (fault : FleetFault) → AllZip (AreTextsOf reads) (said (take i names)) texts → TellsName reads (get_or names i d).now fault → TellsFirst reads (said names) fault
-  first-here texts Memory before h = tt
-  first-here texts (Unread path why) before h = record {
-    before = said (take i names);
-    name = (get_or names i d).now;
-    behind = said (drop (i + 1) names);
-    are = cut-here;
-    texts = texts;
-    read = before;
-    fails = h;
-  }
+-- so where these are put behind what names before came to
+pub put-on : {A E : Type 0} (reads : MayRead) (name : List ℕ) (config labels : Result (String Global) UnreadFile) (texts others : List Text) (files more : List UnreadFile)
+    → IsReadAs reads (config_path name) config → IsReadAs reads (labels_path name) labels → (r : Result A E)
+    → OnOk r (others ≡ texts ++ texts_of config labels) → OnOk r (more ≡ files ++ (unread_of config ++ unread_of labels))
+    → OnOk r ((names : List (List ℕ)) → IsReading reads names texts files → IsReading reads (names ++ name ∷ []) others more)
+put-on reads name config labels texts others files more h k (Ok u) t f = λ names before.
+    rw (t, f) (read-on reads names (name ∷ []) texts (texts_of config labels) files (unread_of config ++ unread_of labels) before (named reads name config labels h k))
+put-on reads name config labels texts others files more h k (Err e) t f = tt
+
+-- the names as far as one
+pub as-far : (names : Names) (i : ℕ) (d : Bor (List ℕ)) → i < length names → said (take (i + 1) names) ≡ said (take i names) ++ (get_or names i d).now ∷ []
+as-far names i d within = ap said (take_more names i d within) ∙ said-append (take i names) (get_or names i d ∷ [])
 
 -- ---- part by part
 
@@ -76,7 +99,7 @@ reach count names size some is =
 module _ (reads : MayRead) where
   -- a part of the names was read so
   abbrev pub IsPart : Names → Part → Type 0
-  IsPart names part = MatchResult part (λ texts. AllZip (AreTextsOf reads) (said names) texts.items) (TellsFirst reads (said names))
+  IsPart names part = IfOk part (λ reading. IsReading reads (said names) reading.texts.items reading.unread.items)
 
   -- the parts are those of the names, so many names each
   abbrev pub Deals : ℕ → Names → List Part → Type 0
@@ -97,50 +120,29 @@ module _ (reads : MayRead) where
             (λ i d within. let e : n + suc i ≡ suc n + i = omega arith in subst (λ k. IsPart (part names size k) (get_or parts i d)) e (each (suc i) d (omega arith)))),
       )
 
-  -- the first file that isn't read, among more names
-  widened : (done names left : Names) (texts : List Text) (fault : FleetFault) → AllZip (AreTextsOf reads) (said done) texts → TellsFirst reads (said names) fault → TellsFirst reads (said (done ++ names ++ left)) fault
-  widened done names left texts Memory before h = tt
-  widened done names left texts (Unread path why) before h = record {
-    before = said done ++ h.before;
-    name = h.name;
-    behind = h.behind ++ said left;
-    are =
-        said-append (done ++ names) left
-        ∙ ap (λ (l : List (List ℕ)). l ++ said left) (said-append done names ∙ ap (λ (l : List (List ℕ)). said done ++ l) h.are ∙ sym (append_assoc (said done) h.before (h.name ∷ h.behind)))
-        ∙ append_assoc (said done ++ h.before) (h.name ∷ h.behind) (said left);
-    texts = texts ++ h.texts;
-    read = joined (AreTextsOf reads) (said done) h.before texts h.texts before h.read;
-    fails = h.fails;
-  }
-
-  -- how far the names are read: those that are done have these texts, and the parts of the others are left
-  pub record IsSoFar (size : ℕ) (names : Names) (texts : List Text) (parts : List Part) : Type 0 where
+  -- how far the names are read: the reading of those that are done came to this, and the parts of the others are left
+  pub record IsSoFar (size : ℕ) (names : Names) (texts : List Text) (files : List UnreadFile) (parts : List Part) : Type 0 where
     pub done : Names
     pub left : Names
     pub are : names ≡ done ++ left
-    pub read : AllZip (AreTextsOf reads) (said done) texts
+    pub read : IsReading reads (said done) texts files
     pub deals : Deals size left parts
 
-  pub begun : (size : ℕ) (names : Names) (parts : List Part) → Deals size names parts → IsSoFar size names [] parts
-  begun size names parts deals = record { done = []; left = names; are = refl; read = tt; deals = deals }
+  pub begun : (size : ℕ) (names : Names) (texts : List Text) (files : List UnreadFile) (parts : List Part) → texts ≡ [] → files ≡ [] → Deals size names parts → IsSoFar size names texts files parts
+  begun size names texts files parts no_texts no_files deals = record { done = []; left = names; are = refl; read = (no_files, λ none. subst (AllZip (AreTextsOf reads) []) (sym no_texts) tt); deals = deals }
 
-  pub gone_on : (size : ℕ) (names : Names) (texts : List Text) (more : Vec Text Global) (parts : List Part) → IsSoFar size names texts (Ok more ∷ parts) → IsSoFar size names (texts ++ more.items) parts
-  gone_on size names texts more parts h = record {
+  pub gone_on : (size : ℕ) (names : Names) (texts : List Text) (files : List UnreadFile) (more : Reading) (parts : List Part) → IsSoFar size names texts files (Ok more ∷ parts)
+      → IsSoFar size names (texts ++ more.texts.items) (files ++ more.unread.items) parts
+  gone_on size names texts files more parts h = record {
     done = h.done ++ take size h.left;
     left = drop size h.left;
     are = h.are ∙ ap (λ (l : Names). h.done ++ l) (sym (take-append-drop size h.left)) ∙ sym (append_assoc h.done (take size h.left) (drop size h.left));
-    read = subst (λ (l : List (List ℕ)). AllZip (AreTextsOf reads) l (texts ++ more.items)) (sym (said-append h.done (take size h.left)))
-        (joined (AreTextsOf reads) (said h.done) (said (take size h.left)) texts more.items h.read h.deals.0);
+    read = subst (λ (l : List (List ℕ)). IsReading reads l (texts ++ more.texts.items) (files ++ more.unread.items)) (sym (said-append h.done (take size h.left)))
+        (read-on reads (said h.done) (said (take size h.left)) texts more.texts.items files more.unread.items h.read h.deals.0);
     deals = h.deals.1;
   }
 
-  pub failed : (size : ℕ) (names : Names) (texts : List Text) (fault : FleetFault) (parts : List Part) → IsSoFar size names texts (Err fault ∷ parts) → TellsFirst reads (said names) fault
-  failed size names texts fault parts h =
-      let whole : h.done ++ take size h.left ++ drop size h.left ≡ names =
-      append_assoc h.done (take size h.left) (drop size h.left) ∙ ap (λ (l : Names). h.done ++ l) (take-append-drop size h.left) ∙ sym h.are in
-      subst (λ (l : Names). TellsFirst reads (said l) fault) whole (widened h.done (take size h.left) (drop size h.left) texts fault h.read h.deals.0)
-
-  pub ended : (size : ℕ) (names : Names) (texts : List Text) → IsSoFar size names texts [] → AllZip (AreTextsOf reads) (said names) texts
-  ended size names texts h =
+  pub ended : (size : ℕ) (names : Names) (texts : List Text) (files : List UnreadFile) → IsSoFar size names texts files [] → IsReading reads (said names) texts files
+  ended size names texts files h =
       let whole : h.done ≡ names = sym (append-nil h.done) ∙ ap (λ (l : Names). h.done ++ l) (sym h.deals) ∙ sym h.are in
-      subst (λ (l : Names). AllZip (AreTextsOf reads) (said l) texts) whole h.read
+      subst (λ (l : Names). IsReading reads (said l) texts files) whole h.read

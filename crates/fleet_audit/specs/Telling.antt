@@ -23,4 +23,4 @@ TellsVerdicts names verdicts told = (string_bytes told.text ≡ verdicts_text na
 
 -- how many configurations were judged: each text has a verdict that is its own, in the order of the names, and these are told
 abbrev pub TellsAudit : List (List ℕ) → List Text → Told → Type 0
-TellsAudit names texts told = (verdicts : List Verdict) × Audits texts verdicts × TellsVerdicts names verdicts told
+TellsAudit names texts told = Audits texts told.verdicts.items × TellsVerdicts names told.verdicts.items told

@@ -33,7 +33,7 @@ pub fn audit<R: Threads + AllocGlobal + Sync, G: Gate + Sync>(
     ensures fault { IfErr result (λ fault.
         IsFaultAt (G.may_give_up gate.now) (length texts.items) fault) }
 {
-    audit_watched(rt, texts, workers, gate, &Unwatched)
+    audit_watched(rt, texts.as_slice(), workers, gate, &Unwatched)
 }
 
 /// The verdicts on texts as `audit` comes to them, of which each worker tells the watch as soon as the gate was told.
@@ -42,29 +42,28 @@ pub fn audit<R: Threads + AllocGlobal + Sync, G: Gate + Sync>(
 /// Those of `audit`.
 pub fn audit_watched<R: Threads + AllocGlobal + Sync, G: Gate + Sync, W: Watch + Sync>(
     rt: &R,
-    texts: Vec<Text>,
+    texts: &[Text],
     workers: NonZeroUsize,
     gate: &G,
     watch: &W,
 ) -> Result<Vec<Verdict>, AuditFault>
-    ensures verdicts { IfOk result (λ verdicts. Audits texts.items verdicts.items) }
+    ensures verdicts { IfOk result (λ verdicts. Audits texts.now verdicts.items) }
     // The gate gave up only where it may.
     ensures fault { IfErr result (λ fault.
-        IsFaultAt (G.may_give_up gate.now) (length texts.items) fault) }
+        IsFaultAt (G.may_give_up gate.now) (length texts.now) fault) }
 {
     let alloc = rt.alloc();
     let workers = workers.get().min(texts.len());
-    let lent = texts.as_slice();
     let Ok(shares) = in_threads(
         rt,
         alloc,
         workers,
         &|first| -> Result<Vec<Verdict>, AuditFault>
-            requires { (first < workers) × (workers ≤ length lent.now) }
+            requires { (first < workers) × (workers ≤ length texts.now) }
             ensures { MatchResult result
-                (λ verdicts. Audits (every workers first lent.entry.now) verdicts.items)
-                (λ fault. IsFaultAt (G.may_give_up gate.entry.now) (length lent.entry.now) fault) }
-        { work(alloc, lent, first, workers, gate, watch) },
+                (λ verdicts. Audits (every workers first texts.entry.now) verdicts.items)
+                (λ fault. IsFaultAt (G.may_give_up gate.entry.now) (length texts.entry.now) fault) }
+        { work(alloc, texts, first, workers, gate, watch) },
     ) else {
         return Err(AuditFault::Memory);
     };

@@ -24,6 +24,8 @@ pub struct Told {
     pub text: String,
     /// Whether all verdicts accept.
     pub is_accepted: bool,
+    /// The verdicts themselves.
+    pub verdicts: Vec<Verdict>,
 }
 
 /// The verdicts on many configurations and their labels, each in a line behind its name, by so many workers, and whether all are
@@ -34,15 +36,15 @@ pub struct Told {
 pub fn audit_texts<H: Threads + AllocGlobal + Sync, W: Watch + Sync>(
     rt: &H,
     names: &[&str],
-    texts: Vec<Text>,
+    texts: &[Text],
     workers: NonZeroUsize,
     watch: &W,
 ) -> Result<Told, AuditFault>
-    ensures { MatchResult result (TellsAudit (map (λ name. name.now) names.now) texts.items)
+    ensures { MatchResult result (TellsAudit (map (λ name. name.now) names.now) texts.now)
         (λ fault. fault ≡ OutOfMemory) }
 {
     let verdicts = audit_watched(rt, texts, workers, &Open, watch)?;
-    told_of(rt.alloc(), names, &verdicts).map_err(|_| AuditFault::Memory)
+    told_of(rt.alloc(), names, verdicts).map_err(|_| AuditFault::Memory)
 }
 
 /// The verdicts as `audit_texts` comes to them. While it goes on, it is told on the error stream how far the audit is, at most ten
@@ -53,11 +55,11 @@ pub fn audit_texts<H: Threads + AllocGlobal + Sync, W: Watch + Sync>(
 pub fn audit_texts_aloud<H: Threads + AllocGlobal + Clock + Sync, E: Write + Drop + Send>(
     rt: &H,
     names: &[&str],
-    texts: Vec<Text>,
+    texts: &[Text],
     workers: NonZeroUsize,
     errors: E,
 ) -> Result<Told, AuditFault>
-    ensures { MatchResult result (TellsAudit (map (λ name. name.now) names.now) texts.items)
+    ensures { MatchResult result (TellsAudit (map (λ name. name.now) names.now) texts.now)
         (λ fault. fault ≡ OutOfMemory) }
 {
     let progress = Progress::start(rt.alloc(), rt, texts.len(), errors);
@@ -67,12 +69,14 @@ pub fn audit_texts_aloud<H: Threads + AllocGlobal + Clock + Sync, E: Write + Dro
 }
 
 /// What is told of these verdicts. The only error is that memory was refused.
-fn told_of(alloc: Global, names: &[&str], verdicts: &[Verdict]) -> Result<Told, Memory>
-    ensures { IfOk result (TellsVerdicts (map (λ name. name.now) names.now) verdicts.now) }
+fn told_of(alloc: Global, names: &[&str], verdicts: Vec<Verdict>) -> Result<Told, Memory>
+    ensures told { IfOk result (TellsVerdicts (map (λ name. name.now) names.now) verdicts.items) }
+    ensures verdicts { IfOk result (λ told. told.verdicts.items ≡ verdicts.items) }
 {
     Ok(Told {
-        text: text_of(alloc, names, verdicts)?,
+        text: text_of(alloc, names, &verdicts)?,
         is_accepted: verdicts.iter().all(Verdict::is_accepted),
+        verdicts,
     })
 }
 

@@ -7,17 +7,12 @@ use denote.Param.SendFields.{as_row_send, declared_send, variants_send}
 use Rattle.std.proofs.Crossing.{crosses}
 use Rattle.line_sources.specs.contracts.clock.ClockLines as clock_lines
 use Rattle.line_sources.specs.contracts.file.FileLines as file_lines
-use Rattle.line_sources.specs.contracts.file.Opened as openeds
 use Rattle.line_sources.specs.contracts.file.Reading as readings
-use Rattle.line_sources.specs.contracts.lines.Lines as sources
 use Rattle.line_sources.proofs.clock.Pace.TheSendSync as paces
 use Rattle.line_sources.proofs.giving.Giving.TheSendSync as givings
 
-opened_send : (F : RattleType) → IsSend F → IsSend (openeds.the_row F)
-opened_send F f = declared_send (openeds.the_type F) (as_row_send (row_field F) f, (search sendable depth 12, tt))
-
 reading_send : (F : RattleType) → IsSend F → IsSend (readings.the_row F)
-reading_send F f = let opened = opened_send F f in search (opened, variants_send, crosses, sendable) depth 30
+reading_send F f = search (f, variants_send, crosses, sendable) depth 30
 
 pub file_lines_send : (a b : NamedLft) (O F : RattleType) → IsSync O → IsSend F → IsSend (file_lines.the_row a b O F)
 file_lines_send a b O F o f = let reading = reading_send F f in
@@ -28,10 +23,3 @@ pub clock_lines_send : (c : NamedLft) (C W : RattleType) → IsSync C → IsSend
 clock_lines_send c C W y w =
     declared_send (clock_lines.the_type c C W)
     (shr_send c.mir c.lft C y, (search (crosses, sendable) depth 20, (paces.the_send, (as_row_send (row_field W) w, (search (crosses, sendable) depth 20, (givings.the_send, (search (crosses, sendable) depth 20, tt)))))))
-
--- any of these sources
-pub lines_send : (a b c : NamedLft) (I O F C W : RattleType) → IsSend I → IsSync O → IsSend F → IsSync C → IsSend W → IsSend (sources.the_row a b c I O F C W)
-lines_send a b c I O F C W i o f y w =
-    let file = file_lines_send a b O F o f in
-    let clock = clock_lines_send c C W y w in
-    search (i, file, clock, variants_send, crosses, sendable) depth 30

@@ -38,7 +38,8 @@ impl Opens<File> for HostRuntime {
 enum Reading<F: Read + Drop> {
     /// It isn't open: it is opened at the next read.
     Closed,
-    Open(Opened<F>),
+    /// It is open, and is a FIFO or not.
+    Open { file: F, is_fifo: bool },
     /// Nothing more is read.
     Ended,
 }
@@ -71,19 +72,20 @@ impl<'o, 'p, O: Opens<F>, F: Read + Drop> FileLines<'o, 'p, O, F> {
         ensures { IfOk result (λ read. IfSome read (λ count. count ≤ length buf.new)) }
     {
         if let Reading::Closed = self.reading {
-            self.reading = Reading::Open(self.opener.open(self.path)?);
+            let Opened { file, is_fifo } = self.opener.open(self.path)?;
+            self.reading = Reading::Open { file, is_fifo };
         }
-        let Reading::Open(opened) = &mut self.reading else {
+        let Reading::Open { file, is_fifo } = &mut self.reading else {
             return Ok(Some(0));
         };
-        let count = opened.file.read(buf)?;
+        let count = file.read(buf)?;
         match buf[..count].last() {
             Some(last) => {
                 self.is_within = *last != END;
                 Ok(Some(count))
             }
             None => {
-                self.reading = after(opened.is_fifo);
+                self.reading = after(*is_fifo);
                 Ok(self.end_line(buf))
             }
         }

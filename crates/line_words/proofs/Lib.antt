@@ -1,5 +1,6 @@
 mod Looking
 mod Rows
+mod Gone
 mod Told
 pub mod Aloud
 pub mod States

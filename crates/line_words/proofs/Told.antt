@@ -3,13 +3,14 @@ use Rattle.std.proofs.Common.{◌≡◌, ℕ, ◌==◌, true, false, List, [], �
 use Rattle.std.specs.Prelude.{codes, is_ok}
 use Rattle.std.specs.Result.{result_unwrap_or}
 use Rattle.std.proofs.lemmas.Bool.{false≢true}
+use Rattle.line_words.specs.Lines.{cut}
 use Rattle.line_words.specs.Telling.{answered_words, answered_text, line_text, or_nothing, told_with}
 
 pub none_answered : (words : List ℕ) → (length words == 0) ≡ true → answered_words words ≡ []
 none_answered [] h = refl
 none_answered (c ∷ words) h = let e = eqb-true (length (c ∷ words)) 0 h in absurd (omega (arith, e))
 
-pub some_answered : (words : List ℕ) → (length words == 0) ≡ false → answered_words words ≡ codes "  answered " ++ words
+pub some_answered : (words : List ℕ) → (length words == 0) ≡ false → answered_words words ≡ cut (codes "  answered " ++ words)
 some_answered [] h = cc
 some_answered (c ∷ words) h = refl
 

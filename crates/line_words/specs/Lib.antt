@@ -1,3 +1,4 @@
+pub mod Lines
 pub mod Changes
 pub mod Telling
 pub mod Watching

@@ -5,15 +5,16 @@ use Rattle.std.specs.Result.{result_unwrap_or}
 use Rattle.meter_theory.specs.State.{State}
 use Rattle.step_words.specs.Texts.{decoded}
 use Rattle.line_words.specs.Changes.{change_lines}
+use Rattle.line_words.specs.Lines.{cut}
 
 -- `line N: ` and the words of the line (own profile)
 unfoldable pub line_text : ℕ → List ℕ → List ℕ
-line_text number words = codes "line " ++ (decimal number ++ (codes ": " ++ (words ++ 10 ∷ [])))
+line_text number words = cut (codes "line " ++ (decimal number ++ (codes ": " ++ (words ++ 10 ∷ []))))
 
 -- `  answered ` and these words, with the newline that ends them; nothing where there are none (own profile)
 abbrev pub answered_words : List ℕ → List ℕ
 answered_words [] = []
-answered_words (c ∷ words) = codes "  answered " ++ c ∷ words
+answered_words (c ∷ words) = cut (codes "  answered " ++ c ∷ words)
 
 -- the same of the text that was written for the line (own profile)
 unfoldable pub answered_text : List ℕ → List ℕ

@@ -10,7 +10,9 @@
 //! - [`watching::run_watched`] answers lines as `run_lines` does, and tells of each.
 #![tactic(auto)]
 
+mod cut;
 mod held;
+mod moving;
 mod telling;
 pub mod watch;
 pub mod watching;

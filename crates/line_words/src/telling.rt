@@ -9,6 +9,7 @@ ghost use Rattle.step_words.specs.Texts.{decoded};
 ghost use Rattle.line_words.specs.Changes.{told_part};
 ghost use Rattle.line_words.specs.Telling.{answered_text, line_text, or_nothing, told_text, told_with};
 
+use crate::cut::push_cut;
 use crate::watch::Watch;
 use cosem_data::memory::Memory;
 use object_model::meter::Meter;
@@ -46,11 +47,12 @@ fn push_answered(alloc: Global, reply: &[u8], told: &mut Vec<u8>) -> Result<(), 
     ensures { OnOk result (told.new.items ≡ told.old.items ++ answered_text reply.now) }
 {
     let words = reply_words(alloc, reply)?;
-    if !words.is_empty() {
-        told.extend_from_slice(b"  answered ")?;
-        told.extend_from_slice(&words)?;
+    if words.is_empty() {
+        return Ok(());
     }
-    Ok(())
+    let mut line = Vec::from_slice(alloc, b"  answered ")?;
+    line.extend_from_slice(&words)?;
+    push_cut(alloc, &line, told)
 }
 
 /// Puts the lines of what changed behind a text, or the line that nothing did.
@@ -66,8 +68,24 @@ fn push_changes(changes: &[u8], told: &mut Vec<u8>) -> Result<(), Memory>
     Ok(())
 }
 
-/// What is told of a line that has these words and made these changes.
+/// Puts the words of a line with its number behind a text.
 #[tactic(auto, unfolding(crate::specs::Telling::line_text))]
+fn push_line_words(
+    alloc: Global,
+    number: u64,
+    words: &[u8],
+    told: &mut Vec<u8>,
+) -> Result<(), Memory>
+    ensures { OnOk result (told.new.items ≡ told.old.items ++ line_text number words.now) }
+{
+    let mut line = Vec::new(alloc);
+    line.extend_from_slice(format!(in alloc; "line {number}: ")?.as_bytes())?;
+    line.extend_from_slice(words)?;
+    line.push(b'\n')?;
+    push_cut(alloc, &line, told)
+}
+
+/// What is told of a line that has these words and made these changes.
 fn told_of(
     alloc: Global,
     answered: Answered<'_>,
@@ -78,9 +96,7 @@ fn told_of(
         ++ (answered_text answered.entry.reply.now ++ or_nothing changes.now)) }
 {
     let mut told = Vec::new(alloc);
-    told.extend_from_slice(format!(in alloc; "line {}: ", answered.number)?.as_bytes())?;
-    told.extend_from_slice(words)?;
-    told.push(b'\n')?;
+    push_line_words(alloc, answered.number, words, &mut told)?;
     push_answered(alloc, answered.reply, &mut told)?;
     push_changes(changes, &mut told)?;
     Ok(told)

@@ -5,9 +5,11 @@ ghost use Rattle.cosem_data.specs.Equal.{same_tree};
 ghost use Rattle.meter_theory.specs.Plan.{cells};
 ghost use Rattle.meter_theory.specs.State.{keys, value};
 ghost use Rattle.meter_theory.specs.States.{IsState};
-ghost use Rattle.line_words.specs.Changes.{change_line, change_lines, change_of, told_part};
+ghost use Rattle.line_words.specs.Changes.{change_lines, change_of, changes_of, is_buffer, told_part};
 
 use crate::held::is_held;
+use crate::moving::{push_rows, push_value_line};
+use class_control::judge::elements_of;
 use cosem_data::cell::CellRef;
 use cosem_data::data::Data;
 use cosem_data::memory::Memory;
@@ -16,8 +18,6 @@ use object_model::meter::Meter;
 use object_model::plan::Plan;
 use std::alloc::Global;
 use std::marker::Model;
-use value_text::cell::push_cell;
-use value_words::writing::push_value;
 
 /// A cell, and the value that it held when it was looked at last. Contracts see the pair.
 #[derive(Drop)]
@@ -111,22 +111,30 @@ fn is_unchanged(meter: &Meter, instance: &Instance<'_>, kept: &Kept) -> bool
     }
 }
 
-/// Puts the line of a cell that changed behind others.
-#[tactic(auto, unfolding(crate::specs::Changes::change_line))]
-fn push_change(
+/// Whether a cell is the buffer of a profile (IEC 62056-6-2, Profile generic).
+fn is_buffer(cell: &CellRef) -> bool
+    ensures { result ≡ is_buffer cell.now }
+{
+    cell.class_id == 7 && cell.index == 2
+}
+
+/// Puts the lines of a cell that holds another value than before behind others.
+#[tactic(auto, unfolding(crate::specs::Changes::changes_of))]
+fn push_changes(
     alloc: Global,
     cell: &CellRef,
-    value: &Data,
+    before: &Data,
+    now: &Data,
     lines: &mut Vec<u8>,
 ) -> Result<(), Memory>
-    ensures { OnOk result (lines.new.items ≡ lines.old.items ++ change_line cell.now (tree value.now)) }
+    ensures { OnOk result (lines.new.items
+        ≡ lines.old.items ++ changes_of cell.now (tree before.now) (tree now.now)) }
 {
-    lines.extend_from_slice(b"  ")?;
-    push_cell(alloc, cell, lines)?;
-    lines.extend_from_slice(b" is now ")?;
-    push_value(alloc, value, lines)?;
-    lines.push(b'\n')?;
-    Ok(())
+    if is_buffer(cell) {
+        push_rows(alloc, cell, elements_of(before), elements_of(now), lines)
+    } else {
+        push_value_line(alloc, cell, b" is now ", now, lines)
+    }
 }
 
 /// Looks at a cell again, and puts its line behind others if its value isn't the one that was kept.
@@ -145,8 +153,9 @@ fn look_at(
 {
     let instance = plan.instance(&kept.cell.name);
     if !is_unchanged(meter, &instance, kept) {
-        kept.value = meter.value_at(alloc, &instance, &kept.cell)?;
-        push_change(alloc, &kept.cell, &kept.value, lines)?;
+        let now = meter.value_at(alloc, &instance, &kept.cell)?;
+        push_changes(alloc, &kept.cell, &kept.value, &now, lines)?;
+        kept.value = now;
     }
     Ok(())
 }

@@ -1,5 +1,5 @@
 -- What commands come to over files.
-use Rattle.std.proofs.Common.{◌≡◌, ℕ, Bool, true, false, List, [], Option, Some, inl, inr, refl, sym, subst, ◌∙◌, Result, Ok, Err, IfOk, IfErr, Global, String, string_bytes}
+use Rattle.std.proofs.Common.{◌≡◌, ℕ, Bool, true, false, List, [], Option, Some, inl, inr, refl, ap, sym, subst, ◌∙◌, Result, Ok, Err, IfOk, IfErr, Global, String, string_bytes}
 use Rattle.std.specs.Prelude.{◌≢◌, MatchResult}
 use Rattle.config_reader.specs.ConfigOf.{Reads, config_of}
 use Rattle.config_rules.specs.Faultless.{IsPolicyOf}
@@ -11,13 +11,14 @@ use Rattle.verdict.specs.declared.Verdict.{Verdict}
 use Rattle.verdict.proofs.Judged.{judged, judged-whole}
 use Rattle.verdict.specs.declared.Verdict.TheVariants.{Accepted, Config, Labels, Refused}
 use Rattle.live_server.specs.declared.fault.ServerFault.{ServerFault}
-use Rattle.meter_server.specs.Answering.{IsAcceptedOf, IsNoAcceptance, IsServed, JudgesFiles, RefusesFiles, TellsJudgement}
+use Rattle.step_stores.specs.declared.fault.StoreFault.{StoreFault}
+use Rattle.meter_server.specs.Answering.{IsAcceptedOf, IsEndOfServing, IsNoAcceptance, IsServed, JudgesFiles, RefusesFiles, TellsJudgement, TellsUnstored}
 use Rattle.meter_server.specs.Files.{IsFile, TellsUnread}
 use Rattle.meter_server.specs.Outcomes.{ended}
 use Rattle.meter_server.specs.Program.{IsJudged, IsJudgedWhole, RefusesOn}
 use Rattle.meter_server.proofs.Made.{said-of}
 use Rattle.meter_server.specs.declared.outcome.Outcome.{Outcome}
-use Rattle.meter_server.specs.declared.outcome.Outcome.TheVariants.{Done, Judged, JudgedWhole, JudgedSide, Compared, Words, Unread, Stranger, Fault, Broken, Unserved, Audited, Unaudited, Unwritten, Untranslated, Closed}
+use Rattle.meter_server.specs.declared.outcome.Outcome.TheVariants.{Done, Judged, JudgedWhole, JudgedSide, Compared, Words, Unread, UnreadFleet, Stranger, Fault, Broken, Unserved, Unstored, Audited, Unaudited, Unwritten, Untranslated, Closed}
 use Rattle.meter_server.specs.declared.texts.Source.{Source}
 use Rattle.text_files.specs.Files.{MayRead}
 use Rattle.text_files.specs.declared.FileFault.{FileFault}
@@ -37,9 +38,11 @@ unread-accepts-nothing path why (Stranger told) h = tt
 unread-accepts-nothing path why (Fault fault) h = tt
 unread-accepts-nothing path why (Broken fault) h = tt
 unread-accepts-nothing path why (Unserved fault) h = tt
+unread-accepts-nothing path why (Unstored file fault) h = tt
 unread-accepts-nothing path why (JudgedSide side verdict text) h = tt
 unread-accepts-nothing path why (Compared gives) h = tt
-unread-accepts-nothing path why (Audited text accepts) h = tt
+unread-accepts-nothing path why (UnreadFleet files) h = tt
+unread-accepts-nothing path why (Audited text accepts explanation) h = tt
 unread-accepts-nothing path why (Unaudited fault) h = tt
 unread-accepts-nothing path why (Unwritten fault) h = tt
 unread-accepts-nothing path why (Untranslated fault) h = tt
@@ -59,9 +62,11 @@ refusal-accepts-nothing config labels verdict (Stranger told) never h = absurd h
 refusal-accepts-nothing config labels verdict (Fault fault) never h = absurd h
 refusal-accepts-nothing config labels verdict (Broken fault) never h = absurd h
 refusal-accepts-nothing config labels verdict (Unserved fault) never h = absurd h
+refusal-accepts-nothing config labels verdict (Unstored file fault) never h = absurd h
 refusal-accepts-nothing config labels verdict (JudgedSide side judged text) never h = absurd h
 refusal-accepts-nothing config labels verdict (Compared gives) never h = absurd h
-refusal-accepts-nothing config labels verdict (Audited text accepts) never h = absurd h
+refusal-accepts-nothing config labels verdict (UnreadFleet files) never h = absurd h
+refusal-accepts-nothing config labels verdict (Audited text accepts explanation) never h = absurd h
 refusal-accepts-nothing config labels verdict (Unaudited fault) never h = absurd h
 refusal-accepts-nothing config labels verdict (Unwritten fault) never h = absurd h
 refusal-accepts-nothing config labels verdict (Untranslated fault) never h = absurd h
@@ -84,9 +89,11 @@ whole-accepts-nothing config labels verdict told (Stranger words) never h = tt
 whole-accepts-nothing config labels verdict told (Fault fault) never h = tt
 whole-accepts-nothing config labels verdict told (Broken fault) never h = tt
 whole-accepts-nothing config labels verdict told (Unserved fault) never h = tt
+whole-accepts-nothing config labels verdict told (Unstored file fault) never h = tt
 whole-accepts-nothing config labels verdict told (JudgedSide side judged text) never h = tt
 whole-accepts-nothing config labels verdict told (Compared gives) never h = tt
-whole-accepts-nothing config labels verdict told (Audited text accepts) never h = tt
+whole-accepts-nothing config labels verdict told (UnreadFleet files) never h = tt
+whole-accepts-nothing config labels verdict told (Audited text accepts explanation) never h = tt
 whole-accepts-nothing config labels verdict told (Unaudited fault) never h = tt
 whole-accepts-nothing config labels verdict told (Unwritten fault) never h = tt
 whole-accepts-nothing config labels verdict told (Untranslated fault) never h = tt
@@ -137,6 +144,48 @@ accepted-so reads true config_path labels_path checked text a empty =
     inl (a.config, a.config_is, inr ((a.said, a.faultless), inl (a.labels, a.labels_are, (Accepted, Some [], (v.0, v.1, v.2, v.3, (v.4, refl)), (refl, (refl, inl empty))))))
 
 -- a live meter has ended, or didn't begin
-pub served-so : {A : Type 0} (answer : Result A ServerFault) → IsServed (ended answer)
-served-so (Ok closed) = tt
-served-so (Err fault) = tt
+pub ended-so : {A : Type 0} (answer : Result A ServerFault) → IsEndOfServing (ended answer)
+ended-so (Ok closed) = tt
+ended-so (Err fault) = tt
+
+-- and was to keep its steps or not
+pub served-so : (store unread left : Option (List ℕ)) (outcome : Outcome) → IsEndOfServing outcome → IsServed store unread left outcome
+served-so store unread left Done h = tt
+served-so store unread left (Unserved fault) h = tt
+served-so store unread left (Judged verdict text) h = absurd h
+served-so store unread left (JudgedWhole verdict failures text) h = absurd h
+served-so store unread left (JudgedSide side verdict text) h = absurd h
+served-so store unread left (Compared gives) h = absurd h
+served-so store unread left (Words fault) h = absurd h
+served-so store unread left (Unread file told) h = absurd h
+served-so store unread left (Stranger told) h = absurd h
+served-so store unread left (Fault fault) h = absurd h
+served-so store unread left (Broken fault) h = absurd h
+served-so store unread left (Unstored path fault) h = absurd h
+served-so store unread left (UnreadFleet files) h = absurd h
+served-so store unread left (Audited text accepts explanation) h = absurd h
+served-so store unread left (Unaudited fault) h = absurd h
+served-so store unread left (Unwritten fault) h = absurd h
+served-so store unread left (Untranslated fault) h = absurd h
+served-so store unread left Closed h = absurd h
+
+-- the place that was to keep them isn't opened
+pub unstored-so : (store : List ℕ) (unread : Option (List ℕ)) (why : StoreFault) (outcome : Outcome) → TellsUnstored store why outcome → IsServed (Some store) unread unread outcome
+unstored-so store unread why (Unstored path fault) h = (ap Some (sym h.0), refl)
+unstored-so store unread why Done h = tt
+unstored-so store unread why (Unserved fault) h = tt
+unstored-so store unread why (Judged verdict text) h = subst (IsServed (Some store) unread unread) (sym h) tt
+unstored-so store unread why (JudgedWhole verdict failures text) h = subst (IsServed (Some store) unread unread) (sym h) tt
+unstored-so store unread why (JudgedSide side verdict text) h = subst (IsServed (Some store) unread unread) (sym h) tt
+unstored-so store unread why (Compared gives) h = subst (IsServed (Some store) unread unread) (sym h) tt
+unstored-so store unread why (Words fault) h = subst (IsServed (Some store) unread unread) (sym h) tt
+unstored-so store unread why (Unread file told) h = subst (IsServed (Some store) unread unread) (sym h) tt
+unstored-so store unread why (Stranger told) h = subst (IsServed (Some store) unread unread) (sym h) tt
+unstored-so store unread why (Fault fault) h = subst (IsServed (Some store) unread unread) (sym h) tt
+unstored-so store unread why (Broken fault) h = subst (IsServed (Some store) unread unread) (sym h) tt
+unstored-so store unread why (UnreadFleet files) h = subst (IsServed (Some store) unread unread) (sym h) tt
+unstored-so store unread why (Audited text accepts explanation) h = subst (IsServed (Some store) unread unread) (sym h) tt
+unstored-so store unread why (Unaudited fault) h = subst (IsServed (Some store) unread unread) (sym h) tt
+unstored-so store unread why (Unwritten fault) h = subst (IsServed (Some store) unread unread) (sym h) tt
+unstored-so store unread why (Untranslated fault) h = subst (IsServed (Some store) unread unread) (sym h) tt
+unstored-so store unread why Closed h = subst (IsServed (Some store) unread unread) (sym h) tt

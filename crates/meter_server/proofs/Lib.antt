@@ -1,4 +1,6 @@
 pub mod Answered
+pub mod Audits
 pub mod Ends
 pub mod Errors
 pub mod Made
+mod Trails

@@ -1,9 +1,8 @@
 -- What each command does with the files that it names, its input and its output (own profile throughout).
 use Rattle.std.specs.Prelude.{◌≡◌, ◌⊎◌, ◌++◌, ℕ, List, Bool, true, false, not, ◌||◌, codes, string_bytes, Option, Some, None, Result, Ok, Err, []}
 use Rattle.std.specs.Io.KnownBytes.{Appends}
-use Rattle.std.specs.List.{AllZip}
 use Rattle.command_words.specs.Commands.{Asked, command_of}
-use Rattle.command_words.specs.Commands.Asked.{Demo, Run, Edges, Label, Check, Why, Compare, Report, Quiet, Audit, Session, Serve, Encode, Decode}
+use Rattle.command_words.specs.Commands.Asked.{Demo, Run, Edges, Label, Check, Why, Compare, Report, Quiet, Audit, Session, Serve, Trail, Encode, Decode}
 use Rattle.command_words.specs.declared.fault.WordsFault.TheVariants as words
 use Rattle.config_reader.specs.ConfigOf.{config_of}
 use Rattle.config_rules.specs.Faultless.{IsPolicyOf}
@@ -11,29 +10,27 @@ use Rattle.config_rules.specs.PlanOf.{plan_of}
 use Rattle.config_text.specs.Fault.{Fault as Faulty}
 use Rattle.config_text.specs.Parts.{ConfigText}
 use Rattle.verdict.specs.Judging.{IsVerdict, IsWholeVerdict}
-use Rattle.fleet_audit.specs.Reading.{AreTextsOf, FailsFirst}
-use Rattle.fleet_audit.specs.Telling.{TellsAudit}
-use Rattle.fleet_audit.specs.declared.fault.AuditFault.TheVariants as audits
-use Rattle.fleet_audit.specs.declared.reading.FleetFault.{FleetFault}
-use Rattle.fleet_audit.specs.declared.reading.FleetFault.TheVariants as fleets
-use Rattle.fleet_audit.specs.declared.text.Text.{Text}
 use Rattle.verdict.specs.declared.Verdict.{Verdict}
 use Rattle.verdict.specs.declared.Verdict.TheVariants.{Accepted}
 use Rattle.flow_checker.specs.declared.check.Checked.{Checked}
 use Rattle.line_server.specs.Lines.{Moment}
 use Rattle.meter_theory.specs.Plan.{client_named}
+use Rattle.meter_server.specs.Auditing.{AuditsNamed}
 use Rattle.meter_server.specs.Comparing.{ComparesFiles}
 use Rattle.meter_server.specs.Files.{ByFile, IsFile}
 use Rattle.meter_server.specs.Looking.{AsksWhy}
 use Rattle.meter_server.specs.Noticing.{NoticesAs}
 use Rattle.meter_server.specs.Outcomes.{error_of, status_of, translated, unless_closed}
-use Rattle.meter_server.specs.Program.{AnswersFrames, AnswersText, IsJudged, IsJudgedWhole, IsNoCommand, ListsEdges, ListsLabels, TellsFault, TellsVerdict}
+use Rattle.meter_server.specs.Program.{AnswersFrames, AnswersText, AnswersTrail, IsJudged, IsJudgedWhole, IsNoCommand, ListsEdges, ListsLabels, TellsFault, TellsVerdict}
 use Rattle.meter_server.specs.Reporting.{ReportsFile}
+use Rattle.meter_server.specs.Trailing.{PrintsTrail}
 use Rattle.meter_server.specs.Sources.{Given, MayGive, ReadsWhere, is_given_input, is_input}
 use Rattle.meter_server.specs.declared.demo.TheConstants.{DEMO}
 use Rattle.meter_server.specs.declared.outcome.Outcome.{Outcome}
-use Rattle.meter_server.specs.declared.outcome.Outcome.TheVariants.{Done, Judged, JudgedWhole, Words, Unread, Audited, Unaudited, Unserved}
+use Rattle.meter_server.specs.declared.outcome.Outcome.TheVariants.{Done, Judged, JudgedWhole, Words, Unserved, Unstored}
 use Rattle.meter_server.specs.declared.texts.Source.{Source}
+use Rattle.step_stores.specs.declared.fault.StoreFault.{StoreFault}
+use Rattle.live_server.specs.declared.fault.ServerFault.TheVariants as servers
 use Rattle.plan_lists.specs.Listing.{WritesText}
 use Rattle.plan_lists.specs.declared.fault.ListFault.{ListFault}
 use Rattle.plan_lists.specs.declared.fault.ListFault.TheVariants as lists
@@ -75,11 +72,21 @@ pub record IsAcceptedOf (reads : MayRead) (config_path labels_path : List ℕ) (
   pub policy_is : IsPolicyOf said checked.policy
   pub accepted : IsVerdict (config_of config.text.now) labels.text.now Accepted
 
+-- the place that was to keep the steps isn't opened, which a command tells; or memory was refused for that
+abbrev pub TellsUnstored : (store : List ℕ) → StoreFault → Outcome → Type 0
+TellsUnstored store why (Unstored path fault) = (string_bytes path ≡ store) × (fault ≡ why)
+TellsUnstored store why outcome = outcome ≡ Unserved servers.Memory
+
 -- a live meter has ended, or didn't begin
-abbrev pub IsServed : Outcome → Type 0
-IsServed Done = Unit {0}
-IsServed (Unserved fault) = Unit {0}
-IsServed _ = ⊥
+abbrev pub IsEndOfServing : Outcome → Type 0
+IsEndOfServing Done = Unit {0}
+IsEndOfServing (Unserved fault) = Unit {0}
+IsEndOfServing _ = ⊥
+
+-- a live meter has ended, or didn't begin: where it was to keep its steps in a file that isn't opened, nothing was read of the input
+abbrev pub IsServed : (store : Option (List ℕ)) → (unread left : Option (List ℕ)) → Outcome → Type 0
+IsServed store unread left (Unstored path fault) = (store ≡ Some (string_bytes path)) × (left ≡ unread)
+IsServed store unread left outcome = IsEndOfServing outcome
 
 -- a command didn't come to accept
 abbrev pub IsNoAcceptance : Outcome → Type 0
@@ -92,9 +99,9 @@ abbrev pub RefusesFiles : MayRead → (tells_all : Bool) → (config labels : Li
 RefusesFiles reads tells_all config labels outcome = JudgesFiles reads tells_all config labels outcome × IsNoAcceptance outcome
 
 -- connections are answered by the configuration in one file, where the labels in another are accepted for it; else a verdict is told, and nothing is read of the input
-abbrev pub ServesFiles : MayRead → (config labels : List ℕ) → (unread left : Option (List ℕ)) → Outcome → Type 0
-ServesFiles reads config labels unread left outcome =
-    (RefusesFiles reads false config labels outcome × (left ≡ unread)) ⊎ (((checked : Checked) × IsAcceptedOf reads config labels checked) × IsServed outcome)
+abbrev pub ServesFiles : MayRead → (config labels : List ℕ) → (store : Option (List ℕ)) → (unread left : Option (List ℕ)) → Outcome → Type 0
+ServesFiles reads config labels store unread left outcome =
+    (RefusesFiles reads false config labels outcome × (left ≡ unread)) ⊎ (((checked : Checked) × IsAcceptedOf reads config labels checked) × IsServed store unread left outcome)
 
 -- it is told of each line of an input whether the client of this name could notice it, by the configuration in one file, where the labels in another are accepted for it; else a verdict is told, and nothing is read of the input
 abbrev pub NoticesFiles : MayRead → (config labels client : List ℕ) → (before after : Moment) → Outcome → Type 0
@@ -102,29 +109,29 @@ NoticesFiles reads config labels client before after outcome =
     (RefusesFiles reads false config labels outcome × (after ≡ before))
     ⊎ ((checked : Checked) × IsAcceptedOf reads config labels checked × NoticesAs checked client (client_named checked.plan client) before after outcome)
 
--- Fleets
-
--- how a command ended whose fleet isn't read
-abbrev pub unread_fleet : FleetFault → Outcome
-unread_fleet (fleets.Unread path why) = Unread path why
-unread_fleet fleets.Memory = Unaudited audits.Memory
-
--- how the files that names stand for are audited: all are read, and the verdicts on their texts are told; or the first that isn't read is told; or memory was refused
-abbrev pub AuditsFiles : MayRead → List (List ℕ) → Outcome → Type 0
-AuditsFiles reads names (Unread path why) = FailsFirst reads names (string_bytes path) why
-AuditsFiles reads names (Unaudited fault) = fault ≡ audits.Memory
-AuditsFiles reads names (Audited text accepts) = (texts : List Text) × AllZip (AreTextsOf reads) names texts × TellsAudit names texts (record { text = text; is_accepted = accepts })
-AuditsFiles reads names _ = ⊥
-
 -- Commands
 
 -- how the lines of an input are answered by the configuration in a file
 abbrev pub RunsFile : MayRead → List ℕ → (before after : Moment) → Outcome → Type 0
 RunsFile reads path before after outcome = ByFile reads path (λ config. AnswersText config (config_of config.text.now) before after) (after ≡ before) outcome
 
+-- the same of the lines of a trail
+abbrev pub RunsTrailFile : MayRead → List ℕ → (before after : Moment) → Outcome → Type 0
+RunsTrailFile reads path before after outcome = ByFile reads path (λ config. AnswersTrail config (config_of config.text.now) before after) (after ≡ before) outcome
+
 -- how the frames of an input are answered by it
 abbrev pub ConnectsFile : MayRead → List ℕ → (before after : Moment) → Outcome → Type 0
 ConnectsFile reads path before after outcome = ByFile reads path (λ config. AnswersFrames config (config_of config.text.now) before after) (after ≡ before) outcome
+
+-- how words are made into hex: those of values, or else of steps
+abbrev pub encoding_of : (is_value : Bool) → Way
+encoding_of true = ways.EncodeValues
+encoding_of false = ways.Encode
+
+-- how hex is made into words: that of values, or else of steps and replies
+abbrev pub decoding_of : (is_value : Bool) → Way
+decoding_of true = ways.DecodeValues
+decoding_of false = ways.Decode
 
 -- how an input is translated
 abbrev pub TellsTranslation : Way → (before after : Moment) → Outcome → Type 0
@@ -143,7 +150,8 @@ ListsFile Lists reads path before after outcome = ByFile reads path (λ config. 
 abbrev pub Answers : MayRead → Asked → (before after : Moment) → Outcome → Type 0
 Answers reads (Demo is_verbose) before after outcome =
     (demo : Source) × (demo.file.now ≡ codes "demo.toml") × (demo.text.now ≡ DEMO.now) × AnswersText demo (config_of demo.text.now) before after outcome
-Answers reads (Run path is_verbose) before after outcome = RunsFile reads path before after outcome
+Answers reads (Run path is_verbose true) before after outcome = RunsTrailFile reads path before after outcome
+Answers reads (Run path is_verbose false) before after outcome = RunsFile reads path before after outcome
 Answers reads (Edges path form) before after outcome =
     (given : Option Given) × ReadsWhere (is_input path) before.unread after.unread given × ListsFile (ListsEdges form) (MayGive reads given) path before.written after.written outcome
 Answers reads (Label path) before after outcome =
@@ -158,12 +166,16 @@ Answers reads (Report config labels against form) before after outcome =
     (given : Option Given) × ReadsWhere (is_input config || (is_given_input labels || is_given_input against)) before.unread after.unread given
     × ReportsFile (MayGive reads given) form (record { labels = labels; old = against }) config before.written after.written outcome
 Answers reads (Quiet config labels client is_verbose) before after outcome = NoticesFiles reads config labels client before after outcome
-Answers reads (Audit workers names tells_progress) before after outcome = (after ≡ before) × AuditsFiles reads names outcome
+Answers reads (Audit workers names names_file explains tells_progress) before after outcome =
+    (given : Option Given) × ReadsWhere (is_given_input names_file) before.unread after.unread given × (after.written ≡ before.written)
+    × AuditsNamed reads (MayGive reads given) explains names names_file outcome
 Answers reads (Session path) before after outcome = ConnectsFile reads path before after outcome
-Answers reads (Serve config labels address port sessions) before after outcome =
-    (after.written ≡ before.written) × ServesFiles reads config labels before.unread after.unread outcome
-Answers reads Encode before after outcome = TellsTranslation ways.Encode before after outcome
-Answers reads Decode before after outcome = TellsTranslation ways.Decode before after outcome
+Answers reads (Serve config labels served) before after outcome =
+    (after.written ≡ before.written) × ServesFiles reads config labels served.store before.unread after.unread outcome
+Answers reads (Trail path client since is_json) before after outcome =
+    (after.unread ≡ before.unread) × PrintsTrail reads path client since is_json before.written after.written outcome
+Answers reads (Encode is_value) before after outcome = TellsTranslation (encoding_of is_value) before after outcome
+Answers reads (Decode is_value) before after outcome = TellsTranslation (decoding_of is_value) before after outcome
 
 -- memory was refused before it was known what the words ask for, and nothing was done
 abbrev pub IsOutOfMemory : (before after : Moment) → Outcome → Type 0
@@ -177,10 +189,10 @@ pub record Does (reads : MayRead) (ws : List (List ℕ)) (before after : Moment)
 -- whether nothing is written on standard error until the command has ended: it isn't asked to tell of lines or of its progress, and serves no meter
 abbrev pub is_quiet : Option Asked → Bool
 is_quiet (Some (Demo is_verbose)) = not is_verbose
-is_quiet (Some (Run path is_verbose)) = not is_verbose
+is_quiet (Some (Run path is_verbose reads_trail)) = not is_verbose
 is_quiet (Some (Quiet config labels client is_verbose)) = not is_verbose
-is_quiet (Some (Audit workers names tells_progress)) = not tells_progress
-is_quiet (Some (Serve config labels address port sessions)) = false
+is_quiet (Some (Audit workers names names_file explains tells_progress)) = not tells_progress
+is_quiet (Some (Serve config labels served)) = false
 is_quiet _ = true
 
 -- how a command ended is written on standard error: all of that, or a beginning of it, behind which a write failed; nothing, where there was no memory for it

@@ -1,9 +1,13 @@
 pub mod Answering
+pub mod Auditing
 pub mod Comparing
 pub mod Files
+pub mod Following
 pub mod Looking
 pub mod Noticing
 pub mod Outcomes
 pub mod Program
 pub mod Reporting
 pub mod Sources
+pub mod Trailing
+pub mod Unread

@@ -1,11 +1,11 @@
 -- What the program tells whoever started it of how a command ended (own profile throughout).
 use Rattle.std.specs.Fmt.{decimal}
-use Rattle.std.specs.Prelude.{ℕ, Bool, true, false, ◌&&◌, List, [], ◌++◌, if◌then◌else◌, string_bytes, codes, Result, Ok, Err}
+use Rattle.std.specs.Prelude.{ℕ, Bool, true, false, ◌&&◌, List, [], ◌++◌, if◌then◌else◌, string_bytes, codes, Result, Ok, Err, String}
+use Rattle.std.specs.Global.{Global}
 use Rattle.command_words.specs.declared.fault.WordsFault.{WordsFault}
 use Rattle.command_words.specs.declared.fault.WordsFault.TheVariants as words
 use Rattle.shown_text.specs.Printable.{printable}
 use Rattle.fleet_audit.specs.Faults as audits
-use Rattle.fleet_audit.specs.declared.fault.AuditFault.{AuditFault}
 use Rattle.fleet_audit.specs.declared.telling.Told.{Told}
 use Rattle.frame_server.specs.Faults.{serve_fault_words}
 use Rattle.frame_server.specs.declared.fault.ServeFault.{ServeFault}
@@ -13,14 +13,17 @@ use Rattle.line_server.specs.Faults.{fault_words, reason_words}
 use Rattle.live_server.specs.Faults as servers
 use Rattle.live_server.specs.declared.fault.ServerFault.{ServerFault}
 use Rattle.verdict.specs.Lines.{verdict_line}
+use Rattle.meter_server.specs.Unread.{fleet_lines}
 use Rattle.meter_server.specs.declared.outcome.Side.{Side}
 use Rattle.meter_server.specs.declared.outcome.Side.TheVariants as sides
 use Rattle.meter_server.specs.declared.outcome.Outcome.{Outcome}
-use Rattle.meter_server.specs.declared.outcome.Outcome.TheVariants.{Done, Judged, JudgedWhole, JudgedSide, Compared, Words, Unread, Stranger, Fault, Broken, Unserved, Audited, Unaudited, Unwritten, Untranslated, Closed}
+use Rattle.meter_server.specs.declared.outcome.Outcome.TheVariants.{Done, Judged, JudgedWhole, JudgedSide, Compared, Words, Unread, UnreadFleet, Stranger, Fault, Broken, Unserved, Unstored, Audited, Unaudited, Unwritten, Untranslated, Closed}
 use Rattle.line_server.specs.declared.fault.LineFault.{LineFault}
 use Rattle.line_server.specs.declared.fault.LineFault.TheVariants.{Line}
 use Rattle.line_server.specs.declared.fault.LineFault.TheVariants as lines
 use Rattle.frame_server.specs.declared.fault.ServeFault.TheVariants as frames
+use Rattle.step_stores.specs.Faults as stores
+use Rattle.step_stores.specs.declared.fault.StoreFault.{StoreFault}
 use Rattle.plan_lists.specs.Listing as lists
 use Rattle.plan_lists.specs.declared.fault.ListFault.{ListFault}
 use Rattle.plan_lists.specs.declared.fault.ListFault.TheVariants as lists_fault
@@ -62,10 +65,9 @@ abbrev pub translated : Result (Unit {0}) TranslationFault → Outcome
 translated (Ok u) = Done
 translated (Err fault) = Untranslated fault
 
--- how a command ended whose fleet was audited so
-abbrev pub audited : Result Told AuditFault → Outcome
-audited (Ok told) = Audited told.text told.is_accepted
-audited (Err fault) = Unaudited fault
+-- how a command ended whose fleet was audited so, with this explanation of it
+abbrev pub audited : Told → String Global → Outcome
+audited told explanation = Audited told.text told.is_accepted explanation
 
 -- the exit status of a verdict: 0 where it accepts
 abbrev pub status_of_verdict : Verdict → ℕ
@@ -94,7 +96,9 @@ status_of (Stranger told) = 2
 status_of (Fault fault) = 3
 status_of (Broken fault) = 3
 status_of (Unserved fault) = 3
-status_of (Audited text accepts) = if accepts then 0 else 1
+status_of (Unstored path fault) = 3
+status_of (UnreadFleet files) = 3
+status_of (Audited text accepts explanation) = if accepts then 0 else 1
 status_of (Unaudited fault) = 3
 status_of (Unwritten fault) = 3
 status_of (Untranslated fault) = 3
@@ -130,7 +134,7 @@ abbrev pub output_of : Outcome → List ℕ
 output_of (Judged verdict explanation) = verdict_line verdict
 output_of (JudgedWhole verdict failures explanation) = verdict_line verdict ++ string_bytes failures
 output_of (JudgedSide side verdict explanation) = side_line side verdict
-output_of (Audited text accepts) = string_bytes text
+output_of (Audited text accepts explanation) = string_bytes text
 output_of (Words (words.Help text)) = string_bytes text
 output_of (Words (words.Version text)) = string_bytes text
 output_of _ = []
@@ -142,6 +146,10 @@ line words = codes "cosem-flow: " ++ (words ++ codes "\n")
 -- a file that isn't read, and why
 abbrev pub unread_line : List ℕ → FileFault → List ℕ
 unread_line file why = codes "cosem-flow: " ++ (printable file ++ (codes ": " ++ (files.fault_words why ++ codes "\n")))
+
+-- a file that isn't opened as the place where steps are kept, and why
+abbrev pub unstored_line : List ℕ → StoreFault → List ℕ
+unstored_line file why = codes "cosem-flow: " ++ (printable file ++ (codes ": " ++ (stores.fault_words why ++ codes "\n")))
 
 -- what standard error tells: what explains a verdict, all else that went wrong, and why a line is unreadable, which standard output has told of
 abbrev pub error_of : Outcome → List ℕ
@@ -160,9 +168,11 @@ error_of (Unread file why) = unread_line (string_bytes file) why
 error_of (Stranger told) = line (string_bytes told)
 error_of (Fault (Line number why)) = codes "cosem-flow: line " ++ (decimal number ++ (codes ": " ++ (reason_words why ++ codes "\n")))
 error_of (Fault fault) = line (fault_words fault)
-error_of (Audited text accepts) = []
+error_of (UnreadFleet files) = fleet_lines files.items
+error_of (Audited text accepts explanation) = string_bytes explanation
 error_of (Unaudited fault) = line (audits.fault_words fault)
 error_of (Broken fault) = line (serve_fault_words fault)
 error_of (Unserved fault) = line (servers.fault_words fault)
+error_of (Unstored file why) = unstored_line (string_bytes file) why
 error_of (Unwritten fault) = line (lists.fault_words fault)
 error_of (Untranslated fault) = line (translations.fault_words fault)

@@ -22,6 +22,8 @@ use Rattle.meter_theory.specs.Labels.{Policy}
 use Rattle.meter_theory.specs.Plan.{Plan}
 use Rattle.line_server.specs.Lines.{Moment}
 use Rattle.meter_server.specs.Outcomes.{output_of}
+use Rattle.trail_lines.specs.Running.{RunsTrail}
+use Rattle.line_server.specs.declared.fault.LineFault.{LineFault}
 use Rattle.line_server.specs.Running.{RunsLines}
 use Rattle.meter_server.specs.declared.outcome.Outcome.{Outcome}
 use Rattle.meter_server.specs.declared.outcome.Outcome.TheVariants.{Done, Judged, JudgedWhole, Words, Fault, Broken, Unwritten}
@@ -104,12 +106,20 @@ TellsFault config outcome = (fault : FaultTold) × Fails fault (config_of config
 
 -- Texts
 
--- how the lines of an input are answered by the configuration that a text says: its fault is told and explained, and nothing is read or written; or the lines run over its plan
+-- how the lines of an input are answered by the configuration that a text says: its fault is told and explained, and nothing is read or written; or the lines run so over its plan
+abbrev pub AnswersBy : (Plan → Moment → Moment → Result ℕ LineFault → Type 0) → Source → Result ConfigText ConfigFault → Moment → Moment → Outcome → Type 0
+AnswersBy Runs config said before after (Judged (Config fault) text) = Fails fault said × (after ≡ before) × IsTold (ExplainsFault config fault) (string_bytes text)
+AnswersBy Runs config said before after Done = (c : ConfigText) × (said ≡ Ok c) × (count : ℕ) × Runs (plan_of c) before after (Ok count)
+AnswersBy Runs config said before after (Fault fault) = (c : ConfigText) × (said ≡ Ok c) × Runs (plan_of c) before after (Err fault)
+AnswersBy Runs config said before after _ = ⊥
+
+-- the same of step lines
 abbrev pub AnswersText : Source → Result ConfigText ConfigFault → Moment → Moment → Outcome → Type 0
-AnswersText config said before after (Judged (Config fault) text) = Fails fault said × (after ≡ before) × IsTold (ExplainsFault config fault) (string_bytes text)
-AnswersText config said before after Done = (c : ConfigText) × (said ≡ Ok c) × (count : ℕ) × RunsLines (plan_of c) before after (Ok count)
-AnswersText config said before after (Fault fault) = (c : ConfigText) × (said ≡ Ok c) × RunsLines (plan_of c) before after (Err fault)
-AnswersText config said before after _ = ⊥
+AnswersText config said before after outcome = AnswersBy RunsLines config said before after outcome
+
+-- the same of the lines of a trail
+abbrev pub AnswersTrail : Source → Result ConfigText ConfigFault → Moment → Moment → Outcome → Type 0
+AnswersTrail config said before after outcome = AnswersBy RunsTrail config said before after outcome
 
 -- how the frames of a connection are answered by it: its fault is told and explained, and nothing is read or written; or they are answered by its plan
 abbrev pub AnswersFrames : Source → Result ConfigText ConfigFault → Moment → Moment → Outcome → Type 0

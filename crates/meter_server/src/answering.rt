@@ -1,41 +1,40 @@
 //! What each command does with the files that it names, its input and its output (own profile).
-ghost use Rattle.std.specs.Prelude.{◌≡◌, false, true, MatchResult, Some, map};
+ghost use Rattle.std.specs.Prelude.{◌≡◌, false, true, List, ℕ, MatchResult, Some};
 ghost use Rattle.command_words.specs.Commands.{asked_by};
 ghost use Rattle.config_reader.specs.ConfigOf.{config_of};
-ghost use Rattle.meter_server.specs.Answering.{Answers, AuditsFiles, ConnectsFile, IsAcceptedOf, JudgesFiles, ListsFile, NoticesFiles, RefusesFiles, RunsFile, ServesFiles, is_quiet, unread_fleet};
+ghost use Rattle.meter_server.specs.Answering.{Answers, ConnectsFile, IsAcceptedOf, JudgesFiles, ListsFile, NoticesFiles, RefusesFiles, RunsFile, RunsTrailFile, decoding_of, encoding_of, is_quiet};
 ghost use Rattle.meter_server.specs.Looking.{AsksWhy};
+ghost use Rattle.meter_server.specs.Files.{IsFile};
 ghost use Rattle.meter_server.specs.Program.{AnswersText, ListsEdges, ListsLabels};
 
+use crate::auditing::{Audit, audit_named};
 use crate::comparing::compare_files;
 use crate::demo::DEMO;
 use crate::files::{source_of, text_of_file};
 use crate::looking::{Question, tell_why};
 use crate::noticing::{Look, notice_lines};
-use crate::outcome::{Outcome, audited, ended, translated};
+use crate::outcome::{Outcome, translated};
 use crate::reporting::{Beside, report_file};
-use crate::sources::{Sources, is_any_input, is_either_input, is_input};
+use crate::serving::serve_files;
+use crate::sources::{Sources, is_any_input, is_either_input, is_given_input, is_input};
 use crate::texts::{
-    Source, accepted_of_texts, answer_aloud, answer_frames, answer_text, faulty, list_edges,
-    list_labels,
+    Source, accepted_of_texts, answer_aloud, answer_frames, answer_text, answer_trail, faulty,
+    list_edges, list_labels,
 };
+use crate::trailing::{Asked, print_trail};
 use command_words::{Command, EdgesForm};
 use config_reader::read_config;
-use fleet_audit::fault::AuditFault;
-use fleet_audit::reading::{FleetFault, read_fleet};
-use fleet_audit::telling::{audit_texts, audit_texts_aloud};
-use fleet_audit::watch::Unwatched;
 use flow_checker::check::Checked;
-use live_server::serving::{Place, serve_at};
-use live_server::sessions::Driven;
-use live_server::sitting::Manners;
-use peer_watch::rules::Rules;
+use line_sources::file::Opens;
 use std::alloc::Global;
 use std::io::{Read, Write};
 use std::net::{Net, TcpListener, TcpStream};
-use std::num::{NonZeroU16, NonZeroUsize};
-use std::sync::{Mutex, Wait};
+use std::sync::Wait;
 use std::thread::Threads;
 use std::time::Clock;
+use step_keeping::keeper::Keeps;
+use step_keeping::recalling::Recalls;
+use step_stores::stores::Stores;
 use step_words::texts::Way;
 use step_words::translating::translate;
 use text_files::TextFiles;
@@ -47,21 +46,12 @@ const DEMO_SOURCE: Source<'static> = Source {
     text: DEMO,
 };
 
-/// What holds of the connections of a served meter: 64 at once; one that sent nothing whole for 180 seconds is closed (IEC 62056-6-2,
-/// TCP-UDP setup, inactivity_time_out); the answer waits half a second behind the first refused association of a connection.
-const MANNERS: Manners = Manners {
-    seats: 64,
-    rules: Rules {
-        idle: 180,
-        penalty: 500,
-    },
-    is_verbose: false,
-};
-
 /// Does what a command asks for.
-pub(crate) fn answer<H, F, I, O, E>(
+pub(crate) fn answer<H, F, S, K, P, L, D, I, O, E>(
     rt: &H,
     files: &F,
+    stores: &S,
+    opener: &L,
     command: Command<'_>,
     input: &mut I,
     output: &mut O,
@@ -75,6 +65,11 @@ where
         + Wait
         + Sync,
     F: TextFiles + Sync,
+    S: Stores<K, P>,
+    K: Keeps + Drop + Send,
+    P: Recalls + Drop,
+    L: Opens<D> + Sync,
+    D: Read + Drop + Send,
     I: Read + Send,
     O: Write,
     E: Write + Send,
@@ -89,9 +84,16 @@ where
         Command::Demo { is_verbose } => {
             answer_lines_of(alloc, DEMO_SOURCE, is_verbose, input, output, errors)
         }
-        Command::Run { config, is_verbose } => {
-            run_file(alloc, files, config, is_verbose, input, output, errors)
-        }
+        Command::Run {
+            config,
+            is_verbose: _,
+            reads_trail: true,
+        } => run_trail_of_file(alloc, files, config, input, output),
+        Command::Run {
+            config,
+            is_verbose,
+            reads_trail: false,
+        } => run_file(alloc, files, config, is_verbose, input, output, errors),
         Command::Edges { config, form } => {
             let sources = Sources::new(alloc, files, input, is_input(config));
             list_edges_of_file(alloc, &sources, config, form, output)
@@ -151,33 +153,69 @@ where
         Command::Audit {
             workers,
             names,
+            names_file,
+            explains,
             tells_progress,
-        } => audit_files(rt, files, workers, &names, tells_progress, errors),
+        } => {
+            let sources = Sources::new(alloc, files, input, is_given_input(names_file));
+            let audit = Audit {
+                workers,
+                names: &names,
+                names_file,
+                explains,
+                tells_progress,
+            };
+            audit_named(rt, files, &sources, audit, errors)
+        }
         Command::Session { config } => connect_file(alloc, files, config, input, output),
         Command::Serve {
             config,
             labels,
-            bind,
-            port,
-            sessions,
+            serving,
+        } => serve_files(
+            rt, files, stores, opener, config, labels, &serving, input, errors,
+        ),
+        Command::Trail {
+            file,
+            client,
+            since,
+            is_json,
         } => {
-            let place = place_of(bind, port, sessions);
-            serve_files(rt, files, config, labels, place, input, errors)
+            let asked = Asked {
+                client,
+                since,
+                is_json,
+            };
+            print_trail(alloc, files, file, asked, output)
         }
-        Command::Encode => translated(translate(alloc, Way::Encode, input, output)),
-        Command::Decode => translated(translate(alloc, Way::Decode, input, output)),
+        Command::Encode { is_value } => {
+            translated(translate(alloc, encoding(is_value), input, output))
+        }
+        Command::Decode { is_value } => {
+            translated(translate(alloc, decoding(is_value), input, output))
+        }
     }
 }
 
-/// Where the words of a command line have connections taken.
-fn place_of(bind: &str, port: NonZeroU16, sessions: u64) -> Place<'_>
-    ensures { (result.address.now ≡ bind.now) × (result.port ≡ port) × (result.sessions ≡ sessions) }
+/// How words are made into hex.
+fn encoding(is_value: bool) -> Way
+    ensures { result ≡ encoding_of is_value }
 {
-    Place {
-        address: bind,
-        port,
-        sessions,
-        manners: MANNERS,
+    if is_value {
+        Way::EncodeValues
+    } else {
+        Way::Encode
+    }
+}
+
+/// How hex is made into words.
+fn decoding(is_value: bool) -> Way
+    ensures { result ≡ decoding_of is_value }
+{
+    if is_value {
+        Way::DecodeValues
+    } else {
+        Way::Decode
     }
 }
 
@@ -201,6 +239,24 @@ fn run_file<F: TextFiles, I: Read, O: Write, E: Write>(
             let config = source_of(file, &text);
             answer_lines_of(alloc, config, is_verbose, input, output, errors)
         }
+        Err(outcome) => outcome,
+    }
+}
+
+/// Answers the lines of a trail on the input by the configuration in a file.
+fn run_trail_of_file<F: TextFiles, I: Read, O: Write>(
+    alloc: Global,
+    files: &F,
+    file: &str,
+    input: &mut I,
+    output: &mut O,
+) -> Outcome
+    ensures { RunsTrailFile (F.may_read files.now) file.now
+        (record { unread = I.remaining input.old; written = O.contents output.old })
+        (record { unread = I.remaining input.new; written = O.contents output.new }) result }
+{
+    match text_of_file(alloc, files, file) {
+        Ok(text) => answer_trail(alloc, source_of(file, &text), input, output),
         Err(outcome) => outcome,
     }
 }
@@ -310,43 +366,6 @@ fn check_files<F: TextFiles>(
     }
 }
 
-/// Answers connections by the configuration in a file, where the labels in another are accepted for it.
-fn serve_files<H, F, I, E>(
-    rt: &H,
-    files: &F,
-    config: &str,
-    labels: &str,
-    place: Place<'_>,
-    input: &mut I,
-    errors: &mut E,
-) -> Outcome
-where
-    H: AllocGlobal
-        + Clock
-        + Net<Stream = TcpStream, Listener = TcpListener>
-        + Threads
-        + Wait
-        + Sync,
-    F: TextFiles,
-    I: Read + Send,
-    E: Write + Send,
-    ensures { ServesFiles (F.may_read files.now) config.now labels.now
-        (I.remaining input.old) (I.remaining input.new) result }
-{
-    match accepted_of_files(rt.alloc(), files, config, labels, false) {
-        Ok(checked) => {
-            let is_over = Mutex::new(false);
-            let driven = Driven {
-                steps: input,
-                faults: errors,
-                is_over: &is_over,
-            };
-            ended(serve_at(rt, checked, place, driven))
-        }
-        Err(outcome) => outcome,
-    }
-}
-
 /// Tells of each line of the input whether a client could notice it, by the configuration in a file, where the labels in another are
 /// accepted for it.
 fn notice_files<F: TextFiles, I: Read, O: Write, E: Write>(
@@ -383,7 +402,21 @@ fn accepted_of_files<F: TextFiles>(
         (RefusesFiles (F.may_read files.now) tells_all config.now labels.now) }
 {
     let text = text_of_file(alloc, files, config)?;
-    let config = source_of(config, &text);
+    accepted_of_config(alloc, files, source_of(config, &text), labels, tells_all)
+}
+
+/// What is accepted of a configuration that was read and of the labels in a file, as `accepted_of_files` has it.
+pub(crate) fn accepted_of_config<F: TextFiles>(
+    alloc: Global,
+    files: &F,
+    config: Source<'_>,
+    labels: &str,
+    tells_all: bool,
+) -> Result<Checked, Outcome>
+    ensures { (path : List ℕ) → IsFile (F.may_read files.now) path config.entry → MatchResult result
+        (IsAcceptedOf (F.may_read files.now) path labels.now)
+        (RefusesFiles (F.may_read files.now) tells_all path labels.now) }
+{
     let (plan, policy) = match read_config(alloc, config.text) {
         Ok(made) => made,
         Err(fault) => return Err(faulty(alloc, config, fault)),
@@ -391,40 +424,4 @@ fn accepted_of_files<F: TextFiles>(
     let text = text_of_file(alloc, files, labels)?;
     let labels = source_of(labels, &text);
     accepted_of_texts(alloc, config, labels, plan, &policy, tells_all)
-}
-
-/// The verdicts on many configurations and their labels, each in a line behind its name. All files are read first, by the same number
-/// of workers. Where that is asked for, it is told on the error stream how far the audit is.
-fn audit_files<H, F, E>(
-    rt: &H,
-    files: &F,
-    workers: NonZeroUsize,
-    names: &[&str],
-    tells_progress: bool,
-    errors: &mut E,
-) -> Outcome
-where
-    H: AllocGlobal + Clock + Threads + Sync,
-    F: TextFiles + Sync,
-    E: Write + Send,
-    ensures audits { AuditsFiles (F.may_read files.now) (map (λ name. name.now) names.now) result }
-    ensures quiet { tells_progress ≡ false → E.contents errors.new ≡ E.contents errors.old }
-{
-    match read_fleet(rt, files, names, workers) {
-        Ok(texts) if tells_progress => {
-            audited(audit_texts_aloud(rt, names, texts, workers, errors))
-        }
-        Ok(texts) => audited(audit_texts(rt, names, texts, workers, &Unwatched)),
-        Err(fault) => fleet_unread(fault),
-    }
-}
-
-/// How a command ended whose fleet isn't read.
-fn fleet_unread(fault: FleetFault) -> Outcome
-    ensures { result ≡ unread_fleet fault }
-{
-    match fault {
-        FleetFault::Unread(file, why) => Outcome::Unread(file, why),
-        FleetFault::Memory => Outcome::Unaudited(AuditFault::Memory),
-    }
 }

@@ -3,6 +3,7 @@
 #![tactic(auto)]
 
 mod answering;
+mod auditing;
 mod comparing;
 pub mod demo;
 mod files;
@@ -12,8 +13,11 @@ pub mod outcome;
 pub mod output;
 pub mod program;
 mod reporting;
+mod serving;
 mod sources;
 mod texts;
+mod trailing;
+mod unread;
 
 pub use command_words::{Command as Line, WordsFault, read_words};
 pub use frame_server::fault::ServeFault;

@@ -2,11 +2,13 @@
 ghost use Rattle.std.specs.Prelude.{◌≡◌, ◌++◌, IfOk, string_bytes};
 ghost use Rattle.verdict.specs.Lines.{verdict_line};
 ghost use Rattle.meter_server.specs.Outcomes as outcomes;
-ghost use Rattle.meter_server.specs.Outcomes.{error_of, line, output_of, status_of, unread_line};
+ghost use Rattle.meter_server.specs.Outcomes.{error_of, line, output_of, status_of, unread_line, unstored_line};
 
+use crate::unread::fleet_lines;
 use command_words::WordsFault;
 use cosem_data::memory::Memory;
 use fleet_audit::fault::AuditFault;
+use fleet_audit::reading::UnreadFile;
 use fleet_audit::telling::Told;
 use frame_server::fault::ServeFault;
 use line_server::fault::LineFault;
@@ -15,6 +17,7 @@ use meter_live::board::Closed;
 use plan_lists::fault::ListFault;
 use shown_text::printable::printable_text;
 use std::alloc::Global;
+use step_stores::fault::StoreFault;
 use step_words::translating::TranslationFault;
 use text_files::FileFault;
 use verdict::{Verdict, verdict_text};
@@ -50,6 +53,8 @@ pub enum Outcome {
     Words(WordsFault),
     /// The file with this path isn't read as text, and why.
     Unread(String, FileFault),
+    /// These files of a fleet aren't read as text, and why: all that aren't.
+    UnreadFleet(Vec<UnreadFile>),
     /// The words of the command line name a client or a cell that the configuration hasn't, as these words say.
     Stranger(String),
     /// A fault stopped the run of lines.
@@ -58,8 +63,15 @@ pub enum Outcome {
     Broken(ServeFault),
     /// A fault ended the live meter, or let it not begin.
     Unserved(ServerFault),
-    /// It came to the verdicts on many configurations, which these lines tell, and of which all accept or not.
-    Audited { text: String, is_accepted: bool },
+    /// The file with this path, which was to keep the steps of the live meter, isn't opened, and why.
+    Unstored(String, StoreFault),
+    /// It came to the verdicts on many configurations, which these lines tell, and of which all accept or not. The second text explains
+    /// them in whole lines, where that is asked for and there is memory to do so.
+    Audited {
+        text: String,
+        is_accepted: bool,
+        explanation: String,
+    },
     /// It came to no verdicts on them.
     Unaudited(AuditFault),
     /// Its list or its verdict can't be written whole.
@@ -88,10 +100,12 @@ impl Outcome {
             Outcome::Words(WordsFault::Memory) => 3,
             Outcome::Audited { is_accepted, .. } => u8::from(!is_accepted),
             Outcome::Unread(_, _)
+            | Outcome::UnreadFleet(_)
             | Outcome::Unaudited(_)
             | Outcome::Fault(_)
             | Outcome::Broken(_)
             | Outcome::Unserved(_)
+            | Outcome::Unstored(_, _)
             | Outcome::Unwritten(_)
             | Outcome::Untranslated(_) => 3,
             Outcome::Closed => 141,
@@ -147,11 +161,11 @@ impl Outcome {
         ensures { IfOk result (λ text. string_bytes text ≡ error_of self.now) }
     {
         match self {
-            Outcome::Done | Outcome::Audited { .. } | Outcome::Compared(false) | Outcome::Closed =>
-                Ok(String::new(alloc)),
+            Outcome::Done | Outcome::Compared(false) | Outcome::Closed => Ok(String::new(alloc)),
             Outcome::Judged(_, explanation)
             | Outcome::JudgedWhole(_, _, explanation)
-            | Outcome::JudgedSide(_, _, explanation) => {
+            | Outcome::JudgedSide(_, _, explanation)
+            | Outcome::Audited { explanation, .. } => {
                 Ok(String::from_str(alloc, explanation.as_str())?)
             }
             Outcome::Compared(true) => Ok(String::from_str(alloc, GIVES_MORE)?),
@@ -161,6 +175,7 @@ impl Outcome {
                 Ok(String::from_str(alloc, "cosem-flow: out of memory\n")?)
             }
             Outcome::Unread(file, why) => unread_text(alloc, file.as_str(), *why),
+            Outcome::UnreadFleet(files) => fleet_lines(alloc, files),
             Outcome::Stranger(words) => line_of(alloc, words.as_str()),
             Outcome::Fault(LineFault::Line(number, why)) => {
                 Ok(format!(in alloc; "cosem-flow: line {number}: {why}\n")?)
@@ -169,6 +184,7 @@ impl Outcome {
             Outcome::Unaudited(fault) => line_of(alloc, fault.words()),
             Outcome::Broken(fault) => line_of(alloc, fault.words()),
             Outcome::Unserved(fault) => line_of(alloc, fault.words()),
+            Outcome::Unstored(file, why) => unstored_text(alloc, file.as_str(), *why),
             Outcome::Unwritten(fault) => line_of(alloc, fault.words()),
             Outcome::Untranslated(fault) => line_of(alloc, fault.told(alloc)?.as_str()),
         }
@@ -214,6 +230,15 @@ fn line_of(alloc: Global, words: &str) -> Result<String, Memory>
 /// What is told of a file that isn't read.
 fn unread_text(alloc: Global, file: &str, why: FileFault) -> Result<String, Memory>
     ensures { IfOk result (λ text. string_bytes text ≡ unread_line file.now why) }
+{
+    let file = printable_text(alloc, file)?;
+    let why = why.told(alloc)?;
+    Ok(format!(in alloc; "cosem-flow: {file}: {why}\n")?)
+}
+
+/// What is told of a file that isn't opened as the place where steps are kept.
+fn unstored_text(alloc: Global, file: &str, why: StoreFault) -> Result<String, Memory>
+    ensures { IfOk result (λ text. string_bytes text ≡ unstored_line file.now why) }
 {
     let file = printable_text(alloc, file)?;
     let why = why.told(alloc)?;
@@ -280,12 +305,18 @@ pub(crate) fn compared(answer: Result<bool, ListFault>) -> Outcome
     }
 }
 
-/// How a command ended whose fleet was audited so.
-pub(crate) fn audited(answer: Result<Told, AuditFault>) -> Outcome
-    ensures { result ≡ outcomes.audited answer }
+/// How a command ended whose fleet was audited so, with this explanation of it.
+pub(crate) fn audited(told: Told, explanation: String) -> Outcome
+    ensures { result ≡ outcomes.audited told explanation }
 {
-    match answer {
-        Ok(Told { text, is_accepted }) => Outcome::Audited { text, is_accepted },
-        Err(fault) => Outcome::Unaudited(fault),
+    let Told {
+        text,
+        is_accepted,
+        verdicts: _verdicts,
+    } = told;
+    Outcome::Audited {
+        text,
+        is_accepted,
+        explanation,
     }
 }

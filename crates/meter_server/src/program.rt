@@ -11,6 +11,7 @@ use crate::outcome::Outcome;
 use crate::output::Output;
 use command_words::{WordsFault, read_words};
 use cosem_data::memory::Memory;
+use line_sources::file::Opens;
 use plan_lists::fault::ListFault;
 use std::alloc::Global;
 use std::io::{Read, Write};
@@ -18,6 +19,9 @@ use std::net::{Net, TcpListener, TcpStream};
 use std::sync::Wait;
 use std::thread::Threads;
 use std::time::Clock;
+use step_keeping::keeper::Keeps;
+use step_keeping::recalling::Recalls;
+use step_stores::stores::Stores;
 use text_files::TextFiles;
 use whole_writes::write_whole;
 
@@ -26,15 +30,19 @@ use whole_writes::write_whole;
 /// line on the error stream; `edges CONFIG` and `label CONFIG` print its edges, with `--format dot` as a graph, and its least labels
 /// there; `check CONFIG LABELS` comes to a verdict on it and on the labels in a second file, which is read only where the configuration
 /// has no fault, and with `--all` prints all that fails behind the verdict; `audit NAME` comes to one on each of many, by many workers,
-/// and with `--progress` tells on the error stream how far it is; `session CONFIG` answers the frames of the input, those of one
+/// with `--names` of a file's names too, with `--explain` tells on the error stream what explains them, and with `--progress` how far it is; `session CONFIG` answers the frames of the input, those of one
 /// connection, on the output; `serve CONFIG LABELS` answers connections over TCP by a live meter, where the verdict accepts, and takes
-/// the meter's own steps from the lines of the input; `encode` and `decode` translate the input onto the output.
+/// the meter's own steps from the lines of the input; `encode` and `decode` translate the input onto the output, with
+/// `--value` single values and not steps.
 /// A verdict stands on the output and what explains it on the error stream; help and the version stand on the output where the words
 /// ask for these; any other fault stands on the error stream. Where the output's reader has gone nothing more is told.
-/// `rt` is the handle that starts threads, waits, opens sockets and tells the time; `files` reads the files that the words name.
-pub fn run_program<H, F, I, O, E>(
+/// `rt` is the handle that starts threads, waits, opens sockets and tells the time; `files` reads the files that the words name, `stores`
+/// opens that which keeps the steps of a live meter, and `opener` that which the lines of its own steps come from.
+pub fn run_program<H, F, S, K, P, L, D, I, O, E>(
     rt: &H,
     files: &F,
+    stores: &S,
+    opener: &L,
     words: &[String],
     input: &mut I,
     output: &mut O,
@@ -48,6 +56,11 @@ where
         + Wait
         + Sync,
     F: TextFiles + Sync,
+    S: Stores<K, P>,
+    K: Keeps + Drop + Send,
+    P: Recalls + Drop,
+    L: Opens<D> + Sync,
+    D: Read + Drop + Send,
     I: Read + Send,
     O: Output,
     E: Write + Send,
@@ -62,7 +75,7 @@ where
     ensures helped { AskForHelp (map string_bytes words.now) →
         (result ≡ 0) ⊎ (result ≡ 3) ⊎ (result ≡ 141) }
 {
-    let outcome = asked(rt, files, words, input, output, errors);
+    let outcome = asked(rt, files, stores, opener, words, input, output, errors);
     let outcome = with_verdict(rt.alloc(), outcome, output);
     let outcome = outcome.unless_closed(output.is_closed());
     tell(rt.alloc(), &outcome, errors);
@@ -70,9 +83,11 @@ where
 }
 
 /// Does what words ask for.
-fn asked<H, F, I, O, E>(
+fn asked<H, F, S, K, P, L, D, I, O, E>(
     rt: &H,
     files: &F,
+    stores: &S,
+    opener: &L,
     words: &[String],
     input: &mut I,
     output: &mut O,
@@ -86,6 +101,11 @@ where
         + Wait
         + Sync,
     F: TextFiles + Sync,
+    S: Stores<K, P>,
+    K: Keeps + Drop + Send,
+    P: Recalls + Drop,
+    L: Opens<D> + Sync,
+    D: Read + Drop + Send,
     I: Read + Send,
     O: Write,
     E: Write + Send,
@@ -99,7 +119,7 @@ where
         return Outcome::Words(WordsFault::Memory);
     };
     match read_words(rt.alloc(), &texts) {
-        Ok(command) => answer(rt, files, command, input, output, errors),
+        Ok(command) => answer(rt, files, stores, opener, command, input, output, errors),
         Err(fault) => Outcome::Words(fault),
     }
 }

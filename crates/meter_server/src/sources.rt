@@ -31,7 +31,7 @@ pub(crate) fn is_any_input(name: &str, first: Option<&str>, second: Option<&str>
 }
 
 /// Whether a file's name, if one is given, stands for the input.
-fn is_given_input(name: Option<&str>) -> bool
+pub(crate) fn is_given_input(name: Option<&str>) -> bool
     ensures { result ≡ spec.is_given_input (option_map (λ name. name.now) name.entry) }
 {
     match name {

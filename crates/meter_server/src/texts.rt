@@ -6,7 +6,7 @@ ghost use Rattle.line_server.specs.Running.{RunsLines};
 ghost use Rattle.plan_lists.specs.Listing.{WritesText};
 ghost use Rattle.verdict.specs.Judging.{IsVerdictOn};
 ghost use Rattle.verdict.specs.declared.Verdict.TheVariants.{Accepted};
-ghost use Rattle.meter_server.specs.Program.{AnswersFrames, AnswersText, ExplainsVerdict, IsFaulty, IsJudged, IsJudgedWhole, ListsEdges, ListsLabels, RefusesOn, edges_in};
+ghost use Rattle.meter_server.specs.Program.{AnswersFrames, AnswersText, AnswersTrail, ExplainsVerdict, IsFaulty, IsJudged, IsJudgedWhole, ListsEdges, ListsLabels, RefusesOn, edges_in};
 
 use crate::outcome::{Outcome, listed, outcome_of, served};
 use command_words::EdgesForm;
@@ -28,6 +28,7 @@ use plan_lists::fault::ListFault;
 use plan_lists::labels::write_least_labels;
 use std::alloc::Global;
 use std::io::{Read, Write};
+use trail_lines::running::run_trail;
 use verdict::Verdict;
 use verdict::judging::{WholeVerdict, accepted, accepted_or_whole};
 
@@ -53,6 +54,23 @@ pub(crate) fn answer_text<I: Read, O: Write>(
 {
     match read_config(alloc, config.text) {
         Ok((plan, _policy)) => outcome_of(run_lines(alloc, &plan, input, output)),
+        Err(fault) => faulty(alloc, config, fault),
+    }
+}
+
+/// Answers the lines of a trail on the input as `answer_text` answers step lines.
+pub(crate) fn answer_trail<I: Read, O: Write>(
+    alloc: Global,
+    config: Source<'_>,
+    input: &mut I,
+    output: &mut O,
+) -> Outcome
+    ensures { AnswersTrail config.entry (config_of config.entry.text.now)
+        (record { unread = I.remaining input.old; written = O.contents output.old })
+        (record { unread = I.remaining input.new; written = O.contents output.new }) result }
+{
+    match read_config(alloc, config.text) {
+        Ok((plan, _policy)) => outcome_of(run_trail(alloc, &plan, input, output)),
         Err(fault) => faulty(alloc, config, fault),
     }
 }
@@ -158,7 +176,7 @@ pub(crate) fn list_labels<O: Write>(alloc: Global, config: Source<'_>, output: &
 
 /// What explains a verdict on the configuration in a file and the labels in another, in whole lines; nothing where they are
 /// accepted (own profile). The error is that memory was refused.
-fn explain_verdict(
+pub(crate) fn explain_verdict(
     alloc: Global,
     config: Source<'_>,
     labels: Source<'_>,

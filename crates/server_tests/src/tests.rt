@@ -2,6 +2,7 @@ mod attributes;
 mod callers;
 mod classes;
 mod codes;
+mod config_spots;
 mod data;
 mod due_lines;
 mod encoding;

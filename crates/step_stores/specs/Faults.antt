@@ -9,7 +9,7 @@ use Rattle.trail_host.specs.declared.fault.OpenFault.TheVariants as opens
 use Rattle.trail_store.specs.declared.past.PastFault.{PastFault}
 use Rattle.trail_store.specs.declared.past.PastFault.TheVariants as pasts
 use Rattle.step_stores.specs.declared.fault.StoreFault.{StoreFault}
-use Rattle.step_stores.specs.declared.fault.StoreFault.TheVariants.{Memory, System, Busy, Journal, Trail, Unreadable}
+use Rattle.step_stores.specs.declared.fault.StoreFault.TheVariants.{Memory, System, Busy, Journal, Trail, Changed, Unreadable}
 
 -- want of memory is one fault, wherever it comes
 abbrev pub fault_of_trail : TrailFault → StoreFault
@@ -32,5 +32,6 @@ fault_words Memory = codes "out of memory"
 fault_words System = codes "it can't be opened"
 fault_words Busy = codes "it is in use"
 fault_words Journal = codes "a rollback journal lies beside it"
+fault_words Changed = codes "whole entries stand behind its end: a byte of it was changed"
 fault_words (Trail fault) = trails.fault_words fault
 fault_words (Unreadable entry) = codes "entry " ++ (decimal entry ++ codes " says no step")

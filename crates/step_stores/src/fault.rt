@@ -26,6 +26,9 @@ pub enum StoreFault {
     /// It is opened, and isn't the trail of the configuration.
     #[error("{0}")]
     Trail(TrailFault),
+    /// More whole entries stand behind its end than a crash leaves there, so a byte of it was changed.
+    #[error("whole entries stand behind its end: a byte of it was changed")]
+    Changed,
     /// The line of the entry with this number behind the head, from 1, says no step.
     #[error("entry {0} says no step")]
     Unreadable(u64),
@@ -44,6 +47,7 @@ impl StoreFault {
             StoreFault::Busy => "it is in use",
             StoreFault::Journal => "a rollback journal lies beside it",
             StoreFault::Trail(fault) => fault.words(),
+            StoreFault::Changed => "whole entries stand behind its end: a byte of it was changed",
             StoreFault::Unreadable(entry) => {
                 return Ok(format!(in alloc; "entry {entry} says no step")?);
             }

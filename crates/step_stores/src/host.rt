@@ -1,9 +1,11 @@
 //! Trail's files of the system, which keep the steps of a served meter.
 ghost use Rattle.std.specs.Prelude.{◌≡◌, IfOk, IsTrue};
 ghost use Rattle.step_keeping.specs.Keeping.{AreKept};
+ghost use Rattle.trail_file.specs.Opening.{EndsBefore};
 ghost use Rattle.trail_host.specs.Host.{is_clean, seen};
 ghost use Rattle.trail_store.specs.Past.{all_left};
 ghost use Rattle.trail_store.specs.Stored.{kept_in, stored};
+ghost use Rattle.trail_store.specs.declared.store.TheConstants as stores;
 ghost use Rattle.step_stores.specs.Files.{IsTrailOf};
 
 use crate::fault::StoreFault;
@@ -15,9 +17,9 @@ use sqlite_std_file::{FileFrom, Start, Wary};
 use std::alloc::Global;
 use trail_file::head::Head;
 use trail_file::version::Version;
-use trail_host::opening::open_at;
+use trail_host::opening::look_at;
 use trail_store::past::Past;
-use trail_store::store::TrailStore;
+use trail_store::store::{BATCH, TrailStore};
 
 /// The version of this program, which a new file's head tells.
 const VERSION: Version = Version {
@@ -51,10 +53,11 @@ impl<'r> Stores<FileStore<'r>, Past> for HostStores<'r> {
 }
 
 /// Opens the file with this path as the trail of a meter of the plan, whose configuration has these bytes, and makes it where there is
-/// none; `S` says what it held.
+/// none; `S` says what it held. All is judged before anything is written.
 ///
 /// # Errors
-/// It isn't opened, it is the trail of another configuration, or the line of an entry says no step that is kept. Memory was refused.
+/// It isn't opened, it is the trail of another configuration, it was changed, or the line of an entry says no step that is kept. Memory
+/// was refused.
 pub fn open_file<'r, S: Start>(
     rt: &'r HostRuntime,
     alloc: Global,
@@ -70,6 +73,8 @@ pub fn open_file<'r, S: Start>(
     // It is what the file held.
     ensures held { IfOk result (λ store. IsTrue (is_clean S.Start store.keeper.trail.disk)
         → all_left store.past.seconds store.past.said.items ≡ stored plan.now S.Start.db) }
+    // No more entries stood behind it than those of a step.
+    ensures short { IfOk result (λ store. IsTrue (is_clean S.Start store.keeper.trail.disk) → EndsBefore S.Start.db stores.BATCH) }
     // No file of another configuration is opened.
     ensures config { IfOk result (λ store. IsTrue (is_clean S.Start store.keeper.trail.disk)
         → IsTrailOf config.now (seen S.Start store.keeper.trail.disk)) }
@@ -78,11 +83,16 @@ pub fn open_file<'r, S: Start>(
         version: VERSION,
         digest: Sha256::digest(config),
     };
-    let held = open_at(rt, alloc, path, start, &head)?;
-    let past = Past::of(alloc, plan, &held.entries)?;
+    let looked = look_at(rt, alloc, path, start, &head)?;
+    let found = looked.found();
+    if BATCH < found.behind() {
+        return Err(StoreFault::Changed);
+    }
+    let past = Past::of(alloc, plan, found.entries())?;
+    let trail = looked.settle(alloc)?;
     let notes = SystemNotes { clock: rt };
     Ok(Store {
         past,
-        keeper: TrailStore::new(held.trail, notes),
+        keeper: TrailStore::new(trail, notes),
     })
 }

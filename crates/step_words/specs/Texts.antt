@@ -11,8 +11,9 @@ use Rattle.step_words.specs.declared.fault.Asked.TheVariants as asked
 use Rattle.step_words.specs.declared.fault.TextFault.{TextFault}
 use Rattle.step_words.specs.declared.fault.TextFault.TheVariants as faults
 use Rattle.step_words.specs.declared.texts.Way.{Way}
-use Rattle.step_words.specs.declared.texts.Way.TheVariants.{Encode, Decode}
-use Rattle.step_words.specs.StepLines.{encoded_step, decoded_step}
+use Rattle.step_words.specs.declared.head.Head.TheVariants.{Input}
+use Rattle.step_words.specs.declared.texts.Way.TheVariants.{Encode, Decode, EncodeValues, DecodeValues}
+use Rattle.step_words.specs.StepLines.{encoded_step, decoded_step, hex_at, words_at}
 use Rattle.step_words.specs.ReplyWords.{decoded_reply}
 
 -- Lines
@@ -35,10 +36,12 @@ spared text (Err (stop.At left what)) =
     else if list_any (λ c. c == 32) text then Err (stop.At left what)
     else decoded_reply text
 
--- what is made of a line that says something (own profile)
+-- what is made of a line that says something; a value stands in it as behind `in NAME ` (own profile)
 abbrev pub made_of : Way → List ℕ → Result (List ℕ) (Stop Asked)
 made_of Encode text = encoded_step text
 made_of Decode text = spared text (decoded_step text)
+made_of EncodeValues text = hex_at Input text
+made_of DecodeValues text = words_at Input text
 
 -- whether there is a byte, and it is 0D (own profile)
 abbrev pub is_return : Option ℕ → Bool
@@ -86,6 +89,14 @@ encoded text = text_at Encode text
 -- the words of step lines and of replies in hex (own profile)
 unfoldable pub decoded : List ℕ → Result (List ℕ) TextFault
 decoded text = text_at Decode text
+
+-- the encodings in hex of values in words, a line each (own profile)
+unfoldable pub encoded_values : List ℕ → Result (List ℕ) TextFault
+encoded_values text = text_at EncodeValues text
+
+-- the words of values whose encodings stand in hex, a line each (own profile)
+unfoldable pub decoded_values : List ℕ → Result (List ℕ) TextFault
+decoded_values text = text_at DecodeValues text
 
 -- a function told the fault that is met; where memory ran out it says nothing of what is met (own profile)
 abbrev pub Fails : {Y : Type 0} → TextFault → Result Y TextFault → Type 0

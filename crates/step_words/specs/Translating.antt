@@ -2,10 +2,10 @@
 use Rattle.std.specs.Prelude.{◌≡◌, ◌<◌, ℕ, List, ◌++◌, codes, length, Option, Result, Ok, Err}
 use Rattle.std.specs.Io.KnownBytes.{Appends, Consumes, IsAtEnd}
 use Rattle.step_words.specs.Faults as texts
-use Rattle.step_words.specs.Texts.{Fails, decoded, encoded}
+use Rattle.step_words.specs.Texts.{Fails, decoded, decoded_values, encoded, encoded_values}
 use Rattle.step_words.specs.declared.fault.TextFault.{TextFault}
 use Rattle.step_words.specs.declared.texts.Way.{Way}
-use Rattle.step_words.specs.declared.texts.Way.TheVariants.{Encode, Decode}
+use Rattle.step_words.specs.declared.texts.Way.TheVariants.{Encode, Decode, EncodeValues, DecodeValues}
 use Rattle.step_words.specs.declared.translating.TranslationFault.{TranslationFault}
 use Rattle.step_words.specs.declared.translating.TranslationFault.TheVariants as faults
 
@@ -16,10 +16,12 @@ fault_words faults.Write = codes "the output can't be written"
 fault_words (faults.Text fault) = texts.fault_words fault
 fault_words faults.Memory = codes "out of memory"
 
--- what is made of a text: step lines of steps in words, or words of step lines and replies (own profile)
+-- what is made of a text: step lines of steps in words, or words of step lines and replies; the same of values (own profile)
 abbrev pub made_of : Way → List ℕ → Result (List ℕ) TextFault
 made_of Encode text = encoded text
 made_of Decode text = decoded text
+made_of EncodeValues text = encoded_values text
+made_of DecodeValues text = decoded_values text
 
 -- all of the input was read, and this is it (own profile)
 abbrev pub ReadsAll : List ℕ → (unread left : Option (List ℕ)) → Type 0

@@ -3,7 +3,8 @@
 //! - [`texts::encode_text`] makes steps in words into step lines in hex.
 //! - [`texts::decode_text`] makes step lines in hex, and the replies to them, into words.
 //! - [`steps::push_step`] and [`replies::push_reply`] put the words of one step line or of one reply behind a text.
-//! - [`translating::translate`] does either of the two from an input onto an output.
+//! - [`texts::encode_values`] and [`texts::decode_values`] do so of values, a line each.
+//! - [`translating::translate`] does any of these from an input onto an output.
 //! - [`fault::TextFault`] tells the first place where something else was asked, and what.
 //! - [`laws`] has laws over all texts, for proofs that build on these functions.
 #![tactic(auto)]

@@ -64,7 +64,7 @@ fn hex_of_named_tick(alloc: Global, text: &[u8]) -> Result<Vec<u8>, Stop<Asked>>
 
 /// The hex of what stands in words behind the front of a step line.
 #[tactic(auto, unfolding(crate::specs::StepLines::hex_at))]
-fn hex_behind(alloc: Global, head: Head, text: &[u8]) -> Result<Vec<u8>, Stop<Asked>>
+pub(crate) fn hex_behind(alloc: Global, head: Head, text: &[u8]) -> Result<Vec<u8>, Stop<Asked>>
     ensures { Reads (λ x. x.items) result (spec.hex_at head text.now) }
 {
     match head {
@@ -121,7 +121,7 @@ pub(crate) fn apdu_words(alloc: Global, bytes: &[u8]) -> Result<Vec<u8>, Memory>
 
 /// The words of an input in hex digits.
 #[tactic(auto, unfolding(crate::specs::StepLines::words_at))]
-fn input_words(alloc: Global, text: &[u8]) -> Result<Vec<u8>, Stop<Asked>>
+pub(crate) fn input_words(alloc: Global, text: &[u8]) -> Result<Vec<u8>, Stop<Asked>>
     ensures { Reads (λ x. x.items) result (spec.words_at Head.Input text.now) }
 {
     let Some(value) = value_in(alloc, text)? else {

@@ -4,12 +4,13 @@ ghost use Rattle.std.specs.List.{list_any, slice_split};
 ghost use Rattle.value_words.specs.Stopping as words;
 ghost use Rattle.value_words.specs.Stopping.{Reads};
 ghost use Rattle.step_words.specs.Texts as spec;
-ghost use Rattle.step_words.specs.Texts.{Gives, encoded, decoded};
+ghost use Rattle.step_words.specs.Texts.{Gives, encoded, decoded, encoded_values, decoded_values};
 
 use crate::fault::{Asked, TextFault};
+use crate::head::Head;
 use crate::replies::decoded_reply;
 use crate::runs::{Run, run_of};
-use crate::steps::{decoded_step, encoded_step};
+use crate::steps::{decoded_step, encoded_step, hex_behind, input_words};
 use cosem_data::memory::Memory;
 use std::alloc::Global;
 use value_words::marks::behind;
@@ -22,6 +23,10 @@ pub enum Way {
     Encode,
     /// Step lines and replies in hex are made into words.
     Decode,
+    /// Values in words are made into their encodings in hex.
+    EncodeValues,
+    /// Encodings of values in hex are made into words.
+    DecodeValues,
 }
 
 const HASH: u8 = b'#';
@@ -90,6 +95,8 @@ fn made_of(alloc: Global, way: Way, text: &[u8]) -> Result<Vec<u8>, Stop<Asked>>
     match way {
         Way::Encode => encoded_step(alloc, text),
         Way::Decode => words_of(alloc, text),
+        Way::EncodeValues => hex_behind(alloc, Head::Input, text),
+        Way::DecodeValues => input_words(alloc, text),
     }
 }
 
@@ -211,4 +218,36 @@ pub fn decode_text(alloc: Global, text: &[u8]) -> Result<Vec<u8>, TextFault>
     ensures exact { Gives (λ x. x.items) result (decoded text.now) }
 {
     translated(alloc, Way::Decode, text)
+}
+
+/// Makes values in words into their encodings in hex, a line of each: `long-unsigned 17` into `120011` (own profile; the kinds are
+/// those of IEC 62056-6-2, the encoding A-XDR).
+///
+/// Empty lines and lines that begin with `#` stand as they are, and the text ends as it did, with a newline or without one.
+///
+/// # Errors
+/// `At` with the first line that is no value which a meter can be sent, the first place in it where something else stands than what
+/// is asked, and what is asked there; `Memory` where memory is refused. Nothing is made of the other lines then.
+#[tactic(auto, unfolding(crate::specs::Texts::encoded_values))]
+pub fn encode_values(alloc: Global, text: &[u8]) -> Result<Vec<u8>, TextFault>
+    // What is made, or the fault, is what the definition gives.
+    ensures exact { Gives (λ x. x.items) result (encoded_values text.now) }
+{
+    translated(alloc, Way::EncodeValues, text)
+}
+
+/// Makes the encodings of values in hex into words, a line of each: `120011` into `long-unsigned 17` (own profile; the kinds are
+/// those of IEC 62056-6-2, the encoding A-XDR).
+///
+/// Empty lines and lines that begin with `#` stand as they are, and the text ends as it did, with a newline or without one.
+///
+/// # Errors
+/// `At` with the first line that isn't the hex digits of one value, its first place, and what is asked there; `Memory` where memory
+/// is refused. Nothing is made of the other lines then.
+#[tactic(auto, unfolding(crate::specs::Texts::decoded_values))]
+pub fn decode_values(alloc: Global, text: &[u8]) -> Result<Vec<u8>, TextFault>
+    // What is made, or the fault, is what the definition gives.
+    ensures exact { Gives (λ x. x.items) result (decoded_values text.now) }
+{
+    translated(alloc, Way::DecodeValues, text)
 }

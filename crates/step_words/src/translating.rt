@@ -5,7 +5,7 @@ ghost use Rattle.step_words.specs.Translating as spec;
 ghost use Rattle.step_words.specs.Translating.{ReadsAll, Translates};
 
 use crate::fault::TextFault;
-use crate::texts::{Way, decode_text, encode_text};
+use crate::texts::{Way, decode_text, decode_values, encode_text, encode_values};
 use cosem_data::memory::Memory;
 use std::alloc::Global;
 use std::io::{ErrorKind, Read, Write};
@@ -88,5 +88,7 @@ fn translated(alloc: Global, way: Way, text: &[u8]) -> Result<Vec<u8>, TextFault
     match way {
         Way::Encode => encode_text(alloc, text),
         Way::Decode => decode_text(alloc, text),
+        Way::EncodeValues => encode_values(alloc, text),
+        Way::DecodeValues => decode_values(alloc, text),
     }
 }

@@ -1,5 +1,5 @@
 -- How a trail file's bytes are read.
-use Rattle.std.proofs.Common.{◌≡◌, ◌≢◌, inl, inr, ℕ, zero, suc, ◌+◌, ◌-◌, ◌<◌, ◌≤◌, ◌==◌, Bool, true, false, not, ◌&&◌, cond, List, [], ◌∷◌, ◌++◌, length, get_or, take, drop, refl, sym, ◌∙◌, ap, subst, arith, append_assoc, length-append, add-one}
+use Rattle.std.proofs.Common.{◌≡◌, ◌≢◌, inl, inr, ℕ, zero, suc, ◌+◌, ◌-◌, ◌<◌, ◌≤◌, ◌==◌, Bool, true, false, not, ◌&&◌, cond, List, [], ◌∷◌, ◌++◌, length, get_or, take, drop, refl, sym, ◌∙◌, ap, subst, arith, append_assoc, length-append, length-drop, get_or-drop, take_all, add-one}
 use Rattle.std.proofs.lemmas.List.{append-nil, take_at}
 use Rattle.std.proofs.lemmas.Bool.{ne_eqb}
 use Rattle.trail_file.specs.Text.{Entry, Place, walk, recovered, lacks, is_one_line, block}
@@ -43,6 +43,19 @@ walk_line_cut (x ∷ xs) note acc h =
 -- an entry, and then whatever the rest stands for
 pub recovered_entry : (note line rest : List ℕ) → is_one_line note ≡ true → is_one_line line ≡ true → recovered (35 ∷ (note ++ 10 ∷ (line ++ 10 ∷ rest))) ≡ (note, line) ∷ recovered rest
 recovered_entry note line rest n l = walk_note note (line ++ 10 ∷ rest) [] [] n ∙ walk_line line rest note [] l
+
+-- one entry more, and what its bytes take
+pub record CountsMore (bytes after : List ℕ) : Type 0 where
+  pub more : length (recovered bytes) ≡ 1 + length (recovered after)
+  pub short : length after + 3 ≤ length bytes
+
+pub counts_more : (bytes note line after : List ℕ) → bytes ≡ 35 ∷ (note ++ 10 ∷ (line ++ 10 ∷ after)) → is_one_line note ≡ true → is_one_line line ≡ true → CountsMore bytes after
+counts_more bytes note line after is n l =
+    let size = ap length is in
+    let behind_note = length-append note (10 ∷ (line ++ 10 ∷ after)) in
+    let behind_line = length-append line (10 ∷ after) in
+    let entries = ap (λ (es : List ℕ). length (recovered es)) is ∙ ap length (recovered_entry note line after n l) in
+    record { more = omega (arith, entries); short = omega (arith, size, behind_note, behind_line) }
 
 -- whole entries with one more
 pub front_more : (front : List ℕ) (entries : List Entry) (note line : List ℕ) → IsFront front entries → is_one_line note ≡ true → is_one_line line ≡ true
@@ -152,3 +165,12 @@ block_batch bytes note line is n l = record {
   is_open = is ∙ ap (λ (f : List ℕ). 35 ∷ drop 1 f) (sym is);
   whole = (batch_more [] bytes note line front_none n l is).1;
 }
+
+-- what stands from a place on
+pub rest_is : (k : ℕ) (bytes : List ℕ) → take (length bytes - k) (drop k bytes) ≡ drop k bytes
+rest_is k bytes = take_all (length bytes - k) (drop k bytes) (omega (arith, length-drop k bytes))
+
+pub first_is : (k : ℕ) (bytes : List ℕ) → get_or (drop k bytes) 0 0 ≡ get_or bytes k 0
+first_is k bytes =
+    let same : k + 0 ≡ k = omega arith in
+    get_or-drop k bytes 0 0 ∙ ap (λ (i : ℕ). get_or bytes i 0) same

@@ -1,5 +1,5 @@
 -- What an opening makes of a file, and of which files it is refused (own profile).
-use Rattle.std.specs.Prelude.{◌≡◌, ◌≢◌, ◌⊎◌, ℕ, ◌==◌, nat_eq, nat_le, Bool, true, false, ◌&&◌, ◌||◌, List, [], ◌∷◌, ◌++◌, ◌<◌, length, slice_index, codes}
+use Rattle.std.specs.Prelude.{◌≡◌, ◌≢◌, ◌⊎◌, ℕ, ◌==◌, nat_eq, nat_le, Bool, true, false, ◌&&◌, ◌||◌, List, [], ◌∷◌, ◌++◌, ◌<◌, ◌≤◌, drop, length, slice_index, codes}
 use Rattle.std.specs.List.{starts_with}
 use Rattle.trail_file.specs.Text.{Entry, recovered}
 use Rattle.trail_file.specs.Rest.{EachLeft, IsFront}
@@ -47,3 +47,11 @@ pub record IsDamaged (file : List ℕ) : Type 0 where
   pub whole : IsFront front (recovered file)
   pub some : 0 < length tail
   pub cut : recovered (35 ∷ tail) ≡ []
+
+-- Whole entries, and behind the byte that ends them, the shut latch, so many at most that would count, were it an open one.
+pub record EndsBefore (file : List ℕ) (most : ℕ) : Type 0 where
+  pub front : List ℕ
+  pub tail : List ℕ
+  pub is : file ≡ front ++ tail
+  pub whole : IsFront front (recovered file)
+  pub few : length (recovered (35 ∷ drop 1 tail)) ≤ most

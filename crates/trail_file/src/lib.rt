@@ -1,7 +1,8 @@
 //! A trail in a text file, in which each entry is on the disk before it is acknowledged (own profile).
 //!
 //! - [`trail::TrailFile`] is the file while it is written: [`trail::TrailFile::append`] and [`trail::TrailFile::commit`].
-//! - [`opening::open`] opens a file, whatever a crash left of it, and makes the head of a new one.
+//! - [`looking::look`] looks at a file, whatever a crash left of it, before anything is written; [`opening`] opens what was found, and
+//!   makes the head of a new file.
 //! - [`reading::read_entries`] reads the entries of a file's bytes, without opening it as a trail; [`reading::first_entry`] lends the first.
 //! - [`head::Head`] is what a file begins with, [`entry::Entry`] what it has behind that.
 //! - [`stopping`] has an append on a machine that stops in its midst.
@@ -30,6 +31,7 @@ pub mod entry;
 pub mod fault;
 pub mod head;
 mod latch;
+pub mod looking;
 mod mending;
 pub mod opening;
 pub mod reading;

@@ -1,13 +1,12 @@
 //! Mends the end of a file that a crash may have left.
-ghost use Rattle.std.specs.Prelude.{◌≡◌, ◌+◌, ◌≤◌, true, false, length, take, IsTrue, IfErr, OnOk, Err};
+ghost use Rattle.std.specs.Prelude.{◌≡◌, ◌≢◌, ◌+◌, ◌<◌, ◌≤◌, true, false, length, get_or, take, IsTrue, IfErr, OnOk};
 ghost use Rattle.sqlite_disk.specs.Disk.{Only};
 ghost use Rattle.trail_file.specs.Faults.{is_before_writing};
-ghost use Rattle.trail_file.specs.Opening.{IsDamaged, IsUntouched};
 ghost use Rattle.trail_file.specs.Text.{recovered};
 ghost use Rattle.trail_file.specs.Rest.{EachLeft, EndsAt, IsFront, IsSettled, StandsFor};
 
 use crate::fault::TrailFault;
-use crate::latch::{NEWLINE, OPEN, is_synced};
+use crate::latch::{NEWLINE, is_synced};
 use sqlite_disk::Disk;
 
 /// Has a file, whose bytes are given, end with a shut latch behind its entries, and nothing behind that.
@@ -17,6 +16,7 @@ pub(crate) fn mend<D: Disk>(disk: &mut D, bytes: &[u8], end: usize) -> Result<()
     requires bytes { IsTrue (D.Disk.is_clean disk.old) → bytes.now ≡ D.Disk.seen disk.old }
     requires within { end ≤ length bytes.now }
     requires front { IsFront (take end bytes.now) (recovered bytes.now) }
+    requires shut { end + 1 < length bytes.now → get_or bytes.now end 0 ≢ 35 }
     ensures settled { OnOk result (IsTrue (D.Disk.is_clean disk.new)
         → IsSettled (D.Disk.seen disk.new) (D.Disk.may_leave disk.new) end (recovered (D.Disk.seen disk.new))) }
     ensures same { OnOk result (IsTrue (D.Disk.is_clean disk.new)
@@ -26,9 +26,7 @@ pub(crate) fn mend<D: Disk>(disk: &mut D, bytes: &[u8], end: usize) -> Result<()
     ensures calm { D.Disk.is_clean disk.new ≡ D.Disk.is_clean disk.old }
     ensures crash { IsTrue (D.Disk.is_clean disk.new)
         → EachLeft (D.Disk.may_leave disk.new) (StandsFor (recovered (D.Disk.seen disk.old))) }
-    ensures untouched { IfErr result (λ fault. IsTrue (is_before_writing fault)
-        → IsUntouched (D.Disk.seen disk.old) (D.Disk.seen disk.new) (D.Disk.may_leave disk.old) (D.Disk.may_leave disk.new)) }
-    ensures damaged { IfErr result (λ fault. IsTrue (is_before_writing fault) → (fault ≡ TrailFault.Damaged) × IsDamaged bytes.now) }
+    ensures written { IfErr result (λ fault. is_before_writing fault ≡ false) }
 {
     trim(disk, bytes, end)?;
     shut(disk, end)
@@ -41,6 +39,7 @@ fn trim<D: Disk>(disk: &mut D, bytes: &[u8], end: usize) -> Result<(), TrailFaul
     requires bytes { IsTrue (D.Disk.is_clean disk.old) → bytes.now ≡ D.Disk.seen disk.old }
     requires within { end ≤ length bytes.now }
     requires front { IsFront (take end bytes.now) (recovered bytes.now) }
+    requires shut { end + 1 < length bytes.now → get_or bytes.now end 0 ≢ 35 }
     ensures done { OnOk result (IsTrue (D.Disk.is_clean disk.new)
         → EndsAt (D.Disk.seen disk.new) end (recovered (D.Disk.seen disk.old))) }
     ensures durable { OnOk result (Only (D.Disk.seen disk.new) (D.Disk.may_leave disk.new)) }
@@ -48,15 +47,10 @@ fn trim<D: Disk>(disk: &mut D, bytes: &[u8], end: usize) -> Result<(), TrailFaul
     ensures calm { D.Disk.is_clean disk.new ≡ D.Disk.is_clean disk.old }
     ensures crash { IsTrue (D.Disk.is_clean disk.new)
         → EachLeft (D.Disk.may_leave disk.new) (StandsFor (recovered (D.Disk.seen disk.old))) }
-    ensures untouched { IfErr result (λ fault. IsTrue (is_before_writing fault)
-        → IsUntouched (D.Disk.seen disk.old) (D.Disk.seen disk.new) (D.Disk.may_leave disk.old) (D.Disk.may_leave disk.new)) }
-    ensures damaged { IfErr result (λ fault. IsTrue (is_before_writing fault) → (fault ≡ TrailFault.Damaged) × IsDamaged bytes.now) }
+    ensures written { IfErr result (λ fault. is_before_writing fault ≡ false) }
 {
     if bytes.len() - end <= 1 {
         return Ok(());
-    }
-    if bytes[end] == OPEN {
-        return Err(TrailFault::Damaged);
     }
     match disk.set_len(end + 1) {
         Ok(()) => {}

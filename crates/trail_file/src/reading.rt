@@ -1,5 +1,5 @@
 //! Reads the entries of a file's bytes.
-ghost use Rattle.std.specs.Prelude.{◌≡◌, ◌≤◌, ◌++◌, ◌∷◌, [], true, length, map, take, IfOk, MatchOption};
+ghost use Rattle.std.specs.Prelude.{◌≡◌, ◌≤◌, ◌++◌, ◌∷◌, [], true, drop, length, map, take, IfOk, MatchOption};
 ghost use Rattle.trail_file.specs.Text.{entry_of, is_one_line, lacks, recovered};
 ghost use Rattle.trail_file.specs.Rest.{IsFront};
 
@@ -35,6 +35,33 @@ pub fn first_entry(bytes: &[u8]) -> Option<(&[u8], &[u8], &[u8])>
     if *latch != OPEN {
         return None;
     }
+    entry_behind(behind)
+}
+
+/// How many entries bytes have that begin with a latch, taken for an open one.
+pub(crate) fn count_behind(bytes: &[u8]) -> usize
+    ensures { result ≡ length (recovered (35 ∷ drop 1 bytes.now)) }
+{
+    let [_, behind @ ..] = bytes else {
+        return 0;
+    };
+    let Some((_, _, mut rest)) = entry_behind(behind) else {
+        return 0;
+    };
+    let mut count = 1;
+    'counted: while let Some((_, _, after)) = first_entry(rest) {
+        count += 1;
+        rest = after;
+    }
+    count
+}
+
+/// The note and the line of an entry behind its open latch, and what follows it.
+fn entry_behind(behind: &[u8]) -> Option<(&[u8], &[u8], &[u8])>
+    ensures { MatchOption result (recovered (35 ∷ behind.now) ≡ [])
+        (λ r. (behind.now ≡ r.0.now ++ 10 ∷ (r.1.now ++ 10 ∷ r.2.now))
+        × (is_one_line r.0.now ≡ true) × (is_one_line r.1.now ≡ true)) }
+{
     let Some((note, below)) = split_line(behind) else {
         return None;
     };

@@ -11,7 +11,7 @@ use crate::latch::{add, behind_latch};
 use sqlite_disk::Disk;
 use std::alloc::Global;
 
-/// A trail's file, at rest between two calls. [`crate::opening::open`] says of a disk what it needs.
+/// A trail's file, at rest between two calls. [`crate::looking::Found::settle`] gives a disk and a place as it needs them.
 #[derive(Drop)]
 pub struct TrailFile<D: Disk> {
     pub disk: D,

@@ -21,9 +21,9 @@ stored P file = steps_in P (recovered file)
 abbrev pub kept_in : Plan → (is_open is_clean : Bool) → (file : List ℕ) → (waiting : ℕ) → Option (List Step)
 kept_in P is_open is_clean file waiting = cond (is_open && is_clean) (Some (stored P file ++ ticks waiting)) None
 
--- the entries of seconds that waited: none, or such whose lines say them
+-- the entry of seconds that waited: none, or one whose line says them
 abbrev pub AreWaited : Plan → (waiting : ℕ) → (batch : List ℕ) → Type 0
-AreWaited P waiting batch = ((waiting ≡ 0) × (batch ≡ [])) ⊎ (IsBatch batch × (steps_in P (recovered batch) ≡ ticks waiting))
+AreWaited P waiting batch = ((waiting ≡ 0) × (batch ≡ [])) ⊎ (IsBatch batch × (length (recovered batch) ≡ 1) × (steps_in P (recovered batch) ≡ ticks waiting))
 
 -- A trail's file
 

@@ -1,5 +1,5 @@
 //! A trail's file as the place where the steps of a live meter are kept.
-ghost use Rattle.std.specs.Prelude.{◌≡◌, ◌≤◌, ◌++◌, ◌∷◌, [], false, true, Err, IfErr, IfOk, IsTrue, List, OnErr, OnOk, Option, string_bytes};
+ghost use Rattle.std.specs.Prelude.{◌≡◌, ◌≤◌, ◌++◌, ◌∷◌, [], false, true, Err, IfErr, IfOk, IsTrue, List, OnErr, OnOk, Option, length, string_bytes};
 ghost use Rattle.meter_core.specs.StepView.{step_of};
 ghost use Rattle.meter_theory.specs.Plan as plans;
 ghost use Rattle.meter_theory.specs.Steps as theory;
@@ -10,6 +10,7 @@ ghost use Rattle.trail_file.specs.Text.{recovered};
 ghost use Rattle.trail_lines.specs.Reading.{says};
 ghost use Rattle.trail_lines.specs.Writing.{Says};
 ghost use Rattle.trail_lines.specs.declared.limits.TheConstants as limits;
+ghost use Rattle.trail_store.specs.declared.store.TheConstants as own;
 ghost use Rattle.trail_store.specs.Stored.{AreWaited, IsAdded, IsAtRest, kept_in, steps_in};
 ghost use Rattle.step_keeping.specs.Keeping.{IsKeptAfter, ticks};
 
@@ -27,6 +28,9 @@ use trail_file::fault::TrailFault;
 use trail_file::trail::TrailFile;
 use trail_lines::limits::MOVE_SECONDS;
 use trail_lines::writing::{write_seconds, write_step};
+
+/// How many entries are added at once at most: that of seconds that waited, and that of a step.
+pub const BATCH: usize = 2;
 
 /// What is told of seconds that waited.
 const WAITED: &[u8] = b" seconds that moved the clock alone";
@@ -162,6 +166,7 @@ fn batch_of(
     requires few { waiting ≤ limits.MOVE_SECONDS }
     requires line { IsLine line.now }
     ensures batch { IfOk result (λ batch. IsBatch batch.items) }
+    ensures few { IfOk result (λ batch. length (recovered batch.items) ≤ own.BATCH) }
     ensures steps { IfOk result (λ batch. steps_in plan.now (recovered batch.items)
         ≡ ticks waiting ++ says plan.now line.now) }
 {

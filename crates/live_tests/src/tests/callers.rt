@@ -11,6 +11,7 @@ ghost use Rattle.meter_server.specs.Program.{AreMistaken};
 
 use cosem_data::memory::Memory;
 use line_server::fault::LineFault;
+use line_sources::file::Opens;
 use meter_live::desk::BoardReader;
 use meter_live::live::Live;
 use meter_live::names::Naming;
@@ -24,7 +25,9 @@ use std::net::{Net, TcpListener, TcpStream};
 use std::sync::Wait;
 use std::thread::Threads;
 use std::time::Clock;
-use step_keeping::keeper::Unkept;
+use step_keeping::keeper::{Keeps, Unkept};
+use step_keeping::recalling::Recalls;
+use step_stores::stores::Stores;
 use text_files::TextFiles;
 
 /// The exit status is the definition's.
@@ -66,9 +69,11 @@ pub(super) fn ended_so(answer: Result<u64, LineFault>) -> Outcome
 /// What words ask for is done, and then told, whatever reads the files. Words that are no command are told, with the status
 /// of a wrong
 /// command line or of refused memory.
-pub(super) fn run_asked<H, F, I, O, E>(
+pub(super) fn run_asked<H, F, S, K, P, L, D, I, O, E>(
     rt: &H,
     files: &F,
+    stores: &S,
+    opener: &L,
     words: &[String],
     input: &mut I,
     output: &mut O,
@@ -82,6 +87,11 @@ where
         + Wait
         + Sync,
     F: TextFiles + Sync,
+    S: Stores<K, P>,
+    K: Keeps + Drop + Send,
+    P: Recalls + Drop,
+    L: Opens<D> + Sync,
+    D: Read + Drop + Send,
     I: Read + Send,
     O: Output,
     E: Write + Send,
@@ -91,5 +101,5 @@ where
         (E.contents errors.old) (E.contents errors.new) result }
     ensures mistaken { AreMistaken (map string_bytes words.now) → (result ≡ 2) ⊎ (result ≡ 3) }
 {
-    run_program(rt, files, words, input, output, errors)
+    run_program(rt, files, stores, opener, words, input, output, errors)
 }

@@ -6,6 +6,7 @@ use std::alloc::Global;
 use std::io;
 use std::io::{ErrorKind, Write};
 use std::test::Fail;
+use step_stores::host::HostStores;
 
 /// A writer that takes no byte, for this reason.
 #[derive(Drop)]
@@ -70,7 +71,16 @@ fn closed_outputs_end_quietly(rt: HostRuntime) -> Result<(), Fail> {
         let words = words_of(rt.alloc(), texts)?;
         let mut output = Pipe::new(Full(*kind));
         let mut errors = Vec::new(rt.alloc());
-        let found = run_program(&rt, &rt, &words, &mut &input[..], &mut output, &mut errors);
+        let found = run_program(
+            &rt,
+            &rt,
+            &HostStores { rt: &rt },
+            &rt,
+            &words,
+            &mut &input[..],
+            &mut output,
+            &mut errors,
+        );
         assert_eq!(rt; found, *status, "{texts:?}");
         assert_eq!(rt; errors.as_slice(), told.as_bytes(), "{texts:?}");
     }

@@ -1,7 +1,7 @@
 //! Faults as they are printed: what their messages are no contract tells.
 use command_words::WordsFault;
 use fleet_audit::fleet::AuditFault;
-use fleet_audit::reading::FleetFault;
+use fleet_audit::reading::{FleetFault, UnreadFile};
 use frame_server::fault::ServeFault;
 use line_server::fault::LineFault;
 use line_server::reason::Reason;
@@ -69,8 +69,13 @@ fn faults_are_told(rt: HostRuntime) -> Result<(), Fail> {
         "it isn't UTF-8: the first byte that is none is byte 3, counted from 0",
     )?;
     let path = String::from_str(a, "north.toml")?;
-    let unread = FleetFault::Unread(path, FileFault::Missing);
+    let unread = UnreadFile {
+        path,
+        why: FileFault::Missing,
+    };
     is_told(&rt, a, &unread, "north.toml: there is no such file")?;
+    let files = FleetFault::Unread(Vec::new(a));
+    is_told(&rt, a, &files, "files of the fleet can't be read")?;
     let usage = WordsFault::Usage(String::from_str(a, "error: no\n")?);
     is_told(&rt, a, &usage, "error: no\n")
 }

@@ -108,7 +108,7 @@ fn an_audit_tells_how_far_it_is(rt: HostRuntime) -> Result<(), Fail> {
     let audited = audit_texts_aloud(
         &rt,
         &["one", "two", "six"],
-        texts,
+        &texts,
         workers(&rt, 2),
         &mut told,
     )?;

@@ -135,7 +135,7 @@ fn public_names_stand(rt: HostRuntime) -> Result<(), Fail> {
     assert_eq!(rt; text.as_str(), "accepted\n");
     let is_encode = matches!(
         read_words(rt.alloc(), &["cosem-flow", "encode"]),
-        Ok(Line::Encode)
+        Ok(Line::Encode { is_value: false })
     );
     assert!(rt; is_encode);
     Ok(())

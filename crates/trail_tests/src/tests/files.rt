@@ -1,12 +1,12 @@
 //! Files that are trails, and others.
-use super::samples::{HEAD, HEAD_TEXT, crashed, holding};
+use super::samples::{HEAD, HEAD_TEXT, crashed, holding, open};
 use sqlite_disk::Memory;
 use std::alloc::Global;
 use std::test::Fail;
 use trail_file::entry::push_entry;
 use trail_file::fault::TrailFault;
 use trail_file::head::Head;
-use trail_file::opening::open;
+use trail_file::looking::look;
 use trail_file::trail::TrailFile;
 use trail_file::version::Version;
 
@@ -16,7 +16,7 @@ fn a_new_file_goes_on_from_its_head(rt: HostRuntime) -> Result<(), Fail> {
     let Some(mut disk) = holding(Memory::new(alloc), b"") else {
         return Err(Fail::from(TrailFault::Memory));
     };
-    let end = open(alloc, &mut disk, &HEAD)?.end;
+    let (_, end) = open(alloc, &mut disk, &HEAD)?;
     let mut trail = TrailFile { disk, end };
     trail.append(alloc, b" seat 3: success (0)", b"manager C101")?;
     let mut batch = Vec::new(alloc);
@@ -38,18 +38,16 @@ fn a_new_file_goes_on_from_its_head(rt: HostRuntime) -> Result<(), Fail> {
         },
         ..HEAD
     };
-    let again = open(alloc, &mut disk, &newer)?;
-    assert!(rt; again.head == HEAD);
-    assert_eq!(rt; again.entries.len(), 3);
+    let (found, _) = open(alloc, &mut disk, &newer)?;
+    assert!(rt; found.head() == HEAD);
+    let entries = found.entries();
+    assert_eq!(rt; entries.len(), 3);
     assert_eq!(rt;
-        again.entries[0].note.as_slice(),
+        entries[0].note.as_slice(),
         b" seat 3: success (0)".as_slice()
     );
-    assert_eq!(rt;
-        again.entries[0].line.as_slice(),
-        b"manager C101".as_slice()
-    );
-    assert_eq!(rt; again.entries[2].note.as_slice(), b" 2".as_slice());
+    assert_eq!(rt; entries[0].line.as_slice(), b"manager C101".as_slice());
+    assert_eq!(rt; entries[2].note.as_slice(), b" 2".as_slice());
     assert_eq!(rt; disk.bytes(), text.as_bytes());
     Ok(())
 }
@@ -91,6 +89,37 @@ fn no_other_file_is_changed(rt: HostRuntime) -> Result<(), Fail> {
         assert!(rt; fault == wanted, "at {text:?}");
         assert!(rt;
             fault.is_none() || disk.bytes() == text.as_bytes(),
+            "at {text:?}"
+        );
+    }
+    Ok(())
+}
+
+/// How many entries a file with these bytes has behind its head, and how many behind its shut latch. It is as it was.
+fn counted(alloc: Global, bytes: &[u8]) -> Option<(usize, usize)> {
+    let mut disk = holding(Memory::new(alloc), bytes)?;
+    let found = look(alloc, &mut disk, &HEAD).ok()?;
+    (disk.bytes() == bytes).then_some((found.entries().len(), found.behind()))
+}
+
+#[test]
+fn entries_behind_a_shut_latch_are_counted(rt: HostRuntime) -> Result<(), Fail> {
+    let alloc = rt.alloc();
+    for (text, wanted) in [
+        ("", (0, 0)),
+        ("# a\nb\n", (1, 0)),
+        ("# a\nb\n\n", (1, 0)),
+        ("# a\nb\n\n c\nd\n", (1, 1)),
+        ("# a\nb\n\n c\nd\n\n", (1, 1)),
+        ("# a\nb\n\n c\nd", (1, 0)),
+        ("# a\nb\n\n c\nd\n# e\nf\n\n", (1, 2)),
+        // The latch of the first of four was changed.
+        ("$ a\nb\n# c\nd\n# e\nf\n# g\nh\n\n", (0, 4)),
+        ("\n\n\n# c\nd\n\n", (0, 2)),
+    ] {
+        let text = format!(in alloc; "{HEAD_TEXT}{text}")?;
+        assert!(rt;
+            counted(alloc, text.as_bytes()) == Some(wanted),
             "at {text:?}"
         );
     }

@@ -5,7 +5,7 @@ ghost use Rattle.step_keeping.specs.Keeping.{AreKept};
 ghost use Rattle.trail_store.specs.Past.{all_left};
 ghost use Rattle.trail_store.specs.Stored.{kept_in};
 
-use super::samples::HEAD;
+use super::samples::{HEAD, open};
 use cosem_data::cell::CellRef;
 use cosem_data::data::Data;
 use cosem_data::memory::Memory as NoMemory;
@@ -17,7 +17,6 @@ use object_model::argument::Argument;
 use object_model::plan::Plan;
 use sqlite_disk::Disk;
 use std::alloc::Global;
-use trail_file::opening::open;
 use trail_file::trail::TrailFile;
 use trail_store::notes::Notes;
 use trail_store::past::Past;
@@ -54,16 +53,13 @@ pub(crate) fn kept_on<D: Disk + Drop>(alloc: Global, mut disk: D, plan: &Plan) -
         (kept_in plan.now kept.keeper.is_open (D.Disk.is_clean kept.keeper.trail.disk) (D.Disk.seen kept.keeper.trail.disk) kept.keeper.waiting)
         (all_left kept.past.seconds kept.past.said.items)) }
 {
-    let Ok(opened) = open(alloc, &mut disk, &HEAD) else {
+    let Ok((found, end)) = open(alloc, &mut disk, &HEAD) else {
         return None;
     };
-    let Ok(past) = Past::of(alloc, plan, &opened.entries) else {
+    let Ok(past) = Past::of(alloc, plan, found.entries()) else {
         return None;
     };
-    let trail = TrailFile {
-        disk,
-        end: opened.end,
-    };
+    let trail = TrailFile { disk, end };
     Some(Kept {
         past,
         keeper: TrailStore::new(trail, Alike),

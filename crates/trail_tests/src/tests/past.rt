@@ -9,9 +9,8 @@ use std::alloc::Global;
 use std::process::Abort;
 use std::test::Fail;
 use step_keeping::recalling::Recalls;
-use trail_file::entry::Entry;
 use trail_file::fault::TrailFault;
-use trail_file::opening::open;
+use trail_file::looking::{Found, look};
 use trail_lines::writing::write_step;
 use trail_store::past::{Past, PastFault};
 
@@ -37,12 +36,12 @@ const STEPS: &str = "set-clock 2024-02-28T22:29:59\n\
     in 1.0.1.8.0.255 0600000009\n\
     manager C101C100010000600B00FF02001101\n";
 
-/// The entries of a file with these bytes.
-fn entries_of(alloc: Global, bytes: &[u8]) -> Result<Vec<Entry>, Fail> {
+/// What a file with these bytes has.
+fn found_in(alloc: Global, bytes: &[u8]) -> Result<Found, Fail> {
     let Some(mut disk) = holding(Memory::new(alloc), bytes) else {
         return Err(Fail::from(TrailFault::Memory));
     };
-    Ok(open(alloc, &mut disk, &HEAD)?.entries)
+    Ok(look(alloc, &mut disk, &HEAD)?)
 }
 
 /// The line of a step.
@@ -68,9 +67,9 @@ fn five_entries_are_handed_out_step_by_step(rt: HostRuntime) -> Result<(), Fail>
     let alloc = rt.alloc();
     let plan = plan_of(alloc)?;
     let text = format!(in alloc; "{HEAD_TEXT}{ENTRIES}")?;
-    let entries = entries_of(alloc, text.as_bytes())?;
-    assert_eq!(rt; entries.len(), 5);
-    let mut past = Past::of(alloc, &plan, &entries)?;
+    let found = found_in(alloc, text.as_bytes())?;
+    assert_eq!(rt; found.entries().len(), 5);
+    let mut past = Past::of(alloc, &plan, found.entries())?;
     let steps = recalled(alloc, &plan, &mut past)?;
     assert!(rt; steps.as_str() == STEPS, "{steps}");
     Ok(())
@@ -79,8 +78,8 @@ fn five_entries_are_handed_out_step_by_step(rt: HostRuntime) -> Result<(), Fail>
 /// What handing out ends by, of a file whose second line is this.
 fn fault_of(alloc: Global, plan: &Plan, line: &str) -> Result<Option<PastFault>, Fail> {
     let text = format!(in alloc; "{HEAD_TEXT}#\nmove-clock 86400\n#\n{line}\n\n")?;
-    let entries = entries_of(alloc, text.as_bytes())?;
-    Ok(Past::of(alloc, plan, &entries).err())
+    let found = found_in(alloc, text.as_bytes())?;
+    Ok(Past::of(alloc, plan, found.entries()).err())
 }
 
 /// A line, and whether it says a step that is kept. A GET changes nothing; a comment says nothing; a moment and seconds offer objects

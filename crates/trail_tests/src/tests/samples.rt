@@ -1,9 +1,15 @@
 //! A head, and disks that hold bytes.
-ghost use Rattle.std.specs.Prelude.{IfSome, IsTrue};
+ghost use Rattle.std.specs.Prelude.{◌≡◌, ◌∷◌, map, IfOk, IfSome, IsTrue, OnOk};
 ghost use Rattle.sqlite_disk.specs.Disk.{Only};
+ghost use Rattle.trail_file.specs.Heads.{head_entry};
+ghost use Rattle.trail_file.specs.Rest.{IsSettled};
+ghost use Rattle.trail_file.specs.Text.{entry_of, recovered};
 
 use sqlite_disk::{Crash, Disk};
+use std::alloc::Global;
+use trail_file::fault::TrailFault;
 use trail_file::head::Head;
+use trail_file::looking::{Found, look};
 use trail_file::version::Version;
 
 /// The head of the tests' configuration.
@@ -47,4 +53,24 @@ pub(crate) fn crashed<D: Crash + Drop>(mut disk: D) -> D
 {
     disk.crash();
     disk
+}
+
+/// What a disk has as a trail, and where its shut latch stands once it is opened.
+pub(crate) fn open<D: Disk>(
+    alloc: Global,
+    disk: &mut D,
+    head: &Head,
+) -> Result<(Found, usize), TrailFault>
+    requires usable { IsTrue (D.Disk.is_usable disk.old) }
+    requires durable { Only (D.Disk.seen disk.old) (D.Disk.may_leave disk.old) }
+    ensures entries { IfOk result (λ r. IsTrue (D.Disk.is_clean disk.new)
+        → recovered (D.Disk.seen disk.new) ≡ head_entry r.0.head ∷ map entry_of r.0.entries.items) }
+    ensures settled { IfOk result (λ r. IsTrue (D.Disk.is_clean disk.new)
+        → IsSettled (D.Disk.seen disk.new) (D.Disk.may_leave disk.new) r.1 (recovered (D.Disk.seen disk.new))) }
+    ensures usable { OnOk result (IsTrue (D.Disk.is_usable disk.new)) }
+    ensures durable { OnOk result (Only (D.Disk.seen disk.new) (D.Disk.may_leave disk.new)) }
+{
+    let found = look(alloc, disk, head)?;
+    let end = found.settle(alloc, disk)?;
+    Ok((found, end))
 }

@@ -2,12 +2,11 @@
 ghost use Rattle.std.specs.Prelude.{IsTrue};
 ghost use Rattle.sqlite_disk.specs.Disk.{Only};
 
-use super::samples::{HEAD, HEAD_TEXT, holding};
+use super::samples::{HEAD, HEAD_TEXT, holding, open};
 use sqlite_disk::{Crash, Disk, Fuse, Memory};
 use std::alloc::Global;
 use std::test::Fail;
 use trail_file::fault::TrailFault;
-use trail_file::opening::open;
 use trail_file::trail::TrailFile;
 
 /// What an opening and an append answer on a disk that stops behind so many calls, and what the next opening reads: once of what was
@@ -22,7 +21,7 @@ struct Ending {
 /// How many entries opening a file reads.
 fn entries_of(alloc: Global, bytes: &[u8]) -> Option<usize> {
     let mut disk = holding(Memory::new(alloc), bytes)?;
-    Some(open(alloc, &mut disk, &HEAD).ok()?.entries.len())
+    Some(open(alloc, &mut disk, &HEAD).ok()?.0.entries().len())
 }
 
 /// Opens a trail, and appends an entry.
@@ -31,11 +30,8 @@ fn append_to<D: Disk + Drop>(alloc: Global, mut disk: D) -> (Result<(), TrailFau
     requires durable { Only (D.Disk.seen disk) (D.Disk.may_leave disk) }
 {
     match open(alloc, &mut disk, &HEAD) {
-        Ok(opened) => {
-            let mut trail = TrailFile {
-                disk,
-                end: opened.end,
-            };
+        Ok((_, end)) => {
+            let mut trail = TrailFile { disk, end };
             let answer = trail.append(alloc, b" note", b"line");
             (answer, trail.disk)
         }

@@ -3,7 +3,7 @@ use Rattle.std.proofs.lemmas.List.{take_all}
 use Rattle.clap.specs.Words.{App, new_app, with_rule}
 use Rattle.command_words.specs.CommandLine.{IsCommand}
 use Rattle.command_words.specs.Rows.{rule_of_row}
-use Rattle.command_words.specs.declared.rows.ArgumentRow.{ArgumentRow}
+use Rattle.command_words.specs.declared.arguments.ArgumentRow.{ArgumentRow}
 use Rattle.command_words.proofs.BuildLemmas.{arg-added, folded-more}
 use Rattle.command_words.proofs.commands.command_of.Goals as goal
 

@@ -3,7 +3,7 @@ use Rattle.clap.specs.Words.{App, IsAmong, Text, app_of, fault_of, is_simple, is
 use Rattle.clap.specs.declared.error.kind.ErrorKind.TheVariants.{OutOfMemory}
 use Rattle.command_words.specs.CommandLine.{app, kinds_of}
 use Rattle.command_words.specs.Commands.{asked_in}
-use Rattle.command_words.proofs.WordsLemmas.{claps-kind, form-command, form-help, form-no_command, form-usage, form-version, told-help, told-no_command, told-usage, told-version}
+use Rattle.command_words.proofs.WordsLemmas.{claps-kind, misuse-command, misuse-help, misuse-no_command, misuse-usage, misuse-version, told-help, told-no_command, told-usage, told-version}
 use Rattle.command_words.proofs.CommandLaw.{words_without_fault_are_a_command}
 use Rattle.command_words.proofs.reading.read_words.Goals as goal
 
@@ -24,7 +24,7 @@ returns-in-Ok-try_get_matches_from-clause-command c =
     let none = ap (λ (a : App). fault_of a words) (sym app_is) ∙ m.ensures.kinds (ap is_simple_and_free app_is) in
     let rows = (m.ensures.matches (ap is_simple app_is)).1 ∙ ap (λ (a : App). subcommand_of a words) app_is in
     let r = c.command_of_matches in
-    form-command words (subcommand_rows_of m.matches) none rows r.result r.ensures.form r.ensures.command
+    misuse-command words (subcommand_rows_of m.matches) none rows r.result r.ensures.fine r.ensures.command
 
 pub returns-in-Ok-try_get_matches_from-clause-no_command : goal.returns-in-Ok-try_get_matches_from-clause-no_command
 returns-in-Ok-try_get_matches_from-clause-no_command c =
@@ -34,7 +34,7 @@ returns-in-Ok-try_get_matches_from-clause-no_command c =
     let none = ap (λ (a : App). fault_of a words) (sym app_is) ∙ m.ensures.kinds (ap is_simple_and_free app_is) in
     let rows = (m.ensures.matches (ap is_simple app_is)).1 ∙ ap (λ (a : App). subcommand_of a words) app_is in
     let r = c.command_of_matches in
-    form-no_command words (subcommand_rows_of m.matches) none rows r.result r.ensures.fault
+    misuse-no_command words (subcommand_rows_of m.matches) none rows r.result r.ensures.fault
 
 pub returns-in-Ok-try_get_matches_from-clause-usage : goal.returns-in-Ok-try_get_matches_from-clause-usage
 returns-in-Ok-try_get_matches_from-clause-usage c =
@@ -44,7 +44,7 @@ returns-in-Ok-try_get_matches_from-clause-usage c =
     let none = ap (λ (a : App). fault_of a words) (sym app_is) ∙ m.ensures.kinds (ap is_simple_and_free app_is) in
     let rows = (m.ensures.matches (ap is_simple app_is)).1 ∙ ap (λ (a : App). subcommand_of a words) app_is in
     let r = c.command_of_matches in
-    form-usage words (subcommand_rows_of m.matches) none rows r.result r.ensures.fault
+    misuse-usage words (subcommand_rows_of m.matches) none rows r.result r.ensures.fault
 
 pub returns-in-Err-clause-no_command : goal.returns-in-Err-clause-no_command
 returns-in-Err-clause-no_command c =
@@ -79,7 +79,7 @@ returns-in-Err-clause-usage c =
     told-usage (kinds_of words) (kind_of e.error) c.fault_told.result c.fault_told.ensures kinds
 
 pub returns-in-Ok-try_get_matches_from-clause-help : goal.returns-in-Ok-try_get_matches_from-clause-help
-returns-in-Ok-try_get_matches_from-clause-help c = form-help _ _ c.command_of_matches.result c.command_of_matches.ensures.fault
+returns-in-Ok-try_get_matches_from-clause-help c = misuse-help _ _ c.command_of_matches.result c.command_of_matches.ensures.fault
 
 pub returns-in-Ok-try_get_matches_from-clause-version : goal.returns-in-Ok-try_get_matches_from-clause-version
-returns-in-Ok-try_get_matches_from-clause-version c = form-version _ _ c.command_of_matches.result c.command_of_matches.ensures.fault
+returns-in-Ok-try_get_matches_from-clause-version c = misuse-version _ _ c.command_of_matches.result c.command_of_matches.ensures.fault

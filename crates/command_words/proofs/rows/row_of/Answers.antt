@@ -38,6 +38,9 @@ returns-in-Session c = ap app_named (sym c.in-Session.is)
 pub returns-in-Serve : goal.returns-in-Serve
 returns-in-Serve c = ap app_named (sym c.in-Serve.is)
 
+pub returns-in-Trail : goal.returns-in-Trail
+returns-in-Trail c = ap app_named (sym c.in-Trail.is)
+
 pub returns-in-Encode : goal.returns-in-Encode
 returns-in-Encode c = ap app_named (sym c.in-Encode.is)
 

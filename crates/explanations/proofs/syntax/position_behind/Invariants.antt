@@ -1,5 +1,5 @@
 use Rattle.std.proofs.Common.{◌≡◌, ◌+◌, ◌≤◌, drop}
-use Rattle.explanations.specs.Config.{place_behind}
+use Rattle.explanations.specs.Standing.{place_behind}
 use Rattle.explanations.proofs.syntax.position_behind.Given as goal
 
 -- the bytes before make the line and the column, which no more than each of them adds to

@@ -35,7 +35,7 @@ fn four_are_watched<R: Threads + AllocGlobal + Abort + Sync>(
         accepted: AtomicU64::new(0),
     };
     let texts = four(rt, rt.alloc())?;
-    let verdicts = audit_watched(rt, texts, workers(rt, by), &Open, &watch)?;
+    let verdicts = audit_watched(rt, &texts, workers(rt, by), &Open, &watch)?;
     are_told(rt, rt.alloc(), &verdicts, &VERDICTS)?;
     assert_eq!(rt; watch.told.load(Ordering::SeqCst), 1111, "told by {by}");
     assert_eq!(rt;

@@ -267,7 +267,7 @@ fn finds_a_seat<R: Net<Stream = TcpStream>>(
     address: SocketAddr,
 ) -> Option<()> {
     let mut is_seated = false;
-    for turn in 0..135usize {
+    for turn in 0..1935usize {
         if turn < 66 {
             Client::connected(rt, alloc, address, READER)?.breaks_off(BROKEN[turn % 3]);
         } else if !is_seated {
@@ -294,7 +294,7 @@ fn are_answered(manager: &mut Client, clients: &mut [Client]) -> Option<()> {
 /// The step of the manager alone is counted: the session that was closed early asked none.
 #[test]
 fn a_seat_is_free_again(rt: HostRuntime) -> Result<(), Fail> {
-    serves(&rt, Clients::Fill, 200, &Open, (1, 1))
+    serves(&rt, Clients::Fill, 2000, &Open, (1, 1))
 }
 
 /// How long a line is that no step can be as long as.

@@ -1,6 +1,9 @@
-use Rattle.std.proofs.Common.{codes, refl, subst, option_map, string_bytes}
-use Rattle.meter_server.specs.Answering.{JudgesFiles}
+use Rattle.std.proofs.Common.{List, ℕ, codes, map, refl, subst, option_map, string_bytes}
+use denote.Ref.{Bor}
+use Rattle.meter_server.specs.Answering.{JudgesFiles, ListsFile}
+use Rattle.meter_server.specs.Auditing.{AuditsNamed}
 use Rattle.meter_server.specs.Comparing.{ComparesFiles}
+use Rattle.meter_server.specs.Looking.{AsksWhy}
 use Rattle.meter_server.specs.Reporting.{Paths, ReportsFile}
 use Rattle.meter_server.specs.Sources.{MayGive, ReadsWhere, given_of}
 use Rattle.meter_server.specs.declared.demo.TheConstants.{DEMO}
@@ -46,3 +49,25 @@ returns-in-Report-clause-answers g c =
     let read = subst (λ is_named. ReadsWhere is_named (g.I.Read.remaining c.args.input.now) (g.I.Read.remaining sources.new.input) given) c.is_any_input-is_named.ensures sources.ensures.given in
     let told = subst (λ files. ReportsFile (MayGive (reads files) given) c.in-Report.form paths c.in-Report.config.now (g.O.Write.contents c.args.output.now) (g.O.Write.contents c.report_file.new.output) c.report_file.result) sources.ensures.files c.report_file.ensures in
     rw c.in-Report.is (given, read, told)
+
+pub returns-in-Why-clause-answers : goal.returns-in-Why-clause-answers
+returns-in-Why-clause-answers g c =
+    let reads = g.F.TextFiles.may_read in
+    let sources = c.new-sources-in-Why in
+    let given = option_map (given_of string_bytes) sources.result.given in
+    let read = subst (λ is_named. ReadsWhere is_named (g.I.Read.remaining c.args.input.now) (g.I.Read.remaining sources.new.input) given) c.is_input-in-Why.ensures sources.ensures.given in
+    let told = subst (λ files. ListsFile (AsksWhy c.in-Why.client.now c.in-Why.cell.now) (MayGive (reads files) given) c.in-Why.config.now (g.O.Write.contents c.args.output.now) (g.O.Write.contents c.why_of_file.new.output) c.why_of_file.result) sources.ensures.files c.why_of_file.ensures in
+    rw c.in-Why.is (given, read, told)
+
+pub returns-in-Audit-clause-answers : goal.returns-in-Audit-clause-answers
+returns-in-Audit-clause-answers g c =
+    let reads = g.F.TextFiles.may_read in
+    let sources = c.new-sources-in-Audit in
+    let given = option_map (given_of string_bytes) sources.result.given in
+    let explains = c.in-Audit.explains in
+    let names_file = option_map (λ path. path.now) c.in-Audit.names_file in
+    let outcome = c.audit_named.result in
+    let read = subst (λ is_named. ReadsWhere is_named (g.I.Read.remaining c.args.input.now) (g.I.Read.remaining sources.new.input) given) c.is_given_input.ensures sources.ensures.given in
+    let told = subst (λ files. AuditsNamed (reads c.args.files.now) (MayGive (reads files) given) explains (map (λ name. name.now) c.deref.result.now) names_file outcome) sources.ensures.files c.audit_named.ensures.audits in
+    let all = subst (λ (names : List (Bor (List ℕ))). AuditsNamed (reads c.args.files.now) (MayGive (reads c.args.files.now) given) explains (map (λ name. name.now) names) names_file outcome) c.deref.ensures.value told in
+    rw c.in-Audit.is (given, read, refl, all)

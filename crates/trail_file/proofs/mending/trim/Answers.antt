@@ -1,7 +1,7 @@
-use Rattle.std.proofs.Common.{◌≡◌, ◌≢◌, refl, ℕ, ◌<◌, List, Bool, IsTrue, length, get_or, take, sym, ◌∙◌, subst, arith}
+use Rattle.std.proofs.Common.{◌≡◌, ◌≢◌, ℕ, ◌<◌, List, Bool, IsTrue, length, get_or, take, sym, ◌∙◌, subst, arith}
 use Rattle.trail_file.specs.Text.{recovered}
 use Rattle.trail_file.specs.Rest.{IsFront, EndsAt}
-use Rattle.trail_file.proofs.Cuts.{cut_ends, cut_crash, open_end}
+use Rattle.trail_file.proofs.Cuts.{cut_ends, cut_crash}
 use Rattle.trail_file.proofs.mending.trim.Goals as goal
 
 -- what was read is the file
@@ -15,24 +15,21 @@ cuttable bytes file end same within shut whole = subst (λ (f : List ℕ). IsCut
 
 pub returns-in-Err-clause-crash : goal.returns-in-Err-clause-crash
 returns-in-Err-clause-crash g c clean =
-    let it = cuttable c.args.bytes.now (g.D.Disk.seen c.args.disk.now) c.args.end (c.requires.bytes (subst (λ (b : Bool). IsTrue b) c.set_len.ensures.calm clean)) (omega arith) c.if-bytes-end-eq-OPEN.false c.requires.front in
+    let it = cuttable c.args.bytes.now (g.D.Disk.seen c.args.disk.now) c.args.end (c.requires.bytes (subst (λ (b : Bool). IsTrue b) c.set_len.ensures.calm clean)) (omega arith) (c.requires.shut (omega arith)) c.requires.front in
     cut_crash (g.D.Disk.seen c.args.disk.now) (g.D.Disk.may_leave c.args.disk.now) (g.D.Disk.may_leave c.set_len.new.self) c.args.end it.within it.shut it.whole c.requires.durable c.set_len.ensures.crash
 
 pub returns-else-is_synced-clause-crash : goal.returns-else-is_synced-clause-crash
 returns-else-is_synced-clause-crash g c clean f left =
-    let it = cuttable c.args.bytes.now (g.D.Disk.seen c.args.disk.now) c.args.end (c.requires.bytes (subst (λ (b : Bool). IsTrue b) (c.is_synced.ensures.calm ∙ c.set_len.ensures.calm) clean)) (omega arith) c.if-bytes-end-eq-OPEN.false c.requires.front in
+    let it = cuttable c.args.bytes.now (g.D.Disk.seen c.args.disk.now) c.args.end (c.requires.bytes (subst (λ (b : Bool). IsTrue b) (c.is_synced.ensures.calm ∙ c.set_len.ensures.calm) clean)) (omega arith) (c.requires.shut (omega arith)) c.requires.front in
     cut_crash (g.D.Disk.seen c.args.disk.now) (g.D.Disk.may_leave c.args.disk.now) (g.D.Disk.may_leave c.set_len.new.self) c.args.end it.within it.shut it.whole c.requires.durable c.set_len.ensures.crash f (c.is_synced.ensures.crash f left)
 
 pub returns-then-is_synced-clause-crash : goal.returns-then-is_synced-clause-crash
 returns-then-is_synced-clause-crash g c clean f left =
-    let it = cuttable c.args.bytes.now (g.D.Disk.seen c.args.disk.now) c.args.end (c.requires.bytes (subst (λ (b : Bool). IsTrue b) (c.is_synced.ensures.calm ∙ c.set_len.ensures.calm) clean)) (omega arith) c.if-bytes-end-eq-OPEN.false c.requires.front in
+    let it = cuttable c.args.bytes.now (g.D.Disk.seen c.args.disk.now) c.args.end (c.requires.bytes (subst (λ (b : Bool). IsTrue b) (c.is_synced.ensures.calm ∙ c.set_len.ensures.calm) clean)) (omega arith) (c.requires.shut (omega arith)) c.requires.front in
     cut_crash (g.D.Disk.seen c.args.disk.now) (g.D.Disk.may_leave c.args.disk.now) (g.D.Disk.may_leave c.set_len.new.self) c.args.end it.within it.shut it.whole c.requires.durable c.set_len.ensures.crash f (c.is_synced.ensures.crash f left)
 
 pub returns-then-is_synced-clause-done : goal.returns-then-is_synced-clause-done
 returns-then-is_synced-clause-done g c clean =
     let old = g.D.Disk.seen c.args.disk.now in
-    let it = cuttable c.args.bytes.now old c.args.end (c.requires.bytes (subst (λ (b : Bool). IsTrue b) (c.is_synced.ensures.calm ∙ c.set_len.ensures.calm) clean)) (omega arith) c.if-bytes-end-eq-OPEN.false c.requires.front in
+    let it = cuttable c.args.bytes.now old c.args.end (c.requires.bytes (subst (λ (b : Bool). IsTrue b) (c.is_synced.ensures.calm ∙ c.set_len.ensures.calm) clean)) (omega arith) (c.requires.shut (omega arith)) c.requires.front in
     subst (λ (f : List ℕ). EndsAt f c.args.end (recovered old)) (sym c.is_synced.ensures.seen) (cut_ends old c.args.end it.within it.shut it.whole (g.D.Disk.seen c.set_len.new.self) c.set_len.ensures.others c.in-Ok.ensures.len)
-
-pub returns-then-bytes-end-eq-OPEN-clause-damaged : goal.returns-then-bytes-end-eq-OPEN-clause-damaged
-returns-then-bytes-end-eq-OPEN-clause-damaged g c early = (refl, open_end c.args.bytes.now c.args.end (omega arith) c.if-bytes-end-eq-OPEN.true c.requires.front)

@@ -1,0 +1,17 @@
+//! Where in the text of a configuration a path leads, for messages (own profile). A path is one of a fault's place: keys with dots
+//! between them and indexes from 0 in brackets, as `object[6].name`.
+#![tactic(auto)]
+
+mod arrays;
+mod document;
+mod key_text;
+mod leading;
+mod meeting;
+mod naming;
+mod path;
+mod place;
+mod spot;
+mod step;
+mod values;
+
+pub use spot::{Spot, find_spot};

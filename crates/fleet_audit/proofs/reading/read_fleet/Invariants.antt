@@ -1,6 +1,0 @@
-use Rattle.std.specs.Vec.Iter.{into_iter_items}
-use Rattle.fleet_audit.proofs.Fleets.{IsSoFar}
-use Rattle.fleet_audit.proofs.reading.read_fleet.Given as goal
-
-abbrev pub invariant-loop-part : goal.invariant-loop-part
-invariant-loop-part g l = IsSoFar (g.F.TextFiles.may_read l.files) l.each l.names l.texts.items (into_iter_items l.part-iterator)
