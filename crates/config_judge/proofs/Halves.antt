@@ -1,28 +1,27 @@
 -- The judgement of a whole configuration, as that of its names and indexes and then of the rest.
-use Rattle.std.proofs.Common.{◌≡◌, ◌∙◌, refl, ap}
-use Rattle.std.specs.Prelude.{Result, Ok, Err, ⊤}
-use Rattle.config_text.specs.Fault.{Fault, ◌>>=◌}
+use Rattle.std.proofs.Common.{◌≡◌, List, [], ◌∷◌, ◌++◌, refl}
+use Rattle.config_text.specs.Fault.{Fault, first_found}
 use Rattle.config_text.specs.Parts.{ConfigText}
-use Rattle.config_rules.specs.Passes.{judged, forms, new_objects, known_classes, known_clients, new_clients, known_references}
-use Rattle.config_judge.specs.JudgedNames.{judged_names, judged_rest}
+use Rattle.config_rules.specs.Passes.{found, forms, new_objects, known_classes, known_clients, new_clients, known_references, known_indexes, valid_values, settable_rights, equal_counts, new_scripts, no_executes, within_limits, new_labels, fed_values, valid_times, valid_sorting, new_clocks, new_alternatives}
+use Rattle.config_judge.specs.JudgedNames.{both_halves, found_in_names, found_in_rest}
 
--- a chain of lines may be cut anywhere
-cut : {A B C : Type 0} (r : Result A Fault) (f : A → Result B Fault) (g : B → Result C Fault) → ((r >>= f) >>= g) ≡ (r >>= λ x. f x >>= g)
-cut (Ok x) f g = refl
-cut (Err e) f g = refl
+alone : (faults : List Fault) → first_found (faults ∷ []) ≡ faults
+alone [] = refl
+alone (fault ∷ faults) = refl
 
--- one more line before the cut
-cut_after : (r : Result ⊤ Fault) (front rest whole : Result ⊤ Fault) → (front >>= λ _. rest) ≡ whole → ((r >>= λ _. front) >>= λ _. rest) ≡ (r >>= λ _. whole)
-cut_after r front rest whole e = cut r (λ _. front) (λ _. rest) ∙ ap (λ (k : Result ⊤ Fault). r >>= λ _. k) e
+-- passes may be cut anywhere
+cut : (front behind : List (List Fault)) → first_found (first_found front ∷ first_found behind ∷ []) ≡ first_found (front ++ behind)
+cut [] behind = alone (first_found behind)
+cut ([] ∷ front) behind = cut front behind
+cut ((fault ∷ faults) ∷ front) behind = refl
 
 -- the names come first, and then the rest
-pub judged_by_halves : (c : ConfigText) → (judged_names c >>= λ _. judged_rest c) ≡ judged c
-unfolding judged judged_names judged_rest
+pub judged_by_halves : (c : ConfigText) → both_halves c ≡ found c
+unfolding found found_in_names found_in_rest
 judged_by_halves c =
-    let rest = judged_rest c in
-    cut_after (forms c) _ rest _
-    (cut_after (new_objects c) _ rest _
-    (cut_after (known_classes c) _ rest _
-    (cut_after (known_clients c) _ rest _
-    (cut_after (new_clients c) _ rest _
-    (cut_after (known_references c) _ rest _ refl)))))
+    cut
+    (forms c ∷ new_objects c ∷ known_classes c ∷ known_clients c ∷ new_clients c ∷ known_references c ∷ known_indexes c ∷ [])
+    (
+    valid_values c ∷ settable_rights c ∷ equal_counts c ∷ new_scripts c ∷ no_executes c ∷ within_limits c ∷ new_labels c
+    ∷ fed_values c ∷ valid_times c ∷ valid_sorting c ∷ new_clocks c ∷ new_alternatives c ∷ []
+    )

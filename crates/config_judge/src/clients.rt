@@ -4,15 +4,18 @@ ghost use Rattle.std.specs.Prelude.{◌≡◌, ◌==◌, ◌++◌, codes};
 ghost use Rattle.std.specs.List.{list_any};
 ghost use Rattle.std.specs.Str.{bytes_eq};
 ghost use Rattle.config_text.specs.Fault.{Gives};
+ghost use Rattle.config_text.specs.Refusals.{Finds};
 ghost use Rattle.config_rules.specs.Passes as spec;
 ghost use Rattle.config_rules.specs.Walks as walks;
 
 use crate::directory::Directory;
+use crate::gathering::{each_new_of, gather, gather_sets};
 use crate::judged::fault_if;
-use crate::walk::{Judge, JudgeNew, JudgeText, both_sets, each, each_new};
+use crate::walk::{Judge, JudgeNew, JudgeText, both_sets};
 use config_text::fault::{Code, ConfigFault};
 use config_text::parts::{ClientParts, ConfigParts, LabelParts, RightParts};
 use config_text::place::Place;
+use config_text::refusal::{Refusal, refuse};
 use std::alloc::Global;
 
 /// Judges whether the client at a key below a place is there.
@@ -87,20 +90,37 @@ impl<'d, 'c> Judge for LabelClients<'d, 'c> {
 /// Judges whether each client that is named is there.
 ///
 /// # Errors
-/// C7 at the first name that no client has.
+/// C7 at the first name of each right and label, and of the policy, that no client has.
 #[tactic(auto, unfolding(config_rules::specs::Passes::known_clients))]
-pub(crate) fn known_clients(alloc: Global, directory: &Directory<'_>) -> Result<(), ConfigFault>
-    ensures { Gives (λ u. u) result (spec.known_clients directory.now.config.now) }
+pub(crate) fn known_clients(alloc: Global, directory: &Directory<'_>) -> Result<(), Refusal>
+    ensures { Finds result (spec.known_clients directory.now.config.now) }
 {
     let config = directory.config;
+    let mut faults = Vec::new(alloc);
     let rights = config.rights.as_slice();
     let right_place = Place::top(alloc, "right");
-    each(&RightClient { directory }, &right_place, rights)?;
+    gather(
+        &mut faults,
+        &RightClient { directory },
+        &right_place,
+        rights,
+    )?;
     let policy_place = Place::top(alloc, "policy");
-    both_sets(&KnownClient { directory }, &policy_place, &config.policy)?;
+    gather_sets(
+        &mut faults,
+        &KnownClient { directory },
+        &policy_place,
+        &config.policy,
+    )?;
     let labels = config.labels.as_slice();
     let label_place = Place::top(alloc, "label");
-    each(&LabelClients { directory }, &label_place, labels)
+    gather(
+        &mut faults,
+        &LabelClients { directory },
+        &label_place,
+        labels,
+    )?;
+    refuse(faults)
 }
 
 /// Whether one of the clients has the name.
@@ -146,11 +166,11 @@ impl JudgeNew for NewClient {
 /// looked at.
 ///
 /// # Errors
-/// C8 at the first name or service access point that an earlier client has.
+/// C8 at each client's name, or else its service access point, that an earlier client has.
 #[tactic(auto, unfolding(config_rules::specs::Passes::new_clients))]
-pub(crate) fn new_clients(alloc: Global, config: &ConfigParts) -> Result<(), ConfigFault>
-    ensures { Gives (λ u. u) result (spec.new_clients config.now) }
+pub(crate) fn new_clients(alloc: Global, config: &ConfigParts) -> Result<(), Refusal>
+    ensures { Finds result (spec.new_clients config.now) }
 {
     let client_place = Place::top(alloc, "client");
-    each_new(&NewClient, &client_place, config.clients.as_slice())
+    each_new_of(&NewClient, &client_place, config.clients.as_slice())
 }

@@ -1,14 +1,16 @@
 //! C21: a second clock.
 ghost use Rattle.std.specs.Prelude.{◌≡◌};
 ghost use Rattle.std.specs.List.{list_any};
-ghost use Rattle.config_text.specs.Fault.{Gives};
+ghost use Rattle.config_text.specs.Refusals.{Finds};
 ghost use Rattle.config_rules.specs.Passes as passes;
 
+use crate::gathering::each_new_of;
 use crate::judged::fault_if;
-use crate::walk::{JudgeNew, each_new};
+use crate::walk::JudgeNew;
 use config_text::fault::{Code, ConfigFault};
 use config_text::parts::{ConfigParts, ObjectParts};
 use config_text::place::Place;
+use config_text::refusal::Refusal;
 use meter_theory::classes::{Class, is_of_class};
 use std::alloc::Global;
 
@@ -49,11 +51,11 @@ impl JudgeNew for NewClock {
 /// Judges whether there is one clock at most. The objects before a clock are looked at, and so at most twice.
 ///
 /// # Errors
-/// C21 at the second clock.
+/// C21 at each clock behind the first.
 #[tactic(auto, unfolding(config_rules::specs::Passes::new_clocks))]
-pub(crate) fn new_clocks(alloc: Global, config: &ConfigParts) -> Result<(), ConfigFault>
-    ensures { Gives (λ u. u) result (passes.new_clocks config.now) }
+pub(crate) fn new_clocks(alloc: Global, config: &ConfigParts) -> Result<(), Refusal>
+    ensures { Finds result (passes.new_clocks config.now) }
 {
     let object_place = Place::top(alloc, "object");
-    each_new(&NewClock, &object_place, config.objects.as_slice())
+    each_new_of(&NewClock, &object_place, config.objects.as_slice())
 }

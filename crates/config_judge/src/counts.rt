@@ -2,13 +2,16 @@
 ghost use Rattle.std.specs.Prelude.{◌≡◌};
 ghost use Rattle.config_text.specs.BodyView.{body_text};
 ghost use Rattle.config_text.specs.Fault.{Gives};
+ghost use Rattle.config_text.specs.Refusals.{Finds};
 ghost use Rattle.config_rules.specs.Passes as passes;
 
+use crate::gathering::each_of;
 use crate::judged::fault_if;
-use crate::walk::{Judge, each};
+use crate::walk::Judge;
 use config_text::fault::{Code, ConfigFault};
 use config_text::parts::{BodyParts, ConfigParts, ObjectParts};
 use config_text::place::Place;
+use config_text::refusal::Refusal;
 use std::alloc::Global;
 
 #[tactic(auto, unfolding(config_rules::specs::Passes::equal_counts_in))]
@@ -47,11 +50,11 @@ impl Judge for EqualCounts {
 /// Judges the numbers of thresholds and actions.
 ///
 /// # Errors
-/// C13 at the first monitor that has not one action for each threshold.
+/// C13 at each monitor that has not one action for each threshold.
 #[tactic(auto, unfolding(config_rules::specs::Passes::equal_counts))]
-pub(crate) fn equal_counts(alloc: Global, config: &ConfigParts) -> Result<(), ConfigFault>
-    ensures { Gives (λ u. u) result (passes.equal_counts config.now) }
+pub(crate) fn equal_counts(alloc: Global, config: &ConfigParts) -> Result<(), Refusal>
+    ensures { Finds result (passes.equal_counts config.now) }
 {
     let object_place = Place::top(alloc, "object");
-    each(&EqualCounts, &object_place, config.objects.as_slice())
+    each_of(&EqualCounts, &object_place, config.objects.as_slice())
 }

@@ -1,19 +1,18 @@
 //! What the names of a configuration lead to.
 
-ghost use Rattle.std.specs.Prelude.{◌≡◌, List, ℕ, IfOk, IfErr, is_some, option_map, take};
+ghost use Rattle.std.specs.Prelude.{◌≡◌, List, ℕ, IfOk, is_some, option_map, take};
 ghost use Rattle.std.specs.BTreeMap as tree;
 ghost use Rattle.std.specs.Cmp.Lexicographic.{slice_cmp};
 ghost use Rattle.std.specs.List.{list_any, position_from};
 ghost use Rattle.std.specs.Ordering.{nat_cmp};
 ghost use Rattle.std.specs.Str.{bytes_eq};
-ghost use Rattle.config_text.specs.declared.fault.ConfigFault.TheVariants.{Memory};
 ghost use Rattle.config_rules.specs.Names as spec;
 ghost use Rattle.meter_theory.specs.Classes as classes;
 
 use crate::menus::has_menu;
 use crate::places::first_places;
-use config_text::fault::ConfigFault;
 use config_text::parts::{ConfigParts, ObjectParts};
+use cosem_data::memory::Memory;
 use meter_theory::classes::{is_cell, is_choice, is_settable};
 use std::alloc::Global;
 use std::collections::BTreeMap;
@@ -34,12 +33,8 @@ pub struct Directory<'a> {
 
 impl<'a> Directory<'a> {
     /// The directory of a configuration.
-    ///
-    /// # Errors
-    /// C0 where memory was refused, and no other.
-    pub fn new(alloc: Global, config: &'a ConfigParts) -> Result<Self, ConfigFault>
-        ensures config { IfOk result (λ directory. directory.config.now ≡ config.now) }
-        ensures memory { IfErr result (λ e. e ≡ Memory) }
+    pub fn new(alloc: Global, config: &'a ConfigParts) -> Result<Self, Memory>
+        ensures { IfOk result (λ directory. directory.config.now ≡ config.now) }
     {
         let objects = first_places(alloc, config.objects.as_slice())?;
         let clients = first_places(alloc, config.clients.as_slice())?;

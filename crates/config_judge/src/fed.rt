@@ -1,12 +1,14 @@
 //! C18: objects that are fed whose class has no value that can be.
-ghost use Rattle.config_text.specs.Fault.{Gives};
+ghost use Rattle.config_text.specs.Refusals.{Finds};
 ghost use Rattle.config_rules.specs.Passes as passes;
 
+use crate::gathering::each_of;
 use crate::judged::fault_if;
-use crate::walk::{Judge, each};
+use crate::walk::Judge;
 use config_text::fault::{Code, ConfigFault};
 use config_text::parts::{ConfigParts, ObjectParts};
 use config_text::place::Place;
+use config_text::refusal::Refusal;
 use meter_theory::classes::may_be_fed;
 use std::alloc::Global;
 
@@ -33,11 +35,11 @@ impl Judge for Fed {
 /// Judges which objects are fed.
 ///
 /// # Errors
-/// C18 at the first object that is fed and of a class to which inputs from outside don't go.
+/// C18 at each object that is fed and of a class to which inputs from outside don't go.
 #[tactic(auto, unfolding(config_rules::specs::Passes::fed_values))]
-pub(crate) fn fed_values(alloc: Global, config: &ConfigParts) -> Result<(), ConfigFault>
-    ensures { Gives (λ u. u) result (passes.fed_values config.now) }
+pub(crate) fn fed_values(alloc: Global, config: &ConfigParts) -> Result<(), Refusal>
+    ensures { Finds result (passes.fed_values config.now) }
 {
     let object_place = Place::top(alloc, "object");
-    each(&Fed, &object_place, config.objects.as_slice())
+    each_of(&Fed, &object_place, config.objects.as_slice())
 }

@@ -2,17 +2,20 @@
 
 ghost use Rattle.std.specs.Prelude.{◌++◌};
 ghost use Rattle.config_text.specs.Fault.{Gives};
+ghost use Rattle.config_text.specs.Refusals.{Finds};
 ghost use Rattle.config_rules.specs.Passes as spec;
 
 use crate::form::is_logical_name;
+use crate::gathering::{gather, gather_sets};
 use crate::judged::fault_if;
 use crate::reference_walk::{JudgeReferences, references};
-use crate::walk::{Judge, JudgeText, both_sets, each};
+use crate::walk::{Judge, JudgeText, both_sets};
 use config_text::fault::{Code, ConfigFault};
 use config_text::parts::{
     ClientParts, ConfigParts, LabelParts, ObjectParts, RightParts, ScriptRefParts, TargetParts,
 };
 use config_text::place::Place;
+use config_text::refusal::{Refusal, refuse};
 use std::alloc::Global;
 use value_text::client_name::may_be_named;
 
@@ -148,32 +151,36 @@ impl Judge for LabelForms {
 /// Judges the forms of all names.
 ///
 /// # Errors
-/// C4 at the first logical name or client's name of bad form.
+/// C4 at the first logical name or client's name of bad form of each client, object, right and label, and of the policy.
 #[tactic(auto, unfolding(config_rules::specs::Passes::forms))]
-pub(crate) fn forms(alloc: Global, config: &ConfigParts) -> Result<(), ConfigFault>
-    ensures { Gives (λ u. u) result (spec.forms config.now) }
+pub(crate) fn forms(alloc: Global, config: &ConfigParts) -> Result<(), Refusal>
+    ensures { Finds result (spec.forms config.now) }
 {
     let version = config.version;
+    let mut faults = Vec::new(alloc);
+    let clients = config.clients.as_slice();
     let client_place = Place::top(alloc, "client");
-    each(
+    gather(
+        &mut faults,
         &ClientForms { version },
         &client_place,
-        config.clients.as_slice(),
+        clients,
     )?;
+    let objects = config.objects.as_slice();
     let object_place = Place::top(alloc, "object");
-    each(&ObjectForms, &object_place, config.objects.as_slice())?;
+    gather(&mut faults, &ObjectForms, &object_place, objects)?;
+    let rights = config.rights.as_slice();
     let right_place = Place::top(alloc, "right");
-    each(
-        &RightForms { version },
-        &right_place,
-        config.rights.as_slice(),
-    )?;
+    gather(&mut faults, &RightForms { version }, &right_place, rights)?;
     let policy_place = Place::top(alloc, "policy");
-    both_sets(&ClientForm { version }, &policy_place, &config.policy)?;
+    gather_sets(
+        &mut faults,
+        &ClientForm { version },
+        &policy_place,
+        &config.policy,
+    )?;
+    let labels = config.labels.as_slice();
     let label_place = Place::top(alloc, "label");
-    each(
-        &LabelForms { version },
-        &label_place,
-        config.labels.as_slice(),
-    )
+    gather(&mut faults, &LabelForms { version }, &label_place, labels)?;
+    refuse(faults)
 }

@@ -3,20 +3,23 @@
 ghost use Rattle.std.specs.Prelude.{◌≡◌, ◌++◌, codes};
 ghost use Rattle.config_text.specs.BodyView.{body_text};
 ghost use Rattle.config_text.specs.Fault.{Gives};
+ghost use Rattle.config_text.specs.Refusals.{Finds};
 ghost use Rattle.config_judge.specs.Indexes.{is_usable};
 ghost use Rattle.meter_theory.specs.Classes as classes;
 ghost use Rattle.config_rules.specs.Passes as spec;
 ghost use Rattle.config_rules.specs.Walks as walks;
 
 use crate::directory::Directory;
+use crate::gathering::gather;
 use crate::judged::fault_if;
 use crate::reference_walk::{each_action, each_capture};
-use crate::walk::{Judge, each, each_below};
+use crate::walk::{Judge, each_below};
 use config_text::fault::{Code, ConfigFault};
 use config_text::parts::{
     ActionParts, BodyParts, CaptureParts, ObjectParts, RightParts, TargetParts,
 };
 use config_text::place::Place;
+use config_text::refusal::{Refusal, refuse};
 use config_text::service::Service;
 use meter_theory::classes::{has_attribute, has_method, is_capturable, is_monitorable};
 use std::alloc::Global;
@@ -207,16 +210,28 @@ impl<'d, 'c> Judge for RightIndexes<'d, 'c> {
 /// are on.
 ///
 /// # Errors
-/// C10 at the first index that the class doesn't have, or that isn't usable there.
+/// C10 at the first index of each object and right that the class doesn't have, or that isn't usable there.
 #[tactic(auto, unfolding(config_rules::specs::Passes::known_indexes))]
-pub(crate) fn known_indexes(alloc: Global, directory: &Directory<'_>) -> Result<(), ConfigFault>
-    ensures { Gives (λ u. u) result (spec.known_indexes directory.now.config.now) }
+pub(crate) fn known_indexes(alloc: Global, directory: &Directory<'_>) -> Result<(), Refusal>
+    ensures { Finds result (spec.known_indexes directory.now.config.now) }
 {
     let config = directory.config;
+    let mut faults = Vec::new(alloc);
     let objects = config.objects.as_slice();
     let object_place = Place::top(alloc, "object");
-    each(&ObjectIndexes { directory }, &object_place, objects)?;
+    gather(
+        &mut faults,
+        &ObjectIndexes { directory },
+        &object_place,
+        objects,
+    )?;
     let rights = config.rights.as_slice();
     let right_place = Place::top(alloc, "right");
-    each(&RightIndexes { directory }, &right_place, rights)
+    gather(
+        &mut faults,
+        &RightIndexes { directory },
+        &right_place,
+        rights,
+    )?;
+    refuse(faults)
 }

@@ -1,18 +1,20 @@
 //! C17: labels on what is no cell, and second ones for a cell.
 ghost use Rattle.std.specs.Prelude.{◌≡◌, ◌||◌, not};
 ghost use Rattle.std.specs.List.{list_any};
-ghost use Rattle.config_text.specs.Fault.{Gives};
+ghost use Rattle.config_text.specs.Refusals.{Finds};
 ghost use Rattle.meter_theory.specs.Classes as classes;
 ghost use Rattle.config_rules.specs.Names as names;
 ghost use Rattle.config_rules.specs.Passes as passes;
 
 use crate::directory::Directory;
+use crate::gathering::each_new_of;
 use crate::judged::fault_if;
 use crate::menus::same_target;
-use crate::walk::{JudgeNew, each_new};
+use crate::walk::JudgeNew;
 use config_text::fault::{Code, ConfigFault};
 use config_text::parts::{LabelParts, TargetParts};
 use config_text::place::Place;
+use config_text::refusal::Refusal;
 use std::alloc::Global;
 
 /// Whether one of the labels is of this target.
@@ -61,12 +63,12 @@ impl<'d, 'c> JudgeNew for NewLabel<'d, 'c> {
 /// Judges the targets of the labels.
 ///
 /// # Errors
-/// C17 at the first label that is of no cell, or of a cell that an earlier one is of.
+/// C17 at each label that is of no cell, or of a cell that an earlier one is of.
 #[tactic(auto, unfolding(config_rules::specs::Passes::new_labels))]
-pub(crate) fn new_labels(alloc: Global, directory: &Directory<'_>) -> Result<(), ConfigFault>
-    ensures { Gives (λ u. u) result (passes.new_labels directory.now.config.now) }
+pub(crate) fn new_labels(alloc: Global, directory: &Directory<'_>) -> Result<(), Refusal>
+    ensures { Finds result (passes.new_labels directory.now.config.now) }
 {
     let config = directory.config;
     let labels = config.labels.as_slice();
-    each_new(&NewLabel { directory }, &Place::top(alloc, "label"), labels)
+    each_new_of(&NewLabel { directory }, &Place::top(alloc, "label"), labels)
 }

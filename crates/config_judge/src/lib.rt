@@ -10,6 +10,7 @@ pub mod directory;
 mod fed;
 mod form;
 mod forms;
+mod gathering;
 mod indexes;
 mod judged;
 mod kinds;

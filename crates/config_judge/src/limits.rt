@@ -4,6 +4,7 @@ ghost use Rattle.std.specs.Option.{unwrap_or};
 ghost use Rattle.meter_theory.specs.Value.{is_within_limits};
 ghost use Rattle.config_text.specs.BodyView.{body_text};
 ghost use Rattle.config_text.specs.Fault.{Gives};
+ghost use Rattle.config_text.specs.Refusals.{Finds};
 ghost use Rattle.config_text.specs.Fault as faults;
 ghost use Rattle.config_text.specs.declared.fault.Code.TheVariants.{Limit};
 ghost use Rattle.config_rules.specs.Passes as passes;
@@ -15,9 +16,10 @@ ghost use Rattle.config_judge.specs.Lines.{followed_by};
 ghost use Rattle.config_judge.specs.Menus.{menu_of};
 
 use crate::arrays::{times_of, values_of};
+use crate::gathering::gather;
 use crate::judged::fault_if;
 use crate::menus::menu_in;
-use crate::walk::{Judge, each, each_below};
+use crate::walk::{Judge, each_below};
 use config_text::fault::{Code, ConfigFault};
 use config_text::hex_value::{HexBytes, HexValue};
 use config_text::parts::{
@@ -25,6 +27,7 @@ use config_text::parts::{
     ScriptRefParts, UpDownParts,
 };
 use config_text::place::Place;
+use config_text::refusal::{Refusal, keep, refuse};
 use cosem_class::judge::keeps_limits;
 use cosem_data::data::{Data, Items};
 use cosem_data::memory::Memory;
@@ -289,14 +292,28 @@ impl Judge for ObjectLimits {
 /// Judges numbers and sizes.
 ///
 /// # Errors
-/// C16 at the first list that has more elements, or value that is larger or nested deeper, than a limit allows.
+/// C16 at the clients and the objects, where these are more than a limit allows, and at the first list of each object that has
+/// more elements, or value that is larger or nested deeper.
 #[tactic(auto, unfolding(config_rules::specs::Passes::within_limits))]
-pub(crate) fn within_limits(alloc: Global, config: &ConfigParts) -> Result<(), ConfigFault>
-    ensures { Gives (λ u. u) result (passes.within_limits config.now) }
+pub(crate) fn within_limits(alloc: Global, config: &ConfigParts) -> Result<(), Refusal>
+    ensures { Finds result (passes.within_limits config.now) }
 {
+    let mut faults = Vec::new(alloc);
     let client_place = Place::top(alloc, "client");
-    at_most(&client_place, "", CLIENTS, config.clients.len())?;
+    keep(
+        &mut faults,
+        at_most(&client_place, "", CLIENTS, config.clients.len()),
+    )?;
     let object_place = Place::top(alloc, "object");
-    at_most(&object_place, "", OBJECTS, config.objects.len())?;
-    each(&ObjectLimits, &object_place, config.objects.as_slice())
+    keep(
+        &mut faults,
+        at_most(&object_place, "", OBJECTS, config.objects.len()),
+    )?;
+    gather(
+        &mut faults,
+        &ObjectLimits,
+        &object_place,
+        config.objects.as_slice(),
+    )?;
+    refuse(faults)
 }

@@ -4,19 +4,22 @@ ghost use Rattle.std.specs.List.{list_any};
 ghost use Rattle.std.specs.Option.{unwrap_or};
 ghost use Rattle.config_text.specs.BodyView.{body_text};
 ghost use Rattle.config_text.specs.Fault.{Gives};
+ghost use Rattle.config_text.specs.Refusals.{Finds};
 ghost use Rattle.config_rules.specs.Names as names;
 ghost use Rattle.config_rules.specs.Passes as passes;
 ghost use Rattle.config_rules.specs.Walks as walks;
 ghost use Rattle.config_judge.specs.Menus.{menu_of};
 
+use crate::gathering::each_of;
 use crate::judged::fault_if;
-use crate::walk::{Judge, JudgeNew, each, each_new};
+use crate::walk::{Judge, JudgeNew, each_new};
 use config_text::fault::{Code, ConfigFault};
 use config_text::parts::{
     AlternativeParts, BodyParts, CaptureParts, ConfigParts, ObjectParts, ScriptRefParts,
     TargetParts,
 };
 use config_text::place::Place;
+use config_text::refusal::Refusal;
 use std::alloc::Global;
 
 /// Whether an object has the key of a menu.
@@ -183,11 +186,11 @@ impl Judge for NewAlternatives {
 /// Judges the alternatives of menus.
 ///
 /// # Errors
-/// C22 at the first alternative that is what is configured, or an earlier one.
+/// C22 at the first alternative of each object that is what is configured, or an earlier one.
 #[tactic(auto, unfolding(config_rules::specs::Passes::new_alternatives))]
-pub(crate) fn new_alternatives(alloc: Global, config: &ConfigParts) -> Result<(), ConfigFault>
-    ensures { Gives (λ u. u) result (passes.new_alternatives config.now) }
+pub(crate) fn new_alternatives(alloc: Global, config: &ConfigParts) -> Result<(), Refusal>
+    ensures { Finds result (passes.new_alternatives config.now) }
 {
     let object_place = Place::top(alloc, "object");
-    each(&NewAlternatives, &object_place, config.objects.as_slice())
+    each_of(&NewAlternatives, &object_place, config.objects.as_slice())
 }

@@ -4,15 +4,18 @@ ghost use Rattle.std.specs.Prelude.{◌≡◌, ◌||◌, codes, take};
 ghost use Rattle.std.specs.List.{list_any};
 ghost use Rattle.std.specs.Str.{bytes_eq};
 ghost use Rattle.config_text.specs.Fault.{Gives};
+ghost use Rattle.config_text.specs.Refusals.{Finds};
 ghost use Rattle.config_rules.specs.Passes as spec;
 ghost use Rattle.config_rules.specs.Walks.{element_place};
 
 use crate::directory::Directory;
+use crate::gathering::each_of;
 use crate::judged::fault_if;
-use crate::walk::{Judge, each};
+use crate::walk::Judge;
 use config_text::fault::{Code, ConfigFault};
 use config_text::parts::{ConfigParts, ObjectParts};
 use config_text::place::Place;
+use config_text::refusal::{Refusal, keep, refuse};
 use meter_theory::classes::is_known;
 use std::alloc::Global;
 
@@ -49,17 +52,18 @@ fn new_object(
 /// Judges whether each object's name is new.
 ///
 /// # Errors
-/// C5 at the first name that an earlier object or the current association has.
-#[tactic(auto, unfolding(config_rules::specs::Passes::new_objects, config_rules::specs::Walks::each_after))]
-pub(crate) fn new_objects(alloc: Global, directory: &Directory<'_>) -> Result<(), ConfigFault>
-    ensures { Gives (λ u. u) result (spec.new_objects directory.now.config.now) }
+/// C5 at each name that an earlier object or the current association has.
+#[tactic(auto, unfolding(config_rules::specs::Passes::new_objects, config_rules::specs::Walks::each_fault_after))]
+pub(crate) fn new_objects(alloc: Global, directory: &Directory<'_>) -> Result<(), Refusal>
+    ensures { Finds result (spec.new_objects directory.now.config.now) }
 {
+    let mut faults = Vec::new(alloc);
     let config = directory.config;
     let objects = config.objects.as_slice();
     for (i, object) in objects.iter().enumerate() {
-        new_object(alloc, directory, i, object)?;
+        keep(&mut faults, new_object(alloc, directory, i, object))?;
     }
-    Ok(())
+    refuse(faults)
 }
 
 /// The class of an object of a configuration of this version.
@@ -88,14 +92,14 @@ impl Judge for KnownClass {
 /// Judges whether each object's class is known in the configuration's version.
 ///
 /// # Errors
-/// C6 at the first interface class that isn't.
+/// C6 at each interface class that isn't.
 #[tactic(auto, unfolding(config_rules::specs::Passes::known_classes))]
-pub(crate) fn known_classes(alloc: Global, config: &ConfigParts) -> Result<(), ConfigFault>
-    ensures { Gives (λ u. u) result (spec.known_classes config.now) }
+pub(crate) fn known_classes(alloc: Global, config: &ConfigParts) -> Result<(), Refusal>
+    ensures { Finds result (spec.known_classes config.now) }
 {
     let object_place = Place::top(alloc, "object");
     let version = config.version;
-    each(
+    each_of(
         &KnownClass { version },
         &object_place,
         config.objects.as_slice(),

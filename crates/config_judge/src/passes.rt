@@ -1,8 +1,8 @@
 //! The passes over a configuration, one a code, each run only where those before it found nothing (own profile).
 
-ghost use Rattle.config_text.specs.Fault.{Gives};
-ghost use Rattle.config_rules.specs.Passes.{judged};
-ghost use Rattle.config_judge.specs.JudgedNames.{judged_names, judged_rest};
+ghost use Rattle.config_text.specs.Refusals.{Finds};
+ghost use Rattle.config_rules.specs.Passes.{found};
+ghost use Rattle.config_judge.specs.JudgedNames.{found_in_names, found_in_rest};
 
 use crate::clients::{known_clients, new_clients};
 use crate::clocks::new_clocks;
@@ -22,24 +22,24 @@ use crate::scripts::{new_scripts, no_executes};
 use crate::sorting::valid_sorting;
 use crate::times::valid_times;
 use crate::values::valid_values;
-use config_text::fault::ConfigFault;
+use config_text::refusal::Refusal;
 use std::alloc::Global;
 
 /// Judges whether the names and indexes of a configuration are of good form and lead to something (own profile).
 ///
 /// # Errors
-/// The first fault of the least code that is met, at its place:
+/// The faults with the least code that is met, the first of each table of the text that has one:
 /// - C4 at the first logical name or client's name of bad form;
-/// - C5 at the first name that an earlier object or the current association has;
-/// - C6 at the first interface class that isn't known in the configuration's version;
+/// - C5 at a name that an earlier object or the current association has;
+/// - C6 at an interface class that isn't known in the configuration's version;
 /// - C7 at the first name that no client has;
-/// - C8 at the first name or service access point that an earlier client has;
+/// - C8 at a name or service access point that an earlier client has;
 /// - C9 at the first reference to no object, to a table that is no script table, or to a script that isn't there;
 /// - C10 at the first index that the class doesn't have, or that isn't usable there;
 /// - C0 where memory was refused, at any time.
-#[tactic(auto, unfolding(crate::specs::JudgedNames::judged_names))]
-fn judge_names(alloc: Global, directory: &Directory<'_>) -> Result<(), ConfigFault>
-    ensures { Gives (λ u. u) result (judged_names directory.now.config.now) }
+#[tactic(auto, unfolding(crate::specs::JudgedNames::found_in_names))]
+fn judge_names(alloc: Global, directory: &Directory<'_>) -> Result<(), Refusal>
+    ensures { Finds result (found_in_names directory.now.config.now) }
 {
     let config = directory.config;
     forms(alloc, config)?;
@@ -54,10 +54,10 @@ fn judge_names(alloc: Global, directory: &Directory<'_>) -> Result<(), ConfigFau
 /// Judges values, rights, labels and sizes: the codes C11 to C22, one after another.
 ///
 /// # Errors
-/// The least of the codes that is met, at the first place where it is.
-#[tactic(auto, unfolding(crate::specs::JudgedNames::judged_rest))]
-fn judge_values(alloc: Global, directory: &Directory<'_>) -> Result<(), ConfigFault>
-    ensures { Gives (λ u. u) result (judged_rest directory.now.config.now) }
+/// The faults with the least of the codes that is met, the first of each table of the text that has one.
+#[tactic(auto, unfolding(crate::specs::JudgedNames::found_in_rest))]
+fn judge_values(alloc: Global, directory: &Directory<'_>) -> Result<(), Refusal>
+    ensures { Finds result (found_in_rest directory.now.config.now) }
 {
     let config = directory.config;
     valid_values(alloc, directory)?;
@@ -77,9 +77,10 @@ fn judge_values(alloc: Global, directory: &Directory<'_>) -> Result<(), ConfigFa
 /// Judges what the tables of a configuration say.
 ///
 /// # Errors
-/// The least of the codes C4 to C22 that is met, at the first place where it is; C0 where memory was refused, at any time.
-pub fn judge(alloc: Global, directory: &Directory<'_>) -> Result<(), ConfigFault>
-    ensures { Gives (λ u. u) result (judged directory.now.config.now) }
+/// The faults with the least of the codes C4 to C22 that is met, the first of each table of the text that has one, in their
+/// order; C0 where memory was refused, at any time.
+pub fn judge(alloc: Global, directory: &Directory<'_>) -> Result<(), Refusal>
+    ensures { Finds result (found directory.now.config.now) }
 {
     names_are_judged_first();
     judge_names(alloc, directory)?;

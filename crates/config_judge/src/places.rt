@@ -1,15 +1,14 @@
 //! The first places at which names stand.
 
-ghost use Rattle.std.specs.Prelude.{◌≡◌, List, ℕ, IfOk, IfErr};
+ghost use Rattle.std.specs.Prelude.{◌≡◌, List, ℕ, IfOk};
 ghost use Rattle.std.specs.BTreeMap as tree;
 ghost use Rattle.std.specs.Cmp.Lexicographic.{slice_cmp};
 ghost use Rattle.std.specs.List.{position_from};
 ghost use Rattle.std.specs.Ordering.{nat_cmp};
 ghost use Rattle.std.specs.Str.{bytes_eq};
-ghost use Rattle.config_text.specs.declared.fault.ConfigFault.TheVariants.{Memory};
 
-use config_text::fault::ConfigFault;
 use config_text::parts::{ClientParts, ObjectParts};
+use cosem_data::memory::Memory;
 use std::alloc::Global;
 use std::collections::BTreeMap;
 
@@ -43,17 +42,13 @@ impl Named for ClientParts {
 }
 
 /// Each name with the place of the first part that has it.
-///
-/// # Errors
-/// C0 where memory was refused, and no other.
 pub(crate) fn first_places<'a, P: Named>(
     alloc: Global,
     parts: &'a [P],
-) -> Result<BTreeMap<&'a str, usize>, ConfigFault>
+) -> Result<BTreeMap<&'a str, usize>, Memory>
     ensures places { IfOk result (λ places. (q : List ℕ) →
         tree.get_by (λ k. slice_cmp nat_cmp q k.now) places
         ≡ position_from (λ p. bytes_eq (P.name_of p) q) 0 parts.now) }
-    ensures memory { IfErr result (λ e. e ≡ Memory) }
 {
     let mut places = BTreeMap::new(alloc);
     for i in (0..parts.len()).rev() {

@@ -1,22 +1,24 @@
 //! C9: references to no object, to a table that is no script table, or to a script that isn't there.
 
-ghost use Rattle.std.specs.Prelude.{◌≡◌, ◌==◌, ◌++◌, codes, is_some};
+ghost use Rattle.std.specs.Prelude.{◌≡◌, ◌==◌};
 ghost use Rattle.std.specs.List.{list_any};
 ghost use Rattle.config_text.specs.BodyView.{body_text};
 ghost use Rattle.config_text.specs.Fault.{Gives};
+ghost use Rattle.config_text.specs.Refusals.{Finds};
 ghost use Rattle.config_rules.specs.Names.{object_named, scripts_in};
 ghost use Rattle.config_rules.specs.Passes as spec;
-ghost use Rattle.config_rules.specs.Walks as walks;
 
 use crate::directory::Directory;
+use crate::gathering::gather;
 use crate::judged::fault_if;
 use crate::reference_walk::{JudgeReferences, references};
-use crate::walk::{Judge, each};
+use crate::walk::Judge;
 use config_text::fault::{Code, ConfigFault};
 use config_text::parts::{
     BodyParts, LabelParts, ObjectParts, RightParts, ScriptParts, ScriptRefParts, TargetParts,
 };
 use config_text::place::Place;
+use config_text::refusal::{Refusal, refuse};
 use meter_theory::classes::{Class, is_of_class};
 use std::alloc::Global;
 
@@ -161,46 +163,39 @@ impl<'d, 'c> Judge for LabelObject<'d, 'c> {
     }
 }
 
-/// Judges the references of the objects.
-fn object_references(alloc: Global, directory: &Directory<'_>) -> Result<(), ConfigFault>
-    ensures { Gives (λ u. u) result (walks.each
-        (λ at o. walks.references (λ at t. spec.known_object directory.now.config.now at t.object)
-        (spec.known_script directory.now.config.now) at o.body)
-        (codes "object") directory.now.config.now.objects) }
-{
-    let config = directory.config;
-    let object_place = Place::top(alloc, "object");
-    let objects = config.objects.as_slice();
-    each(&ObjectReferences { directory }, &object_place, objects)
-}
-
-/// Judges the objects of the rights.
-fn right_objects(alloc: Global, directory: &Directory<'_>) -> Result<(), ConfigFault>
-    ensures { Gives (λ u. u) result
-        (walks.each (λ at r. spec.known_object directory.now.config.now at r.object)
-        (codes "right") directory.now.config.now.rights) }
-{
-    let config = directory.config;
-    let right_place = Place::top(alloc, "right");
-    each(
-        &RightObject { directory },
-        &right_place,
-        config.rights.as_slice(),
-    )
-}
-
 /// Judges whether all that is referred to is there: objects, script tables, and their scripts.
 ///
 /// # Errors
-/// C9 at the first reference to no object, to a table that is no script table, or to a script that isn't in its table.
+/// C9 at the first reference of each object, right and label to no object, to a table that is no script table, or to a script that isn't in its table.
 #[tactic(auto, unfolding(config_rules::specs::Passes::known_references))]
-pub(crate) fn known_references(alloc: Global, directory: &Directory<'_>) -> Result<(), ConfigFault>
-    ensures { Gives (λ u. u) result (spec.known_references directory.now.config.now) }
+pub(crate) fn known_references(alloc: Global, directory: &Directory<'_>) -> Result<(), Refusal>
+    ensures { Finds result (spec.known_references directory.now.config.now) }
 {
-    object_references(alloc, directory)?;
-    right_objects(alloc, directory)?;
     let config = directory.config;
+    let mut faults = Vec::new(alloc);
+    let objects = config.objects.as_slice();
+    let object_place = Place::top(alloc, "object");
+    gather(
+        &mut faults,
+        &ObjectReferences { directory },
+        &object_place,
+        objects,
+    )?;
+    let rights = config.rights.as_slice();
+    let right_place = Place::top(alloc, "right");
+    gather(
+        &mut faults,
+        &RightObject { directory },
+        &right_place,
+        rights,
+    )?;
     let labels = config.labels.as_slice();
     let label_place = Place::top(alloc, "label");
-    each(&LabelObject { directory }, &label_place, labels)
+    gather(
+        &mut faults,
+        &LabelObject { directory },
+        &label_place,
+        labels,
+    )?;
+    refuse(faults)
 }

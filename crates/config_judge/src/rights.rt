@@ -1,13 +1,15 @@
 //! C12: rights to set what isn't a settable cell.
-ghost use Rattle.config_text.specs.Fault.{Gives};
+ghost use Rattle.config_text.specs.Refusals.{Finds};
 ghost use Rattle.config_rules.specs.Passes as passes;
 
 use crate::directory::Directory;
+use crate::gathering::each_of;
 use crate::judged::fault_if;
-use crate::walk::{Judge, each, each_below};
+use crate::walk::{Judge, each_below};
 use config_text::fault::{Code, ConfigFault};
 use config_text::parts::RightParts;
 use config_text::place::Place;
+use config_text::refusal::Refusal;
 use std::alloc::Global;
 
 /// Attributes that can be set, of the object with this logical name.
@@ -66,13 +68,13 @@ impl<'d, 'c> Judge for SettableRights<'d, 'c> {
 /// Judges the rights to set.
 ///
 /// # Errors
-/// C12 at the first index that isn't that of a settable cell.
+/// C12 at the first index of each right that isn't that of a settable cell.
 #[tactic(auto, unfolding(config_rules::specs::Passes::settable_rights))]
-pub(crate) fn settable_rights(alloc: Global, directory: &Directory<'_>) -> Result<(), ConfigFault>
-    ensures { Gives (λ u. u) result (passes.settable_rights directory.now.config.now) }
+pub(crate) fn settable_rights(alloc: Global, directory: &Directory<'_>) -> Result<(), Refusal>
+    ensures { Finds result (passes.settable_rights directory.now.config.now) }
 {
     let config = directory.config;
     let rights = config.rights.as_slice();
     let right_place = Place::top(alloc, "right");
-    each(&SettableRights { directory }, &right_place, rights)
+    each_of(&SettableRights { directory }, &right_place, rights)
 }

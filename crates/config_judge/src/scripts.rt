@@ -1,17 +1,19 @@
 //! C14 and C15: scripts with identifier 0 or that of an earlier one, and actions that execute a script table.
 ghost use Rattle.std.specs.Prelude.{◌≡◌};
 ghost use Rattle.config_text.specs.BodyView.{body_text};
-ghost use Rattle.config_text.specs.Fault.{Gives};
+ghost use Rattle.config_text.specs.Refusals.{Finds};
 ghost use Rattle.config_rules.specs.Passes as passes;
 
 use crate::directory::Directory;
+use crate::gathering::each_of;
 use crate::judged::fault_if;
 use crate::reference_walk::each_action;
 use crate::references::{has_id, scripts_in};
-use crate::walk::{Judge, JudgeNew, each, each_new};
+use crate::walk::{Judge, JudgeNew, each_new};
 use config_text::fault::{Code, ConfigFault};
 use config_text::parts::{ActionParts, BodyParts, ConfigParts, ObjectParts, ScriptParts};
 use config_text::place::Place;
+use config_text::refusal::Refusal;
 use config_text::service::Service;
 use meter_theory::classes::{Class, is_of_class};
 use std::alloc::Global;
@@ -60,13 +62,13 @@ impl Judge for NewScripts {
 /// Judges the identifiers of scripts.
 ///
 /// # Errors
-/// C14 at the first identifier that is 0 or that of an earlier script of its table.
+/// C14 at the first identifier of each table that is 0 or that of an earlier script.
 #[tactic(auto, unfolding(config_rules::specs::Passes::new_scripts))]
-pub(crate) fn new_scripts(alloc: Global, config: &ConfigParts) -> Result<(), ConfigFault>
-    ensures { Gives (λ u. u) result (passes.new_scripts config.now) }
+pub(crate) fn new_scripts(alloc: Global, config: &ConfigParts) -> Result<(), Refusal>
+    ensures { Finds result (passes.new_scripts config.now) }
 {
     let object_place = Place::top(alloc, "object");
-    each(&NewScripts, &object_place, config.objects.as_slice())
+    each_of(&NewScripts, &object_place, config.objects.as_slice())
 }
 
 /// Whether an action executes a script table.
@@ -124,13 +126,13 @@ impl<'d, 'c> Judge for NoExecutes<'d, 'c> {
 /// Judges what scripts execute.
 ///
 /// # Errors
-/// C15 at the first action that calls a method of a script table.
+/// C15 at the first action of each table that calls a method of a script table.
 #[tactic(auto, unfolding(config_rules::specs::Passes::no_executes))]
-pub(crate) fn no_executes(alloc: Global, directory: &Directory<'_>) -> Result<(), ConfigFault>
-    ensures { Gives (λ u. u) result (passes.no_executes directory.now.config.now) }
+pub(crate) fn no_executes(alloc: Global, directory: &Directory<'_>) -> Result<(), Refusal>
+    ensures { Finds result (passes.no_executes directory.now.config.now) }
 {
     let config = directory.config;
     let objects = config.objects.as_slice();
     let object_place = Place::top(alloc, "object");
-    each(&NoExecutes { directory }, &object_place, objects)
+    each_of(&NoExecutes { directory }, &object_place, objects)
 }

@@ -2,17 +2,20 @@
 ghost use Rattle.std.specs.Prelude.{◌≡◌, ◌++◌, codes, pos};
 ghost use Rattle.config_text.specs.BodyView.{body_text};
 ghost use Rattle.config_text.specs.Fault.{Gives};
+ghost use Rattle.config_text.specs.Refusals.{Finds};
 ghost use Rattle.config_text.specs.Fault as faults;
 ghost use Rattle.config_text.specs.declared.fault.Code.TheVariants.{Sorting};
 ghost use Rattle.config_rules.specs.Passes as passes;
 ghost use Rattle.config_rules.specs.Walks as walks;
 
+use crate::gathering::each_of;
 use crate::judged::fault_if;
 use crate::reference_walk::each_alternative;
-use crate::walk::{Judge, each, each_below};
+use crate::walk::{Judge, each_below};
 use config_text::fault::{Code, ConfigFault};
 use config_text::parts::{BodyParts, CaptureParts, ConfigParts, ObjectParts};
 use config_text::place::Place;
+use config_text::refusal::Refusal;
 use std::alloc::Global;
 
 /// Whether a number is given that is another than the one that is allowed.
@@ -89,11 +92,11 @@ impl Judge for RightSorting {
 /// Judges what profiles capture of each attribute, and how they are sorted.
 ///
 /// # Errors
-/// C20 at the first data_index other than 0 or sort_method other than 1, fifo.
+/// C20 at the first data_index other than 0 or sort_method other than 1, fifo, of each profile.
 #[tactic(auto, unfolding(config_rules::specs::Passes::valid_sorting))]
-pub(crate) fn valid_sorting(alloc: Global, config: &ConfigParts) -> Result<(), ConfigFault>
-    ensures { Gives (λ u. u) result (passes.valid_sorting config.now) }
+pub(crate) fn valid_sorting(alloc: Global, config: &ConfigParts) -> Result<(), Refusal>
+    ensures { Finds result (passes.valid_sorting config.now) }
 {
     let object_place = Place::top(alloc, "object");
-    each(&RightSorting, &object_place, config.objects.as_slice())
+    each_of(&RightSorting, &object_place, config.objects.as_slice())
 }

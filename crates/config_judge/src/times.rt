@@ -4,19 +4,22 @@ ghost use Rattle.meter_theory.specs.Times.{are_execution_times};
 ghost use Rattle.meter_theory.specs.Value.{elements};
 ghost use Rattle.config_text.specs.BodyView.{body_text};
 ghost use Rattle.config_text.specs.Fault.{Gives};
+ghost use Rattle.config_text.specs.Refusals.{Finds};
 ghost use Rattle.config_text.specs.Fault as faults;
 ghost use Rattle.config_text.specs.declared.fault.Code.TheVariants.{Times};
 ghost use Rattle.config_rules.specs.Passes as passes;
 ghost use Rattle.config_rules.specs.PlanOf.{times_value};
 
 use crate::arrays::times_of;
+use crate::gathering::each_of;
 use crate::judged::fault_if;
-use crate::walk::{Judge, each};
+use crate::walk::Judge;
 use class_control::times::are_execution_times;
 use config_text::fault::{Code, ConfigFault};
 use config_text::hex_value::HexBytes;
 use config_text::parts::{BodyParts, ConfigParts, ObjectParts};
 use config_text::place::Place;
+use config_text::refusal::Refusal;
 use cosem_data::memory::Memory;
 use std::alloc::Global;
 
@@ -70,11 +73,11 @@ impl Judge for RightTimes {
 /// Judges the times of each schedule by its type.
 ///
 /// # Errors
-/// C19 at the first times that don't fit the type.
+/// C19 at the times of each schedule that don't fit the type.
 #[tactic(auto, unfolding(config_rules::specs::Passes::valid_times))]
-pub(crate) fn valid_times(alloc: Global, config: &ConfigParts) -> Result<(), ConfigFault>
-    ensures { Gives (λ u. u) result (passes.valid_times config.now) }
+pub(crate) fn valid_times(alloc: Global, config: &ConfigParts) -> Result<(), Refusal>
+    ensures { Finds result (passes.valid_times config.now) }
 {
     let object_place = Place::top(alloc, "object");
-    each(&RightTimes, &object_place, config.objects.as_slice())
+    each_of(&RightTimes, &object_place, config.objects.as_slice())
 }

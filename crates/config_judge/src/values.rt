@@ -12,6 +12,7 @@ ghost use Rattle.civil_moment.specs.MomentText.{moment_in};
 ghost use Rattle.value_text.specs.Texts.{value_in};
 ghost use Rattle.config_text.specs.BodyView.{body_text};
 ghost use Rattle.config_text.specs.Fault.{Gives};
+ghost use Rattle.config_text.specs.Refusals.{Finds};
 ghost use Rattle.config_text.specs.Fault as faults;
 ghost use Rattle.config_text.specs.declared.fault.Code.TheVariants.{Value};
 ghost use Rattle.config_rules.specs.Names.{object_named};
@@ -26,13 +27,14 @@ ghost use Rattle.config_judge.specs.Menus.{with_menu};
 ghost use Rattle.config_judge.specs.Values.{may_be_thresholds, of_kind};
 
 use crate::directory::Directory;
+use crate::gathering::each_of;
 use crate::judged::fault_if;
 use crate::kinds::{has_kind, is_number, is_of_kind, kind_at, may_be_number, start_kind_in};
 use crate::menus::menu_in;
 use crate::reference_walk::each_action;
 use crate::targets::{cells_named, script_named};
 use crate::value::{is_moment_text, is_time_text, is_value, kind_in};
-use crate::walk::{Judge, each, each_below};
+use crate::walk::{Judge, each_below};
 use class_control::clock::judge_time;
 use class_control::judge::elements_of;
 use class_control::menus::is_executed_script;
@@ -45,6 +47,7 @@ use config_text::parts::{
     TargetParts, UpDownParts,
 };
 use config_text::place::Place;
+use config_text::refusal::Refusal;
 use config_text::service::Service;
 use cosem_data::data::Data;
 use cosem_data::kind::Kind;
@@ -415,14 +418,14 @@ impl<'d, 'c> Judge for ObjectValues<'d, 'c> {
 /// Judges the values of each object.
 ///
 /// # Errors
-/// C11 at the first text that isn't hex, isn't one Data, or isn't of the kind that is asked for there, and at a clock's time that
-/// is no moment.
+/// C11 at the first text of each object that isn't hex, isn't one Data, or isn't of the kind that is asked for there, and at a
+/// clock's time that is no moment.
 #[tactic(auto, unfolding(config_rules::specs::Passes::valid_values))]
-pub(crate) fn valid_values(alloc: Global, directory: &Directory<'_>) -> Result<(), ConfigFault>
-    ensures { Gives (λ u. u) result (passes.valid_values directory.now.config.now) }
+pub(crate) fn valid_values(alloc: Global, directory: &Directory<'_>) -> Result<(), Refusal>
+    ensures { Finds result (passes.valid_values directory.now.config.now) }
 {
     let config = directory.config;
     let objects = config.objects.as_slice();
     let object_place = Place::top(alloc, "object");
-    each(&ObjectValues { directory }, &object_place, objects)
+    each_of(&ObjectValues { directory }, &object_place, objects)
 }

@@ -102,7 +102,7 @@ pub(crate) fn each_below<J: Judge>(
 }
 
 /// Judges an element of an array, which stands behind the earlier ones.
-fn judge_new_element<J: JudgeNew>(
+pub(crate) fn judge_new_element<J: JudgeNew>(
     judge: &J,
     name: &Place<'_>,
     earlier: &[J::Part],

@@ -1,3 +1,4 @@
+pub mod FaultsOf
 pub mod Labels
 pub mod ReadTables
 pub mod Room

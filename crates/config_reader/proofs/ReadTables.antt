@@ -10,7 +10,7 @@ use Rattle.meter_theory.specs.declared.classes.Class.TheVariants as classes
 use Rattle.meter_theory.specs.Lists.{IsIn}
 use Rattle.meter_theory.specs.Sound.{is_password, is_password_or_none, is_scaler, is_unit, is_script_number}
 use Rattle.meter_theory.proofs.ClassTable.{known_is_of_class, unknown_has_no_class}
-use Rattle.config_text.specs.Fault.{Fault, found_or, ◌>>=◌}
+use Rattle.config_text.specs.Fault.{Fault, first_of, found_or, ◌>>=◌}
 use Rattle.config_text.specs.Parts.{Text, ClientText, ObjectText, ScriptText, ConfigText, BodyText, DataText, RegisterText, ProfileText, ClockText, ScriptTableText, MonitorText, ScheduleText, UnknownText}
 use Rattle.config_text.specs.declared.fault.Code.{Code}
 use Rattle.config_text.specs.declared.fault.Code.TheVariants.{Kind}
@@ -24,7 +24,7 @@ use Rattle.config_text.specs.Targets.{target_of, script_ref_of}
 use Rattle.config_text.specs.Rights.{right_of, sets_of, label_of}
 use Rattle.config_text.specs.Clients.{client_of}
 use Rattle.config_text.specs.Objects.{object_of, has_menus, body_of, fed_of}
-use Rattle.config_text.specs.Document.{tables_of, parts_of, config_keys, document_of}
+use Rattle.config_text.specs.Document.{tables_of, parts_of, key_faults, document_of}
 
 -- what was said last
 abbrev says_ok : {A : Type 0} → A → Result A Fault
@@ -319,6 +319,6 @@ config_is_read t c h =
 pub tables_are_read : (text : Text) (c : ConfigText) → tables_of text ≡ Ok c → IsRead c
 unfolding tables_of
 tables_are_read text c h =
-    let t = then_ok (document_of text) (λ t. config_keys t >>= λ keys. parts_of t) c h in
-    let keys = then_ok (config_keys t.0) (λ keys. parts_of t.0) c t.2 in
+    let t = then_ok (document_of text) (λ t. first_of (key_faults t) >>= λ keys. parts_of t) c h in
+    let keys = then_ok (first_of (key_faults t.0)) (λ keys. parts_of t.0) c t.2 in
     config_is_read t.0 c keys.2

@@ -1,15 +1,14 @@
 //! A configuration's text read whole.
-ghost use Rattle.std.specs.Prelude.{◌≡◌, IfOk, IfErr, map};
+ghost use Rattle.std.specs.Prelude.{◌≡◌, IfOk, map};
 ghost use Rattle.object_model.specs.PolicyView as model;
-ghost use Rattle.config_text.specs.Fault.{Gives};
-ghost use Rattle.config_text.specs.declared.fault.ConfigFault.TheVariants as faults;
+ghost use Rattle.config_text.specs.Refusals.{Finds};
 ghost use Rattle.config_rules.specs.Faultless.{IsFaultless, IsPolicyOf};
-ghost use Rattle.config_rules.specs.Passes.{judged};
+ghost use Rattle.config_rules.specs.Passes.{found};
 ghost use Rattle.config_rules.specs.PlanOf as config;
 ghost use Rattle.config_rules.specs.Read.{IsRead};
-ghost use Rattle.config_reader.specs.ConfigOf.{Reads, config_of};
+ghost use Rattle.config_reader.specs.ConfigOf.{Reads, ReadsOrRefuses, config_of, faults_of};
 
-use crate::laws::configurations_are_read;
+use crate::laws::{configurations_are_read, texts_are_refused_by_the_first_fault};
 use crate::plan::plan_of;
 use crate::resolved::{Resolved, resolve};
 use config_judge::directory::Directory;
@@ -17,14 +16,16 @@ use config_judge::judge;
 use config_text::fault::ConfigFault;
 use config_text::parts::ConfigParts;
 use config_text::read_tables;
+use config_text::refusal::Refusal;
+use cosem_data::memory::Memory;
 use object_model::plan::Plan;
 use object_model::policy::Policy;
 use std::alloc::Global;
 
 /// What the names of a configuration lead to, once it is judged.
-fn judge_and_resolve(alloc: Global, parts: &ConfigParts) -> Result<Resolved, ConfigFault>
+fn judge_and_resolve(alloc: Global, parts: &ConfigParts) -> Result<Resolved, Refusal>
     requires { IsRead parts.now }
-    ensures judged { Gives (λ _. tt) result (judged parts.now) }
+    ensures judged { Finds result (found parts.now) }
     ensures objects { IfOk result (λ resolved. resolved.objects.items
         ≡ map (config.object_of parts.now) parts.now.objects) }
     ensures policy { IfOk result (λ resolved. IsPolicyOf parts.now (model.policy_of resolved.policy)) }
@@ -35,20 +36,12 @@ fn judge_and_resolve(alloc: Global, parts: &ConfigParts) -> Result<Resolved, Con
 }
 
 /// The plan and the policy of a configuration without faults, of which this is resolved.
-///
-/// # Errors
-/// C0 where memory was refused, and no other.
-fn make(
-    alloc: Global,
-    parts: ConfigParts,
-    resolved: Resolved,
-) -> Result<(Plan, Policy), ConfigFault>
+fn make(alloc: Global, parts: ConfigParts, resolved: Resolved) -> Result<(Plan, Policy), Memory>
     requires faultless { IsFaultless parts }
     requires objects { resolved.objects.items ≡ map (config.object_of parts) parts.objects }
     requires policy { IsPolicyOf parts (model.policy_of resolved.policy) }
     ensures plan { IfOk result (λ made. made.0 ≡ config.plan_of parts) }
     ensures policy { IfOk result (λ made. IsPolicyOf parts made.1) }
-    ensures memory { IfErr result (λ e. e ≡ faults.Memory) }
 {
     let Resolved { objects, policy } = resolved;
     let plan = plan_of(alloc, parts, objects)?;
@@ -59,14 +52,29 @@ fn make(
 /// The plan and the policy of a configuration's text.
 ///
 /// # Errors
-/// The least code that is met, C1 to C22, at the first place in the text where it is; C0 where memory was refused, at any
-/// time.
-#[tactic(auto, unfolding(crate::specs::ConfigOf::config_of))]
-pub fn read_config(alloc: Global, text: &str) -> Result<(Plan, Policy), ConfigFault>
-    ensures { Reads result (config_of text.now) }
+/// All the faults of the first pass that has any, C1 to C22: the first of each table of the text that has one, in the order in
+/// which they are looked for; C0 where memory was refused, at any time.
+#[tactic(auto, unfolding(crate::specs::ConfigOf::config_of, crate::specs::ConfigOf::faults_of, config_rules::specs::Passes::judged))]
+pub fn read_or_refuse(alloc: Global, text: &str) -> Result<(Plan, Policy), Refusal>
+    ensures { ReadsOrRefuses result (config_of text.now) (faults_of text.now) }
 {
     configurations_are_read();
     let parts = read_tables(alloc, text)?;
     let resolved = judge_and_resolve(alloc, &parts)?;
-    make(alloc, parts, resolved)
+    Ok(make(alloc, parts, resolved)?)
+}
+
+/// The plan and the policy of a configuration's text.
+///
+/// # Errors
+/// The least code that is met, C1 to C22, at the first place in the text where it is; C0 where memory was refused, at any
+/// time.
+pub fn read_config(alloc: Global, text: &str) -> Result<(Plan, Policy), ConfigFault>
+    ensures { Reads result (config_of text.now) }
+{
+    texts_are_refused_by_the_first_fault();
+    match read_or_refuse(alloc, text) {
+        Ok(made) => Ok(made),
+        Err(refusal) => Err(refusal.into_first()),
+    }
 }

@@ -19,7 +19,7 @@ use Rattle.config_rules.specs.PlanOf.{part_of, cell_named, cells_named, script_n
 use Rattle.config_rules.specs.Read.{has_ranges}
 use Rattle.config_rules.specs.Passes as passes
 use Rattle.config_rules.specs.Walks.{each_new}
-use Rattle.config_rules.proofs.Passed.{then_ok, holds, not_faulty, each_ok, each_new_distinct, each_new_in, alternatives_in, EachReference, AsksNewKey}
+use Rattle.config_rules.proofs.Passed.{then_ok, holds, not_faulty, each_new_distinct, each_new_in, alternatives_in, EachReference, AsksNewKey, each_passed}
 use Rattle.config_rules.proofs.Named.{IsName, one_text, found_named}
 use Rattle.config_rules.proofs.Cells.{IsRight}
 use Rattle.config_rules.proofs.Fits.{IsFound, found_of}
@@ -167,7 +167,7 @@ own_alternatives c ok o i (DataText value) is = tt
 own_alternatives c ok o i (RegisterText value default scaler unit) is = tt
 own_alternatives c ok o i (ProfileText captures period entries sort_method) is =
     let names = subst (EachReference (λ t. IsName t.object) (λ r. IsName r.table)) is (ok.names.references o i) in
-    let at = each_ok _ _ _ _ ok.judged.alternatives o i in
+    let at = each_passed _ _ _ _ ok.judged.alternatives o i in
     let new = subst (λ b. passes.new_alternatives_in at.0 b ≡ Ok tt) is at.1 in
     distinct_keys targets (cells_named c) (alternatives_in captures) (λ xs ys j k. one_capture c xs ys (names xs j) (names ys k))
     (alternatives_new targets passes.same_captures same_captures _ captures new)
@@ -177,7 +177,7 @@ own_alternatives c ok o i (MonitorText monitored ths actions) is = tt
 own_alternatives c ok o i (ScheduleText script type times) is =
     let names = subst (EachReference (λ t. IsName t.object) (λ r. IsName r.table)) is (ok.names.references o i) in
     let found = subst (EachReference (λ t. is_some (object_named c t.object) ≡ true) (IsFound c)) is (found_of c ok o i) in
-    let at = each_ok _ _ _ _ ok.judged.alternatives o i in
+    let at = each_passed _ _ _ _ ok.judged.alternatives o i in
     let new = subst (λ b. passes.new_alternatives_in at.0 b ≡ Ok tt) is at.1 in
     distinct_keys (λ r. r) script_named (alternatives_in script) (λ r s j k. one_script r s (names r j) (names s k) (found_number c ok r (found r j)) (found_number c ok s (found s k)))
     (alternatives_new (λ r. r) passes.same_script same_script _ script new)

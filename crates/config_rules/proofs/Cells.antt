@@ -23,7 +23,7 @@ use Rattle.config_rules.specs.Names.{object_named, class_named, class_in, has_me
 use Rattle.config_rules.specs.Read.{is_body_of, IsRead}
 use Rattle.config_rules.specs.Passes as passes
 use Rattle.config_rules.specs.PlanOf.{part_of, object_of, plan_of, name_of, cell_named, cells_named, captures_of, script_named, scripts_of, times_value}
-use Rattle.config_rules.proofs.Passed.{then_ok, holds, each_ok, IsJudged}
+use Rattle.config_rules.proofs.Passed.{then_ok, holds, IsJudged, each_passed, limits_parts}
 use Rattle.config_rules.proofs.Named.{IsName, AreNames, AreNew, names_ok, names_new, finds, found_named, object_at_named}
 
 -- a settable cell of an object: its rule, and its start value
@@ -126,17 +126,15 @@ pub record IsRight (c : ConfigText) : Type 0 where
   pub menus : (o : ObjectText) → IsIn c.objects o → HasMenuOfKey c o.body
 
 pub right : (c : ConfigText) → IsRead c → IsJudged c → IsRight c
-unfolding passes.known_classes passes.within_limits
+unfolding passes.known_classes
 right c read judged = record {
   judged = judged;
   read = read;
   names = names_ok c judged.forms;
   new = names_new c judged.objects;
-  known = λ o i. let at = each_ok (λ place p. fault_if ClassUnknown (place ++ codes ".class") (not (is_known c.version p.class))) (codes "object") 0 c.objects judged.classes o i in
+  known = λ o i. let at = each_passed (λ place p. fault_if ClassUnknown (place ++ codes ".class") (not (is_known c.version p.class))) (codes "object") 0 c.objects judged.classes o i in
       holds ClassUnknown (at.0 ++ codes ".class") (is_known c.version o.class) at.1;
-  menus = λ o i. let clients = then_ok (passes.at_most limits.CLIENTS (codes "client") c.clients) _ tt judged.limits in
-      let objects = then_ok (passes.at_most limits.OBJECTS (codes "object") c.objects) _ tt clients.2 in
-      let at = each_ok (λ place p. passes.limits_in place p.body) (codes "object") 0 c.objects objects.2 o i in
+  menus = λ o i. let at = each_passed (λ place p. passes.limits_in place p.body) (codes "object") 0 c.objects (limits_parts c judged.limits).2 o i in
       menus_there c at.0 o.body at.1;
 }
 

@@ -36,7 +36,7 @@ use Rattle.config_rules.specs.Values.{is_of_kind, kind_named, may_be_number}
 use Rattle.config_rules.specs.PlanOf.{part_of, object_of, plan_of, name_of, value_of, moment_of, or_else, thresholds_value, times_value, cell_named, captures_of, scripts_of, up_down_of}
 use Rattle.config_rules.specs.Passes as passes
 use Rattle.config_rules.proofs.Named.{IsName}
-use Rattle.config_rules.proofs.Passed.{then_ok, holds, not_faulty, each_ok, references_ok, EachReference}
+use Rattle.config_rules.proofs.Passed.{then_ok, holds, not_faulty, each_ok, references_ok, EachReference, each_passed, references_parts}
 use Rattle.config_rules.proofs.Clocks.{moment_there}
 use Rattle.config_rules.proofs.Cells.{IsRight, IsTarget, target_of}
 use Rattle.config_rules.proofs.Starts.{IsStart, values_at, of_body, data_start, register_start, rule_body, start_body}
@@ -50,9 +50,8 @@ IsFound c r = (place : Text) × (passes.known_script c place r ≡ Ok tt)
 
 -- whatever an object refers to was looked up
 pub found_of : (c : ConfigText) → IsRight c → (o : ObjectText) → IsIn c.objects o → EachReference (λ t. is_some (object_named c t.object) ≡ true) (IsFound c) o.body
-unfolding passes.known_references
 found_of c ok o i =
-    let at = each_ok _ _ _ _ (then_ok _ _ tt ok.judged.references).1 o i in
+    let at = each_passed _ _ _ _ (references_parts c ok.judged.references).0 o i in
     references_ok (λ t. is_some (object_named c t.object) ≡ true) (IsFound c) _ _ (λ place t h. holds _ _ _ h) (λ place r h. (place, h)) at.0 o.body at.1
 
 -- and is there: the objects of targets, and scripts

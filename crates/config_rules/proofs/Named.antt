@@ -23,8 +23,7 @@ use Rattle.value_text.specs.Texts.{name_in}
 use Rattle.config_rules.specs.Names.{object_named}
 use Rattle.config_rules.specs.PlanOf.{name_of, no_name, or_else, object_of, plan_of}
 use Rattle.config_rules.specs.Passes as passes
-use Rattle.config_rules.specs.Walks.{each}
-use Rattle.config_rules.proofs.Passed.{then_ok, holds, not_faulty, each_ok, each_new_distinct, each_new_in, references_ok, EachReference, AsksNewKey}
+use Rattle.config_rules.proofs.Passed.{then_ok, holds, not_faulty, each_new_distinct, each_new_in, references_ok, EachReference, AsksNewKey, each_passed, each_new_faultless, forms_parts}
 
 -- the text is a logical name
 abbrev pub IsName : Text → Type 0
@@ -108,21 +107,19 @@ pub record AreNames (c : ConfigText) : Type 0 where
 is_name_at : (at text : Text) → passes.logical_form at text ≡ Ok tt → IsName text
 is_name_at at text h = named text (holds _ _ _ h)
 
-pub names_ok : (c : ConfigText) → passes.forms c ≡ Ok tt → AreNames c
-unfolding passes.forms passes.object_forms passes.right_forms
+pub names_ok : (c : ConfigText) → passes.forms c ≡ [] → AreNames c
+unfolding passes.object_forms passes.right_forms
 names_ok c h =
-    let clients = then_ok (each (λ at client. passes.client_form c.version (at ++ codes ".name") client.name) (codes "client") c.clients) _ tt h in
-    let objects = then_ok (each passes.object_forms (codes "object") c.objects) _ tt clients.2 in
-    let rights = then_ok (each (passes.right_forms c.version) (codes "right") c.rights) _ tt objects.2 in
+    let all = forms_parts c h in
     let parts : (o : ObjectText) → IsIn c.objects o → IsName o.name × EachReference (λ t. IsName t.object) (λ r. IsName r.table) o.body = λ o i.
-    let at = each_ok _ _ _ _ objects.1 o i in
+    let at = each_passed _ _ _ _ all.1 o i in
     let both = then_ok (passes.logical_form _ o.name) _ tt at.1 in
     (is_name_at _ o.name both.1, references_ok _ _ _ _ (λ place t. is_name_at _ t.object) (λ place r. is_name_at _ r.table) at.0 o.body both.2) in
     record {
       objects = λ o i. (parts o i).0;
       references = λ o i. (parts o i).1;
-      rights = λ r i. is_name_at _ r.object (then_ok (passes.client_form c.version _ r.client) _ tt (each_ok _ _ _ _ rights.1 r i).1).2;
-      clients = λ client i. holds _ _ _ (each_ok _ _ _ _ clients.1 client i).1;
+      rights = λ r i. is_name_at _ r.object (then_ok (passes.client_form c.version _ r.client) _ tt (each_passed _ _ _ _ all.2 r i).1).2;
+      clients = λ client i. holds _ _ _ (each_passed _ _ _ _ all.0 client i).1;
     }
 
 -- each object has a name of its own, as a text
@@ -130,9 +127,9 @@ abbrev pub AreNew : ConfigText → Type 0
 AreNew c = AreDistinct (map (λ o. o.name) c.objects)
 
 -- no two objects have one name, and none has that of the current association
-pub names_new : (c : ConfigText) → passes.new_objects c ≡ Ok tt → AreNew c
+pub names_new : (c : ConfigText) → passes.new_objects c ≡ [] → AreNew c
 unfolding passes.new_objects
-names_new c h = each_new_distinct (λ o. o.name) passes.new_object other (codes "object") c.objects h
+names_new c h = each_new_distinct (λ o. o.name) passes.new_object other (codes "object") c.objects (each_new_faultless _ _ _ h)
   where
     other : AsksNewKey (λ o. o.name) passes.new_object
     other earlier at o ok y i e =
@@ -140,9 +137,9 @@ names_new c h = each_new_distinct (λ o. o.name) passes.new_object other (codes 
         absurd (false≢true (sym (none_in (λ z. bytes_eq z.name o.name) earlier y none i) ∙ (bytes_eq-Decides y.name o.name).1 e))
 
 -- no two clients have one name
-pub client_names_new : (c : ConfigText) → passes.new_clients c ≡ Ok tt → AreDistinct (map (λ client. client.name) c.clients)
+pub client_names_new : (c : ConfigText) → passes.new_clients c ≡ [] → AreDistinct (map (λ client. client.name) c.clients)
 unfolding passes.new_clients passes.new_client
-client_names_new c h = each_new_distinct (λ client. client.name) passes.new_client other (codes "client") c.clients h
+client_names_new c h = each_new_distinct (λ client. client.name) passes.new_client other (codes "client") c.clients (each_new_faultless _ _ _ h)
   where
     other : AsksNewKey (λ client. client.name) passes.new_client
     other earlier at client ok y i e =
@@ -151,9 +148,9 @@ client_names_new c h = each_new_distinct (λ client. client.name) passes.new_cli
         absurd (false≢true (sym (none_in (λ z. bytes_eq z.name client.name) earlier y none i) ∙ (bytes_eq-Decides y.name client.name).1 e))
 
 -- and no two have one service access point
-pub saps_new : (c : ConfigText) → passes.new_clients c ≡ Ok tt → AreDistinct (map (λ client. client.sap) c.clients)
+pub saps_new : (c : ConfigText) → passes.new_clients c ≡ [] → AreDistinct (map (λ client. client.sap) c.clients)
 unfolding passes.new_clients passes.new_client
-saps_new c h = each_new_distinct (λ client. client.sap) passes.new_client other (codes "client") c.clients h
+saps_new c h = each_new_distinct (λ client. client.sap) passes.new_client other (codes "client") c.clients (each_new_faultless _ _ _ h)
   where
     other : AsksNewKey (λ client. client.sap) passes.new_client
     other earlier at client ok y i e =
@@ -169,10 +166,10 @@ association_text : IsName (codes "0.0.40.0.0.255")
 unfolding name_at
 association_text = (0 ∷ 0 ∷ 40 ∷ 0 ∷ 0 ∷ 255 ∷ [], refl)
 
-pub names_apart : (c : ConfigText) → AreNames c → passes.new_objects c ≡ Ok tt → (o : ObjectText) → IsIn c.objects o → same_name (name_of o.name) association_name ≡ false
+pub names_apart : (c : ConfigText) → AreNames c → passes.new_objects c ≡ [] → (o : ObjectText) → IsIn c.objects o → same_name (name_of o.name) association_name ≡ false
 unfolding passes.new_objects
 names_apart c names h o i =
-    let r = each_new_in passes.new_object (codes "object") c.objects h o i in
+    let r = each_new_in passes.new_object (codes "object") c.objects (each_new_faultless _ _ _ h) o i in
     let apart = (or_parts (bytes_eq (codes "0.0.40.0.0.255") o.name) (list_any (λ z. bytes_eq z.name o.name) r.0) (not_faulty ObjectTwice (r.1 ++ codes ".name") _ r.2)).0 in
     false_from_ne_true (same_name (name_of o.name) association_name) (λ same.
     let e : codes "0.0.40.0.0.255" ≡ o.name = one_text (codes "0.0.40.0.0.255") o.name association_text (names.objects o i)

@@ -17,7 +17,7 @@ use Rattle.config_rules.specs.Values.{kind_in, kind_named, is_number, may_be_num
 use Rattle.config_rules.specs.PlanOf.{part_of, plan_of, value_of, script_of, cell_named}
 use Rattle.config_rules.specs.Read as texts
 use Rattle.config_rules.specs.Passes as passes
-use Rattle.config_rules.proofs.Passed.{then_ok, holds, not_faulty, each_ok}
+use Rattle.config_rules.proofs.Passed.{then_ok, holds, not_faulty, each_passed}
 use Rattle.config_rules.proofs.Cells.{IsRight, class_is}
 use Rattle.config_rules.proofs.Starts.{IsStart, of_body, register_start}
 use Rattle.config_rules.proofs.Fits.{monitor_source}
@@ -39,7 +39,7 @@ may_be false may h is = absurd (false≢true is)
 pub fed_of_class : (c : ConfigText) → IsRight c → (o : ObjectText) → IsIn c.objects o → o.fed ≡ true → may_be_fed (class_of (part_of c o.body)) ≡ true
 unfolding passes.fed_values
 fed_of_class c ok o i fed =
-    let at = each_ok _ _ _ _ ok.judged.inputs o i in
+    let at = each_passed _ _ _ _ ok.judged.inputs o i in
     subst (λ k. may_be_fed k ≡ true) (class_of_text c ok o i) (may_be o.fed (may_be_fed o.class) (not_faulty _ _ _ at.1) fed)
 
 -- Numbers

@@ -16,7 +16,7 @@ use Rattle.config_rules.specs.Passes.{is_clock, new_clock, judged}
 use Rattle.config_rules.specs.PlanOf.{object_of, plan_of}
 use Rattle.config_rules.specs.Read.{IsRead}
 use Rattle.config_rules.specs.Walks.{each_after, element_place}
-use Rattle.config_rules.proofs.Passed.{then_ok, not_faulty, each_ok, passed}
+use Rattle.config_rules.proofs.Passed.{then_ok, not_faulty, passed, each_passed, each_new_faultless}
 use Rattle.config_rules.proofs.Cells.{IsRight, right, class_is, only_place}
 
 -- Objects behind a clock
@@ -91,11 +91,11 @@ one_clock_at_most c read h = record {
   one = λ o p i j first second.
       let t = clock_text c ok o i first in
       let u = clock_text c ok p j second in
-      let same = one_clock (codes "object") [] c.objects ok.judged.clocks t.0 u.0 t.1 u.1 t.3 u.3 in
+      let same = one_clock (codes "object") [] c.objects (each_new_faultless new_clock _ _ ok.judged.clocks) t.0 u.0 t.1 u.1 t.3 u.3 in
       t.2 ∙ (ap (object_of c) same ∙ sym u.2);
   fed = λ o i class.
       let t = clock_text c ok o i class in
-      let at = each_ok _ _ _ _ ok.judged.inputs t.0 t.1 in
+      let at = each_passed _ _ _ _ ok.judged.inputs t.0 t.1 in
       ap (λ z. z.fed) t.2 ∙ not_both t.0.fed (subst (λ k. (t.0.fed && not (may_be_fed k)) ≡ false) (only_place 8 t.0.class t.3) (not_faulty _ _ _ at.1));
   since = λ version. none version (clock_object (plan_of c)) refl;
 }

@@ -1,18 +1,20 @@
 -- What a pass that found nothing says of each part.
 use Rattle.std.proofs.Common.{◌≡◌, ◌⊎◌, ℕ, ◌+◌, Bool, true, false, not, List, [], ◌∷◌, ◌++◌, map, length, refl, sym, ap, subst, ◌∙◌, inl, inr, Result, Ok, Err}
-use Rattle.std.specs.Prelude.{codes}
+use Rattle.std.specs.Prelude.{codes, ⊤}
 use Rattle.std.specs.List.{list_all}
 use Rattle.std.proofs.lemmas.Bool.{and_from, not-false}
 use Rattle.std.proofs.lemmas.List.{append_assoc, append-nil}
 use Rattle.meter_theory.specs.Lists.{IsIn, AreDistinct}
 use Rattle.meter_theory.proofs.Lists.{in_append_cases, in_map, from_map}
+use Rattle.meter_theory.specs.declared.limits.TheConstants as limits
 use Rattle.config_text.specs.declared.fault.Code.{Code}
-use Rattle.config_text.specs.Fault.{Fault, fault_if, ◌>>=◌}
+use Rattle.config_text.specs.Fault.{Fault, fault_if, fault_in, first_found, ◌>>=◌}
 use Rattle.config_text.specs.Parts.{Text, MenuText, ConfigText, TargetText, ScriptRefText, CaptureText, ActionText, ScriptText, UpDownText, BodyText, DataText, RegisterText, ProfileText, ClockText, ScriptTableText, MonitorText, ScheduleText, UnknownText}
-use Rattle.config_rules.specs.Walks.{Judge, each, each_from, each_after, each_new, each_action, each_capture, each_run, script_actions, both_scripts, references, element_place}
+use Rattle.config_text.proofs.FaultLists.{none_first}
+use Rattle.config_rules.specs.Walks.{Judge, each, each_from, each_after, each_new, each_fault, each_fault_from, each_fault_after, each_new_fault, each_action, each_capture, each_run, script_actions, both_scripts, references, element_place}
 use Rattle.config_rules.specs.Names.{menu_in}
 use Rattle.config_rules.specs.Passes as passes
-use Rattle.config_rules.specs.Passes.{judged}
+use Rattle.config_rules.specs.Passes.{found, judged}
 
 -- a chain that found nothing: neither did its first line, nor the others
 pub then_ok : {A B : Type 0} (r : Result A Fault) (f : A → Result B Fault) (y : B) → r >>= f ≡ Ok y → (x : A) × (r ≡ Ok x) × (f x ≡ Ok y)
@@ -37,6 +39,39 @@ each_ok judge name i (y ∷ ys) h x there =
       | inl e ↦ (element_place name i, subst (λ z. judge (element_place name i) z ≡ Ok tt) (sym e) r.1)
       | inr j ↦ each_ok judge name (i + 1) ys r.2 x j
     ]
+
+-- a judgement without a fault
+no_fault : (r : Result ⊤ Fault) → fault_in r ≡ [] → r ≡ Ok tt
+no_fault (Ok tt) h = refl
+no_fault (Err e) h = cc
+
+-- parts of a pass that found nothing: neither did the first, nor the others
+both_none : (xs ys : List Fault) → xs ++ ys ≡ [] → (xs ≡ []) × (ys ≡ [])
+both_none [] ys h = (refl, h)
+both_none (x ∷ xs) ys h = cc
+
+-- each element of a pass that found nothing was found right
+each_faultless : {A : Type 0} (judge : Judge A) (name : Text) (i : ℕ) (xs : List A) → each_fault_from judge name i xs ≡ [] → each_from judge name i xs ≡ Ok tt
+unfolding each_from each_fault_from
+each_faultless judge name i [] h = refl
+each_faultless judge name i (x ∷ xs) h =
+    let r = both_none (fault_in (judge (element_place name i) x)) (each_fault_from judge name (i + 1) xs) h in
+    rw (no_fault (judge (element_place name i) x) r.0) (each_faultless judge name (i + 1) xs r.1)
+
+pub each_passed : {A : Type 0} (judge : Judge A) (name : Text) (i : ℕ) (xs : List A) → each_fault_from judge name i xs ≡ [] →
+    (x : A) → IsIn xs x → (at : Text) × (judge at x ≡ Ok tt)
+each_passed judge name i xs h x there = each_ok judge name i xs (each_faultless judge name i xs h) x there
+
+after_faultless : {A : Type 0} (judge : List A → Judge A) (name : Text) (earlier xs : List A) → each_fault_after judge name earlier xs ≡ [] →
+    each_after judge name earlier xs ≡ Ok tt
+unfolding each_after each_fault_after
+after_faultless judge name earlier [] h = refl
+after_faultless judge name earlier (x ∷ xs) h =
+    let r = both_none (fault_in (judge earlier (element_place name (length earlier)) x)) (each_fault_after judge name (earlier ++ x ∷ []) xs) h in
+    rw (no_fault (judge earlier (element_place name (length earlier)) x) r.0) (after_faultless judge name (earlier ++ x ∷ []) xs r.1)
+
+pub each_new_faultless : {A : Type 0} (judge : List A → Judge A) (name : Text) (xs : List A) → each_new_fault judge name xs ≡ [] → each_new judge name xs ≡ Ok tt
+each_new_faultless judge name xs h = after_faultless judge name [] xs h
 
 -- each element passed the test whose failure is the fault
 pub each_holds : {A : Type 0} (code : Code) (test : A → Bool) (name : Text) (i : ℕ) (xs : List A) → each_from (λ at x. fault_if code at (not (test x))) name i xs ≡ Ok tt →
@@ -159,67 +194,128 @@ references_ok T S target script t r at (ScheduleText s type times) h = λ z i.
     let judged = each_run_ok script at s h z i in r judged.0 z judged.1
 references_ok T S target script t r at UnknownText h = tt
 
+-- The parts of the passes over several arrays
+
+pub forms_parts : (c : ConfigText) → passes.forms c ≡ [] →
+    (each_fault (λ at client. passes.client_form c.version (at ++ codes ".name") client.name) (codes "client") c.clients ≡ [])
+    × (each_fault passes.object_forms (codes "object") c.objects ≡ []) × (each_fault (passes.right_forms c.version) (codes "right") c.rights ≡ [])
+unfolding passes.forms
+forms_parts c h =
+    let clients = each_fault (λ at client. passes.client_form c.version (at ++ codes ".name") client.name) (codes "client") c.clients in
+    let objects = each_fault passes.object_forms (codes "object") c.objects in
+    let rights = each_fault (passes.right_forms c.version) (codes "right") c.rights in
+    let policy = fault_in (passes.both_sets (passes.client_form c.version) (codes "policy") c.policy) in
+    let labels = each_fault (passes.label_forms c.version) (codes "label") c.labels in
+    let names = both_none (clients ++ objects ++ rights) policy (both_none (clients ++ objects ++ rights ++ policy) labels h).0 in
+    let tables = both_none (clients ++ objects) rights names.0 in
+    let first = both_none clients objects tables.0 in
+    (first.0, first.1, tables.1)
+
+pub clients_part : (c : ConfigText) → passes.known_clients c ≡ [] → each_fault (λ at r. passes.known_client c (at ++ codes ".client") r.client) (codes "right") c.rights ≡ []
+unfolding passes.known_clients
+clients_part c h =
+    let rights = each_fault (λ at r. passes.known_client c (at ++ codes ".client") r.client) (codes "right") c.rights in
+    let policy = fault_in (passes.both_sets (passes.known_client c) (codes "policy") c.policy) in
+    let labels = each_fault (λ at l. passes.both_sets (passes.known_client c) at l.sets) (codes "label") c.labels in
+    (both_none rights policy (both_none (rights ++ policy) labels h).0).0
+
+pub references_parts : (c : ConfigText) → passes.known_references c ≡ [] →
+    (each_fault (λ at o. references (λ place t. passes.known_object c place t.object) (passes.known_script c) at o.body) (codes "object") c.objects ≡ [])
+    × (each_fault (λ at r. passes.known_object c at r.object) (codes "right") c.rights ≡ [])
+unfolding passes.known_references
+references_parts c h =
+    let objects = each_fault (λ at o. references (λ place t. passes.known_object c place t.object) (passes.known_script c) at o.body) (codes "object") c.objects in
+    let rights = each_fault (λ at r. passes.known_object c at r.object) (codes "right") c.rights in
+    let labels = each_fault (λ at l. passes.known_object c at l.target.object) (codes "label") c.labels in
+    both_none objects rights (both_none (objects ++ rights) labels h).0
+
+pub indexes_parts : (c : ConfigText) → passes.known_indexes c ≡ [] →
+    (each_fault (λ at o. passes.usable_indexes c at o.body) (codes "object") c.objects ≡ []) × (each_fault (passes.right_indexes c) (codes "right") c.rights ≡ [])
+unfolding passes.known_indexes
+indexes_parts c h = both_none (each_fault (λ at o. passes.usable_indexes c at o.body) (codes "object") c.objects) (each_fault (passes.right_indexes c) (codes "right") c.rights) h
+
+pub limits_parts : (c : ConfigText) → passes.within_limits c ≡ [] →
+    (passes.at_most limits.CLIENTS (codes "client") c.clients ≡ Ok tt) × (passes.at_most limits.OBJECTS (codes "object") c.objects ≡ Ok tt)
+    × (each_fault (λ at o. passes.limits_in at o.body) (codes "object") c.objects ≡ [])
+unfolding passes.within_limits
+limits_parts c h =
+    let clients = fault_in (passes.at_most limits.CLIENTS (codes "client") c.clients) in
+    let few = fault_in (passes.at_most limits.OBJECTS (codes "object") c.objects) in
+    let both = both_none (clients ++ few) (each_fault (λ at o. passes.limits_in at o.body) (codes "object") c.objects) h in
+    let arrays = both_none clients few both.0 in
+    (no_fault (passes.at_most limits.CLIENTS (codes "client") c.clients) arrays.0, no_fault (passes.at_most limits.OBJECTS (codes "object") c.objects) arrays.1, both.1)
+
 -- What every pass found.
 pub record IsJudged (c : ConfigText) : Type 0 where
-  pub forms : passes.forms c ≡ Ok tt
-  pub objects : passes.new_objects c ≡ Ok tt
-  pub classes : passes.known_classes c ≡ Ok tt
-  pub clients : passes.known_clients c ≡ Ok tt
-  pub access : passes.new_clients c ≡ Ok tt
-  pub references : passes.known_references c ≡ Ok tt
-  pub indexes : passes.known_indexes c ≡ Ok tt
-  pub values : passes.valid_values c ≡ Ok tt
-  pub rights : passes.settable_rights c ≡ Ok tt
-  pub counts : passes.equal_counts c ≡ Ok tt
-  pub scripts : passes.new_scripts c ≡ Ok tt
-  pub executes : passes.no_executes c ≡ Ok tt
-  pub limits : passes.within_limits c ≡ Ok tt
-  pub labels : passes.new_labels c ≡ Ok tt
-  pub inputs : passes.fed_values c ≡ Ok tt
-  pub times : passes.valid_times c ≡ Ok tt
-  pub sorting : passes.valid_sorting c ≡ Ok tt
-  pub clocks : passes.new_clocks c ≡ Ok tt
-  pub alternatives : passes.new_alternatives c ≡ Ok tt
+  pub forms : passes.forms c ≡ []
+  pub objects : passes.new_objects c ≡ []
+  pub classes : passes.known_classes c ≡ []
+  pub clients : passes.known_clients c ≡ []
+  pub access : passes.new_clients c ≡ []
+  pub references : passes.known_references c ≡ []
+  pub indexes : passes.known_indexes c ≡ []
+  pub values : passes.valid_values c ≡ []
+  pub rights : passes.settable_rights c ≡ []
+  pub counts : passes.equal_counts c ≡ []
+  pub scripts : passes.new_scripts c ≡ []
+  pub executes : passes.no_executes c ≡ []
+  pub limits : passes.within_limits c ≡ []
+  pub labels : passes.new_labels c ≡ []
+  pub inputs : passes.fed_values c ≡ []
+  pub times : passes.valid_times c ≡ []
+  pub sorting : passes.valid_sorting c ≡ []
+  pub clocks : passes.new_clocks c ≡ []
+  pub alternatives : passes.new_alternatives c ≡ []
+
+-- no pass before the first that has faults, and so none at all
+none_found : (faults : List Fault) (passes : List (List Fault)) → first_found (faults ∷ passes) ≡ [] → (faults ≡ []) × (first_found passes ≡ [])
+none_found [] passes h = (refl, h)
+none_found (fault ∷ faults) passes h = cc
+
+all_passed : (c : ConfigText) → found c ≡ [] → IsJudged c
+unfolding found
+all_passed c h =
+    let a = none_found _ _ h in
+    let b = none_found _ _ a.1 in
+    let d = none_found _ _ b.1 in
+    let e = none_found _ _ d.1 in
+    let f = none_found _ _ e.1 in
+    let g = none_found _ _ f.1 in
+    let i = none_found _ _ g.1 in
+    let j = none_found _ _ i.1 in
+    let k = none_found _ _ j.1 in
+    let l = none_found _ _ k.1 in
+    let m = none_found _ _ l.1 in
+    let n = none_found _ _ m.1 in
+    let o = none_found _ _ n.1 in
+    let p = none_found _ _ o.1 in
+    let q = none_found _ _ p.1 in
+    let r = none_found _ _ q.1 in
+    let s = none_found _ _ r.1 in
+    let t = none_found _ _ s.1 in
+    let u = none_found _ _ t.1 in
+    record {
+      forms = a.0;
+      objects = b.0;
+      classes = d.0;
+      clients = e.0;
+      access = f.0;
+      references = g.0;
+      indexes = i.0;
+      values = j.0;
+      rights = k.0;
+      counts = l.0;
+      scripts = m.0;
+      executes = n.0;
+      limits = o.0;
+      labels = p.0;
+      inputs = q.0;
+      times = r.0;
+      sorting = s.0;
+      clocks = t.0;
+      alternatives = u.0;
+    }
 
 pub passed : (c : ConfigText) → judged c ≡ Ok tt → IsJudged c
 unfolding judged
-passed c h =
-    let a = then_ok _ _ tt h in
-    let b = then_ok _ _ tt a.2 in
-    let d = then_ok _ _ tt b.2 in
-    let e = then_ok _ _ tt d.2 in
-    let f = then_ok _ _ tt e.2 in
-    let g = then_ok _ _ tt f.2 in
-    let i = then_ok _ _ tt g.2 in
-    let j = then_ok _ _ tt i.2 in
-    let k = then_ok _ _ tt j.2 in
-    let l = then_ok _ _ tt k.2 in
-    let m = then_ok _ _ tt l.2 in
-    let n = then_ok _ _ tt m.2 in
-    let o = then_ok _ _ tt n.2 in
-    let p = then_ok _ _ tt o.2 in
-    let q = then_ok _ _ tt p.2 in
-    let r = then_ok _ _ tt q.2 in
-    let s = then_ok _ _ tt r.2 in
-    let t = then_ok _ _ tt s.2 in
-    record {
-      forms = a.1;
-      objects = b.1;
-      classes = d.1;
-      clients = e.1;
-      access = f.1;
-      references = g.1;
-      indexes = i.1;
-      values = j.1;
-      rights = k.1;
-      counts = l.1;
-      scripts = m.1;
-      executes = n.1;
-      limits = o.1;
-      labels = p.1;
-      inputs = q.1;
-      times = r.1;
-      sorting = s.1;
-      clocks = t.1;
-      alternatives = t.2;
-    }
+passed c h = all_passed c (none_first (found c) h)

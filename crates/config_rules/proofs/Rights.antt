@@ -17,8 +17,8 @@ use Rattle.config_rules.specs.Names.{class_named, passes_or_chosen}
 use Rattle.config_rules.specs.PlanOf.{part_of, plan_of, name_of, or_else, right_of, client_of, client_place}
 use Rattle.config_rules.specs.Passes as passes
 use Rattle.config_rules.specs.Passes.{judged}
-use Rattle.config_rules.specs.Walks.{each, references}
-use Rattle.config_rules.proofs.Passed.{then_ok, holds, each_ok, each_holds}
+use Rattle.config_rules.specs.Walks.{each}
+use Rattle.config_rules.proofs.Passed.{then_ok, holds, each_holds, each_passed, clients_part, references_parts, indexes_parts}
 use Rattle.config_rules.proofs.Cells.{IsRight, IsTarget, target_of, settable_cell}
 use Rattle.config_rules.proofs.Indexes.{implied, attributes_of, methods_of}
 
@@ -36,27 +36,23 @@ place_below name (x ∷ xs) i h = at (λ rest. place_below name xs (i + 1) rest)
         (r.0, r.1, omega (arith, r.2))
 
 known_right : (c : ConfigText) → IsRight c → (r : RightText) → IsIn c.rights r → client_place c r.client < length c.clients
-unfolding passes.known_clients
 known_right c ok r i =
-    let at = each_ok _ _ _ _ (then_ok _ _ tt ok.judged.clients).1 r i in
+    let at = each_passed _ _ _ _ (clients_part c ok.judged.clients) r i in
     let place = place_below r.client c.clients 0 (holds _ _ _ at.1) in
     subst (λ k. or_else 0 k < length c.clients) (sym place.1) (omega (arith, place.2))
 
 -- a right is on an object of the configuration
 object_of_right : (c : ConfigText) → IsRight c → (r : RightText) → IsIn c.rights r → (o : ObjectText) × IsTarget c r.object o
-unfolding passes.known_references
 object_of_right c ok r i =
-    let objects = then_ok (each (λ at o. references (λ at t. passes.known_object c at t.object) (passes.known_script c) at o.body) (codes "object") c.objects) _ tt ok.judged.references in
-    let at = each_ok (λ at z. passes.known_object c at z.object) _ _ _ (then_ok _ _ tt objects.2).1 r i in
+    let at = each_passed (λ at z. passes.known_object c at z.object) _ _ _ (references_parts c ok.judged.references).1 r i in
     target_of c ok r.object (ok.names.rights r i) (holds _ _ _ at.1)
 
 -- a right is on an object of the plan, and on what this has
 pub right_is : (c : ConfigText) → IsRight c → (r : RightText) → IsIn c.rights r → is_right (plan_of c) (right_of c r) ≡ true
-unfolding passes.known_indexes passes.right_indexes
+unfolding passes.right_indexes
 right_is c ok r i =
     let o = object_of_right c ok r i in
-    let usable = then_ok _ (λ _. each (passes.right_indexes c) (codes "right") c.rights) tt ok.judged.indexes in
-    let judged = each_ok (passes.right_indexes c) _ _ _ usable.2 r i in
+    let judged = each_passed (passes.right_indexes c) _ _ _ (indexes_parts c ok.judged.indexes).1 r i in
     let gets = then_ok _ _ tt judged.1 in
     let sets = then_ok _ _ tt gets.2 in
     and_from (nat_lt (client_place c r.client) (length (map client_of c.clients))) _
@@ -77,7 +73,7 @@ pub right_sets : (c : ConfigText) → IsRight c → (r : RightText) → IsIn c.r
 unfolding passes.settable_rights
 right_sets c ok r i =
     let o = object_of_right c ok r i in
-    let judged = each_ok (λ at z. each (λ at index. fault_if code.NotSettable at (not (passes_or_chosen c is_settable z.object index))) (at ++ codes ".set") z.sets) _ _ _ ok.judged.rights r i in
+    let judged = each_passed (λ at z. each (λ at index. fault_if code.NotSettable at (not (passes_or_chosen c is_settable z.object index))) (at ++ codes ".set") z.sets) _ _ _ ok.judged.rights r i in
     subst (λ found. some_passes (λ p. list_all (λ index. is_some (rule_of (plan_of c) (cell (class_of p.part) (name_of r.object) index))) r.sets) found ≡ true) (sym o.1.planned)
     (implied (passes_or_chosen c is_settable r.object) (λ index. is_some (rule_of (plan_of c) (cell (class_of (part_of c o.0.body)) (name_of r.object) index)))
     (settable o.0 o.1) r.sets (each_holds code.NotSettable (passes_or_chosen c is_settable r.object) _ 0 r.sets judged.1))

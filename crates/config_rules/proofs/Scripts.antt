@@ -18,7 +18,7 @@ use Rattle.config_rules.specs.Names.{object_named, class_named, class_in, script
 use Rattle.config_rules.specs.PlanOf.{part_of, plan_of, script_of, script_named, script_number}
 use Rattle.config_rules.specs.Passes as passes
 use Rattle.config_rules.specs.Walks.{each_new}
-use Rattle.config_rules.proofs.Passed.{then_ok, holds, not_faulty, each_ok, each_new_distinct, each_new_in, AsksNewKey}
+use Rattle.config_rules.proofs.Passed.{then_ok, holds, not_faulty, each_new_distinct, each_new_in, AsksNewKey, each_passed}
 use Rattle.config_rules.proofs.Named.{IsName}
 use Rattle.config_rules.proofs.Cells.{IsRight, target_of, only_place}
 
@@ -93,6 +93,6 @@ own_numbers at scripts h = (not_null, each_new_distinct (λ s. s.id) passes.new_
 pub script_numbers : (c : ConfigText) → IsRight c → (o : ObjectText) → IsIn c.objects o → AreDistinct (0 ∷ map (λ s. s.id) (scripts_of (part_of c o.body)))
 unfolding passes.new_scripts
 script_numbers c ok o i =
-    let r = each_ok _ _ _ _ ok.judged.scripts o i in
+    let r = each_passed _ _ _ _ ok.judged.scripts o i in
     let same = ap (map (λ s. s.id)) (scripts_are c o.body) ∙ same_numbers c (scripts_in o.body) in
     subst (λ ids. AreDistinct (0 ∷ ids)) (sym same) (own_numbers r.0 (scripts_in o.body) r.1)

@@ -1,6 +1,6 @@
 -- The plan of a configuration in which the passes find nothing is sound.
 use Rattle.std.proofs.Common.{◌≡◌, ◌⊎◌, ℕ, ◌==◌, Bool, true, false, not, List, [], ◌∷◌, map, length, refl, sym, ap, subst, ◌∙◌, inl, inr, Option, Some, None, is_some, eq-eqb, nat_lt, nat_le, leb-true, Ok}
-use Rattle.std.specs.Prelude.{option_and_then, codes, ◌&&◌, ◌||◌}
+use Rattle.std.specs.Prelude.{option_and_then, ◌&&◌, ◌||◌}
 use Rattle.std.proofs.lemmas.Bool.{or_cases, and_parts, and_from, false≢true}
 use Rattle.std.specs.List.{list_all}
 use Rattle.cosem_data.specs.Tree.{Tree, null_data}
@@ -34,7 +34,7 @@ use Rattle.config_rules.specs.PlanOf.{cells_named, captures_of, part_of, object_
 use Rattle.config_rules.specs.Read.{IsRead, is_body_of, may_have}
 use Rattle.config_rules.specs.Passes as passes
 use Rattle.config_rules.specs.Passes.{judged}
-use Rattle.config_rules.proofs.Passed.{then_ok, holds, each_ok, each_capture_ok, alternatives_in, EachReference, passed}
+use Rattle.config_rules.proofs.Passed.{then_ok, holds, each_ok, each_capture_ok, alternatives_in, EachReference, passed, limits_parts}
 use Rattle.config_rules.proofs.Named.{IsName, client_names_new, saps_new, names_apart, plan_names}
 use Rattle.config_rules.proofs.Cells.{IsRight, IsTarget, right, settable_cell, only_place}
 use Rattle.config_rules.proofs.Clocks.{moment_there}
@@ -237,10 +237,9 @@ part_sizes c ok o i UnknownText is = refl
 
 -- the configuration's own limits
 few : (c : ConfigText) → IsRight c → (nat_le (length c.clients) limits.CLIENTS ≡ true) × (nat_le (length c.objects) limits.OBJECTS ≡ true)
-unfolding passes.within_limits
 few c ok =
-    let clients = then_ok (passes.at_most limits.CLIENTS (codes "client") c.clients) _ tt ok.judged.limits in
-    (at_most_ok _ _ c.clients clients.1, at_most_ok _ _ c.objects (then_ok (passes.at_most limits.OBJECTS (codes "object") c.objects) _ tt clients.2).1)
+    let parts = limits_parts c ok.judged.limits in
+    (at_most_ok _ _ c.clients parts.0, at_most_ok _ _ c.objects parts.1)
 
 -- a plan's clients have the names of the configuration's, and their service access points
 names_of_clients : (clients : List ClientText) → map (λ client. client.name) (map client_of clients) ≡ map (λ client. client.name) clients

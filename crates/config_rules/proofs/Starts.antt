@@ -1,6 +1,6 @@
 -- Each settable cell starts with a value that meets its rule.
 use Rattle.std.proofs.Common.{◌≡◌, ℕ, ◌==◌, true, false, cond, List, not, [], ◌∷◌, ℤ, refl, sym, ap, subst, ◌∙◌, inl, inr, Option, Some, None, is_some, eq-eqb, Ok}
-use Rattle.std.specs.Prelude.{option_map, option_and_then, codes, ◌&&◌}
+use Rattle.std.specs.Prelude.{option_map, option_and_then, ◌&&◌}
 use Rattle.std.proofs.lemmas.Bool.{and_from, cond-true}
 use Rattle.cosem_data.specs.Tree.{Tree, null_data}
 use Rattle.cosem_data.specs.Kinds.{kind_of, same_kind}
@@ -10,7 +10,6 @@ use Rattle.meter_theory.specs.Lists.{IsIn}
 use Rattle.meter_theory.specs.State.{value}
 use Rattle.meter_theory.specs.Value.{OfKind, meets, is_within_limits}
 use Rattle.meter_theory.specs.Plan.{start_values, inner_start, clock_object, start_of, rule_in, rule_of, class_of, object_at}
-use Rattle.meter_theory.specs.declared.limits.TheConstants as limits
 use Rattle.meter_theory.proofs.Lists.{in_map, one_of_key}
 use Rattle.config_text.specs.declared.fault.Code.TheVariants.{Value}
 use Rattle.config_text.specs.Fault.{fault_if}
@@ -21,7 +20,7 @@ use Rattle.config_rules.specs.PlanOf.{part_of, object_of, plan_of, name_of, valu
 use Rattle.config_rules.specs.Passes as passes
 use Rattle.config_rules.specs.Names.{scripts_in}
 use Rattle.config_rules.specs.Walks.{each_action}
-use Rattle.config_rules.proofs.Passed.{then_ok, holds, each_ok}
+use Rattle.config_rules.proofs.Passed.{then_ok, holds, each_passed, indexes_parts, limits_parts}
 use Rattle.config_rules.proofs.Named.{plan_names}
 use Rattle.config_rules.proofs.Cells.{IsRight, target_itself}
 use Rattle.meter_theory.proofs.Start.{started}
@@ -88,17 +87,15 @@ pub record IsPassed (c : ConfigText) (body : BodyText) : Type 0 where
   pub times : (at : Text) × (passes.valid_times_in at body ≡ Ok tt)
 
 pub of_body : (c : ConfigText) → IsRight c → (o : ObjectText) → IsIn c.objects o → (body : BodyText) → o.body ≡ body → IsPassed c body
-unfolding passes.known_indexes passes.valid_values passes.equal_counts passes.no_executes passes.within_limits passes.valid_times
+unfolding passes.valid_values passes.equal_counts passes.no_executes passes.valid_times
 of_body c ok o i body is =
-    let clients = then_ok (passes.at_most limits.CLIENTS (codes "client") c.clients) _ tt ok.judged.limits in
-    let objects = then_ok (passes.at_most limits.OBJECTS (codes "object") c.objects) _ tt clients.2 in
     subst (IsPassed c) is (record {
-      indexes = each_ok _ _ _ _ (then_ok _ _ tt ok.judged.indexes).1 o i;
-      values = each_ok _ _ _ _ ok.judged.values o i;
-      counts = each_ok _ _ _ _ ok.judged.counts o i;
-      executes = each_ok _ _ _ _ ok.judged.executes o i;
-      limits = each_ok _ _ _ _ objects.2 o i;
-      times = each_ok _ _ _ _ ok.judged.times o i;
+      indexes = each_passed _ _ _ _ (indexes_parts c ok.judged.indexes).0 o i;
+      values = each_passed _ _ _ _ ok.judged.values o i;
+      counts = each_passed _ _ _ _ ok.judged.counts o i;
+      executes = each_passed _ _ _ _ ok.judged.executes o i;
+      limits = each_passed _ _ _ _ (limits_parts c ok.judged.limits).2 o i;
+      times = each_passed _ _ _ _ ok.judged.times o i;
     })
 
 -- a text whose value is there, and within the limits

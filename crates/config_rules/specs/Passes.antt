@@ -1,5 +1,6 @@
 -- What can be wrong with what the tables of a configuration say (own profile): one pass a code, each over the whole
--- configuration in the order of its text, and run only where the passes before it found nothing.
+-- configuration in the order of its text, and run only where the passes before it found nothing. A pass finds the first fault
+-- of each table of the text: of each client, object, right and label, of the policy, and of an array of tables as a whole.
 use Rattle.std.specs.Prelude.{ℕ, ℤ, pos, ◌==◌, nat_lt, int_le, Bool, true, false, not, ◌&&◌, ◌||◌, List, [], ◌∷◌, ◌++◌, length, codes, Option, Some, None, is_some, option_and_then, Result, Ok, ⊤}
 use Rattle.std.specs.List.{list_any}
 use Rattle.std.specs.Str.{bytes_eq}
@@ -11,7 +12,7 @@ use Rattle.meter_theory.specs.Value.{is_within_limits, elements}
 use Rattle.meter_theory.specs.Times.{are_execution_times}
 use Rattle.meter_theory.specs.declared.limits.TheConstants as limits
 use Rattle.civil_moment.specs.MomentText.{moment_in}
-use Rattle.config_text.specs.Fault.{Fault, fault_if, ◌>>=◌}
+use Rattle.config_text.specs.Fault.{Fault, fault_if, fault_in, first_found, first_of, ◌>>=◌}
 use Rattle.config_text.specs.declared.fault.Code.TheVariants.{Form, ObjectTwice, ClassUnknown, ClientUnknown, ClientTwice, Reference, Index, Value, NotSettable, Counts, ScriptId, Execute, Limit, Label, Fed, Times, Sorting, SecondClock, AlternativeTwice}
 use Rattle.config_text.specs.declared.service.Service.{Service}
 use Rattle.config_text.specs.declared.service.Service.TheVariants.{Write, Invoke}
@@ -20,7 +21,7 @@ use Rattle.config_rules.specs.Names.{object_named, has_client, class_named, scri
 use Rattle.value_text.specs.Texts.{name_in, value_in}
 use Rattle.config_rules.specs.Values.{kind_in, kind_named, is_of_kind, is_number, may_be_number, is_time_text}
 use Rattle.config_rules.specs.PlanOf.{thresholds_value, times_value}
-use Rattle.config_rules.specs.Walks.{Judge, each, each_new, each_action, each_capture, references}
+use Rattle.config_rules.specs.Walks.{Judge, each, each_new, each_fault, each_new_fault, each_action, each_capture, references}
 use Rattle.config_rules.specs.Written.{may_stand_at}
 
 -- the clients and the names of sets of clients
@@ -53,13 +54,13 @@ label_forms version at l = do
   object ← logical_form (at ++ codes ".object") l.target.object
   both_sets (client_form version) at l.sets
 
-unfoldable pub forms : ConfigText → Result ⊤ Fault
-forms c = do
-  clients ← each (λ at client. client_form c.version (at ++ codes ".name") client.name) (codes "client") c.clients
-  objects ← each object_forms (codes "object") c.objects
-  rights ← each (right_forms c.version) (codes "right") c.rights
-  policy ← both_sets (client_form c.version) (codes "policy") c.policy
-  each (label_forms c.version) (codes "label") c.labels
+unfoldable pub forms : ConfigText → List Fault
+forms c =
+    each_fault (λ at client. client_form c.version (at ++ codes ".name") client.name) (codes "client") c.clients
+    ++ each_fault object_forms (codes "object") c.objects
+    ++ each_fault (right_forms c.version) (codes "right") c.rights
+    ++ fault_in (both_sets (client_form c.version) (codes "policy") c.policy)
+    ++ each_fault (label_forms c.version) (codes "label") c.labels
 
 -- C5 A name of an object that an earlier one has, or the current association
 
@@ -68,24 +69,24 @@ new_object earlier at o =
     fault_if ObjectTwice (at ++ codes ".name")
     (bytes_eq (codes "0.0.40.0.0.255") o.name || list_any (λ e. bytes_eq e.name o.name) earlier)
 
-unfoldable pub new_objects : ConfigText → Result ⊤ Fault
-new_objects c = each_new new_object (codes "object") c.objects
+unfoldable pub new_objects : ConfigText → List Fault
+new_objects c = each_new_fault new_object (codes "object") c.objects
 
 -- C6 An interface class that isn't known in the configuration's version
 
-unfoldable pub known_classes : ConfigText → Result ⊤ Fault
-known_classes c = each (λ at o. fault_if ClassUnknown (at ++ codes ".class") (not (is_known c.version o.class))) (codes "object") c.objects
+unfoldable pub known_classes : ConfigText → List Fault
+known_classes c = each_fault (λ at o. fault_if ClassUnknown (at ++ codes ".class") (not (is_known c.version o.class))) (codes "object") c.objects
 
 -- C7 A client that isn't there
 
 abbrev pub known_client : ConfigText → Judge Text
 known_client c at name = fault_if ClientUnknown at (not (has_client c name))
 
-unfoldable pub known_clients : ConfigText → Result ⊤ Fault
-known_clients c = do
-  rights ← each (λ at r. known_client c (at ++ codes ".client") r.client) (codes "right") c.rights
-  policy ← both_sets (known_client c) (codes "policy") c.policy
-  each (λ at l. both_sets (known_client c) at l.sets) (codes "label") c.labels
+unfoldable pub known_clients : ConfigText → List Fault
+known_clients c =
+    each_fault (λ at r. known_client c (at ++ codes ".client") r.client) (codes "right") c.rights
+    ++ fault_in (both_sets (known_client c) (codes "policy") c.policy)
+    ++ each_fault (λ at l. both_sets (known_client c) at l.sets) (codes "label") c.labels
 
 -- C8 A client's name or service access point that an earlier one has
 
@@ -94,8 +95,8 @@ new_client earlier at c = do
   name ← fault_if ClientTwice (at ++ codes ".name") (list_any (λ e. bytes_eq e.name c.name) earlier)
   fault_if ClientTwice (at ++ codes ".sap") (list_any (λ e. e.sap == c.sap) earlier)
 
-unfoldable pub new_clients : ConfigText → Result ⊤ Fault
-new_clients c = each_new new_client (codes "client") c.clients
+unfoldable pub new_clients : ConfigText → List Fault
+new_clients c = each_new_fault new_client (codes "client") c.clients
 
 -- C9 A reference to no object, to a table that is no script table, or to a script that isn't there; script 0 is in every table
 
@@ -115,11 +116,11 @@ known_script c at r = do
   table ← fault_if Reference (at ++ codes ".table") (not (is_of_class (class_named c r.table) classes.ScriptTable))
   fault_if Reference (at ++ codes ".script") (not (has_script (scripts_of (object_named c r.table)) r.script))
 
-unfoldable pub known_references : ConfigText → Result ⊤ Fault
-known_references c = do
-  objects ← each (λ at o. references (λ at t. known_object c at t.object) (known_script c) at o.body) (codes "object") c.objects
-  rights ← each (λ at r. known_object c at r.object) (codes "right") c.rights
-  each (λ at l. known_object c at l.target.object) (codes "label") c.labels
+unfoldable pub known_references : ConfigText → List Fault
+known_references c =
+    each_fault (λ at o. references (λ at t. known_object c at t.object) (known_script c) at o.body) (codes "object") c.objects
+    ++ each_fault (λ at r. known_object c at r.object) (codes "right") c.rights
+    ++ each_fault (λ at l. known_object c at l.target.object) (codes "label") c.labels
 
 -- C10 An index that the class doesn't have, or that isn't usable there
 
@@ -147,10 +148,10 @@ right_indexes c at r = do
   sets ← each (right_index has_attribute (class_named c r.object)) (at ++ codes ".set") r.sets
   each (right_index has_method (class_named c r.object)) (at ++ codes ".act") r.acts
 
-unfoldable pub known_indexes : ConfigText → Result ⊤ Fault
-known_indexes c = do
-  objects ← each (λ at o. usable_indexes c at o.body) (codes "object") c.objects
-  each (right_indexes c) (codes "right") c.rights
+unfoldable pub known_indexes : ConfigText → List Fault
+known_indexes c =
+    each_fault (λ at o. usable_indexes c at o.body) (codes "object") c.objects
+    ++ each_fault (right_indexes c) (codes "right") c.rights
 
 -- C11 A value that isn't hex, isn't one Data, or isn't of the kind, and a clock's time that is no moment
 
@@ -181,14 +182,14 @@ valid_values_in c at (ScheduleText script type times) =
     each (λ at text. fault_if Value at (not (is_time_text text))) (at ++ codes ".times") times
 valid_values_in c at _ = Ok tt
 
-unfoldable pub valid_values : ConfigText → Result ⊤ Fault
-valid_values c = each (λ at o. valid_values_in c at o.body) (codes "object") c.objects
+unfoldable pub valid_values : ConfigText → List Fault
+valid_values c = each_fault (λ at o. valid_values_in c at o.body) (codes "object") c.objects
 
 -- C12 A right to set what isn't a settable cell
 
-unfoldable pub settable_rights : ConfigText → Result ⊤ Fault
+unfoldable pub settable_rights : ConfigText → List Fault
 settable_rights c =
-    each (λ at r. each (λ at index. fault_if NotSettable at (not (passes_or_chosen c is_settable r.object index))) (at ++ codes ".set") r.sets)
+    each_fault (λ at r. each (λ at index. fault_if NotSettable at (not (passes_or_chosen c is_settable r.object index))) (at ++ codes ".set") r.sets)
     (codes "right") c.rights
 
 -- C13 Thresholds and actions that differ in number
@@ -198,16 +199,16 @@ equal_counts_in at (MonitorText monitored thresholds actions) =
     fault_if Counts (at ++ codes ".action") (not (length thresholds == length actions))
 equal_counts_in at _ = Ok tt
 
-unfoldable pub equal_counts : ConfigText → Result ⊤ Fault
-equal_counts c = each (λ at o. equal_counts_in at o.body) (codes "object") c.objects
+unfoldable pub equal_counts : ConfigText → List Fault
+equal_counts c = each_fault (λ at o. equal_counts_in at o.body) (codes "object") c.objects
 
 -- C14 A script with identifier 0, or with that of an earlier one of its table
 
 abbrev pub new_script : List ScriptText → Judge ScriptText
 new_script earlier at s = fault_if ScriptId (at ++ codes ".id") ((s.id == 0) || list_any (λ e. e.id == s.id) earlier)
 
-unfoldable pub new_scripts : ConfigText → Result ⊤ Fault
-new_scripts c = each (λ at o. each_new new_script (at ++ codes ".script") (scripts_in o.body)) (codes "object") c.objects
+unfoldable pub new_scripts : ConfigText → List Fault
+new_scripts c = each_fault (λ at o. each_new new_script (at ++ codes ".script") (scripts_in o.body)) (codes "object") c.objects
 
 -- C15 An action that executes a script table
 
@@ -221,8 +222,8 @@ executes c a = is_invoke a.service && is_of_class (class_named c a.target.object
 abbrev pub no_execute : ConfigText → Judge ActionText
 no_execute c at a = fault_if Execute (at ++ codes ".object") (executes c a)
 
-unfoldable pub no_executes : ConfigText → Result ⊤ Fault
-no_executes c = each (λ at o. each_action (no_execute c) at (scripts_in o.body)) (codes "object") c.objects
+unfoldable pub no_executes : ConfigText → List Fault
+no_executes c = each_fault (λ at o. each_action (no_execute c) at (scripts_in o.body)) (codes "object") c.objects
 
 -- C16 More than a limit allows
 
@@ -267,11 +268,11 @@ limits_in at (ScheduleText script type times) = do
   menu_size (at ++ codes ".script_menu") script.menu
 limits_in at _ = Ok tt
 
-unfoldable pub within_limits : ConfigText → Result ⊤ Fault
-within_limits c = do
-  clients ← at_most limits.CLIENTS (codes "client") c.clients
-  few ← at_most limits.OBJECTS (codes "object") c.objects
-  each (λ at o. limits_in at o.body) (codes "object") c.objects
+unfoldable pub within_limits : ConfigText → List Fault
+within_limits c =
+    fault_in (at_most limits.CLIENTS (codes "client") c.clients)
+    ++ fault_in (at_most limits.OBJECTS (codes "object") c.objects)
+    ++ each_fault (λ at o. limits_in at o.body) (codes "object") c.objects
 
 -- C17 A label on what is no cell, or a second one for a cell
 
@@ -282,14 +283,14 @@ abbrev pub new_label : ConfigText → List LabelText → Judge LabelText
 new_label c earlier at l =
     fault_if Label (at ++ codes ".index") (not (passes_or_chosen c is_cell l.target.object l.target.index) || list_any (λ e. same_target e.target l.target) earlier)
 
-unfoldable pub new_labels : ConfigText → Result ⊤ Fault
-new_labels c = each_new (new_label c) (codes "label") c.labels
+unfoldable pub new_labels : ConfigText → List Fault
+new_labels c = each_new_fault (new_label c) (codes "label") c.labels
 
 -- C18 An object is fed whose class has no value that can be
 
-unfoldable pub fed_values : ConfigText → Result ⊤ Fault
+unfoldable pub fed_values : ConfigText → List Fault
 fed_values c =
-    each (λ at o. fault_if Fed (at ++ codes ".fed") (o.fed && not (may_be_fed o.class))) (codes "object") c.objects
+    each_fault (λ at o. fault_if Fed (at ++ codes ".fed") (o.fed && not (may_be_fed o.class))) (codes "object") c.objects
 
 -- C19 Execution times that the type doesn't allow
 
@@ -298,8 +299,8 @@ valid_times_in at (ScheduleText script type times) =
     fault_if Times (at ++ codes ".times") (not (are_execution_times type (elements (times_value times))))
 valid_times_in at _ = Ok tt
 
-unfoldable pub valid_times : ConfigText → Result ⊤ Fault
-valid_times c = each (λ at o. valid_times_in at o.body) (codes "object") c.objects
+unfoldable pub valid_times : ConfigText → List Fault
+valid_times c = each_fault (λ at o. valid_times_in at o.body) (codes "object") c.objects
 
 -- C20 A sort method other than fifo, 1, or a part of an attribute captured
 
@@ -317,8 +318,8 @@ valid_sorting_in at (ProfileText captures period entries sort_method) = do
   each (each whole_attribute) (at ++ codes ".capture_menu") (menu_in captures)
 valid_sorting_in at _ = Ok tt
 
-unfoldable pub valid_sorting : ConfigText → Result ⊤ Fault
-valid_sorting c = each (λ at o. valid_sorting_in at o.body) (codes "object") c.objects
+unfoldable pub valid_sorting : ConfigText → List Fault
+valid_sorting c = each_fault (λ at o. valid_sorting_in at o.body) (codes "object") c.objects
 
 -- C21 A second clock
 
@@ -328,8 +329,8 @@ is_clock o = is_of_class o.class classes.Clock
 abbrev pub new_clock : List ObjectText → Judge ObjectText
 new_clock earlier at o = fault_if SecondClock (at ++ codes ".class") (is_clock o && list_any is_clock earlier)
 
-unfoldable pub new_clocks : ConfigText → Result ⊤ Fault
-new_clocks c = each_new new_clock (codes "object") c.objects
+unfoldable pub new_clocks : ConfigText → List Fault
+new_clocks c = each_new_fault new_clock (codes "object") c.objects
 
 -- C22 An alternative that is what is configured, or an earlier one
 
@@ -356,28 +357,36 @@ new_alternatives_in at (ScheduleText script type times) =
     each_new (new_alternative same_script script.start) (at ++ codes ".script_menu") (menu_in script)
 new_alternatives_in at _ = Ok tt
 
-unfoldable pub new_alternatives : ConfigText → Result ⊤ Fault
-new_alternatives c = each (λ at o. new_alternatives_in at o.body) (codes "object") c.objects
+unfoldable pub new_alternatives : ConfigText → List Fault
+new_alternatives c = each_fault (λ at o. new_alternatives_in at o.body) (codes "object") c.objects
 
--- The passes, one code after another.
+-- The faults of the first pass that has any, in the order of the codes.
+unfoldable pub found : ConfigText → List Fault
+found c =
+    first_found
+    (
+    forms c  -- C4
+    ∷ new_objects c  -- C5
+    ∷ known_classes c  -- C6
+    ∷ known_clients c  -- C7
+    ∷ new_clients c  -- C8
+    ∷ known_references c  -- C9
+    ∷ known_indexes c  -- C10
+    ∷ valid_values c  -- C11
+    ∷ settable_rights c  -- C12
+    ∷ equal_counts c  -- C13
+    ∷ new_scripts c  -- C14
+    ∷ no_executes c  -- C15
+    ∷ within_limits c  -- C16
+    ∷ new_labels c  -- C17
+    ∷ fed_values c  -- C18
+    ∷ valid_times c  -- C19
+    ∷ valid_sorting c  -- C20
+    ∷ new_clocks c  -- C21
+    ∷ new_alternatives c  -- C22
+    ∷ []
+    )
+
+-- The first of them: the first fault of the least code that is met.
 unfoldable pub judged : ConfigText → Result ⊤ Fault
-judged c = do
-  names ← forms c  -- C4
-  objects ← new_objects c  -- C5
-  classes ← known_classes c  -- C6
-  clients ← known_clients c  -- C7
-  access ← new_clients c  -- C8
-  references ← known_references c  -- C9
-  indexes ← known_indexes c  -- C10
-  values ← valid_values c  -- C11
-  rights ← settable_rights c  -- C12
-  counts ← equal_counts c  -- C13
-  scripts ← new_scripts c  -- C14
-  executes ← no_executes c  -- C15
-  sizes ← within_limits c  -- C16
-  labels ← new_labels c  -- C17
-  inputs ← fed_values c  -- C18
-  times ← valid_times c  -- C19
-  sorting ← valid_sorting c  -- C20
-  clocks ← new_clocks c  -- C21
-  new_alternatives c  -- C22
+judged c = first_of (found c)

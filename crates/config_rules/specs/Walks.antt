@@ -1,7 +1,7 @@
 -- Walks over the parts of a configuration, in the order of its text. A place is the path to a part, as `object[6].name`.
 use Rattle.std.specs.Prelude.{ℕ, ◌+◌, ◌++◌, List, [], ◌∷◌, length, codes, Result, Ok, ⊤}
 use Rattle.std.specs.Fmt.{decimal}
-use Rattle.config_text.specs.Fault.{Fault, ◌>>=◌}
+use Rattle.config_text.specs.Fault.{Fault, fault_in, ◌>>=◌}
 use Rattle.config_text.specs.Parts.{Text, MenuText, TargetText, ScriptRefText, CaptureText, ActionText, ScriptText, UpDownText, BodyText, ProfileText, ScriptTableText, MonitorText, ScheduleText}
 use Rattle.config_rules.specs.Names.{menu_in}
 
@@ -32,6 +32,23 @@ each_after judge name earlier (x ∷ xs) = do
 
 abbrev pub each_new : {A : Type 0} → (List A → Judge A) → Text → List A → Result ⊤ Fault
 each_new judge name xs = each_after judge name [] xs
+
+-- the first fault of each element of an array that has one, in turn
+unfoldable pub each_fault_from : {A : Type 0} → Judge A → Text → ℕ → List A → List Fault
+each_fault_from judge name i [] = []
+each_fault_from judge name i (x ∷ xs) = fault_in (judge (element_place name i) x) ++ each_fault_from judge name (i + 1) xs
+
+abbrev pub each_fault : {A : Type 0} → Judge A → Text → List A → List Fault
+each_fault judge name xs = each_fault_from judge name 0 xs
+
+-- of each element, beside those before it
+unfoldable pub each_fault_after : {A : Type 0} → (List A → Judge A) → Text → List A → List A → List Fault
+each_fault_after judge name earlier [] = []
+each_fault_after judge name earlier (x ∷ xs) =
+    fault_in (judge earlier (element_place name (length earlier)) x) ++ each_fault_after judge name (earlier ++ x ∷ []) xs
+
+abbrev pub each_new_fault : {A : Type 0} → (List A → Judge A) → Text → List A → List Fault
+each_new_fault judge name xs = each_fault_after judge name [] xs
 
 -- each action of each script
 abbrev pub script_actions : Judge ActionText → Judge ScriptText

@@ -1,2 +1,3 @@
 pub mod FaultLemmas
+pub mod FaultLists
 pub mod KeyLemmas

@@ -1,13 +1,13 @@
--- What the tables of a configuration text say, or their first fault: the passes C1 to C3, each over the whole text and only
--- where the passes before it found nothing.
-use Rattle.std.specs.Prelude.{ℕ, [], ◌∷◌, codes, unwrap_or, option_and_then, Result, Ok, ⊤}
+-- What the tables of a configuration text say, or their faults: the passes C1 to C3, each over the whole text and only where
+-- the passes before it found nothing. C2 and C3 find the first fault of each client, object, right and label, and of the policy.
+use Rattle.std.specs.Prelude.{ℕ, List, [], ◌∷◌, ◌++◌, codes, unwrap_or, option_and_then, Result, Ok, Err}
 use Rattle.toml.specs.Data.{Members, as_integer, get_member}
 use Rattle.toml.specs.Parse.{parse_document}
-use Rattle.config_text.specs.Fault.{Fault, found_or, ◌>>=◌}
+use Rattle.config_text.specs.Fault.{Fault, fault_in, first_found, first_of, found_or, ◌>>=◌}
 use Rattle.config_text.specs.Parts.{Text, ConfigText}
 use Rattle.config_text.specs.declared.fault.Code.TheVariants.{NotToml}
 use Rattle.config_text.specs.Keys.{needed, only}
-use Rattle.config_text.specs.Tables.{list_at, list_keys_at, optional_list_at, table_at, table_keys_at}
+use Rattle.config_text.specs.Tables.{list_at, list_faults_at, list_key_faults_at, optional_list_at, optional_list_faults_at, table_at, table_keys_at}
 use Rattle.config_text.specs.Values.{natural_at, natural_in}
 use Rattle.config_text.specs.Clients.{client_keys, client_of}
 use Rattle.config_text.specs.Objects.{object_keys, object_of}
@@ -22,18 +22,18 @@ abbrev pub told_version : Members → ℕ
 told_version t = unwrap_or (natural_in 1 2 (option_and_then as_integer (get_member (codes "version") t))) 1
 
 -- C2: the keys that have to be there are, and no unknown ones
-unfoldable pub config_keys : Members → Result ⊤ Fault
-config_keys t = do
-  version ← needed [] (codes "version") t
-  client ← needed [] (codes "client") t
-  clients ← list_keys_at client_keys [] (codes "client") t
-  object ← needed [] (codes "object") t
-  objects ← list_keys_at (object_keys (told_version t)) [] (codes "object") t
-  rights ← list_keys_at right_keys [] (codes "right") t
-  policy ← needed [] (codes "policy") t
-  sets ← table_keys_at policy_keys [] (codes "policy") t
-  labels ← list_keys_at label_keys [] (codes "label") t
-  only [] (codes "version" ∷ codes "client" ∷ codes "object" ∷ codes "right" ∷ codes "policy" ∷ codes "label" ∷ []) t
+unfoldable pub key_faults : Members → List Fault
+key_faults t =
+    fault_in (needed [] (codes "version") t)
+    ++ fault_in (needed [] (codes "client") t)
+    ++ list_key_faults_at client_keys [] (codes "client") t
+    ++ fault_in (needed [] (codes "object") t)
+    ++ list_key_faults_at (object_keys (told_version t)) [] (codes "object") t
+    ++ list_key_faults_at right_keys [] (codes "right") t
+    ++ fault_in (needed [] (codes "policy") t)
+    ++ fault_in (table_keys_at policy_keys [] (codes "policy") t)
+    ++ list_key_faults_at label_keys [] (codes "label") t
+    ++ fault_in (only [] (codes "version" ∷ codes "client" ∷ codes "object" ∷ codes "right" ∷ codes "policy" ∷ codes "label" ∷ []) t)
 
 -- C3: the values are of their kinds and in their ranges; and what they say
 unfoldable pub parts_of : Members → Result ConfigText Fault
@@ -46,8 +46,26 @@ parts_of t = do
   labels ← optional_list_at label_of [] (codes "label") t
   Ok (record { version = version; clients = clients; objects = objects; rights = rights; policy = policy; labels = labels })
 
+-- the faults of C3, by which `parts_of` is refused: what objects say is looked at by the version that is told
+unfoldable pub kind_faults : Members → List Fault
+kind_faults t =
+    fault_in (natural_at 1 2 [] (codes "version") t)
+    ++ list_faults_at client_of [] (codes "client") t
+    ++ list_faults_at (object_of (told_version t)) [] (codes "object") t
+    ++ optional_list_faults_at right_of [] (codes "right") t
+    ++ fault_in (table_at sets_of [] (codes "policy") t)
+    ++ optional_list_faults_at label_of [] (codes "label") t
+
 unfoldable pub tables_of : Text → Result ConfigText Fault
 tables_of text = do
   t ← document_of text
-  keys ← config_keys t
+  keys ← first_of (key_faults t)
   parts_of t
+
+-- the faults of the first of these passes that has any; there is one fault at most that the text is no TOML
+abbrev pub faults_in : Result Members Fault → List Fault
+faults_in (Err e) = e ∷ []
+faults_in (Ok t) = first_found (key_faults t ∷ kind_faults t ∷ [])
+
+unfoldable pub table_faults : Text → List Fault
+table_faults text = faults_in (document_of text)

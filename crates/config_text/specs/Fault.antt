@@ -1,5 +1,5 @@
--- The first fault of a configuration, and what a reader's answer says of a definition.
-use Rattle.std.specs.Prelude.{◌≡◌, ℕ, Option, Some, None, Result, Ok, Err, ⊤, Bool, true, false, string_bytes}
+-- The faults of a configuration, and what a reader's answer says of a definition.
+use Rattle.std.specs.Prelude.{◌≡◌, ℕ, List, [], ◌∷◌, Option, Some, None, Result, Ok, Err, ⊤, Bool, true, false, string_bytes}
 use Rattle.config_text.specs.Parts.{Text}
 use Rattle.config_text.specs.declared.fault.Code.{Code}
 use Rattle.config_text.specs.declared.fault.Code.TheVariants as codes
@@ -29,6 +29,22 @@ found_or code place None = faulty code place
 abbrev pub fault_if : Code → Text → Bool → Result ⊤ Fault
 fault_if code place true = faulty code place
 fault_if code place false = Ok tt
+
+-- the fault of a part, where it has one
+abbrev pub fault_in : {A : Type 0} → Result A Fault → List Fault
+fault_in (Ok x) = []
+fault_in (Err e) = e ∷ []
+
+-- the first of some faults, if there is one
+abbrev pub first_of : List Fault → Result ⊤ Fault
+first_of [] = Ok tt
+first_of (fault ∷ faults) = Err fault
+
+-- the faults of the first pass that has any
+abbrev pub first_found : List (List Fault) → List Fault
+first_found [] = []
+first_found ([] ∷ passes) = first_found passes
+first_found ((fault ∷ faults) ∷ passes) = fault ∷ faults
 
 -- the error is this fault, unless memory ran out
 abbrev pub IsFault : Code → Text → ConfigFault → Type 0

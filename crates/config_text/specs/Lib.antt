@@ -9,6 +9,7 @@ pub mod Lists
 pub mod Objects
 pub mod Parts
 pub mod Places
+pub mod Refusals
 pub mod Rights
 pub mod Tables
 pub mod Targets

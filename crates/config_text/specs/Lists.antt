@@ -2,7 +2,7 @@
 use Rattle.std.specs.Prelude.{ℕ, ◌+◌, ◌++◌, List, [], ◌∷◌, codes, Option, Some, None, option_and_then, Result, Ok}
 use Rattle.std.specs.Fmt.{decimal}
 use Rattle.toml.specs.Data.{Data, Items, Members, no_items, item, get_member, as_str, as_integer, as_array}
-use Rattle.config_text.specs.Fault.{Fault, found_or, ◌>>=◌}
+use Rattle.config_text.specs.Fault.{Fault, fault_in, found_or, ◌>>=◌}
 use Rattle.config_text.specs.Parts.{Text}
 use Rattle.config_text.specs.declared.fault.Code.TheVariants.{Kind}
 use Rattle.config_text.specs.Values.{natural_in}
@@ -18,6 +18,11 @@ each says name i (item d rest) = do
   x ← says (element_place name i) d
   xs ← each says name (i + 1) rest
   Ok (x ∷ xs)
+
+-- the first fault of each element that has one, in turn
+unfoldable pub each_fault : {A : Type 0} → (Text → Data → Result A Fault) → Text → ℕ → Items → List Fault
+each_fault says name i no_items = []
+each_fault says name i (item d rest) = fault_in (says (element_place name i) d) ++ each_fault says name (i + 1) rest
 
 -- the array at a key
 unfoldable pub array_at : Text → Text → Members → Result Items Fault

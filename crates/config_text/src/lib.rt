@@ -6,6 +6,7 @@
 mod client;
 mod clock;
 pub mod fault;
+mod gathering;
 pub mod hex_value;
 mod kept;
 mod key_text;
@@ -17,8 +18,10 @@ mod monitor;
 mod object;
 pub mod parts;
 pub mod place;
+mod placed;
 mod profile;
 mod read;
+pub mod refusal;
 mod register;
 mod right;
 mod schedule;

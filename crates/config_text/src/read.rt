@@ -1,34 +1,44 @@
 //! The tables of a configuration text, read pass by pass.
 
-ghost use Rattle.std.specs.Prelude.{◌≡◌};
+ghost use Rattle.std.specs.Prelude.{◌≡◌, IfOk, Ok};
 ghost use Rattle.toml.specs.View.{table_view};
-ghost use Rattle.config_text.specs.Fault.{Gives};
+ghost use Rattle.config_text.specs.Fault.{Gives, fault_in};
+ghost use Rattle.config_text.specs.Refusals.{Finds};
 ghost use Rattle.config_text.specs.Document as spec;
 
 use crate::client::ClientTable;
 use crate::fault::{Code, ConfigFault, fault};
-use crate::keys::{needed, only};
+use crate::gathering::{
+    gather_list, gather_list_keys, gather_needed, gather_optional_list, gather_table,
+    gather_table_keys, gather_unknown,
+};
 use crate::object::ObjectTable;
 use crate::parts::ConfigParts;
 use crate::place::Place;
+use crate::refusal::{Refusal, alone, keep, refuse};
 use crate::right::{LabelTable, PolicyTable, RightTable};
-use crate::tables::{list_at, list_keys_at, optional_list_at, table_at, table_keys_at};
+use crate::tables::{list_at, optional_list_at, table_at};
 use crate::values::{natural_at, natural_or_none};
 use std::alloc::Global;
 use toml::Table;
 
 /// The table of a TOML text.
+///
+/// # Errors
+/// C1, where the text is no TOML.
 #[tactic(auto, unfolding(crate::specs::Document::document_of))]
-fn document(alloc: Global, text: &str) -> Result<Table, ConfigFault>
-    ensures { Gives (λ t. table_view t) result (spec.document_of text.now) }
+fn document(alloc: Global, text: &str) -> Result<Table, Refusal>
+    ensures table { IfOk result (λ t. spec.document_of text.now ≡ Ok (table_view t)) }
+    ensures faults { Finds result (fault_in (spec.document_of text.now)) }
 {
     match toml::table_from_str(alloc, text) {
         Ok(table) => Ok(table),
         Err(error) => {
             if error.is_memory() {
-                Err(ConfigFault::Memory)
+                Err(Refusal::Memory)
             } else {
-                Err(fault(Code::NotToml, &Place::top(alloc, ""), "text"))
+                let place = Place::top(alloc, "");
+                Err(alone(alloc, fault(Code::NotToml, &place, "text")))
             }
         }
     }
@@ -44,26 +54,32 @@ fn told_version(table: &Table) -> u8
     }
 }
 
-/// The first key that is missing or unknown.
-#[tactic(auto, unfolding(crate::specs::Document::config_keys))]
-fn config_keys(alloc: Global, table: &Table) -> Result<(), ConfigFault>
-    ensures { Gives (λ u. u) result (spec.config_keys (table_view table.now)) }
+/// Looks for keys that are missing or unknown.
+///
+/// # Errors
+/// C2 at each of the text's own keys that is missing, at the first in each client, object, right and label, in the policy, and
+/// at the first of the text's own keys that isn't known.
+#[tactic(auto, unfolding(crate::specs::Document::key_faults))]
+fn check_keys(alloc: Global, table: &Table) -> Result<(), Refusal>
+    ensures { Finds result (spec.key_faults (table_view table.now)) }
 {
     let top = Place::top(alloc, "");
-    needed(&top, "version", table)?;
-    needed(&top, "client", table)?;
-    list_keys_at(&ClientTable, &top, "client", table)?;
-    needed(&top, "object", table)?;
+    let mut faults = Vec::new(alloc);
+    gather_needed(&mut faults, &top, "version", table)?;
+    gather_needed(&mut faults, &top, "client", table)?;
+    gather_list_keys(&mut faults, &ClientTable, &top, "client", table)?;
+    gather_needed(&mut faults, &top, "object", table)?;
     let objects = ObjectTable {
         version: told_version(table),
     };
-    list_keys_at(&objects, &top, "object", table)?;
-    list_keys_at(&RightTable, &top, "right", table)?;
-    needed(&top, "policy", table)?;
-    table_keys_at(&PolicyTable, &top, "policy", table)?;
-    list_keys_at(&LabelTable, &top, "label", table)?;
+    gather_list_keys(&mut faults, &objects, &top, "object", table)?;
+    gather_list_keys(&mut faults, &RightTable, &top, "right", table)?;
+    gather_needed(&mut faults, &top, "policy", table)?;
+    gather_table_keys(&mut faults, &PolicyTable, &top, "policy", table)?;
+    gather_list_keys(&mut faults, &LabelTable, &top, "label", table)?;
     let known = ["version", "client", "object", "right", "policy", "label"];
-    only(&top, &known, table)
+    gather_unknown(&mut faults, &top, &known, table)?;
+    refuse(faults)
 }
 
 /// What the table says, or the first value of a wrong kind.
@@ -88,20 +104,65 @@ fn parts_of(alloc: Global, table: &Table) -> Result<ConfigParts, ConfigFault>
     })
 }
 
+/// Looks for values of a wrong kind. What objects say is looked at by the version that is told.
+///
+/// # Errors
+/// C3 at the text's own version, at an array that is none, at the first such value in each client, object, right and label, and
+/// in the policy.
+#[tactic(auto, unfolding(crate::specs::Document::kind_faults))]
+fn check_kinds(alloc: Global, table: &Table) -> Result<(), Refusal>
+    ensures { Finds result (spec.kind_faults (table_view table.now)) }
+{
+    let top = Place::top(alloc, "");
+    let mut faults = Vec::new(alloc);
+    keep(&mut faults, natural_at(1, 2, &top, "version", table))?;
+    gather_list(&mut faults, &ClientTable, &top, "client", table)?;
+    let objects = ObjectTable {
+        version: told_version(table),
+    };
+    gather_list(&mut faults, &objects, &top, "object", table)?;
+    gather_optional_list(&mut faults, &RightTable, &top, "right", table)?;
+    gather_table(&mut faults, &PolicyTable, &top, "policy", table)?;
+    gather_optional_list(&mut faults, &LabelTable, &top, "label", table)?;
+    refuse(faults)
+}
+
+/// What the table says.
+///
+/// # Errors
+/// C3, as `check_kinds` has it, by which is looked for more only where there is a fault.
+fn read_parts(alloc: Global, table: &Table) -> Result<ConfigParts, Refusal>
+    ensures parts { IfOk result (λ parts. spec.parts_of (table_view table.now) ≡ Ok parts) }
+    ensures faults { Finds result (spec.kind_faults (table_view table.now)) }
+{
+    match parts_of(alloc, table) {
+        Ok(parts) => Ok(parts),
+        Err(ConfigFault::Memory) => Err(Refusal::Memory),
+        Err(ConfigFault::Found { .. }) => {
+            // What it was refused by is the first of these.
+            check_kinds(alloc, table)?;
+            unreachable!()
+        }
+    }
+}
+
 /// Reads what the tables of a configuration text say (own profile), before names are looked up. Values are decoded, and not yet
 /// judged.
 ///
 /// # Errors
-/// The first fault of the least code that is met, at its place:
+/// The faults with the least code that is met, in the order in which they are looked for:
 /// - C1 at `text`, where the text is no TOML;
-/// - C2 at the first key that is missing or unknown;
-/// - C3 at the first value of a wrong kind, or number or password out of its range;
+/// - C2 at each of the text's own keys that is missing, at the first key that is missing or unknown in each client, object, right
+///   and label, and in the policy, and at the first of the text's own keys that isn't known;
+/// - C3 at the text's own version, at an array that is none, and at the first value of a wrong kind, or number or password out of
+///   its range, in each client, object, right and label, and in the policy;
 /// - C0 where memory was refused, at any time.
-#[tactic(auto, unfolding(crate::specs::Document::tables_of))]
-pub fn read_tables(alloc: Global, text: &str) -> Result<ConfigParts, ConfigFault>
-    ensures { Gives (λ x. x) result (spec.tables_of text.now) }
+#[tactic(auto, unfolding(crate::specs::Document::tables_of, crate::specs::Document::table_faults))]
+pub fn read_tables(alloc: Global, text: &str) -> Result<ConfigParts, Refusal>
+    ensures parts { IfOk result (λ parts. spec.tables_of text.now ≡ Ok parts) }
+    ensures faults { Finds result (spec.table_faults text.now) }
 {
     let table = document(alloc, text)?;
-    config_keys(alloc, &table)?;
-    parts_of(alloc, &table)
+    check_keys(alloc, &table)?;
+    read_parts(alloc, &table)
 }

@@ -47,7 +47,7 @@ pub(crate) trait TableForm {
 }
 
 /// The keys of one element, if it is a table.
-fn element_keys<T: TableForm>(
+pub(crate) fn element_keys<T: TableForm>(
     form: &T,
     name: &Place<'_>,
     i: usize,
@@ -129,7 +129,7 @@ pub(crate) fn table_keys_at<T: TableForm>(
 }
 
 /// What one element says.
-fn element<T: TableForm>(
+pub(crate) fn element<T: TableForm>(
     form: &T,
     name: &Place<'_>,
     i: usize,

@@ -1,9 +1,0 @@
-use Rattle.config_reader.proofs.reading.read_config.Goals as goal
-
-pub judge_and_resolve-requires : goal.judge_and_resolve-requires
-judge_and_resolve-requires c = c.configurations_are_read.ensures.read c.args.text.now c.in_ok-parts.parts c.in_ok-parts.ensures
-
--- no pass found a fault in what the tables say
-pub make-requires-clause-faultless : goal.make-requires-clause-faultless
-make-requires-clause-faultless c =
-    c.configurations_are_read.ensures.faultless c.args.text.now c.in_ok-parts.parts c.in_ok-parts.ensures c.in_ok-resolved.ensures.judged

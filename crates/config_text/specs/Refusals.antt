@@ -1,0 +1,15 @@
+-- Refusals with all the faults that one pass finds, and what they say of a definition.
+use Rattle.std.specs.Prelude.{◌≡◌, List, [], ◌∷◌, Result, Ok, Err}
+use Rattle.config_text.specs.Fault.{Fault}
+use Rattle.config_text.specs.declared.refusal.Refusal.{Refusal}
+use Rattle.config_text.specs.declared.refusal.Refusal.TheVariants as refusals
+
+-- a refusal has all of these faults, unless memory ran out (own profile)
+abbrev pub Refuses : Refusal → List Fault → Type 0
+Refuses refusals.Memory faults = Unit {0}
+Refuses (refusals.Found first others) faults = faults ≡ first ∷ others.items
+
+-- a function found none of these faults because there is none, or it was refused by all of them (own profile)
+abbrev pub Finds : {X : Type 0} → Result X Refusal → List Fault → Type 0
+Finds (Ok x) faults = faults ≡ []
+Finds (Err refusal) faults = Refuses refusal faults
