@@ -5,6 +5,8 @@ use Rattle.tcp_wrapper.specs.declared.message.Message.{Message}
 use Rattle.tcp_wrapper.specs.declared.fault.WrapFault.{WrapFault}
 use Rattle.tcp_wrapper.specs.Stream.{frames_of, IsPartial, Refuses, Splits, header_fault, word_at}
 use Rattle.tcp_wrapper.proofs.Reading.{one_reading}
+use Rattle.tcp_wrapper.specs.declared.place.FramePlace.{FramePlace}
+use Rattle.tcp_wrapper.specs.Places.{place_behind}
 use Rattle.std.proofs.lemmas.List.{length-append, length-map, get_or_append_left}
 use Rattle.meter_theory.specs.Plan.{Plan}
 use Rattle.xdlms_services.specs.Conversation.{Answers}
@@ -48,39 +50,50 @@ module _ {A : Type 0} (answers : Answers A) (plan : Plan) where
   refused-more : (fault : WrapFault) (a b : List ℕ) → Refuses fault a → Refuses fault (a ++ b)
   refused-more fault a b h = (omega (arith, h.0, length-append a b), header_fault-append a b h.0 ∙ h.1)
 
-  same-fault : (input : List ℕ) (fs gs : List Message) (r q : List ℕ) (f g : WrapFault) → Splits input fs r → Refuses f r → Splits input gs q → Refuses g q → f ≡ g
+  -- the first fault, and the frames before it
+  same-fault : (input : List ℕ) (fs gs : List Message) (r q : List ℕ) (f g : WrapFault) → Splits input fs r → Refuses f r → Splits input gs q → Refuses g q → (f ≡ g) × (fs ≡ gs)
   same-fault input fs gs r q f g s h t k =
       let one = one_reading input fs gs r q s t (inr (f, h)) (inr (g, k)) in
       let first = h.1 in
       let second = subst (λ (x : List ℕ). Refuses g x) (sym one.1) k in
       let last = second.1 in
-      cc
+      let same : f ≡ g = cc in
+      (same, one.0)
+
+  abbrev wrapped : WrapFault → FramePlace → Result ℕ ServeFault
+  wrapped fault place = Err (Wrap fault place)
+
+  abbrev cut : FramePlace → Result ℕ ServeFault
+  cut place = Err (Cut place)
 
   pub exact-wrap : (before after : Connection A) (result : Result ℕ ServeFault) → Serves answers plan before after result
-      → (input : List ℕ) (frames : List Message) (rest : List ℕ) (fault : WrapFault) → before.unread ≡ Some input → Splits input frames rest → Refuses fault rest → (result ≡ Err (Wrap fault)) ⊎ IsOther result
+      → (input : List ℕ) (frames : List Message) (rest : List ℕ) (fault : WrapFault) → before.unread ≡ Some input → Splits input frames rest → Refuses fault rest → (result ≡ Err (Wrap fault (place_behind frames))) ⊎ IsOther result
   exact-wrap before after (Ok n) s input frames rest fault e t f = absurd (exact-partial input (messages_of s.0) frames [] rest fault (splits-all before after input s.0 [] e s.1 s.2) (inl (omega arith)) t f)
   exact-wrap before after (Err Read) s input frames rest fault e t f = inr tt
   exact-wrap before after (Err Write) s input frames rest fault e t f = inr tt
-  exact-wrap before after (Err (Wrap other)) s input frames rest fault e t f =
+  exact-wrap before after (Err (Wrap other place)) s input frames rest fault e t f =
       let p = some-read input before.unread after.unread _ e s.2.read in
       let split : Splits input (messages_of s.0) (s.1 ++ p.0) = record { whole = p.1 ∙ append_assoc (frames_of (messages_of s.0)) s.1 p.0; each = s.2.each } in
-      inl (ap (λ (w : WrapFault). let r : Result ℕ ServeFault = Err (Wrap w) in r) (same-fault input (messages_of s.0) frames (s.1 ++ p.0) rest other fault split (refused-more other s.1 p.0 s.3) t f))
-  exact-wrap before after (Err Cut) s input frames rest fault e t f = absurd (exact-partial input (messages_of s.0) frames s.1 rest fault (splits-all before after input s.0 s.1 e s.2 s.5) s.3 t f)
+      let same = same-fault input (messages_of s.0) frames (s.1 ++ p.0) rest other fault split (refused-more other s.1 p.0 s.3) t f in
+      inl (ap (λ (w : WrapFault). wrapped w place) same.0 ∙ ap (wrapped fault) (s.4 ∙ ap place_behind same.1))
+  exact-wrap before after (Err (Cut place)) s input frames rest fault e t f = absurd (exact-partial input (messages_of s.0) frames s.1 rest fault (splits-all before after input s.0 s.1 e s.2 s.5) s.3 t f)
   exact-wrap before after (Err Memory) s input frames rest fault e t f = inr tt
   exact-wrap before after (Err GaveUp) s input frames rest fault e t f = inr tt
 
   pub exact-cut : (before after : Connection A) (result : Result ℕ ServeFault) → Serves answers plan before after result
-      → (input : List ℕ) (frames : List Message) (rest : List ℕ) → before.unread ≡ Some input → Splits input frames rest → IsPartial rest → 0 < length rest → (result ≡ Err Cut) ⊎ IsOther result
+      → (input : List ℕ) (frames : List Message) (rest : List ℕ) → before.unread ≡ Some input → Splits input frames rest → IsPartial rest → 0 < length rest → (result ≡ Err (Cut (place_behind frames))) ⊎ IsOther result
   exact-cut before after (Ok n) s input frames rest e t p l =
       let one = one_reading input (messages_of s.0) frames [] rest (splits-all before after input s.0 [] e s.1 s.2) t (inl (inl (omega arith))) (inl p) in
       absurd (omega (arith, ap (λ (x : List ℕ). length x) one.1))
   exact-cut before after (Err Read) s input frames rest e t p l = inr tt
   exact-cut before after (Err Write) s input frames rest e t p l = inr tt
-  exact-cut before after (Err (Wrap other)) s input frames rest e t p l =
+  exact-cut before after (Err (Wrap other place)) s input frames rest e t p l =
       let q = some-read input before.unread after.unread _ e s.2.read in
       let split : Splits input (messages_of s.0) (s.1 ++ q.0) = record { whole = q.1 ∙ append_assoc (frames_of (messages_of s.0)) s.1 q.0; each = s.2.each } in
       absurd (exact-partial input frames (messages_of s.0) rest (s.1 ++ q.0) other t p split (refused-more other s.1 q.0 s.3))
-  exact-cut before after (Err Cut) s input frames rest e t p l = inl refl
+  exact-cut before after (Err (Cut place)) s input frames rest e t p l =
+      let one = one_reading input (messages_of s.0) frames s.1 rest (splits-all before after input s.0 s.1 e s.2 s.5) t (inl s.3) (inl p) in
+      inl (ap cut (s.6 ∙ ap place_behind one.0))
   exact-cut before after (Err Memory) s input frames rest e t p l = inr tt
   exact-cut before after (Err GaveUp) s input frames rest e t p l = inr tt
 
@@ -91,11 +104,11 @@ module _ {A : Type 0} (answers : Answers A) (plan : Plan) where
       inl (ap (λ (k : ℕ). let r : Result ℕ ServeFault = Ok k in r) (s.3 ∙ sym (length-map s.0 message_of) ∙ ap (λ (ms : List Message). length ms) one.0))
   exact-whole before after (Err Read) s input frames e t = inr tt
   exact-whole before after (Err Write) s input frames e t = inr tt
-  exact-whole before after (Err (Wrap other)) s input frames e t =
+  exact-whole before after (Err (Wrap other place)) s input frames e t =
       let q = some-read input before.unread after.unread _ e s.2.read in
       let split : Splits input (messages_of s.0) (s.1 ++ q.0) = record { whole = q.1 ∙ append_assoc (frames_of (messages_of s.0)) s.1 q.0; each = s.2.each } in
       absurd (exact-partial input frames (messages_of s.0) [] (s.1 ++ q.0) other t (inl (omega arith)) split (refused-more other s.1 q.0 s.3))
-  exact-whole before after (Err Cut) s input frames e t =
+  exact-whole before after (Err (Cut place)) s input frames e t =
       let one = one_reading input (messages_of s.0) frames s.1 [] (splits-all before after input s.0 s.1 e s.2 s.5) t (inl s.3) (inl (inl (omega arith))) in
       absurd (omega (arith, s.4, ap (λ (x : List ℕ). length x) one.1))
   exact-whole before after (Err Memory) s input frames e t = inr tt

@@ -1,5 +1,5 @@
 -- Where the loop of `serve` stands.
-use Rattle.std.proofs.Common.{◌≡◌, ℕ, ◌+◌, ◌^◌, ◌<◌, ◌≤◌, List, [], ◌∷◌, ◌++◌, length, reverse, Option, Some, None, Ok, Err, refl, sym, ap, subst, ◌∙◌, append_assoc, append-nil, inl, inr, arith, All}
+use Rattle.std.proofs.Common.{◌≡◌, ℕ, ◌+◌, ◌-◌, ◌*◌, ◌^◌, ◌<◌, ◌≤◌, List, [], ◌∷◌, ◌++◌, length, reverse, Option, Some, None, Ok, Err, refl, sym, ap, subst, ◌∙◌, append_assoc, append-nil, inl, inr, arith, All}
 use Rattle.std.specs.Prelude.{IfSome}
 use Rattle.std.proofs.lemmas.List.{map-append, reverse-append, length-append, length-map}
 use Rattle.std.proofs.lemmas.List.Concat.{flat_map-append}
@@ -10,6 +10,9 @@ use Rattle.tcp_wrapper.specs.declared.message.Message.{Message}
 use Rattle.tcp_wrapper.specs.declared.fault.WrapFault.{WrapFault}
 use Rattle.tcp_wrapper.specs.declared.fault.WrapFault.TheVariants as faults
 use Rattle.tcp_wrapper.specs.Stream.{frame_of, frames_of, IsFrame, IsPartial, Splits, Reads, Causes}
+use Rattle.tcp_wrapper.specs.declared.place.FramePlace.{FramePlace}
+use Rattle.tcp_wrapper.specs.Places.{place_behind, moved}
+use Rattle.tcp_wrapper.proofs.Places.{moved-behind}
 use Rattle.meter_theory.specs.Plan.{Plan}
 use Rattle.xdlms_services.specs.Conversation.{Answers, Exchange, Leads, asked_list}
 use Rattle.acse_session.specs.Turns.{Turn}
@@ -67,16 +70,24 @@ breaks-behind turns us written b = record {
   some_left = b.some_left;
 }
 
+-- ---- places
+
+-- behind the turns so far, and then behind the frames of more of them
+pub moved-turns : (place now : FramePlace) (turns us : List Turn) (frames : List Message) → place ≡ place_behind (messages_of turns) → now ≡ moved place frames → messages_of us ≡ frames → now ≡ place_behind (messages_of (turns ++ us))
+moved-turns place now turns us frames p n e =
+    n ∙ ap (λ (q : FramePlace). moved q frames) p ∙ moved-behind (messages_of turns) frames
+    ∙ ap (λ (ms : List Message). place_behind (messages_of turns ++ ms)) (sym e) ∙ ap place_behind (sym (map-append message_of turns us))
+
 module _ {A : Type 0} (answers : Answers A) (plan : Plan) where
   -- the turns so far, all bytes so far, and those of a frame that has begun
-  pub record Stands (before after : Connection A) (session : Kept) (feeder : Option (List ℕ)) (answered total : ℕ) (turns : List Turn) (read held : List ℕ) : Type 0 where
+  pub record Stands (before after : Connection A) (session : Kept) (feeder : Option (List ℕ)) (place : FramePlace) (total : ℕ) (turns : List Turn) (read held : List ℕ) : Type 0 where
     pub feeds : feeder ≡ Some held
     pub splits : Splits read (messages_of turns) held
     pub partial : IsPartial held
     pub bytes : length read ≡ total
     pub consumed : Consumes before.unread after.unread read
     pub talks : Talks answers before.asker after.asker before.written after.written (kept_of plan []) session turns (conversation_of turns) (answers_of turns)
-    pub count : answered ≡ length turns
+    pub behind : place ≡ place_behind (messages_of turns)
 
   pub served : (before after : Connection A) (session : Kept) (turns : List Turn) (read rest : List ℕ) (conversation : List Exchange) (written : List ℕ)
       → Splits read (messages_of turns) rest → Consumes before.unread after.unread read
@@ -149,45 +160,46 @@ module _ {A : Type 0} (answers : Answers A) (plan : Plan) where
         λ _. begins-there (read ++ piece) (messages_of (turns ++ h.0)) h.1 h.2 s.0 all,
       )
   stops-in before between after session to turns read piece frames fault feeder Read t r f h = absurd h
-  stops-in before between after session to turns read piece frames fault feeder (Wrap w) t r f h = absurd h
-  stops-in before between after session to turns read piece frames fault feeder Cut t r f h = absurd h
+  stops-in before between after session to turns read piece frames fault feeder (Wrap w place) t r f h = absurd h
+  stops-in before between after session to turns read piece frames fault feeder (Cut place) t r f h = absurd h
 
   -- and then a fault stands
-  pub stops-after : (before between after : Connection A) (session to : Kept) (turns us : List Turn) (read piece : List ℕ) (frames : List Message) (fault : WrapFault) (feeder : Option (List ℕ))
+  pub stops-after : (before between after : Connection A) (session to : Kept) (place now : FramePlace) (turns us : List Turn) (read piece : List ℕ) (frames : List Message) (fault : WrapFault) (feeder : Option (List ℕ))
       → Talks answers before.asker between.asker before.written between.written (kept_of plan []) session turns (conversation_of turns) (answers_of turns)
+      → place ≡ place_behind (messages_of turns) → now ≡ moved place frames
       → Consumes before.unread after.unread (read ++ piece)
       → Reads (read ++ piece) (messages_of turns ++ frames) (Some fault) feeder
       → messages_of us ≡ frames
       → Talks answers between.asker after.asker between.written after.written session to us (conversation_of us) (answers_of us)
-      → Stops answers plan before after (stop_of_fault fault)
-  stops-after before between after session to turns us read piece frames fault (Some held) t r f e u = absurd f
-  stops-after before between after session to turns us read piece frames fault None t r f e u =
+      → Stops answers plan before after (stop_of_fault fault now)
+  stops-after before between after session to place now turns us read piece frames fault (Some held) t p n r f e u = absurd f
+  stops-after before between after session to place now turns us read piece frames fault None t p n r f e u =
       let split = ap (λ (ms : List Message). messages_of turns ++ ms) (sym e) ∙ sym (map-append message_of turns us) in
       let all = served before after to (turns ++ us) (read ++ piece) f.0 (conversation_of (turns ++ us)) (answers_of (turns ++ us)) (subst (λ (ms : List Message). Splits (read ++ piece) ms f.0) split f.1) r (joined before between after session to turns us t u) in
-      by_fault before after (turns ++ us) f.0 fault all f.2
+      by_fault before after now (turns ++ us) f.0 fault all (moved-turns place now turns us frames p n e) f.2
     where
-      by_fault : (before after : Connection A) (turns : List Turn) (rest : List ℕ) (fault : WrapFault) → Answered answers plan before after turns rest → Causes fault rest → Stops answers plan before after (stop_of_fault fault)
-      by_fault before after turns rest faults.Version a c = (turns, rest, a, c)
-      by_fault before after turns rest faults.Destination a c = (turns, rest, a, c)
-      by_fault before after turns rest faults.Length a c = (turns, rest, a, c)
-      by_fault before after turns rest faults.Memory a c = (turns, rest, None, subst (λ (xs : List Exchange). Served answers plan before after turns rest xs (answers_of turns)) (sym (append-nil (conversation_of turns))) a, λ h. absurd cc)
-      by_fault before after turns rest faults.Failed a c = absurd c
+      by_fault : (before after : Connection A) (now : FramePlace) (turns : List Turn) (rest : List ℕ) (fault : WrapFault)
+          → Answered answers plan before after turns rest → now ≡ place_behind (messages_of turns) → Causes fault rest → Stops answers plan before after (stop_of_fault fault now)
+      by_fault before after now turns rest faults.Version a n c = (turns, rest, a, c, n)
+      by_fault before after now turns rest faults.Destination a n c = (turns, rest, a, c, n)
+      by_fault before after now turns rest faults.Length a n c = (turns, rest, a, c, n)
+      by_fault before after now turns rest faults.Memory a n c = (turns, rest, None, subst (λ (xs : List Exchange). Served answers plan before after turns rest xs (answers_of turns)) (sym (append-nil (conversation_of turns))) a, λ h. absurd cc)
+      by_fault before after now turns rest faults.Failed a n c = absurd c
 
   -- or the loop goes on
-  pub stands-on : (before between after : Connection A) (session to : Kept) (feeder : Option (List ℕ)) (answered total : ℕ) (turns us : List Turn) (read piece : List ℕ) (frames : List Message) (fault : Option WrapFault)
+  pub stands-on : (before between after : Connection A) (session to : Kept) (feeder : Option (List ℕ)) (place now : FramePlace) (total : ℕ) (turns us : List Turn) (read piece : List ℕ) (frames : List Message) (fault : Option WrapFault)
       → Talks answers before.asker between.asker before.written between.written (kept_of plan []) session turns (conversation_of turns) (answers_of turns)
-      → answered ≡ length turns → length read ≡ total
+      → place ≡ place_behind (messages_of turns) → now ≡ moved place frames → length read ≡ total
       → Consumes before.unread after.unread (read ++ piece)
       → Reads (read ++ piece) (messages_of turns ++ frames) fault feeder → fault ≡ None
       → messages_of us ≡ frames
       → Talks answers between.asker after.asker between.written after.written session to us (conversation_of us) (answers_of us)
-      → (held : List ℕ) × Stands before after to feeder (answered + length frames) (total + length piece) (turns ++ us) (read ++ piece) held
-  stands-on before between after session to None answered total turns us read piece frames None t n l r f none e u = absurd f
-  stands-on before between after session to (Some held) answered total turns us read piece frames (Some fault) t n l r f none e u = absurd f
-  stands-on before between after session to None answered total turns us read piece frames (Some fault) t n l r f none e u = absurd cc
-  stands-on before between after session to (Some held) answered total turns us read piece frames None t n l r f none e u =
-      let split = ap (λ (ms : List Message). messages_of turns ++ ms) (sym e) ∙ sym (map-append message_of turns us) in
-      let as_many : length us ≡ length frames = sym (length-map us message_of) ∙ ap (λ (ms : List Message). length ms) e in (
+      → (held : List ℕ) × Stands before after to feeder now (total + length piece) (turns ++ us) (read ++ piece) held
+  stands-on before between after session to None place now total turns us read piece frames None t p n l r f none e u = absurd f
+  stands-on before between after session to (Some held) place now total turns us read piece frames (Some fault) t p n l r f none e u = absurd f
+  stands-on before between after session to None place now total turns us read piece frames (Some fault) t p n l r f none e u = absurd cc
+  stands-on before between after session to (Some held) place now total turns us read piece frames None t p n l r f none e u =
+      let split = ap (λ (ms : List Message). messages_of turns ++ ms) (sym e) ∙ sym (map-append message_of turns us) in (
         held,
         record {
           feeds = refl;
@@ -196,33 +208,33 @@ module _ {A : Type 0} (answers : Answers A) (plan : Plan) where
           bytes = omega (arith, length-append read piece);
           consumed = r;
           talks = joined before between after session to turns us t u;
-          count = omega (arith, length-append turns us);
+          behind = moved-turns place now turns us frames p n e;
         },
       )
 
-  pub stands-init : (b : Connection A) (session : Kept) (feeder : Option (List ℕ)) → session ≡ kept_of plan [] → feeder ≡ Some [] → Stands b b session feeder 0 0 [] [] []
-  stands-init b session feeder s f = record {
+  pub stands-init : (b : Connection A) (session : Kept) (feeder : Option (List ℕ)) (place : FramePlace) → session ≡ kept_of plan [] → feeder ≡ Some [] → place ≡ place_behind [] → Stands b b session feeder place 0 [] [] []
+  stands-init b session feeder place s f p = record {
     feeds = f;
     splits = record { whole = refl; each = All-nil IsFrame };
     partial = inl (omega arith);
     bytes = refl;
     consumed = Consumes-nil b.unread;
     talks = record { run = s; asked = refl; wrote = Appends-nil b.written };
-    count = refl;
+    behind = p;
   }
 
   -- a later moment, at which more was read
   abbrev pub later : Connection A → Option (List ℕ) → Connection A
   later m unread = record { asker = m.asker; unread = unread; written = m.written }
 
-  pub stops-reading : (before m : Connection A) (session : Kept) (feeder : Option (List ℕ)) (answered total : ℕ) (turns : List Turn) (read held : List ℕ) (unread : Option (List ℕ))
-      → Stands before m session feeder answered total turns read held → Keeps m.unread unread → Stops answers plan before (later m unread) Read
-  stops-reading before m session feeder answered total turns read held unread s k =
+  pub stops-reading : (before m : Connection A) (session : Kept) (feeder : Option (List ℕ)) (place : FramePlace) (total : ℕ) (turns : List Turn) (read held : List ℕ) (unread : Option (List ℕ))
+      → Stands before m session feeder place total turns read held → Keeps m.unread unread → Stops answers plan before (later m unread) Read
+  stops-reading before m session feeder place total turns read held unread s k =
       (turns, held, served before (later m unread) session turns read held (conversation_of turns) (answers_of turns) s.splits (Consumes-kept before.unread m.unread unread read s.consumed k) s.talks, inl s.partial)
 
-  pub stops-counting : (before m : Connection A) (session : Kept) (feeder : Option (List ℕ)) (answered total : ℕ) (turns : List Turn) (read held piece : List ℕ) (unread : Option (List ℕ))
-      → Stands before m session feeder answered total turns read held → Consumes m.unread unread piece → 2 ^ 64 ≤ total + length piece → Stops answers plan before (later m unread) Read
-  stops-counting before m session feeder answered total turns read held piece unread s k long =
+  pub stops-counting : (before m : Connection A) (session : Kept) (feeder : Option (List ℕ)) (place : FramePlace) (total : ℕ) (turns : List Turn) (read held piece : List ℕ) (unread : Option (List ℕ))
+      → Stands before m session feeder place total turns read held → Consumes m.unread unread piece → 2 ^ 64 ≤ total + length piece → Stops answers plan before (later m unread) Read
+  stops-counting before m session feeder place total turns read held piece unread s k long =
       let more : Splits (read ++ piece) (messages_of turns) (held ++ piece) = record { whole = ap (λ (t : List ℕ). t ++ piece) s.splits.whole ∙ append_assoc (frames_of (messages_of turns)) held piece; each = s.splits.each } in (
         turns,
         held ++ piece,
@@ -230,27 +242,33 @@ module _ {A : Type 0} (answers : Answers A) (plan : Plan) where
         inr (omega (arith, ap (λ (t : List ℕ). length t) more.whole, length-append read piece, s.bytes)),
       )
 
-  ends : (before m : Connection A) (session : Kept) (feeder : Option (List ℕ)) (answered total : ℕ) (turns : List Turn) (read held : List ℕ) (unread : Option (List ℕ))
-      → Stands before m session feeder answered total turns read held → Consumes m.unread unread [] → Answered answers plan before (later m unread) turns held
-  ends before m session feeder answered total turns read held unread s k =
+  ends : (before m : Connection A) (session : Kept) (feeder : Option (List ℕ)) (place : FramePlace) (total : ℕ) (turns : List Turn) (read held : List ℕ) (unread : Option (List ℕ))
+      → Stands before m session feeder place total turns read held → Consumes m.unread unread [] → Answered answers plan before (later m unread) turns held
+  ends before m session feeder place total turns read held unread s k =
       served before (later m unread) session turns read held (conversation_of turns) (answers_of turns) s.splits (subst (Consumes before.unread unread) (append-nil read) (Consumes-trans before.unread m.unread unread read [] s.consumed k)) s.talks
 
   some_is : (a b : List ℕ) (o : Option (List ℕ)) → o ≡ Some a → o ≡ Some b → a ≡ b
   some_is a b o e f = let g : ◌≡◌ {A = Option (List ℕ)} (Some a) (Some b) = sym e ∙ f in cc
 
-  pub ends-clean : (before m : Connection A) (session : Kept) (feeder : Option (List ℕ)) (answered total : ℕ) (turns : List Turn) (read held : List ℕ) (unread : Option (List ℕ))
-      → Stands before m session feeder answered total turns read held → Consumes m.unread unread [] → IsAtEnd unread → feeder ≡ Some [] → Serves answers plan before (later m unread) (Ok answered)
-  ends-clean before m session feeder answered total turns read held unread s k e f =
-      (turns, subst (Answered answers plan before (later m unread) turns) (some_is held [] feeder s.feeds f) (ends before m session feeder answered total turns read held unread s k), e, s.count)
+  -- as many turns stand before a place as frames do
+  counted : (before m : Connection A) (session : Kept) (feeder : Option (List ℕ)) (place : FramePlace) (total : ℕ) (turns : List Turn) (read held : List ℕ)
+      → Stands before m session feeder place total turns read held → place.frame - 1 ≡ length turns
+  counted before m session feeder place total turns read held s =
+      omega (arith, ap (λ (p : FramePlace). p.frame) s.behind, length-map turns message_of)
+
+  pub ends-clean : (before m : Connection A) (session : Kept) (feeder : Option (List ℕ)) (place : FramePlace) (total : ℕ) (turns : List Turn) (read held : List ℕ) (unread : Option (List ℕ))
+      → Stands before m session feeder place total turns read held → Consumes m.unread unread [] → IsAtEnd unread → feeder ≡ Some [] → Serves answers plan before (later m unread) (Ok (place.frame - 1))
+  ends-clean before m session feeder place total turns read held unread s k e f =
+      (turns, subst (Answered answers plan before (later m unread) turns) (some_is held [] feeder s.feeds f) (ends before m session feeder place total turns read held unread s k), e, counted before m session feeder place total turns read held s)
 
   positive : (held : List ℕ) → (held ≡ [] → ⊥) → 0 < length held
   positive [] h = absurd (h refl)
   positive (x ∷ xs) h = omega arith
 
-  pub ends-cut : (before m : Connection A) (session : Kept) (feeder : Option (List ℕ)) (answered total : ℕ) (turns : List Turn) (read held : List ℕ) (unread : Option (List ℕ))
-      → Stands before m session feeder answered total turns read held → Consumes m.unread unread [] → IsAtEnd unread → (feeder ≡ Some [] → ⊥) → Stops answers plan before (later m unread) Cut
-  ends-cut before m session feeder answered total turns read held unread s k e f =
-      (turns, held, ends before m session feeder answered total turns read held unread s k, s.partial, positive held (λ g. f (s.feeds ∙ ap (λ (t : List ℕ). let o : Option (List ℕ) = Some t in o) g)), e)
+  pub ends-cut : (before m : Connection A) (session : Kept) (feeder : Option (List ℕ)) (place : FramePlace) (total : ℕ) (turns : List Turn) (read held : List ℕ) (unread : Option (List ℕ))
+      → Stands before m session feeder place total turns read held → Consumes m.unread unread [] → IsAtEnd unread → (feeder ≡ Some [] → ⊥) → Stops answers plan before (later m unread) (Cut place)
+  ends-cut before m session feeder place total turns read held unread s k e f =
+      (turns, held, ends before m session feeder place total turns read held unread s k, s.partial, positive held (λ g. f (s.feeds ∙ ap (λ (t : List ℕ). let o : Option (List ℕ) = Some t in o) g)), e, s.behind)
 
   -- what `feed` says of the bytes that were held
   abbrev pub Feeds : Option (List ℕ) → List ℕ → List Message → Option WrapFault → Option (List ℕ) → Type 0
@@ -260,44 +278,56 @@ module _ {A : Type 0} (answers : Answers A) (plan : Plan) where
       → feeder ≡ Some held → Feeds feeder piece frames fault new → Splits read given held → Reads (read ++ piece) (given ++ frames) fault new
   reads_at feeder held piece frames fault new read given e f s = (subst (λ (o : Option (List ℕ)). Feeds o piece frames fault new) e f) read given s
 
-  pub piece-stops : (before m after : Connection A) (session to : Kept) (feeder new : Option (List ℕ)) (answered total : ℕ) (turns : List Turn) (read held piece : List ℕ) (frames messages : List Message) (fault : Option WrapFault) (e : ServeFault)
-      → Stands before m session feeder answered total turns read held → Feeds feeder piece frames fault new → Consumes m.unread after.unread piece → messages ≡ frames
+  pub piece-stops : (before m after : Connection A) (session to : Kept) (feeder new : Option (List ℕ)) (place : FramePlace) (total : ℕ) (turns : List Turn) (read held piece : List ℕ) (frames messages : List Message) (fault : Option WrapFault) (e : ServeFault)
+      → Stands before m session feeder place total turns read held → Feeds feeder piece frames fault new → Consumes m.unread after.unread piece → messages ≡ frames
       → AnswersAll answers m.asker after.asker m.written after.written session to messages (Err e) → Stops answers plan before after e
-  piece-stops before m after session to feeder new answered total turns read held piece frames messages fault e s f c same a =
+  piece-stops before m after session to feeder new place total turns read held piece frames messages fault e s f c same a =
       stops-in before m after session to turns read piece frames fault new e s.talks (Consumes-trans before.unread m.unread after.unread read piece s.consumed c) (reads_at feeder held piece frames fault new read (messages_of turns) s.feeds f s.splits)
       (subst (λ (ms : List Message). AnswersAll answers m.asker after.asker m.written after.written session to ms (Err e)) same a)
 
-  pub piece-ends : (before m after : Connection A) (session to : Kept) (feeder new : Option (List ℕ)) (answered total : ℕ) (turns : List Turn) (read held piece : List ℕ) (frames messages : List Message) (fault : Option WrapFault) (why : WrapFault) (u : Unit {0})
-      → Stands before m session feeder answered total turns read held → Feeds feeder piece frames fault new → Consumes m.unread after.unread piece → messages ≡ frames
-      → AnswersAll answers m.asker after.asker m.written after.written session to messages (Ok u) → fault ≡ Some why → Stops answers plan before after (stop_of_fault why)
-  piece-ends before m after session to feeder new answered total turns read held piece frames messages fault why u s f c same a some =
+  pub piece-ends : (before m after : Connection A) (session to : Kept) (feeder new : Option (List ℕ)) (place now : FramePlace) (total : ℕ) (turns : List Turn) (read held piece : List ℕ) (frames messages : List Message) (fault : Option WrapFault) (why : WrapFault) (u : Unit {0})
+      → Stands before m session feeder place total turns read held → Feeds feeder piece frames fault new → Consumes m.unread after.unread piece → messages ≡ frames
+      → AnswersAll answers m.asker after.asker m.written after.written session to messages (Ok u) → now ≡ moved place messages → fault ≡ Some why → Stops answers plan before after (stop_of_fault why now)
+  piece-ends before m after session to feeder new place now total turns read held piece frames messages fault why u s f c same a n some =
       let reads = reads_at feeder held piece frames fault new read (messages_of turns) s.feeds f s.splits in
-      stops-after before m after session to turns a.0 read piece frames why new s.talks (Consumes-trans before.unread m.unread after.unread read piece s.consumed c)
+      stops-after before m after session to place now turns a.0 read piece frames why new s.talks s.behind (n ∙ ap (moved place) same) (Consumes-trans before.unread m.unread after.unread read piece s.consumed c)
       (subst (λ (o : Option WrapFault). Reads (read ++ piece) (messages_of turns ++ frames) o new) some reads) (a.1 ∙ same) a.2
 
-  pub piece-stands : (before m after : Connection A) (session to : Kept) (feeder new : Option (List ℕ)) (answered total count sum : ℕ) (turns : List Turn) (read held piece : List ℕ) (frames messages : List Message) (fault : Option WrapFault) (u : Unit {0})
-      → Stands before m session feeder answered total turns read held → Feeds feeder piece frames fault new → Consumes m.unread after.unread piece → messages ≡ frames
-      → AnswersAll answers m.asker after.asker m.written after.written session to messages (Ok u) → fault ≡ None
-      → count ≡ length frames → sum ≡ total + length piece
-      → (ts : List Turn) × (bytes : List ℕ) × (left : List ℕ) × Stands before after to new (answered + count) sum ts bytes left
-  piece-stands before m after session to feeder new answered total count sum turns read held piece frames messages fault u s f c same a none n t =
+  pub piece-stands : (before m after : Connection A) (session to : Kept) (feeder new : Option (List ℕ)) (place now : FramePlace) (total sum : ℕ) (turns : List Turn) (read held piece : List ℕ) (frames messages : List Message) (fault : Option WrapFault) (u : Unit {0})
+      → Stands before m session feeder place total turns read held → Feeds feeder piece frames fault new → Consumes m.unread after.unread piece → messages ≡ frames
+      → AnswersAll answers m.asker after.asker m.written after.written session to messages (Ok u) → now ≡ moved place messages → fault ≡ None
+      → sum ≡ total + length piece
+      → (ts : List Turn) × (bytes : List ℕ) × (left : List ℕ) × Stands before after to new now sum ts bytes left
+  piece-stands before m after session to feeder new place now total sum turns read held piece frames messages fault u s f c same a n none t =
       let reads = reads_at feeder held piece frames fault new read (messages_of turns) s.feeds f s.splits in
-      let on = stands-on before m after session to new answered total turns a.0 read piece frames fault s.talks s.count s.bytes (Consumes-trans before.unread m.unread after.unread read piece s.consumed c) reads none (a.1 ∙ same) a.2 in
-      (turns ++ a.0, read ++ piece, on.0, rw (n, t) on.1)
+      let on = stands-on before m after session to new place now total turns a.0 read piece frames fault s.talks s.behind (n ∙ ap (moved place) same) s.bytes (Consumes-trans before.unread m.unread after.unread read piece s.consumed c) reads none (a.1 ∙ same) a.2 in
+      (turns ++ a.0, read ++ piece, on.0, rw t on.1)
 
-  -- no more frames than bytes
-  frames-short : (ms : List Message) → length ms ≤ length (frames_of ms)
+  -- each frame has a header of eight bytes
+  frames-short : (ms : List Message) → 8 * length ms ≤ length (frames_of ms)
   frames-short [] = omega arith
   frames-short (m ∷ ms) = omega (arith, frames-short ms, length-append (frame_of m) (frames_of ms))
 
-  pub few-frames : (before m : Connection A) (session : Kept) (feeder new : Option (List ℕ)) (answered total : ℕ) (turns : List Turn) (read held piece : List ℕ) (frames : List Message) (fault : Option WrapFault)
-      → Stands before m session feeder answered total turns read held → Feeds feeder piece frames fault new → answered + length frames ≤ total + length piece
-  few-frames before m session feeder new answered total turns read held piece frames fault s f =
+  -- the place of the next frame has a number that isn't 0
+  pub some-frame : (before m : Connection A) (session : Kept) (feeder : Option (List ℕ)) (place : FramePlace) (total : ℕ) (turns : List Turn) (read held : List ℕ)
+      → Stands before m session feeder place total turns read held → 0 < place.frame
+  some-frame before m session feeder place total turns read held s = omega (arith, ap (λ (p : FramePlace). p.frame) s.behind)
+
+  -- no more frames than there is room for in the bytes so far
+  pub few-frames : (before m : Connection A) (session : Kept) (feeder new : Option (List ℕ)) (place : FramePlace) (total : ℕ) (turns : List Turn) (read held piece : List ℕ) (frames messages : List Message) (fault : Option WrapFault)
+      → Stands before m session feeder place total turns read held → Feeds feeder piece frames fault new → messages ≡ frames
+      → (8 * (place.frame + length messages) ≤ 8 + (total + length piece)) × (place.byte + length (frames_of messages) ≤ total + length piece)
+  few-frames before m session feeder new place total turns read held piece frames messages fault s f same =
       let reads = reads_at feeder held piece frames fault new read (messages_of turns) s.feeds f s.splits in
       let p = Reads-splits (read ++ piece) (messages_of turns ++ frames) fault new reads in
-      omega (arith, frames-short (messages_of turns ++ frames), ap (λ (t : List ℕ). length t) p.1.whole, length-append read piece, length-append (messages_of turns) frames, length-append (frames_of (messages_of turns ++ frames)) p.0, length-map turns message_of, s.bytes, s.count)
+      let now = ap (λ (q : FramePlace). moved q frames) s.behind ∙ moved-behind (messages_of turns) frames in
+      let bytes = ap (λ (t : List ℕ). length t) p.1.whole ∙ length-append (frames_of (messages_of turns ++ frames)) p.0 in
+      let read_so_far = length-append read piece in (
+        rw same (omega (arith, frames-short (messages_of turns ++ frames), ap (λ (q : FramePlace). q.frame) now, bytes, read_so_far, s.bytes)),
+        rw same (omega (arith, ap (λ (q : FramePlace). q.byte) now, bytes, read_so_far, s.bytes)),
+      )
 
-  pub stops-at_limit : (before m : Connection A) (session : Kept) (feeder : Option (List ℕ)) (answered total : ℕ) (turns : List Turn) (read held : List ℕ)
-      → Stands before m session feeder answered total turns read held → Stops answers plan before m Read
-  stops-at_limit before m session feeder answered total turns read held s =
-      stops-reading before m session feeder answered total turns read held m.unread s (Keeps-refl m.unread)
+  pub stops-at_limit : (before m : Connection A) (session : Kept) (feeder : Option (List ℕ)) (place : FramePlace) (total : ℕ) (turns : List Turn) (read held : List ℕ)
+      → Stands before m session feeder place total turns read held → Stops answers plan before m Read
+  stops-at_limit before m session feeder place total turns read held s =
+      stops-reading before m session feeder place total turns read held m.unread s (Keeps-refl m.unread)

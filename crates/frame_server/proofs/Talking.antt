@@ -90,5 +90,5 @@ module _ {A : Type 0} (answers : Answers A) where
   stops-there old mid new w0 w1 w2 s0 s1 s2 turns messages f more GaveUp split k h =
       (turns, f, more, split, rw (h.0, h.1, h.2) k)
   stops-there old mid new w0 w1 w2 s0 s1 s2 turns messages f more Read split k h = absurd h
-  stops-there old mid new w0 w1 w2 s0 s1 s2 turns messages f more (Wrap fault) split k h = absurd h
-  stops-there old mid new w0 w1 w2 s0 s1 s2 turns messages f more Cut split k h = absurd h
+  stops-there old mid new w0 w1 w2 s0 s1 s2 turns messages f more (Wrap fault place) split k h = absurd h
+  stops-there old mid new w0 w1 w2 s0 s1 s2 turns messages f more (Cut place) split k h = absurd h

@@ -6,6 +6,8 @@ use Rattle.tcp_wrapper.specs.declared.message.Message.{Message}
 use Rattle.tcp_wrapper.specs.declared.fault.WrapFault.{WrapFault}
 use Rattle.tcp_wrapper.specs.declared.fault.WrapFault.TheVariants as faults
 use Rattle.tcp_wrapper.specs.Stream.{framed, frame_of, frames_of, IsFrame, IsPartial, Refuses, Splits}
+use Rattle.tcp_wrapper.specs.declared.place.FramePlace.{FramePlace}
+use Rattle.tcp_wrapper.specs.Places.{place_behind}
 use Rattle.meter_theory.specs.Plan.{Plan}
 use Rattle.xdlms_services.specs.Conversation.{Answers, Exchange, Leads, asked_list}
 use Rattle.acse_session.specs.Turns.{Turn}
@@ -75,12 +77,12 @@ Stops answers plan before after Read =
 -- of the answer to the last frame a beginning was written, and something is left
 Stops answers plan before after Write =
     (turns : List Turn) × (rest : List ℕ) × (written : List ℕ) × Served answers plan before after turns rest (conversation_of turns) written × BreaksOff turns written
--- a wrong header stands in a frame's place
-Stops answers plan before after (Wrap fault) =
-    (turns : List Turn) × (rest : List ℕ) × Answered answers plan before after turns rest × Refuses fault rest
--- the input ended inside a frame
-Stops answers plan before after Cut =
-    (turns : List Turn) × (rest : List ℕ) × Answered answers plan before after turns rest × IsPartial rest × (0 < length rest) × IsAtEnd after.unread
+-- a wrong header stands in a frame's place, behind the frames that were answered
+Stops answers plan before after (Wrap fault place) =
+    (turns : List Turn) × (rest : List ℕ) × Answered answers plan before after turns rest × Refuses fault rest × (place ≡ place_behind (messages_of turns))
+-- the input ended inside a frame, behind those that were answered
+Stops answers plan before after (Cut place) =
+    (turns : List Turn) × (rest : List ℕ) × Answered answers plan before after turns rest × IsPartial rest × (0 < length rest) × IsAtEnd after.unread × (place ≡ place_behind (messages_of turns))
 -- the frame that met it may have been asked for
 Stops answers plan before after Memory =
     (turns : List Turn) × (rest : List ℕ) × (last : Option Exchange) × Served answers plan before after turns rest (conversation_of turns ++ asked_list last) (answers_of turns) × (IsSome last → BeginsWithFrame rest)
@@ -98,20 +100,20 @@ abbrev pub IsOther : Result ℕ ServeFault → Type 0
 IsOther (Ok count) = ⊥
 IsOther (Err Read) = Unit {0}
 IsOther (Err Write) = Unit {0}
-IsOther (Err (Wrap fault)) = ⊥
-IsOther (Err Cut) = ⊥
+IsOther (Err (Wrap fault place)) = ⊥
+IsOther (Err (Cut place)) = ⊥
 IsOther (Err Memory) = Unit {0}
 IsOther (Err GaveUp) = Unit {0}
 
--- where a wrong header stands in a frame's place, that is the end
+-- where a wrong header stands in a frame's place, that is the end, and told with the place
 abbrev pub EndsAtWrongHeader : Option (List ℕ) → Result ℕ ServeFault → Type 0
 EndsAtWrongHeader unread result =
-    (input : List ℕ) (frames : List Message) (rest : List ℕ) (fault : WrapFault) → unread ≡ Some input → Splits input frames rest → Refuses fault rest → (result ≡ Err (Wrap fault)) ⊎ IsOther result
+    (input : List ℕ) (frames : List Message) (rest : List ℕ) (fault : WrapFault) → unread ≡ Some input → Splits input frames rest → Refuses fault rest → (result ≡ Err (Wrap fault (place_behind frames))) ⊎ IsOther result
 
--- where the input ends inside a frame, that is the end
+-- where the input ends inside a frame, that is the end, and told with the place of the frame
 abbrev pub EndsInsideFrame : Option (List ℕ) → Result ℕ ServeFault → Type 0
 EndsInsideFrame unread result =
-    (input : List ℕ) (frames : List Message) (rest : List ℕ) → unread ≡ Some input → Splits input frames rest → IsPartial rest → 0 < length rest → (result ≡ Err Cut) ⊎ IsOther result
+    (input : List ℕ) (frames : List Message) (rest : List ℕ) → unread ≡ Some input → Splits input frames rest → IsPartial rest → 0 < length rest → (result ≡ Err (Cut (place_behind frames))) ⊎ IsOther result
 
 -- where the input is whole frames, all are answered
 abbrev pub AnswersWholeFrames : Option (List ℕ) → Result ℕ ServeFault → Type 0
@@ -120,13 +122,13 @@ AnswersWholeFrames unread result =
 
 -- ---- the parts
 
--- how a session ends where its stream is read no further
-abbrev pub stop_of_fault : WrapFault → ServeFault
-stop_of_fault faults.Version = Wrap faults.Version
-stop_of_fault faults.Destination = Wrap faults.Destination
-stop_of_fault faults.Length = Wrap faults.Length
-stop_of_fault faults.Memory = Memory
-stop_of_fault faults.Failed = Wrap faults.Failed
+-- how a session ends where its stream is read no further than this place
+abbrev pub stop_of_fault : WrapFault → FramePlace → ServeFault
+stop_of_fault faults.Version place = Wrap faults.Version place
+stop_of_fault faults.Destination place = Wrap faults.Destination place
+stop_of_fault faults.Length place = Wrap faults.Length place
+stop_of_fault faults.Memory place = Memory
+stop_of_fault faults.Failed place = Wrap faults.Failed place
 
 -- the session's steps, in order
 abbrev pub Run : Kept → List Turn → Kept → Type 0
@@ -148,8 +150,8 @@ AnswersOne answers old new before after from to message (Err Memory) =
     (last : Option Exchange) × Leads answers old (asked_list last) new × (after ≡ before)
 AnswersOne answers old new before after from to message (Err GaveUp) = (new ≡ old) × (to ≡ from) × (after ≡ before)
 AnswersOne answers old new before after from to message (Err Read) = ⊥
-AnswersOne answers old new before after from to message (Err (Wrap fault)) = ⊥
-AnswersOne answers old new before after from to message (Err Cut) = ⊥
+AnswersOne answers old new before after from to message (Err (Wrap fault place)) = ⊥
+AnswersOne answers old new before after from to message (Err (Cut place)) = ⊥
 
 -- several frames are answered
 abbrev pub AnswersAll : {A : Type 0} → Answers A → A → A → Option (List ℕ) → Option (List ℕ) → Kept → Kept → List Message → Result (Unit {0}) ServeFault → Type 0
@@ -162,5 +164,5 @@ AnswersAll answers old new before after from to messages (Err Memory) =
 AnswersAll answers old new before after from to messages (Err GaveUp) =
     (turns : List Turn) × (f : Message) × (more : List Message) × (messages ≡ messages_of turns ++ f ∷ more) × Talks answers old new before after from to turns (conversation_of turns) (answers_of turns)
 AnswersAll answers old new before after from to messages (Err Read) = ⊥
-AnswersAll answers old new before after from to messages (Err (Wrap fault)) = ⊥
-AnswersAll answers old new before after from to messages (Err Cut) = ⊥
+AnswersAll answers old new before after from to messages (Err (Wrap fault place)) = ⊥
+AnswersAll answers old new before after from to messages (Err (Cut place)) = ⊥

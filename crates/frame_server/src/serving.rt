@@ -12,6 +12,7 @@ use tcp_wrapper::fault::WrapFault;
 use tcp_wrapper::feeder::Feeder;
 use tcp_wrapper::framing::{SERVER_PORT, frame};
 use tcp_wrapper::message::Message;
+use tcp_wrapper::place::FramePlace;
 use whole_writes::write_whole;
 use xdlms_services::asker::Asker;
 
@@ -106,7 +107,8 @@ fn answer_input<R: Read, W: Write, A: Asker, G: Gate>(
 {
     let mut feeder = Feeder::new(alloc);
     let mut session = Session::new(plan);
-    let mut answered = 0u64;
+    // Where the next frame begins that wasn't answered.
+    let mut place = FramePlace::first();
     let mut total = 0u64;
     let mut buffer = [0u8; PIECE];
     for _ in 0..u64::MAX {
@@ -115,9 +117,9 @@ fn answer_input<R: Read, W: Write, A: Asker, G: Gate>(
         };
         if count == 0 {
             return if feeder.is_idle() {
-                Ok(answered)
+                Ok(place.frame - 1)
             } else {
-                Err(ServeFault::Cut)
+                Err(ServeFault::Cut(place))
             };
         }
         let Some(sum) = total.checked_add(count as u64) else {
@@ -126,21 +128,21 @@ fn answer_input<R: Read, W: Write, A: Asker, G: Gate>(
         total = sum;
         let fed = feeder.feed(alloc, &buffer[..count]);
         answer_all(alloc, writer, &mut session, asker, &fed.frames, seat)?;
-        answered += fed.frames.len() as u64;
+        place = place.behind(&fed.frames);
         if let Some(fault) = fed.fault {
-            return Err(stop_of(fault));
+            return Err(stop_of(fault, place));
         }
     }
     Err(ServeFault::Read)
 }
 
-/// How a connection ends where its stream is read no further.
-fn stop_of(fault: WrapFault) -> ServeFault
-    ensures { result ≡ stop_of_fault fault }
+/// How a connection ends where its stream is read no further than this place.
+fn stop_of(fault: WrapFault, place: FramePlace) -> ServeFault
+    ensures { result ≡ stop_of_fault fault place }
 {
     match fault {
         WrapFault::Memory => ServeFault::Memory,
-        other => ServeFault::Wrap(other),
+        other => ServeFault::Wrap(other, place),
     }
 }
 

@@ -1,6 +1,6 @@
 //! A live meter that many connections over TCP ask at once, and that a driver's lines move.
 //!
-//! - [`serving::serve_at`] binds a place, and answers connections there.
+//! - [`serving::serve_at`] binds a place, and answers connections there; [`bind_fault::BindFault`] says why it isn't bound.
 //! - [`sessions::serve_sessions`] answers connections, each in a thread of its own, on one board.
 //! - [`asking::PortAsker`] is what a session asks: a port of the board, with its share and its reader.
 //! - [`output::SharedOutput`] is written by the threads of a server, and by what makes the driver's lines.
@@ -9,6 +9,7 @@
 
 mod accepting;
 pub mod asking;
+pub mod bind_fault;
 mod by_line;
 pub mod driver;
 pub mod fault;

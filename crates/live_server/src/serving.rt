@@ -3,6 +3,7 @@ ghost use Rattle.std.specs.Prelude.{◌≡◌, IfOk};
 ghost use Rattle.meter_theory.specs.States.{IsState};
 ghost use Rattle.step_keeping.specs.Keeping.{AreKept};
 
+use crate::bind_fault::fault_of;
 use crate::fault::ServerFault;
 use crate::sessions::{Driven, Service, serve_accepted, serve_kept};
 use crate::sitting::Manners;
@@ -116,8 +117,9 @@ where
     R: AllocGlobal + Net<Stream = TcpStream, Listener = TcpListener>,
     E: Write,
 {
-    let Ok(listener) = TcpListener::bind(rt, (place.address, place.port.get())) else {
-        return Err(ServerFault::Listen);
+    let listener = match TcpListener::bind(rt, (place.address, place.port.get())) {
+        Ok(listener) => listener,
+        Err(error) => return Err(fault_of(&error)),
     };
     tell_place(rt.alloc(), &listener, errors);
     Ok(listener)

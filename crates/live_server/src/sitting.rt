@@ -221,7 +221,10 @@ fn end_of(ended: &Result<u64, ServeFault>, seen: Seen, doubt: bool) -> End {
         _ if seen.is_idle => End::Idle,
         Ok(_) => End::Peer,
         Err(ServeFault::GaveUp) => End::Gate,
-        Err(fault) => End::Fault(fault.words()),
+        Err(fault) => match fault.place() {
+            Some(place) => End::Frame(fault.words(), place),
+            None => End::Fault(fault.words()),
+        },
     }
 }
 

@@ -1,8 +1,9 @@
 -- What is told of a connection. All of it but the names of diagnostics is own profile.
 use Rattle.std.specs.Prelude.{ℕ, ◌==◌, List, [], ◌++◌, Option, Some, None, codes, if◌then◌else◌}
 use Rattle.std.specs.Fmt.{decimal}
+use Rattle.tcp_wrapper.specs.Places.{place_words}
 use Rattle.peer_watch.specs.declared.events.End.{End}
-use Rattle.peer_watch.specs.declared.events.End.TheVariants.{Peer, Idle, Gate, Fault}
+use Rattle.peer_watch.specs.declared.events.End.TheVariants.{Peer, Idle, Gate, Fault, Frame}
 use Rattle.peer_watch.specs.declared.events.Event.{Event}
 use Rattle.peer_watch.specs.declared.events.Event.TheVariants.{Opened, Associated, Refused, Released, Closed, Full}
 
@@ -33,6 +34,7 @@ end_words Peer = codes "closed by the peer"
 end_words Idle = codes "closed as idle"
 end_words Gate = codes "closed at its gate"
 end_words (Fault words) = codes "closed, " ++ words.now
+end_words (Frame words place) = codes "closed, " ++ (place_words place ++ (codes ": " ++ words.now))
 
 abbrev pub requests_words : ℕ → List ℕ
 requests_words count = decimal count ++ (if count == 1 then codes " request" else codes " requests")

@@ -1,4 +1,7 @@
 //! What is told of a connection (own profile).
+
+use tcp_wrapper::place::FramePlace;
+
 /// Why a connection was closed.
 #[derive(Clone, Copy)]
 pub enum End {
@@ -10,6 +13,8 @@ pub enum End {
     Gate,
     /// A fault, in its own words.
     Fault(&'static str),
+    /// A fault of a frame, in its own words, and where the frame begins.
+    Frame(&'static str, FramePlace),
 }
 
 /// What is told of a connection.

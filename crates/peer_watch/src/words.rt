@@ -1,15 +1,18 @@
 //! Events of connections in words (own profile).
 ghost use Rattle.std.specs.Prelude.{◌≡◌, ◌++◌, option_map};
 ghost use Rattle.peer_watch.specs.Told as told;
-ghost use Rattle.peer_watch.specs.Words.{numbered, words_text};
+ghost use Rattle.peer_watch.specs.Words.{numbered, placed, words_text};
 
 use crate::events::{End, Event};
 use std::fmt;
+use tcp_wrapper::place::FramePlace;
 
-/// An event in words: its own, then those that it brings, and then a number between words, where it has one.
+/// An event in words: its own, then the frame that it tells of, where it is one of a frame, then the words that it brings, and then a
+/// number between words, where it has one.
 #[derive(Clone, Copy, Drop)]
 pub(crate) struct Words<'e> {
     own: &'static str,
+    frame: Placed,
     brought: &'e str,
     number: Numbered,
 }
@@ -32,6 +35,24 @@ impl fmt::Display for Numbered {
     }
 }
 
+/// The place of a frame before the words that are told of it, where there is one.
+#[derive(Clone, Copy, Drop)]
+pub(crate) struct Placed(Option<FramePlace>);
+
+impl fmt::Display for Placed {
+    ghost use Rattle.std.specs.Prelude.{Some};
+    ghost use Rattle.peer_watch.specs.Words.{placed};
+
+    ghost output = { λ place. Some (placed place.0) };
+
+    fn fmt<W: fmt::Write>(&self, f: &mut fmt::Formatter<W>) -> fmt::Result {
+        match self.0 {
+            Some(place) => write!(f, "{place}: "),
+            None => Ok(()),
+        }
+    }
+}
+
 impl fmt::Display for Words<'_> {
     ghost use Rattle.std.specs.Prelude.{Some};
     ghost use Rattle.peer_watch.specs.Words.{words_text};
@@ -41,10 +62,11 @@ impl fmt::Display for Words<'_> {
     fn fmt<W: fmt::Write>(&self, f: &mut fmt::Formatter<W>) -> fmt::Result {
         let Words {
             own,
+            frame,
             brought,
             number,
         } = *self;
-        write!(f, "{own}{brought}{number}")
+        write!(f, "{own}{frame}{brought}{number}")
     }
 }
 
@@ -78,6 +100,7 @@ fn plain<'e>(own: &'static str, brought: &'e str) -> Words<'e>
 {
     Words {
         own,
+        frame: Placed(None),
         brought,
         number: Numbered(None),
     }
@@ -93,6 +116,7 @@ fn refusal_words(number: u8) -> Words<'static>
     };
     Words {
         own: "refused, ",
+        frame: Placed(None),
         brought,
         number: Numbered(Some((before, u64::from(number), behind))),
     }
@@ -116,7 +140,7 @@ fn diagnostic_name(number: u8) -> Option<&'static str>
 fn closed_words(why: End, requests: u64) -> Words<'static>
     ensures { words_text result ≡ told.closed_words why requests }
 {
-    let (own, brought) = end_words(why);
+    let (own, frame, brought) = end_words(why);
     let behind = if requests == 1 {
         " request"
     } else {
@@ -124,19 +148,21 @@ fn closed_words(why: End, requests: u64) -> Words<'static>
     };
     Words {
         own,
+        frame,
         brought,
         number: Numbered(Some((", ", requests, behind))),
     }
 }
 
-/// The end of a connection: what is told of each, and then why.
-fn end_words(why: End) -> (&'static str, &'static str)
-    ensures { result.0.now ++ result.1.now ≡ told.end_words why }
+/// The end of a connection: what is told of each, at which frame, and then why.
+fn end_words(why: End) -> (&'static str, Placed, &'static str)
+    ensures { result.0.now ++ (placed result.1.0 ++ result.2.now) ≡ told.end_words why }
 {
     match why {
-        End::Peer => ("closed", " by the peer"),
-        End::Idle => ("closed", " as idle"),
-        End::Gate => ("closed", " at its gate"),
-        End::Fault(fault) => ("closed, ", fault),
+        End::Peer => ("closed", Placed(None), " by the peer"),
+        End::Idle => ("closed", Placed(None), " as idle"),
+        End::Gate => ("closed", Placed(None), " at its gate"),
+        End::Fault(fault) => ("closed, ", Placed(None), fault),
+        End::Frame(fault, place) => ("closed, ", Placed(Some(place)), fault),
     }
 }

@@ -11,10 +11,10 @@ number_of Length = 3
 number_of Memory = 4
 number_of Failed = 5
 
--- a fault as it is printed (own profile)
+-- a fault as it is told: by its number, and in words (own profile)
 abbrev pub fault_words : WrapFault → List ℕ
-fault_words Version = codes "frame fault 1"
-fault_words Destination = codes "frame fault 2"
-fault_words Length = codes "frame fault 3"
-fault_words Memory = codes "frame fault 4"
-fault_words Failed = codes "frame fault 5"
+fault_words Version = codes "frame fault 1: the version in its header isn't 0001"
+fault_words Destination = codes "frame fault 2: it goes to another wPort than 0001, the server's"
+fault_words Length = codes "frame fault 3: its length is over 1024"
+fault_words Memory = codes "frame fault 4: out of memory"
+fault_words Failed = codes "frame fault 5: there was a fault before"

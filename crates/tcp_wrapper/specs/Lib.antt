@@ -1,3 +1,4 @@
 pub mod Stream
 pub mod Judging
+pub mod Places
 pub mod Faults

@@ -35,16 +35,17 @@ impl WrapFault {
         }
     }
 
-    /// The fault as it is told (own profile).
+    /// The fault as it is told, by its number and in words (own profile).
     pub fn words(self) -> &'static str
         ensures { result.now ≡ fault_words self }
     {
         match self {
-            WrapFault::Version => "frame fault 1",
-            WrapFault::Destination => "frame fault 2",
-            WrapFault::Length => "frame fault 3",
-            WrapFault::Memory => "frame fault 4",
-            WrapFault::Failed => "frame fault 5",
+            WrapFault::Version => "frame fault 1: the version in its header isn't 0001",
+            WrapFault::Destination =>
+                "frame fault 2: it goes to another wPort than 0001, the server's",
+            WrapFault::Length => "frame fault 3: its length is over 1024",
+            WrapFault::Memory => "frame fault 4: out of memory",
+            WrapFault::Failed => "frame fault 5: there was a fault before",
         }
     }
 }
