@@ -15,6 +15,8 @@ fault_words Memory = codes "out of memory"
 abbrev pub reason_words : Reason → List ℕ
 reason_words reasons.Short = codes "something is missing: a line has a word, one space and what is asked"
 reason_words reasons.Client = codes "the configuration has no client of this name, and no step begins with this word"
+reason_words reasons.Mark = codes "a byte order mark stands in front of it: lines are text without one"
+reason_words reasons.Words = codes "words follow the client's name: `cosem-flow encode` makes them into a step line"
 reason_words reasons.OddDigits = codes "the hex digits are odd in number: two make a byte"
 reason_words reasons.Digits = codes "the client's name isn't followed by hex digits and nothing else"
 reason_words reasons.Name = codes "the logical name isn't six numbers from 0 to 255, joined by dots, without leading zeros"

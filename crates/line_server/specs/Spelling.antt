@@ -1,5 +1,5 @@
 -- What a line says, and what is written.
-use Rattle.std.specs.Prelude.{ℕ, ◌+◌, ◌-◌, ◌%◌, ◌==◌, Bool, ◌&&◌, true, false, List, [], ◌∷◌, ◌++◌, length, take, drop, codes, position, slice_get, Option, Some, None, if◌then◌else◌}
+use Rattle.std.specs.Prelude.{ℕ, ◌+◌, ◌-◌, ◌%◌, ◌==◌, Bool, ◌&&◌, ◌||◌, is_some, true, false, List, [], ◌∷◌, ◌++◌, length, take, drop, codes, position, slice_get, Option, Some, None, if◌then◌else◌}
 use Rattle.std.specs.Fmt.{decimal}
 use Rattle.std.specs.Option.{option_map_or}
 use Rattle.std.specs.Str.{bytes_eq}
@@ -12,6 +12,7 @@ use Rattle.cosem_data.specs.declared.cell.CellRef.{CellRef}
 use Rattle.meter_theory.specs.Plan.{Plan, Object, class_of, client_named, clock_object, object_at}
 use Rattle.meter_theory.specs.Times.{Moment}
 use Rattle.value_text.specs.Texts.{name_in, bytes_in, value_in}
+use Rattle.value_words.specs.Stopping.{behind}
 use Rattle.civil_moment.specs.MomentText.{moment_in}
 use Rattle.line_server.specs.Words.{seconds_in}
 use Rattle.line_server.specs.declared.line.Line.{Line}
@@ -63,19 +64,31 @@ ticks_of (Some seconds) = Ticks seconds
 abbrev pub begins_ticks : Plan → List ℕ → Bool
 begins_ticks plan word = bytes_eq word (codes "tick") && (plan.version == 2)
 
--- why hex digits are none: they are odd in number, or one is no hex digit (own profile)
+-- whether a text begins as what a client asks does in words (own profile)
+abbrev pub begins_words : List ℕ → Bool
+begins_words text = is_some (behind (codes "get ") text) || (is_some (behind (codes "set ") text) || (is_some (behind (codes "act ") text) || is_some (behind (codes "apdu ") text)))
+
+-- why hex digits are none: they are words, they are odd in number, or one is no hex digit (own profile)
 abbrev pub digits_fault : List ℕ → Reason
-digits_fault text = if length text % 2 == 1 then reasons.OddDigits else reasons.Digits
+digits_fault text = if begins_words text then reasons.Words else if length text % 2 == 1 then reasons.OddDigits else reasons.Digits
 
 -- the APDU of a client, which has at least one byte (own profile)
 abbrev pub ask_of : ℕ → List ℕ → Line
 ask_of client [] = Unreadable reasons.Short
 ask_of client (b ∷ bs) = Ask (record { client = client; apdu = b ∷ bs })
 
--- what follows the space: hex digits in either case, two a byte (own profile)
-abbrev pub asked_by : Option ℕ → List ℕ → Line
-asked_by None text = Unreadable reasons.Client
-asked_by (Some client) text = option_map_or (ask_of client) (bytes_in text) (Unreadable (digits_fault text))
+-- whether a byte order mark stands in front of the text, as some editors put it there (own profile)
+abbrev pub begins_with_mark : List ℕ → Bool
+begins_with_mark text = is_some (behind (239 ∷ 187 ∷ 191 ∷ []) text)
+
+-- why a word is no client's name: a byte order mark stands in front of it, or there is no such client (own profile)
+abbrev pub client_fault : List ℕ → Reason
+client_fault word = if begins_with_mark word then reasons.Mark else reasons.Client
+
+-- what follows the client's word and the space: hex digits in either case, two a byte (own profile)
+abbrev pub asked_by : Option ℕ → (word text : List ℕ) → Line
+asked_by None word text = Unreadable (client_fault word)
+asked_by (Some client) word text = option_map_or (ask_of client) (bytes_in text) (Unreadable (digits_fault text))
 
 -- the place of the first space
 abbrev pub first_space : List ℕ → Option ℕ
@@ -88,7 +101,7 @@ said_by plan word text =
     else if bytes_eq word (codes "eval") then evaluation_of (name_in text)
     else if bytes_eq word (codes "at") then moment_at (clock_object plan) (moment_in text)
     else if begins_ticks plan word then ticks_of (seconds_in text)
-    else asked_by (client_named plan word) text
+    else asked_by (client_named plan word) word text
 
 -- the first word, the space at this place, and what follows (own profile)
 abbrev pub said_at : Plan → List ℕ → Option ℕ → Line

@@ -19,6 +19,7 @@ use object_model::plan::Plan;
 use std::alloc::Global;
 use value_text::name::name_in;
 use value_text::value::value_in;
+use value_words::marks::behind;
 use value_words::numbers::number_in;
 
 /// What a line says.
@@ -45,6 +46,8 @@ const HASH: u8 = b'#';
 const RETURN: u8 = b'\r';
 
 const SPACE: u8 = b' ';
+
+const BYTE_ORDER_MARK: &[u8] = b"\xEF\xBB\xBF";
 
 /// The words that begin a step of the meter itself. No client has such a name, but for `tick` in version 1.
 const INPUT: &[u8] = b"in";
@@ -139,7 +142,7 @@ fn said_by<'a>(
     } else if begins_ticks(plan, word) {
         Ok(ticks_of(seconds_in(text)))
     } else {
-        asked_by(plan.client_named(word), text, room)
+        asked_by(plan.client_named(word), word, text, room)
     }
 }
 
@@ -250,12 +253,17 @@ fn ticks_of(seconds: Option<u16>) -> Line<'static>
     }
 }
 
-/// What a line says by its client, if the plan knows it, and the hex digits behind the space.
-fn asked_by<'a>(client: Option<u8>, text: &[u8], room: &'a mut Vec<u8>) -> Result<Line<'a>, Memory>
-    ensures { IfOk result (λ x. x ≡ spec.asked_by client text.now) }
+/// What a line says by its client, if the plan knows it by the word, and the hex digits behind the space.
+fn asked_by<'a>(
+    client: Option<u8>,
+    word: &[u8],
+    text: &[u8],
+    room: &'a mut Vec<u8>,
+) -> Result<Line<'a>, Memory>
+    ensures { IfOk result (λ x. x ≡ spec.asked_by client word.now text.now) }
 {
     let Some(client) = client else {
-        return Ok(Line::Unreadable(Reason::Client));
+        return Ok(Line::Unreadable(client_fault(word)));
     };
     if decode(text, room)? {
         Ok(ask_of(client, room))
@@ -264,11 +272,41 @@ fn asked_by<'a>(client: Option<u8>, text: &[u8], room: &'a mut Vec<u8>) -> Resul
     }
 }
 
+/// Whether a byte order mark stands in front of the text, as some editors put it there.
+fn begins_with_mark(text: &[u8]) -> bool
+    ensures { result ≡ spec.begins_with_mark text.now }
+{
+    behind(BYTE_ORDER_MARK, text).is_some()
+}
+
+/// Why a word is no client's name.
+fn client_fault(word: &[u8]) -> Reason
+    ensures { result ≡ spec.client_fault word.now }
+{
+    if begins_with_mark(word) {
+        Reason::Mark
+    } else {
+        Reason::Client
+    }
+}
+
+/// Whether a text begins as what a client asks does in words.
+fn begins_words(text: &[u8]) -> bool
+    ensures { result ≡ spec.begins_words text.now }
+{
+    behind(b"get ", text).is_some()
+        || behind(b"set ", text).is_some()
+        || behind(b"act ", text).is_some()
+        || behind(b"apdu ", text).is_some()
+}
+
 /// Why hex digits are none.
 fn digits_fault(text: &[u8]) -> Reason
     ensures { result ≡ spec.digits_fault text.now }
 {
-    if text.len() % 2 == 1 {
+    if begins_words(text) {
+        Reason::Words
+    } else if text.len() % 2 == 1 {
         Reason::OddDigits
     } else {
         Reason::Digits

@@ -9,6 +9,10 @@ pub enum Reason {
     Short,
     /// Its first word is no client of the configuration, and begins no step of the meter itself.
     Client,
+    /// A byte order mark, the bytes EF BB BF, stands in front of it.
+    Mark,
+    /// What follows the client is a step in words.
+    Words,
     /// The hex digits of its APDU are odd in number.
     OddDigits,
     /// What follows the client isn't hex digits alone.
@@ -41,6 +45,9 @@ impl fmt::Display for Reason {
             Reason::Client => {
                 "the configuration has no client of this name, and no step begins with this word"
             }
+            Reason::Mark => "a byte order mark stands in front of it: lines are text without one",
+            Reason::Words =>
+                "words follow the client's name: `cosem-flow encode` makes them into a step line",
             Reason::OddDigits => "the hex digits are odd in number: two make a byte",
             Reason::Digits => "the client's name isn't followed by hex digits and nothing else",
             Reason::Name => {

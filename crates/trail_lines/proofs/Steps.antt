@@ -103,7 +103,7 @@ module _ (P : Plan) where
   swapped false false e = refl
 
   -- what stands behind the name of a client is what it asks
-  client-said : (name text : List ℕ) → may_be_named P.version name ≡ true → said_by P name text ≡ asked_by (client_named P name) text
+  client-said : (name text : List ℕ) → may_be_named P.version name ≡ true → said_by P name text ≡ asked_by (client_named P name) name text
   client-said name text h =
       let both = and_parts (is_client_name name) (not ((P.version == 2) && bytes_eq name (codes "tick"))) h in
       let short = and_parts (nat_le 1 (length name)) (nat_le (length name) NAME_CHARACTERS && (list_all is_name_byte name && not (is_step_word name))) both.0 in
@@ -115,8 +115,8 @@ module _ (P : Plan) where
       rw (words.0, others.1, others.0, tick) refl
 
   -- an APDU that a client asks by
-  asked-is : (c b : ℕ) (bs : List ℕ) → AreBytes (b ∷ bs) → asked_by (Some c) (encode_upper (b ∷ bs)) ≡ lines.Ask (record { client = c; apdu = b ∷ bs })
-  asked-is c b bs low = ap (λ o. option_map_or (ask_of c) o (lines.Unreadable (digits_fault (encode_upper (b ∷ bs))))) (hex-again (b ∷ bs) low)
+  asked-is : (name : List ℕ) (c b : ℕ) (bs : List ℕ) → AreBytes (b ∷ bs) → asked_by (Some c) name (encode_upper (b ∷ bs)) ≡ lines.Ask (record { client = c; apdu = b ∷ bs })
+  asked-is name c b bs low = ap (λ o. option_map_or (ask_of c) o (lines.Unreadable (digits_fault (encode_upper (b ∷ bs))))) (hex-again (b ∷ bs) low)
 
   ask-kept : (r : Bool) (ask : Ask) → with_return r (lines.Ask ask) ≡ lines.Ask ask
   ask-kept true ask = refl
@@ -133,7 +133,7 @@ module _ (P : Plan) where
       let text = encode_upper (b ∷ bs) in
       let r = ends_in_return (worded (n ∷ ns) text) in
       said-is n ns text (name-lacks 35 refl (n ∷ ns) h).0 (name-lacks 32 refl (n ∷ ns) h) (none-own (n ∷ ns) text (name-lacks 45 refl (n ∷ ns) h))
-      ∙ ap (λ l. Said (with_return r l)) (client-said (n ∷ ns) text h ∙ ap (λ o. asked_by o text) place ∙ asked-is c b bs low)
+      ∙ ap (λ l. Said (with_return r l)) (client-said (n ∷ ns) text h ∙ ap (λ o. asked_by o (n ∷ ns) text) place ∙ asked-is (n ∷ ns) c b bs low)
       ∙ ap Said (ask-kept r (record { client = c; apdu = b ∷ bs }))
 
   pub ask-says : IsSound P → (c : ℕ) (x : Client) → slice_get P.clients c ≡ Some x → (b : ℕ) (bs : List ℕ) → AreBytes (b ∷ bs) →
