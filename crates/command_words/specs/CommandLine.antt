@@ -169,6 +169,10 @@ given_labels = record (new_rule (codes "labels")) { action = Some Set; value_nam
 abbrev pub all : Rule
 all = flag (codes "all")
 
+-- `--quiet`, also more than once (own profile)
+abbrev pub silent : Rule
+silent = flag (codes "quiet")
+
 -- a command with these arguments, one behind another (own profile)
 abbrev pub with_rules : App → List Rule → App
 with_rules app rules = fold with_rule app rules
@@ -185,13 +189,13 @@ run_app = with_rules (new_app (codes "run")) (verbose ∷ trail_lines ∷ config
 abbrev pub edges_app : App
 edges_app = with_rules (new_app (codes "edges")) (form (codes "text") ∷ config_file ∷ [])
 
--- `label CONFIG` (own profile)
+-- `label [--verbose] [--quiet] CONFIG` (own profile)
 abbrev pub label_app : App
-label_app = with_rule (new_app (codes "label")) config_file
+label_app = with_rules (new_app (codes "label")) (verbose ∷ silent ∷ config_file ∷ [])
 
--- `check [--all] CONFIG LABELS` (own profile)
+-- `check [--all] [--verbose] [--quiet] CONFIG LABELS` (own profile)
 abbrev pub check_app : App
-check_app = with_rules (new_app (codes "check")) (all ∷ config_file ∷ labels_file ∷ [])
+check_app = with_rules (new_app (codes "check")) (all ∷ verbose ∷ silent ∷ config_file ∷ labels_file ∷ [])
 
 -- `why CONFIG CLIENT CELL` (own profile)
 abbrev pub why_app : App

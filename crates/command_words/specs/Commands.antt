@@ -12,11 +12,13 @@ use Rattle.command_words.specs.declared.command.Command.{Command}
 use Rattle.command_words.specs.declared.command.Command.TheVariants as commands
 use Rattle.command_words.specs.declared.command.EdgesForm.{EdgesForm}
 use Rattle.command_words.specs.declared.command.ReportForm.{ReportForm}
+use Rattle.command_words.specs.declared.command.Warned.{Warned}
+use Rattle.command_words.specs.declared.command.Warned.TheVariants as warnings
 use Rattle.command_words.specs.declared.name.CommandName.{CommandName}
 use Rattle.command_words.specs.declared.name.CommandName.TheVariants as names
 
 -- what is asked for, with the paths of the files that are named: of lines whether they are told of, and whether a trail's are among them; of edges the
--- form; of a verdict whether all that is refused is told; of ways the client and the cell; of a report the labels and the configuration that it is
+-- form; of least labels and of a verdict of what is warned, and of the latter whether all that is refused is told; of ways the client and the cell; of a report the labels and the configuration that it is
 -- compared with, where they are given, and the form; of whether lines are noticed the client; of an audit how many workers, which names, the file of
 -- further names, where it is given, and whether verdicts are explained and it is told how far it is; of a served meter how it is served;
 -- of a trail the client and the moment, where they are given, and whether it is printed as JSON; of a translation whether it is one of values (own profile)
@@ -24,8 +26,8 @@ pub data Asked : Type 0 where
   Demo : Bool → Asked
   Run : List ℕ → Bool → Bool → Asked
   Edges : List ℕ → EdgesForm → Asked
-  Label : List ℕ → Asked
-  Check : List ℕ → List ℕ → Bool → Asked
+  Label : List ℕ → Warned → Asked
+  Check : List ℕ → List ℕ → Bool → Warned → Asked
   Why : List ℕ → List ℕ → List ℕ → Asked
   Compare : List ℕ → List ℕ → Asked
   Report : List ℕ → Option (List ℕ) → Option (List ℕ) → ReportForm → Asked
@@ -42,8 +44,8 @@ abbrev pub asked_by : Command → Asked
 asked_by (commands.Demo is_verbose) = Demo is_verbose
 asked_by (commands.Run config is_verbose reads_trail) = Run config.now is_verbose reads_trail
 asked_by (commands.Edges config form) = Edges config.now form
-asked_by (commands.Label config) = Label config.now
-asked_by (commands.Check config labels tells_all) = Check config.now labels.now tells_all
+asked_by (commands.Label config warned) = Label config.now warned
+asked_by (commands.Check config labels tells_all warned) = Check config.now labels.now tells_all warned
 asked_by (commands.Why config client cell) = Why config.now client.now cell.now
 asked_by (commands.Compare old new) = Compare old.now new.now
 asked_by (commands.Report config labels against form) =
@@ -58,13 +60,17 @@ asked_by (commands.Trail file client since is_json) =
 asked_by (commands.Encode is_value) = Encode is_value
 asked_by (commands.Decode is_value) = Decode is_value
 
+-- of what is warned: of nothing with `--quiet`, and else of more with `-v` (own profile)
+abbrev pub warned_of : (is_silent is_verbose : Bool) → Warned
+warned_of is_silent is_verbose = if is_silent then warnings.Nothing else if is_verbose then warnings.SlipsAndWidths else warnings.Slips
+
 -- what a command asks for, by what its words say (own profile)
 abbrev pub asked_as : CommandName → Said → Asked
 asked_as names.Demo said = Demo said.is_verbose
 asked_as names.Run said = Run said.config said.is_verbose said.reads_trail
 asked_as names.Edges said = Edges said.config said.edges_form
-asked_as names.Label said = Label said.config
-asked_as names.Check said = Check said.config said.labels said.tells_all
+asked_as names.Label said = Label said.config (warned_of said.is_silent said.is_verbose)
+asked_as names.Check said = Check said.config said.labels said.tells_all (warned_of said.is_silent said.is_verbose)
 asked_as names.Why said = Why said.config said.client said.cell
 asked_as names.Compare said = Compare said.old said.new
 asked_as names.Report said = Report said.config said.given_labels said.against said.report_form

@@ -32,6 +32,7 @@ pub record Said : Type 0 where
   pub workers : ℕ
   pub serving : Served
   pub is_verbose : Bool
+  pub is_silent : Bool
   pub is_json : Bool
   pub is_value : Bool
   pub reads_trail : Bool
@@ -68,6 +69,7 @@ said_in rows = record {
   workers = count (codes "workers") rows;
   serving = served_in rows;
   is_verbose = has_flag (codes "verbose") rows;
+  is_silent = has_flag (codes "quiet") rows;
   is_json = has_flag (codes "json") rows;
   is_value = has_flag (codes "value") rows;
   reads_trail = has_flag (codes "trail") rows;
@@ -97,6 +99,7 @@ said_by words = record {
   workers = non_zero_usize_get words.workers;
   serving = served_by words.serving;
   is_verbose = words.is_verbose;
+  is_silent = words.is_silent;
   is_json = words.is_json;
   is_value = words.is_value;
   reads_trail = words.reads_trail;

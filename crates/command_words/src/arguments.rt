@@ -161,6 +161,19 @@ pub(crate) const TELL_NOTICES: ArgumentRow<'static> = ArgumentRow {
     ..TELL_LINES
 };
 
+/// Whether it is told too how many cells admit more clients than they need.
+pub(crate) const TELL_WIDTHS: ArgumentRow<'static> = ArgumentRow {
+    help: "Warn on standard error too of how many cells the labels and the policy admit more clients to than they need",
+    ..TELL_LINES
+};
+
+/// Whether nothing is warned of.
+pub(crate) const NO_WARNINGS: ArgumentRow<'static> = ArgumentRow {
+    id: "quiet",
+    help: "Warn of nothing",
+    ..FLAG
+};
+
 /// Whether all that is refused is told.
 pub(crate) const ALL: ArgumentRow<'static> = ArgumentRow {
     id: "all",

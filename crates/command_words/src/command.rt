@@ -25,6 +25,17 @@ pub enum ReportForm {
     Json,
 }
 
+/// Of what is warned on standard error where a configuration has no fault (own profile).
+#[derive(Clone, Copy, Debug, PartialEq, Eq, Drop)]
+pub enum Warned {
+    /// Of nothing.
+    Nothing,
+    /// Of what is allowed and most likely a slip.
+    Slips,
+    /// Of that, and of how many cells the labels and the policy admit more clients to than they need.
+    SlipsAndWidths,
+}
+
 /// What a command line asks for, with the paths of the files that it names (own profile).
 #[derive(Drop)]
 pub enum Command<'a> {
@@ -44,15 +55,17 @@ pub enum Command<'a> {
         config: &'a str,
         form: EdgesForm,
     },
-    /// To print the least labels of a configuration.
+    /// To print the least labels of a configuration, and to warn of this.
     Label {
         config: &'a str,
+        warned: Warned,
     },
-    /// To print the verdict on a configuration and on labels for it, and all that is refused where that is asked for.
+    /// To print the verdict on a configuration and on labels for it, and all that is refused where that is asked for, and to warn of this.
     Check {
         config: &'a str,
         labels: &'a str,
         tells_all: bool,
+        warned: Warned,
     },
     /// To print by which shortest ways a client may influence and learn a cell.
     Why {

@@ -13,7 +13,7 @@ mod rows;
 pub mod serving;
 mod words;
 
-pub use command::{Command, EdgesForm, ReportForm};
+pub use command::{Command, EdgesForm, ReportForm, Warned};
 pub use fault::WordsFault;
 pub use reading::read_words;
 pub use serving::Serving;

@@ -10,7 +10,7 @@ ghost use Rattle.command_words.specs.Said.{said_by};
 ghost use Rattle.command_words.specs.declared.name.CommandName.TheVariants as names;
 ghost use Rattle.command_words.specs.Faults.{HasMistake, IfHelp, IfUsage, IfVersion, IsMisuse, UnlessMemory};
 
-use crate::command::Command;
+use crate::command::{Command, Warned};
 use crate::commands::all_commands;
 use crate::fault::{WordsFault, fault_told, misuse_told};
 use crate::misuse::misuse_in;
@@ -100,11 +100,13 @@ fn command_named<'a>(
         },
         CommandName::Label => Command::Label {
             config: words.config,
+            warned: warned_of(words.is_silent, words.is_verbose),
         },
         CommandName::Check => Command::Check {
             config: words.config,
             labels: words.labels,
             tells_all: words.tells_all,
+            warned: warned_of(words.is_silent, words.is_verbose),
         },
         CommandName::Why => Command::Why {
             config: words.config,
@@ -149,6 +151,19 @@ fn command_named<'a>(
             is_value: words.is_value,
         },
     })
+}
+
+/// Of what is warned: of nothing with `--quiet`, and else of more with `-v`.
+fn warned_of(is_silent: bool, is_verbose: bool) -> Warned
+    ensures { result ≡ spec.warned_of is_silent is_verbose }
+{
+    if is_silent {
+        Warned::Nothing
+    } else if is_verbose {
+        Warned::SlipsAndWidths
+    } else {
+        Warned::Slips
+    }
 }
 
 /// An audit, with a list of its own of the names.

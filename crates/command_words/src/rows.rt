@@ -48,7 +48,11 @@ const LABEL: CommandRow<'static> = CommandRow {
     word: "label",
     about: "Print the least labels of a configuration",
     example: "Example: cosem-flow label mine.toml > mine.labels",
-    arguments: &[arguments::CONFIG_SOURCE],
+    arguments: &[
+        arguments::TELL_WIDTHS,
+        arguments::NO_WARNINGS,
+        arguments::CONFIG_SOURCE,
+    ],
 };
 
 const CHECK: CommandRow<'static> = CommandRow {
@@ -57,6 +61,8 @@ const CHECK: CommandRow<'static> = CommandRow {
     example: "Example: cosem-flow check mine.toml mine.labels",
     arguments: &[
         arguments::ALL,
+        arguments::TELL_WIDTHS,
+        arguments::NO_WARNINGS,
         arguments::CONFIG_SOURCE,
         arguments::LABELS_SOURCE,
     ],

@@ -1,0 +1,4 @@
+mod AnyRight
+mod Comes
+mod NeverComes
+mod Placed

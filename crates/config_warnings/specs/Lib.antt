@@ -1,0 +1,4 @@
+pub mod Dates
+pub mod Found
+pub mod Widths
+pub mod Words
