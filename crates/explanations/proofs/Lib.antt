@@ -1,1 +1,2 @@
 pub mod Lasts
+mod SeveralLemmas

@@ -15,3 +15,6 @@ pub mod Asked
 pub mod Near
 pub mod Known
 pub mod Standing
+pub mod Several
+pub mod Warnings
+pub mod Others

@@ -44,7 +44,12 @@ fn value_line(alloc: Global, value: Option<&Value>) -> Result<String, Memory>
 }
 
 /// The lines that tell what stands at a place: the object's name, the text, and the value that the text is.
-fn shown_lines(alloc: Global, code: Code, place: &str, whole: &Value) -> Result<String, Memory>
+pub(crate) fn shown_lines(
+    alloc: Global,
+    code: Code,
+    place: &str,
+    whole: &Value,
+) -> Result<String, Memory>
     ensures { IfOk result (λ lines. string_bytes lines
         ≡ spec.shown_lines code place.now (view whole.now)) }
 {
@@ -55,7 +60,13 @@ fn shown_lines(alloc: Global, code: Code, place: &str, whole: &Value) -> Result<
 }
 
 /// What is told of a fault at a place of a text that is this table.
-fn told(alloc: Global, file: &str, code: Code, place: &str, whole: &Value) -> Result<String, Memory>
+pub(crate) fn told(
+    alloc: Global,
+    file: &str,
+    code: Code,
+    place: &str,
+    whole: &Value,
+) -> Result<String, Memory>
     ensures { IfOk result (λ told. string_bytes told
         ≡ spec.told file.now code place.now (view whole.now)) }
 {

@@ -1,5 +1,5 @@
 -- What commands come to over files.
-use Rattle.std.proofs.Common.{◌≡◌, ℕ, Bool, true, false, List, [], Option, Some, inl, inr, refl, ap, sym, subst, ◌∙◌, Result, Ok, Err, IfOk, IfErr, Global, String, string_bytes}
+use Rattle.std.proofs.Common.{◌≡◌, ℕ, Bool, true, false, List, Option, Some, inl, inr, refl, ap, sym, subst, ◌∙◌, Result, Ok, Err, IfOk, IfErr}
 use Rattle.std.specs.Prelude.{◌≢◌, MatchResult}
 use Rattle.config_reader.specs.ConfigOf.{Reads, config_of}
 use Rattle.config_rules.specs.Faultless.{IsPolicyOf}
@@ -12,13 +12,13 @@ use Rattle.verdict.proofs.Judged.{judged, judged-whole}
 use Rattle.verdict.specs.declared.Verdict.TheVariants.{Accepted, Config, Labels, Refused}
 use Rattle.live_server.specs.declared.fault.ServerFault.{ServerFault}
 use Rattle.step_stores.specs.declared.fault.StoreFault.{StoreFault}
-use Rattle.meter_server.specs.Answering.{IsAcceptedOf, IsEndOfServing, IsNoAcceptance, IsServed, JudgesFiles, RefusesFiles, TellsJudgement, TellsUnstored}
+use Rattle.meter_server.specs.Answering.{IsAcceptedOf, IsEndOfServing, IsNoAcceptance, IsServed, RefusesFiles, TellsJudgement, TellsUnstored}
 use Rattle.meter_server.specs.Files.{IsFile, TellsUnread}
 use Rattle.meter_server.specs.Outcomes.{ended}
 use Rattle.meter_server.specs.Program.{IsJudged, IsJudgedWhole, RefusesOn}
 use Rattle.meter_server.proofs.Made.{said-of}
 use Rattle.meter_server.specs.declared.outcome.Outcome.{Outcome}
-use Rattle.meter_server.specs.declared.outcome.Outcome.TheVariants.{Done, Judged, JudgedWhole, JudgedSide, Compared, Words, Unread, UnreadFleet, Stranger, Fault, Broken, Unserved, Unstored, Audited, Unaudited, Unwritten, Untranslated, Closed}
+use Rattle.meter_server.specs.declared.outcome.Outcome.TheVariants.{Done, Warned, Judged, JudgedWhole, JudgedSide, Compared, Words, Unread, UnreadFleet, Stranger, Fault, Broken, Unserved, Unbound, Unstored, Audited, Unaudited, Unwritten, Untranslated, Closed}
 use Rattle.meter_server.specs.declared.texts.Source.{Source}
 use Rattle.text_files.specs.Files.{MayRead}
 use Rattle.text_files.specs.declared.FileFault.{FileFault}
@@ -38,9 +38,11 @@ unread-accepts-nothing path why (Stranger told) h = tt
 unread-accepts-nothing path why (Fault fault) h = tt
 unread-accepts-nothing path why (Broken fault) h = tt
 unread-accepts-nothing path why (Unserved fault) h = tt
+unread-accepts-nothing path why (Unbound bound cause) h = tt
 unread-accepts-nothing path why (Unstored file fault) h = tt
 unread-accepts-nothing path why (JudgedSide side verdict text) h = tt
 unread-accepts-nothing path why (Compared gives) h = tt
+unread-accepts-nothing path why (Warned warnings) h = tt
 unread-accepts-nothing path why (UnreadFleet files) h = tt
 unread-accepts-nothing path why (Audited text accepts explanation) h = tt
 unread-accepts-nothing path why (Unaudited fault) h = tt
@@ -62,9 +64,11 @@ refusal-accepts-nothing config labels verdict (Stranger told) never h = absurd h
 refusal-accepts-nothing config labels verdict (Fault fault) never h = absurd h
 refusal-accepts-nothing config labels verdict (Broken fault) never h = absurd h
 refusal-accepts-nothing config labels verdict (Unserved fault) never h = absurd h
+refusal-accepts-nothing config labels verdict (Unbound bound cause) never h = absurd h
 refusal-accepts-nothing config labels verdict (Unstored file fault) never h = absurd h
 refusal-accepts-nothing config labels verdict (JudgedSide side judged text) never h = absurd h
 refusal-accepts-nothing config labels verdict (Compared gives) never h = absurd h
+refusal-accepts-nothing config labels verdict (Warned warnings) never h = absurd h
 refusal-accepts-nothing config labels verdict (UnreadFleet files) never h = absurd h
 refusal-accepts-nothing config labels verdict (Audited text accepts explanation) never h = absurd h
 refusal-accepts-nothing config labels verdict (Unaudited fault) never h = absurd h
@@ -89,9 +93,11 @@ whole-accepts-nothing config labels verdict told (Stranger words) never h = tt
 whole-accepts-nothing config labels verdict told (Fault fault) never h = tt
 whole-accepts-nothing config labels verdict told (Broken fault) never h = tt
 whole-accepts-nothing config labels verdict told (Unserved fault) never h = tt
+whole-accepts-nothing config labels verdict told (Unbound bound cause) never h = tt
 whole-accepts-nothing config labels verdict told (Unstored file fault) never h = tt
 whole-accepts-nothing config labels verdict told (JudgedSide side judged text) never h = tt
 whole-accepts-nothing config labels verdict told (Compared gives) never h = tt
+whole-accepts-nothing config labels verdict told (Warned warnings) never h = tt
 whole-accepts-nothing config labels verdict told (UnreadFleet files) never h = tt
 whole-accepts-nothing config labels verdict told (Audited text accepts explanation) never h = tt
 whole-accepts-nothing config labels verdict told (Unaudited fault) never h = tt
@@ -100,7 +106,7 @@ whole-accepts-nothing config labels verdict told (Untranslated fault) never h = 
 whole-accepts-nothing config labels verdict told Closed never h = tt
 
 -- a refusal of a plan is one of the text that has it
-refused-so : (tells_all : Bool) (config labels : Source) (made : Plan × Policy) (outcome : Outcome) → Reads (Ok made) (config_of config.text.now) → RefusesOn config labels made.0 made.1 tells_all outcome →
+pub refused-so : (tells_all : Bool) (config labels : Source) (made : Plan × Policy) (outcome : Outcome) → Reads (Ok made) (config_of config.text.now) → RefusesOn config labels made.0 made.1 tells_all outcome →
     TellsJudgement tells_all config labels outcome × IsNoAcceptance outcome
 refused-so false config labels made outcome reads h = (
   (h.0, judged made (config_of config.text.now) labels.text.now h.0 reads h.1, h.3),
@@ -134,15 +140,6 @@ accepted-or-not reads tells_all config_path labels_path config labels made (Err 
     let told = refused-so tells_all config labels made outcome h refused in
     (inl (config, config_is, inr ((s.0, s.1), inl (labels, labels_are, told.0))), told.1)
 
--- where labels are accepted nothing fails that could be told
-pub accepted-so : (reads : MayRead) (tells_all : Bool) (config_path labels_path : List ℕ) (checked : Checked) (text : String Global) → IsAcceptedOf reads config_path labels_path checked → string_bytes text ≡ [] →
-    JudgesFiles reads tells_all config_path labels_path (Judged Accepted text)
-accepted-so reads false config_path labels_path checked text a empty =
-    inl (a.config, a.config_is, inr ((a.said, a.faultless), inl (a.labels, a.labels_are, (Accepted, a.accepted, (refl, inl empty)))))
-accepted-so reads true config_path labels_path checked text a empty =
-    let v = a.accepted in
-    inl (a.config, a.config_is, inr ((a.said, a.faultless), inl (a.labels, a.labels_are, (Accepted, Some [], (v.0, v.1, v.2, v.3, (v.4, refl)), (refl, (refl, inl empty))))))
-
 -- a live meter has ended, or didn't begin
 pub ended-so : {A : Type 0} (answer : Result A ServerFault) → IsEndOfServing (ended answer)
 ended-so (Ok closed) = tt
@@ -152,10 +149,12 @@ ended-so (Err fault) = tt
 pub served-so : (store unread left : Option (List ℕ)) (outcome : Outcome) → IsEndOfServing outcome → IsServed store unread left outcome
 served-so store unread left Done h = tt
 served-so store unread left (Unserved fault) h = tt
+served-so store unread left (Unbound bound cause) h = tt
 served-so store unread left (Judged verdict text) h = absurd h
 served-so store unread left (JudgedWhole verdict failures text) h = absurd h
 served-so store unread left (JudgedSide side verdict text) h = absurd h
 served-so store unread left (Compared gives) h = absurd h
+served-so store unread left (Warned warnings) h = absurd h
 served-so store unread left (Words fault) h = absurd h
 served-so store unread left (Unread file told) h = absurd h
 served-so store unread left (Stranger told) h = absurd h
@@ -174,10 +173,12 @@ pub unstored-so : (store : List ℕ) (unread : Option (List ℕ)) (why : StoreFa
 unstored-so store unread why (Unstored path fault) h = (ap Some (sym h.0), refl)
 unstored-so store unread why Done h = tt
 unstored-so store unread why (Unserved fault) h = tt
+unstored-so store unread why (Unbound bound cause) h = tt
 unstored-so store unread why (Judged verdict text) h = subst (IsServed (Some store) unread unread) (sym h) tt
 unstored-so store unread why (JudgedWhole verdict failures text) h = subst (IsServed (Some store) unread unread) (sym h) tt
 unstored-so store unread why (JudgedSide side verdict text) h = subst (IsServed (Some store) unread unread) (sym h) tt
 unstored-so store unread why (Compared gives) h = subst (IsServed (Some store) unread unread) (sym h) tt
+unstored-so store unread why (Warned warnings) h = subst (IsServed (Some store) unread unread) (sym h) tt
 unstored-so store unread why (Words fault) h = subst (IsServed (Some store) unread unread) (sym h) tt
 unstored-so store unread why (Unread file told) h = subst (IsServed (Some store) unread unread) (sym h) tt
 unstored-so store unread why (Stranger told) h = subst (IsServed (Some store) unread unread) (sym h) tt

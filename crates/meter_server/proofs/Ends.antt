@@ -6,7 +6,7 @@ use Rattle.meter_server.specs.Outcomes.{output_of, status_of, unless_closed}
 use Rattle.meter_server.specs.Program.{AreMistaken, AskForHelp, IsNoCommand, TellsVerdict}
 use Rattle.plan_lists.specs.declared.fault.ListFault.TheVariants.{Write, Memory}
 use Rattle.meter_server.specs.declared.outcome.Outcome.{Outcome}
-use Rattle.meter_server.specs.declared.outcome.Outcome.TheVariants.{Done, Judged, JudgedWhole, JudgedSide, Compared, Words, Unread, UnreadFleet, Stranger, Fault, Broken, Unserved, Unstored, Audited, Unaudited, Unwritten, Untranslated, Closed}
+use Rattle.meter_server.specs.declared.outcome.Outcome.TheVariants.{Done, Warned, Judged, JudgedWhole, JudgedSide, Compared, Words, Unread, UnreadFleet, Stranger, Fault, Broken, Unserved, Unbound, Unstored, Audited, Unaudited, Unwritten, Untranslated, Closed}
 
 -- of no text a write leaves nothing
 nothing-left : (front left : List ℕ) → [] ≡ front ++ left → 0 < length left → ⊥
@@ -43,11 +43,13 @@ mistaken-ends ws mistaken (Judged verdict text) told closed before after h t = a
 mistaken-ends ws mistaken (JudgedWhole verdict failures text) told closed before after h t = absurd h
 mistaken-ends ws mistaken (JudgedSide side verdict text) told closed before after h t = absurd h
 mistaken-ends ws mistaken (Compared gives) told closed before after h t = absurd h
+mistaken-ends ws mistaken (Warned warnings) told closed before after h t = absurd h
 mistaken-ends ws mistaken (Unread file why) told closed before after h t = absurd h
 mistaken-ends ws mistaken (Stranger text) told closed before after h t = absurd h
 mistaken-ends ws mistaken (Fault fault) told closed before after h t = absurd h
 mistaken-ends ws mistaken (Broken fault) told closed before after h t = absurd h
 mistaken-ends ws mistaken (Unserved fault) told closed before after h t = absurd h
+mistaken-ends ws mistaken (Unbound place fault) told closed before after h t = absurd h
 mistaken-ends ws mistaken (Unstored file fault) told closed before after h t = absurd h
 mistaken-ends ws mistaken (UnreadFleet files) told closed before after h t = absurd h
 mistaken-ends ws mistaken (Audited text accepts explanation) told closed before after h t = absurd h
@@ -68,11 +70,13 @@ helped-ends ws asks (Judged verdict text) told closed before after h t = absurd 
 helped-ends ws asks (JudgedWhole verdict failures text) told closed before after h t = absurd h
 helped-ends ws asks (JudgedSide side verdict text) told closed before after h t = absurd h
 helped-ends ws asks (Compared gives) told closed before after h t = absurd h
+helped-ends ws asks (Warned warnings) told closed before after h t = absurd h
 helped-ends ws asks (Unread file why) told closed before after h t = absurd h
 helped-ends ws asks (Stranger text) told closed before after h t = absurd h
 helped-ends ws asks (Fault fault) told closed before after h t = absurd h
 helped-ends ws asks (Broken fault) told closed before after h t = absurd h
 helped-ends ws asks (Unserved fault) told closed before after h t = absurd h
+helped-ends ws asks (Unbound place fault) told closed before after h t = absurd h
 helped-ends ws asks (Unstored file fault) told closed before after h t = absurd h
 helped-ends ws asks (UnreadFleet files) told closed before after h t = absurd h
 helped-ends ws asks (Audited text accepts explanation) told closed before after h t = absurd h

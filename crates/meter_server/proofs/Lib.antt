@@ -4,3 +4,4 @@ pub mod Ends
 pub mod Errors
 pub mod Made
 mod Trails
+mod Warned

@@ -1,5 +1,6 @@
 -- What each command does with the files that it names, its input and its output (own profile throughout).
-use Rattle.std.specs.Prelude.{◌≡◌, ◌⊎◌, ◌++◌, ℕ, List, Bool, true, false, not, ◌||◌, codes, string_bytes, Option, Some, None, Result, Ok, Err, []}
+use Rattle.std.specs.Prelude.{◌≡◌, ◌⊎◌, ◌++◌, ℕ, List, Bool, true, false, not, ◌||◌, codes, string_bytes, Option, Some, None, Result, Ok, Err, [], ◌∷◌}
+use Rattle.std.specs.Fmt.{decimal}
 use Rattle.std.specs.Io.KnownBytes.{Appends}
 use Rattle.command_words.specs.Commands.{Asked, command_of}
 use Rattle.command_words.specs.Commands.Asked.{Demo, Run, Edges, Label, Check, Why, Compare, Report, Quiet, Audit, Session, Serve, Trail, Encode, Decode}
@@ -21,15 +22,17 @@ use Rattle.meter_server.specs.Files.{ByFile, IsFile}
 use Rattle.meter_server.specs.Looking.{AsksWhy}
 use Rattle.meter_server.specs.Noticing.{NoticesAs}
 use Rattle.meter_server.specs.Outcomes.{error_of, status_of, translated, unless_closed}
-use Rattle.meter_server.specs.Program.{AnswersFrames, AnswersText, AnswersTrail, IsJudged, IsJudgedWhole, IsNoCommand, ListsEdges, ListsLabels, TellsFault, TellsVerdict}
+use Rattle.meter_server.specs.Program.{AnswersFrames, AnswersText, AnswersTrail, IsJudged, IsJudgedWhole, IsNoCommand, ListsEdges, TellsFault, TellsVerdict}
 use Rattle.meter_server.specs.Reporting.{ReportsFile}
 use Rattle.meter_server.specs.Trailing.{PrintsTrail}
 use Rattle.meter_server.specs.Sources.{Given, MayGive, ReadsWhere, is_given_input, is_input}
 use Rattle.meter_server.specs.declared.demo.TheConstants.{DEMO}
 use Rattle.meter_server.specs.declared.outcome.Outcome.{Outcome}
-use Rattle.meter_server.specs.declared.outcome.Outcome.TheVariants.{Done, Judged, JudgedWhole, Words, Unserved, Unstored}
+use Rattle.meter_server.specs.declared.outcome.Outcome.TheVariants.{Done, Judged, JudgedWhole, Words, Unserved, Unbound, Unstored}
 use Rattle.meter_server.specs.declared.texts.Source.{Source}
 use Rattle.step_stores.specs.declared.fault.StoreFault.{StoreFault}
+use Rattle.live_server.specs.declared.bind_fault.BindFault.{BindFault}
+use Rattle.live_server.specs.declared.fault.ServerFault.{ServerFault}
 use Rattle.live_server.specs.declared.fault.ServerFault.TheVariants as servers
 use Rattle.plan_lists.specs.Listing.{WritesText}
 use Rattle.plan_lists.specs.declared.fault.ListFault.{ListFault}
@@ -39,6 +42,9 @@ use Rattle.step_words.specs.declared.texts.Way.{Way}
 use Rattle.step_words.specs.declared.texts.Way.TheVariants as ways
 use Rattle.step_words.specs.declared.translating.TranslationFault.{TranslationFault}
 use Rattle.text_files.specs.Files.{MayRead}
+use Rattle.command_words.specs.declared.command.Warned.{Warned}
+use Rattle.meter_theory.specs.Labels.{Policy}
+use Rattle.meter_server.specs.Warning.{IsWarned, ListsLabels, Warns}
 
 -- Verdicts
 
@@ -60,6 +66,21 @@ JudgesLabels reads tells_all labels config outcome = TellsFault config outcome �
 abbrev pub JudgesFiles : MayRead → (tells_all : Bool) → (config labels : List ℕ) → Outcome → Type 0
 JudgesFiles reads tells_all config labels outcome = ByFile reads config (JudgesLabels reads tells_all labels) (Unit {0}) outcome
 
+-- a command came to the verdict on the configuration in one file, which says this, and the labels in another, and to all that fails where that is asked for, with what is warned of
+abbrev pub TellsChecked : (tells_all : Bool) → Warned → Source → ConfigText → Source → Outcome → Type 0
+TellsChecked tells_all warned config c labels outcome =
+    (judged : Outcome) × (policy : Policy) × TellsJudgement tells_all config labels judged × IsPolicyOf c policy
+    × IsWarned (Warns warned config (Some labels) (plan_of c) policy) judged outcome
+
+-- a command came to the fault of the configuration in a file, or else to the verdict on it and the labels in the file with this path, with what is warned of
+abbrev pub ChecksLabels : MayRead → (tells_all : Bool) → Warned → (labels : List ℕ) → Source → Outcome → Type 0
+ChecksLabels reads tells_all warned labels config outcome =
+    TellsFault config outcome ⊎ ((c : ConfigText) × (config_of config.text.now ≡ Ok c) × ByFile reads labels (TellsChecked tells_all warned config c) (Unit {0}) outcome)
+
+-- a command came to a verdict on the configuration and the labels in these two files, with what is warned of: the labels are read only where the configuration has no fault
+abbrev pub ChecksFiles : MayRead → (tells_all : Bool) → Warned → (config labels : List ℕ) → Outcome → Type 0
+ChecksFiles reads tells_all warned config labels outcome = ByFile reads config (ChecksLabels reads tells_all warned labels) (Unit {0}) outcome
+
 -- what is accepted of the labels in one file for the configuration in another
 pub record IsAcceptedOf (reads : MayRead) (config_path labels_path : List ℕ) (checked : Checked) : Type 0 where
   pub config : Source
@@ -77,10 +98,26 @@ abbrev pub TellsUnstored : (store : List ℕ) → StoreFault → Outcome → Typ
 TellsUnstored store why (Unstored path fault) = (string_bytes path ≡ store) × (fault ≡ why)
 TellsUnstored store why outcome = outcome ≡ Unserved servers.Memory
 
+-- an address and port as they are told
+abbrev pub place_text : (address : List ℕ) → (port : ℕ) → List ℕ
+place_text address port = address ++ 58 ∷ decimal port
+
+-- connections can't be taken at an address and port, which a command tells; or memory was refused for that
+abbrev pub TellsUnbound : (place : List ℕ) → BindFault → Outcome → Type 0
+TellsUnbound place why (Unbound told fault) = (string_bytes told ≡ place) × (fault ≡ why)
+TellsUnbound place why outcome = outcome ≡ Unserved servers.Memory
+
+-- how a command ended whose live meter, at an address and port, ended so
+abbrev pub EndsAt : {A : Type 0} → (place : List ℕ) → Result A ServerFault → Outcome → Type 0
+EndsAt place (Ok closed) outcome = outcome ≡ Done
+EndsAt place (Err (servers.Bind why)) outcome = TellsUnbound place why outcome
+EndsAt place (Err fault) outcome = outcome ≡ Unserved fault
+
 -- a live meter has ended, or didn't begin
 abbrev pub IsEndOfServing : Outcome → Type 0
 IsEndOfServing Done = Unit {0}
 IsEndOfServing (Unserved fault) = Unit {0}
+IsEndOfServing (Unbound place why) = Unit {0}
 IsEndOfServing _ = ⊥
 
 -- a live meter has ended, or didn't begin: where it was to keep its steps in a file that isn't opened, nothing was read of the input
@@ -154,10 +191,10 @@ Answers reads (Run path is_verbose true) before after outcome = RunsTrailFile re
 Answers reads (Run path is_verbose false) before after outcome = RunsFile reads path before after outcome
 Answers reads (Edges path form) before after outcome =
     (given : Option Given) × ReadsWhere (is_input path) before.unread after.unread given × ListsFile (ListsEdges form) (MayGive reads given) path before.written after.written outcome
-Answers reads (Label path) before after outcome =
-    (given : Option Given) × ReadsWhere (is_input path) before.unread after.unread given × ListsFile ListsLabels (MayGive reads given) path before.written after.written outcome
-Answers reads (Check config labels tells_all) before after outcome =
-    (given : Option Given) × ReadsWhere (is_input config || is_input labels) before.unread after.unread given × (after.written ≡ before.written) × JudgesFiles (MayGive reads given) tells_all config labels outcome
+Answers reads (Label path warned) before after outcome =
+    (given : Option Given) × ReadsWhere (is_input path) before.unread after.unread given × ListsFile (ListsLabels warned) (MayGive reads given) path before.written after.written outcome
+Answers reads (Check config labels tells_all warned) before after outcome =
+    (given : Option Given) × ReadsWhere (is_input config || is_input labels) before.unread after.unread given × (after.written ≡ before.written) × ChecksFiles (MayGive reads given) tells_all warned config labels outcome
 Answers reads (Why path client cell) before after outcome =
     (given : Option Given) × ReadsWhere (is_input path) before.unread after.unread given × ListsFile (AsksWhy client cell) (MayGive reads given) path before.written after.written outcome
 Answers reads (Compare old new) before after outcome =

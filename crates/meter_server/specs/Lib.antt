@@ -11,3 +11,4 @@ pub mod Reporting
 pub mod Sources
 pub mod Trailing
 pub mod Unread
+pub mod Warning

@@ -7,17 +7,19 @@ use Rattle.command_words.specs.declared.fault.WordsFault.TheVariants as words
 use Rattle.shown_text.specs.Printable.{printable}
 use Rattle.fleet_audit.specs.Faults as audits
 use Rattle.fleet_audit.specs.declared.telling.Told.{Told}
-use Rattle.frame_server.specs.Faults.{serve_fault_words}
+use Rattle.frame_server.specs.Faults.{told_words}
 use Rattle.frame_server.specs.declared.fault.ServeFault.{ServeFault}
 use Rattle.line_server.specs.Faults.{fault_words, reason_words}
+use Rattle.live_server.specs.Binding.{bind_words}
 use Rattle.live_server.specs.Faults as servers
+use Rattle.live_server.specs.declared.bind_fault.BindFault.{BindFault}
 use Rattle.live_server.specs.declared.fault.ServerFault.{ServerFault}
 use Rattle.verdict.specs.Lines.{verdict_line}
 use Rattle.meter_server.specs.Unread.{fleet_lines}
 use Rattle.meter_server.specs.declared.outcome.Side.{Side}
 use Rattle.meter_server.specs.declared.outcome.Side.TheVariants as sides
 use Rattle.meter_server.specs.declared.outcome.Outcome.{Outcome}
-use Rattle.meter_server.specs.declared.outcome.Outcome.TheVariants.{Done, Judged, JudgedWhole, JudgedSide, Compared, Words, Unread, UnreadFleet, Stranger, Fault, Broken, Unserved, Unstored, Audited, Unaudited, Unwritten, Untranslated, Closed}
+use Rattle.meter_server.specs.declared.outcome.Outcome.TheVariants.{Done, Warned, Judged, JudgedWhole, JudgedSide, Compared, Words, Unread, UnreadFleet, Stranger, Fault, Broken, Unserved, Unbound, Unstored, Audited, Unaudited, Unwritten, Untranslated, Closed}
 use Rattle.line_server.specs.declared.fault.LineFault.{LineFault}
 use Rattle.line_server.specs.declared.fault.LineFault.TheVariants.{Line}
 use Rattle.line_server.specs.declared.fault.LineFault.TheVariants as lines
@@ -86,6 +88,7 @@ status_of_words words.Memory = 3
 -- the exit status: 0 done or accepted, 1 a verdict that refuses, 2 a command line that can't be used, 3 any other fault; 141 a closed output
 abbrev pub status_of : Outcome → ℕ
 status_of Done = 0
+status_of (Warned warnings) = 0
 status_of (Judged verdict explanation) = status_of_verdict verdict
 status_of (JudgedWhole verdict failures explanation) = status_of_verdict verdict
 status_of (JudgedSide side verdict explanation) = 1
@@ -96,6 +99,7 @@ status_of (Stranger told) = 2
 status_of (Fault fault) = 3
 status_of (Broken fault) = 3
 status_of (Unserved fault) = 3
+status_of (Unbound place why) = 3
 status_of (Unstored path fault) = 3
 status_of (UnreadFleet files) = 3
 status_of (Audited text accepts explanation) = if accepts then 0 else 1
@@ -147,6 +151,10 @@ line words = codes "cosem-flow: " ++ (words ++ codes "\n")
 abbrev pub unread_line : List ℕ → FileFault → List ℕ
 unread_line file why = codes "cosem-flow: " ++ (printable file ++ (codes ": " ++ (files.fault_words why ++ codes "\n")))
 
+-- an address and port where no connection can be taken, and why
+abbrev pub unbound_line : List ℕ → BindFault → List ℕ
+unbound_line place why = codes "cosem-flow: " ++ (printable place ++ (codes ": " ++ (bind_words why ++ codes "\n")))
+
 -- a file that isn't opened as the place where steps are kept, and why
 abbrev pub unstored_line : List ℕ → StoreFault → List ℕ
 unstored_line file why = codes "cosem-flow: " ++ (printable file ++ (codes ": " ++ (stores.fault_words why ++ codes "\n")))
@@ -154,6 +162,7 @@ unstored_line file why = codes "cosem-flow: " ++ (printable file ++ (codes ": " 
 -- what standard error tells: what explains a verdict, all else that went wrong, and why a line is unreadable, which standard output has told of
 abbrev pub error_of : Outcome → List ℕ
 error_of Done = []
+error_of (Warned warnings) = string_bytes warnings
 error_of Closed = []
 error_of (Judged verdict explanation) = string_bytes explanation
 error_of (JudgedWhole verdict failures explanation) = string_bytes explanation
@@ -171,8 +180,9 @@ error_of (Fault fault) = line (fault_words fault)
 error_of (UnreadFleet files) = fleet_lines files.items
 error_of (Audited text accepts explanation) = string_bytes explanation
 error_of (Unaudited fault) = line (audits.fault_words fault)
-error_of (Broken fault) = line (serve_fault_words fault)
+error_of (Broken fault) = line (told_words fault)
 error_of (Unserved fault) = line (servers.fault_words fault)
+error_of (Unbound place why) = unbound_line (string_bytes place) why
 error_of (Unstored file why) = unstored_line (string_bytes file) why
 error_of (Unwritten fault) = line (lists.fault_words fault)
 error_of (Untranslated fault) = line (translations.fault_words fault)

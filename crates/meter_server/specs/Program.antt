@@ -1,5 +1,5 @@
 -- What the program does with its words (own profile throughout).
-use Rattle.std.specs.Prelude.{◌≡◌, ◌≢◌, ℕ, Bool, true, false, List, [], string_bytes, Option, None, Some, ◌⊎◌, Result, Ok, Err}
+use Rattle.std.specs.Prelude.{◌≡◌, ◌≢◌, ℕ, Bool, true, false, List, [], ◌++◌, drop, string_bytes, Option, None, Some, ◌⊎◌, Result, Ok, Err}
 use Rattle.clap.specs.Words.{IsAmong}
 use Rattle.clap.specs.declared.error.kind.ErrorKind.TheVariants.{DisplayHelp, DisplayVersion}
 use Rattle.command_words.specs.CommandLine.{kinds_of}
@@ -9,11 +9,12 @@ use Rattle.command_words.specs.declared.command.EdgesForm.TheVariants as forms
 use Rattle.command_words.specs.Faults.{HasMistake}
 use Rattle.command_words.specs.declared.fault.WordsFault.TheVariants as words
 use Rattle.config_rules.specs.PlanOf.{plan_of}
-use Rattle.config_reader.specs.ConfigOf.{config_of}
+use Rattle.config_reader.specs.ConfigOf.{config_of, faults_of}
 use Rattle.config_text.specs.Fault.{Fault as ConfigFault, Fails}
 use Rattle.config_text.specs.Parts.{ConfigText}
 use Rattle.config_text.specs.declared.fault.ConfigFault.{ConfigFault as FaultTold}
 use Rattle.explanations.specs.Config.{Explains}
+use Rattle.explanations.specs.Others.{ExplainsOthers}
 use Rattle.explanations.specs.Labels as label_words
 use Rattle.explanations.specs.Refusals as refusal_words
 use Rattle.frame_server.specs.Alone.{ServesAlone}
@@ -28,7 +29,7 @@ use Rattle.line_server.specs.Running.{RunsLines}
 use Rattle.meter_server.specs.declared.outcome.Outcome.{Outcome}
 use Rattle.meter_server.specs.declared.outcome.Outcome.TheVariants.{Done, Judged, JudgedWhole, Words, Fault, Broken, Unwritten}
 use Rattle.meter_server.specs.declared.texts.Source.{Source}
-use Rattle.plan_lists.specs.Listing.{WritesLeast, WritesText, dot_text, edges_text}
+use Rattle.plan_lists.specs.Listing.{WritesText, dot_text, edges_text}
 use Rattle.plan_lists.specs.declared.fault.ListFault.{ListFault}
 use Rattle.plan_lists.specs.declared.fault.ListFault.TheVariants as lists
 use Rattle.verdict.specs.Judging.{IsVerdictOn, IsWholeVerdictOn}
@@ -66,9 +67,13 @@ TellsVerdict outcome before after told = ((told ≡ outcome) × WritesText (outp
 abbrev pub IsTold : (List ℕ → Type 0) → List ℕ → Type 0
 IsTold Says text = (text ≡ []) ⊎ Says text
 
--- what explains a fault of the configuration in a file
+-- what explains the faults of the configuration in a file that the same pass finds behind the first
+abbrev pub ExplainsRest : Source → List ℕ → Type 0
+ExplainsRest config text = ExplainsOthers config.file.now config.text.now (drop 1 (faults_of config.text.now)) text
+
+-- what explains a fault of the configuration in a file, and those others
 abbrev pub ExplainsFault : Source → FaultTold → List ℕ → Type 0
-ExplainsFault config fault = Explains config.file.now config.text.now fault
+ExplainsFault config fault text = (first : List ℕ) × (rest : List ℕ) × Explains config.file.now config.text.now fault first × ExplainsRest config rest × (text ≡ first ++ rest)
 
 -- what explains a verdict on the configuration in a file and the labels in another: nothing where they are accepted
 abbrev pub ExplainsVerdict : Source → Source → Verdict → List ℕ → Type 0
@@ -143,7 +148,3 @@ edges_in forms.Dot P = dot_text (edges P)
 -- its edges in a form
 abbrev pub ListsEdges : EdgesForm → Source → Result ConfigText ConfigFault → (before after : Option (List ℕ)) → Outcome → Type 0
 ListsEdges form config said before after outcome = Lists (λ c. WritesText (edges_in form (plan_of c)) before after) config said before after outcome
-
--- its least labels, as the text from which they are read
-abbrev pub ListsLabels : Source → Result ConfigText ConfigFault → (before after : Option (List ℕ)) → Outcome → Type 0
-ListsLabels config said before after outcome = Lists (λ c. WritesLeast (plan_of c) before after) config said before after outcome

@@ -2,10 +2,11 @@
 ghost use Rattle.std.specs.Prelude.{◌≡◌, false, true, List, ℕ, MatchResult, Some};
 ghost use Rattle.command_words.specs.Commands.{asked_by};
 ghost use Rattle.config_reader.specs.ConfigOf.{config_of};
-ghost use Rattle.meter_server.specs.Answering.{Answers, ConnectsFile, IsAcceptedOf, JudgesFiles, ListsFile, NoticesFiles, RefusesFiles, RunsFile, RunsTrailFile, decoding_of, encoding_of, is_quiet};
+ghost use Rattle.meter_server.specs.Answering.{Answers, ChecksFiles, ChecksLabels, ConnectsFile, IsAcceptedOf, ListsFile, NoticesFiles, RefusesFiles, RunsFile, RunsTrailFile, decoding_of, encoding_of, is_quiet};
 ghost use Rattle.meter_server.specs.Looking.{AsksWhy};
 ghost use Rattle.meter_server.specs.Files.{IsFile};
-ghost use Rattle.meter_server.specs.Program.{AnswersText, ListsEdges, ListsLabels};
+ghost use Rattle.meter_server.specs.Program.{AnswersText, ListsEdges};
+ghost use Rattle.meter_server.specs.Warning.{ListsLabels};
 
 use crate::auditing::{Audit, audit_named};
 use crate::comparing::compare_files;
@@ -18,11 +19,11 @@ use crate::reporting::{Beside, report_file};
 use crate::serving::serve_files;
 use crate::sources::{Sources, is_any_input, is_either_input, is_given_input, is_input};
 use crate::texts::{
-    Source, accepted_of_texts, answer_aloud, answer_frames, answer_text, answer_trail, faulty,
-    list_edges, list_labels,
+    Source, accepted_of_texts, answer_aloud, answer_frames, answer_text, answer_trail, checked,
+    faulty, list_edges, list_labels,
 };
 use crate::trailing::{Asked, print_trail};
-use command_words::{Command, EdgesForm};
+use command_words::{Command, EdgesForm, Warned};
 use config_reader::read_config;
 use flow_checker::check::Checked;
 use line_sources::file::Opens;
@@ -38,7 +39,6 @@ use step_stores::stores::Stores;
 use step_words::texts::Way;
 use step_words::translating::translate;
 use text_files::TextFiles;
-use verdict::Verdict;
 
 /// The demo configuration, under the name of the file that people copy.
 const DEMO_SOURCE: Source<'static> = Source {
@@ -98,17 +98,18 @@ where
             let sources = Sources::new(alloc, files, input, is_input(config));
             list_edges_of_file(alloc, &sources, config, form, output)
         }
-        Command::Label { config } => {
+        Command::Label { config, warned } => {
             let sources = Sources::new(alloc, files, input, is_input(config));
-            list_labels_of_file(alloc, &sources, config, output)
+            list_labels_of_file(alloc, &sources, config, warned, output)
         }
         Command::Check {
             config,
             labels,
             tells_all,
+            warned,
         } => {
             let sources = Sources::new(alloc, files, input, is_either_input(config, labels));
-            check_files(alloc, &sources, config, labels, tells_all)
+            check_files(alloc, &sources, config, labels, tells_all, warned)
         }
         Command::Why {
             config,
@@ -317,18 +318,19 @@ fn list_edges_of_file<F: TextFiles, O: Write>(
     }
 }
 
-/// Writes the least labels of the configuration in a file.
+/// Writes the least labels of the configuration in a file, with what is warned of.
 fn list_labels_of_file<F: TextFiles, O: Write>(
     alloc: Global,
     files: &F,
     file: &str,
+    warned: Warned,
     output: &mut O,
 ) -> Outcome
-    ensures { ListsFile ListsLabels
+    ensures { ListsFile (ListsLabels warned)
         (F.may_read files.now) file.now (O.contents output.old) (O.contents output.new) result }
 {
     match text_of_file(alloc, files, file) {
-        Ok(text) => list_labels(alloc, source_of(file, &text), output),
+        Ok(text) => list_labels(alloc, source_of(file, &text), warned, output),
         Err(outcome) => outcome,
     }
 }
@@ -350,18 +352,47 @@ fn why_of_file<F: TextFiles, O: Write>(
     }
 }
 
-/// The verdict on the configuration in a file and on the labels in another, and all that fails where that is asked for.
+/// The verdict on the configuration in a file and on the labels in another, and all that fails where that is asked for, with what is
+/// warned of.
 fn check_files<F: TextFiles>(
     alloc: Global,
     files: &F,
     config: &str,
     labels: &str,
     tells_all: bool,
+    warned: Warned,
 ) -> Outcome
-    ensures { JudgesFiles (F.may_read files.now) tells_all config.now labels.now result }
+    ensures { ChecksFiles (F.may_read files.now) tells_all warned config.now labels.now result }
 {
-    match accepted_of_files(alloc, files, config, labels, tells_all) {
-        Ok(_checked) => Outcome::Judged(Verdict::Accepted, String::new(alloc)),
+    match text_of_file(alloc, files, config) {
+        Ok(text) => {
+            let config = source_of(config, &text);
+            check_labels(alloc, files, config, labels, tells_all, warned)
+        }
+        Err(outcome) => outcome,
+    }
+}
+
+/// The same of a configuration that was read.
+fn check_labels<F: TextFiles>(
+    alloc: Global,
+    files: &F,
+    config: Source<'_>,
+    labels: &str,
+    tells_all: bool,
+    warned: Warned,
+) -> Outcome
+    ensures { ChecksLabels (F.may_read files.now) tells_all warned labels.now config.entry result }
+{
+    let made = match read_config(alloc, config.text) {
+        Ok(made) => made,
+        Err(fault) => return faulty(alloc, config, fault),
+    };
+    match text_of_file(alloc, files, labels) {
+        Ok(text) => {
+            let labels = source_of(labels, &text);
+            checked(alloc, config, labels, made, tells_all, warned)
+        }
         Err(outcome) => outcome,
     }
 }

@@ -3,12 +3,12 @@ ghost use Rattle.std.specs.Prelude.{◌≡◌, MatchResult, Ok, string_bytes};
 ghost use Rattle.flow_changes.specs.Written.{WritesComparison};
 ghost use Rattle.meter_server.specs.Comparing.{ComparesFiles, ComparesWith, FailsSide, IsFaultySide, IsMadeOf};
 
+use crate::explaining::explain_fault;
 use crate::files::{source_of, text_of_file};
 use crate::outcome::{Outcome, Side, compared};
 use crate::texts::Source;
 use config_reader::read_config;
 use config_text::fault::ConfigFault;
-use explanations::config::explain_config;
 use flow_changes::compare::write_comparison;
 use object_model::plan::Plan;
 use object_model::policy::Policy;
@@ -77,7 +77,7 @@ pub(crate) fn made_of<F: TextFiles>(
 fn faulty_side(alloc: Global, side: Side, config: Source<'_>, fault: ConfigFault) -> Outcome
     ensures { IsFaultySide config.entry side fault result }
 {
-    let explanation = match explain_config(alloc, config.file, config.text, &fault) {
+    let explanation = match explain_fault(alloc, config, &fault) {
         Ok(text) => text,
         Err(_) => String::new(alloc),
     };

@@ -6,6 +6,7 @@ mod answering;
 mod auditing;
 mod comparing;
 pub mod demo;
+mod explaining;
 mod files;
 mod looking;
 mod noticing;
@@ -18,6 +19,7 @@ mod sources;
 mod texts;
 mod trailing;
 mod unread;
+mod warning;
 
 pub use command_words::{Command as Line, WordsFault, read_words};
 pub use frame_server::fault::ServeFault;

@@ -2,7 +2,7 @@
 ghost use Rattle.std.specs.Prelude.{◌≡◌, ◌++◌, IfOk, string_bytes};
 ghost use Rattle.verdict.specs.Lines.{verdict_line};
 ghost use Rattle.meter_server.specs.Outcomes as outcomes;
-ghost use Rattle.meter_server.specs.Outcomes.{error_of, line, output_of, status_of, unread_line, unstored_line};
+ghost use Rattle.meter_server.specs.Outcomes.{error_of, line, output_of, status_of, unbound_line, unread_line, unstored_line};
 
 use crate::unread::fleet_lines;
 use command_words::WordsFault;
@@ -12,6 +12,7 @@ use fleet_audit::reading::UnreadFile;
 use fleet_audit::telling::Told;
 use frame_server::fault::ServeFault;
 use line_server::fault::LineFault;
+use live_server::bind_fault::BindFault;
 use live_server::fault::ServerFault;
 use meter_live::board::Closed;
 use plan_lists::fault::ListFault;
@@ -40,6 +41,9 @@ pub enum Side {
 pub enum Outcome {
     /// It did what it was asked to do.
     Done,
+    /// It did that, and this text warns in whole lines of what is most likely a slip. It is empty where there is nothing to warn of, or
+    /// no memory to do so.
+    Warned(String),
     /// It came to this verdict, and this text explains it in whole lines. The text is empty where there is nothing to explain, or
     /// no memory to do so.
     Judged(Verdict, String),
@@ -63,6 +67,8 @@ pub enum Outcome {
     Broken(ServeFault),
     /// A fault ended the live meter, or let it not begin.
     Unserved(ServerFault),
+    /// No connection can be taken at this address and port, and why.
+    Unbound(String, BindFault),
     /// The file with this path, which was to keep the steps of the live meter, isn't opened, and why.
     Unstored(String, StoreFault),
     /// It came to the verdicts on many configurations, which these lines tell, and of which all accept or not. The second text explains
@@ -90,6 +96,7 @@ impl Outcome {
     {
         match self {
             Outcome::Done
+            | Outcome::Warned(_)
             | Outcome::Judged(Verdict::Accepted, _)
             | Outcome::JudgedWhole(Verdict::Accepted, _, _) => 0,
             Outcome::Judged(_, _) | Outcome::JudgedWhole(_, _, _) | Outcome::JudgedSide(_, _, _) =>
@@ -105,6 +112,7 @@ impl Outcome {
             | Outcome::Fault(_)
             | Outcome::Broken(_)
             | Outcome::Unserved(_)
+            | Outcome::Unbound(_, _)
             | Outcome::Unstored(_, _)
             | Outcome::Unwritten(_)
             | Outcome::Untranslated(_) => 3,
@@ -162,6 +170,7 @@ impl Outcome {
     {
         match self {
             Outcome::Done | Outcome::Compared(false) | Outcome::Closed => Ok(String::new(alloc)),
+            Outcome::Warned(warnings) => Ok(String::from_str(alloc, warnings.as_str())?),
             Outcome::Judged(_, explanation)
             | Outcome::JudgedWhole(_, _, explanation)
             | Outcome::JudgedSide(_, _, explanation)
@@ -182,8 +191,9 @@ impl Outcome {
             }
             Outcome::Fault(fault) => line_of(alloc, fault.words()),
             Outcome::Unaudited(fault) => line_of(alloc, fault.words()),
-            Outcome::Broken(fault) => line_of(alloc, fault.words()),
-            Outcome::Unserved(fault) => line_of(alloc, fault.words()),
+            Outcome::Broken(fault) => line_of(alloc, fault.told(alloc)?.as_str()),
+            Outcome::Unserved(fault) => line_of(alloc, fault.told(alloc)?.as_str()),
+            Outcome::Unbound(place, why) => unbound_text(alloc, place.as_str(), *why),
             Outcome::Unstored(file, why) => unstored_text(alloc, file.as_str(), *why),
             Outcome::Unwritten(fault) => line_of(alloc, fault.words()),
             Outcome::Untranslated(fault) => line_of(alloc, fault.told(alloc)?.as_str()),
@@ -243,6 +253,15 @@ fn unstored_text(alloc: Global, file: &str, why: StoreFault) -> Result<String, M
     let file = printable_text(alloc, file)?;
     let why = why.told(alloc)?;
     Ok(format!(in alloc; "cosem-flow: {file}: {why}\n")?)
+}
+
+/// What is told of an address and port where no connection can be taken.
+fn unbound_text(alloc: Global, place: &str, why: BindFault) -> Result<String, Memory>
+    ensures { IfOk result (λ text. string_bytes text ≡ unbound_line place.now why) }
+{
+    let place = printable_text(alloc, place)?;
+    let why = why.told(alloc)?;
+    Ok(format!(in alloc; "cosem-flow: {place}: {why}\n")?)
 }
 
 /// How a command ended whose lines were answered so.

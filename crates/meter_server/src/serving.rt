@@ -1,7 +1,7 @@
 //! Connections that are answered by a configuration whose labels are accepted (own profile).
 ghost use Rattle.std.specs.Prelude.{◌≡◌, IfSome, option_map};
-ghost use Rattle.std.specs.Int.NonZero.{non_zero_usize_get};
-ghost use Rattle.meter_server.specs.Answering.{IsEndOfServing, IsServed, ServesFiles, TellsUnstored};
+ghost use Rattle.std.specs.Int.NonZero.{non_zero_u16_get, non_zero_usize_get};
+ghost use Rattle.meter_server.specs.Answering.{EndsAt, IsEndOfServing, IsServed, ServesFiles, TellsUnbound, TellsUnstored, place_text};
 ghost use Rattle.meter_server.specs.Following as following;
 ghost use Rattle.step_keeping.specs.Keeping.{AreKept};
 
@@ -13,16 +13,19 @@ use flow_checker::check::Checked;
 use line_sources::clock::{ClockLines, Pace};
 use line_sources::due::Follows;
 use line_sources::file::{FileLines, Opens};
+use live_server::bind_fault::BindFault;
 use live_server::fault::ServerFault;
 use live_server::output::SharedOutput;
 use live_server::serving::{Place, serve_at, serve_kept_at};
 use live_server::sessions::Driven;
 use live_server::sitting::Manners;
+use meter_live::board::Closed;
 use object_model::plan::Plan;
 use peer_watch::rules::Rules;
 use std::alloc::Global;
 use std::io::{Read, Write};
 use std::net::{Net, TcpListener, TcpStream};
+use std::num::NonZeroU16;
 use std::sync::{Mutex, Wait};
 use std::thread::Threads;
 use std::time::Clock;
@@ -240,11 +243,37 @@ where
     ensures { IsEndOfServing result }
 {
     let place = place_of(serving);
-    match store {
-        Some(Store { past, keeper }) => {
-            ended(serve_kept_at(rt, checked, past, keeper, place, driven))
-        }
-        None => ended(serve_at(rt, checked, place, driven)),
+    let answer = match store {
+        Some(Store { past, keeper }) => serve_kept_at(rt, checked, past, keeper, place, driven),
+        None => serve_at(rt, checked, place, driven),
+    };
+    ended_at(rt.alloc(), serving.bind, serving.port, answer)
+}
+
+/// How a command ended whose live meter, at an address and port, ended so.
+fn ended_at(
+    alloc: Global,
+    address: &str,
+    port: NonZeroU16,
+    answer: Result<Closed, ServerFault>,
+) -> Outcome
+    ensures at { EndsAt (place_text address.now (non_zero_u16_get port)) answer result }
+    ensures end { IsEndOfServing result }
+{
+    match answer {
+        Err(ServerFault::Bind(why)) => unbound(alloc, address, port, why),
+        _ => ended(answer),
+    }
+}
+
+/// An address and port where connections can't be taken.
+fn unbound(alloc: Global, address: &str, port: NonZeroU16, why: BindFault) -> Outcome
+    ensures told { TellsUnbound (place_text address.now (non_zero_u16_get port)) why result }
+    ensures end { IsEndOfServing result }
+{
+    match format!(in alloc; "{address}:{port}") {
+        Ok(place) => Outcome::Unbound(place, why),
+        Err(_) => Outcome::Unserved(ServerFault::Memory),
     }
 }
 

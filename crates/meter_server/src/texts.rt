@@ -6,14 +6,16 @@ ghost use Rattle.line_server.specs.Running.{RunsLines};
 ghost use Rattle.plan_lists.specs.Listing.{WritesText};
 ghost use Rattle.verdict.specs.Judging.{IsVerdictOn};
 ghost use Rattle.verdict.specs.declared.Verdict.TheVariants.{Accepted};
-ghost use Rattle.meter_server.specs.Program.{AnswersFrames, AnswersText, AnswersTrail, ExplainsVerdict, IsFaulty, IsJudged, IsJudgedWhole, ListsEdges, ListsLabels, RefusesOn, edges_in};
+ghost use Rattle.meter_server.specs.Program.{AnswersFrames, AnswersText, AnswersTrail, ExplainsVerdict, IsFaulty, IsJudged, IsJudgedWhole, ListsEdges, RefusesOn, edges_in};
+ghost use Rattle.meter_server.specs.Warning.{IsChecked, ListsLabels, ListsLabelsOf};
 
+use crate::explaining::explain_fault;
 use crate::outcome::{Outcome, listed, outcome_of, served};
-use command_words::EdgesForm;
+use crate::warning::{Warning, warnings_told, with_warnings};
+use command_words::{EdgesForm, Warned};
 use config_reader::read_config;
 use config_text::fault::ConfigFault;
 use cosem_data::memory::Memory;
-use explanations::config::explain_config;
 use explanations::labels::explain_labels;
 use explanations::refusal::explain_refusal;
 use flow_checker::check::Checked;
@@ -163,14 +165,46 @@ fn write_in_form<O: Write>(
     }
 }
 
-/// Writes the least labels of a configuration on the output, and says how that ended, as `list_edges` does.
-pub(crate) fn list_labels<O: Write>(alloc: Global, config: Source<'_>, output: &mut O) -> Outcome
-    ensures { ListsLabels config.entry
+/// Writes the least labels of a configuration on the output, and says how that ended, as `list_edges` does, with what is warned of.
+pub(crate) fn list_labels<O: Write>(
+    alloc: Global,
+    config: Source<'_>,
+    warned: Warned,
+    output: &mut O,
+) -> Outcome
+    ensures { ListsLabels warned config.entry
         (config_of config.entry.text.now) (O.contents output.old) (O.contents output.new) result }
 {
     match read_config(alloc, config.text) {
-        Ok((plan, _policy)) => listed(write_least_labels(alloc, &plan, output)),
+        Ok((plan, policy)) => list_labels_of(alloc, config, &plan, &policy, warned, output),
         Err(fault) => faulty(alloc, config, fault),
+    }
+}
+
+/// Writes the least labels of a plan on the output, and says how that ended, with what is warned of the plan and its policy, which the
+/// configuration in a file has.
+fn list_labels_of<'x, O: Write>(
+    alloc: Global,
+    config: Source<'x>,
+    plan: &'x Plan,
+    policy: &'x Policy,
+    warned: Warned,
+    output: &mut O,
+) -> Outcome
+    ensures { ListsLabelsOf warned config.entry
+        plan.now policy.now (O.contents output.old) (O.contents output.new) result }
+{
+    match write_least_labels(alloc, plan, output) {
+        Ok(()) => {
+            let of = Warning {
+                config,
+                labels: None,
+                plan,
+                policy,
+            };
+            Outcome::Warned(warnings_told(alloc, of, warned))
+        }
+        Err(fault) => Outcome::Unwritten(fault),
     }
 }
 
@@ -187,7 +221,7 @@ pub(crate) fn explain_verdict(
 {
     match verdict {
         Verdict::Accepted => Ok(String::new(alloc)),
-        Verdict::Config(fault) => explain_config(alloc, config.file, config.text, fault),
+        Verdict::Config(fault) => explain_fault(alloc, config, fault),
         Verdict::Labels(fault) => explain_labels(alloc, labels.file, labels.text, fault),
         Verdict::Refused(refused) => explain_refusal(alloc, refused),
     }
@@ -270,11 +304,38 @@ pub(crate) fn accepted_of_texts(
     }
 }
 
+/// A command that came to the verdict on a plan and its policy, which the configuration in a file has, and on the labels in another, and
+/// to all that fails where that is asked for, with what is warned of.
+pub(crate) fn checked(
+    alloc: Global,
+    config: Source<'_>,
+    labels: Source<'_>,
+    made: (Plan, Policy),
+    tells_all: bool,
+    warned: Warned,
+) -> Outcome
+    ensures { IsChecked tells_all warned config.entry labels.entry made.0 made.1 result }
+{
+    let (plan, policy) = made;
+    let of = Warning {
+        config,
+        labels: Some(labels),
+        plan: &plan,
+        policy: &policy,
+    };
+    let warnings = warnings_told(alloc, of, warned);
+    let outcome = match accepted_of_texts(alloc, config, labels, plan, &policy, tells_all) {
+        Ok(_checked) => Outcome::Judged(Verdict::Accepted, String::new(alloc)),
+        Err(outcome) => outcome,
+    };
+    with_warnings(outcome, &warnings)
+}
+
 /// A command whose configuration has a fault, with what explains it.
 pub(crate) fn faulty(alloc: Global, config: Source<'_>, fault: ConfigFault) -> Outcome
     ensures { IsFaulty config.entry fault result }
 {
-    match explain_config(alloc, config.file, config.text, &fault) {
+    match explain_fault(alloc, config, &fault) {
         Ok(text) => Outcome::Judged(Verdict::Config(fault), text),
         Err(_) => Outcome::Judged(Verdict::Config(fault), String::new(alloc)),
     }

@@ -1,12 +1,13 @@
 use Rattle.std.proofs.Common.{List, ℕ, codes, map, refl, subst, option_map, string_bytes}
 use denote.Ref.{Bor}
-use Rattle.meter_server.specs.Answering.{JudgesFiles, ListsFile}
+use Rattle.meter_server.specs.Answering.{ChecksFiles, ListsFile}
 use Rattle.meter_server.specs.Auditing.{AuditsNamed}
 use Rattle.meter_server.specs.Comparing.{ComparesFiles}
 use Rattle.meter_server.specs.Looking.{AsksWhy}
 use Rattle.meter_server.specs.Reporting.{Paths, ReportsFile}
 use Rattle.meter_server.specs.Sources.{MayGive, ReadsWhere, given_of}
 use Rattle.meter_server.specs.declared.demo.TheConstants.{DEMO}
+use Rattle.meter_server.specs.Warning.{ListsLabels}
 use Rattle.meter_server.specs.declared.texts.Source.{Source}
 use Rattle.meter_server.proofs.answering.answer.Goals as goal
 
@@ -25,9 +26,19 @@ returns-in-Check-clause-answers g c =
     let config = c.in-Check.config.now in
     let labels = c.in-Check.labels.now in
     let tells_all = c.in-Check.tells_all in
+    let warned = c.in-Check.warned in
     let read = subst (λ is_named. ReadsWhere is_named (g.I.Read.remaining c.args.input.now) (g.I.Read.remaining sources.new.input) given) c.is_either_input.ensures sources.ensures.given in
-    let judged = subst (λ files. JudgesFiles (MayGive (reads files) given) tells_all config labels c.check_files.result) sources.ensures.files c.check_files.ensures in
+    let judged = subst (λ files. ChecksFiles (MayGive (reads files) given) tells_all warned config labels c.check_files.result) sources.ensures.files c.check_files.ensures in
     rw c.in-Check.is (given, read, refl, judged)
+
+pub returns-in-Label-clause-answers : goal.returns-in-Label-clause-answers
+returns-in-Label-clause-answers g c =
+    let reads = g.F.TextFiles.may_read in
+    let sources = c.new-sources-in-Label in
+    let given = option_map (given_of string_bytes) sources.result.given in
+    let read = subst (λ is_named. ReadsWhere is_named (g.I.Read.remaining c.args.input.now) (g.I.Read.remaining sources.new.input) given) c.is_input-in-Label.ensures sources.ensures.given in
+    let told = subst (λ files. ListsFile (ListsLabels c.in-Label.warned) (MayGive (reads files) given) c.in-Label.config.now (g.O.Write.contents c.args.output.now) (g.O.Write.contents c.list_labels_of_file.new.output) c.list_labels_of_file.result) sources.ensures.files c.list_labels_of_file.ensures in
+    rw c.in-Label.is (given, read, told)
 
 pub returns-in-Compare-clause-answers : goal.returns-in-Compare-clause-answers
 returns-in-Compare-clause-answers g c =

@@ -1,0 +1,11 @@
+use Rattle.std.proofs.Common.{string_bytes, subst}
+use Rattle.std.proofs.lemmas.Result.{IfOk-weaker}
+use Rattle.toml.proofs.Views.{view-Table}
+use Rattle.explanations.specs.Others.{ExplainsWhole}
+use Rattle.explanations.proofs.others.explain_others.Goals as goal
+
+pub returns-in-Ok : goal.returns-in-Ok
+returns-in-Ok c =
+    IfOk-weaker c.explain_first.result _ _
+    (λ told is. rw (c.in-Ok.ensures.ok) (subst (λ whole. ExplainsWhole c.args.file.now c.args.text.now whole c.args.faults.now (string_bytes told)) (view-Table c.in-Ok.table) is))
+    c.explain_first.ensures

@@ -1,0 +1,161 @@
+//! What a configuration without fault is warned of (own profile).
+ghost use Rattle.std.specs.Prelude.{◌≡◌, ◌⊎◌, ◌++◌, IfOk, length, map, option_map, string_bytes};
+ghost use Rattle.config_warnings.specs.Widths.{wider_cells};
+ghost use Rattle.explanations.specs.Warnings.{width_line};
+ghost use Rattle.explanations.specs.declared.warnings.Whose.TheVariants as whose;
+ghost use Rattle.label_certificate.specs.LabelText.{labels_of_text};
+ghost use Rattle.meter_theory.specs.Labels.{labelling_of_policy};
+ghost use Rattle.meter_theory.specs.Plan.{cells};
+ghost use Rattle.meter_server.specs.Program.{IsTold};
+ghost use Rattle.meter_server.specs.Warning as spec;
+ghost use Rattle.meter_server.specs.Warning.{IsWarned, TellsSlips, TellsWidths, Warns};
+
+use crate::outcome::Outcome;
+use crate::texts::Source;
+use command_words::Warned;
+use config_warnings::finding::warnings;
+use config_warnings::widths::{wider_by_labels, wider_by_policy};
+use cosem_data::memory::Memory;
+use explanations::warnings::{Whose, explain_warnings, explain_width};
+use label_certificate::fault::LabelFault;
+use label_certificate::labels::Labels;
+use label_certificate::least::make_labels;
+use label_certificate::reading::read_labels;
+use object_model::plan::Plan;
+use object_model::policy::Policy;
+use std::alloc::Global;
+
+/// What is warned of.
+#[derive(Clone, Copy)]
+pub(crate) struct Warning<'a> {
+    /// The configuration in a file.
+    pub config: Source<'a>,
+    /// The labels in another, where they are given.
+    pub labels: Option<Source<'a>>,
+    pub plan: &'a Plan,
+    pub policy: &'a Policy,
+}
+
+/// What is warned of, in whole lines; nothing where memory is refused.
+pub(crate) fn warnings_told(alloc: Global, of: Warning<'_>, warned: Warned) -> String
+    ensures { IsTold (Warns warned of.entry.config of.entry.labels of.entry.plan.now of.entry.policy.now) (string_bytes result) }
+{
+    match warning_lines(alloc, of, warned) {
+        Ok(lines) => lines,
+        Err(_) => String::new(alloc),
+    }
+}
+
+/// What is warned of, in whole lines.
+fn warning_lines(alloc: Global, of: Warning<'_>, warned: Warned) -> Result<String, Memory>
+    ensures { IfOk result (λ lines. Warns warned of.entry.config of.entry.labels of.entry.plan.now of.entry.policy.now (string_bytes lines)) }
+{
+    match warned {
+        Warned::Nothing => Ok(String::new(alloc)),
+        Warned::Slips => slip_lines(alloc, of.config, of.plan),
+        Warned::SlipsAndWidths => {
+            let mut lines = slip_lines(alloc, of.config, of.plan)?;
+            let widths = width_lines(alloc, of)?;
+            lines.push_str(&widths)?;
+            Ok(lines)
+        }
+    }
+}
+
+/// What is told of slips in a configuration.
+fn slip_lines(alloc: Global, config: Source<'_>, plan: &Plan) -> Result<String, Memory>
+    ensures { IfOk result (λ lines. TellsSlips config.entry plan.now (string_bytes lines)) }
+{
+    let slips = warnings(alloc, plan)?;
+    explain_warnings(alloc, config.file, config.text, &slips)
+}
+
+/// What is told of the widths of the policy and of the labels.
+fn width_lines(alloc: Global, of: Warning<'_>) -> Result<String, Memory>
+    ensures { IfOk result (λ lines. TellsWidths of.entry.config of.entry.labels of.entry.plan.now of.entry.policy.now (string_bytes lines)) }
+{
+    let least = make_labels(alloc, of.plan)?;
+    let mut lines = policy_line(alloc, of.config.file, of.plan, of.policy, &least)?;
+    let given = given_line(alloc, of.plan, &least, of.labels)?;
+    lines.push_str(&given)?;
+    Ok(lines)
+}
+
+/// What is told of the width of a policy.
+fn policy_line(
+    alloc: Global,
+    file: &str,
+    plan: &Plan,
+    policy: &Policy,
+    least: &Labels,
+) -> Result<String, Memory>
+    requires { map (λ entry. entry.0) least.now ≡ cells plan.now }
+    ensures { IfOk result (λ line. string_bytes line
+        ≡ width_line file.now whose.Policy (wider_cells (labelling_of_policy plan.now policy.now) least.now) (length least.now)) }
+{
+    let wider = wider_by_policy(alloc, plan, policy, least)?;
+    explain_width(alloc, file, Whose::Policy, wider, least.entries().len())
+}
+
+/// What is told of the width of the labels in a file, where one is given and they are read.
+fn given_line(
+    alloc: Global,
+    plan: &Plan,
+    least: &Labels,
+    labels: Option<Source<'_>>,
+) -> Result<String, Memory>
+    requires { map (λ entry. entry.0) least.now ≡ cells plan.now }
+    ensures { IfOk result (λ line. string_bytes line ≡ spec.width_of_given plan.now least.now labels.entry) }
+{
+    let Some(source) = labels else {
+        return Ok(String::new(alloc));
+    };
+    labels_line(alloc, plan, least, source)
+}
+
+/// What is told of the width of the labels in a file, where they are read.
+fn labels_line(
+    alloc: Global,
+    plan: &Plan,
+    least: &Labels,
+    source: Source<'_>,
+) -> Result<String, Memory>
+    requires { map (λ entry. entry.0) least.now ≡ cells plan.now }
+    ensures { IfOk result (λ line. string_bytes line
+        ≡ spec.width_of_read source.entry.file.now least.now (labels_of_text plan.now source.entry.text.now)) }
+{
+    let labels = match read_labels(alloc, plan, source.text) {
+        Ok(labels) => labels,
+        Err(LabelFault::Memory) => return Err(Memory),
+        Err(_) => return Ok(String::new(alloc)),
+    };
+    let wider = wider_by_labels(alloc, plan, &labels, least)?;
+    explain_width(
+        alloc,
+        source.file,
+        Whose::Labels,
+        wider,
+        least.entries().len(),
+    )
+}
+
+/// A command that came to a verdict, with warnings behind what explains it, if there is memory for them.
+pub(crate) fn with_warnings(outcome: Outcome, warnings: &str) -> Outcome
+    ensures { IsWarned (λ more. more ≡ warnings.now) outcome result }
+{
+    match outcome {
+        Outcome::Judged(verdict, text) => Outcome::Judged(verdict, with_lines(text, warnings)),
+        Outcome::JudgedWhole(verdict, failures, text) => {
+            Outcome::JudgedWhole(verdict, failures, with_lines(text, warnings))
+        }
+        other => other,
+    }
+}
+
+/// A text with lines behind it, or as it is where memory is refused.
+fn with_lines(mut text: String, lines: &str) -> String
+    ensures { (string_bytes result ≡ string_bytes text ++ lines.now) ⊎ (string_bytes result ≡ string_bytes text) }
+{
+    let _ = text.push_str(lines);
+    text
+}
