@@ -7,6 +7,7 @@ use Rattle.cosem_data.specs.declared.kind.Kind.{Kind}
 use Rattle.meter_theory.specs.Classes.{is_cell, is_choice}
 use Rattle.toml.specs.Data.{Data, as_integer, get}
 use Rattle.explanations.specs.Following.{beside, is_quoted, key_at, key_of, last_at, parent_from, parts, text_at, value_at}
+use Rattle.explanations.specs.ExecutionTimes.{time_cause}
 use Rattle.explanations.specs.Hexes.{hex_cause}
 use Rattle.explanations.specs.Asked.{kind_asked, kind_words}
 use Rattle.explanations.specs.KeyWords.{most_at, taken_by}
@@ -135,7 +136,7 @@ abbrev pub told_value_cause : Data → List ℕ → Option (List ℕ) → List �
 told_value_cause whole place None = if is_at (codes "index") whole place then codes "a register monitor watches numbers alone" else meaning faults.Value
 told_value_cause whole place (Some text) =
     if is_at (codes "time") whole place then codes "the time is no moment"
-    else if is_at (codes "times") whole place then codes "the text isn't the time and date of an execution"
+    else if is_at (codes "times") whole place then time_cause text
     else hex_cause text
 
 abbrev pub value_cause : Data → List ℕ → List ℕ

@@ -7,6 +7,7 @@ pub mod Labels
 pub mod Refusals
 pub mod Causes
 pub mod Hexes
+pub mod ExecutionTimes
 pub mod Numbers
 pub mod KeyWords
 pub mod Objects

@@ -5,6 +5,7 @@ ghost use Rattle.explanations.specs.Causes as spec;
 ghost use Rattle.explanations.specs.Following as follow;
 
 use crate::asked::{kind_asked, kind_words};
+use crate::execution_times::time_cause;
 use crate::following::{is_quoted, value_at};
 use crate::hexes::hex_cause;
 use crate::key_words::{most_at, taken_by};
@@ -234,7 +235,7 @@ fn text_cause(alloc: Global, whole: &Value, place: &str, text: &str) -> Result<S
     if is_at("time", whole, place) {
         Ok(String::from_str(alloc, "the time is no moment")?)
     } else if is_at("times", whole, place) {
-        Ok(String::from_str(alloc, "the text isn't the time and date of an execution")?)
+        time_cause(alloc, text)
     } else {
         hex_cause(alloc, text)
     }

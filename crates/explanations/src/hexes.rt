@@ -42,9 +42,19 @@ pub(crate) fn hex_cause(alloc: Global, text: &str) -> Result<String, Memory>
     match hex::decode(alloc, text.as_bytes()) {
         Ok(bytes) => data_cause(alloc, &bytes),
         Err(FromHexError::OutOfMemory) => Err(Memory),
-        Err(FromHexError::InvalidHexCharacter { index, .. }) => {
+        Err(fault) => digit_cause(alloc, fault),
+    }
+}
+
+/// Why a text is no hex text. The error is that memory was refused.
+pub(crate) fn digit_cause(alloc: Global, fault: FromHexError) -> Result<String, Memory>
+    ensures { IfOk result (λ words. string_bytes words ≡ spec.digit_cause fault) }
+{
+    match fault {
+        FromHexError::OutOfMemory => Err(Memory),
+        FromHexError::InvalidHexCharacter { index, .. } => {
             Ok(format!(in alloc; "what stands behind {index} characters is no hex digit")?)
         }
-        Err(_) => Ok(String::from_str(alloc, "the number of hex digits is odd")?),
+        _ => Ok(String::from_str(alloc, "the number of hex digits is odd")?),
     }
 }

@@ -11,6 +11,7 @@ mod asked;
 mod causes;
 mod class_words;
 pub mod config;
+mod execution_times;
 mod following;
 mod hexes;
 mod indexes;
