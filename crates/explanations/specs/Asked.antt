@@ -1,12 +1,12 @@
 -- The kind of value that is asked at a place of a configuration. All of it is own profile.
-use Rattle.std.specs.Prelude.{ℕ, ◌==◌, ◌||◌, List, codes, if◌then◌else◌, Option, None, Some, option_and_then, option_map}
+use Rattle.std.specs.Prelude.{ℕ, ◌==◌, ◌||◌, Bool, false, List, codes, if◌then◌else◌, Option, None, Some, option_and_then, option_map}
 use Rattle.std.specs.Str.{bytes_eq}
-use Rattle.cosem_data.specs.Kinds.{kind_of}
+use Rattle.cosem_data.specs.Kinds.{kind_of, same_kind}
 use Rattle.cosem_data.specs.declared.kind.Kind.{Kind}
 use Rattle.cosem_data.specs.declared.kind.Kind.TheVariants.{NullData, Array, Structure, Boolean, DoubleLong, DoubleLongUnsigned, OctetString, VisibleString, Integer, Long, Unsigned, LongUnsigned, Long64, Long64Unsigned, Enumerated}
 use Rattle.toml.specs.Data.{Data, as_str, get}
 use Rattle.value_text.specs.Texts.{value_in}
-use Rattle.explanations.specs.Following.{beside, key_at}
+use Rattle.explanations.specs.Following.{beside, key_at, value_at}
 use Rattle.explanations.specs.Numbers.{is_number}
 use Rattle.explanations.specs.Objects.{class_of, object_beside, object_named}
 
@@ -51,6 +51,15 @@ kind_asked whole place =
     else if bytes_eq (key_at whole place) (codes "thresholds") then start_kind (monitored whole place)
     else if is_number 1 (beside (codes "service") whole place) then written_kind whole place
     else None
+
+-- both kinds are there, and are the same
+abbrev pub are_alike : Option Kind → Option Kind → Bool
+are_alike (Some asked) (Some found) = same_kind asked found
+are_alike _ _ = false
+
+-- what stands at a place is the hex text of a value of the kind that is asked there
+abbrev pub is_of_kind_asked : Data → List ℕ → Bool
+is_of_kind_asked whole place = are_alike (kind_asked whole place) (kind_in (value_at whole place))
 
 -- a kind in words (IEC 62056-5-3, type Data)
 abbrev pub kind_words : Kind → List ℕ

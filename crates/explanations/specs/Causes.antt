@@ -9,7 +9,7 @@ use Rattle.toml.specs.Data.{Data, as_integer, get}
 use Rattle.explanations.specs.Following.{beside, is_quoted, key_at, key_of, last_at, parent_from, parts, text_at, value_at}
 use Rattle.explanations.specs.ExecutionTimes.{time_cause}
 use Rattle.explanations.specs.Hexes.{hex_cause}
-use Rattle.explanations.specs.Asked.{kind_asked, kind_words}
+use Rattle.explanations.specs.Asked.{is_of_kind_asked, kind_asked, kind_words}
 use Rattle.explanations.specs.KeyWords.{most_at, taken_by}
 use Rattle.explanations.specs.Known.{keys_in}
 use Rattle.explanations.specs.Meanings.{meaning, mending}
@@ -137,6 +137,7 @@ told_value_cause whole place None = if is_at (codes "index") whole place then co
 told_value_cause whole place (Some text) =
     if is_at (codes "time") whole place then codes "the time is no moment"
     else if is_at (codes "times") whole place then time_cause text
+    else if is_of_kind_asked whole place then codes "the value is of the kind that is asked there, and breaks a rule of the attribute"
     else hex_cause text
 
 abbrev pub value_cause : Data → List ℕ → List ℕ
@@ -152,6 +153,7 @@ value_mending whole place =
     if is_at (codes "time") whole place then codes "write a moment of the years 2000 to 9999, as 2024-02-29T12:00:00"
     else if is_at (codes "times") whole place then codes "write nine bytes in hex: hour, minute, second and hundredths, then year (two bytes), month, day and day of the week, FF for any"
     else if is_at (codes "index") whole place then codes "start that object with a number"
+    else if is_of_kind_asked whole place then codes "write one of the menu's alternatives, as many thresholds as actions, a moment, or times that the type allows"
     else encoding (kind_asked whole place)
 
 -- Kinds and limits

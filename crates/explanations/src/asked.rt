@@ -4,6 +4,7 @@ ghost use Rattle.cosem_data.specs.View.{tree};
 ghost use Rattle.toml.specs.View.{view};
 ghost use Rattle.explanations.specs.Asked as spec;
 
+use crate::following::value_at;
 use crate::last::{beside, key_at};
 use crate::numbers::is_number;
 use crate::objects::{class_of, object_beside, object_named};
@@ -77,6 +78,25 @@ pub(crate) fn kind_asked(alloc: Global, whole: &Value, place: &str) -> Result<Op
     } else {
         Ok(None)
     }
+}
+
+/// Whether both kinds are there, and are the same.
+fn are_alike(asked: Option<Kind>, found: Option<Kind>) -> bool
+    ensures { result ≡ spec.are_alike asked found }
+{
+    match (asked, found) {
+        (Some(asked), Some(found)) => asked == found,
+        _ => false,
+    }
+}
+
+/// Whether what stands at a place is the hex text of a value of the kind that is asked there. The error is that memory was refused.
+pub(crate) fn is_of_kind_asked(alloc: Global, whole: &Value, place: &str) -> Result<bool, Memory>
+    ensures { IfOk result (λ is. is ≡ spec.is_of_kind_asked (view whole.now) place.now) }
+{
+    let asked = kind_asked(alloc, whole, place)?;
+    let found = kind_in(alloc, value_at(whole, place))?;
+    Ok(are_alike(asked, found))
 }
 
 /// A kind in words.

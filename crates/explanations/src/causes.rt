@@ -4,7 +4,7 @@ ghost use Rattle.toml.specs.View.{view};
 ghost use Rattle.explanations.specs.Causes as spec;
 ghost use Rattle.explanations.specs.Following as follow;
 
-use crate::asked::{kind_asked, kind_words};
+use crate::asked::{is_of_kind_asked, kind_asked, kind_words};
 use crate::execution_times::time_cause;
 use crate::following::{is_quoted, value_at};
 use crate::hexes::hex_cause;
@@ -236,6 +236,11 @@ fn text_cause(alloc: Global, whole: &Value, place: &str, text: &str) -> Result<S
         Ok(String::from_str(alloc, "the time is no moment")?)
     } else if is_at("times", whole, place) {
         time_cause(alloc, text)
+    } else if is_of_kind_asked(alloc, whole, place)? {
+        Ok(String::from_str(
+            alloc,
+            "the value is of the kind that is asked there, and breaks a rule of the attribute",
+        )?)
     } else {
         hex_cause(alloc, text)
     }
@@ -263,6 +268,8 @@ pub(crate) fn value_mending(alloc: Global, whole: &Value, place: &str) -> Result
         "write nine bytes in hex: hour, minute, second and hundredths, then year (two bytes), month, day and day of the week, FF for any"
     } else if is_at("index", whole, place) {
         "start that object with a number"
+    } else if is_of_kind_asked(alloc, whole, place)? {
+        "write one of the menu's alternatives, as many thresholds as actions, a moment, or times that the type allows"
     } else {
         return encoding(alloc, kind_asked(alloc, whole, place)?);
     };
