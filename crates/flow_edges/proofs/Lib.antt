@@ -7,3 +7,4 @@ pub mod Targets
 pub mod Objects
 pub mod Sources
 pub mod Walked
+pub mod Kept

@@ -1,30 +1,32 @@
--- The cells that a walk has marked.
-use Rattle.std.proofs.Common.{◌≡◌, ◌++◌, ◌∷◌, [], List, map, sym, ap, subst, ◌∙◌}
-use Rattle.std.specs.List.{FoldsTo}
+-- The numbers to which a walk came.
+use Rattle.std.proofs.Common.{◌≡◌, ◌++◌, ◌∷◌, [], List, sym, ap, ap₂, ◌∙◌}
+use Rattle.std.specs.List.{FoldsTo, position_from}
 use Rattle.std.proofs.lemmas.Fn.{chained_keeps}
 use Rattle.std.proofs.lemmas.List.{flat_map_more}
-use Rattle.meter_theory.specs.Edges.{among}
+use Rattle.std.proofs.lemmas.List.Elements.{filter_map-append}
+use Rattle.cosem_data.specs.Cells.{same_cell}
 use Rattle.meter_theory.specs.Plan.{Plan, cells}
 use Rattle.meter_theory.specs.Steps.{Effect, changed, changed_by}
-use Rattle.flow_edges.specs.Marking.{MarksMore}
-use Rattle.flow_edges.specs.declared.marks.Marks.{Marks}
+use Rattle.flow_edges.specs.Marking.{numbers_of, NumbersMore}
+use Rattle.flow_edges.specs.declared.script_changes.Numbers.{Numbers}
 
--- the cells are marked that these effects change, and no other
-record AreMarked (P : Plan) (effects : List Effect) (marks : Marks) : Type 0 where
-  plan : marks.plan.now ≡ P
-  marked : marks.marks.items ≡ map (among (changed effects)) (cells P)
+-- the numbers are those of the cells that these effects change
+record AreNumbered (P : Plan) (effects : List Effect) (numbers : Numbers) : Type 0 where
+  plan : numbers.plan.now ≡ P
+  numbered : numbers.numbers.items ≡ numbers_of P (changed effects)
 
-marked-more : (P : Plan) (effects : List Effect) (now : Marks) (e : Effect) (next : Marks) → AreMarked P effects now → MarksMore now e next → AreMarked P (effects ++ e ∷ []) next
-marked-more P effects now e next so_far step = record {
+numbered-more : (P : Plan) (effects : List Effect) (now : Numbers) (e : Effect) (next : Numbers) → AreNumbered P effects now → NumbersMore now e next → AreNumbered P (effects ++ e ∷ []) next
+numbered-more P effects now e next so_far step = record {
   plan = step.plan ∙ so_far.plan;
-  marked =
-      subst (λ Q. next.marks.items ≡ map (among (changed (effects ++ e ∷ []))) (cells Q)) so_far.plan
-      (step.marks (changed effects) (so_far.marked ∙ ap (λ Q. map (among (changed effects)) (cells Q)) (sym so_far.plan))
-      ∙ ap (λ xs. map (among xs) (cells now.plan.now)) (flat_map_more changed_by [] effects e));
+  numbered =
+      step.numbers
+      ∙ ap₂ (λ ns Q. ns ++ numbers_of Q (changed_by e)) so_far.numbered so_far.plan
+      ∙ sym (filter_map-append (λ x. position_from (same_cell x) 0 (cells P)) (changed effects) (changed_by e))
+      ∙ ap (numbers_of P) (flat_map_more changed_by [] effects e);
 }
 
--- a walk that began without marks
-pub walk-marks : (P : Plan) (effects : List Effect) (none all : Marks) → none.plan.now ≡ P → none.marks.items ≡ map (among []) (cells P) → FoldsTo MarksMore none effects all →
-    all.marks.items ≡ map (among (changed effects)) (cells P)
-walk-marks P effects none all same unmarked walk =
-    (chained_keeps MarksMore (AreMarked P) (marked-more P) effects none all (record { plan = same; marked = unmarked }) walk).marked
+-- a walk that began without numbers
+pub walk-numbers : (P : Plan) (effects : List Effect) (none all : Numbers) → none.plan.now ≡ P → none.numbers.items ≡ [] → FoldsTo NumbersMore none effects all →
+    all.numbers.items ≡ numbers_of P (changed effects)
+walk-numbers P effects none all same empty walk =
+    (chained_keeps NumbersMore (AreNumbered P) (numbered-more P) effects none all (record { plan = same; numbered = empty }) walk).numbered

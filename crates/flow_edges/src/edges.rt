@@ -11,6 +11,7 @@ ghost use Rattle.flow_edges.specs.Sources.{AreOfPlan, HasPart};
 ghost use Rattle.flow_edges.specs.Table.{cell_at};
 
 use crate::marks::{changed_by_monitor, changed_by_schedule};
+use crate::script_changes::ScriptChanges;
 use crate::table::EdgeTable;
 use class_control::parts::{MonitorPart, SchedulePart};
 use class_profile::profile::ProfilePart;
@@ -41,8 +42,9 @@ pub fn edge_table(alloc: Global, plan: &Plan) -> Result<EdgeTable, Memory>
 {
     plan.known();
     let mut table = EdgeTable::new(alloc, plan.cells(alloc)?)?;
+    let mut changes = ScriptChanges::new(alloc, plan);
     for object in plan.objects() {
-        add_object(alloc, plan, object, &mut table)?;
+        add_object(alloc, plan, object, &mut changes, &mut table)?;
     }
     Ok(table)
 }
@@ -52,18 +54,21 @@ fn add_object(
     alloc: Global,
     plan: &Plan,
     object: &Object,
+    changes: &mut ScriptChanges<'_>,
     table: &mut EdgeTable,
 ) -> Result<(), Memory>
     requires cells { table.old.cells ≡ plans.cells plan.now }
+    requires changes { changes.old ≡ plan.now }
     requires object { IsIn plan.now.objects object.now }
-    ensures { OnOk result (IsGathered table.old table.new
+    ensures changes { changes.new ≡ changes.old }
+    ensures edges { OnOk result (IsGathered table.old table.new
         (theory.edges_in plan.now object.now.name object.now.part)) }
 {
     let name = object.name();
     match object.part() {
-        Part::RegisterMonitor(part) => add_monitor(alloc, plan, name, part, table),
+        Part::RegisterMonitor(part) => add_monitor(alloc, plan, name, part, changes, table),
         Part::ProfileGeneric(part) => add_profile(plan, name, part, table),
-        Part::SingleActionSchedule(part) => add_schedule(alloc, plan, name, part, table),
+        Part::SingleActionSchedule(part) => add_schedule(alloc, plan, name, part, changes, table),
         _ => Ok(()),
     }
 }
@@ -238,16 +243,19 @@ fn add_schedule(
     plan: &Plan,
     name: LogicalName,
     part: &SchedulePart,
+    changes: &mut ScriptChanges<'_>,
     table: &mut EdgeTable,
 ) -> Result<(), Memory>
     requires cells { table.old.cells ≡ plans.cells plan.now }
+    requires changes { changes.old ≡ plan.now }
     requires part { HasPart plan.now name (schedule_part_of part.now) }
-    ensures { OnOk result (IsGathered table.old table.new
+    ensures changes { changes.new ≡ changes.old }
+    ensures edges { OnOk result (IsGathered table.old table.new
         (theory.edges_in plan.now name (schedule_part_of part.now))) }
 {
     plan.known();
     let times = number_of(plan, &execution_time(name));
-    let targets = changed_by_schedule(alloc, plan, table.cells().len(), part)?;
+    let targets = changed_by_schedule(alloc, changes, table.cells().len(), part)?;
     add_all(Cause::Schedule, &[times], &targets, table)?;
     add_menu_to_each(plan, name, part, &targets, table)?;
     add_clock_to_each(plan, &targets, table)
@@ -260,11 +268,14 @@ fn add_monitor(
     plan: &Plan,
     name: LogicalName,
     part: &MonitorPart,
+    changes: &mut ScriptChanges<'_>,
     table: &mut EdgeTable,
 ) -> Result<(), Memory>
     requires cells { table.old.cells ≡ plans.cells plan.now }
+    requires changes { changes.old ≡ plan.now }
     requires part { HasPart plan.now name (monitor_part_of part.now) }
-    ensures { OnOk result (IsGathered table.old table.new
+    ensures changes { changes.new ≡ changes.old }
+    ensures edges { OnOk result (IsGathered table.old table.new
         (theory.edges_in plan.now name (monitor_part_of part.now))) }
 {
     plan.known();
@@ -272,7 +283,7 @@ fn add_monitor(
     let limits = number_of(plan, &thresholds(name));
     let last = number_of(plan, &seen(name));
     table.add(Cause::Monitored, monitored, last)?;
-    let targets = changed_by_monitor(alloc, plan, table.cells().len(), &part.actions)?;
+    let targets = changed_by_monitor(alloc, changes, table.cells().len(), &part.actions)?;
     add_all(Cause::Monitor, &[monitored, limits, last], &targets, table)
 }
 

@@ -4,6 +4,7 @@
 mod causes;
 pub mod edges;
 mod marks;
+mod script_changes;
 pub mod table;
 
 pub use meter_theory::flow::Edge;

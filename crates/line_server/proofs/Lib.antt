@@ -6,3 +6,4 @@ pub mod Telling
 pub mod Alone
 pub mod Exact
 mod Lefts
+mod DigitTables

@@ -44,8 +44,32 @@ pub fn take_own<'a, A: Asker>(
         (StopsBehind A.answers asker.old (own_steps plan.now line.entry) asker.new) }
 {
     match line {
-        Line::Skipped => {}
-        Line::Ask(ask) => return Ok(Left::Ask(ask)),
+        Line::Ask(ask) => Ok(Left::Ask(ask)),
+        Line::Unreadable(why) => Ok(Left::Unreadable(why)),
+        own => {
+            take_steps(alloc, plan, asker, own)?;
+            Ok(Left::Nothing)
+        }
+    }
+}
+
+/// The asker takes the steps of the meter itself that a line brings, if any. The error is that memory was refused for one of them,
+/// and then those before it were taken.
+// (never inline: what these steps need room for would else be cleared for each APDU)
+#[inline(never)]
+pub(crate) fn take_steps<A: Asker>(
+    alloc: Global,
+    plan: &Plan,
+    asker: &mut A,
+    line: Line<'_>,
+) -> Result<(), Memory>
+    ensures taken { OnOk result
+        (TakesAll A.answers asker.old (own_steps plan.now line.entry) asker.new) }
+    ensures err { OnErr result
+        (StopsBehind A.answers asker.old (own_steps plan.now line.entry) asker.new) }
+{
+    match line {
+        Line::Skipped | Line::Ask(_) | Line::Unreadable(_) => {}
         Line::Input { cell, value } => {
             asker.ask(alloc, Step::Input { cell, value })?;
         }
@@ -54,9 +78,8 @@ pub fn take_own<'a, A: Asker>(
         }
         Line::At(moment) => take_moment(alloc, plan, asker, moment)?,
         Line::Ticks(seconds) => take_ticks(alloc, plan, asker, seconds)?,
-        Line::Unreadable(why) => return Ok(Left::Unreadable(why)),
     }
-    Ok(Left::Nothing)
+    Ok(())
 }
 
 /// The asker takes the steps of a moment: the clock is set to it, and each object is offered its step (own profile). The error is

@@ -7,6 +7,7 @@
 #![tactic(auto)]
 
 mod answering;
+mod digits;
 pub mod driving;
 pub mod fault;
 pub mod feeding;

@@ -1,4 +1,4 @@
-ghost use Rattle.std.specs.Prelude.{◌≡◌, ◌<◌, ℕ, List, IfOk, IfSome, None, Some, cond, length, option_map};
+ghost use Rattle.std.specs.Prelude.{◌≡◌, ◌<◌, ℕ, List, IfOk, IfSome, None, Some, cond, length, option_map, true};
 ghost use Rattle.std.specs.Result.{result_ok};
 ghost use Rattle.hex.specs.Hex.{decode_of};
 ghost use Rattle.cosem_data.specs.View.{tree};
@@ -8,6 +8,7 @@ ghost use Rattle.line_server.specs.Spelling.{line_of};
 ghost use Rattle.line_server.specs.Words as words;
 
 use crate::answering::Ask;
+use crate::digits::take_digits;
 use crate::reason::Reason;
 use civil_moment::moment::Moment;
 use cosem_data::cell::CellRef;
@@ -75,7 +76,10 @@ pub fn read_line<'a>(
         return Ok(Line::Skipped);
     }
     let said = said_at(alloc, plan, line, first_space(line), room)?;
-    Ok(with_return(ends_in_return(line), said))
+    if ends_in_return(line) {
+        return Ok(with_return(said));
+    }
+    Ok(said)
 }
 
 /// Whether the byte 0D ends the text, as some editors put it before a newline.
@@ -88,12 +92,12 @@ fn ends_in_return(text: &[u8]) -> bool
     }
 }
 
-/// What a line says, where such a byte that ends an unreadable one is told as the reason.
-fn with_return(returns: bool, said: Line<'_>) -> Line<'_>
-    ensures { result ≡ spec.with_return returns said.entry }
+/// What a line says that such a byte ends: of an unreadable one it is told as the reason.
+fn with_return(said: Line<'_>) -> Line<'_>
+    ensures { result ≡ spec.with_return true said.entry }
 {
     match said {
-        Line::Unreadable(_) if returns => Line::Unreadable(Reason::Return),
+        Line::Unreadable(_) => Line::Unreadable(Reason::Return),
         _ => said,
     }
 }
@@ -318,8 +322,11 @@ fn decode(text: &[u8], room: &mut Vec<u8>) -> Result<bool, Memory>
     ensures { IfOk result (λ read. cond read (Some room.new.items) None
         ≡ result_ok (decode_of text.now)) }
 {
+    if text.len() % 2 == 1 {
+        return Ok(false);
+    }
     room.resize(text.len() / 2, 0)?;
-    Ok(hex::decode_to_slice(text, room.as_mut_slice()).is_ok())
+    Ok(take_digits(text, room.as_mut_slice()))
 }
 
 /// What a line says by its client and the bytes of its APDU.

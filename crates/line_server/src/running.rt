@@ -12,9 +12,9 @@ ghost use Rattle.line_server.specs.LineMeter.{TellsUnreadable};
 ghost use Rattle.line_server.specs.Spelling.{reply_text};
 
 use crate::answering::{Ask, answer};
-use crate::driving::{Left, take_own};
+use crate::driving::take_steps;
 use crate::fault::LineFault;
-use crate::line::read_line;
+use crate::line::{Line, read_line};
 use crate::lines::{AnswersLines, answer_lines};
 use crate::reason::Reason;
 use crate::text::{put_reply, put_unreadable};
@@ -139,21 +139,23 @@ fn take_line<A: Asker>(
 ) -> Result<(), LineFault>
     ensures { TakesLine A.answers plan.now asker.old asker.new number line.now waiting.old.items waiting.new.items result }
 {
-    let Ok(line) = read_line(alloc, plan, line, &mut room.apdu) else {
+    let Ok(said) = read_line(alloc, plan, line, &mut room.apdu) else {
         return Err(LineFault::Memory);
     };
-    let Ok(left) = take_own(alloc, plan, asker, line) else {
-        return Err(LineFault::Memory);
-    };
-    match left {
-        Left::Nothing => Ok(()),
-        Left::Ask(ask) => {
+    match said {
+        Line::Ask(ask) => {
             let Ok(()) = answer_ask(alloc, asker, &ask, &mut room.reply, waiting) else {
                 return Err(LineFault::Memory);
             };
             Ok(())
         }
-        Left::Unreadable(why) => Err(unreadable(alloc, number, why, waiting)),
+        Line::Unreadable(why) => Err(unreadable(alloc, number, why, waiting)),
+        own => {
+            let Ok(()) = take_steps(alloc, plan, asker, own) else {
+                return Err(LineFault::Memory);
+            };
+            Ok(())
+        }
     }
 }
 

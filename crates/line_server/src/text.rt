@@ -1,9 +1,8 @@
 //! The texts that are written for lines.
-ghost use Rattle.std.specs.Prelude.{◌≡◌, ◌++◌, ◌*◌, length, map, OnErr, OnOk};
-ghost use Rattle.std.specs.Char.{to_ascii_uppercase};
-ghost use Rattle.hex.specs.Hex.{encode_upper};
+ghost use Rattle.std.specs.Prelude.{◌≡◌, ◌++◌, OnErr, OnOk};
 ghost use Rattle.line_server.specs.Spelling.{reply_text, unreadable_text};
 
+use crate::digits::put_digits;
 use cosem_data::memory::Memory;
 use std::alloc::Global;
 
@@ -23,26 +22,6 @@ pub(crate) fn put_reply(reply: &[u8], texts: &mut Vec<u8>) -> Result<(), Memory>
     texts.resize(len, b'\n')?;
     put_digits(reply, &mut texts[start..end]);
     Ok(())
-}
-
-/// Fills the room with the upper case hex digits of the bytes, two a byte.
-fn put_digits(bytes: &[u8], room: &mut [u8])
-    requires { length room.old ≡ 2 * length bytes.now }
-    ensures { room.new ≡ encode_upper bytes.now }
-{
-    let Ok(()) = hex::encode_to_slice(bytes, room) else {
-        unreachable!()
-    };
-    make_uppercase(room);
-}
-
-/// Makes each letter of an ASCII text an upper case one.
-fn make_uppercase(text: &mut [u8])
-    ensures { text.new ≡ map to_ascii_uppercase text.old }
-{
-    for letter in text.iter_mut() {
-        letter.make_ascii_uppercase();
-    }
 }
 
 /// Puts the line that tells the number of an unreadable line behind the texts that are there. The error is that memory was

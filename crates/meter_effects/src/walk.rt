@@ -181,8 +181,8 @@ fn each_of_scripts<V: Visitor>(
     Ok(())
 }
 
-/// Shows the effects of the script with this name.
-fn each_of_named<V: Visitor>(
+/// Shows the effects of the script with this name, in their order. The only error is the visitor's.
+pub fn each_of_named<V: Visitor>(
     plan: &Plan,
     script: &ScriptRef,
     visitor: &mut V,

@@ -25,13 +25,17 @@ loop-object-preserved c =
     let f : Object → List Edge = λ o. edges_in c.args.plan.now o.name o.part in
     let os = c.objects-object-items.result.now in
     let i = c.loop-object.object-index in
-    gathered-is c.in_ok-table.table c.add_object.new.table _ _ (flat_more f os i c.object-item.result c.loop-object-test.true c.object-item.is)
-    (gathered_join c.in_ok-table.table c.loop-object.table c.add_object.new.table (flat_map f (take i os)) (f c.object-item.result) c.loop-object.invariant c.in_ok-add_object.ensures)
+    record {
+      changes = c.add_object.ensures.changes ∙ c.loop-object.invariant.changes;
+      edges =
+          gathered-is c.in_ok-table.table c.add_object.new.table _ _ (flat_more f os i c.object-item.result c.loop-object-test.true c.object-item.is)
+          (gathered_join c.in_ok-table.table c.loop-object.table c.add_object.new.table (flat_map f (take i os)) (f c.object-item.result) c.loop-object.invariant.edges c.in_ok-add_object.ensures.edges);
+    }
 
 pub returns : goal.returns
 returns c =
     let f : Object → List Edge = λ o. edges_in c.args.plan.now o.name o.part in
     let os = c.objects-object-items.result.now in
     let i = c.loop-object.object-index in
-    all-gathered c.in_ok-table.table c.loop-object.table c.in_ok-cells.field-0.items (flat_map f (take i os)) c.in_ok-table.ensures c.loop-object.invariant
+    all-gathered c.in_ok-table.table c.loop-object.table c.in_ok-cells.field-0.items (flat_map f (take i os)) c.in_ok-table.ensures c.loop-object.invariant.edges
     ∙ ap₂ (λ cs xs. joined cs (first_of_each [] (flat_map f xs))) c.in_ok-cells.ensures (take_all i os c.loop-object-test.false ∙ c.objects-object-items.ensures)

@@ -1,7 +1,10 @@
-use Rattle.std.proofs.Common.{take, flat_map}
+use Rattle.std.proofs.Common.{◌≡◌, take, flat_map}
 use Rattle.meter_theory.specs.Edges as theory
 use Rattle.flow_edges.specs.Gather.{IsGathered}
 use Rattle.flow_edges.proofs.edges.edge_table.Given as goal
 
 abbrev pub invariant-loop-object : goal.invariant-loop-object
-invariant-loop-object l = IsGathered l.initial.table l.table (flat_map (λ o. theory.edges_in l.plan o.name o.part) (take l.object-index l.object-items))
+invariant-loop-object l = record {
+  changes : l.changes ≡ l.plan;
+  edges : IsGathered l.initial.table l.table (flat_map (λ o. theory.edges_in l.plan o.name o.part) (take l.object-index l.object-items));
+}

@@ -2,7 +2,7 @@ use Rattle.std.proofs.Common.{Some, refl}
 use Rattle.cosem_data.specs.View.{tree}
 use Rattle.meter_theory.specs.Steps.{Input, Evaluate}
 use Rattle.line_server.proofs.Doing.{stops-first}
-use Rattle.line_server.proofs.driving.take_own.Goals as goal
+use Rattle.line_server.proofs.driving.take_steps.Goals as goal
 
 pub returns-in_err-ask-in-Input-clause-err : goal.returns-in_err-ask-in-Input-clause-err
 returns-in_err-ask-in-Input-clause-err g c =
