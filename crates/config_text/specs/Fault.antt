@@ -30,6 +30,11 @@ abbrev pub fault_if : Code → Text → Bool → Result ⊤ Fault
 fault_if code place true = faulty code place
 fault_if code place false = Ok tt
 
+-- the same, as all that the test finds
+abbrev pub fault_where : Code → Text → Bool → List Fault
+fault_where code place true = record { code = code; place = place } ∷ []
+fault_where code place false = []
+
 -- the fault of a part, where it has one
 abbrev pub fault_in : {A : Type 0} → Result A Fault → List Fault
 fault_in (Ok x) = []

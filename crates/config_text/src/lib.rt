@@ -15,6 +15,7 @@ mod lists;
 mod lookup;
 mod menus;
 mod monitor;
+pub mod noting;
 mod object;
 pub mod parts;
 pub mod place;
