@@ -7,6 +7,7 @@ pub mod Numbers
 mod Labels
 mod Granted
 mod Searches
+mod Worths
 mod Places
 mod Room
 mod Referred

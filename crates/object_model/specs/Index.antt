@@ -1,8 +1,9 @@
 -- Names, and their numbers sorted by name.
 use Rattle.std.specs.Prelude.{◌≡◌, ◌≢◌, ◌<◌, ◌≤◌, ℕ, List, [], length, slice_index}
-use Rattle.std.specs.List.{slice_index_or}
+use Rattle.std.specs.List.{AllByRecursion, slice_index_or}
 use Rattle.std.specs.Ordering.{nat_cmp}
 use Rattle.std.specs.Cmp.Lexicographic.{slice_cmp}
+use Rattle.std.specs.Slice.Scan.{big_endian}
 use Rattle.std.specs.declared.cmp.Ordering.{Ordering}
 use Rattle.std.specs.declared.cmp.Ordering.TheVariants.{Less}
 use Rattle.cosem_data.specs.declared.name.LogicalName.{LogicalName}
@@ -14,6 +15,14 @@ name_at names k = slice_index_or names k (record { 0 = [] })
 -- names by their bytes: own profile
 abbrev pub order : LogicalName → LogicalName → Ordering
 order a b = slice_cmp nat_cmp a.0 b.0
+
+-- the bytes of a name as one number, the first the highest, so that names stand in the order of these: own profile
+abbrev pub worth : LogicalName → ℕ
+worth name = big_endian 0 name.0
+
+-- a name has six bytes: own profile
+abbrev pub IsSixBytes : LogicalName → Type 0
+IsSixBytes name = (length name.0 ≡ 6) × AllByRecursion (λ b. b < 256) name.0
 
 -- the name whose number stands at this place: own profile
 abbrev pub entry : List LogicalName → List ℕ → ℕ → LogicalName

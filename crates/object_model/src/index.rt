@@ -1,9 +1,9 @@
 //! Names, of which each is found by binary search.
 ghost use Rattle.std.specs.Prelude.{◌≡◌, ◌<◌, ◌≤◌, ◌+◌, ◌^◌, ℕ, length, IfOk, MatchResult, IfErr};
-ghost use Rattle.std.specs.List.{position_from};
+ghost use Rattle.std.specs.List.{AllByRecursion, position_from};
 ghost use Rattle.std.specs.declared.cmp.Ordering.TheVariants.{Less, Equal, Greater};
 ghost use Rattle.cosem_data.specs.Cells.{same_name};
-ghost use Rattle.object_model.specs.Index.{entry, order, IsSorted, IsIndexOf};
+ghost use Rattle.object_model.specs.Index.{entry, order, worth, IsIndexOf, IsSixBytes, IsSorted};
 
 use cosem_data::memory::Memory;
 use cosem_data::name::LogicalName;
@@ -71,6 +71,21 @@ impl Index {
     }
 }
 
+/// Bytes are below 256. It does nothing when it runs.
+fn know_bytes(_bytes: &[u8])
+    ensures { AllByRecursion (λ b. b < 256) _bytes.now }
+{}
+
+/// The bytes of a name as one number: two of these are compared at once, where bytes are compared one by one.
+fn worth(name: &LogicalName) -> u64
+    ensures number { result ≡ worth name.now }
+    ensures bytes { IsSixBytes name.now }
+{
+    know_bytes(&name.0);
+    let [a, b, c, d, e, f] = name.0;
+    u64::from_be_bytes([0, 0, a, b, c, d, e, f])
+}
+
 /// Where the number of a name stands, or else where it would have to; and how many names were compared.
 fn search(names: &[LogicalName], numbers: &[u16], name: &LogicalName) -> (Result<usize, usize>, u32)
     requires { IsSorted names.now numbers.now }
@@ -84,13 +99,14 @@ fn search(names: &[LogicalName], numbers: &[u16], name: &LogicalName) -> (Result
     // What isn't found has been looked for until no number was left.
     ensures all { IfErr result.0 (λ i. length numbers.now + 1 < 2 ^ (result.1 + 1)) }
 {
+    let sought = worth(name);
     let mut low = 0;
     let mut high = numbers.len();
     let mut compared: u32 = 0;
     while low < high {
         let middle = low + (high - low) / 2;
         compared += 1;
-        match names[usize::from(numbers[middle])].0.cmp(&name.0) {
+        match worth(&names[usize::from(numbers[middle])]).cmp(&sought) {
             Ordering::Less => low = middle + 1,
             Ordering::Greater => high = middle,
             Ordering::Equal => return (Ok(middle), compared),
