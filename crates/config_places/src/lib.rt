@@ -4,7 +4,6 @@
 
 mod arrays;
 mod document;
-mod key_text;
 mod leading;
 mod meeting;
 mod naming;

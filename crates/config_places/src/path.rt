@@ -4,8 +4,8 @@ ghost use Rattle.std.specs.Prelude.{◌≡◌, ◌≤◌, ◌++◌, length, map,
 ghost use Rattle.config_places.specs.Steps.{key_steps, step_of, step_text, IsPath};
 ghost use Rattle.toml_parser.specs.Reading.{Shortens, key_view};
 
-use crate::key_text::key_text;
 use crate::step::Step;
+use config_text::key_text::key_text;
 use cosem_data::memory::Memory;
 use std::alloc::{AllocError, Global};
 use std::fmt::Write;

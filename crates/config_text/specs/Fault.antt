@@ -66,6 +66,11 @@ abbrev pub Gives : {X Y : Type 0} → (X → Y) → Result X ConfigFault → Res
 Gives view (Ok x) read = read ≡ Ok (view x)
 Gives view (Err e) read = Fails e read
 
+-- what an error tells: its fault, or nothing where memory ran out (own profile)
+abbrev pub told : ConfigFault → Option Fault
+told faults.Memory = None
+told (faults.Found code place) = Some (record { code = code; place = string_bytes place })
+
 -- the number of a code
 abbrev pub number_of : Code → ℕ
 number_of codes.NotToml = 1

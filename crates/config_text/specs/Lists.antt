@@ -19,11 +19,6 @@ each says name i (item d rest) = do
   xs ← each says name (i + 1) rest
   Ok (x ∷ xs)
 
--- the first fault of each element that has one, in turn
-unfoldable pub each_fault : {A : Type 0} → (Text → Data → Result A Fault) → Text → ℕ → Items → List Fault
-each_fault says name i no_items = []
-each_fault says name i (item d rest) = fault_in (says (element_place name i) d) ++ each_fault says name (i + 1) rest
-
 -- the array at a key
 unfoldable pub array_at : Text → Text → Members → Result Items Fault
 array_at at key t = found_or Kind (at ++ key) (option_and_then as_array (get_member key t))
@@ -54,3 +49,31 @@ optional_naturals_at low high at key t = each_or_none (natural_of low high) (at 
 -- what was read before, in front of what a reading gives
 abbrev pub with_front : {A : Type 0} → List A → Result (List A) Fault → Result (List A) Fault
 with_front front read = read >>= λ xs. Ok (front ++ xs)
+
+-- the faults of each element, in turn: `faults` are those of what stands at a place
+unfoldable pub each_fault : (Text → Data → List Fault) → Text → ℕ → Items → List Fault
+each_fault faults name i no_items = []
+each_fault faults name i (item d rest) = faults (element_place name i) d ++ each_fault faults name (i + 1) rest
+
+-- the faults of the elements of an array; where there is none, that is the fault
+abbrev pub items_faults : (Text → Data → List Fault) → Text → Option Items → List Fault
+items_faults faults place None = record { code = Kind; place = place } ∷ []
+items_faults faults place (Some items) = each_fault faults place 0 items
+
+abbrev pub items_faults_or_none : (Text → Data → List Fault) → Text → Option Data → List Fault
+items_faults_or_none faults place None = []
+items_faults_or_none faults place (Some d) = items_faults faults place (as_array d)
+
+-- at a key, and at one that may be left out
+unfoldable pub array_faults_at : (Text → Data → List Fault) → Text → Text → Members → List Fault
+array_faults_at faults at key t = items_faults faults (at ++ key) (option_and_then as_array (get_member key t))
+
+unfoldable pub optional_array_faults_at : (Text → Data → List Fault) → Text → Text → Members → List Fault
+optional_array_faults_at faults at key t = items_faults_or_none faults (at ++ key) (get_member key t)
+
+-- of texts, and of numbers in a range
+abbrev pub text_faults : Text → Data → List Fault
+text_faults place d = fault_in (text_of place d)
+
+abbrev pub natural_faults : ℕ → ℕ → Text → Data → List Fault
+natural_faults low high place d = fault_in (natural_of low high place d)

@@ -4,15 +4,19 @@ use crate::fault::ConfigFault;
 use crate::keys::{needed, only};
 use crate::parts::ClientParts;
 use crate::place::Place;
+use crate::placed::PlacedFault;
+use crate::refusal::keep;
 use crate::tables::TableForm;
+use crate::value_faults::{optional_ascii_fault_at, text_fault_at};
 use crate::values::{natural_at, optional_ascii_at, text_at};
+use cosem_data::memory::Memory;
 use toml::Table;
 
 /// `name`, `sap` and perhaps `password`: a client.
 pub(crate) struct ClientTable;
 
 impl TableForm for ClientTable {
-    ghost use Rattle.config_text.specs.Clients.{client_keys, client_of};
+    ghost use Rattle.config_text.specs.Clients.{client_keys, client_of, client_faults};
 
     type Parts = ClientParts;
 
@@ -20,11 +24,18 @@ impl TableForm for ClientTable {
 
     ghost says = { λ form. client_of };
 
+    ghost kinds = { λ form. client_faults };
+
     #[tactic(auto, unfolding(crate::specs::Clients::client_keys))]
-    fn check_keys(&self, at: &Place<'_>, table: &Table) -> Result<(), ConfigFault> {
-        needed(at, "name", table)?;
-        needed(at, "sap", table)?;
-        only(at, &["name", "sap", "password"], table)
+    fn check_keys(
+        &self,
+        faults: &mut Vec<PlacedFault>,
+        at: &Place<'_>,
+        table: &Table,
+    ) -> Result<(), Memory> {
+        needed(faults, at, "name", table)?;
+        needed(faults, at, "sap", table)?;
+        only(faults, at, &["name", "sap", "password"], table)
     }
 
     #[tactic(auto, unfolding(crate::specs::Clients::client_of))]
@@ -37,5 +48,17 @@ impl TableForm for ClientTable {
             sap: sap as u8,
             password,
         })
+    }
+
+    #[tactic(auto, unfolding(crate::specs::Clients::client_faults))]
+    fn check_kinds(
+        &self,
+        faults: &mut Vec<PlacedFault>,
+        at: &Place<'_>,
+        table: &Table,
+    ) -> Result<(), Memory> {
+        text_fault_at(faults, at, "name", table)?;
+        keep(faults, natural_at(1, 127, at, "sap", table))?;
+        optional_ascii_fault_at(faults, 1, 64, at, "password", table)
     }
 }

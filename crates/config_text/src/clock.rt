@@ -1,5 +1,6 @@
 //! The table of a clock.
 
+ghost use Rattle.std.specs.Prelude.{◌≡◌, ◌++◌, OnOk};
 ghost use Rattle.toml.specs.View.{table_view};
 ghost use Rattle.config_text.specs.BodyView.{body_text};
 ghost use Rattle.config_text.specs.Fault.{Gives};
@@ -9,16 +10,23 @@ use crate::fault::ConfigFault;
 use crate::keys::{needed, only};
 use crate::parts::BodyParts;
 use crate::place::Place;
+use crate::placed::PlacedFault;
+use crate::value_faults::text_fault_at;
 use crate::values::text_at;
+use cosem_data::memory::Memory;
 use toml::Table;
 
-/// The keys of a clock.
+/// Notes the keys that are missing or unknown in a clock.
 #[tactic(auto, unfolding(crate::specs::Classes::clock_keys))]
-pub(crate) fn clock_keys(at: &Place<'_>, table: &Table) -> Result<(), ConfigFault>
-    ensures { Gives (λ u. u) result (spec.clock_keys at.now (table_view table.now)) }
+pub(crate) fn clock_keys(
+    faults: &mut Vec<PlacedFault>,
+    at: &Place<'_>,
+    table: &Table,
+) -> Result<(), Memory>
+    ensures { OnOk result (faults.new.items ≡ faults.old.items ++ spec.clock_keys at.now (table_view table.now)) }
 {
-    needed(at, "time", table)?;
-    only(at, &["class", "name", "fed", "time"], table)
+    needed(faults, at, "time", table)?;
+    only(faults, at, &["class", "name", "fed", "time"], table)
 }
 
 /// What the table says of a clock. Whether the text is a moment is judged with the other values.
@@ -28,4 +36,16 @@ pub(crate) fn clock_of(at: &Place<'_>, table: &Table) -> Result<BodyParts, Confi
 {
     let time = text_at(at, "time", table)?;
     Ok(BodyParts::Clock { time })
+}
+
+/// Notes the values of a wrong kind in a clock.
+#[tactic(auto, unfolding(crate::specs::Classes::clock_faults))]
+pub(crate) fn clock_faults(
+    faults: &mut Vec<PlacedFault>,
+    at: &Place<'_>,
+    table: &Table,
+) -> Result<(), Memory>
+    ensures { OnOk result (faults.new.items ≡ faults.old.items ++ spec.clock_faults at.now (table_view table.now)) }
+{
+    text_fault_at(faults, at, "time", table)
 }

@@ -75,7 +75,7 @@ fn quoted(alloc: Global, key: &str) -> Result<String, Memory>
 
 /// A key as TOML writes it: as it is where it is bare, and else between quotation marks, where each control character, `"` and
 /// `\` stands behind a `\`. The error is that memory was refused.
-pub(crate) fn key_text(alloc: Global, key: &str) -> Result<String, Memory>
+pub fn key_text(alloc: Global, key: &str) -> Result<String, Memory>
     ensures { IfOk result (λ text. string_bytes text ≡ spec.key_text key.now) }
 {
     if is_bare(key) {

@@ -1,32 +1,33 @@
-//! Which keys a table has.
+//! Which keys a table has. `at` is the place of the table, up to its dot.
 
-ghost use Rattle.std.specs.Prelude.{◌≡◌, ◌++◌, map};
+ghost use Rattle.std.specs.Prelude.{◌≡◌, ◌++◌, ◌∷◌, [], OnOk, map};
 ghost use Rattle.std.specs.List.{list_any};
 ghost use Rattle.std.specs.Str.{bytes_eq};
 ghost use Rattle.toml.specs.View.{table_view};
-ghost use Rattle.config_text.specs.Fault.{Gives, IsFault};
 ghost use Rattle.config_text.specs.KeyText as text;
 ghost use Rattle.config_text.specs.declared.fault.Code.TheVariants.{Key};
 ghost use Rattle.config_text.specs.Keys as spec;
 
-use crate::fault::{Code, ConfigFault, fault};
+use crate::fault::Code;
 use crate::key_text::key_text;
 use crate::lookup::value_at;
+use crate::noting::{note, note_if};
 use crate::place::Place;
+use crate::placed::PlacedFault;
+use cosem_data::memory::Memory;
 use toml::Table;
 
-/// Looks for a key that has to be there. `at` is the place of the table, up to its dot.
-///
-/// # Errors
-/// C2 at the key where it is missing.
+/// Notes where a key is missing that has to be there.
 #[tactic(auto, unfolding(crate::specs::Keys::needed))]
-pub(crate) fn needed(at: &Place<'_>, key: &str, table: &Table) -> Result<(), ConfigFault>
-    ensures { Gives (λ u. u) result (spec.needed at.now key.now (table_view table.now)) }
+pub(crate) fn needed(
+    faults: &mut Vec<PlacedFault>,
+    at: &Place<'_>,
+    key: &str,
+    table: &Table,
+) -> Result<(), Memory>
+    ensures { OnOk result (faults.new.items ≡ faults.old.items ++ spec.needed at.now key.now (table_view table.now)) }
 {
-    match value_at(table, key) {
-        Some(_) => Ok(()),
-        None => Err(fault(Code::Key, at, key)),
-    }
+    note_if(faults, Code::Key, at, key, value_at(table, key).is_none())
 }
 
 /// Whether a key is among the known ones.
@@ -36,29 +37,45 @@ fn is_among(key: &str, known: &[&str]) -> bool
     known.iter().any(|k| *k == key)
 }
 
-/// The fault of a key that isn't known, which stands in the place as TOML writes it, or want of memory.
-fn unknown(at: &Place<'_>, key: &str) -> ConfigFault
-    ensures { IsFault Key (at.now ++ text.key_text key.now) result }
+/// Notes a key that isn't known, which stands in the place as TOML writes it.
+fn note_unknown(faults: &mut Vec<PlacedFault>, at: &Place<'_>, key: &str) -> Result<(), Memory>
+    ensures { OnOk result (faults.new.items ≡ faults.old.items
+        ++ record { code = Key; place = at.now ++ text.key_text key.now } ∷ []) }
 {
-    match key_text(at.alloc(), key) {
-        Ok(text) => fault(Code::Key, at, text.as_str()),
-        Err(_) => ConfigFault::Memory,
-    }
+    let text = key_text(at.alloc(), key)?;
+    note(faults, Code::Key, at, text.as_str())
 }
 
-/// Looks for keys that aren't known.
-///
-/// # Errors
-/// C2 at the first of them in byte order.
+/// Notes a key that isn't among the known ones.
+#[tactic(auto, using(crate::proofs::KeyLemmas::is_among_map))]
+fn known_key(
+    faults: &mut Vec<PlacedFault>,
+    at: &Place<'_>,
+    known: &[&str],
+    key: &str,
+) -> Result<(), Memory>
+    ensures { OnOk result (faults.new.items ≡ faults.old.items
+        ++ spec.known_key at.now (map (λ k. k.now) known.now) key.now) }
+{
+    if !is_among(key, known) {
+        note_unknown(faults, at, key)?;
+    }
+    Ok(())
+}
+
+/// Notes each key of a table that isn't known, in byte order.
 #[tactic(auto, unfolding(crate::specs::Keys::only))]
-pub(crate) fn only(at: &Place<'_>, known: &[&str], table: &Table) -> Result<(), ConfigFault>
-    ensures { Gives (λ u. u) result (spec.only at.now
-        (map (λ k. k.now) known.now) (table_view table.now)) }
+pub(crate) fn only(
+    faults: &mut Vec<PlacedFault>,
+    at: &Place<'_>,
+    known: &[&str],
+    table: &Table,
+) -> Result<(), Memory>
+    ensures { OnOk result (faults.new.items ≡ faults.old.items
+        ++ spec.only at.now (map (λ k. k.now) known.now) (table_view table.now)) }
 {
     for key in table.keys() {
-        if !is_among(key.as_str(), known) {
-            return Err(unknown(at, key.as_str()));
-        }
+        known_key(faults, at, known, key.as_str())?;
     }
     Ok(())
 }

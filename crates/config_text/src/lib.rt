@@ -1,15 +1,15 @@
-//! What the tables of a configuration's text say (own profile), or the first fault in them: a text that is no TOML (C1), a key
-//! that is missing or unknown (C2), a value of a wrong kind or out of its range (C3). A fault's place is the path to it, as
+//! What the tables of a configuration's text say (own profile), or the faults in them: a text that is no TOML (C1), else each key
+//! that is missing or unknown (C2), else each value of a wrong kind or out of its range (C3). A fault's place is the path to it, as
 //! `object[6].name`.
 #![tactic(auto)]
 
+mod checks;
 mod client;
 mod clock;
 pub mod fault;
-mod gathering;
 pub mod hex_value;
 mod kept;
-mod key_text;
+pub mod key_text;
 mod keys;
 mod lists;
 mod lookup;
@@ -28,8 +28,11 @@ mod right;
 mod schedule;
 mod script;
 pub mod service;
+mod table_faults;
+mod table_keys;
 mod tables;
 mod target;
+mod value_faults;
 mod values;
 
 pub use read::read_tables;

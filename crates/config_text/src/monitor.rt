@@ -1,5 +1,6 @@
 //! The tables of a register monitor.
 
+ghost use Rattle.std.specs.Prelude.{◌≡◌, ◌++◌, OnOk};
 ghost use Rattle.toml.specs.View.{table_view};
 ghost use Rattle.config_text.specs.BodyView.{body_text};
 ghost use Rattle.config_text.specs.Fault.{Gives};
@@ -10,15 +11,20 @@ use crate::keys::{needed, only};
 use crate::lists::texts_at;
 use crate::parts::{BodyParts, UpDownParts};
 use crate::place::Place;
-use crate::tables::{TableForm, list_at, list_keys_at, table_at, table_keys_at};
+use crate::placed::PlacedFault;
+use crate::table_faults::{list_faults_at, table_faults_at};
+use crate::table_keys::{list_keys_at, table_keys_at};
+use crate::tables::{TableForm, list_at, table_at};
 use crate::target::{ScriptRefTable, TargetTable};
+use crate::value_faults::texts_faults_at;
+use cosem_data::memory::Memory;
 use toml::Table;
 
 /// `up` and `down`: the scripts of a threshold.
 pub(crate) struct UpDownTable;
 
 impl TableForm for UpDownTable {
-    ghost use Rattle.config_text.specs.Classes.{up_down_keys, up_down_of};
+    ghost use Rattle.config_text.specs.Classes.{up_down_keys, up_down_of, up_down_faults};
 
     type Parts = UpDownParts;
 
@@ -26,13 +32,20 @@ impl TableForm for UpDownTable {
 
     ghost says = { λ form. up_down_of };
 
+    ghost kinds = { λ form. up_down_faults };
+
     #[tactic(auto, unfolding(crate::specs::Classes::up_down_keys))]
-    fn check_keys(&self, at: &Place<'_>, table: &Table) -> Result<(), ConfigFault> {
-        needed(at, "up", table)?;
-        table_keys_at(&ScriptRefTable, at, "up", table)?;
-        needed(at, "down", table)?;
-        table_keys_at(&ScriptRefTable, at, "down", table)?;
-        only(at, &["up", "down"], table)
+    fn check_keys(
+        &self,
+        faults: &mut Vec<PlacedFault>,
+        at: &Place<'_>,
+        table: &Table,
+    ) -> Result<(), Memory> {
+        needed(faults, at, "up", table)?;
+        table_keys_at(faults, &ScriptRefTable, at, "up", table)?;
+        needed(faults, at, "down", table)?;
+        table_keys_at(faults, &ScriptRefTable, at, "down", table)?;
+        only(faults, at, &["up", "down"], table)
     }
 
     #[tactic(auto, unfolding(crate::specs::Classes::up_down_of))]
@@ -41,20 +54,35 @@ impl TableForm for UpDownTable {
         let down = table_at(&ScriptRefTable, at, "down", table)?;
         Ok(UpDownParts { up, down })
     }
+
+    #[tactic(auto, unfolding(crate::specs::Classes::up_down_faults))]
+    fn check_kinds(
+        &self,
+        faults: &mut Vec<PlacedFault>,
+        at: &Place<'_>,
+        table: &Table,
+    ) -> Result<(), Memory> {
+        table_faults_at(faults, &ScriptRefTable, at, "up", table)?;
+        table_faults_at(faults, &ScriptRefTable, at, "down", table)
+    }
 }
 
-/// The keys of a register monitor.
+/// Notes the keys that are missing or unknown in a register monitor.
 #[tactic(auto, unfolding(crate::specs::Classes::monitor_keys))]
-pub(crate) fn monitor_keys(at: &Place<'_>, table: &Table) -> Result<(), ConfigFault>
-    ensures { Gives (λ u. u) result (spec.monitor_keys at.now (table_view table.now)) }
+pub(crate) fn monitor_keys(
+    faults: &mut Vec<PlacedFault>,
+    at: &Place<'_>,
+    table: &Table,
+) -> Result<(), Memory>
+    ensures { OnOk result (faults.new.items ≡ faults.old.items ++ spec.monitor_keys at.now (table_view table.now)) }
 {
-    needed(at, "monitored", table)?;
-    table_keys_at(&TargetTable, at, "monitored", table)?;
-    needed(at, "thresholds", table)?;
-    needed(at, "action", table)?;
-    list_keys_at(&UpDownTable, at, "action", table)?;
+    needed(faults, at, "monitored", table)?;
+    table_keys_at(faults, &TargetTable, at, "monitored", table)?;
+    needed(faults, at, "thresholds", table)?;
+    needed(faults, at, "action", table)?;
+    list_keys_at(faults, &UpDownTable, at, "action", table)?;
     let known = ["class", "name", "fed", "monitored", "thresholds", "action"];
-    only(at, &known, table)
+    only(faults, at, &known, table)
 }
 
 /// What the table says of a register monitor.
@@ -70,4 +98,18 @@ pub(crate) fn monitor_of(at: &Place<'_>, table: &Table) -> Result<BodyParts, Con
         thresholds,
         actions,
     })
+}
+
+/// Notes the values of a wrong kind in a register monitor.
+#[tactic(auto, unfolding(crate::specs::Classes::monitor_faults))]
+pub(crate) fn monitor_faults(
+    faults: &mut Vec<PlacedFault>,
+    at: &Place<'_>,
+    table: &Table,
+) -> Result<(), Memory>
+    ensures { OnOk result (faults.new.items ≡ faults.old.items ++ spec.monitor_faults at.now (table_view table.now)) }
+{
+    table_faults_at(faults, &TargetTable, at, "monitored", table)?;
+    texts_faults_at(faults, at, "thresholds", table)?;
+    list_faults_at(faults, &UpDownTable, at, "action", table)
 }

@@ -1,23 +1,29 @@
 //! An object's table.
 
-ghost use Rattle.std.specs.Prelude.{◌≡◌};
+ghost use Rattle.std.specs.Prelude.{◌≡◌, ◌++◌, OnOk};
 ghost use Rattle.toml.specs.View.{table_view};
 ghost use Rattle.config_text.specs.BodyView.{body_text};
 ghost use Rattle.config_text.specs.Fault.{Gives};
 ghost use Rattle.config_text.specs.Objects as spec;
 
-use crate::clock::{clock_keys, clock_of};
+use crate::clock::{clock_faults, clock_keys, clock_of};
 use crate::fault::ConfigFault;
 use crate::keys::needed;
-use crate::monitor::{monitor_keys, monitor_of};
+use crate::monitor::{monitor_faults, monitor_keys, monitor_of};
 use crate::parts::{BodyParts, ObjectParts};
 use crate::place::Place;
-use crate::profile::{profile_keys, profile_of};
-use crate::register::{data_keys, data_of, register_keys, register_of};
-use crate::schedule::{schedule_keys, schedule_of};
-use crate::script::{script_table_keys, script_table_of};
+use crate::placed::PlacedFault;
+use crate::profile::{profile_faults, profile_keys, profile_of};
+use crate::refusal::keep;
+use crate::register::{
+    data_faults, data_keys, data_of, register_faults, register_keys, register_of,
+};
+use crate::schedule::{schedule_faults, schedule_keys, schedule_of};
+use crate::script::{script_table_faults, script_table_keys, script_table_of};
 use crate::tables::TableForm;
+use crate::value_faults::text_fault_at;
 use crate::values::{flag_at, natural_at, natural_or_none, text_at};
+use cosem_data::memory::Memory;
 use meter_theory::classes::Class;
 use toml::Table;
 
@@ -36,23 +42,24 @@ fn has_menus(version: u8) -> bool
     version >= 2
 }
 
-/// The keys that the class asks for; none where it isn't known.
+/// Notes the keys that are missing or unknown among those that the class asks for; none where it isn't known.
 fn class_keys(
+    faults: &mut Vec<PlacedFault>,
     menus: bool,
     class: Option<Class>,
     at: &Place<'_>,
     table: &Table,
-) -> Result<(), ConfigFault>
-    ensures { Gives (λ u. u) result (spec.class_keys menus class at.now (table_view table.now)) }
+) -> Result<(), Memory>
+    ensures { OnOk result (faults.new.items ≡ faults.old.items ++ spec.class_keys menus class at.now (table_view table.now)) }
 {
     match class {
-        Some(Class::Data) => data_keys(at, table),
-        Some(Class::Register) => register_keys(at, table),
-        Some(Class::ProfileGeneric) => profile_keys(menus, at, table),
-        Some(Class::Clock) => clock_keys(at, table),
-        Some(Class::ScriptTable) => script_table_keys(at, table),
-        Some(Class::RegisterMonitor) => monitor_keys(at, table),
-        Some(Class::SingleActionSchedule) => schedule_keys(menus, at, table),
+        Some(Class::Data) => data_keys(faults, at, table),
+        Some(Class::Register) => register_keys(faults, at, table),
+        Some(Class::ProfileGeneric) => profile_keys(faults, menus, at, table),
+        Some(Class::Clock) => clock_keys(faults, at, table),
+        Some(Class::ScriptTable) => script_table_keys(faults, at, table),
+        Some(Class::RegisterMonitor) => monitor_keys(faults, at, table),
+        Some(Class::SingleActionSchedule) => schedule_keys(faults, menus, at, table),
         None => Ok(()),
     }
 }
@@ -88,6 +95,28 @@ fn body_of(
     }
 }
 
+/// Notes the values of a wrong kind among those that the class asks for; none where it isn't known.
+fn body_faults(
+    faults: &mut Vec<PlacedFault>,
+    menus: bool,
+    class: Option<Class>,
+    at: &Place<'_>,
+    table: &Table,
+) -> Result<(), Memory>
+    ensures { OnOk result (faults.new.items ≡ faults.old.items ++ spec.body_faults menus class at.now (table_view table.now)) }
+{
+    match class {
+        Some(Class::Data) => data_faults(faults, at, table),
+        Some(Class::Register) => register_faults(faults, at, table),
+        Some(Class::ProfileGeneric) => profile_faults(faults, menus, at, table),
+        Some(Class::Clock) => clock_faults(faults, at, table),
+        Some(Class::ScriptTable) => script_table_faults(faults, at, table),
+        Some(Class::RegisterMonitor) => monitor_faults(faults, at, table),
+        Some(Class::SingleActionSchedule) => schedule_faults(faults, menus, at, table),
+        None => Ok(()),
+    }
+}
+
 /// `class`, `name`, perhaps `fed`, and what the class asks for: an object.
 #[derive(Drop)]
 pub(crate) struct ObjectTable {
@@ -96,7 +125,7 @@ pub(crate) struct ObjectTable {
 }
 
 impl TableForm for ObjectTable {
-    ghost use Rattle.config_text.specs.Objects.{object_keys, object_of};
+    ghost use Rattle.config_text.specs.Objects.{object_keys, object_of, object_faults};
 
     type Parts = ObjectParts;
 
@@ -104,12 +133,19 @@ impl TableForm for ObjectTable {
 
     ghost says = { λ form. object_of form.version };
 
+    ghost kinds = { λ form. object_faults form.version };
+
     #[tactic(auto, unfolding(crate::specs::Objects::object_keys))]
-    fn check_keys(&self, at: &Place<'_>, table: &Table) -> Result<(), ConfigFault> {
-        needed(at, "class", table)?;
-        needed(at, "name", table)?;
+    fn check_keys(
+        &self,
+        faults: &mut Vec<PlacedFault>,
+        at: &Place<'_>,
+        table: &Table,
+    ) -> Result<(), Memory> {
+        needed(faults, at, "class", table)?;
+        needed(faults, at, "name", table)?;
         let class = class_told(self.version, table);
-        class_keys(has_menus(self.version), class, at, table)
+        class_keys(faults, has_menus(self.version), class, at, table)
     }
 
     #[tactic(auto, unfolding(crate::specs::Objects::object_of))]
@@ -125,5 +161,19 @@ impl TableForm for ObjectTable {
             fed,
             body,
         })
+    }
+
+    #[tactic(auto, unfolding(crate::specs::Objects::object_faults))]
+    fn check_kinds(
+        &self,
+        faults: &mut Vec<PlacedFault>,
+        at: &Place<'_>,
+        table: &Table,
+    ) -> Result<(), Memory> {
+        keep(faults, natural_at(0, 65535, at, "class", table))?;
+        text_fault_at(faults, at, "name", table)?;
+        let class = class_told(self.version, table);
+        keep(faults, fed_of(class, at, table))?;
+        body_faults(faults, has_menus(self.version), class, at, table)
     }
 }

@@ -1,22 +1,27 @@
 //! The tables of a profile.
 
-ghost use Rattle.std.specs.Prelude.{◌≡◌, codes, if◌then◌else◌, map, None, Ok, option_map};
+ghost use Rattle.std.specs.Prelude.{◌≡◌, ◌++◌, [], OnOk, codes, if◌then◌else◌, map, None, Ok, option_map};
 ghost use Rattle.toml.specs.View.{array_view, table_view, view};
 ghost use Rattle.config_text.specs.BodyView.{body_text};
 ghost use Rattle.config_text.specs.Fault.{Gives};
 ghost use Rattle.config_text.specs.Classes as spec;
 ghost use Rattle.config_text.specs.Lists.{each};
-ghost use Rattle.config_text.specs.Tables.{lists_keys_at, lists_of, menu_of_lists_at, tables_of};
+ghost use Rattle.config_text.specs.Tables.{lists_keys_at, lists_of, menu_of_lists_at, optional_lists_faults_at, tables_of};
 
 use crate::fault::{Code, ConfigFault, fault};
 use crate::keys::{needed, only};
 use crate::lookup::value_at;
-use crate::menus::{lists_keys_at, tables_of};
+use crate::menus::tables_of;
 use crate::parts::{AlternativeParts, BodyParts, CaptureParts};
 use crate::place::Place;
-use crate::tables::{TableForm, list_at, list_keys_at};
-use crate::target::target_of;
+use crate::placed::PlacedFault;
+use crate::refusal::keep;
+use crate::table_faults::{list_faults_at, optional_lists_faults_at};
+use crate::table_keys::{list_keys_at, lists_keys_at};
+use crate::tables::{TableForm, list_at};
+use crate::target::{target_faults, target_of};
 use crate::values::{natural_at, optional_integer_at};
+use cosem_data::memory::Memory;
 use toml::value::Array;
 use toml::{Table, Value};
 
@@ -27,7 +32,7 @@ const GREATEST: u64 = 9_223_372_036_854_775_807;
 pub(crate) struct CaptureTable;
 
 impl TableForm for CaptureTable {
-    ghost use Rattle.config_text.specs.Classes.{capture_keys, capture_of};
+    ghost use Rattle.config_text.specs.Classes.{capture_keys, capture_of, capture_faults};
 
     type Parts = CaptureParts;
 
@@ -35,11 +40,18 @@ impl TableForm for CaptureTable {
 
     ghost says = { λ form. capture_of };
 
+    ghost kinds = { λ form. capture_faults };
+
     #[tactic(auto, unfolding(crate::specs::Classes::capture_keys))]
-    fn check_keys(&self, at: &Place<'_>, table: &Table) -> Result<(), ConfigFault> {
-        needed(at, "object", table)?;
-        needed(at, "index", table)?;
-        only(at, &["object", "index", "data_index"], table)
+    fn check_keys(
+        &self,
+        faults: &mut Vec<PlacedFault>,
+        at: &Place<'_>,
+        table: &Table,
+    ) -> Result<(), Memory> {
+        needed(faults, at, "object", table)?;
+        needed(faults, at, "index", table)?;
+        only(faults, at, &["object", "index", "data_index"], table)
     }
 
     #[tactic(auto, unfolding(crate::specs::Classes::capture_of))]
@@ -47,6 +59,17 @@ impl TableForm for CaptureTable {
         let target = target_of(at, table)?;
         let data_index = optional_integer_at(at, "data_index", table)?;
         Ok(CaptureParts { target, data_index })
+    }
+
+    #[tactic(auto, unfolding(crate::specs::Classes::capture_faults))]
+    fn check_kinds(
+        &self,
+        faults: &mut Vec<PlacedFault>,
+        at: &Place<'_>,
+        table: &Table,
+    ) -> Result<(), Memory> {
+        target_faults(faults, at, table)?;
+        keep(faults, optional_integer_at(at, "data_index", table))
     }
 }
 
@@ -80,30 +103,39 @@ fn known_keys(menus: bool) -> &'static [&'static str]
     if menus { &KNOWN_WITH_MENU } else { &KNOWN }
 }
 
-/// The keys of the alternatives of a profile, if it may have a menu.
-fn menu_keys(menus: bool, at: &Place<'_>, table: &Table) -> Result<(), ConfigFault>
-    ensures { Gives (λ u. u) result (if menus
-        then lists_keys_at spec.capture_keys at.now (codes "capture_menu") (table_view table.now)
-        else Ok tt) }
+/// Notes the keys that are missing or unknown in the alternatives of a profile, if it may have a menu.
+fn menu_keys(
+    faults: &mut Vec<PlacedFault>,
+    menus: bool,
+    at: &Place<'_>,
+    table: &Table,
+) -> Result<(), Memory>
+    ensures { OnOk result (faults.new.items ≡ faults.old.items
+        ++ (if menus then lists_keys_at spec.capture_keys at.now (codes "capture_menu") (table_view table.now) else [])) }
 {
     if menus {
-        lists_keys_at(&CaptureTable, at, "capture_menu", table)
+        lists_keys_at(faults, &CaptureTable, at, "capture_menu", table)
     } else {
         Ok(())
     }
 }
 
-/// The first key of a profile that is missing or unknown; it may have a menu or not.
+/// Notes the keys that are missing or unknown in a profile, which may have a menu or not.
 #[tactic(auto, unfolding(crate::specs::Classes::profile_keys))]
-pub(crate) fn profile_keys(menus: bool, at: &Place<'_>, table: &Table) -> Result<(), ConfigFault>
-    ensures { Gives (λ u. u) result (spec.profile_keys menus at.now (table_view table.now)) }
+pub(crate) fn profile_keys(
+    faults: &mut Vec<PlacedFault>,
+    menus: bool,
+    at: &Place<'_>,
+    table: &Table,
+) -> Result<(), Memory>
+    ensures { OnOk result (faults.new.items ≡ faults.old.items ++ spec.profile_keys menus at.now (table_view table.now)) }
 {
-    needed(at, "capture", table)?;
-    list_keys_at(&CaptureTable, at, "capture", table)?;
-    needed(at, "period", table)?;
-    needed(at, "entries", table)?;
-    menu_keys(menus, at, table)?;
-    only(at, known_keys(menus), table)
+    needed(faults, at, "capture", table)?;
+    list_keys_at(faults, &CaptureTable, at, "capture", table)?;
+    needed(faults, at, "period", table)?;
+    needed(faults, at, "entries", table)?;
+    menu_keys(faults, menus, at, table)?;
+    only(faults, at, known_keys(menus), table)
 }
 
 /// The alternative in the array at a place.
@@ -192,4 +224,38 @@ pub(crate) fn profile_of(
         sort_method,
         menu,
     })
+}
+
+/// Notes the values of a wrong kind in the alternatives of a profile, if it may have a menu.
+fn menu_faults(
+    faults: &mut Vec<PlacedFault>,
+    menus: bool,
+    at: &Place<'_>,
+    table: &Table,
+) -> Result<(), Memory>
+    ensures { OnOk result (faults.new.items ≡ faults.old.items
+        ++ (if menus then optional_lists_faults_at spec.capture_faults at.now (codes "capture_menu") (table_view table.now) else [])) }
+{
+    if menus {
+        optional_lists_faults_at(faults, &CaptureTable, at, "capture_menu", table)
+    } else {
+        Ok(())
+    }
+}
+
+/// Notes the values of a wrong kind in a profile, which may have a menu or not.
+#[tactic(auto, unfolding(crate::specs::Classes::profile_faults))]
+pub(crate) fn profile_faults(
+    faults: &mut Vec<PlacedFault>,
+    menus: bool,
+    at: &Place<'_>,
+    table: &Table,
+) -> Result<(), Memory>
+    ensures { OnOk result (faults.new.items ≡ faults.old.items ++ spec.profile_faults menus at.now (table_view table.now)) }
+{
+    list_faults_at(faults, &CaptureTable, at, "capture", table)?;
+    keep(faults, natural_at(0, 4_294_967_295, at, "period", table))?;
+    keep(faults, natural_at(1, GREATEST, at, "entries", table))?;
+    keep(faults, optional_integer_at(at, "sort_method", table))?;
+    menu_faults(faults, menus, at, table)
 }

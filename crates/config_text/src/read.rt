@@ -8,15 +8,14 @@ ghost use Rattle.config_text.specs.Document as spec;
 
 use crate::client::ClientTable;
 use crate::fault::{Code, ConfigFault, fault};
-use crate::gathering::{
-    gather_list, gather_list_keys, gather_needed, gather_optional_list, gather_table,
-    gather_table_keys, gather_unknown,
-};
+use crate::keys::{needed, only};
 use crate::object::ObjectTable;
 use crate::parts::ConfigParts;
 use crate::place::Place;
 use crate::refusal::{Refusal, alone, keep, refuse};
 use crate::right::{LabelTable, PolicyTable, RightTable};
+use crate::table_faults::{list_faults_at, optional_list_faults_at, table_faults_at};
+use crate::table_keys::{list_keys_at, table_keys_at};
 use crate::tables::{list_at, optional_list_at, table_at};
 use crate::values::{natural_at, natural_or_none};
 use std::alloc::Global;
@@ -44,7 +43,7 @@ fn document(alloc: Global, text: &str) -> Result<Table, Refusal>
     }
 }
 
-/// The version by which the keys of objects are looked at: 1, unless it is told to be 2.
+/// The version by which objects are looked at for faults: 1, unless it is told to be 2.
 fn told_version(table: &Table) -> u8
     ensures { result ≡ spec.told_version (table_view table.now) }
 {
@@ -57,28 +56,27 @@ fn told_version(table: &Table) -> u8
 /// Looks for keys that are missing or unknown.
 ///
 /// # Errors
-/// C2 at each of the text's own keys that is missing, at the first in each client, object, right and label, in the policy, and
-/// at the first of the text's own keys that isn't known.
+/// C2 at each of them.
 #[tactic(auto, unfolding(crate::specs::Document::key_faults))]
 fn check_keys(alloc: Global, table: &Table) -> Result<(), Refusal>
     ensures { Finds result (spec.key_faults (table_view table.now)) }
 {
     let top = Place::top(alloc, "");
     let mut faults = Vec::new(alloc);
-    gather_needed(&mut faults, &top, "version", table)?;
-    gather_needed(&mut faults, &top, "client", table)?;
-    gather_list_keys(&mut faults, &ClientTable, &top, "client", table)?;
-    gather_needed(&mut faults, &top, "object", table)?;
+    needed(&mut faults, &top, "version", table)?;
+    needed(&mut faults, &top, "client", table)?;
+    list_keys_at(&mut faults, &ClientTable, &top, "client", table)?;
+    needed(&mut faults, &top, "object", table)?;
     let objects = ObjectTable {
         version: told_version(table),
     };
-    gather_list_keys(&mut faults, &objects, &top, "object", table)?;
-    gather_list_keys(&mut faults, &RightTable, &top, "right", table)?;
-    gather_needed(&mut faults, &top, "policy", table)?;
-    gather_table_keys(&mut faults, &PolicyTable, &top, "policy", table)?;
-    gather_list_keys(&mut faults, &LabelTable, &top, "label", table)?;
+    list_keys_at(&mut faults, &objects, &top, "object", table)?;
+    list_keys_at(&mut faults, &RightTable, &top, "right", table)?;
+    needed(&mut faults, &top, "policy", table)?;
+    table_keys_at(&mut faults, &PolicyTable, &top, "policy", table)?;
+    list_keys_at(&mut faults, &LabelTable, &top, "label", table)?;
     let known = ["version", "client", "object", "right", "policy", "label"];
-    gather_unknown(&mut faults, &top, &known, table)?;
+    only(&mut faults, &top, &known, table)?;
     refuse(faults)
 }
 
@@ -104,11 +102,10 @@ fn parts_of(alloc: Global, table: &Table) -> Result<ConfigParts, ConfigFault>
     })
 }
 
-/// Looks for values of a wrong kind. What objects say is looked at by the version that is told.
+/// Looks for values of a wrong kind. Objects are looked at by the version that is told.
 ///
 /// # Errors
-/// C3 at the text's own version, at an array that is none, at the first such value in each client, object, right and label, and
-/// in the policy.
+/// C3 at each of them, and at each number or password out of its range.
 #[tactic(auto, unfolding(crate::specs::Document::kind_faults))]
 fn check_kinds(alloc: Global, table: &Table) -> Result<(), Refusal>
     ensures { Finds result (spec.kind_faults (table_view table.now)) }
@@ -116,21 +113,21 @@ fn check_kinds(alloc: Global, table: &Table) -> Result<(), Refusal>
     let top = Place::top(alloc, "");
     let mut faults = Vec::new(alloc);
     keep(&mut faults, natural_at(1, 2, &top, "version", table))?;
-    gather_list(&mut faults, &ClientTable, &top, "client", table)?;
+    list_faults_at(&mut faults, &ClientTable, &top, "client", table)?;
     let objects = ObjectTable {
         version: told_version(table),
     };
-    gather_list(&mut faults, &objects, &top, "object", table)?;
-    gather_optional_list(&mut faults, &RightTable, &top, "right", table)?;
-    gather_table(&mut faults, &PolicyTable, &top, "policy", table)?;
-    gather_optional_list(&mut faults, &LabelTable, &top, "label", table)?;
+    list_faults_at(&mut faults, &objects, &top, "object", table)?;
+    optional_list_faults_at(&mut faults, &RightTable, &top, "right", table)?;
+    table_faults_at(&mut faults, &PolicyTable, &top, "policy", table)?;
+    optional_list_faults_at(&mut faults, &LabelTable, &top, "label", table)?;
     refuse(faults)
 }
 
 /// What the table says.
 ///
 /// # Errors
-/// C3, as `check_kinds` has it, by which is looked for more only where there is a fault.
+/// C3, as `check_kinds` has it: it looks for more only where there is a fault.
 fn read_parts(alloc: Global, table: &Table) -> Result<ConfigParts, Refusal>
     ensures parts { IfOk result (λ parts. spec.parts_of (table_view table.now) ≡ Ok parts) }
     ensures faults { Finds result (spec.kind_faults (table_view table.now)) }
@@ -152,10 +149,8 @@ fn read_parts(alloc: Global, table: &Table) -> Result<ConfigParts, Refusal>
 /// # Errors
 /// The faults with the least code that is met, in the order in which they are looked for:
 /// - C1 at `text`, where the text is no TOML;
-/// - C2 at each of the text's own keys that is missing, at the first key that is missing or unknown in each client, object, right
-///   and label, and in the policy, and at the first of the text's own keys that isn't known;
-/// - C3 at the text's own version, at an array that is none, and at the first value of a wrong kind, or number or password out of
-///   its range, in each client, object, right and label, and in the policy;
+/// - C2 at each key that is missing or unknown, in any table;
+/// - C3 at each value of a wrong kind, and each number or password out of its range, in any table;
 /// - C0 where memory was refused, at any time.
 #[tactic(auto, unfolding(crate::specs::Document::tables_of, crate::specs::Document::table_faults))]
 pub fn read_tables(alloc: Global, text: &str) -> Result<ConfigParts, Refusal>

@@ -1,9 +1,9 @@
 //! Why a configuration is refused, with all the faults of one pass.
-ghost use Rattle.std.specs.Prelude.{◌≡◌, ◌++◌, ◌∷◌, [], List, OnOk, Result};
+ghost use Rattle.std.specs.Prelude.{◌≡◌, ◌++◌, ◌∷◌, [], List, OnOk, Result, option_map};
 ghost use Rattle.config_text.specs.declared.fault.Code.{Code};
-ghost use Rattle.config_text.specs.Fault.{Fault, Fails, Gives, IsFault, fault_in, first_of};
+ghost use Rattle.config_text.specs.Fault.{Fault, Fails, Gives, IsFault, fault_in, first_of, told};
 ghost use Rattle.config_text.specs.Parts.{Text};
-ghost use Rattle.config_text.specs.Refusals.{Finds, Refuses};
+ghost use Rattle.config_text.specs.Refusals.{Finds, Refuses, all_told, first_told};
 
 use crate::fault::ConfigFault;
 pub use crate::placed::PlacedFault;
@@ -15,8 +15,8 @@ use std::alloc::{AllocError, Global};
 pub enum Refusal {
     /// C0: memory was refused.
     Memory,
-    /// The faults with the least code that is met: the first in each table that has one, in the order in which they are looked
-    /// for.
+    /// The faults with the least code that is met, in the order in which they are looked for. There is one at least, so the first
+    /// stands apart.
     Found {
         first: PlacedFault,
         others: Vec<PlacedFault>,
@@ -44,9 +44,10 @@ impl From<Memory> for Refusal {
 }
 
 impl Refusal {
-    /// The first of the faults alone.
+    /// The first of the faults alone, or that memory was refused.
     pub fn into_first(self) -> ConfigFault
-        ensures { (faults : List Fault) → Refuses self faults → Fails result (first_of faults) }
+        ensures exact { told result ≡ first_told self }
+        ensures first { (faults : List Fault) → Refuses self faults → Fails result (first_of faults) }
     {
         match self {
             Refusal::Memory => ConfigFault::Memory,
@@ -58,9 +59,10 @@ impl Refusal {
     }
 }
 
-/// The refusal by one fault alone.
+/// The refusal by one fault alone, or by want of memory.
 pub fn alone(alloc: Global, fault: ConfigFault) -> Refusal
-    ensures { (code : Code) → (place : Text) → IsFault code place fault →
+    ensures exact { all_told result ≡ option_map (λ one. one ∷ []) (told fault) }
+    ensures fault { (code : Code) → (place : Text) → IsFault code place fault →
         Refuses result (record { code = code; place = place } ∷ []) }
 {
     match fault {

@@ -1,5 +1,6 @@
 //! The tables of Data and of a register.
 
+ghost use Rattle.std.specs.Prelude.{◌≡◌, ◌++◌, OnOk};
 ghost use Rattle.toml.specs.View.{table_view};
 ghost use Rattle.config_text.specs.BodyView.{body_text};
 ghost use Rattle.config_text.specs.Fault.{Gives};
@@ -9,16 +10,24 @@ use crate::fault::ConfigFault;
 use crate::keys::{needed, only};
 use crate::parts::BodyParts;
 use crate::place::Place;
+use crate::placed::PlacedFault;
+use crate::refusal::keep;
+use crate::value_faults::text_fault_at;
 use crate::values::{natural_at, signed_at, text_at};
+use cosem_data::memory::Memory;
 use toml::Table;
 
-/// The keys of Data.
+/// Notes the keys that are missing or unknown in Data.
 #[tactic(auto, unfolding(crate::specs::Classes::data_keys))]
-pub(crate) fn data_keys(at: &Place<'_>, table: &Table) -> Result<(), ConfigFault>
-    ensures { Gives (λ u. u) result (spec.data_keys at.now (table_view table.now)) }
+pub(crate) fn data_keys(
+    faults: &mut Vec<PlacedFault>,
+    at: &Place<'_>,
+    table: &Table,
+) -> Result<(), Memory>
+    ensures { OnOk result (faults.new.items ≡ faults.old.items ++ spec.data_keys at.now (table_view table.now)) }
 {
-    needed(at, "value", table)?;
-    only(at, &["class", "name", "fed", "value"], table)
+    needed(faults, at, "value", table)?;
+    only(faults, at, &["class", "name", "fed", "value"], table)
 }
 
 /// What the table says of Data.
@@ -30,17 +39,33 @@ pub(crate) fn data_of(at: &Place<'_>, table: &Table) -> Result<BodyParts, Config
     Ok(BodyParts::Data { value })
 }
 
-/// The keys of a register.
-#[tactic(auto, unfolding(crate::specs::Classes::register_keys))]
-pub(crate) fn register_keys(at: &Place<'_>, table: &Table) -> Result<(), ConfigFault>
-    ensures { Gives (λ u. u) result (spec.register_keys at.now (table_view table.now)) }
+/// Notes the values of a wrong kind in Data.
+#[tactic(auto, unfolding(crate::specs::Classes::data_faults))]
+pub(crate) fn data_faults(
+    faults: &mut Vec<PlacedFault>,
+    at: &Place<'_>,
+    table: &Table,
+) -> Result<(), Memory>
+    ensures { OnOk result (faults.new.items ≡ faults.old.items ++ spec.data_faults at.now (table_view table.now)) }
 {
-    needed(at, "value", table)?;
-    needed(at, "default", table)?;
-    needed(at, "scaler", table)?;
-    needed(at, "unit", table)?;
+    text_fault_at(faults, at, "value", table)
+}
+
+/// Notes the keys that are missing or unknown in a register.
+#[tactic(auto, unfolding(crate::specs::Classes::register_keys))]
+pub(crate) fn register_keys(
+    faults: &mut Vec<PlacedFault>,
+    at: &Place<'_>,
+    table: &Table,
+) -> Result<(), Memory>
+    ensures { OnOk result (faults.new.items ≡ faults.old.items ++ spec.register_keys at.now (table_view table.now)) }
+{
+    needed(faults, at, "value", table)?;
+    needed(faults, at, "default", table)?;
+    needed(faults, at, "scaler", table)?;
+    needed(faults, at, "unit", table)?;
     let known = ["class", "name", "fed", "value", "default", "scaler", "unit"];
-    only(at, &known, table)
+    only(faults, at, &known, table)
 }
 
 /// What the table says of a register.
@@ -58,4 +83,19 @@ pub(crate) fn register_of(at: &Place<'_>, table: &Table) -> Result<BodyParts, Co
         scaler: scaler as i8,
         unit: unit as u8,
     })
+}
+
+/// Notes the values of a wrong kind in a register.
+#[tactic(auto, unfolding(crate::specs::Classes::register_faults))]
+pub(crate) fn register_faults(
+    faults: &mut Vec<PlacedFault>,
+    at: &Place<'_>,
+    table: &Table,
+) -> Result<(), Memory>
+    ensures { OnOk result (faults.new.items ≡ faults.old.items ++ spec.register_faults at.now (table_view table.now)) }
+{
+    text_fault_at(faults, at, "value", table)?;
+    text_fault_at(faults, at, "default", table)?;
+    keep(faults, signed_at(-128, 127, at, "scaler", table))?;
+    keep(faults, natural_at(0, 255, at, "unit", table))
 }

@@ -1,12 +1,12 @@
 //! The table of a single action schedule.
 
-ghost use Rattle.std.specs.Prelude.{◌≡◌, codes, if◌then◌else◌, map, None, Ok, option_map};
+ghost use Rattle.std.specs.Prelude.{◌≡◌, ◌++◌, [], OnOk, codes, if◌then◌else◌, map, None, Ok, option_map};
 ghost use Rattle.toml.specs.View.{table_view};
 ghost use Rattle.config_text.specs.BodyView.{body_text};
 ghost use Rattle.config_text.specs.Fault.{Gives};
 ghost use Rattle.config_text.specs.Classes as spec;
-ghost use Rattle.config_text.specs.Tables.{list_keys_at, menu_at};
-ghost use Rattle.config_text.specs.Targets.{script_ref_keys, script_ref_of};
+ghost use Rattle.config_text.specs.Tables.{list_keys_at, menu_at, optional_list_faults_at};
+ghost use Rattle.config_text.specs.Targets.{script_ref_keys, script_ref_of, script_ref_faults};
 
 use crate::fault::ConfigFault;
 use crate::keys::{needed, only};
@@ -14,9 +14,15 @@ use crate::lists::texts_at;
 use crate::menus::menu_at;
 use crate::parts::{BodyParts, ScriptRefParts};
 use crate::place::Place;
-use crate::tables::{list_keys_at, table_at, table_keys_at};
+use crate::placed::PlacedFault;
+use crate::refusal::keep;
+use crate::table_faults::{optional_list_faults_at, table_faults_at};
+use crate::table_keys::{list_keys_at, table_keys_at};
+use crate::tables::table_at;
 use crate::target::ScriptRefTable;
+use crate::value_faults::texts_faults_at;
 use crate::values::natural_at;
+use cosem_data::memory::Memory;
 use toml::Table;
 
 /// The keys of a schedule without a menu.
@@ -40,30 +46,39 @@ fn known_keys(menus: bool) -> &'static [&'static str]
     if menus { &KNOWN_WITH_MENU } else { &KNOWN }
 }
 
-/// The keys of the alternatives of a schedule, if it may have a menu.
-fn menu_keys(menus: bool, at: &Place<'_>, table: &Table) -> Result<(), ConfigFault>
-    ensures { Gives (λ u. u) result (if menus
-        then list_keys_at script_ref_keys at.now (codes "script_menu") (table_view table.now)
-        else Ok tt) }
+/// Notes the keys that are missing or unknown in the alternatives of a schedule, if it may have a menu.
+fn menu_keys(
+    faults: &mut Vec<PlacedFault>,
+    menus: bool,
+    at: &Place<'_>,
+    table: &Table,
+) -> Result<(), Memory>
+    ensures { OnOk result (faults.new.items ≡ faults.old.items
+        ++ (if menus then list_keys_at script_ref_keys at.now (codes "script_menu") (table_view table.now) else [])) }
 {
     if menus {
-        list_keys_at(&ScriptRefTable, at, "script_menu", table)
+        list_keys_at(faults, &ScriptRefTable, at, "script_menu", table)
     } else {
         Ok(())
     }
 }
 
-/// The first key of a single action schedule that is missing or unknown; it may have a menu or not.
+/// Notes the keys that are missing or unknown in a single action schedule, which may have a menu or not.
 #[tactic(auto, unfolding(crate::specs::Classes::schedule_keys))]
-pub(crate) fn schedule_keys(menus: bool, at: &Place<'_>, table: &Table) -> Result<(), ConfigFault>
-    ensures { Gives (λ u. u) result (spec.schedule_keys menus at.now (table_view table.now)) }
+pub(crate) fn schedule_keys(
+    faults: &mut Vec<PlacedFault>,
+    menus: bool,
+    at: &Place<'_>,
+    table: &Table,
+) -> Result<(), Memory>
+    ensures { OnOk result (faults.new.items ≡ faults.old.items ++ spec.schedule_keys menus at.now (table_view table.now)) }
 {
-    needed(at, "script", table)?;
-    table_keys_at(&ScriptRefTable, at, "script", table)?;
-    needed(at, "type", table)?;
-    needed(at, "times", table)?;
-    menu_keys(menus, at, table)?;
-    only(at, known_keys(menus), table)
+    needed(faults, at, "script", table)?;
+    table_keys_at(faults, &ScriptRefTable, at, "script", table)?;
+    needed(faults, at, "type", table)?;
+    needed(faults, at, "times", table)?;
+    menu_keys(faults, menus, at, table)?;
+    only(faults, at, known_keys(menus), table)
 }
 
 /// The alternatives of a schedule, if it may have a menu.
@@ -101,4 +116,37 @@ pub(crate) fn schedule_of(
         times,
         menu,
     })
+}
+
+/// Notes the values of a wrong kind in the alternatives of a schedule, if it may have a menu.
+fn menu_faults(
+    faults: &mut Vec<PlacedFault>,
+    menus: bool,
+    at: &Place<'_>,
+    table: &Table,
+) -> Result<(), Memory>
+    ensures { OnOk result (faults.new.items ≡ faults.old.items
+        ++ (if menus then optional_list_faults_at script_ref_faults at.now (codes "script_menu") (table_view table.now) else [])) }
+{
+    if menus {
+        optional_list_faults_at(faults, &ScriptRefTable, at, "script_menu", table)
+    } else {
+        Ok(())
+    }
+}
+
+/// Notes the values of a wrong kind in a single action schedule, which may have a menu or not.
+#[tactic(auto, unfolding(crate::specs::Classes::schedule_faults))]
+pub(crate) fn schedule_faults(
+    faults: &mut Vec<PlacedFault>,
+    menus: bool,
+    at: &Place<'_>,
+    table: &Table,
+) -> Result<(), Memory>
+    ensures { OnOk result (faults.new.items ≡ faults.old.items ++ spec.schedule_faults menus at.now (table_view table.now)) }
+{
+    table_faults_at(faults, &ScriptRefTable, at, "script", table)?;
+    keep(faults, natural_at(1, 5, at, "type", table))?;
+    texts_faults_at(faults, at, "times", table)?;
+    menu_faults(faults, menus, at, table)
 }

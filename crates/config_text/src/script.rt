@@ -1,5 +1,6 @@
 //! The tables of a script table.
 
+ghost use Rattle.std.specs.Prelude.{◌≡◌, ◌++◌, OnOk};
 ghost use Rattle.toml.specs.View.{table_view};
 ghost use Rattle.config_text.specs.BodyView.{body_text};
 ghost use Rattle.config_text.specs.Fault.{Gives};
@@ -9,10 +10,16 @@ use crate::fault::ConfigFault;
 use crate::keys::{needed, only};
 use crate::parts::{ActionParts, BodyParts, ScriptParts};
 use crate::place::Place;
+use crate::placed::PlacedFault;
+use crate::refusal::keep;
 use crate::service::Service;
-use crate::tables::{TableForm, list_at, list_keys_at};
-use crate::target::target_of;
+use crate::table_faults::list_faults_at;
+use crate::table_keys::list_keys_at;
+use crate::tables::{TableForm, list_at};
+use crate::target::{target_faults, target_of};
+use crate::value_faults::optional_text_fault_at;
 use crate::values::{natural_at, optional_text_at};
+use cosem_data::memory::Memory;
 use toml::Table;
 
 /// The service at a key: 1 writes an attribute, 2 invokes a method.
@@ -32,7 +39,7 @@ fn service_at(at: &Place<'_>, key: &str, table: &Table) -> Result<Service, Confi
 pub(crate) struct ActionTable;
 
 impl TableForm for ActionTable {
-    ghost use Rattle.config_text.specs.Classes.{action_keys, action_of};
+    ghost use Rattle.config_text.specs.Classes.{action_keys, action_of, action_faults};
 
     type Parts = ActionParts;
 
@@ -40,12 +47,19 @@ impl TableForm for ActionTable {
 
     ghost says = { λ form. action_of };
 
+    ghost kinds = { λ form. action_faults };
+
     #[tactic(auto, unfolding(crate::specs::Classes::action_keys))]
-    fn check_keys(&self, at: &Place<'_>, table: &Table) -> Result<(), ConfigFault> {
-        needed(at, "service", table)?;
-        needed(at, "object", table)?;
-        needed(at, "index", table)?;
-        only(at, &["service", "object", "index", "value"], table)
+    fn check_keys(
+        &self,
+        faults: &mut Vec<PlacedFault>,
+        at: &Place<'_>,
+        table: &Table,
+    ) -> Result<(), Memory> {
+        needed(faults, at, "service", table)?;
+        needed(faults, at, "object", table)?;
+        needed(faults, at, "index", table)?;
+        only(faults, at, &["service", "object", "index", "value"], table)
     }
 
     #[tactic(auto, unfolding(crate::specs::Classes::action_of))]
@@ -59,13 +73,25 @@ impl TableForm for ActionTable {
             value,
         })
     }
+
+    #[tactic(auto, unfolding(crate::specs::Classes::action_faults))]
+    fn check_kinds(
+        &self,
+        faults: &mut Vec<PlacedFault>,
+        at: &Place<'_>,
+        table: &Table,
+    ) -> Result<(), Memory> {
+        keep(faults, service_at(at, "service", table))?;
+        target_faults(faults, at, table)?;
+        optional_text_fault_at(faults, at, "value", table)
+    }
 }
 
 /// `id` and `action`: a script.
 pub(crate) struct ScriptTable;
 
 impl TableForm for ScriptTable {
-    ghost use Rattle.config_text.specs.Classes.{script_keys, script_of};
+    ghost use Rattle.config_text.specs.Classes.{script_keys, script_of, script_faults};
 
     type Parts = ScriptParts;
 
@@ -73,12 +99,19 @@ impl TableForm for ScriptTable {
 
     ghost says = { λ form. script_of };
 
+    ghost kinds = { λ form. script_faults };
+
     #[tactic(auto, unfolding(crate::specs::Classes::script_keys))]
-    fn check_keys(&self, at: &Place<'_>, table: &Table) -> Result<(), ConfigFault> {
-        needed(at, "id", table)?;
-        needed(at, "action", table)?;
-        list_keys_at(&ActionTable, at, "action", table)?;
-        only(at, &["id", "action"], table)
+    fn check_keys(
+        &self,
+        faults: &mut Vec<PlacedFault>,
+        at: &Place<'_>,
+        table: &Table,
+    ) -> Result<(), Memory> {
+        needed(faults, at, "id", table)?;
+        needed(faults, at, "action", table)?;
+        list_keys_at(faults, &ActionTable, at, "action", table)?;
+        only(faults, at, &["id", "action"], table)
     }
 
     #[tactic(auto, unfolding(crate::specs::Classes::script_of))]
@@ -90,16 +123,31 @@ impl TableForm for ScriptTable {
             actions,
         })
     }
+
+    #[tactic(auto, unfolding(crate::specs::Classes::script_faults))]
+    fn check_kinds(
+        &self,
+        faults: &mut Vec<PlacedFault>,
+        at: &Place<'_>,
+        table: &Table,
+    ) -> Result<(), Memory> {
+        keep(faults, natural_at(0, 65535, at, "id", table))?;
+        list_faults_at(faults, &ActionTable, at, "action", table)
+    }
 }
 
-/// The keys of a script table.
+/// Notes the keys that are missing or unknown in a script table.
 #[tactic(auto, unfolding(crate::specs::Classes::script_table_keys))]
-pub(crate) fn script_table_keys(at: &Place<'_>, table: &Table) -> Result<(), ConfigFault>
-    ensures { Gives (λ u. u) result (spec.script_table_keys at.now (table_view table.now)) }
+pub(crate) fn script_table_keys(
+    faults: &mut Vec<PlacedFault>,
+    at: &Place<'_>,
+    table: &Table,
+) -> Result<(), Memory>
+    ensures { OnOk result (faults.new.items ≡ faults.old.items ++ spec.script_table_keys at.now (table_view table.now)) }
 {
-    needed(at, "script", table)?;
-    list_keys_at(&ScriptTable, at, "script", table)?;
-    only(at, &["class", "name", "fed", "script"], table)
+    needed(faults, at, "script", table)?;
+    list_keys_at(faults, &ScriptTable, at, "script", table)?;
+    only(faults, at, &["class", "name", "fed", "script"], table)
 }
 
 /// What the table says of a script table.
@@ -109,4 +157,16 @@ pub(crate) fn script_table_of(at: &Place<'_>, table: &Table) -> Result<BodyParts
 {
     let scripts = list_at(&ScriptTable, at, "script", table)?;
     Ok(BodyParts::ScriptTable { scripts })
+}
+
+/// Notes the values of a wrong kind in a script table.
+#[tactic(auto, unfolding(crate::specs::Classes::script_table_faults))]
+pub(crate) fn script_table_faults(
+    faults: &mut Vec<PlacedFault>,
+    at: &Place<'_>,
+    table: &Table,
+) -> Result<(), Memory>
+    ensures { OnOk result (faults.new.items ≡ faults.old.items ++ spec.script_table_faults at.now (table_view table.now)) }
+{
+    list_faults_at(faults, &ScriptTable, at, "script", table)
 }

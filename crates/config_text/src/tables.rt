@@ -1,7 +1,5 @@
-//! Tables inside of tables: their keys, and what they say.
+//! Tables inside of tables, and what they say.
 
-ghost use Rattle.std.specs.Prelude.{◌≡◌, ◌++◌, codes};
-ghost use Rattle.toml.specs.Data.{as_table};
 ghost use Rattle.toml.specs.View.{view, table_view, array_view};
 ghost use Rattle.config_text.specs.Fault.{Gives};
 ghost use Rattle.config_text.specs.Lists.{element_place, each};
@@ -9,14 +7,16 @@ ghost use Rattle.config_text.specs.Tables as spec;
 
 use crate::fault::{Code, ConfigFault, fault};
 use crate::lists::array_at;
-use crate::lookup::{array, table_in, value_at};
+use crate::lookup::{table_in, value_at};
 use crate::place::Place;
+use crate::placed::PlacedFault;
+use cosem_data::memory::Memory;
 use toml::value::Array;
 use toml::{Table, Value};
 
 /// A form of tables: which keys such a table has, and what it says. `at` is the place of the table, up to its dot.
 pub(crate) trait TableForm {
-    ghost use Rattle.std.specs.Prelude.{Result, ⊤};
+    ghost use Rattle.std.specs.Prelude.{◌≡◌, ◌++◌, List, OnOk, Result};
     ghost use Rattle.toml.specs.Data.{Members};
     ghost use Rattle.toml.specs.View.{table_view};
     ghost use Rattle.config_text.specs.Fault.{Fault, Gives};
@@ -25,18 +25,23 @@ pub(crate) trait TableForm {
     /// What a table says.
     type Parts: Drop;
 
-    /// The first key that is missing or unknown.
-    ghost keys: { Self → Text → Members → Result ⊤ Fault };
+    /// The keys that are missing or unknown.
+    ghost keys: { Self → Text → Members → List Fault };
 
     /// What the table says, or the first value of a wrong kind.
     ghost says: { Self → Text → Members → Result Self.Parts Fault };
 
-    /// Looks for keys that are missing or unknown.
-    ///
-    /// # Errors
-    /// C2 at the first of them.
-    fn check_keys(&self, at: &Place<'_>, table: &Table) -> Result<(), ConfigFault>
-        ensures { Gives (λ u. u) result (keys self.now at.now (table_view table.now)) };
+    /// The values of a wrong kind, the first of which is that by which `says` is refused.
+    ghost kinds: { Self → Text → Members → List Fault };
+
+    /// Notes the keys that are missing or unknown, each as C2.
+    fn check_keys(
+        &self,
+        faults: &mut Vec<PlacedFault>,
+        at: &Place<'_>,
+        table: &Table,
+    ) -> Result<(), Memory>
+        ensures { OnOk result (faults.new.items ≡ faults.old.items ++ keys self.now at.now (table_view table.now)) };
 
     /// Reads a table.
     ///
@@ -44,88 +49,15 @@ pub(crate) trait TableForm {
     /// C3 at the first value of a wrong kind.
     fn read(&self, at: &Place<'_>, table: &Table) -> Result<Self::Parts, ConfigFault>
         ensures { Gives (λ x. x) result (says self.now at.now (table_view table.now)) };
-}
 
-/// The keys of one element, if it is a table.
-pub(crate) fn element_keys<T: TableForm>(
-    form: &T,
-    name: &Place<'_>,
-    i: usize,
-    value: &Value,
-) -> Result<(), ConfigFault>
-    ensures { Gives (λ u. u) result
-        (spec.keys_of (T.keys form.now) (element_place name.now i) (as_table (view value.now))) }
-{
-    match value.as_table() {
-        Some(table) => {
-            let place = name.element(i);
-            let at = place.below(".");
-            form.check_keys(&at, table)
-        }
-        None => Ok(()),
-    }
-}
-
-/// The first fault of the keys of each table in an array.
-#[tactic(auto, unfolding(crate::specs::Tables::each_keys))]
-pub(crate) fn each_keys<T: TableForm>(
-    form: &T,
-    name: &Place<'_>,
-    array: &Array,
-) -> Result<(), ConfigFault>
-    ensures { Gives (λ u. u) result (spec.each_keys (T.keys form.now) name.now 0 (array_view array.now)) }
-{
-    for (i, value) in array.iter().enumerate() {
-        element_keys(form, name, i, value)?;
-    }
-    Ok(())
-}
-
-/// Looks at the keys of the tables in the array at a key. Where no array is, there are none.
-///
-/// # Errors
-/// C2 at the first key that is missing or unknown.
-#[tactic(auto, unfolding(crate::specs::Tables::list_keys_at, crate::specs::Tables::each_keys))]
-pub(crate) fn list_keys_at<T: TableForm>(
-    form: &T,
-    at: &Place<'_>,
-    key: &str,
-    table: &Table,
-) -> Result<(), ConfigFault>
-    ensures { Gives (λ u. u) result (spec.list_keys_at (T.keys form.now) at.now key.now
-        (table_view table.now)) }
-{
-    match array(table, key) {
-        Some(items) => {
-            let name = at.below(key);
-            each_keys(form, &name, items)
-        }
-        None => Ok(()),
-    }
-}
-
-/// Looks at the keys of the table at a key. Where no table is, there are none.
-///
-/// # Errors
-/// C2 at the first key that is missing or unknown.
-#[tactic(auto, unfolding(crate::specs::Tables::table_keys_at))]
-pub(crate) fn table_keys_at<T: TableForm>(
-    form: &T,
-    at: &Place<'_>,
-    key: &str,
-    table: &Table,
-) -> Result<(), ConfigFault>
-    ensures { Gives (λ u. u) result (spec.table_keys_at (T.keys form.now) at.now key.now
-        (table_view table.now)) }
-{
-    match table_in(table, key) {
-        Some(inner) => {
-            let name = at.below(key);
-            let inner_at = name.below(".");
-            form.check_keys(&inner_at, inner)
-        }
-        None => Ok(()),
-    }
+    /// Notes the values of a wrong kind, each as C3, and keeps none of them.
+    fn check_kinds(
+        &self,
+        faults: &mut Vec<PlacedFault>,
+        at: &Place<'_>,
+        table: &Table,
+    ) -> Result<(), Memory>
+        ensures { OnOk result (faults.new.items ≡ faults.old.items ++ kinds self.now at.now (table_view table.now)) };
 }
 
 /// What one element says.

@@ -1,5 +1,6 @@
 //! The tables that name an attribute or method, and a script.
 
+ghost use Rattle.std.specs.Prelude.{◌≡◌, ◌++◌, OnOk};
 ghost use Rattle.toml.specs.View.{table_view};
 ghost use Rattle.config_text.specs.Fault.{Gives};
 ghost use Rattle.config_text.specs.Targets as spec;
@@ -8,8 +9,12 @@ use crate::fault::ConfigFault;
 use crate::keys::{needed, only};
 use crate::parts::{ScriptRefParts, TargetParts};
 use crate::place::Place;
+use crate::placed::PlacedFault;
+use crate::refusal::keep;
 use crate::tables::TableForm;
+use crate::value_faults::text_fault_at;
 use crate::values::{integer_at, natural_at, text_at};
+use cosem_data::memory::Memory;
 use toml::Table;
 
 /// The attribute or method that a table names, among other things that it says.
@@ -25,11 +30,24 @@ pub(crate) fn target_of(at: &Place<'_>, table: &Table) -> Result<TargetParts, Co
     })
 }
 
+/// Notes the values of a wrong kind by which a table names it.
+#[tactic(auto, unfolding(crate::specs::Targets::target_faults))]
+pub(crate) fn target_faults(
+    faults: &mut Vec<PlacedFault>,
+    at: &Place<'_>,
+    table: &Table,
+) -> Result<(), Memory>
+    ensures { OnOk result (faults.new.items ≡ faults.old.items ++ spec.target_faults at.now (table_view table.now)) }
+{
+    text_fault_at(faults, at, "object", table)?;
+    keep(faults, natural_at(0, 127, at, "index", table))
+}
+
 /// `object` and `index`: an attribute or method.
 pub(crate) struct TargetTable;
 
 impl TableForm for TargetTable {
-    ghost use Rattle.config_text.specs.Targets.{target_keys, target_of};
+    ghost use Rattle.config_text.specs.Targets.{target_keys, target_of, target_faults};
 
     type Parts = TargetParts;
 
@@ -37,15 +55,31 @@ impl TableForm for TargetTable {
 
     ghost says = { λ form. target_of };
 
+    ghost kinds = { λ form. target_faults };
+
     #[tactic(auto, unfolding(crate::specs::Targets::target_keys))]
-    fn check_keys(&self, at: &Place<'_>, table: &Table) -> Result<(), ConfigFault> {
-        needed(at, "object", table)?;
-        needed(at, "index", table)?;
-        only(at, &["object", "index"], table)
+    fn check_keys(
+        &self,
+        faults: &mut Vec<PlacedFault>,
+        at: &Place<'_>,
+        table: &Table,
+    ) -> Result<(), Memory> {
+        needed(faults, at, "object", table)?;
+        needed(faults, at, "index", table)?;
+        only(faults, at, &["object", "index"], table)
     }
 
     fn read(&self, at: &Place<'_>, table: &Table) -> Result<TargetParts, ConfigFault> {
         target_of(at, table)
+    }
+
+    fn check_kinds(
+        &self,
+        faults: &mut Vec<PlacedFault>,
+        at: &Place<'_>,
+        table: &Table,
+    ) -> Result<(), Memory> {
+        target_faults(faults, at, table)
     }
 }
 
@@ -53,7 +87,7 @@ impl TableForm for TargetTable {
 pub(crate) struct ScriptRefTable;
 
 impl TableForm for ScriptRefTable {
-    ghost use Rattle.config_text.specs.Targets.{script_ref_keys, script_ref_of};
+    ghost use Rattle.config_text.specs.Targets.{script_ref_keys, script_ref_of, script_ref_faults};
 
     type Parts = ScriptRefParts;
 
@@ -61,11 +95,18 @@ impl TableForm for ScriptRefTable {
 
     ghost says = { λ form. script_ref_of };
 
+    ghost kinds = { λ form. script_ref_faults };
+
     #[tactic(auto, unfolding(crate::specs::Targets::script_ref_keys))]
-    fn check_keys(&self, at: &Place<'_>, table: &Table) -> Result<(), ConfigFault> {
-        needed(at, "table", table)?;
-        needed(at, "script", table)?;
-        only(at, &["table", "script"], table)
+    fn check_keys(
+        &self,
+        faults: &mut Vec<PlacedFault>,
+        at: &Place<'_>,
+        table: &Table,
+    ) -> Result<(), Memory> {
+        needed(faults, at, "table", table)?;
+        needed(faults, at, "script", table)?;
+        only(faults, at, &["table", "script"], table)
     }
 
     #[tactic(auto, unfolding(crate::specs::Targets::script_ref_of))]
@@ -76,5 +117,16 @@ impl TableForm for ScriptRefTable {
             table: name,
             script,
         })
+    }
+
+    #[tactic(auto, unfolding(crate::specs::Targets::script_ref_faults))]
+    fn check_kinds(
+        &self,
+        faults: &mut Vec<PlacedFault>,
+        at: &Place<'_>,
+        table: &Table,
+    ) -> Result<(), Memory> {
+        text_fault_at(faults, at, "table", table)?;
+        keep(faults, integer_at(at, "script", table))
     }
 }

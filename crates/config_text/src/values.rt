@@ -58,7 +58,7 @@ fn is_ascii_alone(text: &str) -> bool
 }
 
 /// Whether a text is `low` to `high` ASCII characters.
-fn has_ascii(text: &str, low: usize, high: usize) -> bool
+pub(crate) fn has_ascii(text: &str, low: usize, high: usize) -> bool
     ensures { result ≡ spec.has_ascii low high text.now }
 {
     low <= text.len() && text.len() <= high && is_ascii_alone(text)

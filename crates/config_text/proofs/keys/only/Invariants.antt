@@ -1,8 +1,11 @@
-use Rattle.std.proofs.Common.{◌≡◌, map, string_bytes}
+use Rattle.std.proofs.Common.{◌≡◌, ◌++◌, map, string_bytes}
+use Rattle.std.specs.List.{flat_map}
 use Rattle.toml.specs.View.{table_view}
-use Rattle.config_text.specs.Keys.{first_unknown, member_keys}
+use Rattle.config_text.specs.Keys.{known_key, member_keys}
 use Rattle.config_text.proofs.keys.only.Given as goal
 
--- the keys that are left have the first one that isn't known
+-- what was found, and the faults of the keys that are left
 abbrev pub invariant-loop-key : goal.invariant-loop-key
-invariant-loop-key l = first_unknown (map (λ k. k.now) l.known) (map (λ k. string_bytes k) l.key-iterator) ≡ first_unknown (map (λ k. k.now) l.known) (member_keys (table_view l.table))
+invariant-loop-key l =
+    let one = known_key l.at (map (λ k. k.now) l.known) in
+    l.faults.items ++ flat_map one (map (λ k. string_bytes k) l.key-iterator) ≡ l.fn.faults.items ++ flat_map one (member_keys (table_view l.table))
