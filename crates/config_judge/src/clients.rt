@@ -1,35 +1,38 @@
 //! C7 and C8: clients that aren't there, and clients with a name or service access point that an earlier one has.
 
-ghost use Rattle.std.specs.Prelude.{◌≡◌, ◌==◌, ◌++◌, codes};
+ghost use Rattle.std.specs.Prelude.{◌≡◌, ◌==◌, ◌++◌, OnOk, codes};
 ghost use Rattle.std.specs.List.{list_any};
 ghost use Rattle.std.specs.Str.{bytes_eq};
-ghost use Rattle.config_text.specs.Fault.{Gives};
+ghost use Rattle.config_text.specs.Fault.{fault_where};
 ghost use Rattle.config_text.specs.Refusals.{Finds};
+ghost use Rattle.config_text.specs.declared.fault.Code.TheVariants.{ClientTwice};
 ghost use Rattle.config_rules.specs.Passes as spec;
 ghost use Rattle.config_rules.specs.Walks as walks;
 
 use crate::directory::Directory;
-use crate::gathering::{each_new_of, gather, gather_sets};
-use crate::judged::fault_if;
-use crate::walk::{Judge, JudgeNew, JudgeText, both_sets};
-use config_text::fault::{Code, ConfigFault};
+use crate::walk::{Judge, JudgeNew, JudgeText, both_sets, each, each_new};
+use config_text::fault::Code;
+use config_text::noting::note_if;
 use config_text::parts::{ClientParts, ConfigParts, LabelParts, RightParts};
 use config_text::place::Place;
-use config_text::refusal::{Refusal, refuse};
+use config_text::refusal::{PlacedFault, Refusal, refuse};
+use cosem_data::memory::Memory;
 use std::alloc::Global;
 
-/// Judges whether the client at a key below a place is there.
+/// Notes that the client at a key below a place isn't there, where it isn't.
 fn known_client(
+    faults: &mut Vec<PlacedFault>,
     directory: &Directory<'_>,
     at: &Place<'_>,
     key: &str,
     name: &str,
-) -> Result<(), ConfigFault>
-    ensures { Gives (λ u. u) result (spec.known_client directory.now.config.now
+) -> Result<(), Memory>
+    ensures { OnOk result (faults.new.items ≡ faults.old.items
+        ++ spec.known_client directory.now.config.now
         (at.now ++ key.now) name.now) }
 {
     let known = directory.has_client(name);
-    fault_if(Code::ClientUnknown, at, key, !known)
+    note_if(faults, Code::ClientUnknown, at, key, !known)
 }
 
 /// The clients of a set.
@@ -43,8 +46,13 @@ impl<'d, 'c> JudgeText for KnownClient<'d, 'c> {
 
     ghost judges = { λ all. known_client all.directory.now.config.now };
 
-    fn judge(&self, at: &Place<'_>, text: &str) -> Result<(), ConfigFault> {
-        known_client(self.directory, at, "", text)
+    fn judge(
+        &self,
+        faults: &mut Vec<PlacedFault>,
+        at: &Place<'_>,
+        text: &str,
+    ) -> Result<(), Memory> {
+        known_client(faults, self.directory, at, "", text)
     }
 }
 
@@ -63,8 +71,13 @@ impl<'d, 'c> Judge for RightClient<'d, 'c> {
     ghost judges = { λ all at r. known_client all.directory.now.config.now
         (at ++ codes ".client") r.client };
 
-    fn judge(&self, at: &Place<'_>, right: &RightParts) -> Result<(), ConfigFault> {
-        known_client(self.directory, at, ".client", right.client.as_str())
+    fn judge(
+        &self,
+        faults: &mut Vec<PlacedFault>,
+        at: &Place<'_>,
+        right: &RightParts,
+    ) -> Result<(), Memory> {
+        known_client(faults, self.directory, at, ".client", right.client.as_str())
     }
 }
 
@@ -81,16 +94,21 @@ impl<'d, 'c> Judge for LabelClients<'d, 'c> {
 
     ghost judges = { λ all at l. both_sets (known_client all.directory.now.config.now) at l.sets };
 
-    fn judge(&self, at: &Place<'_>, label: &LabelParts) -> Result<(), ConfigFault> {
+    fn judge(
+        &self,
+        faults: &mut Vec<PlacedFault>,
+        at: &Place<'_>,
+        label: &LabelParts,
+    ) -> Result<(), Memory> {
         let directory = self.directory;
-        both_sets(&KnownClient { directory }, at, &label.sets)
+        both_sets(faults, &KnownClient { directory }, at, &label.sets)
     }
 }
 
 /// Judges whether each client that is named is there.
 ///
 /// # Errors
-/// C7 at the first name of each right and label, and of the policy, that no client has.
+/// C7 at each name that no client has.
 #[tactic(auto, unfolding(config_rules::specs::Passes::known_clients))]
 pub(crate) fn known_clients(alloc: Global, directory: &Directory<'_>) -> Result<(), Refusal>
     ensures { Finds result (spec.known_clients directory.now.config.now) }
@@ -99,14 +117,14 @@ pub(crate) fn known_clients(alloc: Global, directory: &Directory<'_>) -> Result<
     let mut faults = Vec::new(alloc);
     let rights = config.rights.as_slice();
     let right_place = Place::top(alloc, "right");
-    gather(
+    each(
         &mut faults,
         &RightClient { directory },
         &right_place,
         rights,
     )?;
     let policy_place = Place::top(alloc, "policy");
-    gather_sets(
+    both_sets(
         &mut faults,
         &KnownClient { directory },
         &policy_place,
@@ -114,7 +132,7 @@ pub(crate) fn known_clients(alloc: Global, directory: &Directory<'_>) -> Result<
     )?;
     let labels = config.labels.as_slice();
     let label_place = Place::top(alloc, "label");
-    gather(
+    each(
         &mut faults,
         &LabelClients { directory },
         &label_place,
@@ -130,11 +148,41 @@ fn has_name(clients: &[ClientParts], name: &str) -> bool
     clients.iter().any(|client| client.name.as_str() == name)
 }
 
+/// Notes that an earlier client has the name, where one has.
+fn new_name(
+    faults: &mut Vec<PlacedFault>,
+    earlier: &[ClientParts],
+    at: &Place<'_>,
+    client: &ClientParts,
+) -> Result<(), Memory>
+    ensures { OnOk result (faults.new.items ≡ faults.old.items
+        ++ fault_where ClientTwice (at.now ++ codes ".name")
+        (list_any (λ e. bytes_eq e.name client.now.name) earlier.now)) }
+{
+    let taken = has_name(earlier, client.name.as_str());
+    note_if(faults, Code::ClientTwice, at, ".name", taken)
+}
+
 /// Whether one of the clients has the service access point.
 fn has_sap(clients: &[ClientParts], sap: u8) -> bool
     ensures { result ≡ list_any (λ e. e.sap == sap) clients.now }
 {
     clients.iter().any(|client| client.sap == sap)
+}
+
+/// Notes that an earlier client has the service access point, where one has.
+fn new_sap(
+    faults: &mut Vec<PlacedFault>,
+    earlier: &[ClientParts],
+    at: &Place<'_>,
+    client: &ClientParts,
+) -> Result<(), Memory>
+    ensures { OnOk result (faults.new.items ≡ faults.old.items
+        ++ fault_where ClientTwice (at.now ++ codes ".sap")
+        (list_any (λ e. e.sap == client.now.sap) earlier.now)) }
+{
+    let taken = has_sap(earlier, client.sap);
+    note_if(faults, Code::ClientTwice, at, ".sap", taken)
 }
 
 /// The name and the service access point of a client, beside those before it.
@@ -151,26 +199,31 @@ impl JudgeNew for NewClient {
     #[tactic(auto, unfolding(config_rules::specs::Passes::new_client))]
     fn judge(
         &self,
+        faults: &mut Vec<PlacedFault>,
         earlier: &[ClientParts],
         at: &Place<'_>,
         client: &ClientParts,
-    ) -> Result<(), ConfigFault> {
-        let name_taken = has_name(earlier, client.name.as_str());
-        fault_if(Code::ClientTwice, at, ".name", name_taken)?;
-        let sap_taken = has_sap(earlier, client.sap);
-        fault_if(Code::ClientTwice, at, ".sap", sap_taken)
+    ) -> Result<(), Memory> {
+        new_name(faults, earlier, at, client)?;
+        new_sap(faults, earlier, at, client)
     }
 }
 
-/// Judges whether each client's name and service access point are new. Since these are 1 to 127, at most 128 clients are
-/// looked at.
+/// Judges whether each client's name and service access point are new.
 ///
 /// # Errors
-/// C8 at each client's name, or else its service access point, that an earlier client has.
+/// C8 at each client's name and each service access point that an earlier client has.
 #[tactic(auto, unfolding(config_rules::specs::Passes::new_clients))]
 pub(crate) fn new_clients(alloc: Global, config: &ConfigParts) -> Result<(), Refusal>
     ensures { Finds result (spec.new_clients config.now) }
 {
     let client_place = Place::top(alloc, "client");
-    each_new_of(&NewClient, &client_place, config.clients.as_slice())
+    let mut faults = Vec::new(alloc);
+    each_new(
+        &mut faults,
+        &NewClient,
+        &client_place,
+        config.clients.as_slice(),
+    )?;
+    refuse(faults)
 }

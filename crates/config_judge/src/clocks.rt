@@ -4,13 +4,13 @@ ghost use Rattle.std.specs.List.{list_any};
 ghost use Rattle.config_text.specs.Refusals.{Finds};
 ghost use Rattle.config_rules.specs.Passes as passes;
 
-use crate::gathering::each_new_of;
-use crate::judged::fault_if;
-use crate::walk::JudgeNew;
-use config_text::fault::{Code, ConfigFault};
+use crate::walk::{JudgeNew, each_new};
+use config_text::fault::Code;
+use config_text::noting::note_if;
 use config_text::parts::{ConfigParts, ObjectParts};
 use config_text::place::Place;
-use config_text::refusal::Refusal;
+use config_text::refusal::{PlacedFault, Refusal, refuse};
+use cosem_data::memory::Memory;
 use meter_theory::classes::{Class, is_of_class};
 use std::alloc::Global;
 
@@ -39,16 +39,17 @@ impl JudgeNew for NewClock {
 
     fn judge(
         &self,
+        faults: &mut Vec<PlacedFault>,
         earlier: &[ObjectParts],
         at: &Place<'_>,
         object: &ObjectParts,
-    ) -> Result<(), ConfigFault> {
+    ) -> Result<(), Memory> {
         let second = is_clock(object) && has_clock(earlier);
-        fault_if(Code::SecondClock, at, ".class", second)
+        note_if(faults, Code::SecondClock, at, ".class", second)
     }
 }
 
-/// Judges whether there is one clock at most. The objects before a clock are looked at, and so at most twice.
+/// Judges whether there is one clock at most.
 ///
 /// # Errors
 /// C21 at each clock behind the first.
@@ -57,5 +58,12 @@ pub(crate) fn new_clocks(alloc: Global, config: &ConfigParts) -> Result<(), Refu
     ensures { Finds result (passes.new_clocks config.now) }
 {
     let object_place = Place::top(alloc, "object");
-    each_new_of(&NewClock, &object_place, config.objects.as_slice())
+    let mut faults = Vec::new(alloc);
+    each_new(
+        &mut faults,
+        &NewClock,
+        &object_place,
+        config.objects.as_slice(),
+    )?;
+    refuse(faults)
 }

@@ -1,22 +1,26 @@
 //! C13: thresholds and actions that differ in number.
-ghost use Rattle.std.specs.Prelude.{◌≡◌};
+ghost use Rattle.std.specs.Prelude.{◌++◌, ◌≡◌, OnOk};
 ghost use Rattle.config_text.specs.BodyView.{body_text};
-ghost use Rattle.config_text.specs.Fault.{Gives};
 ghost use Rattle.config_text.specs.Refusals.{Finds};
 ghost use Rattle.config_rules.specs.Passes as passes;
 
-use crate::gathering::each_of;
-use crate::judged::fault_if;
-use crate::walk::Judge;
-use config_text::fault::{Code, ConfigFault};
+use crate::walk::{Judge, each};
+use config_text::fault::Code;
+use config_text::noting::note_if;
 use config_text::parts::{BodyParts, ConfigParts, ObjectParts};
 use config_text::place::Place;
-use config_text::refusal::Refusal;
+use config_text::refusal::{PlacedFault, Refusal, refuse};
+use cosem_data::memory::Memory;
 use std::alloc::Global;
 
 #[tactic(auto, unfolding(config_rules::specs::Passes::equal_counts_in))]
-fn equal_counts_in(at: &Place<'_>, body: &BodyParts) -> Result<(), ConfigFault>
-    ensures { Gives (λ u. u) result (passes.equal_counts_in at.now (body_text body.now)) }
+fn equal_counts_in(
+    faults: &mut Vec<PlacedFault>,
+    at: &Place<'_>,
+    body: &BodyParts,
+) -> Result<(), Memory>
+    ensures { OnOk result (faults.new.items ≡ faults.old.items
+        ++ passes.equal_counts_in at.now (body_text body.now)) }
 {
     match body {
         BodyParts::RegisterMonitor {
@@ -25,7 +29,7 @@ fn equal_counts_in(at: &Place<'_>, body: &BodyParts) -> Result<(), ConfigFault>
             ..
         } => {
             let equal = thresholds.len() == actions.len();
-            fault_if(Code::Counts, at, ".action", !equal)
+            note_if(faults, Code::Counts, at, ".action", !equal)
         }
         _ => Ok(()),
     }
@@ -42,8 +46,13 @@ impl Judge for EqualCounts {
 
     ghost judges = { λ _ at o. equal_counts_in at o.body };
 
-    fn judge(&self, at: &Place<'_>, object: &ObjectParts) -> Result<(), ConfigFault> {
-        equal_counts_in(at, &object.body)
+    fn judge(
+        &self,
+        faults: &mut Vec<PlacedFault>,
+        at: &Place<'_>,
+        object: &ObjectParts,
+    ) -> Result<(), Memory> {
+        equal_counts_in(faults, at, &object.body)
     }
 }
 
@@ -56,5 +65,12 @@ pub(crate) fn equal_counts(alloc: Global, config: &ConfigParts) -> Result<(), Re
     ensures { Finds result (passes.equal_counts config.now) }
 {
     let object_place = Place::top(alloc, "object");
-    each_of(&EqualCounts, &object_place, config.objects.as_slice())
+    let mut faults = Vec::new(alloc);
+    each(
+        &mut faults,
+        &EqualCounts,
+        &object_place,
+        config.objects.as_slice(),
+    )?;
+    refuse(faults)
 }

@@ -1,36 +1,54 @@
 //! C4: names of bad form.
 
-ghost use Rattle.std.specs.Prelude.{◌++◌};
-ghost use Rattle.config_text.specs.Fault.{Gives};
+ghost use Rattle.std.specs.Prelude.{◌≡◌, ◌++◌, OnOk};
 ghost use Rattle.config_text.specs.Refusals.{Finds};
 ghost use Rattle.config_rules.specs.Passes as spec;
 
 use crate::form::is_logical_name;
-use crate::gathering::{gather, gather_sets};
-use crate::judged::fault_if;
 use crate::reference_walk::{JudgeReferences, references};
-use crate::walk::{Judge, JudgeText, both_sets};
-use config_text::fault::{Code, ConfigFault};
+use crate::walk::{Judge, JudgeText, both_sets, each};
+use config_text::fault::Code;
+use config_text::noting::note_if;
 use config_text::parts::{
     ClientParts, ConfigParts, LabelParts, ObjectParts, RightParts, ScriptRefParts, TargetParts,
 };
 use config_text::place::Place;
-use config_text::refusal::{Refusal, refuse};
+use config_text::refusal::{PlacedFault, Refusal, refuse};
+use cosem_data::memory::Memory;
 use std::alloc::Global;
 use value_text::client_name::may_be_named;
 
-/// Judges the form of a logical name at a key below a place.
-fn logical_form(at: &Place<'_>, key: &str, name: &str) -> Result<(), ConfigFault>
-    ensures { Gives (λ u. u) result (spec.logical_form (at.now ++ key.now) name.now) }
+/// Notes a logical name of bad form at a key below a place.
+fn logical_form(
+    faults: &mut Vec<PlacedFault>,
+    at: &Place<'_>,
+    key: &str,
+    name: &str,
+) -> Result<(), Memory>
+    ensures { OnOk result (faults.new.items ≡ faults.old.items
+        ++ spec.logical_form (at.now ++ key.now) name.now) }
 {
-    fault_if(Code::Form, at, key, !is_logical_name(name))
+    note_if(faults, Code::Form, at, key, !is_logical_name(name))
 }
 
-/// Judges the form of a client's name at a key below a place, in a configuration of this version.
-fn client_form(version: u8, at: &Place<'_>, key: &str, name: &str) -> Result<(), ConfigFault>
-    ensures { Gives (λ u. u) result (spec.client_form version (at.now ++ key.now) name.now) }
+/// Notes a client's name of bad form at a key below a place, in a configuration of this version.
+fn client_form(
+    faults: &mut Vec<PlacedFault>,
+    version: u8,
+    at: &Place<'_>,
+    key: &str,
+    name: &str,
+) -> Result<(), Memory>
+    ensures { OnOk result (faults.new.items ≡ faults.old.items
+        ++ spec.client_form version (at.now ++ key.now) name.now) }
 {
-    fault_if(Code::Form, at, key, !may_be_named(version, name.as_bytes()))
+    note_if(
+        faults,
+        Code::Form,
+        at,
+        key,
+        !may_be_named(version, name.as_bytes()),
+    )
 }
 
 /// Names of clients in a set.
@@ -44,8 +62,13 @@ impl JudgeText for ClientForm {
 
     ghost judges = { λ all. client_form all.version };
 
-    fn judge(&self, at: &Place<'_>, text: &str) -> Result<(), ConfigFault> {
-        client_form(self.version, at, "", text)
+    fn judge(
+        &self,
+        faults: &mut Vec<PlacedFault>,
+        at: &Place<'_>,
+        text: &str,
+    ) -> Result<(), Memory> {
+        client_form(faults, self.version, at, "", text)
     }
 }
 
@@ -63,8 +86,13 @@ impl Judge for ClientForms {
 
     ghost judges = { λ all at client. client_form all.version (at ++ codes ".name") client.name };
 
-    fn judge(&self, at: &Place<'_>, client: &ClientParts) -> Result<(), ConfigFault> {
-        client_form(self.version, at, ".name", client.name.as_str())
+    fn judge(
+        &self,
+        faults: &mut Vec<PlacedFault>,
+        at: &Place<'_>,
+        client: &ClientParts,
+    ) -> Result<(), Memory> {
+        client_form(faults, self.version, at, ".name", client.name.as_str())
     }
 }
 
@@ -80,12 +108,22 @@ impl JudgeReferences for ReferenceForms {
 
     ghost scripts = { λ _ at r. logical_form (at ++ codes ".table") r.table };
 
-    fn judge_target(&self, at: &Place<'_>, target: &TargetParts) -> Result<(), ConfigFault> {
-        logical_form(at, ".object", target.object.as_str())
+    fn judge_target(
+        &self,
+        faults: &mut Vec<PlacedFault>,
+        at: &Place<'_>,
+        target: &TargetParts,
+    ) -> Result<(), Memory> {
+        logical_form(faults, at, ".object", target.object.as_str())
     }
 
-    fn judge_script(&self, at: &Place<'_>, script: &ScriptRefParts) -> Result<(), ConfigFault> {
-        logical_form(at, ".table", script.table.as_str())
+    fn judge_script(
+        &self,
+        faults: &mut Vec<PlacedFault>,
+        at: &Place<'_>,
+        script: &ScriptRefParts,
+    ) -> Result<(), Memory> {
+        logical_form(faults, at, ".table", script.table.as_str())
     }
 }
 
@@ -101,9 +139,14 @@ impl Judge for ObjectForms {
     ghost judges = { λ _. object_forms };
 
     #[tactic(auto, unfolding(config_rules::specs::Passes::object_forms))]
-    fn judge(&self, at: &Place<'_>, object: &ObjectParts) -> Result<(), ConfigFault> {
-        logical_form(at, ".name", object.name.as_str())?;
-        references(&ReferenceForms, at, &object.body)
+    fn judge(
+        &self,
+        faults: &mut Vec<PlacedFault>,
+        at: &Place<'_>,
+        object: &ObjectParts,
+    ) -> Result<(), Memory> {
+        logical_form(faults, at, ".name", object.name.as_str())?;
+        references(faults, &ReferenceForms, at, &object.body)
     }
 }
 
@@ -121,9 +164,14 @@ impl Judge for RightForms {
     ghost judges = { λ all. right_forms all.version };
 
     #[tactic(auto, unfolding(config_rules::specs::Passes::right_forms))]
-    fn judge(&self, at: &Place<'_>, right: &RightParts) -> Result<(), ConfigFault> {
-        client_form(self.version, at, ".client", right.client.as_str())?;
-        logical_form(at, ".object", right.object.as_str())
+    fn judge(
+        &self,
+        faults: &mut Vec<PlacedFault>,
+        at: &Place<'_>,
+        right: &RightParts,
+    ) -> Result<(), Memory> {
+        client_form(faults, self.version, at, ".client", right.client.as_str())?;
+        logical_form(faults, at, ".object", right.object.as_str())
     }
 }
 
@@ -141,17 +189,22 @@ impl Judge for LabelForms {
     ghost judges = { λ all. label_forms all.version };
 
     #[tactic(auto, unfolding(config_rules::specs::Passes::label_forms))]
-    fn judge(&self, at: &Place<'_>, label: &LabelParts) -> Result<(), ConfigFault> {
-        logical_form(at, ".object", label.target.object.as_str())?;
+    fn judge(
+        &self,
+        faults: &mut Vec<PlacedFault>,
+        at: &Place<'_>,
+        label: &LabelParts,
+    ) -> Result<(), Memory> {
+        logical_form(faults, at, ".object", label.target.object.as_str())?;
         let version = self.version;
-        both_sets(&ClientForm { version }, at, &label.sets)
+        both_sets(faults, &ClientForm { version }, at, &label.sets)
     }
 }
 
 /// Judges the forms of all names.
 ///
 /// # Errors
-/// C4 at the first logical name or client's name of bad form of each client, object, right and label, and of the policy.
+/// C4 at each logical name and client's name of bad form.
 #[tactic(auto, unfolding(config_rules::specs::Passes::forms))]
 pub(crate) fn forms(alloc: Global, config: &ConfigParts) -> Result<(), Refusal>
     ensures { Finds result (spec.forms config.now) }
@@ -160,7 +213,7 @@ pub(crate) fn forms(alloc: Global, config: &ConfigParts) -> Result<(), Refusal>
     let mut faults = Vec::new(alloc);
     let clients = config.clients.as_slice();
     let client_place = Place::top(alloc, "client");
-    gather(
+    each(
         &mut faults,
         &ClientForms { version },
         &client_place,
@@ -168,12 +221,12 @@ pub(crate) fn forms(alloc: Global, config: &ConfigParts) -> Result<(), Refusal>
     )?;
     let objects = config.objects.as_slice();
     let object_place = Place::top(alloc, "object");
-    gather(&mut faults, &ObjectForms, &object_place, objects)?;
+    each(&mut faults, &ObjectForms, &object_place, objects)?;
     let rights = config.rights.as_slice();
     let right_place = Place::top(alloc, "right");
-    gather(&mut faults, &RightForms { version }, &right_place, rights)?;
+    each(&mut faults, &RightForms { version }, &right_place, rights)?;
     let policy_place = Place::top(alloc, "policy");
-    gather_sets(
+    both_sets(
         &mut faults,
         &ClientForm { version },
         &policy_place,
@@ -181,6 +234,6 @@ pub(crate) fn forms(alloc: Global, config: &ConfigParts) -> Result<(), Refusal>
     )?;
     let labels = config.labels.as_slice();
     let label_place = Place::top(alloc, "label");
-    gather(&mut faults, &LabelForms { version }, &label_place, labels)?;
+    each(&mut faults, &LabelForms { version }, &label_place, labels)?;
     refuse(faults)
 }

@@ -1,8 +1,7 @@
 //! C10: indexes that the class doesn't have, or that aren't usable where they stand.
 
-ghost use Rattle.std.specs.Prelude.{◌≡◌, ◌++◌, codes};
+ghost use Rattle.std.specs.Prelude.{◌≡◌, ◌++◌, OnOk, codes};
 ghost use Rattle.config_text.specs.BodyView.{body_text};
-ghost use Rattle.config_text.specs.Fault.{Gives};
 ghost use Rattle.config_text.specs.Refusals.{Finds};
 ghost use Rattle.config_judge.specs.Indexes.{is_usable};
 ghost use Rattle.meter_theory.specs.Classes as classes;
@@ -10,46 +9,49 @@ ghost use Rattle.config_rules.specs.Passes as spec;
 ghost use Rattle.config_rules.specs.Walks as walks;
 
 use crate::directory::Directory;
-use crate::gathering::gather;
-use crate::judged::fault_if;
 use crate::reference_walk::{each_action, each_capture};
-use crate::walk::{Judge, each_below};
-use config_text::fault::{Code, ConfigFault};
+use crate::walk::{Judge, each, each_below};
+use config_text::fault::Code;
+use config_text::noting::note_if;
 use config_text::parts::{
     ActionParts, BodyParts, CaptureParts, ObjectParts, RightParts, TargetParts,
 };
 use config_text::place::Place;
-use config_text::refusal::{Refusal, refuse};
+use config_text::refusal::{PlacedFault, Refusal, refuse};
 use config_text::service::Service;
+use cosem_data::memory::Memory;
 use meter_theory::classes::{has_attribute, has_method, is_capturable, is_monitorable};
 use std::alloc::Global;
 
 /// Judges the index of an attribute that is captured.
 fn captured(
+    faults: &mut Vec<PlacedFault>,
     directory: &Directory<'_>,
     at: &Place<'_>,
     target: &TargetParts,
-) -> Result<(), ConfigFault>
-    ensures { Gives (λ u. u) result
-        (spec.usable directory.now.config.now classes.is_capturable at.now target.now) }
+) -> Result<(), Memory>
+    ensures { OnOk result (faults.new.items ≡ faults.old.items
+        ++ spec.usable directory.now.config.now classes.is_capturable at.now target.now) }
 {
     let class = directory.class(target.object.as_str());
     let usable = is_capturable(class, target.index);
-    fault_if(Code::Index, at, ".index", !usable)
+    note_if(faults, Code::Index, at, ".index", !usable)
 }
 
 /// Judges the index of an attribute that is monitored.
 fn monitored(
+    faults: &mut Vec<PlacedFault>,
     directory: &Directory<'_>,
     at: &Place<'_>,
     target: &TargetParts,
-) -> Result<(), ConfigFault>
-    ensures { Gives (λ u. u) result (spec.usable directory.now.config.now classes.is_monitorable
+) -> Result<(), Memory>
+    ensures { OnOk result (faults.new.items ≡ faults.old.items
+        ++ spec.usable directory.now.config.now classes.is_monitorable
         (at.now ++ codes ".monitored") target.now) }
 {
     let class = directory.class(target.object.as_str());
     let usable = is_monitorable(class, target.index);
-    fault_if(Code::Index, at, ".monitored.index", !usable)
+    note_if(faults, Code::Index, at, ".monitored.index", !usable)
 }
 
 /// Whether an action can set or call what it names: a settable attribute, or a method.
@@ -77,8 +79,13 @@ impl<'d, 'c> Judge for UsableCapture<'d, 'c> {
 
     ghost judges = { λ all at x. usable all.directory.now.config.now is_capturable at x.target };
 
-    fn judge(&self, at: &Place<'_>, capture: &CaptureParts) -> Result<(), ConfigFault> {
-        captured(self.directory, at, &capture.target)
+    fn judge(
+        &self,
+        faults: &mut Vec<PlacedFault>,
+        at: &Place<'_>,
+        capture: &CaptureParts,
+    ) -> Result<(), Memory> {
+        captured(faults, self.directory, at, &capture.target)
     }
 }
 
@@ -95,33 +102,46 @@ impl<'d, 'c> Judge for UsableAction<'d, 'c> {
 
     ghost judges = { λ all at a. usable_action all.directory.now.config.now a.service at a.target };
 
-    fn judge(&self, at: &Place<'_>, action: &ActionParts) -> Result<(), ConfigFault> {
+    fn judge(
+        &self,
+        faults: &mut Vec<PlacedFault>,
+        at: &Place<'_>,
+        action: &ActionParts,
+    ) -> Result<(), Memory> {
         let usable = is_usable(self.directory, action.service, &action.target);
-        fault_if(Code::Index, at, ".index", !usable)
+        note_if(faults, Code::Index, at, ".index", !usable)
     }
 }
 
 /// The indexes in an object's body.
 #[tactic(auto, unfolding(config_rules::specs::Passes::usable_indexes))]
 fn usable_indexes(
+    faults: &mut Vec<PlacedFault>,
     directory: &Directory<'_>,
     at: &Place<'_>,
     body: &BodyParts,
-) -> Result<(), ConfigFault>
-    ensures { Gives (λ u. u) result (spec.usable_indexes directory.now.config.now at.now
+) -> Result<(), Memory>
+    ensures { OnOk result (faults.new.items ≡ faults.old.items
+        ++ spec.usable_indexes directory.now.config.now at.now
         (body_text body.now)) }
 {
     match body {
         BodyParts::ProfileGeneric { capture, menu, .. } => {
-            each_capture(&UsableCapture { directory }, at, capture.as_slice(), menu)
+            each_capture(
+                faults,
+                &UsableCapture { directory },
+                at,
+                capture.as_slice(),
+                menu,
+            )
         }
         BodyParts::ScriptTable { scripts } => {
-            each_action(&UsableAction { directory }, at, scripts.as_slice())
+            each_action(faults, &UsableAction { directory }, at, scripts.as_slice())
         }
         BodyParts::RegisterMonitor {
             monitored: target,
             ..
-        } => { monitored(directory, at, target) }
+        } => { monitored(faults, directory, at, target) }
         _ => Ok(()),
     }
 }
@@ -139,8 +159,13 @@ impl<'d, 'c> Judge for ObjectIndexes<'d, 'c> {
 
     ghost judges = { λ all at o. usable_indexes all.directory.now.config.now at o.body };
 
-    fn judge(&self, at: &Place<'_>, object: &ObjectParts) -> Result<(), ConfigFault> {
-        usable_indexes(self.directory, at, &object.body)
+    fn judge(
+        &self,
+        faults: &mut Vec<PlacedFault>,
+        at: &Place<'_>,
+        object: &ObjectParts,
+    ) -> Result<(), Memory> {
+        usable_indexes(faults, self.directory, at, &object.body)
     }
 }
 
@@ -158,9 +183,14 @@ impl Judge for AttributeOf {
 
     ghost judges = { λ all. right_index has_attribute all.class };
 
-    fn judge(&self, at: &Place<'_>, index: &u8) -> Result<(), ConfigFault> {
+    fn judge(
+        &self,
+        faults: &mut Vec<PlacedFault>,
+        at: &Place<'_>,
+        index: &u8,
+    ) -> Result<(), Memory> {
         let known = has_attribute(self.class, *index);
-        fault_if(Code::Index, at, "", !known)
+        note_if(faults, Code::Index, at, "", !known)
     }
 }
 
@@ -178,9 +208,14 @@ impl Judge for MethodOf {
 
     ghost judges = { λ all. right_index has_method all.class };
 
-    fn judge(&self, at: &Place<'_>, index: &u8) -> Result<(), ConfigFault> {
+    fn judge(
+        &self,
+        faults: &mut Vec<PlacedFault>,
+        at: &Place<'_>,
+        index: &u8,
+    ) -> Result<(), Memory> {
         let known = has_method(self.class, *index);
-        fault_if(Code::Index, at, "", !known)
+        note_if(faults, Code::Index, at, "", !known)
     }
 }
 
@@ -198,11 +233,34 @@ impl<'d, 'c> Judge for RightIndexes<'d, 'c> {
     ghost judges = { λ all. right_indexes all.directory.now.config.now };
 
     #[tactic(auto, unfolding(config_rules::specs::Passes::right_indexes))]
-    fn judge(&self, at: &Place<'_>, right: &RightParts) -> Result<(), ConfigFault> {
+    fn judge(
+        &self,
+        faults: &mut Vec<PlacedFault>,
+        at: &Place<'_>,
+        right: &RightParts,
+    ) -> Result<(), Memory> {
         let class = self.directory.class(right.object.as_str());
-        each_below(&AttributeOf { class }, at, ".get", right.gets.as_slice())?;
-        each_below(&AttributeOf { class }, at, ".set", right.sets.as_slice())?;
-        each_below(&MethodOf { class }, at, ".act", right.acts.as_slice())
+        each_below(
+            faults,
+            &AttributeOf { class },
+            at,
+            ".get",
+            right.gets.as_slice(),
+        )?;
+        each_below(
+            faults,
+            &AttributeOf { class },
+            at,
+            ".set",
+            right.sets.as_slice(),
+        )?;
+        each_below(
+            faults,
+            &MethodOf { class },
+            at,
+            ".act",
+            right.acts.as_slice(),
+        )
     }
 }
 
@@ -210,7 +268,7 @@ impl<'d, 'c> Judge for RightIndexes<'d, 'c> {
 /// are on.
 ///
 /// # Errors
-/// C10 at the first index of each object and right that the class doesn't have, or that isn't usable there.
+/// C10 at each index that the class doesn't have, or that isn't usable there.
 #[tactic(auto, unfolding(config_rules::specs::Passes::known_indexes))]
 pub(crate) fn known_indexes(alloc: Global, directory: &Directory<'_>) -> Result<(), Refusal>
     ensures { Finds result (spec.known_indexes directory.now.config.now) }
@@ -219,7 +277,7 @@ pub(crate) fn known_indexes(alloc: Global, directory: &Directory<'_>) -> Result<
     let mut faults = Vec::new(alloc);
     let objects = config.objects.as_slice();
     let object_place = Place::top(alloc, "object");
-    gather(
+    each(
         &mut faults,
         &ObjectIndexes { directory },
         &object_place,
@@ -227,7 +285,7 @@ pub(crate) fn known_indexes(alloc: Global, directory: &Directory<'_>) -> Result<
     )?;
     let rights = config.rights.as_slice();
     let right_place = Place::top(alloc, "right");
-    gather(
+    each(
         &mut faults,
         &RightIndexes { directory },
         &right_place,

@@ -69,3 +69,13 @@ pub(crate) fn may_be_number(kind: Option<Kind>) -> bool
 {
     kind.is_none() || is_number(kind)
 }
+
+/// A kind of numbers, none where it is another one: by a kind that is a fault itself nothing is judged.
+pub(crate) fn number_kind(kind: Option<Kind>) -> Option<Kind>
+    ensures { result ≡ spec.number_kind kind }
+{
+    match kind {
+        Some(kind) if kind.is_number() => Some(kind),
+        _ => None,
+    }
+}

@@ -7,14 +7,14 @@ ghost use Rattle.config_rules.specs.Names as names;
 ghost use Rattle.config_rules.specs.Passes as passes;
 
 use crate::directory::Directory;
-use crate::gathering::each_new_of;
-use crate::judged::fault_if;
 use crate::menus::same_target;
-use crate::walk::JudgeNew;
-use config_text::fault::{Code, ConfigFault};
+use crate::walk::{JudgeNew, each_new};
+use config_text::fault::Code;
+use config_text::noting::note_if;
 use config_text::parts::{LabelParts, TargetParts};
 use config_text::place::Place;
-use config_text::refusal::Refusal;
+use config_text::refusal::{PlacedFault, Refusal, refuse};
+use cosem_data::memory::Memory;
 use std::alloc::Global;
 
 /// Whether one of the labels is of this target.
@@ -51,12 +51,13 @@ impl<'d, 'c> JudgeNew for NewLabel<'d, 'c> {
 
     fn judge(
         &self,
+        faults: &mut Vec<PlacedFault>,
         earlier: &[LabelParts],
         at: &Place<'_>,
         label: &LabelParts,
-    ) -> Result<(), ConfigFault> {
+    ) -> Result<(), Memory> {
         let wrong = is_wrong(self.directory, earlier, label);
-        fault_if(Code::Label, at, ".index", wrong)
+        note_if(faults, Code::Label, at, ".index", wrong)
     }
 }
 
@@ -70,5 +71,12 @@ pub(crate) fn new_labels(alloc: Global, directory: &Directory<'_>) -> Result<(),
 {
     let config = directory.config;
     let labels = config.labels.as_slice();
-    each_new_of(&NewLabel { directory }, &Place::top(alloc, "label"), labels)
+    let mut faults = Vec::new(alloc);
+    each_new(
+        &mut faults,
+        &NewLabel { directory },
+        &Place::top(alloc, "label"),
+        labels,
+    )?;
+    refuse(faults)
 }

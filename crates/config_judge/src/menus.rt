@@ -1,25 +1,24 @@
 //! The menus of a configuration, and C22: an alternative that is what is configured, or an earlier one.
-ghost use Rattle.std.specs.Prelude.{◌≡◌, ◌++◌, [], option_map, codes};
+ghost use Rattle.std.specs.Prelude.{◌≡◌, ◌++◌, OnOk, [], option_map, codes};
 ghost use Rattle.std.specs.List.{list_any};
 ghost use Rattle.std.specs.Option.{unwrap_or};
 ghost use Rattle.config_text.specs.BodyView.{body_text};
-ghost use Rattle.config_text.specs.Fault.{Gives};
 ghost use Rattle.config_text.specs.Refusals.{Finds};
 ghost use Rattle.config_rules.specs.Names as names;
 ghost use Rattle.config_rules.specs.Passes as passes;
 ghost use Rattle.config_rules.specs.Walks as walks;
 ghost use Rattle.config_judge.specs.Menus.{menu_of};
 
-use crate::gathering::each_of;
-use crate::judged::fault_if;
-use crate::walk::{Judge, JudgeNew, each_new};
-use config_text::fault::{Code, ConfigFault};
+use crate::walk::{Judge, JudgeNew, each, each_new};
+use config_text::fault::Code;
+use config_text::noting::note_if;
 use config_text::parts::{
     AlternativeParts, BodyParts, CaptureParts, ConfigParts, ObjectParts, ScriptRefParts,
     TargetParts,
 };
 use config_text::place::Place;
-use config_text::refusal::Refusal;
+use config_text::refusal::{PlacedFault, Refusal, refuse};
+use cosem_data::memory::Memory;
 use std::alloc::Global;
 
 /// Whether an object has the key of a menu.
@@ -94,13 +93,14 @@ impl<'a> JudgeNew for NewCaptures<'a> {
 
     fn judge(
         &self,
+        faults: &mut Vec<PlacedFault>,
         earlier: &[AlternativeParts],
         at: &Place<'_>,
         alternative: &AlternativeParts,
-    ) -> Result<(), ConfigFault> {
+    ) -> Result<(), Memory> {
         let captures = alternative.captures.as_slice();
         let twice = same_captures(self.start, captures) || has_captures(earlier, captures);
-        fault_if(Code::AlternativeTwice, at, "", twice)
+        note_if(faults, Code::AlternativeTwice, at, "", twice)
     }
 }
 
@@ -136,24 +136,31 @@ impl<'a> JudgeNew for NewRun<'a> {
 
     fn judge(
         &self,
+        faults: &mut Vec<PlacedFault>,
         earlier: &[ScriptRefParts],
         at: &Place<'_>,
         script: &ScriptRefParts,
-    ) -> Result<(), ConfigFault> {
+    ) -> Result<(), Memory> {
         let twice = same_script(self.start, script) || has_script(earlier, script);
-        fault_if(Code::AlternativeTwice, at, "", twice)
+        note_if(faults, Code::AlternativeTwice, at, "", twice)
     }
 }
 
 /// The alternatives in an object's body.
 #[tactic(auto, unfolding(config_rules::specs::Passes::new_alternatives_in))]
-fn new_alternatives_in(at: &Place<'_>, body: &BodyParts) -> Result<(), ConfigFault>
-    ensures { Gives (λ u. u) result (passes.new_alternatives_in at.now (body_text body.now)) }
+fn new_alternatives_in(
+    faults: &mut Vec<PlacedFault>,
+    at: &Place<'_>,
+    body: &BodyParts,
+) -> Result<(), Memory>
+    ensures { OnOk result (faults.new.items ≡ faults.old.items
+        ++ passes.new_alternatives_in at.now (body_text body.now)) }
 {
     match body {
         BodyParts::ProfileGeneric { capture, menu, .. } => {
             let start = capture.as_slice();
             each_new(
+                faults,
                 &NewCaptures { start },
                 &at.below(".capture_menu"),
                 menu_in(menu),
@@ -161,7 +168,12 @@ fn new_alternatives_in(at: &Place<'_>, body: &BodyParts) -> Result<(), ConfigFau
         }
         BodyParts::SingleActionSchedule { script, menu, .. } => {
             let start = script;
-            each_new(&NewRun { start }, &at.below(".script_menu"), menu_in(menu))
+            each_new(
+                faults,
+                &NewRun { start },
+                &at.below(".script_menu"),
+                menu_in(menu),
+            )
         }
         _ => Ok(()),
     }
@@ -178,19 +190,31 @@ impl Judge for NewAlternatives {
 
     ghost judges = { λ _ at o. new_alternatives_in at o.body };
 
-    fn judge(&self, at: &Place<'_>, object: &ObjectParts) -> Result<(), ConfigFault> {
-        new_alternatives_in(at, &object.body)
+    fn judge(
+        &self,
+        faults: &mut Vec<PlacedFault>,
+        at: &Place<'_>,
+        object: &ObjectParts,
+    ) -> Result<(), Memory> {
+        new_alternatives_in(faults, at, &object.body)
     }
 }
 
 /// Judges the alternatives of menus.
 ///
 /// # Errors
-/// C22 at the first alternative of each object that is what is configured, or an earlier one.
+/// C22 at each alternative that is what is configured, or an earlier one.
 #[tactic(auto, unfolding(config_rules::specs::Passes::new_alternatives))]
 pub(crate) fn new_alternatives(alloc: Global, config: &ConfigParts) -> Result<(), Refusal>
     ensures { Finds result (passes.new_alternatives config.now) }
 {
     let object_place = Place::top(alloc, "object");
-    each_of(&NewAlternatives, &object_place, config.objects.as_slice())
+    let mut faults = Vec::new(alloc);
+    each(
+        &mut faults,
+        &NewAlternatives,
+        &object_place,
+        config.objects.as_slice(),
+    )?;
+    refuse(faults)
 }

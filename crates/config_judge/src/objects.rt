@@ -1,21 +1,20 @@
 //! C5 and C6: objects with a name that an earlier one has, and of a class that isn't known.
 
-ghost use Rattle.std.specs.Prelude.{◌≡◌, ◌||◌, codes, take};
+ghost use Rattle.std.specs.Prelude.{◌++◌, ◌≡◌, ◌||◌, OnOk, codes, take};
 ghost use Rattle.std.specs.List.{list_any};
 ghost use Rattle.std.specs.Str.{bytes_eq};
-ghost use Rattle.config_text.specs.Fault.{Gives};
 ghost use Rattle.config_text.specs.Refusals.{Finds};
 ghost use Rattle.config_rules.specs.Passes as spec;
 ghost use Rattle.config_rules.specs.Walks.{element_place};
 
 use crate::directory::Directory;
-use crate::gathering::each_of;
-use crate::judged::fault_if;
-use crate::walk::Judge;
-use config_text::fault::{Code, ConfigFault};
+use crate::walk::{Judge, each};
+use config_text::fault::Code;
+use config_text::noting::note_if;
 use config_text::parts::{ConfigParts, ObjectParts};
 use config_text::place::Place;
-use config_text::refusal::{Refusal, keep, refuse};
+use config_text::refusal::{PlacedFault, Refusal, refuse};
+use cosem_data::memory::Memory;
 use meter_theory::classes::is_known;
 use std::alloc::Global;
 
@@ -30,18 +29,21 @@ fn is_taken(directory: &Directory<'_>, name: &str, place: usize) -> bool
     CURRENT_ASSOCIATION == name || directory.has_object_before(name, place)
 }
 
-/// Judges whether an object's name is new at its place.
+/// Notes that an object's name isn't new at its place, where it isn't.
 fn new_object(
+    faults: &mut Vec<PlacedFault>,
     alloc: Global,
     directory: &Directory<'_>,
     i: usize,
     object: &ObjectParts,
-) -> Result<(), ConfigFault>
-    ensures { Gives (λ u. u) result (spec.new_object (take i directory.now.config.now.objects)
+) -> Result<(), Memory>
+    ensures { OnOk result (faults.new.items ≡ faults.old.items
+        ++ spec.new_object (take i directory.now.config.now.objects)
         (element_place (codes "object") i) object.now) }
 {
     let taken = is_taken(directory, object.name.as_str(), i);
-    fault_if(
+    note_if(
+        faults,
         Code::ObjectTwice,
         &Place::top(alloc, "object").element(i),
         ".name",
@@ -53,7 +55,7 @@ fn new_object(
 ///
 /// # Errors
 /// C5 at each name that an earlier object or the current association has.
-#[tactic(auto, unfolding(config_rules::specs::Passes::new_objects, config_rules::specs::Walks::each_fault_after))]
+#[tactic(auto, unfolding(config_rules::specs::Passes::new_objects, config_rules::specs::Walks::each_after))]
 pub(crate) fn new_objects(alloc: Global, directory: &Directory<'_>) -> Result<(), Refusal>
     ensures { Finds result (spec.new_objects directory.now.config.now) }
 {
@@ -61,7 +63,7 @@ pub(crate) fn new_objects(alloc: Global, directory: &Directory<'_>) -> Result<()
     let config = directory.config;
     let objects = config.objects.as_slice();
     for (i, object) in objects.iter().enumerate() {
-        keep(&mut faults, new_object(alloc, directory, i, object))?;
+        new_object(&mut faults, alloc, directory, i, object)?;
     }
     refuse(faults)
 }
@@ -74,18 +76,23 @@ struct KnownClass {
 
 impl Judge for KnownClass {
     ghost use Rattle.std.specs.Prelude.{◌++◌, codes, not};
-    ghost use Rattle.config_text.specs.Fault.{fault_if};
+    ghost use Rattle.config_text.specs.Fault.{fault_where};
     ghost use Rattle.config_text.specs.declared.fault.Code.TheVariants.{ClassUnknown};
     ghost use Rattle.meter_theory.specs.Classes.{is_known};
 
     type Part = ObjectParts;
 
-    ghost judges = { λ all at o. fault_if ClassUnknown
+    ghost judges = { λ all at o. fault_where ClassUnknown
         (at ++ codes ".class") (not (is_known all.version o.class)) };
 
-    fn judge(&self, at: &Place<'_>, object: &ObjectParts) -> Result<(), ConfigFault> {
+    fn judge(
+        &self,
+        faults: &mut Vec<PlacedFault>,
+        at: &Place<'_>,
+        object: &ObjectParts,
+    ) -> Result<(), Memory> {
         let known = is_known(self.version, object.class_id);
-        fault_if(Code::ClassUnknown, at, ".class", !known)
+        note_if(faults, Code::ClassUnknown, at, ".class", !known)
     }
 }
 
@@ -99,9 +106,12 @@ pub(crate) fn known_classes(alloc: Global, config: &ConfigParts) -> Result<(), R
 {
     let object_place = Place::top(alloc, "object");
     let version = config.version;
-    each_of(
+    let mut faults = Vec::new(alloc);
+    each(
+        &mut faults,
         &KnownClass { version },
         &object_place,
         config.objects.as_slice(),
-    )
+    )?;
+    refuse(faults)
 }

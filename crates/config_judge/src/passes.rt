@@ -28,14 +28,14 @@ use std::alloc::Global;
 /// Judges whether the names and indexes of a configuration are of good form and lead to something (own profile).
 ///
 /// # Errors
-/// The faults with the least code that is met, the first of each table of the text that has one:
-/// - C4 at the first logical name or client's name of bad form;
-/// - C5 at a name that an earlier object or the current association has;
-/// - C6 at an interface class that isn't known in the configuration's version;
-/// - C7 at the first name that no client has;
-/// - C8 at a name or service access point that an earlier client has;
-/// - C9 at the first reference to no object, to a table that is no script table, or to a script that isn't there;
-/// - C10 at the first index that the class doesn't have, or that isn't usable there;
+/// All faults with the least code that is met:
+/// - C4 at each logical name and client's name of bad form;
+/// - C5 at each name that an earlier object or the current association has;
+/// - C6 at each interface class that isn't known in the configuration's version;
+/// - C7 at each name that no client has;
+/// - C8 at each name and service access point that an earlier client has;
+/// - C9 at each reference to no object, to a table that is no script table, or to a script that isn't there;
+/// - C10 at each index that the class doesn't have, or that isn't usable there;
 /// - C0 where memory was refused, at any time.
 #[tactic(auto, unfolding(crate::specs::JudgedNames::found_in_names))]
 fn judge_names(alloc: Global, directory: &Directory<'_>) -> Result<(), Refusal>
@@ -54,7 +54,7 @@ fn judge_names(alloc: Global, directory: &Directory<'_>) -> Result<(), Refusal>
 /// Judges values, rights, labels and sizes: the codes C11 to C22, one after another.
 ///
 /// # Errors
-/// The faults with the least of the codes that is met, the first of each table of the text that has one.
+/// All faults with the least of the codes that is met.
 #[tactic(auto, unfolding(crate::specs::JudgedNames::found_in_rest))]
 fn judge_values(alloc: Global, directory: &Directory<'_>) -> Result<(), Refusal>
     ensures { Finds result (found_in_rest directory.now.config.now) }
@@ -77,8 +77,8 @@ fn judge_values(alloc: Global, directory: &Directory<'_>) -> Result<(), Refusal>
 /// Judges what the tables of a configuration say.
 ///
 /// # Errors
-/// The faults with the least of the codes C4 to C22 that is met, the first of each table of the text that has one, in their
-/// order; C0 where memory was refused, at any time.
+/// All faults with the least of the codes C4 to C22 that is met, in the order in which they are looked for; C0 where memory
+/// was refused, at any time.
 pub fn judge(alloc: Global, directory: &Directory<'_>) -> Result<(), Refusal>
     ensures { Finds result (found directory.now.config.now) }
 {

@@ -1,20 +1,20 @@
-//! What an object refers to: the objects of targets, and scripts.
+//! What an object refers to: the objects of targets, and scripts. What is found is noted behind what was found before.
 
-ghost use Rattle.std.specs.Prelude.{◌++◌, [], codes, option_map};
+ghost use Rattle.std.specs.Prelude.{◌≡◌, ◌++◌, OnOk, [], codes, option_map};
 ghost use Rattle.std.specs.Option.{unwrap_or};
 ghost use Rattle.config_text.specs.BodyView.{body_text};
-ghost use Rattle.config_text.specs.Fault.{Gives};
 ghost use Rattle.config_rules.specs.Walks as spec;
 ghost use Rattle.config_judge.specs.Menus.{menu_of, with_menu};
 
 use crate::menus::menu_in;
 use crate::walk::{Judge, each, each_below};
-use config_text::fault::ConfigFault;
 use config_text::parts::{
     ActionParts, AlternativeParts, BodyParts, CaptureParts, ScriptParts, ScriptRefParts,
     TargetParts, UpDownParts,
 };
 use config_text::place::Place;
+use config_text::refusal::PlacedFault;
+use cosem_data::memory::Memory;
 
 /// The actions of a script, each judged.
 #[derive(Drop)]
@@ -29,23 +29,27 @@ impl<'a, J: Judge<Part = ActionParts>> Judge for ScriptActions<'a, J> {
 
     ghost judges = { λ all. script_actions (J.judges all.judge.now) };
 
-    fn judge(&self, at: &Place<'_>, script: &ScriptParts) -> Result<(), ConfigFault> {
-        each_below(self.judge, at, ".action", script.actions.as_slice())
+    fn judge(
+        &self,
+        faults: &mut Vec<PlacedFault>,
+        at: &Place<'_>,
+        script: &ScriptParts,
+    ) -> Result<(), Memory> {
+        each_below(faults, self.judge, at, ".action", script.actions.as_slice())
     }
 }
 
-/// Judges each action of each script.
-///
-/// # Errors
-/// The fault of the first action that has one.
+/// Notes the faults of each action of each script.
 pub(crate) fn each_action<J: Judge<Part = ActionParts>>(
+    faults: &mut Vec<PlacedFault>,
     judge: &J,
     at: &Place<'_>,
     scripts: &[ScriptParts],
-) -> Result<(), ConfigFault>
-    ensures { Gives (λ u. u) result (spec.each_action (J.judges judge.now) at.now scripts.now) }
+) -> Result<(), Memory>
+    ensures { OnOk result (faults.new.items ≡ faults.old.items
+        ++ spec.each_action (J.judges judge.now) at.now scripts.now) }
 {
-    each_below(&ScriptActions { judge }, at, ".script", scripts)
+    each_below(faults, &ScriptActions { judge }, at, ".script", scripts)
 }
 
 /// The captured attributes of an alternative, each judged.
@@ -61,65 +65,83 @@ impl<'a, J: Judge<Part = CaptureParts>> Judge for Alternative<'a, J> {
 
     ghost judges = { λ all. each (J.judges all.judge.now) };
 
-    fn judge(&self, at: &Place<'_>, alternative: &AlternativeParts) -> Result<(), ConfigFault> {
-        each(self.judge, at, alternative.captures.as_slice())
+    fn judge(
+        &self,
+        faults: &mut Vec<PlacedFault>,
+        at: &Place<'_>,
+        alternative: &AlternativeParts,
+    ) -> Result<(), Memory> {
+        each(faults, self.judge, at, alternative.captures.as_slice())
     }
 }
 
-/// Judges each attribute that a profile captures, at the start and by each alternative.
-///
-/// # Errors
-/// The fault of the first attribute that has one.
+/// Notes the faults of each attribute that a profile captures, at the start and by each alternative.
 pub(crate) fn each_capture<J: Judge<Part = CaptureParts>>(
+    faults: &mut Vec<PlacedFault>,
     judge: &J,
     at: &Place<'_>,
     capture: &[CaptureParts],
     menu: &Option<Vec<AlternativeParts>>,
-) -> Result<(), ConfigFault>
-    ensures { Gives (λ u. u) result (spec.each_capture (J.judges judge.now) at.now
+) -> Result<(), Memory>
+    ensures { OnOk result (faults.new.items ≡ faults.old.items
+        ++ spec.each_capture (J.judges judge.now) at.now
         (with_menu capture.now menu.now)) }
 {
-    each_below(judge, at, ".capture", capture)?;
-    each_alternative(judge, at, menu)
+    each_below(faults, judge, at, ".capture", capture)?;
+    each_alternative(faults, judge, at, menu)
 }
 
-/// Judges each attribute of each alternative of a profile's menu.
+/// Notes the faults of each attribute of each alternative of a profile's menu.
 pub(crate) fn each_alternative<J: Judge<Part = CaptureParts>>(
+    faults: &mut Vec<PlacedFault>,
     judge: &J,
     at: &Place<'_>,
     menu: &Option<Vec<AlternativeParts>>,
-) -> Result<(), ConfigFault>
-    ensures { Gives (λ u. u) result (spec.each (spec.each (J.judges judge.now))
+) -> Result<(), Memory>
+    ensures { OnOk result (faults.new.items ≡ faults.old.items
+        ++ spec.each (spec.each (J.judges judge.now))
         (at.now ++ codes ".capture_menu") (unwrap_or (menu_of menu.now) [])) }
 {
-    each_below(&Alternative { judge }, at, ".capture_menu", menu_in(menu))
+    each_below(
+        faults,
+        &Alternative { judge },
+        at,
+        ".capture_menu",
+        menu_in(menu),
+    )
 }
 
 /// What is judged of an object's references.
 pub(crate) trait JudgeReferences {
-    ghost use Rattle.std.specs.Prelude.{Result, ⊤};
-    ghost use Rattle.config_text.specs.Fault.{Fault, Gives};
+    ghost use Rattle.std.specs.Prelude.{◌≡◌, ◌++◌, List, OnOk};
+    ghost use Rattle.config_text.specs.Fault.{Fault};
     ghost use Rattle.config_text.specs.Parts.{Text, TargetText, ScriptRefText};
 
-    /// Nothing found, or the first fault of the attribute or method at the place.
-    ghost targets: { Self → Text → TargetText → Result ⊤ Fault };
+    /// The faults of the attribute or method at the place.
+    ghost targets: { Self → Text → TargetText → List Fault };
 
-    /// Nothing found, or the first fault of the reference to a script at the place.
-    ghost scripts: { Self → Text → ScriptRefText → Result ⊤ Fault };
+    /// The faults of the reference to a script at the place.
+    ghost scripts: { Self → Text → ScriptRefText → List Fault };
 
-    /// Judges an attribute or method that is named at a place.
-    ///
-    /// # Errors
-    /// The first fault of it.
-    fn judge_target(&self, at: &Place<'_>, target: &TargetParts) -> Result<(), ConfigFault>
-        ensures { Gives (λ u. u) result (targets self.now at.now target.now) };
+    /// Notes the faults of an attribute or method that is named at a place.
+    fn judge_target(
+        &self,
+        faults: &mut Vec<PlacedFault>,
+        at: &Place<'_>,
+        target: &TargetParts,
+    ) -> Result<(), Memory>
+        ensures { OnOk result (faults.new.items ≡ faults.old.items
+            ++ targets self.now at.now target.now) };
 
-    /// Judges a reference to a script at a place.
-    ///
-    /// # Errors
-    /// The first fault of it.
-    fn judge_script(&self, at: &Place<'_>, script: &ScriptRefParts) -> Result<(), ConfigFault>
-        ensures { Gives (λ u. u) result (scripts self.now at.now script.now) };
+    /// Notes the faults of a reference to a script at a place.
+    fn judge_script(
+        &self,
+        faults: &mut Vec<PlacedFault>,
+        at: &Place<'_>,
+        script: &ScriptRefParts,
+    ) -> Result<(), Memory>
+        ensures { OnOk result (faults.new.items ≡ faults.old.items
+            ++ scripts self.now at.now script.now) };
 }
 
 /// What a profile captures, each judged.
@@ -133,8 +155,13 @@ impl<'a, J: JudgeReferences> Judge for Captures<'a, J> {
 
     ghost judges = { λ all at capture. J.targets all.judge.now at capture.target };
 
-    fn judge(&self, at: &Place<'_>, capture: &CaptureParts) -> Result<(), ConfigFault> {
-        self.judge.judge_target(at, &capture.target)
+    fn judge(
+        &self,
+        faults: &mut Vec<PlacedFault>,
+        at: &Place<'_>,
+        capture: &CaptureParts,
+    ) -> Result<(), Memory> {
+        self.judge.judge_target(faults, at, &capture.target)
     }
 }
 
@@ -149,8 +176,13 @@ impl<'a, J: JudgeReferences> Judge for ActionTargets<'a, J> {
 
     ghost judges = { λ all at action. J.targets all.judge.now at action.target };
 
-    fn judge(&self, at: &Place<'_>, action: &ActionParts) -> Result<(), ConfigFault> {
-        self.judge.judge_target(at, &action.target)
+    fn judge(
+        &self,
+        faults: &mut Vec<PlacedFault>,
+        at: &Place<'_>,
+        action: &ActionParts,
+    ) -> Result<(), Memory> {
+        self.judge.judge_target(faults, at, &action.target)
     }
 }
 
@@ -167,9 +199,16 @@ impl<'a, J: JudgeReferences> Judge for ThresholdScripts<'a, J> {
 
     ghost judges = { λ all. both_scripts (J.scripts all.judge.now) };
 
-    fn judge(&self, at: &Place<'_>, scripts: &UpDownParts) -> Result<(), ConfigFault> {
-        self.judge.judge_script(&at.below(".up"), &scripts.up)?;
-        self.judge.judge_script(&at.below(".down"), &scripts.down)
+    fn judge(
+        &self,
+        faults: &mut Vec<PlacedFault>,
+        at: &Place<'_>,
+        scripts: &UpDownParts,
+    ) -> Result<(), Memory> {
+        self.judge
+            .judge_script(faults, &at.below(".up"), &scripts.up)?;
+        self.judge
+            .judge_script(faults, &at.below(".down"), &scripts.down)
     }
 }
 
@@ -184,64 +223,72 @@ impl<'a, J: JudgeReferences> Judge for Runs<'a, J> {
 
     ghost judges = { λ all. J.scripts all.judge.now };
 
-    fn judge(&self, at: &Place<'_>, script: &ScriptRefParts) -> Result<(), ConfigFault> {
-        self.judge.judge_script(at, script)
+    fn judge(
+        &self,
+        faults: &mut Vec<PlacedFault>,
+        at: &Place<'_>,
+        script: &ScriptRefParts,
+    ) -> Result<(), Memory> {
+        self.judge.judge_script(faults, at, script)
     }
 }
 
-/// Judges the script of a schedule, at the start and by each alternative.
+/// Notes the faults of the script of a schedule, at the start and by each alternative.
 fn each_run<J: JudgeReferences>(
+    faults: &mut Vec<PlacedFault>,
     judge: &J,
     at: &Place<'_>,
     script: &ScriptRefParts,
     menu: &Option<Vec<ScriptRefParts>>,
-) -> Result<(), ConfigFault>
-    ensures { Gives (λ u. u) result (spec.each_run (J.scripts judge.now) at.now
+) -> Result<(), Memory>
+    ensures { OnOk result (faults.new.items ≡ faults.old.items
+        ++ spec.each_run (J.scripts judge.now) at.now
         (with_menu script.now menu.now)) }
 {
-    judge.judge_script(&at.below(".script"), script)?;
-    each_of_menu(judge, at, menu)
+    judge.judge_script(faults, &at.below(".script"), script)?;
+    each_of_menu(faults, judge, at, menu)
 }
 
-/// Judges each script of a schedule's menu.
+/// Notes the faults of each script of a schedule's menu.
 fn each_of_menu<J: JudgeReferences>(
+    faults: &mut Vec<PlacedFault>,
     judge: &J,
     at: &Place<'_>,
     menu: &Option<Vec<ScriptRefParts>>,
-) -> Result<(), ConfigFault>
-    ensures { Gives (λ u. u) result (spec.each (J.scripts judge.now)
+) -> Result<(), Memory>
+    ensures { OnOk result (faults.new.items ≡ faults.old.items ++ spec.each (J.scripts judge.now)
         (at.now ++ codes ".script_menu") (unwrap_or (menu_of menu.now) [])) }
 {
-    each_below(&Runs { judge }, at, ".script_menu", menu_in(menu))
+    each_below(faults, &Runs { judge }, at, ".script_menu", menu_in(menu))
 }
 
-/// Judges whatever an object refers to.
-///
-/// # Errors
-/// The fault of the first reference that has one.
+/// Notes the faults of whatever an object refers to.
 #[tactic(auto, unfolding(config_rules::specs::Walks::references))]
 pub(crate) fn references<J: JudgeReferences>(
+    faults: &mut Vec<PlacedFault>,
     judge: &J,
     at: &Place<'_>,
     body: &BodyParts,
-) -> Result<(), ConfigFault>
-    ensures { Gives (λ u. u) result
-        (spec.references (J.targets judge.now) (J.scripts judge.now) at.now (body_text body.now)) }
+) -> Result<(), Memory>
+    ensures { OnOk result (faults.new.items ≡ faults.old.items
+        ++ spec.references (J.targets judge.now) (J.scripts judge.now) at.now
+        (body_text body.now)) }
 {
     match body {
         BodyParts::ProfileGeneric { capture, menu, .. } => {
-            each_capture(&Captures { judge }, at, capture.as_slice(), menu)
+            each_capture(faults, &Captures { judge }, at, capture.as_slice(), menu)
         }
         BodyParts::ScriptTable { scripts } => {
-            each_action(&ActionTargets { judge }, at, scripts.as_slice())
+            each_action(faults, &ActionTargets { judge }, at, scripts.as_slice())
         }
         BodyParts::RegisterMonitor {
             monitored,
             actions,
             ..
         } => {
-            judge.judge_target(&at.below(".monitored"), monitored)?;
+            judge.judge_target(faults, &at.below(".monitored"), monitored)?;
             each_below(
+                faults,
                 &ThresholdScripts { judge },
                 at,
                 ".action",
@@ -249,7 +296,7 @@ pub(crate) fn references<J: JudgeReferences>(
             )
         }
         BodyParts::SingleActionSchedule { script, menu, .. } => {
-            each_run(judge, at, script, menu)
+            each_run(faults, judge, at, script, menu)
         }
         BodyParts::Data { .. }
         | BodyParts::Register { .. }

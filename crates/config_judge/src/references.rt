@@ -1,33 +1,38 @@
 //! C9: references to no object, to a table that is no script table, or to a script that isn't there.
 
-ghost use Rattle.std.specs.Prelude.{◌≡◌, ◌==◌};
+ghost use Rattle.std.specs.Prelude.{◌++◌, ◌≡◌, ◌==◌, OnOk};
 ghost use Rattle.std.specs.List.{list_any};
 ghost use Rattle.config_text.specs.BodyView.{body_text};
-ghost use Rattle.config_text.specs.Fault.{Gives};
 ghost use Rattle.config_text.specs.Refusals.{Finds};
 ghost use Rattle.config_rules.specs.Names.{object_named, scripts_in};
 ghost use Rattle.config_rules.specs.Passes as spec;
 
 use crate::directory::Directory;
-use crate::gathering::gather;
-use crate::judged::fault_if;
 use crate::reference_walk::{JudgeReferences, references};
-use crate::walk::Judge;
-use config_text::fault::{Code, ConfigFault};
+use crate::walk::{Judge, each};
+use config_text::fault::Code;
+use config_text::noting::{note, note_if};
 use config_text::parts::{
     BodyParts, LabelParts, ObjectParts, RightParts, ScriptParts, ScriptRefParts, TargetParts,
 };
 use config_text::place::Place;
-use config_text::refusal::{Refusal, refuse};
+use config_text::refusal::{PlacedFault, Refusal, refuse};
+use cosem_data::memory::Memory;
 use meter_theory::classes::{Class, is_of_class};
 use std::alloc::Global;
 
-/// Judges whether the object that is named at a place is there.
-fn known_object(directory: &Directory<'_>, at: &Place<'_>, name: &str) -> Result<(), ConfigFault>
-    ensures { Gives (λ u. u) result (spec.known_object directory.now.config.now at.now name.now) }
+/// Notes that the object that is named at a place isn't there, where it isn't.
+fn known_object(
+    faults: &mut Vec<PlacedFault>,
+    directory: &Directory<'_>,
+    at: &Place<'_>,
+    name: &str,
+) -> Result<(), Memory>
+    ensures { OnOk result (faults.new.items ≡ faults.old.items
+        ++ spec.known_object directory.now.config.now at.now name.now) }
 {
     let known = directory.has_object(name);
-    fault_if(Code::Reference, at, ".object", !known)
+    note_if(faults, Code::Reference, at, ".object", !known)
 }
 
 /// The scripts of a script table, none of another object.
@@ -67,20 +72,24 @@ fn has_script(scripts: &[ScriptParts], script: i64) -> bool
     }
 }
 
-/// Judges whether a script is there.
+/// Notes that a table is no script table, or else that the script isn't in it, where it isn't.
 #[tactic(auto, unfolding(config_rules::specs::Passes::known_script))]
 fn known_script(
+    faults: &mut Vec<PlacedFault>,
     directory: &Directory<'_>,
     at: &Place<'_>,
     script: &ScriptRefParts,
-) -> Result<(), ConfigFault>
-    ensures { Gives (λ u. u) result (spec.known_script directory.now.config.now at.now script.now) }
+) -> Result<(), Memory>
+    ensures { OnOk result (faults.new.items ≡ faults.old.items
+        ++ spec.known_script directory.now.config.now at.now script.now) }
 {
     let table = script.table.as_str();
     let is_table = is_of_class(directory.class(table), Class::ScriptTable);
-    fault_if(Code::Reference, at, ".table", !is_table)?;
+    if !is_table {
+        return note(faults, Code::Reference, at, ".table");
+    }
     let known = has_script(scripts_of(directory, table), script.script);
-    fault_if(Code::Reference, at, ".script", !known)
+    note_if(faults, Code::Reference, at, ".script", !known)
 }
 
 /// What an object refers to.
@@ -96,12 +105,22 @@ impl<'d, 'c> JudgeReferences for KnownReference<'d, 'c> {
 
     ghost scripts = { λ all. known_script all.directory.now.config.now };
 
-    fn judge_target(&self, at: &Place<'_>, target: &TargetParts) -> Result<(), ConfigFault> {
-        known_object(self.directory, at, target.object.as_str())
+    fn judge_target(
+        &self,
+        faults: &mut Vec<PlacedFault>,
+        at: &Place<'_>,
+        target: &TargetParts,
+    ) -> Result<(), Memory> {
+        known_object(faults, self.directory, at, target.object.as_str())
     }
 
-    fn judge_script(&self, at: &Place<'_>, script: &ScriptRefParts) -> Result<(), ConfigFault> {
-        known_script(self.directory, at, script)
+    fn judge_script(
+        &self,
+        faults: &mut Vec<PlacedFault>,
+        at: &Place<'_>,
+        script: &ScriptRefParts,
+    ) -> Result<(), Memory> {
+        known_script(faults, self.directory, at, script)
     }
 }
 
@@ -121,9 +140,14 @@ impl<'d, 'c> Judge for ObjectReferences<'d, 'c> {
         references (λ at t. known_object all.directory.now.config.now at t.object)
         (known_script all.directory.now.config.now) at o.body };
 
-    fn judge(&self, at: &Place<'_>, object: &ObjectParts) -> Result<(), ConfigFault> {
+    fn judge(
+        &self,
+        faults: &mut Vec<PlacedFault>,
+        at: &Place<'_>,
+        object: &ObjectParts,
+    ) -> Result<(), Memory> {
         let directory = self.directory;
-        references(&KnownReference { directory }, at, &object.body)
+        references(faults, &KnownReference { directory }, at, &object.body)
     }
 }
 
@@ -140,8 +164,13 @@ impl<'d, 'c> Judge for RightObject<'d, 'c> {
 
     ghost judges = { λ all at r. known_object all.directory.now.config.now at r.object };
 
-    fn judge(&self, at: &Place<'_>, right: &RightParts) -> Result<(), ConfigFault> {
-        known_object(self.directory, at, right.object.as_str())
+    fn judge(
+        &self,
+        faults: &mut Vec<PlacedFault>,
+        at: &Place<'_>,
+        right: &RightParts,
+    ) -> Result<(), Memory> {
+        known_object(faults, self.directory, at, right.object.as_str())
     }
 }
 
@@ -158,15 +187,20 @@ impl<'d, 'c> Judge for LabelObject<'d, 'c> {
 
     ghost judges = { λ all at l. known_object all.directory.now.config.now at l.target.object };
 
-    fn judge(&self, at: &Place<'_>, label: &LabelParts) -> Result<(), ConfigFault> {
-        known_object(self.directory, at, label.target.object.as_str())
+    fn judge(
+        &self,
+        faults: &mut Vec<PlacedFault>,
+        at: &Place<'_>,
+        label: &LabelParts,
+    ) -> Result<(), Memory> {
+        known_object(faults, self.directory, at, label.target.object.as_str())
     }
 }
 
 /// Judges whether all that is referred to is there: objects, script tables, and their scripts.
 ///
 /// # Errors
-/// C9 at the first reference of each object, right and label to no object, to a table that is no script table, or to a script that isn't in its table.
+/// C9 at each reference to no object, to a table that is no script table, or to a script that isn't in its table.
 #[tactic(auto, unfolding(config_rules::specs::Passes::known_references))]
 pub(crate) fn known_references(alloc: Global, directory: &Directory<'_>) -> Result<(), Refusal>
     ensures { Finds result (spec.known_references directory.now.config.now) }
@@ -175,7 +209,7 @@ pub(crate) fn known_references(alloc: Global, directory: &Directory<'_>) -> Resu
     let mut faults = Vec::new(alloc);
     let objects = config.objects.as_slice();
     let object_place = Place::top(alloc, "object");
-    gather(
+    each(
         &mut faults,
         &ObjectReferences { directory },
         &object_place,
@@ -183,7 +217,7 @@ pub(crate) fn known_references(alloc: Global, directory: &Directory<'_>) -> Resu
     )?;
     let rights = config.rights.as_slice();
     let right_place = Place::top(alloc, "right");
-    gather(
+    each(
         &mut faults,
         &RightObject { directory },
         &right_place,
@@ -191,7 +225,7 @@ pub(crate) fn known_references(alloc: Global, directory: &Directory<'_>) -> Resu
     )?;
     let labels = config.labels.as_slice();
     let label_place = Place::top(alloc, "label");
-    gather(
+    each(
         &mut faults,
         &LabelObject { directory },
         &label_place,

@@ -3,13 +3,13 @@ ghost use Rattle.config_text.specs.Refusals.{Finds};
 ghost use Rattle.config_rules.specs.Passes as passes;
 
 use crate::directory::Directory;
-use crate::gathering::each_of;
-use crate::judged::fault_if;
-use crate::walk::{Judge, each_below};
-use config_text::fault::{Code, ConfigFault};
+use crate::walk::{Judge, each, each_below};
+use config_text::fault::Code;
+use config_text::noting::note_if;
 use config_text::parts::RightParts;
 use config_text::place::Place;
-use config_text::refusal::Refusal;
+use config_text::refusal::{PlacedFault, Refusal, refuse};
+use cosem_data::memory::Memory;
 use std::alloc::Global;
 
 /// Attributes that can be set, of the object with this logical name.
@@ -21,19 +21,24 @@ struct Settable<'d, 'c> {
 
 impl<'d, 'c> Judge for Settable<'d, 'c> {
     ghost use Rattle.std.specs.Prelude.{not};
-    ghost use Rattle.config_text.specs.Fault.{fault_if};
+    ghost use Rattle.config_text.specs.Fault.{fault_where};
     ghost use Rattle.config_text.specs.declared.fault.Code.TheVariants.{NotSettable};
     ghost use Rattle.meter_theory.specs.Classes.{is_settable};
     ghost use Rattle.config_rules.specs.Names.{passes_or_chosen};
 
     type Part = u8;
 
-    ghost judges = { λ all at index. fault_if NotSettable at
+    ghost judges = { λ all at index. fault_where NotSettable at
         (not (passes_or_chosen all.directory.now.config.now is_settable all.object.now index)) };
 
-    fn judge(&self, at: &Place<'_>, index: &u8) -> Result<(), ConfigFault> {
+    fn judge(
+        &self,
+        faults: &mut Vec<PlacedFault>,
+        at: &Place<'_>,
+        index: &u8,
+    ) -> Result<(), Memory> {
         let settable = self.directory.is_settable(self.object, *index);
-        fault_if(Code::NotSettable, at, "", !settable)
+        note_if(faults, Code::NotSettable, at, "", !settable)
     }
 }
 
@@ -45,7 +50,7 @@ struct SettableRights<'d, 'c> {
 
 impl<'d, 'c> Judge for SettableRights<'d, 'c> {
     ghost use Rattle.std.specs.Prelude.{◌++◌, codes, not};
-    ghost use Rattle.config_text.specs.Fault.{fault_if};
+    ghost use Rattle.config_text.specs.Fault.{fault_where};
     ghost use Rattle.config_text.specs.declared.fault.Code.TheVariants.{NotSettable};
     ghost use Rattle.meter_theory.specs.Classes.{is_settable};
     ghost use Rattle.config_rules.specs.Names.{passes_or_chosen};
@@ -53,22 +58,27 @@ impl<'d, 'c> Judge for SettableRights<'d, 'c> {
 
     type Part = RightParts;
 
-    ghost judges = { λ all at r. walks.each (λ at index. fault_if NotSettable at
+    ghost judges = { λ all at r. walks.each (λ at index. fault_where NotSettable at
         (not (passes_or_chosen all.directory.now.config.now is_settable r.object index)))
         (at ++ codes ".set") r.sets };
 
-    fn judge(&self, at: &Place<'_>, right: &RightParts) -> Result<(), ConfigFault> {
+    fn judge(
+        &self,
+        faults: &mut Vec<PlacedFault>,
+        at: &Place<'_>,
+        right: &RightParts,
+    ) -> Result<(), Memory> {
         let directory = self.directory;
         let object = right.object.as_str();
         let sets = right.sets.as_slice();
-        each_below(&Settable { directory, object }, at, ".set", sets)
+        each_below(faults, &Settable { directory, object }, at, ".set", sets)
     }
 }
 
 /// Judges the rights to set.
 ///
 /// # Errors
-/// C12 at the first index of each right that isn't that of a settable cell.
+/// C12 at each index that isn't that of a settable cell.
 #[tactic(auto, unfolding(config_rules::specs::Passes::settable_rights))]
 pub(crate) fn settable_rights(alloc: Global, directory: &Directory<'_>) -> Result<(), Refusal>
     ensures { Finds result (passes.settable_rights directory.now.config.now) }
@@ -76,5 +86,12 @@ pub(crate) fn settable_rights(alloc: Global, directory: &Directory<'_>) -> Resul
     let config = directory.config;
     let rights = config.rights.as_slice();
     let right_place = Place::top(alloc, "right");
-    each_of(&SettableRights { directory }, &right_place, rights)
+    let mut faults = Vec::new(alloc);
+    each(
+        &mut faults,
+        &SettableRights { directory },
+        &right_place,
+        rights,
+    )?;
+    refuse(faults)
 }

@@ -5,16 +5,16 @@ ghost use Rattle.config_text.specs.Refusals.{Finds};
 ghost use Rattle.config_rules.specs.Passes as passes;
 
 use crate::directory::Directory;
-use crate::gathering::each_of;
-use crate::judged::fault_if;
 use crate::reference_walk::each_action;
 use crate::references::{has_id, scripts_in};
-use crate::walk::{Judge, JudgeNew, each_new};
-use config_text::fault::{Code, ConfigFault};
+use crate::walk::{Judge, JudgeNew, each, each_new};
+use config_text::fault::Code;
+use config_text::noting::note_if;
 use config_text::parts::{ActionParts, BodyParts, ConfigParts, ObjectParts, ScriptParts};
 use config_text::place::Place;
-use config_text::refusal::Refusal;
+use config_text::refusal::{PlacedFault, Refusal, refuse};
 use config_text::service::Service;
+use cosem_data::memory::Memory;
 use meter_theory::classes::{Class, is_of_class};
 use std::alloc::Global;
 
@@ -31,12 +31,13 @@ impl JudgeNew for NewScript {
 
     fn judge(
         &self,
+        faults: &mut Vec<PlacedFault>,
         earlier: &[ScriptParts],
         at: &Place<'_>,
         script: &ScriptParts,
-    ) -> Result<(), ConfigFault> {
+    ) -> Result<(), Memory> {
         let taken = script.id == 0 || has_id(earlier, u64::from(script.id));
-        fault_if(Code::ScriptId, at, ".id", taken)
+        note_if(faults, Code::ScriptId, at, ".id", taken)
     }
 }
 
@@ -54,21 +55,38 @@ impl Judge for NewScripts {
 
     ghost judges = { λ _ at o. walks.each_new new_script (at ++ codes ".script") (scripts_in o.body) };
 
-    fn judge(&self, at: &Place<'_>, object: &ObjectParts) -> Result<(), ConfigFault> {
-        each_new(&NewScript, &at.below(".script"), scripts_in(&object.body))
+    fn judge(
+        &self,
+        faults: &mut Vec<PlacedFault>,
+        at: &Place<'_>,
+        object: &ObjectParts,
+    ) -> Result<(), Memory> {
+        each_new(
+            faults,
+            &NewScript,
+            &at.below(".script"),
+            scripts_in(&object.body),
+        )
     }
 }
 
 /// Judges the identifiers of scripts.
 ///
 /// # Errors
-/// C14 at the first identifier of each table that is 0 or that of an earlier script.
+/// C14 at each identifier that is 0 or that of an earlier script of its table.
 #[tactic(auto, unfolding(config_rules::specs::Passes::new_scripts))]
 pub(crate) fn new_scripts(alloc: Global, config: &ConfigParts) -> Result<(), Refusal>
     ensures { Finds result (passes.new_scripts config.now) }
 {
     let object_place = Place::top(alloc, "object");
-    each_of(&NewScripts, &object_place, config.objects.as_slice())
+    let mut faults = Vec::new(alloc);
+    each(
+        &mut faults,
+        &NewScripts,
+        &object_place,
+        config.objects.as_slice(),
+    )?;
+    refuse(faults)
 }
 
 /// Whether an action executes a script table.
@@ -95,9 +113,14 @@ impl<'d, 'c> Judge for NoExecute<'d, 'c> {
 
     ghost judges = { λ all. no_execute all.directory.now.config.now };
 
-    fn judge(&self, at: &Place<'_>, action: &ActionParts) -> Result<(), ConfigFault> {
+    fn judge(
+        &self,
+        faults: &mut Vec<PlacedFault>,
+        at: &Place<'_>,
+        action: &ActionParts,
+    ) -> Result<(), Memory> {
         let executes = executes(self.directory, action);
-        fault_if(Code::Execute, at, ".object", executes)
+        note_if(faults, Code::Execute, at, ".object", executes)
     }
 }
 
@@ -117,16 +140,26 @@ impl<'d, 'c> Judge for NoExecutes<'d, 'c> {
     ghost judges = { λ all at o. walks.each_action (no_execute all.directory.now.config.now) at
         (scripts_in o.body) };
 
-    fn judge(&self, at: &Place<'_>, object: &ObjectParts) -> Result<(), ConfigFault> {
+    fn judge(
+        &self,
+        faults: &mut Vec<PlacedFault>,
+        at: &Place<'_>,
+        object: &ObjectParts,
+    ) -> Result<(), Memory> {
         let directory = self.directory;
-        each_action(&NoExecute { directory }, at, scripts_in(&object.body))
+        each_action(
+            faults,
+            &NoExecute { directory },
+            at,
+            scripts_in(&object.body),
+        )
     }
 }
 
 /// Judges what scripts execute.
 ///
 /// # Errors
-/// C15 at the first action of each table that calls a method of a script table.
+/// C15 at each action that calls a method of a script table.
 #[tactic(auto, unfolding(config_rules::specs::Passes::no_executes))]
 pub(crate) fn no_executes(alloc: Global, directory: &Directory<'_>) -> Result<(), Refusal>
     ensures { Finds result (passes.no_executes directory.now.config.now) }
@@ -134,5 +167,12 @@ pub(crate) fn no_executes(alloc: Global, directory: &Directory<'_>) -> Result<()
     let config = directory.config;
     let objects = config.objects.as_slice();
     let object_place = Place::top(alloc, "object");
-    each_of(&NoExecutes { directory }, &object_place, objects)
+    let mut faults = Vec::new(alloc);
+    each(
+        &mut faults,
+        &NoExecutes { directory },
+        &object_place,
+        objects,
+    )?;
+    refuse(faults)
 }

@@ -1,5 +1,5 @@
 //! C11: values that aren't hex, aren't one Data, or aren't of their kind, and times of clocks that are no moments.
-ghost use Rattle.std.specs.Prelude.{◌≡◌, ◌==◌, ◌&&◌, ◌++◌, IfOk, codes, length, map, not, is_some};
+ghost use Rattle.std.specs.Prelude.{◌≡◌, ◌==◌, ◌&&◌, ◌++◌, OnOk, IfOk, codes, length, map, not, is_some};
 ghost use Rattle.std.specs.List.{list_all, list_any};
 ghost use Rattle.cosem_data.specs.View.{tree};
 ghost use Rattle.cosem_data.specs.Equal.{same_tree};
@@ -11,9 +11,8 @@ ghost use Rattle.meter_theory.specs.Times.{are_execution_times};
 ghost use Rattle.civil_moment.specs.MomentText.{moment_in};
 ghost use Rattle.value_text.specs.Texts.{value_in};
 ghost use Rattle.config_text.specs.BodyView.{body_text};
-ghost use Rattle.config_text.specs.Fault.{Gives};
 ghost use Rattle.config_text.specs.Refusals.{Finds};
-ghost use Rattle.config_text.specs.Fault as faults;
+ghost use Rattle.config_text.specs.Fault.{fault_where};
 ghost use Rattle.config_text.specs.declared.fault.Code.TheVariants.{Value};
 ghost use Rattle.config_rules.specs.Names.{object_named};
 ghost use Rattle.config_rules.specs.Passes as passes;
@@ -22,32 +21,32 @@ ghost use Rattle.config_rules.specs.PlanOf as plan;
 ghost use Rattle.config_rules.specs.Walks as walks;
 ghost use Rattle.config_rules.specs.Written as written;
 ghost use Rattle.config_rules.specs.Written.{is_one_of};
-ghost use Rattle.config_judge.specs.Lines.{followed_by};
 ghost use Rattle.config_judge.specs.Menus.{with_menu};
-ghost use Rattle.config_judge.specs.Values.{may_be_thresholds, of_kind};
+ghost use Rattle.config_judge.specs.Values.{may_be_thresholds};
 
 use crate::directory::Directory;
-use crate::gathering::each_of;
-use crate::judged::fault_if;
-use crate::kinds::{has_kind, is_number, is_of_kind, kind_at, may_be_number, start_kind_in};
+use crate::kinds::{
+    has_kind, is_number, is_of_kind, kind_at, may_be_number, number_kind, start_kind_in,
+};
 use crate::menus::menu_in;
 use crate::reference_walk::each_action;
 use crate::targets::{cells_named, script_named};
 use crate::value::{is_moment_text, is_time_text, is_value, kind_in};
-use crate::walk::{Judge, each_below};
+use crate::walk::{Judge, each, each_below};
 use class_control::clock::judge_time;
 use class_control::judge::elements_of;
 use class_control::menus::is_executed_script;
 use class_control::times::are_execution_times;
 use class_profile::menus::is_capture_objects;
-use config_text::fault::{Code, ConfigFault};
+use config_text::fault::Code;
 use config_text::hex_value::{HexBytes, HexValue};
+use config_text::noting::note_if;
 use config_text::parts::{
     ActionParts, AlternativeParts, BodyParts, CaptureParts, ObjectParts, ScriptRefParts,
     TargetParts, UpDownParts,
 };
 use config_text::place::Place;
-use config_text::refusal::Refusal;
+use config_text::refusal::{PlacedFault, Refusal, refuse};
 use config_text::service::Service;
 use cosem_data::data::Data;
 use cosem_data::kind::Kind;
@@ -269,9 +268,14 @@ impl<'d, 'c> Judge for ActionValue<'d, 'c> {
 
     ghost judges = { λ all. valid_action_value all.directory.now.config.now };
 
-    fn judge(&self, at: &Place<'_>, action: &ActionParts) -> Result<(), ConfigFault> {
+    fn judge(
+        &self,
+        faults: &mut Vec<PlacedFault>,
+        at: &Place<'_>,
+        action: &ActionParts,
+    ) -> Result<(), Memory> {
         let right = action_value(at.alloc(), self.directory, action)?;
-        fault_if(Code::Value, at, ".value", !right)
+        note_if(faults, Code::Value, at, ".value", !right)
     }
 }
 
@@ -282,14 +286,19 @@ struct Threshold {
 }
 
 impl Judge for Threshold {
-    ghost use Rattle.config_judge.specs.Values.{of_kind};
+    ghost use Rattle.config_rules.specs.Passes.{threshold_value};
 
     type Part = HexValue;
 
-    ghost judges = { λ all. of_kind all.kind };
+    ghost judges = { λ all. threshold_value all.kind };
 
-    fn judge(&self, at: &Place<'_>, hex: &HexValue) -> Result<(), ConfigFault> {
-        fault_if(Code::Value, at, "", !is_of_kind(self.kind, hex))
+    fn judge(
+        &self,
+        faults: &mut Vec<PlacedFault>,
+        at: &Place<'_>,
+        hex: &HexValue,
+    ) -> Result<(), Memory> {
+        note_if(faults, Code::Value, at, "", !is_of_kind(self.kind, hex))
     }
 }
 
@@ -299,99 +308,119 @@ struct TimeText;
 
 impl Judge for TimeText {
     ghost use Rattle.std.specs.Prelude.{not};
-    ghost use Rattle.config_text.specs.Fault.{fault_if};
+    ghost use Rattle.config_text.specs.Fault.{fault_where};
     ghost use Rattle.config_text.specs.declared.fault.Code.TheVariants.{Value};
     ghost use Rattle.config_rules.specs.Values.{is_time_text};
 
     type Part = HexBytes;
 
-    ghost judges = { λ _ at text. fault_if Value at (not (is_time_text text)) };
+    ghost judges = { λ _ at text. fault_where Value at (not (is_time_text text)) };
 
-    fn judge(&self, at: &Place<'_>, hex: &HexBytes) -> Result<(), ConfigFault> {
+    fn judge(
+        &self,
+        faults: &mut Vec<PlacedFault>,
+        at: &Place<'_>,
+        hex: &HexBytes,
+    ) -> Result<(), Memory> {
         let is_time = is_time_text(at.alloc(), hex)?;
-        fault_if(Code::Value, at, "", !is_time)
+        note_if(faults, Code::Value, at, "", !is_time)
     }
 }
 
 /// The value of a data object.
-fn data_value(at: &Place<'_>, value: &HexValue) -> Result<(), ConfigFault>
-    ensures { Gives (λ u. u) result (faults.fault_if Value
+fn data_value(faults: &mut Vec<PlacedFault>, at: &Place<'_>, value: &HexValue) -> Result<(), Memory>
+    ensures { OnOk result (faults.new.items ≡ faults.old.items ++ fault_where Value
         (at.now ++ codes ".value") (not (is_some (value_in value.now)))) }
 {
-    fault_if(Code::Value, at, ".value", !is_value(value))
+    note_if(faults, Code::Value, at, ".value", !is_value(value))
 }
 
-/// The value and the default of a register.
-fn register_values(at: &Place<'_>, value: &HexValue, default: &HexValue) -> Result<(), ConfigFault>
-    ensures { Gives (λ u. u) result (followed_by (faults.fault_if Value
-        (at.now ++ codes ".value") (not (spec.is_number (spec.kind_in value.now))))
-        (faults.fault_if Value (at.now ++ codes ".default")
-        (not (spec.is_of_kind (spec.kind_in value.now) (value_in default.now))))) }
+/// The value and the default of a register. The default is of the value's kind, where this is one of numbers.
+fn register_values(
+    faults: &mut Vec<PlacedFault>,
+    at: &Place<'_>,
+    value: &HexValue,
+    default: &HexValue,
+) -> Result<(), Memory>
+    ensures { OnOk result (faults.new.items ≡ faults.old.items
+        ++ (fault_where Value (at.now ++ codes ".value") (not (spec.is_number (spec.kind_in value.now)))
+        ++ fault_where Value (at.now ++ codes ".default")
+        (not (spec.is_of_kind (spec.number_kind (spec.kind_in value.now)) (value_in default.now))))) }
 {
     let kind = kind_in(value);
-    fault_if(Code::Value, at, ".value", !is_number(kind))?;
-    fault_if(Code::Value, at, ".default", !is_of_kind(kind, default))
+    note_if(faults, Code::Value, at, ".value", !is_number(kind))?;
+    let fits = is_of_kind(number_kind(kind), default);
+    note_if(faults, Code::Value, at, ".default", !fits)
 }
 
 /// The time of a clock.
-fn clock_time(at: &Place<'_>, time: &str) -> Result<(), ConfigFault>
-    ensures { Gives (λ u. u) result (faults.fault_if Value
+fn clock_time(faults: &mut Vec<PlacedFault>, at: &Place<'_>, time: &str) -> Result<(), Memory>
+    ensures { OnOk result (faults.new.items ≡ faults.old.items ++ fault_where Value
         (at.now ++ codes ".time") (not (is_some (moment_in time.now)))) }
 {
-    fault_if(Code::Value, at, ".time", !is_moment_text(time))
+    note_if(faults, Code::Value, at, ".time", !is_moment_text(time))
 }
 
-/// Judges the thresholds of a monitor of a value of this kind.
-fn thresholds(at: &Place<'_>, kind: Option<Kind>, texts: &[HexValue]) -> Result<(), ConfigFault>
-    ensures { Gives (λ u. u) result
-        (walks.each (of_kind kind) (at.now ++ codes ".thresholds") texts.now) }
+/// Notes the thresholds that aren't values of a kind.
+fn thresholds(
+    faults: &mut Vec<PlacedFault>,
+    at: &Place<'_>,
+    kind: Option<Kind>,
+    texts: &[HexValue],
+) -> Result<(), Memory>
+    ensures { OnOk result (faults.new.items ≡ faults.old.items
+        ++ walks.each (passes.threshold_value kind) (at.now ++ codes ".thresholds") texts.now) }
 {
-    each_below(&Threshold { kind }, at, ".thresholds", texts)
+    each_below(faults, &Threshold { kind }, at, ".thresholds", texts)
 }
 
-/// The monitored value is a number, and the thresholds are of its kind.
+/// The monitored value is a number, and the thresholds are of its kind, where it is.
 fn monitor_values(
+    faults: &mut Vec<PlacedFault>,
     directory: &Directory<'_>,
     at: &Place<'_>,
     monitored: &TargetParts,
     texts: &[HexValue],
-) -> Result<(), ConfigFault>
-    ensures { Gives (λ u. u) result (followed_by
-        (faults.fault_if Value (at.now ++ codes ".monitored.index")
-        (not (spec.may_be_number (spec.kind_named directory.now.config.now monitored.now.object))))
-        (walks.each (of_kind (spec.kind_named directory.now.config.now monitored.now.object))
+) -> Result<(), Memory>
+    ensures { OnOk result (faults.new.items ≡ faults.old.items
+        ++ (fault_where Value (at.now ++ codes ".monitored.index")
+        (not (spec.may_be_number (spec.kind_named directory.now.config.now monitored.now.object)))
+        ++ walks.each (passes.threshold_value
+        (spec.number_kind (spec.kind_named directory.now.config.now monitored.now.object)))
         (at.now ++ codes ".thresholds") texts.now)) }
 {
     let kind = kind_at(directory, monitored);
     let right = may_be_number(kind);
-    fault_if(Code::Value, at, ".monitored.index", !right)?;
-    thresholds(at, kind, texts)
+    note_if(faults, Code::Value, at, ".monitored.index", !right)?;
+    thresholds(faults, at, number_kind(kind), texts)
 }
 
 /// The values in an object's body.
 #[tactic(auto, unfolding(config_rules::specs::Passes::valid_values_in))]
 fn valid_values_in(
+    faults: &mut Vec<PlacedFault>,
     directory: &Directory<'_>,
     at: &Place<'_>,
     body: &BodyParts,
-) -> Result<(), ConfigFault>
-    ensures { Gives (λ u. u) result (passes.valid_values_in directory.now.config.now at.now
+) -> Result<(), Memory>
+    ensures { OnOk result (faults.new.items ≡ faults.old.items
+        ++ passes.valid_values_in directory.now.config.now at.now
         (body_text body.now)) }
 {
     match body {
-        BodyParts::Data { value } => data_value(at, value),
-        BodyParts::Register { value, default, .. } => register_values(at, value, default),
-        BodyParts::Clock { time } => clock_time(at, time.as_str()),
+        BodyParts::Data { value } => data_value(faults, at, value),
+        BodyParts::Register { value, default, .. } => register_values(faults, at, value, default),
+        BodyParts::Clock { time } => clock_time(faults, at, time.as_str()),
         BodyParts::ScriptTable { scripts } => {
-            each_action(&ActionValue { directory }, at, scripts.as_slice())
+            each_action(faults, &ActionValue { directory }, at, scripts.as_slice())
         }
         BodyParts::RegisterMonitor {
             monitored,
             thresholds,
             ..
-        } => monitor_values(directory, at, monitored, thresholds.as_slice()),
+        } => monitor_values(faults, directory, at, monitored, thresholds.as_slice()),
         BodyParts::SingleActionSchedule { times, .. } => {
-            each_below(&TimeText, at, ".times", times.as_slice())
+            each_below(faults, &TimeText, at, ".times", times.as_slice())
         }
         BodyParts::ProfileGeneric { .. } | BodyParts::Unknown => Ok(()),
     }
@@ -410,16 +439,21 @@ impl<'d, 'c> Judge for ObjectValues<'d, 'c> {
 
     ghost judges = { λ all at o. valid_values_in all.directory.now.config.now at o.body };
 
-    fn judge(&self, at: &Place<'_>, object: &ObjectParts) -> Result<(), ConfigFault> {
-        valid_values_in(self.directory, at, &object.body)
+    fn judge(
+        &self,
+        faults: &mut Vec<PlacedFault>,
+        at: &Place<'_>,
+        object: &ObjectParts,
+    ) -> Result<(), Memory> {
+        valid_values_in(faults, self.directory, at, &object.body)
     }
 }
 
 /// Judges the values of each object.
 ///
 /// # Errors
-/// C11 at the first text of each object that isn't hex, isn't one Data, or isn't of the kind that is asked for there, and at a
-/// clock's time that is no moment.
+/// C11 at each text that isn't hex, isn't one Data, or isn't of the kind that is asked for there, and at a clock's time that is
+/// no moment.
 #[tactic(auto, unfolding(config_rules::specs::Passes::valid_values))]
 pub(crate) fn valid_values(alloc: Global, directory: &Directory<'_>) -> Result<(), Refusal>
     ensures { Finds result (passes.valid_values directory.now.config.now) }
@@ -427,5 +461,12 @@ pub(crate) fn valid_values(alloc: Global, directory: &Directory<'_>) -> Result<(
     let config = directory.config;
     let objects = config.objects.as_slice();
     let object_place = Place::top(alloc, "object");
-    each_of(&ObjectValues { directory }, &object_place, objects)
+    let mut faults = Vec::new(alloc);
+    each(
+        &mut faults,
+        &ObjectValues { directory },
+        &object_place,
+        objects,
+    )?;
+    refuse(faults)
 }

@@ -1,4 +1,4 @@
--- What a configuration's text says, or its first fault; and all the faults of the pass that finds this one.
+-- What a configuration's text says, or its first fault; and every fault that the pass finds which finds this one.
 use Rattle.std.specs.Prelude.{◌≡◌, List, [], ◌∷◌, Result, Ok, Err}
 use Rattle.meter_theory.specs.Labels.{Policy}
 use Rattle.meter_theory.specs.Plan.{Plan}
@@ -31,7 +31,7 @@ abbrev pub faults_in : Result ConfigText Fault → List Fault
 faults_in (Ok c) = found c
 faults_in (Err fault) = []
 
--- all the faults of the first pass over the text that has any: the first of each of its tables that has one (own profile)
+-- every fault that is found by the first pass over the text that finds any (own profile)
 unfoldable pub faults_of : Text → List Fault
 faults_of text = first_found (table_faults text ∷ faults_in (tables_of text) ∷ [])
 

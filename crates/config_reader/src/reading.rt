@@ -52,8 +52,8 @@ fn make(alloc: Global, parts: ConfigParts, resolved: Resolved) -> Result<(Plan, 
 /// The plan and the policy of a configuration's text.
 ///
 /// # Errors
-/// All the faults of the first pass that has any, C1 to C22: the first of each table of the text that has one, in the order in
-/// which they are looked for; C0 where memory was refused, at any time.
+/// Every fault of the first pass that has any, C1 to C22, in the order in which they are looked for; C0 where memory was
+/// refused, at any time.
 #[tactic(auto, unfolding(crate::specs::ConfigOf::config_of, crate::specs::ConfigOf::faults_of, config_rules::specs::Passes::judged))]
 pub fn read_or_refuse(alloc: Global, text: &str) -> Result<(Plan, Policy), Refusal>
     ensures { ReadsOrRefuses result (config_of text.now) (faults_of text.now) }

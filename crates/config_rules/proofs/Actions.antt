@@ -1,5 +1,5 @@
 -- What the actions of scripts write and call is there.
-use Rattle.std.proofs.Common.{◌≡◌, ℕ, ◌==◌, Bool, true, false, cond, not, List, [], ◌∷◌, map, length, refl, sym, ap, subst, ◌∙◌, Option, Some, None, eqb-true, eq-eqb, nat_le, Ok}
+use Rattle.std.proofs.Common.{◌≡◌, ℕ, ◌==◌, Bool, true, false, cond, not, List, [], ◌∷◌, map, length, refl, sym, ap, subst, ◌∙◌, Option, Some, None, eqb-true, eq-eqb, nat_le}
 use Rattle.std.specs.Prelude.{option_map, option_and_then, ◌&&◌}
 use Rattle.std.proofs.lemmas.Bool.{and_parts, and_from, or_parts, false≢true}
 use Rattle.std.proofs.lemmas.List.{length-map}
@@ -33,7 +33,8 @@ use Rattle.config_rules.specs.Values.{kind_in, has_kind, kind_named}
 use Rattle.config_rules.specs.Written.{is_one_of, may_stand, may_stand_at}
 use Rattle.config_rules.specs.PlanOf.{captures_of, scripts_of as choice_of, part_of, plan_of, value_of, or_else, cell_named, method_named, up_down_of, script_of, action_of, parameter_of}
 use Rattle.config_rules.specs.Passes as passes
-use Rattle.config_rules.proofs.Passed.{then_ok, holds, not_faulty, each_ok, each_action_ok, EachReference}
+use Rattle.config_rules.proofs.Nothing.{both_none, holds, not_faulty, each_ok}
+use Rattle.config_rules.proofs.Passed.{each_action_ok, EachReference}
 use Rattle.config_rules.proofs.Cells.{IsRight, IsTarget, settable_cell, rule_at}
 use Rattle.config_rules.proofs.Starts.{IsStart, of_body, data_start, register_start}
 use Rattle.config_rules.proofs.Scripts.{IsScript}
@@ -116,7 +117,7 @@ meets_rule c ok o i UnknownText is index rule h v stands limit = cc
 pub record IsAction (c : ConfigText) (a : ActionText) : Type 0 where
   pub object : ObjectText
   pub target : IsTarget c a.target.object object
-  pub index : (at : Text) × (passes.usable_action c a.service at a.target ≡ Ok tt)
+  pub index : (at : Text) × (passes.usable_action c a.service at a.target ≡ [])
   pub value : passes.action_value c a.service a.target a.value ≡ true
   pub plain : passes.executes c a ≡ false
   pub limit : passes.is_small (option_and_then value_in a.value) ≡ true
@@ -127,15 +128,15 @@ unfolding passes.usable_indexes passes.valid_values_in passes.limits_in passes.s
 action_at c ok o i scripts is s j a k =
     let refers = subst (EachReference (λ t. (p : ObjectText) × IsTarget c t.object p) (IsScript c)) is (known_of c ok o i) s j a k in
     let found = of_body c ok o i (ScriptTableText scripts) is in
-    let few = then_ok (passes.at_most limits.SCRIPTS _ scripts) _ tt found.limits.1 in
-    let actions = then_ok (passes.at_most limits.ACTIONS _ s.actions) _ tt (each_ok _ _ _ _ few.2 s j).1 in
+    let few = both_none (passes.at_most limits.SCRIPTS _ scripts) _ found.limits.1 in
+    let actions = both_none (passes.at_most limits.ACTIONS _ s.actions) _ (each_ok _ _ _ _ few.1 s j).1 in
     record {
       object = refers.0;
       target = refers.1;
       index = each_action_ok _ _ scripts found.indexes.1 s j a k;
       value = holds _ _ _ (each_action_ok _ _ scripts found.values.1 s j a k).1;
       plain = not_faulty _ _ _ (each_action_ok _ _ scripts found.executes.1 s j a k).1;
-      limit = holds _ _ _ (each_ok _ _ _ _ actions.2 a k).1;
+      limit = holds _ _ _ (each_ok _ _ _ _ actions.1 a k).1;
     }
 
 -- the value that is written
@@ -167,7 +168,7 @@ action_writes : (c : ConfigText) → IsRight c → (a : ActionText) → IsAction
     theory.Write x v ≡ action_of c service a.target a.value → IsWrite (plan_of c) x v
 action_writes c ok a act services.Invoke is x v e = cc
 action_writes c ok a act services.Write is x v e =
-    let index = subst (λ s. passes.usable_action c s act.index.0 a.target ≡ Ok tt) is act.index.1 in
+    let index = subst (λ s. passes.usable_action c s act.index.0 a.target ≡ []) is act.index.1 in
     let place = settable_cell c ok a.target act.object act.target (holds _ _ _ index) in
     let written = written_value c a act.object act.target.is (subst (λ s. passes.action_value c s a.target a.value ≡ true) is act.value) act.limit in
     let cell_is : x ≡ cell_named c a.target = cc in
@@ -186,7 +187,7 @@ action_calls : (c : ConfigText) (a : ActionText) → IsAction c a → (service :
     theory.Invoke m v ≡ action_of c service a.target a.value → has_plain_method (plan_of c) m ≡ true
 action_calls c a act services.Write is m v e = cc
 action_calls c a act services.Invoke is m v e =
-    let index = subst (λ s. passes.usable_action c s act.index.0 a.target ≡ Ok tt) is act.index.1 in
+    let index = subst (λ s. passes.usable_action c s act.index.0 a.target ≡ []) is act.index.1 in
     let method : has_method (class_named c a.target.object) a.target.index ≡ true = holds _ _ _ index in
     let plain : (class_named c a.target.object == 9) ≡ false =
     (or_parts (class_named c a.target.object == 9) false

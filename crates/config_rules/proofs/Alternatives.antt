@@ -1,5 +1,5 @@
 -- The alternatives of a menu are distinct.
-use Rattle.std.proofs.Common.{◌≡◌, ◌⊎◌, ℕ, arith, ◌==◌, Bool, true, not, List, [], ◌∷◌, map, refl, sym, ap, subst, ◌∙◌, inl, inr, Option, Some, None, is_some, eqb-true, eq-eqb, Ok}
+use Rattle.std.proofs.Common.{◌≡◌, ◌⊎◌, ℕ, arith, ◌==◌, Bool, true, not, List, [], ◌∷◌, map, refl, sym, ap, subst, ◌∙◌, inl, inr, Option, Some, None, is_some, eqb-true, eq-eqb}
 use Rattle.std.specs.Prelude.{ℤ, pos, negsuc, int_le, unsigned_abs, ◌&&◌}
 use Rattle.std.specs.List.{list_all, list_any}
 use Rattle.std.specs.Str.{bytes_eq}
@@ -12,14 +12,15 @@ use Rattle.meter_theory.specs.Lists.{IsIn, AreDistinct}
 use Rattle.meter_theory.specs.Sound.{HasOwnAlternatives, is_script_number}
 use Rattle.meter_theory.proofs.Lists.{none_in, any_in, in_map, from_map}
 use Rattle.config_text.specs.declared.fault.Code.TheVariants as code
-use Rattle.config_text.specs.Fault.{fault_if}
+use Rattle.config_text.specs.Fault.{fault_where}
 use Rattle.config_text.specs.Parts.{Text, MenuText, ConfigText, ObjectText, TargetText, CaptureText, ScriptRefText, ScriptText, BodyText, DataText, RegisterText, ProfileText, ClockText, ScriptTableText, MonitorText, ScheduleText, UnknownText}
 use Rattle.config_rules.specs.Names.{object_named, class_named, menu_in, scripts_in}
 use Rattle.config_rules.specs.PlanOf.{part_of, cell_named, cells_named, script_named, script_number}
 use Rattle.config_rules.specs.Read.{has_ranges}
 use Rattle.config_rules.specs.Passes as passes
 use Rattle.config_rules.specs.Walks.{each_new}
-use Rattle.config_rules.proofs.Passed.{then_ok, holds, not_faulty, each_new_distinct, each_new_in, alternatives_in, EachReference, AsksNewKey, each_passed}
+use Rattle.config_rules.proofs.Nothing.{neither_found, holds, not_faulty, each_new_distinct, each_new_in, AsksNewKey, each_ok}
+use Rattle.config_rules.proofs.Passed.{alternatives_in, EachReference}
 use Rattle.config_rules.proofs.Named.{IsName, one_text, found_named}
 use Rattle.config_rules.proofs.Cells.{IsRight}
 use Rattle.config_rules.proofs.Fits.{IsFound, found_of}
@@ -37,7 +38,7 @@ distinct_keys key stands (x ∷ xs) tells distinct = (other, distinct_keys key s
 
 -- alternatives that were each judged against what is configured and those before them differ in a key
 alternatives_new : {A K : Type 0} (key : A → K) (same : A → A → Bool) → ((x y : A) → key x ≡ key y → same x y ≡ true) → (name : Text) (m : MenuText A) →
-    each_new (passes.new_alternative same m.start) name (menu_in m) ≡ Ok tt → AreDistinct (map key (alternatives_in m))
+    each_new (passes.new_alternative same m.start) name (menu_in m) ≡ [] → AreDistinct (map key (alternatives_in m))
 alternatives_new key same told name m h = (not_start, each_new_distinct key (passes.new_alternative same m.start) other name (menu_in m) h)
   where
     other : AsksNewKey key (passes.new_alternative same m.start)
@@ -145,8 +146,8 @@ ranges_in UnknownText h = refl
 found_number : (c : ConfigText) → IsRight c → (r : ScriptRefText) → IsFound c r → IsNumber r.script
 unfolding passes.known_script
 found_number c ok r found =
-    let both = then_ok (fault_if code.Reference _ (not (is_of_class (class_named c r.table) classes.ScriptTable))) _ tt found.1 in
-    at (object_named c r.table) refl (holds _ _ _ both.2)
+    let both = neither_found (fault_where code.Reference _ (not (is_of_class (class_named c r.table) classes.ScriptTable))) _ found.1 in
+    at (object_named c r.table) refl (holds _ _ _ both.1)
   where
     at : (o : Option ObjectText) → object_named c r.table ≡ o → passes.has_script (passes.scripts_of o) r.script ≡ true → IsNumber r.script
     at None is h = known_number [] r.script refl h
@@ -167,8 +168,8 @@ own_alternatives c ok o i (DataText value) is = tt
 own_alternatives c ok o i (RegisterText value default scaler unit) is = tt
 own_alternatives c ok o i (ProfileText captures period entries sort_method) is =
     let names = subst (EachReference (λ t. IsName t.object) (λ r. IsName r.table)) is (ok.names.references o i) in
-    let at = each_passed _ _ _ _ ok.judged.alternatives o i in
-    let new = subst (λ b. passes.new_alternatives_in at.0 b ≡ Ok tt) is at.1 in
+    let at = each_ok _ _ _ _ ok.judged.alternatives o i in
+    let new = subst (λ b. passes.new_alternatives_in at.0 b ≡ []) is at.1 in
     distinct_keys targets (cells_named c) (alternatives_in captures) (λ xs ys j k. one_capture c xs ys (names xs j) (names ys k))
     (alternatives_new targets passes.same_captures same_captures _ captures new)
 own_alternatives c ok o i (ClockText time) is = tt
@@ -177,8 +178,8 @@ own_alternatives c ok o i (MonitorText monitored ths actions) is = tt
 own_alternatives c ok o i (ScheduleText script type times) is =
     let names = subst (EachReference (λ t. IsName t.object) (λ r. IsName r.table)) is (ok.names.references o i) in
     let found = subst (EachReference (λ t. is_some (object_named c t.object) ≡ true) (IsFound c)) is (found_of c ok o i) in
-    let at = each_passed _ _ _ _ ok.judged.alternatives o i in
-    let new = subst (λ b. passes.new_alternatives_in at.0 b ≡ Ok tt) is at.1 in
+    let at = each_ok _ _ _ _ ok.judged.alternatives o i in
+    let new = subst (λ b. passes.new_alternatives_in at.0 b ≡ []) is at.1 in
     distinct_keys (λ r. r) script_named (alternatives_in script) (λ r s j k. one_script r s (names r j) (names s k) (found_number c ok r (found r j)) (found_number c ok s (found s k)))
     (alternatives_new (λ r. r) passes.same_script same_script _ script new)
 own_alternatives c ok o i UnknownText is = tt

@@ -1,5 +1,5 @@
 -- The cells that a configuration names are cells of its plan, with their rules.
-use Rattle.std.proofs.Common.{◌≡◌, ℕ, ◌==◌, Bool, true, false, cond, not, List, [], ◌∷◌, map, length, nat_lt, refl, sym, ap, subst, ◌∙◌, inl, inr, Option, Some, None, is_some, eqb-true, eq-eqb, ◌++◌, Ok}
+use Rattle.std.proofs.Common.{◌≡◌, ℕ, ◌==◌, Bool, true, false, cond, not, List, [], ◌∷◌, map, length, nat_lt, refl, sym, ap, subst, ◌∙◌, inl, inr, Option, Some, None, is_some, eqb-true, eq-eqb, ◌++◌}
 use Rattle.std.specs.Prelude.{◌||◌, ◌&&◌, option_map, option_and_then, codes}
 use Rattle.std.specs.Option.{unwrap_or}
 use Rattle.std.proofs.lemmas.Bool.{or_cases, and_parts, cond-true, false≢true, not-true}
@@ -18,12 +18,13 @@ use Rattle.meter_theory.proofs.Menus.{in_menu, in_period, in_script, in_times}
 use Rattle.meter_theory.proofs.Rights.{cell_of_found}
 use Rattle.config_text.specs.Parts.{Text, ConfigText, ObjectText, TargetText, BodyText, DataText, RegisterText, ProfileText, ClockText, ScriptTableText, MonitorText, ScheduleText, UnknownText}
 use Rattle.config_text.specs.declared.fault.Code.TheVariants.{ClassUnknown, Limit}
-use Rattle.config_text.specs.Fault.{fault_if}
+use Rattle.config_text.specs.Fault.{fault_where}
 use Rattle.config_rules.specs.Names.{object_named, class_named, class_in, has_menu_key, menu_key_of, passes_or_chosen}
 use Rattle.config_rules.specs.Read.{is_body_of, IsRead}
 use Rattle.config_rules.specs.Passes as passes
 use Rattle.config_rules.specs.PlanOf.{part_of, object_of, plan_of, name_of, cell_named, cells_named, captures_of, script_named, scripts_of, times_value}
-use Rattle.config_rules.proofs.Passed.{then_ok, holds, IsJudged, each_passed, limits_parts}
+use Rattle.config_rules.proofs.Nothing.{both_none, holds, each_ok}
+use Rattle.config_rules.proofs.Passed.{IsJudged, limits_parts, profile_limits}
 use Rattle.config_rules.proofs.Named.{IsName, AreNames, AreNew, names_ok, names_new, finds, found_named, object_at_named}
 
 -- a settable cell of an object: its rule, and its start value
@@ -94,21 +95,18 @@ class_is c class (ScheduleText script type times) b k = only_place _ class (and_
 class_is c class UnknownText b k = absurd (false≢true (sym (not-true (is_known c.version class) b) ∙ k))
 
 -- a menu that is there has alternatives
-menu_there : {A B : Type 0} (f : A → B) (at : Text) (menu : Option (List A)) → passes.menu_size at menu ≡ Ok tt → is_some menu ≡ true → has_any (map f (unwrap_or menu [])) ≡ true
+menu_there : {A B : Type 0} (f : A → B) (at : Text) (menu : Option (List A)) → passes.menu_size at menu ≡ [] → is_some menu ≡ true → has_any (map f (unwrap_or menu [])) ≡ true
 menu_there f at None h some = absurd (false≢true some)
 menu_there f at (Some []) h some = cc
 menu_there f at (Some (x ∷ xs)) h some = refl
 
-menus_there : (c : ConfigText) (at : Text) (body : BodyText) → passes.limits_in at body ≡ Ok tt → HasMenuOfKey c body
+menus_there : (c : ConfigText) (at : Text) (body : BodyText) → passes.limits_in at body ≡ [] → HasMenuOfKey c body
 unfolding passes.limits_in
 menus_there c at (ProfileText captures period entries sort_method) h =
-    let few = then_ok (passes.at_most limits.CAPTURE_OBJECTS _ captures.start) _ tt h in
-    let size = then_ok (fault_if Limit _ (nat_lt limits.PROFILE_ENTRIES entries)) _ tt few.2 in
-    let menu = then_ok (passes.menu_size _ captures.menu) _ tt size.2 in
-    menu_there (cells_named c) _ captures.menu menu.1
+    menu_there (cells_named c) _ captures.menu (profile_limits at captures period entries sort_method h).2
 menus_there c at (ScheduleText script type times) h =
-    let few = then_ok (fault_if Limit _ (nat_lt limits.EXECUTION_TIMES (length times) || not (is_within_limits (times_value times)))) _ tt h in
-    menu_there script_named _ script.menu few.2
+    let few = both_none (fault_where Limit _ (nat_lt limits.EXECUTION_TIMES (length times) || not (is_within_limits (times_value times)))) _ h in
+    menu_there script_named _ script.menu few.1
 menus_there c at (DataText value) h = λ none. absurd (false≢true none)
 menus_there c at (RegisterText value default scaler unit) h = λ none. absurd (false≢true none)
 menus_there c at (ClockText time) h = λ none. absurd (false≢true none)
@@ -132,9 +130,9 @@ right c read judged = record {
   read = read;
   names = names_ok c judged.forms;
   new = names_new c judged.objects;
-  known = λ o i. let at = each_passed (λ place p. fault_if ClassUnknown (place ++ codes ".class") (not (is_known c.version p.class))) (codes "object") 0 c.objects judged.classes o i in
+  known = λ o i. let at = each_ok (λ place p. fault_where ClassUnknown (place ++ codes ".class") (not (is_known c.version p.class))) (codes "object") 0 c.objects judged.classes o i in
       holds ClassUnknown (at.0 ++ codes ".class") (is_known c.version o.class) at.1;
-  menus = λ o i. let at = each_passed (λ place p. passes.limits_in place p.body) (codes "object") 0 c.objects (limits_parts c judged.limits).2 o i in
+  menus = λ o i. let at = each_ok (λ place p. passes.limits_in place p.body) (codes "object") 0 c.objects (limits_parts c judged.limits).2 o i in
       menus_there c at.0 o.body at.1;
 }
 

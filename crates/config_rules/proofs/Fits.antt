@@ -1,5 +1,5 @@
 -- What each settable cell starts with meets its rule.
-use Rattle.std.proofs.Common.{◌≡◌, ℕ, ◌==◌, Bool, true, false, cond, not, List, [], ◌∷◌, ◌++◌, map, length, refl, sym, ap, subst, ◌∙◌, inl, inr, Option, Some, None, is_some, eqb-true, eq-eqb, nat_lt, Ok}
+use Rattle.std.proofs.Common.{◌≡◌, ℕ, ◌==◌, Bool, true, false, cond, not, List, [], ◌∷◌, ◌++◌, map, length, refl, sym, ap, subst, ◌∙◌, inl, inr, Option, Some, None, is_some, eqb-true, eq-eqb, nat_lt}
 use Rattle.std.specs.Prelude.{ℤ, ◌&&◌, ◌||◌}
 use Rattle.std.proofs.lemmas.Bool.{or_parts, and_from, not-false, false≢true}
 use Rattle.std.proofs.lemmas.List.{length-map}
@@ -28,7 +28,7 @@ use Rattle.meter_theory.proofs.Lists.{from_map, from_flat_map}
 use Rattle.meter_theory.proofs.Menus.{in_menu, in_period, profile_entry, in_script, in_times, schedule_entry}
 use Rattle.meter_theory.proofs.MenuSizes.{captures-within, script-within}
 use Rattle.config_text.specs.declared.fault.Code.TheVariants.{Limit, Value}
-use Rattle.config_text.specs.Fault.{fault_if}
+use Rattle.config_text.specs.Fault.{fault_where}
 use Rattle.config_text.specs.Parts.{Text, MenuText, CaptureText, ConfigText, ObjectText, TargetText, ScriptRefText, UpDownText, BodyText, DataText, RegisterText, ProfileText, ClockText, ScriptTableText, MonitorText, ScheduleText, UnknownText}
 use Rattle.config_rules.specs.Names.{object_named}
 use Rattle.value_text.specs.Texts.{value_in}
@@ -36,22 +36,23 @@ use Rattle.config_rules.specs.Values.{is_of_kind, kind_named, may_be_number}
 use Rattle.config_rules.specs.PlanOf.{part_of, object_of, plan_of, name_of, value_of, moment_of, or_else, thresholds_value, times_value, cell_named, captures_of, scripts_of, up_down_of}
 use Rattle.config_rules.specs.Passes as passes
 use Rattle.config_rules.proofs.Named.{IsName}
-use Rattle.config_rules.proofs.Passed.{then_ok, holds, not_faulty, each_ok, references_ok, EachReference, each_passed, references_parts}
+use Rattle.config_rules.proofs.Nothing.{both_none, holds, not_faulty, each_ok}
+use Rattle.config_rules.proofs.Passed.{references_ok, EachReference, references_parts}
 use Rattle.config_rules.proofs.Clocks.{moment_there}
 use Rattle.config_rules.proofs.Cells.{IsRight, IsTarget, target_of}
-use Rattle.config_rules.proofs.Starts.{IsStart, values_at, of_body, data_start, register_start, rule_body, start_body}
+use Rattle.config_rules.proofs.Starts.{IsStart, number_known, values_at, of_body, data_start, register_start, rule_body, start_body}
 use Rattle.config_rules.proofs.Scripts.{IsScript, known_script}
 use Rattle.config_rules.proofs.Sizes.{AreProfileSizes, AreScheduleSizes, profile_sizes, schedule_sizes}
 use Rattle.config_rules.proofs.Monitored.{IsKept, monitored_cell}
 
 -- a script that was looked up at some place, and found
 abbrev pub IsFound : ConfigText → ScriptRefText → Type 0
-IsFound c r = (place : Text) × (passes.known_script c place r ≡ Ok tt)
+IsFound c r = (place : Text) × (passes.known_script c place r ≡ [])
 
 -- whatever an object refers to was looked up
 pub found_of : (c : ConfigText) → IsRight c → (o : ObjectText) → IsIn c.objects o → EachReference (λ t. is_some (object_named c t.object) ≡ true) (IsFound c) o.body
 found_of c ok o i =
-    let at = each_passed _ _ _ _ (references_parts c ok.judged.references).0 o i in
+    let at = each_ok _ _ _ _ (references_parts c ok.judged.references).0 o i in
     references_ok (λ t. is_some (object_named c t.object) ≡ true) (IsFound c) _ _ (λ place t h. holds _ _ _ h) (λ place r h. (place, h)) at.0 o.body at.1
 
 -- and is there: the objects of targets, and scripts
@@ -104,11 +105,12 @@ thresholds_fit c ok o i monitored ths actions is =
     let source = monitor_source c ok o i monitored ths actions is in
     let found = of_body c ok o i (MonitorText monitored ths actions) is in
     let count : (length ths == length actions) ≡ true = holds _ _ _ found.counts.1 in
-    let small = then_ok (fault_if Limit _ (nat_lt limits.THRESHOLDS (length ths) || not (is_within_limits (thresholds_value ths)))) _ tt found.limits.1 in
-    let limit = not-false (is_within_limits (thresholds_value ths)) (or_parts (nat_lt limits.THRESHOLDS (length ths)) _ (not_faulty _ _ _ small.1)).1 in
-    let texts = then_ok (fault_if Value _ (not (may_be_number (kind_named c monitored.object)))) _ tt found.values.1 in
+    let small = both_none (fault_where Limit _ (nat_lt limits.THRESHOLDS (length ths) || not (is_within_limits (thresholds_value ths)))) _ found.limits.1 in
+    let limit = not-false (is_within_limits (thresholds_value ths)) (or_parts (nat_lt limits.THRESHOLDS (length ths)) _ (not_faulty _ _ _ small.0)).1 in
+    let texts = both_none (fault_where Value _ (not (may_be_number (kind_named c monitored.object)))) _ found.values.1 in
+    let known = number_known (kind_named c monitored.object) (holds _ _ _ texts.0) in
     let each_kind : (text : Text) → IsIn ths text → is_of_kind (kind_named c monitored.object) (value_in text) ≡ true = λ text j.
-    holds _ _ _ (each_ok _ _ _ _ texts.2 text j).1 in
+    subst (λ k. is_of_kind k (value_in text) ≡ true) known (holds _ _ _ (each_ok _ _ _ _ texts.1 text j).1) in
     let kinds = all_kinds (kind_of source.0) (kind_named c monitored.object) source.1.kind ths each_kind in
     subst (λ z. meets (Thresholds (length (map up_down_of actions)) (kind_of z)) (thresholds_value ths) ≡ true) (sym source.1.starts)
     (and_from (is_within_limits (thresholds_value ths)) _ limit
@@ -123,8 +125,8 @@ pub times_fit : (c : ConfigText) → IsRight c → (o : ObjectText) → IsIn c.o
 unfolding passes.limits_in passes.valid_times_in
 times_fit c ok o i script type times is =
     let found = of_body c ok o i (ScheduleText script type times) is in
-    let size = then_ok (fault_if Limit _ (nat_lt limits.EXECUTION_TIMES (length times) || not (is_within_limits (times_value times)))) _ tt found.limits.1 in
-    let limit = not-false (is_within_limits (times_value times)) (or_parts (nat_lt limits.EXECUTION_TIMES (length times)) _ (not_faulty _ _ _ size.1)).1 in
+    let size = both_none (fault_where Limit _ (nat_lt limits.EXECUTION_TIMES (length times) || not (is_within_limits (times_value times)))) _ found.limits.1 in
+    let limit = not-false (is_within_limits (times_value times)) (or_parts (nat_lt limits.EXECUTION_TIMES (length times)) _ (not_faulty _ _ _ size.0)).1 in
     and_from (is_within_limits (times_value times)) _ limit (holds _ _ _ found.times.1)
 
 -- the configured alternative is one of those of its menu

@@ -7,6 +7,7 @@ pub mod Indexes
 pub mod Monitored
 pub mod Named
 pub mod NoMenus
+pub mod Nothing
 pub mod Objects
 pub mod OneClock
 pub mod Passed

@@ -1,5 +1,5 @@
 -- Names of objects: as texts, and as logical names.
-use Rattle.std.proofs.Common.{◌≡◌, ℕ, ◌==◌, Bool, true, false, cond, List, [], ◌∷◌, ◌++◌, map, length, find, refl, sym, ap, subst, ◌∙◌, inl, inr, Option, Some, None, is_some, eq-eqb, Ok}
+use Rattle.std.proofs.Common.{◌≡◌, ℕ, ◌==◌, Bool, true, false, cond, List, [], ◌∷◌, ◌++◌, map, length, find, refl, sym, ap, subst, ◌∙◌, inl, inr, Option, Some, None, is_some, eq-eqb}
 use Rattle.std.specs.Prelude.{option_map, codes, if◌then◌else◌}
 use Rattle.std.specs.Str.{bytes_eq}
 use Rattle.std.specs.List.{list_any}
@@ -16,14 +16,15 @@ use Rattle.meter_theory.specs.ClientNames.{may_be_named}
 use Rattle.meter_theory.specs.Lists.{IsIn, AreDistinct}
 use Rattle.meter_theory.specs.Plan.{object_at, association_name}
 use Rattle.meter_theory.proofs.Lists.{none_in, found, none_found, in_map, from_map, one_of_key}
-use Rattle.config_text.specs.Fault.{fault_if}
+use Rattle.config_text.specs.Fault.{fault_where}
 use Rattle.config_text.specs.declared.fault.Code.TheVariants.{ObjectTwice, ClientTwice}
 use Rattle.config_text.specs.Parts.{Text, ConfigText, ClientText, ObjectText, RightText}
 use Rattle.value_text.specs.Texts.{name_in}
 use Rattle.config_rules.specs.Names.{object_named}
 use Rattle.config_rules.specs.PlanOf.{name_of, no_name, or_else, object_of, plan_of}
 use Rattle.config_rules.specs.Passes as passes
-use Rattle.config_rules.proofs.Passed.{then_ok, holds, not_faulty, each_new_distinct, each_new_in, references_ok, EachReference, AsksNewKey, each_passed, each_new_faultless, forms_parts}
+use Rattle.config_rules.proofs.Nothing.{both_none, holds, not_faulty, each_new_distinct, each_new_in, AsksNewKey, each_ok}
+use Rattle.config_rules.proofs.Passed.{references_ok, EachReference, forms_parts}
 
 -- the text is a logical name
 abbrev pub IsName : Text → Type 0
@@ -104,7 +105,7 @@ pub record AreNames (c : ConfigText) : Type 0 where
   pub rights : (r : RightText) → IsIn c.rights r → IsName r.object
   pub clients : (client : ClientText) → IsIn c.clients client → may_be_named c.version client.name ≡ true
 
-is_name_at : (at text : Text) → passes.logical_form at text ≡ Ok tt → IsName text
+is_name_at : (at text : Text) → passes.logical_form at text ≡ [] → IsName text
 is_name_at at text h = named text (holds _ _ _ h)
 
 pub names_ok : (c : ConfigText) → passes.forms c ≡ [] → AreNames c
@@ -112,14 +113,14 @@ unfolding passes.object_forms passes.right_forms
 names_ok c h =
     let all = forms_parts c h in
     let parts : (o : ObjectText) → IsIn c.objects o → IsName o.name × EachReference (λ t. IsName t.object) (λ r. IsName r.table) o.body = λ o i.
-    let at = each_passed _ _ _ _ all.1 o i in
-    let both = then_ok (passes.logical_form _ o.name) _ tt at.1 in
-    (is_name_at _ o.name both.1, references_ok _ _ _ _ (λ place t. is_name_at _ t.object) (λ place r. is_name_at _ r.table) at.0 o.body both.2) in
+    let at = each_ok _ _ _ _ all.1 o i in
+    let both = both_none (passes.logical_form _ o.name) _ at.1 in
+    (is_name_at _ o.name both.0, references_ok _ _ _ _ (λ place t. is_name_at _ t.object) (λ place r. is_name_at _ r.table) at.0 o.body both.1) in
     record {
       objects = λ o i. (parts o i).0;
       references = λ o i. (parts o i).1;
-      rights = λ r i. is_name_at _ r.object (then_ok (passes.client_form c.version _ r.client) _ tt (each_passed _ _ _ _ all.2 r i).1).2;
-      clients = λ client i. holds _ _ _ (each_passed _ _ _ _ all.0 client i).1;
+      rights = λ r i. is_name_at _ r.object (both_none (passes.client_form c.version _ r.client) _ (each_ok _ _ _ _ all.2 r i).1).1;
+      clients = λ client i. holds _ _ _ (each_ok _ _ _ _ all.0 client i).1;
     }
 
 -- each object has a name of its own, as a text
@@ -129,7 +130,7 @@ AreNew c = AreDistinct (map (λ o. o.name) c.objects)
 -- no two objects have one name, and none has that of the current association
 pub names_new : (c : ConfigText) → passes.new_objects c ≡ [] → AreNew c
 unfolding passes.new_objects
-names_new c h = each_new_distinct (λ o. o.name) passes.new_object other (codes "object") c.objects (each_new_faultless _ _ _ h)
+names_new c h = each_new_distinct (λ o. o.name) passes.new_object other (codes "object") c.objects h
   where
     other : AsksNewKey (λ o. o.name) passes.new_object
     other earlier at o ok y i e =
@@ -139,23 +140,23 @@ names_new c h = each_new_distinct (λ o. o.name) passes.new_object other (codes 
 -- no two clients have one name
 pub client_names_new : (c : ConfigText) → passes.new_clients c ≡ [] → AreDistinct (map (λ client. client.name) c.clients)
 unfolding passes.new_clients passes.new_client
-client_names_new c h = each_new_distinct (λ client. client.name) passes.new_client other (codes "client") c.clients (each_new_faultless _ _ _ h)
+client_names_new c h = each_new_distinct (λ client. client.name) passes.new_client other (codes "client") c.clients h
   where
     other : AsksNewKey (λ client. client.name) passes.new_client
     other earlier at client ok y i e =
-        let first = then_ok (fault_if ClientTwice (at ++ codes ".name") (list_any (λ z. bytes_eq z.name client.name) earlier)) _ tt ok in
-        let none = not_faulty ClientTwice (at ++ codes ".name") _ first.1 in
+        let first = both_none (fault_where ClientTwice (at ++ codes ".name") (list_any (λ z. bytes_eq z.name client.name) earlier)) _ ok in
+        let none = not_faulty ClientTwice (at ++ codes ".name") _ first.0 in
         absurd (false≢true (sym (none_in (λ z. bytes_eq z.name client.name) earlier y none i) ∙ (bytes_eq-Decides y.name client.name).1 e))
 
 -- and no two have one service access point
 pub saps_new : (c : ConfigText) → passes.new_clients c ≡ [] → AreDistinct (map (λ client. client.sap) c.clients)
 unfolding passes.new_clients passes.new_client
-saps_new c h = each_new_distinct (λ client. client.sap) passes.new_client other (codes "client") c.clients (each_new_faultless _ _ _ h)
+saps_new c h = each_new_distinct (λ client. client.sap) passes.new_client other (codes "client") c.clients h
   where
     other : AsksNewKey (λ client. client.sap) passes.new_client
     other earlier at client ok y i e =
-        let first = then_ok (fault_if ClientTwice (at ++ codes ".name") (list_any (λ z. bytes_eq z.name client.name) earlier)) _ tt ok in
-        let none = not_faulty ClientTwice (at ++ codes ".sap") _ first.2 in
+        let first = both_none (fault_where ClientTwice (at ++ codes ".name") (list_any (λ z. bytes_eq z.name client.name) earlier)) _ ok in
+        let none = not_faulty ClientTwice (at ++ codes ".sap") _ first.1 in
         absurd (false≢true (sym (none_in (λ z. z.sap == client.sap) earlier y none i) ∙ eq-eqb y.sap client.sap e))
 
 is_association : name_of (codes "0.0.40.0.0.255") ≡ association_name
@@ -169,7 +170,7 @@ association_text = (0 ∷ 0 ∷ 40 ∷ 0 ∷ 0 ∷ 255 ∷ [], refl)
 pub names_apart : (c : ConfigText) → AreNames c → passes.new_objects c ≡ [] → (o : ObjectText) → IsIn c.objects o → same_name (name_of o.name) association_name ≡ false
 unfolding passes.new_objects
 names_apart c names h o i =
-    let r = each_new_in passes.new_object (codes "object") c.objects (each_new_faultless _ _ _ h) o i in
+    let r = each_new_in passes.new_object (codes "object") c.objects h o i in
     let apart = (or_parts (bytes_eq (codes "0.0.40.0.0.255") o.name) (list_any (λ z. bytes_eq z.name o.name) r.0) (not_faulty ObjectTwice (r.1 ++ codes ".name") _ r.2)).0 in
     false_from_ne_true (same_name (name_of o.name) association_name) (λ same.
     let e : codes "0.0.40.0.0.255" ≡ o.name = one_text (codes "0.0.40.0.0.255") o.name association_text (names.objects o i)

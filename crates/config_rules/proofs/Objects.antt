@@ -10,14 +10,14 @@ use Rattle.meter_theory.specs.State.{value}
 use Rattle.meter_theory.specs.Plan.{class_of, start_values}
 use Rattle.meter_theory.specs.Sound.{has_ranges, has_numbers, is_script_number}
 use Rattle.config_text.specs.declared.fault.Code.TheVariants as code
-use Rattle.config_text.specs.Fault.{fault_if}
+use Rattle.config_text.specs.Fault.{fault_where}
 use Rattle.config_text.specs.Parts.{Text, ConfigText, ObjectText, TargetText, UpDownText, BodyText, DataText, RegisterText, ProfileText, ClockText, ScriptTableText, MonitorText, ScheduleText, UnknownText}
 use Rattle.config_rules.specs.Names.{target_is}
 use Rattle.config_rules.specs.Values.{kind_in, kind_named, is_number, may_be_number}
 use Rattle.config_rules.specs.PlanOf.{part_of, plan_of, value_of, script_of, cell_named}
 use Rattle.config_rules.specs.Read as texts
 use Rattle.config_rules.specs.Passes as passes
-use Rattle.config_rules.proofs.Passed.{then_ok, holds, not_faulty, each_passed}
+use Rattle.config_rules.proofs.Nothing.{both_none, holds, not_faulty, each_ok}
 use Rattle.config_rules.proofs.Cells.{IsRight, class_is}
 use Rattle.config_rules.proofs.Starts.{IsStart, of_body, register_start}
 use Rattle.config_rules.proofs.Fits.{monitor_source}
@@ -39,7 +39,7 @@ may_be false may h is = absurd (false≢true is)
 pub fed_of_class : (c : ConfigText) → IsRight c → (o : ObjectText) → IsIn c.objects o → o.fed ≡ true → may_be_fed (class_of (part_of c o.body)) ≡ true
 unfolding passes.fed_values
 fed_of_class c ok o i fed =
-    let at = each_passed _ _ _ _ ok.judged.inputs o i in
+    let at = each_ok _ _ _ _ ok.judged.inputs o i in
     subst (λ k. may_be_fed k ≡ true) (class_of_text c ok o i) (may_be o.fed (may_be_fed o.class) (not_faulty _ _ _ at.1) fed)
 
 -- Numbers
@@ -64,8 +64,8 @@ register_number : (c : ConfigText) → IsRight c → (o : ObjectText) → IsIn c
 unfolding passes.valid_values_in
 register_number c ok o i text default scaler unit is =
     let found = of_body c ok o i (RegisterText text default scaler unit) is in
-    let right = then_ok (fault_if code.Value _ (not (is_number (kind_in text)))) _ tt found.values.1 in
-    number_of_start text (register_start c ok o i text default scaler unit is).0 (holds _ _ _ right.1)
+    let right = both_none (fault_where code.Value _ (not (is_number (kind_in text)))) _ found.values.1 in
+    number_of_start text (register_start c ok o i text default scaler unit is).0 (holds _ _ _ right.0)
 
 monitored_number : (c : ConfigText) → IsRight c → (o : ObjectText) → IsIn c.objects o → (monitored : TargetText) (ths : List Text) (actions : List UpDownText) →
     o.body ≡ MonitorText monitored ths actions → has_numbers (plan_of c) (part_of c (MonitorText monitored ths actions)) ≡ true
@@ -74,8 +74,8 @@ monitored_number c ok o i monitored ths actions is =
     let source = monitor_source c ok o i monitored ths actions is in
     let found = of_body c ok o i (MonitorText monitored ths actions) is in
     let place : target_is c is_monitorable monitored ≡ true = holds _ _ _ found.indexes.1 in
-    let kind = then_ok (fault_if code.Value _ (not (may_be_number (kind_named c monitored.object)))) _ tt found.values.1 in
-    let number = subst (λ k. may_be_number k ≡ true) source.1.kind (holds _ _ _ kind.1) in
+    let kind = both_none (fault_where code.Value _ (not (may_be_number (kind_named c monitored.object)))) _ found.values.1 in
+    let number = subst (λ k. may_be_number k ≡ true) source.1.kind (holds _ _ _ kind.0) in
     and_from (target_is c is_monitorable monitored) (is_number_kind (kind_of (value (start_values (plan_of c)) (cell_named c monitored)))) place
     (subst (λ v. is_number_kind (kind_of v) ≡ true) (sym source.1.starts) number)
 

@@ -16,7 +16,8 @@ use Rattle.config_rules.specs.Passes.{is_clock, new_clock, judged}
 use Rattle.config_rules.specs.PlanOf.{object_of, plan_of}
 use Rattle.config_rules.specs.Read.{IsRead}
 use Rattle.config_rules.specs.Walks.{each_after, element_place}
-use Rattle.config_rules.proofs.Passed.{then_ok, not_faulty, passed, each_passed, each_new_faultless}
+use Rattle.config_rules.proofs.Nothing.{both_none, not_faulty, each_ok}
+use Rattle.config_rules.proofs.Passed.{passed}
 use Rattle.config_rules.proofs.Cells.{IsRight, right, class_is, only_place}
 
 -- Objects behind a clock
@@ -38,25 +39,25 @@ not_second : (clock some : Bool) → some ≡ true → (clock && some) ≡ false
 not_second true some h apart = absurd (false≢true (sym apart ∙ h))
 not_second false some h apart = refl
 
-none_behind : (name : Text) (earlier xs : List ObjectText) → each_after new_clock name earlier xs ≡ Ok tt → list_any is_clock earlier ≡ true →
+none_behind : (name : Text) (earlier xs : List ObjectText) → each_after new_clock name earlier xs ≡ [] → list_any is_clock earlier ≡ true →
     (y : ObjectText) → IsIn xs y → is_clock y ≡ false
 unfolding each_after
 none_behind name earlier [] h some y none = absurd none
 none_behind name earlier (z ∷ zs) h some y there =
-    let r = then_ok (new_clock earlier (element_place name (length earlier)) z) (λ _. each_after new_clock name (earlier ++ z ∷ []) zs) tt h in
+    let r = both_none (new_clock earlier (element_place name (length earlier)) z) (each_after new_clock name (earlier ++ z ∷ []) zs) h in
     elim there [
-      | inl e ↦ subst (λ q. is_clock q ≡ false) (sym e) (not_second (is_clock z) (list_any is_clock earlier) some (not_faulty _ _ _ r.1))
-      | inr j ↦ none_behind name (earlier ++ z ∷ []) zs r.2 (still_there earlier z some) y j
+      | inl e ↦ subst (λ q. is_clock q ≡ false) (sym e) (not_second (is_clock z) (list_any is_clock earlier) some (not_faulty _ _ _ r.0))
+      | inr j ↦ none_behind name (earlier ++ z ∷ []) zs r.1 (still_there earlier z some) y j
     ]
 
-one_clock : (name : Text) (earlier xs : List ObjectText) → each_after new_clock name earlier xs ≡ Ok tt →
+one_clock : (name : Text) (earlier xs : List ObjectText) → each_after new_clock name earlier xs ≡ [] →
     (x y : ObjectText) → IsIn xs x → IsIn xs y → is_clock x ≡ true → is_clock y ≡ true → x ≡ y
 unfolding each_after
 one_clock name earlier [] h x y none j one other = absurd none
 one_clock name earlier (z ∷ zs) h x y i j one other = at (λ k l. one_clock name (earlier ++ z ∷ []) zs rest x y k l one other) i j
   where
-    rest : each_after new_clock name (earlier ++ z ∷ []) zs ≡ Ok tt
-    rest = (then_ok (new_clock earlier (element_place name (length earlier)) z) (λ _. each_after new_clock name (earlier ++ z ∷ []) zs) tt h).2
+    rest : each_after new_clock name (earlier ++ z ∷ []) zs ≡ []
+    rest = (both_none (new_clock earlier (element_place name (length earlier)) z) (each_after new_clock name (earlier ++ z ∷ []) zs) h).1
 
     -- a clock at the front has none behind it
     apart : {A : Type 0} (v w : ObjectText) → v ≡ z → IsIn zs w → is_clock v ≡ true → is_clock w ≡ true → A
@@ -91,11 +92,11 @@ one_clock_at_most c read h = record {
   one = λ o p i j first second.
       let t = clock_text c ok o i first in
       let u = clock_text c ok p j second in
-      let same = one_clock (codes "object") [] c.objects (each_new_faultless new_clock _ _ ok.judged.clocks) t.0 u.0 t.1 u.1 t.3 u.3 in
+      let same = one_clock (codes "object") [] c.objects ok.judged.clocks t.0 u.0 t.1 u.1 t.3 u.3 in
       t.2 ∙ (ap (object_of c) same ∙ sym u.2);
   fed = λ o i class.
       let t = clock_text c ok o i class in
-      let at = each_passed _ _ _ _ ok.judged.inputs t.0 t.1 in
+      let at = each_ok _ _ _ _ ok.judged.inputs t.0 t.1 in
       ap (λ z. z.fed) t.2 ∙ not_both t.0.fed (subst (λ k. (t.0.fed && not (may_be_fed k)) ≡ false) (only_place 8 t.0.class t.3) (not_faulty _ _ _ at.1));
   since = λ version. none version (clock_object (plan_of c)) refl;
 }

@@ -1,5 +1,5 @@
 -- Rights are those of clients of the plan, on what its objects have.
-use Rattle.std.proofs.Common.{◌≡◌, ◌<◌, ◌+◌, ℕ, arith, Bool, true, false, cond, not, List, [], ◌∷◌, ◌++◌, map, length, refl, sym, subst, Some, is_some, nat_lt, Ok}
+use Rattle.std.proofs.Common.{◌≡◌, ◌<◌, ◌+◌, ℕ, arith, Bool, true, false, cond, not, List, [], ◌∷◌, ◌++◌, map, length, refl, sym, subst, Some, is_some, nat_lt}
 use Rattle.std.specs.Prelude.{codes, ◌&&◌, ◌||◌}
 use Rattle.std.proofs.lemmas.Bool.{and_from, lt-ltb}
 use Rattle.std.proofs.lemmas.List.{length-map}
@@ -11,14 +11,15 @@ use Rattle.meter_theory.specs.Lists.{IsIn, some_passes}
 use Rattle.meter_theory.specs.Plan.{class_of, interface_of, rule_of}
 use Rattle.meter_theory.specs.Sound.{is_right, sets_cells, are_indexes, highest_method}
 use Rattle.config_text.specs.declared.fault.Code.TheVariants as code
-use Rattle.config_text.specs.Fault.{fault_if}
+use Rattle.config_text.specs.Fault.{fault_where}
 use Rattle.config_text.specs.Parts.{Text, ConfigText, ClientText, ObjectText, RightText}
 use Rattle.config_rules.specs.Names.{class_named, passes_or_chosen}
 use Rattle.config_rules.specs.PlanOf.{part_of, plan_of, name_of, or_else, right_of, client_of, client_place}
 use Rattle.config_rules.specs.Passes as passes
 use Rattle.config_rules.specs.Passes.{judged}
 use Rattle.config_rules.specs.Walks.{each}
-use Rattle.config_rules.proofs.Passed.{then_ok, holds, each_holds, each_passed, clients_part, references_parts, indexes_parts}
+use Rattle.config_rules.proofs.Nothing.{both_none, holds, each_holds, each_ok}
+use Rattle.config_rules.proofs.Passed.{clients_part, references_parts, indexes_parts}
 use Rattle.config_rules.proofs.Cells.{IsRight, IsTarget, target_of, settable_cell}
 use Rattle.config_rules.proofs.Indexes.{implied, attributes_of, methods_of}
 
@@ -37,14 +38,14 @@ place_below name (x ∷ xs) i h = at (λ rest. place_below name xs (i + 1) rest)
 
 known_right : (c : ConfigText) → IsRight c → (r : RightText) → IsIn c.rights r → client_place c r.client < length c.clients
 known_right c ok r i =
-    let at = each_passed _ _ _ _ (clients_part c ok.judged.clients) r i in
+    let at = each_ok _ _ _ _ (clients_part c ok.judged.clients) r i in
     let place = place_below r.client c.clients 0 (holds _ _ _ at.1) in
     subst (λ k. or_else 0 k < length c.clients) (sym place.1) (omega (arith, place.2))
 
 -- a right is on an object of the configuration
 object_of_right : (c : ConfigText) → IsRight c → (r : RightText) → IsIn c.rights r → (o : ObjectText) × IsTarget c r.object o
 object_of_right c ok r i =
-    let at = each_passed (λ at z. passes.known_object c at z.object) _ _ _ (references_parts c ok.judged.references).1 r i in
+    let at = each_ok (λ at z. passes.known_object c at z.object) _ _ _ (references_parts c ok.judged.references).1 r i in
     target_of c ok r.object (ok.names.rights r i) (holds _ _ _ at.1)
 
 -- a right is on an object of the plan, and on what this has
@@ -52,18 +53,18 @@ pub right_is : (c : ConfigText) → IsRight c → (r : RightText) → IsIn c.rig
 unfolding passes.right_indexes
 right_is c ok r i =
     let o = object_of_right c ok r i in
-    let judged = each_passed (passes.right_indexes c) _ _ _ (indexes_parts c ok.judged.indexes).1 r i in
-    let gets = then_ok _ _ tt judged.1 in
-    let sets = then_ok _ _ tt gets.2 in
+    let judged = each_ok (passes.right_indexes c) _ _ _ (indexes_parts c ok.judged.indexes).1 r i in
+    let all = both_none _ _ judged.1 in
+    let attributes = both_none _ _ all.0 in
     and_from (nat_lt (client_place c r.client) (length (map client_of c.clients))) _
     (lt-ltb (client_place c r.client) (length (map client_of c.clients)) (subst (λ n. client_place c r.client < n) (sym (length-map c.clients client_of)) (known_right c ok r i)))
     (subst (λ found. some_passes (λ p. are_indexes (interface_of p.part).attributes r.gets && (are_indexes (interface_of p.part).attributes r.sets && are_indexes (highest_method p.part) r.acts)) found ≡ true) (sym o.1.planned)
-    (and_from (are_indexes (interface_of (part_of c o.0.body)).attributes r.gets) _ (attributes_of (part_of c o.0.body) r.gets (at_class o.0 o.1 has_attribute r.gets _ gets.1))
+    (and_from (are_indexes (interface_of (part_of c o.0.body)).attributes r.gets) _ (attributes_of (part_of c o.0.body) r.gets (at_class o.0 o.1 has_attribute r.gets _ attributes.0))
     (and_from (are_indexes (interface_of (part_of c o.0.body)).attributes r.sets) (are_indexes (highest_method (part_of c o.0.body)) r.acts)
-    (attributes_of (part_of c o.0.body) r.sets (at_class o.0 o.1 has_attribute r.sets _ sets.1))
-    (methods_of (part_of c o.0.body) r.acts (at_class o.0 o.1 has_method r.acts _ sets.2)))))
+    (attributes_of (part_of c o.0.body) r.sets (at_class o.0 o.1 has_attribute r.sets _ attributes.1))
+    (methods_of (part_of c o.0.body) r.acts (at_class o.0 o.1 has_method r.acts _ all.1)))))
   where
-    at_class : (o : ObjectText) → IsTarget c r.object o → (has : ℕ → ℕ → Bool) (indexes : List ℕ) (place : Text) → each (passes.right_index has (class_named c r.object)) place indexes ≡ Ok tt →
+    at_class : (o : ObjectText) → IsTarget c r.object o → (has : ℕ → ℕ → Bool) (indexes : List ℕ) (place : Text) → each (passes.right_index has (class_named c r.object)) place indexes ≡ [] →
         list_all (has (class_of (part_of c o.body))) indexes ≡ true
     at_class o target has indexes place h =
         subst (λ k. list_all (has k) indexes ≡ true) target.class (each_holds code.Index (has (class_named c r.object)) place 0 indexes h)
@@ -73,7 +74,7 @@ pub right_sets : (c : ConfigText) → IsRight c → (r : RightText) → IsIn c.r
 unfolding passes.settable_rights
 right_sets c ok r i =
     let o = object_of_right c ok r i in
-    let judged = each_passed (λ at z. each (λ at index. fault_if code.NotSettable at (not (passes_or_chosen c is_settable z.object index))) (at ++ codes ".set") z.sets) _ _ _ ok.judged.rights r i in
+    let judged = each_ok (λ at z. each (λ at index. fault_where code.NotSettable at (not (passes_or_chosen c is_settable z.object index))) (at ++ codes ".set") z.sets) _ _ _ ok.judged.rights r i in
     subst (λ found. some_passes (λ p. list_all (λ index. is_some (rule_of (plan_of c) (cell (class_of p.part) (name_of r.object) index))) r.sets) found ≡ true) (sym o.1.planned)
     (implied (passes_or_chosen c is_settable r.object) (λ index. is_some (rule_of (plan_of c) (cell (class_of (part_of c o.0.body)) (name_of r.object) index)))
     (settable o.0 o.1) r.sets (each_holds code.NotSettable (passes_or_chosen c is_settable r.object) _ 0 r.sets judged.1))

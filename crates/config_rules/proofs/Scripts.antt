@@ -1,5 +1,5 @@
 -- Scripts: those that references name are there, and those of a table have numbers of their own.
-use Rattle.std.proofs.Common.{◌≡◌, ℕ, ◌==◌, Bool, true, false, cond, not, List, [], ◌∷◌, ◌++◌, map, refl, sym, ap, subst, ◌∙◌, Option, Some, None, is_some, eq-eqb, Ok}
+use Rattle.std.proofs.Common.{◌≡◌, ℕ, ◌==◌, Bool, true, false, cond, not, List, [], ◌∷◌, ◌++◌, map, refl, sym, ap, subst, ◌∙◌, Option, Some, None, is_some, eq-eqb}
 use Rattle.std.specs.Prelude.{ℤ, pos, negsuc, int_le, unsigned_abs, codes, ◌&&◌, ◌||◌}
 use Rattle.std.specs.List.{list_any}
 use Rattle.std.proofs.lemmas.Bool.{and_from, or_parts, false≢true}
@@ -12,13 +12,13 @@ use Rattle.meter_theory.specs.Steps.{scripts_of}
 use Rattle.meter_theory.specs.Sound.{has_script}
 use Rattle.meter_theory.proofs.Lists.{none_in, from_map}
 use Rattle.config_text.specs.declared.fault.Code.TheVariants.{Reference, ScriptId}
-use Rattle.config_text.specs.Fault.{fault_if}
+use Rattle.config_text.specs.Fault.{fault_where}
 use Rattle.config_text.specs.Parts.{Text, ConfigText, ObjectText, ScriptRefText, ScriptText, BodyText, DataText, RegisterText, ProfileText, ClockText, ScriptTableText, MonitorText, ScheduleText, UnknownText}
 use Rattle.config_rules.specs.Names.{object_named, class_named, class_in, scripts_in}
 use Rattle.config_rules.specs.PlanOf.{part_of, plan_of, script_of, script_named, script_number}
 use Rattle.config_rules.specs.Passes as passes
 use Rattle.config_rules.specs.Walks.{each_new}
-use Rattle.config_rules.proofs.Passed.{then_ok, holds, not_faulty, each_new_distinct, each_new_in, AsksNewKey, each_passed}
+use Rattle.config_rules.proofs.Nothing.{neither_found, holds, not_faulty, each_new_distinct, each_new_in, AsksNewKey, each_ok}
 use Rattle.config_rules.proofs.Named.{IsName}
 use Rattle.config_rules.proofs.Cells.{IsRight, target_of, only_place}
 
@@ -56,12 +56,12 @@ known_number c scripts (pos n) h = at (int_le (pos 0) (pos n) && int_le (pos n) 
 known_number c scripts (negsuc n) h = absurd (false≢true h)
 
 -- a script that the passes found in its table
-pub known_script : (c : ConfigText) → IsRight c → (at : Text) (r : ScriptRefText) → IsName r.table → passes.known_script c at r ≡ Ok tt → IsScript c r
+pub known_script : (c : ConfigText) → IsRight c → (at : Text) (r : ScriptRefText) → IsName r.table → passes.known_script c at r ≡ [] → IsScript c r
 unfolding passes.known_script
 known_script c ok at r name h =
-    let both = then_ok (fault_if Reference _ (not (is_of_class (class_named c r.table) classes.ScriptTable))) _ tt h in
-    let class : is_of_class (class_named c r.table) classes.ScriptTable ≡ true = holds _ _ _ both.1 in
-    let number : passes.has_script (passes.scripts_of (object_named c r.table)) r.script ≡ true = holds _ _ _ both.2 in
+    let both = neither_found (fault_where Reference _ (not (is_of_class (class_named c r.table) classes.ScriptTable))) _ h in
+    let class : is_of_class (class_named c r.table) classes.ScriptTable ≡ true = holds _ _ _ both.0 in
+    let number : passes.has_script (passes.scripts_of (object_named c r.table)) r.script ≡ true = holds _ _ _ both.1 in
     let table = target_of c ok r.table name (there (object_named c r.table) class) in
     subst (λ found. some_passes (λ o. (class_of o.part == 9) && knows_script (scripts_of o.part) (script_number r.script)) found ≡ true) (sym table.1.planned)
     (and_from (class_of (part_of c table.0.body) == 9) _ (eq-eqb _ 9 (sym table.1.class ∙ only_place 9 _ class))
@@ -75,7 +75,7 @@ known_script c ok at r name h =
 -- Numbers
 
 -- no script of a table has the null script's number, and none that of an earlier one
-own_numbers : (at : Text) (scripts : List ScriptText) → each_new passes.new_script (at ++ codes ".script") scripts ≡ Ok tt → AreDistinct (0 ∷ map (λ s. s.id) scripts)
+own_numbers : (at : Text) (scripts : List ScriptText) → each_new passes.new_script (at ++ codes ".script") scripts ≡ [] → AreDistinct (0 ∷ map (λ s. s.id) scripts)
 own_numbers at scripts h = (not_null, each_new_distinct (λ s. s.id) passes.new_script other (at ++ codes ".script") scripts h)
   where
     other : AsksNewKey (λ s. s.id) passes.new_script
@@ -93,6 +93,6 @@ own_numbers at scripts h = (not_null, each_new_distinct (λ s. s.id) passes.new_
 pub script_numbers : (c : ConfigText) → IsRight c → (o : ObjectText) → IsIn c.objects o → AreDistinct (0 ∷ map (λ s. s.id) (scripts_of (part_of c o.body)))
 unfolding passes.new_scripts
 script_numbers c ok o i =
-    let r = each_passed _ _ _ _ ok.judged.scripts o i in
+    let r = each_ok _ _ _ _ ok.judged.scripts o i in
     let same = ap (map (λ s. s.id)) (scripts_are c o.body) ∙ same_numbers c (scripts_in o.body) in
     subst (λ ids. AreDistinct (0 ∷ ids)) (sym same) (own_numbers r.0 (scripts_in o.body) r.1)

@@ -1,5 +1,5 @@
 -- Sizes: lists keep within the limits, and names have six bytes.
-use Rattle.std.proofs.Common.{◌≡◌, ℕ, Bool, true, not, List, [], ◌∷◌, map, length, refl, sym, subst, inl, inr, Option, Some, None, nat_lt, nat_le, Ok}
+use Rattle.std.proofs.Common.{◌≡◌, ℕ, Bool, true, not, List, [], ◌∷◌, map, length, refl, sym, subst, inl, inr, Option, Some, None, nat_lt, nat_le}
 use Rattle.std.specs.Prelude.{ℤ, ◌||◌}
 use Rattle.std.specs.List.{list_all}
 use Rattle.std.specs.Option.{unwrap_or}
@@ -10,17 +10,18 @@ use Rattle.meter_theory.specs.Value.{is_within_limits}
 use Rattle.meter_theory.specs.Sound.{is_name, has_capture_sizes}
 use Rattle.meter_theory.specs.declared.limits.TheConstants as limits
 use Rattle.config_text.specs.declared.fault.Code.TheVariants as code
-use Rattle.config_text.specs.Fault.{fault_if}
+use Rattle.config_text.specs.Fault.{fault_where}
 use Rattle.config_text.specs.Parts.{Text, MenuText, ConfigText, ObjectText, CaptureText, ScriptRefText, ProfileText, ScheduleText}
 use Rattle.config_rules.specs.Names.{menu_in}
 use Rattle.config_rules.specs.PlanOf.{name_of, cell_named, cells_named, script_named, times_value}
 use Rattle.config_rules.specs.Passes as passes
-use Rattle.config_rules.proofs.Passed.{then_ok, not_faulty, each_ok, EachReference, alternatives_in}
+use Rattle.config_rules.proofs.Nothing.{both_none, not_faulty, each_ok}
+use Rattle.config_rules.proofs.Passed.{EachReference, alternatives_in, profile_limits}
 use Rattle.config_rules.proofs.Named.{IsName, six_bytes, name_of_is}
 use Rattle.config_rules.proofs.Cells.{IsRight}
 use Rattle.config_rules.proofs.Starts.{of_body}
 
-pub at_most_ok : {A : Type 0} (limit : ℕ) (at : Text) (xs : List A) → passes.at_most limit at xs ≡ Ok tt → nat_le (length xs) limit ≡ true
+pub at_most_ok : {A : Type 0} (limit : ℕ) (at : Text) (xs : List A) → passes.at_most limit at xs ≡ [] → nat_le (length xs) limit ≡ true
 at_most_ok limit at xs h = le-leb (length xs) limit (ltb-false limit (length xs) (not_faulty code.Limit at (nat_lt limit (length xs)) h))
 
 pub few_of_map : {A B : Type 0} (f : A → B) (limit : ℕ) (xs : List A) → nat_le (length xs) limit ≡ true → nat_le (length (map f xs)) limit ≡ true
@@ -35,7 +36,7 @@ six text name = subst (λ n. is_name n ≡ true) (sym (name_of_is text name.0 na
 
 -- Menus
 
-menu_few : {A B : Type 0} (f : A → B) (at : Text) (menu : Option (List A)) → passes.menu_size at menu ≡ Ok tt → nat_le (length (map f (unwrap_or menu []))) limits.MENU ≡ true
+menu_few : {A B : Type 0} (f : A → B) (at : Text) (menu : Option (List A)) → passes.menu_size at menu ≡ [] → nat_le (length (map f (unwrap_or menu []))) limits.MENU ≡ true
 menu_few f at None h = refl
 menu_few f at (Some xs) h =
     let apart = or_parts (nat_lt (length xs) 1) (nat_lt limits.MENU (length xs)) (not_faulty code.Limit at (nat_lt (length xs) 1 || nat_lt limits.MENU (length xs)) h) in
@@ -52,20 +53,19 @@ pub profile_sizes : (c : ConfigText) → IsRight c → (o : ObjectText) → IsIn
 unfolding passes.limits_in
 profile_sizes c ok o i captures period entries sort_method is =
     let names = subst (EachReference (λ t. IsName t.object) (λ r. IsName r.table)) is (ok.names.references o i) in
-    let start = then_ok (passes.at_most limits.CAPTURE_OBJECTS _ captures.start) _ tt (of_body c ok o i (ProfileText captures period entries sort_method) is).limits.1 in
-    let size = then_ok (fault_if code.Limit _ (nat_lt limits.PROFILE_ENTRIES entries)) _ tt start.2 in
-    let menu = then_ok (passes.menu_size _ captures.menu) _ tt size.2 in
+    let found = (of_body c ok o i (ProfileText captures period entries sort_method) is).limits in
+    let sizes = profile_limits found.0 captures period entries sort_method found.1 in
     let few : (xs : List CaptureText) → IsIn (alternatives_in captures) xs → nat_le (length xs) limits.CAPTURE_OBJECTS ≡ true = λ xs j.
     elim j [
-      | inl e ↦ subst (λ ys. nat_le (length ys) limits.CAPTURE_OBJECTS ≡ true) (sym e) (at_most_ok limits.CAPTURE_OBJECTS _ captures.start start.1)
-      | inr k ↦ at_most_ok limits.CAPTURE_OBJECTS _ xs (each_ok (passes.at_most limits.CAPTURE_OBJECTS) _ 0 (menu_in captures) menu.2 xs k).1
+      | inl e ↦ subst (λ ys. nat_le (length ys) limits.CAPTURE_OBJECTS ≡ true) (sym e) (at_most_ok limits.CAPTURE_OBJECTS _ captures.start sizes.0)
+      | inr k ↦ at_most_ok limits.CAPTURE_OBJECTS _ xs (each_ok (passes.at_most limits.CAPTURE_OBJECTS) _ 0 (menu_in captures) sizes.3 xs k).1
     ] in
     record {
-      few = menu_few (cells_named c) _ captures.menu menu.1;
+      few = menu_few (cells_named c) _ captures.menu sizes.2;
       each = λ xs j. and_from (nat_le (length (cells_named c xs)) limits.CAPTURE_OBJECTS) (list_all (λ x. is_name x.name) (cells_named c xs))
           (few_of_map (λ x. cell_named c x.target) limits.CAPTURE_OBJECTS xs (few xs j))
           (each_of_map (λ x. is_name x.name) (λ x. cell_named c x.target) xs (λ x k. six x.target.object (names xs j x k)));
-      kept = le-leb entries limits.PROFILE_ENTRIES (ltb-false limits.PROFILE_ENTRIES entries (not_faulty _ _ _ size.1));
+      kept = le-leb entries limits.PROFILE_ENTRIES (ltb-false limits.PROFILE_ENTRIES entries (not_faulty _ _ _ sizes.1));
     }
 
 -- and of those of a schedule
@@ -78,9 +78,9 @@ pub schedule_sizes : (c : ConfigText) → IsRight c → (o : ObjectText) → IsI
 unfolding passes.limits_in
 schedule_sizes c ok o i script type times is =
     let names = subst (EachReference (λ t. IsName t.object) (λ r. IsName r.table)) is (ok.names.references o i) in
-    let size = then_ok (fault_if code.Limit _ (nat_lt limits.EXECUTION_TIMES (length times) || not (is_within_limits (times_value times)))) _ tt
+    let size = both_none (fault_where code.Limit _ (nat_lt limits.EXECUTION_TIMES (length times) || not (is_within_limits (times_value times)))) _
     (of_body c ok o i (ScheduleText script type times) is).limits.1 in
     record {
-      few = menu_few script_named _ script.menu size.2;
+      few = menu_few script_named _ script.menu size.1;
       each = λ r j. six r.table (names r j);
     }

@@ -26,7 +26,7 @@ use Rattle.meter_theory.proofs.Lists.{in_map, from_map, from_flat_map}
 use Rattle.config_text.specs.declared.fault.Code.TheVariants as code
 use Rattle.config_text.specs.declared.service.Service.{Service}
 use Rattle.config_text.specs.declared.service.Service.TheVariants as services
-use Rattle.config_text.specs.Fault.{fault_if}
+use Rattle.config_text.specs.Fault.{fault_where}
 use Rattle.config_text.specs.Parts.{Text, ConfigText, ClientText, ObjectText, TargetText, ActionText, UpDownText, BodyText, DataText, RegisterText, ProfileText, ClockText, ScriptTableText, MonitorText, ScheduleText, UnknownText}
 use Rattle.config_rules.specs.Names.{target_is, class_named, menu_in}
 use Rattle.value_text.specs.Texts.{value_in}
@@ -34,7 +34,8 @@ use Rattle.config_rules.specs.PlanOf.{cells_named, captures_of, part_of, object_
 use Rattle.config_rules.specs.Read.{IsRead, is_body_of, may_have}
 use Rattle.config_rules.specs.Passes as passes
 use Rattle.config_rules.specs.Passes.{judged}
-use Rattle.config_rules.proofs.Passed.{then_ok, holds, each_ok, each_capture_ok, alternatives_in, EachReference, passed, limits_parts}
+use Rattle.config_rules.proofs.Nothing.{both_none, holds, each_ok}
+use Rattle.config_rules.proofs.Passed.{each_capture_ok, alternatives_in, EachReference, passed, limits_parts}
 use Rattle.config_rules.proofs.Named.{IsName, client_names_new, saps_new, names_apart, plan_names}
 use Rattle.config_rules.proofs.Cells.{IsRight, IsTarget, right, settable_cell, only_place}
 use Rattle.config_rules.proofs.Clocks.{moment_there}
@@ -213,18 +214,18 @@ part_sizes c ok o i (ProfileText all period entries sort_method) is =
 part_sizes c ok o i (ClockText time) is = refl
 part_sizes c ok o i (ScriptTableText scripts) is =
     let names = subst (EachReference (λ t. IsName t.object) (λ r. IsName r.table)) is (ok.names.references o i) in
-    let few = then_ok (passes.at_most limits.SCRIPTS _ scripts) _ tt (of_body c ok o i (ScriptTableText scripts) is).limits.1 in
-    and_from (nat_le (length (map (script_of c) scripts)) limits.SCRIPTS) (list_all has_script_sizes (map (script_of c) scripts)) (few_of_map (script_of c) limits.SCRIPTS scripts (at_most_ok _ _ scripts few.1))
+    let few = both_none (passes.at_most limits.SCRIPTS _ scripts) _ (of_body c ok o i (ScriptTableText scripts) is).limits.1 in
+    and_from (nat_le (length (map (script_of c) scripts)) limits.SCRIPTS) (list_all has_script_sizes (map (script_of c) scripts)) (few_of_map (script_of c) limits.SCRIPTS scripts (at_most_ok _ _ scripts few.0))
     (each_of_map has_script_sizes (script_of c) scripts (λ s j.
-    let actions = then_ok (passes.at_most limits.ACTIONS _ s.actions) _ tt (each_ok _ _ _ _ few.2 s j).1 in
-    and_from (nat_le (length (map (λ a. action_of c a.service a.target a.value) s.actions)) limits.ACTIONS) _ (few_of_map (λ a. action_of c a.service a.target a.value) limits.ACTIONS s.actions (at_most_ok _ _ s.actions actions.1))
+    let actions = both_none (passes.at_most limits.ACTIONS _ s.actions) _ (each_ok _ _ _ _ few.1 s j).1 in
+    and_from (nat_le (length (map (λ a. action_of c a.service a.target a.value) s.actions)) limits.ACTIONS) _ (few_of_map (λ a. action_of c a.service a.target a.value) limits.ACTIONS s.actions (at_most_ok _ _ s.actions actions.0))
     (each_of_map has_action_sizes (λ a. action_of c a.service a.target a.value) s.actions (λ a k.
     action_sizes c a (action_at c ok o i scripts is s j a k) (names s j a k) a.service refl))))
 part_sizes c ok o i (MonitorText monitored ths actions) is =
     let names = subst (EachReference (λ t. IsName t.object) (λ r. IsName r.table)) is (ok.names.references o i) in
-    let few = then_ok (fault_if code.Limit _ (nat_lt limits.THRESHOLDS (length ths) || not (is_within_limits (thresholds_value ths)))) _ tt (of_body c ok o i (MonitorText monitored ths actions) is).limits.1 in
+    let few = both_none (fault_where code.Limit _ (nat_lt limits.THRESHOLDS (length ths) || not (is_within_limits (thresholds_value ths)))) _ (of_body c ok o i (MonitorText monitored ths actions) is).limits.1 in
     and_from (is_name (name_of monitored.object)) _ (six monitored.object names.0)
-    (and_from (nat_le (length (map up_down_of actions)) limits.THRESHOLDS) _ (few_of_map up_down_of limits.THRESHOLDS actions (at_most_ok _ _ actions few.2))
+    (and_from (nat_le (length (map up_down_of actions)) limits.THRESHOLDS) _ (few_of_map up_down_of limits.THRESHOLDS actions (at_most_ok _ _ actions few.1))
     (each_of_map (λ a. is_name a.up.table && is_name a.down.table) up_down_of actions (λ a j.
     and_from (is_name (name_of a.up.table)) (is_name (name_of a.down.table)) (six a.up.table (names.1 a j).0) (six a.down.table (names.1 a j).1))))
 part_sizes c ok o i (ScheduleText script type times) is =

@@ -1,10 +1,11 @@
 -- Each settable cell starts with a value that meets its rule.
-use Rattle.std.proofs.Common.{◌≡◌, ℕ, ◌==◌, true, false, cond, List, not, [], ◌∷◌, ℤ, refl, sym, ap, subst, ◌∙◌, inl, inr, Option, Some, None, is_some, eq-eqb, Ok}
+use Rattle.std.proofs.Common.{◌≡◌, ℕ, ◌==◌, true, false, cond, List, not, [], ◌∷◌, ℤ, refl, sym, ap, subst, ◌∙◌, inl, inr, Option, Some, None, is_some, eq-eqb}
 use Rattle.std.specs.Prelude.{option_map, option_and_then, ◌&&◌}
-use Rattle.std.proofs.lemmas.Bool.{and_from, cond-true}
+use Rattle.std.proofs.lemmas.Bool.{and_from, cond-true, false≢true}
 use Rattle.cosem_data.specs.Tree.{Tree, null_data}
 use Rattle.cosem_data.specs.Kinds.{kind_of, same_kind}
 use Rattle.cosem_data.specs.Cells.{cell}
+use Rattle.cosem_data.specs.declared.kind.Kind.{Kind}
 use Rattle.cosem_data.specs.declared.cell.CellRef.{CellRef}
 use Rattle.meter_theory.specs.Lists.{IsIn}
 use Rattle.meter_theory.specs.State.{value}
@@ -12,15 +13,16 @@ use Rattle.meter_theory.specs.Value.{OfKind, meets, is_within_limits}
 use Rattle.meter_theory.specs.Plan.{start_values, inner_start, clock_object, start_of, rule_in, rule_of, class_of, object_at}
 use Rattle.meter_theory.proofs.Lists.{in_map, one_of_key}
 use Rattle.config_text.specs.declared.fault.Code.TheVariants.{Value}
-use Rattle.config_text.specs.Fault.{fault_if}
+use Rattle.config_text.specs.Fault.{fault_where}
 use Rattle.config_text.specs.Parts.{Text, ConfigText, ObjectText, BodyText, DataText, RegisterText}
 use Rattle.value_text.specs.Texts.{value_in}
-use Rattle.config_rules.specs.Values.{kind_in, is_number, is_of_kind}
+use Rattle.config_rules.specs.Values.{kind_in, is_number, is_of_kind, may_be_number, number_kind}
 use Rattle.config_rules.specs.PlanOf.{part_of, object_of, plan_of, name_of, value_of, or_else}
 use Rattle.config_rules.specs.Passes as passes
 use Rattle.config_rules.specs.Names.{scripts_in}
 use Rattle.config_rules.specs.Walks.{each_action}
-use Rattle.config_rules.proofs.Passed.{then_ok, holds, each_passed, indexes_parts, limits_parts}
+use Rattle.config_rules.proofs.Nothing.{both_none, holds, each_ok}
+use Rattle.config_rules.proofs.Passed.{indexes_parts, limits_parts}
 use Rattle.config_rules.proofs.Named.{plan_names}
 use Rattle.config_rules.proofs.Cells.{IsRight, target_itself}
 use Rattle.meter_theory.proofs.Start.{started}
@@ -79,23 +81,23 @@ start_body c ok o i body is index v there alone =
 
 -- what the passes found of an object with this body, each at its place
 pub record IsPassed (c : ConfigText) (body : BodyText) : Type 0 where
-  pub indexes : (at : Text) × (passes.usable_indexes c at body ≡ Ok tt)
-  pub values : (at : Text) × (passes.valid_values_in c at body ≡ Ok tt)
-  pub counts : (at : Text) × (passes.equal_counts_in at body ≡ Ok tt)
-  pub executes : (at : Text) × (each_action (passes.no_execute c) at (scripts_in body) ≡ Ok tt)
-  pub limits : (at : Text) × (passes.limits_in at body ≡ Ok tt)
-  pub times : (at : Text) × (passes.valid_times_in at body ≡ Ok tt)
+  pub indexes : (at : Text) × (passes.usable_indexes c at body ≡ [])
+  pub values : (at : Text) × (passes.valid_values_in c at body ≡ [])
+  pub counts : (at : Text) × (passes.equal_counts_in at body ≡ [])
+  pub executes : (at : Text) × (each_action (passes.no_execute c) at (scripts_in body) ≡ [])
+  pub limits : (at : Text) × (passes.limits_in at body ≡ [])
+  pub times : (at : Text) × (passes.valid_times_in at body ≡ [])
 
 pub of_body : (c : ConfigText) → IsRight c → (o : ObjectText) → IsIn c.objects o → (body : BodyText) → o.body ≡ body → IsPassed c body
 unfolding passes.valid_values passes.equal_counts passes.no_executes passes.valid_times
 of_body c ok o i body is =
     subst (IsPassed c) is (record {
-      indexes = each_passed _ _ _ _ (indexes_parts c ok.judged.indexes).0 o i;
-      values = each_passed _ _ _ _ ok.judged.values o i;
-      counts = each_passed _ _ _ _ ok.judged.counts o i;
-      executes = each_passed _ _ _ _ ok.judged.executes o i;
-      limits = each_passed _ _ _ _ (limits_parts c ok.judged.limits).2 o i;
-      times = each_passed _ _ _ _ ok.judged.times o i;
+      indexes = each_ok _ _ _ _ (indexes_parts c ok.judged.indexes).0 o i;
+      values = each_ok _ _ _ _ ok.judged.values o i;
+      counts = each_ok _ _ _ _ ok.judged.counts o i;
+      executes = each_ok _ _ _ _ ok.judged.executes o i;
+      limits = each_ok _ _ _ _ (limits_parts c ok.judged.limits).2 o i;
+      times = each_ok _ _ _ _ ok.judged.times o i;
     })
 
 -- a text whose value is there, and within the limits
@@ -117,18 +119,29 @@ number_there text h = at (value_in text) h
     at None e = cc
     at (Some v) e = refl
 
+-- values are judged by a kind that is one of numbers, or isn't known
+pub number_known : (k : Option Kind) → may_be_number k ≡ true → number_kind k ≡ k
+number_known None h = refl
+number_known (Some kind) h = ap (λ b. cond b (Some kind) None) h
+
+may_be_known : (k : Option Kind) → is_number k ≡ true → may_be_number k ≡ true
+may_be_known None h = absurd (false≢true h)
+may_be_known (Some kind) h = h
+
 -- the value of a register, and what a reset puts: of one kind, and within the limits
 pub register_start : (c : ConfigText) → IsRight c → (o : ObjectText) → IsIn c.objects o → (text default : Text) (scaler : ℤ) (unit : ℕ) → o.body ≡ RegisterText text default scaler unit →
     IsStart text × (meets (OfKind (kind_of (value_of text))) (value_of default) ≡ true)
 unfolding passes.valid_values_in passes.limits_in
 register_start c ok o i text default scaler unit is =
     let found = of_body c ok o i (RegisterText text default scaler unit) is in
-    let right = then_ok (fault_if Value _ (not (is_number (kind_in text)))) _ tt found.values.1 in
-    let small = then_ok (passes.small_value _ (Some text)) _ tt found.limits.1 in
-    let v = is_start text (number_there text (holds _ _ _ right.1)) (holds _ _ _ small.1) in (
+    let right = both_none (fault_where Value _ (not (is_number (kind_in text)))) _ found.values.1 in
+    let small = both_none (passes.small_value _ (Some text)) _ found.limits.1 in
+    let number : is_number (kind_in text) ≡ true = holds _ _ _ right.0 in
+    let v = is_start text (number_there text number) (holds _ _ _ small.0) in
+    let kind = subst (λ k. is_of_kind k (value_in default) ≡ true) (number_known (kind_in text) (may_be_known (kind_in text) number)) (holds _ _ _ right.1) in (
       v,
       subst (λ z. meets (OfKind (kind_of z)) (value_of default) ≡ true) (sym v.2)
-          (at v.0 (value_in default) refl (subst (λ r. is_of_kind (option_map kind_of r) (value_in default) ≡ true) v.1 (holds _ _ _ right.2)) (holds _ _ _ small.2)),
+          (at v.0 (value_in default) refl (subst (λ r. is_of_kind (option_map kind_of r) (value_in default) ≡ true) v.1 kind) (holds _ _ _ small.1)),
     )
   where
     at : (v : Tree) (r : Option Tree) → value_in default ≡ r → is_of_kind (Some (kind_of v)) r ≡ true → passes.is_small r ≡ true → meets (OfKind (kind_of v)) (value_of default) ≡ true

@@ -1,10 +1,11 @@
 -- What can be wrong with what the tables of a configuration say (own profile): one pass a code, each over the whole
--- configuration in the order of its text, and run only where the passes before it found nothing. A pass finds the first fault
--- of each table of the text: of each client, object, right and label, of the policy, and of an array of tables as a whole.
-use Rattle.std.specs.Prelude.{ℕ, ℤ, pos, ◌==◌, nat_lt, int_le, Bool, true, false, not, ◌&&◌, ◌||◌, List, [], ◌∷◌, ◌++◌, length, codes, Option, Some, None, is_some, option_and_then, Result, Ok, ⊤}
+-- configuration in the order of its text, and run only where the passes before it found nothing. A pass finds every fault of
+-- its code, but none that merely follows from another one.
+use Rattle.std.specs.Prelude.{ℕ, ℤ, pos, ◌==◌, nat_lt, int_le, Bool, true, false, not, ◌&&◌, ◌||◌, List, [], ◌∷◌, ◌++◌, length, codes, Option, Some, None, is_some, option_and_then, Result, ⊤}
 use Rattle.std.specs.List.{list_any}
 use Rattle.std.specs.Str.{bytes_eq}
 use Rattle.cosem_data.specs.Tree.{Tree}
+use Rattle.cosem_data.specs.declared.kind.Kind.{Kind}
 use Rattle.meter_theory.specs.Classes.{is_known, is_of_class, has_attribute, has_method, is_cell, is_settable, is_capturable, is_monitorable, may_be_fed}
 use Rattle.meter_theory.specs.declared.classes.Class.TheVariants as classes
 use Rattle.meter_theory.specs.ClientNames.{may_be_named}
@@ -12,96 +13,91 @@ use Rattle.meter_theory.specs.Value.{is_within_limits, elements}
 use Rattle.meter_theory.specs.Times.{are_execution_times}
 use Rattle.meter_theory.specs.declared.limits.TheConstants as limits
 use Rattle.civil_moment.specs.MomentText.{moment_in}
-use Rattle.config_text.specs.Fault.{Fault, fault_if, fault_in, first_found, first_of, ◌>>=◌}
+use Rattle.config_text.specs.Fault.{Fault, fault_where, first_found, first_of}
 use Rattle.config_text.specs.declared.fault.Code.TheVariants.{Form, ObjectTwice, ClassUnknown, ClientUnknown, ClientTwice, Reference, Index, Value, NotSettable, Counts, ScriptId, Execute, Limit, Label, Fed, Times, Sorting, SecondClock, AlternativeTwice}
 use Rattle.config_text.specs.declared.service.Service.{Service}
 use Rattle.config_text.specs.declared.service.Service.TheVariants.{Write, Invoke}
 use Rattle.config_text.specs.Parts.{Text, ClientText, ObjectText, TargetText, CaptureText, ScriptRefText, ActionText, ScriptText, RightText, SetsText, LabelText, ConfigText, BodyText, DataText, RegisterText, ProfileText, ClockText, ScriptTableText, MonitorText, ScheduleText}
 use Rattle.config_rules.specs.Names.{object_named, has_client, class_named, scripts_in, target_is, menu_in, passes_or_chosen}
 use Rattle.value_text.specs.Texts.{name_in, value_in}
-use Rattle.config_rules.specs.Values.{kind_in, kind_named, is_of_kind, is_number, may_be_number, is_time_text}
+use Rattle.config_rules.specs.Values.{kind_in, kind_named, is_of_kind, is_number, may_be_number, number_kind, is_time_text}
 use Rattle.config_rules.specs.PlanOf.{thresholds_value, times_value}
-use Rattle.config_rules.specs.Walks.{Judge, each, each_new, each_fault, each_new_fault, each_action, each_capture, references}
+use Rattle.config_rules.specs.Walks.{Judge, each, each_new, each_action, each_capture, references}
 use Rattle.config_rules.specs.Written.{may_stand_at}
 
 -- the clients and the names of sets of clients
 abbrev pub both_sets : Judge Text → Judge SetsText
-both_sets judge at s = do
-  influence ← each judge (at ++ codes ".influence") s.influence
-  each judge (at ++ codes ".learn") s.learn
+both_sets judge at s = each judge (at ++ codes ".influence") s.influence ++ each judge (at ++ codes ".learn") s.learn
 
 -- C4 Names of bad form
 
 abbrev pub logical_form : Judge Text
-logical_form at name = fault_if Form at (not (is_some (name_in name)))
+logical_form at name = fault_where Form at (not (is_some (name_in name)))
 
 -- a client's name that may stand in a configuration of this version
 abbrev pub client_form : ℕ → Judge Text
-client_form version at name = fault_if Form at (not (may_be_named version name))
+client_form version at name = fault_where Form at (not (may_be_named version name))
 
 unfoldable pub object_forms : Judge ObjectText
-object_forms at o = do
-  name ← logical_form (at ++ codes ".name") o.name
-  references (λ at t. logical_form (at ++ codes ".object") t.object) (λ at r. logical_form (at ++ codes ".table") r.table) at o.body
+object_forms at o =
+    logical_form (at ++ codes ".name") o.name
+    ++ references (λ at t. logical_form (at ++ codes ".object") t.object) (λ at r. logical_form (at ++ codes ".table") r.table) at o.body
 
 unfoldable pub right_forms : ℕ → Judge RightText
-right_forms version at r = do
-  client ← client_form version (at ++ codes ".client") r.client
-  logical_form (at ++ codes ".object") r.object
+right_forms version at r = client_form version (at ++ codes ".client") r.client ++ logical_form (at ++ codes ".object") r.object
 
 unfoldable pub label_forms : ℕ → Judge LabelText
-label_forms version at l = do
-  object ← logical_form (at ++ codes ".object") l.target.object
-  both_sets (client_form version) at l.sets
+label_forms version at l = logical_form (at ++ codes ".object") l.target.object ++ both_sets (client_form version) at l.sets
 
 unfoldable pub forms : ConfigText → List Fault
 forms c =
-    each_fault (λ at client. client_form c.version (at ++ codes ".name") client.name) (codes "client") c.clients
-    ++ each_fault object_forms (codes "object") c.objects
-    ++ each_fault (right_forms c.version) (codes "right") c.rights
-    ++ fault_in (both_sets (client_form c.version) (codes "policy") c.policy)
-    ++ each_fault (label_forms c.version) (codes "label") c.labels
+    each (λ at client. client_form c.version (at ++ codes ".name") client.name) (codes "client") c.clients
+    ++ each object_forms (codes "object") c.objects
+    ++ each (right_forms c.version) (codes "right") c.rights
+    ++ both_sets (client_form c.version) (codes "policy") c.policy
+    ++ each (label_forms c.version) (codes "label") c.labels
 
 -- C5 A name of an object that an earlier one has, or the current association
 
 abbrev pub new_object : List ObjectText → Judge ObjectText
 new_object earlier at o =
-    fault_if ObjectTwice (at ++ codes ".name")
+    fault_where ObjectTwice (at ++ codes ".name")
     (bytes_eq (codes "0.0.40.0.0.255") o.name || list_any (λ e. bytes_eq e.name o.name) earlier)
 
 unfoldable pub new_objects : ConfigText → List Fault
-new_objects c = each_new_fault new_object (codes "object") c.objects
+new_objects c = each_new new_object (codes "object") c.objects
 
 -- C6 An interface class that isn't known in the configuration's version
 
 unfoldable pub known_classes : ConfigText → List Fault
-known_classes c = each_fault (λ at o. fault_if ClassUnknown (at ++ codes ".class") (not (is_known c.version o.class))) (codes "object") c.objects
+known_classes c = each (λ at o. fault_where ClassUnknown (at ++ codes ".class") (not (is_known c.version o.class))) (codes "object") c.objects
 
 -- C7 A client that isn't there
 
 abbrev pub known_client : ConfigText → Judge Text
-known_client c at name = fault_if ClientUnknown at (not (has_client c name))
+known_client c at name = fault_where ClientUnknown at (not (has_client c name))
 
 unfoldable pub known_clients : ConfigText → List Fault
 known_clients c =
-    each_fault (λ at r. known_client c (at ++ codes ".client") r.client) (codes "right") c.rights
-    ++ fault_in (both_sets (known_client c) (codes "policy") c.policy)
-    ++ each_fault (λ at l. both_sets (known_client c) at l.sets) (codes "label") c.labels
+    each (λ at r. known_client c (at ++ codes ".client") r.client) (codes "right") c.rights
+    ++ both_sets (known_client c) (codes "policy") c.policy
+    ++ each (λ at l. both_sets (known_client c) at l.sets) (codes "label") c.labels
 
 -- C8 A client's name or service access point that an earlier one has
 
 unfoldable pub new_client : List ClientText → Judge ClientText
-new_client earlier at c = do
-  name ← fault_if ClientTwice (at ++ codes ".name") (list_any (λ e. bytes_eq e.name c.name) earlier)
-  fault_if ClientTwice (at ++ codes ".sap") (list_any (λ e. e.sap == c.sap) earlier)
+new_client earlier at c =
+    fault_where ClientTwice (at ++ codes ".name") (list_any (λ e. bytes_eq e.name c.name) earlier)
+    ++ fault_where ClientTwice (at ++ codes ".sap") (list_any (λ e. e.sap == c.sap) earlier)
 
 unfoldable pub new_clients : ConfigText → List Fault
-new_clients c = each_new_fault new_client (codes "client") c.clients
+new_clients c = each_new new_client (codes "client") c.clients
 
--- C9 A reference to no object, to a table that is no script table, or to a script that isn't there; script 0 is in every table
+-- C9 A reference to no object, to a table that is no script table, or to a script that isn't there; script 0 is in every table.
+-- A script is looked for only in a script table
 
 abbrev pub known_object : ConfigText → Judge Text
-known_object c at name = fault_if Reference (at ++ codes ".object") (not (is_some (object_named c name)))
+known_object c at name = fault_where Reference (at ++ codes ".object") (not (is_some (object_named c name)))
 
 abbrev pub has_script : List ScriptText → ℤ → Bool
 has_script scripts (pos n) = (n == 0) || list_any (λ s. s.id == n) scripts
@@ -112,23 +108,27 @@ scripts_of None = []
 scripts_of (Some o) = scripts_in o.body
 
 unfoldable pub known_script : ConfigText → Judge ScriptRefText
-known_script c at r = do
-  table ← fault_if Reference (at ++ codes ".table") (not (is_of_class (class_named c r.table) classes.ScriptTable))
-  fault_if Reference (at ++ codes ".script") (not (has_script (scripts_of (object_named c r.table)) r.script))
+known_script c at r =
+    first_found
+    (
+    fault_where Reference (at ++ codes ".table") (not (is_of_class (class_named c r.table) classes.ScriptTable))
+    ∷ fault_where Reference (at ++ codes ".script") (not (has_script (scripts_of (object_named c r.table)) r.script))
+    ∷ []
+    )
 
 unfoldable pub known_references : ConfigText → List Fault
 known_references c =
-    each_fault (λ at o. references (λ at t. known_object c at t.object) (known_script c) at o.body) (codes "object") c.objects
-    ++ each_fault (λ at r. known_object c at r.object) (codes "right") c.rights
-    ++ each_fault (λ at l. known_object c at l.target.object) (codes "label") c.labels
+    each (λ at o. references (λ at t. known_object c at t.object) (known_script c) at o.body) (codes "object") c.objects
+    ++ each (λ at r. known_object c at r.object) (codes "right") c.rights
+    ++ each (λ at l. known_object c at l.target.object) (codes "label") c.labels
 
 -- C10 An index that the class doesn't have, or that isn't usable there
 
 abbrev pub usable : ConfigText → (ℕ → ℕ → Bool) → Judge TargetText
-usable c test at t = fault_if Index (at ++ codes ".index") (not (target_is c test t))
+usable c test at t = fault_where Index (at ++ codes ".index") (not (target_is c test t))
 
 abbrev pub usable_action : ConfigText → Service → Judge TargetText
-usable_action c Write at t = fault_if Index (at ++ codes ".index") (not (passes_or_chosen c is_settable t.object t.index))
+usable_action c Write at t = fault_where Index (at ++ codes ".index") (not (passes_or_chosen c is_settable t.object t.index))
 usable_action c Invoke at t = usable c has_method at t
 
 unfoldable pub usable_indexes : ConfigText → Judge BodyText
@@ -136,22 +136,22 @@ usable_indexes c at (ProfileText captures period entries sort_method) =
     each_capture (λ at x. usable c is_capturable at x.target) at captures
 usable_indexes c at (ScriptTableText scripts) = each_action (λ at a. usable_action c a.service at a.target) at scripts
 usable_indexes c at (MonitorText monitored thresholds actions) = usable c is_monitorable (at ++ codes ".monitored") monitored
-usable_indexes c at _ = Ok tt
+usable_indexes c at _ = []
 
 -- a right is on attributes and methods that the class has
 abbrev pub right_index : (ℕ → ℕ → Bool) → ℕ → Judge ℕ
-right_index has class at index = fault_if Index at (not (has class index))
+right_index has class at index = fault_where Index at (not (has class index))
 
 unfoldable pub right_indexes : ConfigText → Judge RightText
-right_indexes c at r = do
-  gets ← each (right_index has_attribute (class_named c r.object)) (at ++ codes ".get") r.gets
-  sets ← each (right_index has_attribute (class_named c r.object)) (at ++ codes ".set") r.sets
-  each (right_index has_method (class_named c r.object)) (at ++ codes ".act") r.acts
+right_indexes c at r =
+    each (right_index has_attribute (class_named c r.object)) (at ++ codes ".get") r.gets
+    ++ each (right_index has_attribute (class_named c r.object)) (at ++ codes ".set") r.sets
+    ++ each (right_index has_method (class_named c r.object)) (at ++ codes ".act") r.acts
 
 unfoldable pub known_indexes : ConfigText → List Fault
 known_indexes c =
-    each_fault (λ at o. usable_indexes c at o.body) (codes "object") c.objects
-    ++ each_fault (right_indexes c) (codes "right") c.rights
+    each (λ at o. usable_indexes c at o.body) (codes "object") c.objects
+    ++ each (right_indexes c) (codes "right") c.rights
 
 -- C11 A value that isn't hex, isn't one Data, or isn't of the kind, and a clock's time that is no moment
 
@@ -166,49 +166,53 @@ action_value c Invoke t None = true
 action_value c Invoke t (Some text) = is_some (value_in text)
 
 abbrev pub valid_action_value : ConfigText → Judge ActionText
-valid_action_value c at a = fault_if Value (at ++ codes ".value") (not (action_value c a.service a.target a.value))
+valid_action_value c at a = fault_where Value (at ++ codes ".value") (not (action_value c a.service a.target a.value))
+
+-- a threshold over a value of a kind
+abbrev pub threshold_value : Option Kind → Judge Text
+threshold_value kind at text = fault_where Value at (not (is_of_kind kind (value_in text)))
 
 unfoldable pub valid_values_in : ConfigText → Judge BodyText
-valid_values_in c at (DataText value) = fault_if Value (at ++ codes ".value") (not (is_some (value_in value)))
-valid_values_in c at (RegisterText value default scaler unit) = do
-  start ← fault_if Value (at ++ codes ".value") (not (is_number (kind_in value)))
-  fault_if Value (at ++ codes ".default") (not (is_of_kind (kind_in value) (value_in default)))
-valid_values_in c at (ClockText time) = fault_if Value (at ++ codes ".time") (not (is_some (moment_in time)))
+valid_values_in c at (DataText value) = fault_where Value (at ++ codes ".value") (not (is_some (value_in value)))
+valid_values_in c at (RegisterText value default scaler unit) =
+    fault_where Value (at ++ codes ".value") (not (is_number (kind_in value)))
+    ++ fault_where Value (at ++ codes ".default") (not (is_of_kind (number_kind (kind_in value)) (value_in default)))
+valid_values_in c at (ClockText time) = fault_where Value (at ++ codes ".time") (not (is_some (moment_in time)))
 valid_values_in c at (ScriptTableText scripts) = each_action (valid_action_value c) at scripts
-valid_values_in c at (MonitorText monitored thresholds actions) = do
-  source ← fault_if Value (at ++ codes ".monitored.index") (not (may_be_number (kind_named c monitored.object)))
-  each (λ at text. fault_if Value at (not (is_of_kind (kind_named c monitored.object) (value_in text)))) (at ++ codes ".thresholds") thresholds
+valid_values_in c at (MonitorText monitored thresholds actions) =
+    fault_where Value (at ++ codes ".monitored.index") (not (may_be_number (kind_named c monitored.object)))
+    ++ each (threshold_value (number_kind (kind_named c monitored.object))) (at ++ codes ".thresholds") thresholds
 valid_values_in c at (ScheduleText script type times) =
-    each (λ at text. fault_if Value at (not (is_time_text text))) (at ++ codes ".times") times
-valid_values_in c at _ = Ok tt
+    each (λ at text. fault_where Value at (not (is_time_text text))) (at ++ codes ".times") times
+valid_values_in c at _ = []
 
 unfoldable pub valid_values : ConfigText → List Fault
-valid_values c = each_fault (λ at o. valid_values_in c at o.body) (codes "object") c.objects
+valid_values c = each (λ at o. valid_values_in c at o.body) (codes "object") c.objects
 
 -- C12 A right to set what isn't a settable cell
 
 unfoldable pub settable_rights : ConfigText → List Fault
 settable_rights c =
-    each_fault (λ at r. each (λ at index. fault_if NotSettable at (not (passes_or_chosen c is_settable r.object index))) (at ++ codes ".set") r.sets)
+    each (λ at r. each (λ at index. fault_where NotSettable at (not (passes_or_chosen c is_settable r.object index))) (at ++ codes ".set") r.sets)
     (codes "right") c.rights
 
 -- C13 Thresholds and actions that differ in number
 
 unfoldable pub equal_counts_in : Judge BodyText
 equal_counts_in at (MonitorText monitored thresholds actions) =
-    fault_if Counts (at ++ codes ".action") (not (length thresholds == length actions))
-equal_counts_in at _ = Ok tt
+    fault_where Counts (at ++ codes ".action") (not (length thresholds == length actions))
+equal_counts_in at _ = []
 
 unfoldable pub equal_counts : ConfigText → List Fault
-equal_counts c = each_fault (λ at o. equal_counts_in at o.body) (codes "object") c.objects
+equal_counts c = each (λ at o. equal_counts_in at o.body) (codes "object") c.objects
 
 -- C14 A script with identifier 0, or with that of an earlier one of its table
 
 abbrev pub new_script : List ScriptText → Judge ScriptText
-new_script earlier at s = fault_if ScriptId (at ++ codes ".id") ((s.id == 0) || list_any (λ e. e.id == s.id) earlier)
+new_script earlier at s = fault_where ScriptId (at ++ codes ".id") ((s.id == 0) || list_any (λ e. e.id == s.id) earlier)
 
 unfoldable pub new_scripts : ConfigText → List Fault
-new_scripts c = each_fault (λ at o. each_new new_script (at ++ codes ".script") (scripts_in o.body)) (codes "object") c.objects
+new_scripts c = each (λ at o. each_new new_script (at ++ codes ".script") (scripts_in o.body)) (codes "object") c.objects
 
 -- C15 An action that executes a script table
 
@@ -220,59 +224,58 @@ abbrev pub executes : ConfigText → ActionText → Bool
 executes c a = is_invoke a.service && is_of_class (class_named c a.target.object) classes.ScriptTable
 
 abbrev pub no_execute : ConfigText → Judge ActionText
-no_execute c at a = fault_if Execute (at ++ codes ".object") (executes c a)
+no_execute c at a = fault_where Execute (at ++ codes ".object") (executes c a)
 
 unfoldable pub no_executes : ConfigText → List Fault
-no_executes c = each_fault (λ at o. each_action (no_execute c) at (scripts_in o.body)) (codes "object") c.objects
+no_executes c = each (λ at o. each_action (no_execute c) at (scripts_in o.body)) (codes "object") c.objects
 
 -- C16 More than a limit allows
 
 abbrev pub at_most : {A : Type 0} → ℕ → Judge (List A)
-at_most limit at xs = fault_if Limit at (nat_lt limit (length xs))
+at_most limit at xs = fault_where Limit at (nat_lt limit (length xs))
 
 abbrev pub is_small : Option Tree → Bool
 is_small None = true
 is_small (Some v) = is_within_limits v
 
 abbrev pub small_value : Judge (Option Text)
-small_value at text = fault_if Limit at (not (is_small (option_and_then value_in text)))
+small_value at text = fault_where Limit at (not (is_small (option_and_then value_in text)))
 
 -- a menu has 1 to 8 alternatives beside what is configured
 abbrev pub menu_size : {A : Type 0} → Judge (Option (List A))
-menu_size at None = Ok tt
-menu_size at (Some xs) = fault_if Limit at (nat_lt (length xs) 1 || nat_lt limits.MENU (length xs))
+menu_size at None = []
+menu_size at (Some xs) = fault_where Limit at (nat_lt (length xs) 1 || nat_lt limits.MENU (length xs))
 
 unfoldable pub script_limits : Judge ScriptText
-script_limits at s = do
-  few ← at_most limits.ACTIONS (at ++ codes ".action") s.actions
-  each (λ at a. small_value (at ++ codes ".value") a.value) (at ++ codes ".action") s.actions
+script_limits at s =
+    at_most limits.ACTIONS (at ++ codes ".action") s.actions
+    ++ each (λ at a. small_value (at ++ codes ".value") a.value) (at ++ codes ".action") s.actions
 
 unfoldable pub limits_in : Judge BodyText
 limits_in at (DataText value) = small_value (at ++ codes ".value") (Some value)
-limits_in at (RegisterText value default scaler unit) = do
-  start ← small_value (at ++ codes ".value") (Some value)
-  small_value (at ++ codes ".default") (Some default)
-limits_in at (ProfileText captures period entries sort_method) = do
-  few ← at_most limits.CAPTURE_OBJECTS (at ++ codes ".capture") captures.start
-  size ← fault_if Limit (at ++ codes ".entries") (nat_lt limits.PROFILE_ENTRIES entries)
-  menu ← menu_size (at ++ codes ".capture_menu") captures.menu
-  each (at_most limits.CAPTURE_OBJECTS) (at ++ codes ".capture_menu") (menu_in captures)
-limits_in at (ScriptTableText scripts) = do
-  few ← at_most limits.SCRIPTS (at ++ codes ".script") scripts
-  each script_limits (at ++ codes ".script") scripts
-limits_in at (MonitorText monitored thresholds actions) = do
-  few ← fault_if Limit (at ++ codes ".thresholds") (nat_lt limits.THRESHOLDS (length thresholds) || not (is_within_limits (thresholds_value thresholds)))
-  at_most limits.THRESHOLDS (at ++ codes ".action") actions
-limits_in at (ScheduleText script type times) = do
-  few ← fault_if Limit (at ++ codes ".times") (nat_lt limits.EXECUTION_TIMES (length times) || not (is_within_limits (times_value times)))
-  menu_size (at ++ codes ".script_menu") script.menu
-limits_in at _ = Ok tt
+limits_in at (RegisterText value default scaler unit) =
+    small_value (at ++ codes ".value") (Some value) ++ small_value (at ++ codes ".default") (Some default)
+limits_in at (ProfileText captures period entries sort_method) =
+    at_most limits.CAPTURE_OBJECTS (at ++ codes ".capture") captures.start
+    ++ fault_where Limit (at ++ codes ".entries") (nat_lt limits.PROFILE_ENTRIES entries)
+    ++ menu_size (at ++ codes ".capture_menu") captures.menu
+    ++ each (at_most limits.CAPTURE_OBJECTS) (at ++ codes ".capture_menu") (menu_in captures)
+limits_in at (ScriptTableText scripts) =
+    at_most limits.SCRIPTS (at ++ codes ".script") scripts
+    ++ each script_limits (at ++ codes ".script") scripts
+limits_in at (MonitorText monitored thresholds actions) =
+    fault_where Limit (at ++ codes ".thresholds") (nat_lt limits.THRESHOLDS (length thresholds) || not (is_within_limits (thresholds_value thresholds)))
+    ++ at_most limits.THRESHOLDS (at ++ codes ".action") actions
+limits_in at (ScheduleText script type times) =
+    fault_where Limit (at ++ codes ".times") (nat_lt limits.EXECUTION_TIMES (length times) || not (is_within_limits (times_value times)))
+    ++ menu_size (at ++ codes ".script_menu") script.menu
+limits_in at _ = []
 
 unfoldable pub within_limits : ConfigText → List Fault
 within_limits c =
-    fault_in (at_most limits.CLIENTS (codes "client") c.clients)
-    ++ fault_in (at_most limits.OBJECTS (codes "object") c.objects)
-    ++ each_fault (λ at o. limits_in at o.body) (codes "object") c.objects
+    at_most limits.CLIENTS (codes "client") c.clients
+    ++ at_most limits.OBJECTS (codes "object") c.objects
+    ++ each (λ at o. limits_in at o.body) (codes "object") c.objects
 
 -- C17 A label on what is no cell, or a second one for a cell
 
@@ -281,26 +284,26 @@ same_target s t = bytes_eq s.object t.object && (s.index == t.index)
 
 abbrev pub new_label : ConfigText → List LabelText → Judge LabelText
 new_label c earlier at l =
-    fault_if Label (at ++ codes ".index") (not (passes_or_chosen c is_cell l.target.object l.target.index) || list_any (λ e. same_target e.target l.target) earlier)
+    fault_where Label (at ++ codes ".index") (not (passes_or_chosen c is_cell l.target.object l.target.index) || list_any (λ e. same_target e.target l.target) earlier)
 
 unfoldable pub new_labels : ConfigText → List Fault
-new_labels c = each_new_fault (new_label c) (codes "label") c.labels
+new_labels c = each_new (new_label c) (codes "label") c.labels
 
 -- C18 An object is fed whose class has no value that can be
 
 unfoldable pub fed_values : ConfigText → List Fault
 fed_values c =
-    each_fault (λ at o. fault_if Fed (at ++ codes ".fed") (o.fed && not (may_be_fed o.class))) (codes "object") c.objects
+    each (λ at o. fault_where Fed (at ++ codes ".fed") (o.fed && not (may_be_fed o.class))) (codes "object") c.objects
 
 -- C19 Execution times that the type doesn't allow
 
 unfoldable pub valid_times_in : Judge BodyText
 valid_times_in at (ScheduleText script type times) =
-    fault_if Times (at ++ codes ".times") (not (are_execution_times type (elements (times_value times))))
-valid_times_in at _ = Ok tt
+    fault_where Times (at ++ codes ".times") (not (are_execution_times type (elements (times_value times))))
+valid_times_in at _ = []
 
 unfoldable pub valid_times : ConfigText → List Fault
-valid_times c = each_fault (λ at o. valid_times_in at o.body) (codes "object") c.objects
+valid_times c = each (λ at o. valid_times_in at o.body) (codes "object") c.objects
 
 -- C20 A sort method other than fifo, 1, or a part of an attribute captured
 
@@ -309,17 +312,17 @@ is_other only None = false
 is_other only (Some z) = not (int_le only z && int_le z only)
 
 abbrev pub whole_attribute : Judge CaptureText
-whole_attribute at x = fault_if Sorting (at ++ codes ".data_index") (is_other (pos 0) x.data_index)
+whole_attribute at x = fault_where Sorting (at ++ codes ".data_index") (is_other (pos 0) x.data_index)
 
 unfoldable pub valid_sorting_in : Judge BodyText
-valid_sorting_in at (ProfileText captures period entries sort_method) = do
-  parts ← each whole_attribute (at ++ codes ".capture") captures.start
-  method ← fault_if Sorting (at ++ codes ".sort_method") (is_other (pos 1) sort_method)
-  each (each whole_attribute) (at ++ codes ".capture_menu") (menu_in captures)
-valid_sorting_in at _ = Ok tt
+valid_sorting_in at (ProfileText captures period entries sort_method) =
+    each whole_attribute (at ++ codes ".capture") captures.start
+    ++ fault_where Sorting (at ++ codes ".sort_method") (is_other (pos 1) sort_method)
+    ++ each (each whole_attribute) (at ++ codes ".capture_menu") (menu_in captures)
+valid_sorting_in at _ = []
 
 unfoldable pub valid_sorting : ConfigText → List Fault
-valid_sorting c = each_fault (λ at o. valid_sorting_in at o.body) (codes "object") c.objects
+valid_sorting c = each (λ at o. valid_sorting_in at o.body) (codes "object") c.objects
 
 -- C21 A second clock
 
@@ -327,10 +330,10 @@ abbrev pub is_clock : ObjectText → Bool
 is_clock o = is_of_class o.class classes.Clock
 
 abbrev pub new_clock : List ObjectText → Judge ObjectText
-new_clock earlier at o = fault_if SecondClock (at ++ codes ".class") (is_clock o && list_any is_clock earlier)
+new_clock earlier at o = fault_where SecondClock (at ++ codes ".class") (is_clock o && list_any is_clock earlier)
 
 unfoldable pub new_clocks : ConfigText → List Fault
-new_clocks c = each_new_fault new_clock (codes "object") c.objects
+new_clocks c = each_new new_clock (codes "object") c.objects
 
 -- C22 An alternative that is what is configured, or an earlier one
 
@@ -348,17 +351,17 @@ abbrev pub same_script : ScriptRefText → ScriptRefText → Bool
 same_script r s = bytes_eq r.table s.table && (int_le r.script s.script && int_le s.script r.script)
 
 abbrev pub new_alternative : {A : Type 0} → (A → A → Bool) → A → List A → Judge A
-new_alternative same start earlier at x = fault_if AlternativeTwice at (same start x || list_any (λ e. same e x) earlier)
+new_alternative same start earlier at x = fault_where AlternativeTwice at (same start x || list_any (λ e. same e x) earlier)
 
 unfoldable pub new_alternatives_in : Judge BodyText
 new_alternatives_in at (ProfileText captures period entries sort_method) =
     each_new (new_alternative same_captures captures.start) (at ++ codes ".capture_menu") (menu_in captures)
 new_alternatives_in at (ScheduleText script type times) =
     each_new (new_alternative same_script script.start) (at ++ codes ".script_menu") (menu_in script)
-new_alternatives_in at _ = Ok tt
+new_alternatives_in at _ = []
 
 unfoldable pub new_alternatives : ConfigText → List Fault
-new_alternatives c = each_fault (λ at o. new_alternatives_in at o.body) (codes "object") c.objects
+new_alternatives c = each (λ at o. new_alternatives_in at o.body) (codes "object") c.objects
 
 -- The faults of the first pass that has any, in the order of the codes.
 unfoldable pub found : ConfigText → List Fault

@@ -1,5 +1,5 @@
 -- The values in the texts of a configuration.
-use Rattle.std.specs.Prelude.{ℕ, ◌==◌, Bool, true, false, ◌&&◌, List, [], ◌∷◌, length, take, drop, Option, Some, None, option_map}
+use Rattle.std.specs.Prelude.{ℕ, ◌==◌, Bool, true, false, ◌&&◌, cond, List, [], ◌∷◌, length, take, drop, Option, Some, None, option_map}
 use Rattle.cosem_data.specs.Tree.{Tree, octet_string}
 use Rattle.cosem_data.specs.Kinds.{kind_of, same_kind, is_number_kind}
 use Rattle.cosem_data.specs.declared.kind.Kind.{Kind}
@@ -55,3 +55,8 @@ is_number (Some kind) = is_number_kind kind
 abbrev pub may_be_number : Option Kind → Bool
 may_be_number None = true
 may_be_number (Some kind) = is_number_kind kind
+
+-- the kind, where it is one of numbers: by another one, which is a fault itself, nothing is judged
+abbrev pub number_kind : Option Kind → Option Kind
+number_kind None = None
+number_kind (Some kind) = cond (is_number_kind kind) (Some kind) None
