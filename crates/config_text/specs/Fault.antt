@@ -26,11 +26,6 @@ found_or code place (Some x) = Ok x
 found_or code place None = faulty code place
 
 -- this fault where the test holds
-abbrev pub fault_if : Code → Text → Bool → Result ⊤ Fault
-fault_if code place true = faulty code place
-fault_if code place false = Ok tt
-
--- the same, as all that the test finds
 abbrev pub fault_where : Code → Text → Bool → List Fault
 fault_where code place true = record { code = code; place = place } ∷ []
 fault_where code place false = []
