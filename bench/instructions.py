@@ -6,14 +6,17 @@
 Told are the instructions for a mixed line of the demo, and for one that is judged for a client, for a GET by a random name over 512 objects and 2,048 rights, for a byte
 of that configuration's text, for a GET of a buffer of 1,000 rows, whole and by 10 rows, for a capture into full buffers of
 10 and 1,000 rows, for a second over 512 objects of which 20 have a turn at it, told by `tick 3600` and by 3,600 lines `at`, and for a GET
-and a SET of one session that is served over TCP: each such figure is a run with many lines less one with few. And those of whole runs of `why` and
-of `compare` beside one of `label`, and of `report` beside those of `label` and `edges`, for a configuration of 512 objects with some 250,000 edges. Run `tools/build` first; another program of the same words can be named, to be counted beside it.
+and a SET of one session that is served over TCP: each such figure is a run with many lines less one with few. And those of whole runs of `check`,
+`edges` and `label` for a configuration of 512 objects with some 250,000 edges, of which the `toml` library's own part is told, of `why` and of `compare` beside that of `label`,
+and of `report` beside those of `label` and `edges`; and of an audit of 64 such texts by one worker and by four, beside the library's part and with the page
+faults of each, as the program is without its launcher. Run `tools/build` first; another program of the same words can be named, to be counted beside it.
 """
 import datetime
 import itertools
 import os
 import random
 import re
+import resource
 import socket
 import subprocess
 import sys
@@ -29,6 +32,8 @@ from session import AARE, AARQ, GET, READER, VALUE, frame
 
 LABELS = os.path.join(os.path.dirname(demo.CONFIG), "demo.labels")
 COUNTED = re.compile(rb"Collected : (\d+)")
+# How valgrind names the function that what follows is of, or that is called: by its number alone from the second time on.
+NAMED = re.compile(r"(fn|cfn)=\((\d+)\)(?: (.*))?")
 
 
 def turns():
@@ -50,6 +55,62 @@ def counted(program, text, lines, words=("run",), rest=()):
     with open(lines, "rb") as given:
         run = subprocess.run(command, stdin=given, stdout=subprocess.DEVNULL, stderr=subprocess.PIPE, check=True)
     return int(COUNTED.search(run.stderr).group(1))
+
+
+def library_part(program, words):
+    """The instructions of a run, and those of them that its calls into the `toml` library take, with what this calls."""
+    with tempfile.NamedTemporaryFile() as told:
+        command = ["valgrind", "--tool=callgrind", f"--callgrind-out-file={told.name}", program, *words]
+        run = subprocess.run(command, stdin=subprocess.DEVNULL, stdout=subprocess.DEVNULL, stderr=subprocess.PIPE, check=True)
+        part, names, caller, called, is_call = 0, {}, "", "", False
+        for line in open(told.name, encoding="utf-8"):
+            if named := NAMED.match(line):
+                kind, number, name = named.groups()
+                name = names.setdefault(number, name or "")
+                caller, called = (caller, name) if kind == "cfn" else (name, called)
+            elif line.startswith("calls="):
+                is_call = True
+            elif is_call:
+                is_call = False
+                if is_begun_by(called, caller):
+                    part += int(line.rsplit(" ", 1)[1])
+    return int(COUNTED.search(run.stderr).group(1)), part
+
+
+def is_of_library(name):
+    """Whether a function is the `toml` library's, or drops what it made."""
+    return name.startswith(("toml::", "toml_parser::")) or "toml++value++Value+Destruct" in name
+
+
+def is_begun_by(called, caller):
+    """Whether work of the library begins with a call. (What is called inside of a recursion has a name with an apostrophe.)"""
+    return is_of_library(called) and "'" not in called and not is_of_library(caller)
+
+
+def page_faults(command):
+    """The page faults of a run, the least of some."""
+    least = None
+    for _ in range(5):
+        before = resource.getrusage(resource.RUSAGE_CHILDREN).ru_minflt
+        subprocess.run(command, stdin=subprocess.DEVNULL, stdout=subprocess.DEVNULL, check=True)
+        taken = resource.getrusage(resource.RUSAGE_CHILDREN).ru_minflt - before
+        least = taken if least is None else min(least, taken)
+    return least
+
+
+def audited(program, folder, text):
+    """What an audit of 64 copies of a text costs, which has its least labels beside it."""
+    labels = subprocess.run([program, "label", text], capture_output=True, check=True).stdout
+    names = [os.path.join(folder, f"audited{number}") for number in range(64)]
+    for name in names:
+        for end, content in ((".toml", open(text, "rb").read()), (".labels", labels)):
+            with open(name + end, "wb") as out:
+                out.write(content)
+    commands = [[program, "audit", "--workers", str(workers), *names] for workers in (1, 4)]
+    one, part = library_part(program, commands[0][1:])
+    four, _ = library_part(program, commands[1][1:])
+    less, more = (page_faults(command) for command in commands)
+    print(f"an audit of 64: {one} by one worker, {one / part:.2f} times the toml library's own; by four {four / one:.3f} times that, with {more / less:.2f} times the {less} page faults")
 
 
 def served(program, client, begin, request, answer, count):
@@ -120,6 +181,13 @@ def main():
         # (a release that takes one right away, so that nobody gains)
         one_right = large[large.index(' { client = "client_0"') :].split("\n", 1)[0] + "\n"
         other = profile.written(folder, "other.toml", large.replace(one_right, "", 1))
+        labels = os.path.join(folder, "large.labels")
+        with open(labels, "wb") as out:
+            subprocess.run([program, "label", text], stdout=out, check=True)
+        for words in (("check", text, labels), ("edges", text), ("label", text)):
+            whole, part = library_part(program, words)
+            print(f"{words[0]} of 512 objects: {whole}, {whole / part:.2f} times the toml library's own")
+        audited(program, folder, text)
         label = counted(program, text, nothing, ("label",))
         why = counted(program, text, nothing, ("why",), ("client_5", f"3/{check.name_of(0, 100)}/2"))
         both = counted(program, text, nothing, ("compare",), (other,))
