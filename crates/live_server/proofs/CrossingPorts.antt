@@ -44,7 +44,7 @@ module _ (N W K : RattleType) (g : naming.Ghosts N.Denot) (h : keepers.Ghosts K.
 
   pub driver_send : (F : RattleType) (t : writes.Ghosts F.Denot) → IsSend F → IsSend (drivers.the_row a N W R F K g t h)
   driver_send F t f = let taken = taker_send F t f in
-      declared_send (drivers.the_type a N W R F K g t h) (taken, (search (crosses, sendable) depth 20, (search sendable depth 12, tt)))
+      declared_send (drivers.the_type a N W R F K g t h) (taken, (search (crosses, sendable) depth 20, tt))
 
   pub seat_sync : IsSync (mutexes.the_row (askers.the_row a N W R K h g))
   seat_sync = search (asker_send, crosses, sendable) depth 12

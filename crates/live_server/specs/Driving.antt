@@ -10,7 +10,7 @@ use Rattle.meter_live.specs.Changes.{Answers}
 use Rattle.meter_live.specs.Tally.{Tally, Counts}
 use Rattle.line_server.specs.Doing.{TakesAll}
 use Rattle.line_server.specs.Faults.{reason_words}
-use Rattle.line_server.specs.Spelling.{line_of, unreadable_text}
+use Rattle.line_server.specs.Spelling.{line_of}
 use Rattle.line_server.specs.Driving.{left_of}
 use Rattle.line_server.specs.Running.{own_steps}
 use Rattle.line_server.specs.declared.driving.Left.{Left}
@@ -33,10 +33,9 @@ abbrev pub no_step_words : NoStep → List ℕ
 no_step_words Apdu = codes "clients ask over TCP, and not by a line"
 no_step_words (kinds.Unreadable reason) = reason_words reason
 
--- what is told of a line that is no step of the meter itself, and where that is asked for why
-abbrev pub unread_text : (is_verbose : Bool) → ℕ → List ℕ → List ℕ
-unread_text false number words = unreadable_text number
-unread_text true number words = codes "line " ++ (decimal number ++ (codes ": unreadable: " ++ (words ++ codes "\n")))
+-- what is told of a line that is no step of the meter itself, and why
+abbrev pub unread_text : ℕ → List ℕ → List ℕ
+unread_text number words = codes "line " ++ (decimal number ++ (codes ": unreadable: " ++ (words ++ codes "\n")))
 
 -- what is told where no further line comes
 abbrev pub end_text : (is_read : Bool) → List ℕ
@@ -75,16 +74,16 @@ abbrev pub TakesOrTells : Plan → Hand → steps.Step → Result Reply Memory �
 TakesOrTells P old step (Ok reply) new = ((new.number ≡ old.number) × IsCounted P old step reply new) ⊎ IsRefused old new
 TakesOrTells P old step (Err refused) new = ⊥
 
--- that a line is no step of the meter itself, as the APDU of a client, is told
-abbrev pub TellsOf : (is_verbose : Bool) → Left → Hand → Hand → Type 0
-TellsOf is_verbose Nothing old new = new ≡ old
-TellsOf is_verbose (Ask ask) old new = IsTold old (unread_text is_verbose old.number (no_step_words Apdu)) new
-TellsOf is_verbose (Unreadable why) old new = IsTold old (unread_text is_verbose old.number (no_step_words (kinds.Unreadable why))) new
+-- that a line is no step of the meter itself, as the APDU of a client, is told, and why
+abbrev pub TellsOf : Left → Hand → Hand → Type 0
+TellsOf Nothing old new = new ≡ old
+TellsOf (Ask ask) old new = IsTold old (unread_text old.number (no_step_words Apdu)) new
+TellsOf (Unreadable why) old new = IsTold old (unread_text old.number (no_step_words (kinds.Unreadable why))) new
 
 -- what a line does: its steps are taken one after another, and it is told where it is something else
-abbrev pub Drives : Plan → (is_verbose : Bool) → Hand → Line → Hand → Type 0
-Drives P is_verbose old line new = (mid : Hand) × TakesAll (TakesOrTells P) old (own_steps P line) mid × TellsOf is_verbose (left_of line) mid new
+abbrev pub Drives : Plan → Hand → Line → Hand → Type 0
+Drives P old line new = (mid : Hand) × TakesAll (TakesOrTells P) old (own_steps P line) mid × TellsOf (left_of line) mid new
 
 -- the same of the text of a line, unless memory was refused to read it, which is told
-abbrev pub DrivesLine : Plan → (is_verbose : Bool) → Hand → List ℕ → Hand → Type 0
-DrivesLine P is_verbose old text new = Drives P is_verbose old (line_of P text) new ⊎ IsTold old (memory_text old.number) new
+abbrev pub DrivesLine : Plan → Hand → List ℕ → Hand → Type 0
+DrivesLine P old text new = Drives P old (line_of P text) new ⊎ IsTold old (memory_text old.number) new

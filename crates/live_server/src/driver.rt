@@ -88,15 +88,13 @@ impl<'b, N: Naming, W: Wait + Drop, R: Wait, F: Write + Drop, K: Keeps + Drop> T
 }
 
 /// Takes the meter's own steps from lines, at a seat, which tells of them once behind each line. A line that is no such step,
-/// and so the APDU of a client too, is told as `line N: unreadable`, with the reason where that is asked for, each step that is refused for memory as `line N: memory`, and one
-/// that can't be kept as `line N: not kept`; a line that is refused memory before its steps is told as `line N: memory` too. Then the
-/// next goes on. What is told takes no memory.
+/// and so the APDU of a client too, is told as `line N: unreadable: ` and the reason, each step that is refused for memory as
+/// `line N: memory`, and one that can't be kept as `line N: not kept`; a line that is refused memory before its steps is told as
+/// `line N: memory` too. Then the next goes on. What is told takes no memory.
 #[derive(Drop)]
 pub(crate) struct Driver<'b, N: Naming, W: Wait + Drop, R: Wait, F: Write + Drop, K: Keeps + Drop> {
     taker: Taker<'b, N, W, R, F, K>,
     apdu: Vec<u8>,
-    /// Whether it is told why a line is no step.
-    is_verbose: bool,
 }
 
 impl<'b, N: Naming, W: Wait + Drop, R: Wait, F: Write + Drop, K: Keeps + Drop> Driver<
@@ -108,15 +106,9 @@ impl<'b, N: Naming, W: Wait + Drop, R: Wait, F: Write + Drop, K: Keeps + Drop> D
     K,
 > {
     /// A driver at this seat, with what it tells by. No line is taken yet.
-    pub fn new(
-        alloc: Global,
-        seat: PortAsker<'b, N, W, R, K>,
-        notices: Notices<F>,
-        is_verbose: bool,
-    ) -> Self
-        ensures taker { result.taker
+    pub fn new(alloc: Global, seat: PortAsker<'b, N, W, R, K>, notices: Notices<F>) -> Self
+        ensures { result.taker
             ≡ record { share = seat.entry.share; told = F.contents notices.faults; number = 0 } }
-        ensures verbose { result.is_verbose ≡ is_verbose }
     {
         let taker = Taker {
             seat,
@@ -126,7 +118,6 @@ impl<'b, N: Naming, W: Wait + Drop, R: Wait, F: Write + Drop, K: Keeps + Drop> D
         Driver {
             taker,
             apdu: Vec::new(alloc),
-            is_verbose,
         }
     }
 
@@ -134,11 +125,7 @@ impl<'b, N: Naming, W: Wait + Drop, R: Wait, F: Write + Drop, K: Keeps + Drop> D
     pub(crate) fn into_seat(self) -> PortAsker<'b, N, W, R, K>
         ensures { result.share ≡ self.entry.taker.share }
     {
-        let Driver {
-            taker,
-            apdu: _apdu,
-            is_verbose: _,
-        } = self;
+        let Driver { taker, apdu: _apdu } = self;
         let Taker {
             seat,
             notices: _notices,
@@ -188,8 +175,8 @@ impl<'b, N: Naming, W: Wait + Drop, R: Wait, F: Write + Drop, K: Keeps + Drop> A
     ghost use Rattle.live_server.specs.Driving.{DrivesLine, following};
 
     // Lines are counted by the driver, since some may be lost. Nothing waits to be written: what is told is written at once.
-    ghost answers = { λ old _ line text new. (text ≡ []) × (new.is_verbose ≡ old.is_verbose)
-        × DrivesLine N.accepted.plan old.is_verbose (following old.taker) line new.taker };
+    ghost answers = { λ old _ line text new. (text ≡ [])
+        × DrivesLine N.accepted.plan (following old.taker) line new.taker };
 
     // No line ends the driver.
     ghost stops = { λ _ _ _ _ _. ⊥ };
@@ -201,13 +188,9 @@ impl<'b, N: Naming, W: Wait + Drop, R: Wait, F: Write + Drop, K: Keeps + Drop> A
         line: &[u8],
         _waiting: &mut Vec<u8>,
     ) -> Result<(), LineFault> {
-        let Driver {
-            taker,
-            apdu,
-            is_verbose,
-        } = self;
+        let Driver { taker, apdu } = self;
         taker.number = taker.number.wrapping_add(1);
-        take_line(alloc, taker, apdu, line, *is_verbose);
+        take_line(alloc, taker, apdu, line);
         taker.seat.tell();
         Ok(())
     }
@@ -219,9 +202,8 @@ fn take_line<N: Naming, W: Wait + Drop, R: Wait, F: Write + Drop, K: Keeps + Dro
     taker: &mut Taker<'_, N, W, R, F, K>,
     room: &mut Vec<u8>,
     line: &[u8],
-    is_verbose: bool,
 )
-    ensures { DrivesLine N.accepted.plan is_verbose taker.old line.now taker.new }
+    ensures { DrivesLine N.accepted.plan taker.old line.now taker.new }
 {
     let plan = taker.seat.plan();
     let Ok(line) = read_line(alloc, plan, line, room) else {
@@ -232,35 +214,29 @@ fn take_line<N: Naming, W: Wait + Drop, R: Wait, F: Write + Drop, K: Keeps + Dro
         // No step is an error: the taker tells of those that are refused.
         unreachable!();
     };
-    tell_left(taker, &left, is_verbose);
+    tell_left(taker, &left);
 }
 
-/// Tells that a line is no step of the meter itself, where it isn't.
+/// Tells that a line is no step of the meter itself, where it isn't, and why.
 fn tell_left<N: Naming, W: Wait + Drop, R: Wait, F: Write + Drop, K: Keeps + Drop>(
     taker: &mut Taker<'_, N, W, R, F, K>,
     left: &Left<'_>,
-    is_verbose: bool,
 )
-    ensures { TellsOf is_verbose left.now taker.old taker.new }
+    ensures { TellsOf left.now taker.old taker.new }
 {
     match left {
         Left::Nothing => {}
-        Left::Ask(_) => tell_no_step(taker, NoStep::Apdu, is_verbose),
-        Left::Unreadable(why) => tell_no_step(taker, NoStep::Unreadable(*why), is_verbose),
+        Left::Ask(_) => tell_no_step(taker, NoStep::Apdu),
+        Left::Unreadable(why) => tell_no_step(taker, NoStep::Unreadable(*why)),
     }
 }
 
-/// Tells that the line is no step of the meter itself, and where that is asked for why.
+/// Tells that the line is no step of the meter itself, and why.
 fn tell_no_step<N: Naming, W: Wait + Drop, R: Wait, F: Write + Drop, K: Keeps + Drop>(
     taker: &mut Taker<'_, N, W, R, F, K>,
     why: NoStep,
-    is_verbose: bool,
 )
-    ensures { IsTold taker.old (unread_text is_verbose taker.old.number (no_step_words why)) taker.new }
+    ensures { IsTold taker.old (unread_text taker.old.number (no_step_words why)) taker.new }
 {
-    if is_verbose {
-        taker.notices.tell_why_unreadable(taker.number, why);
-    } else {
-        taker.notices.tell_unreadable(taker.number);
-    }
+    taker.notices.tell_unreadable(taker.number, why);
 }

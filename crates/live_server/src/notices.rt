@@ -1,7 +1,6 @@
 //! What is told of the driver's lines.
-ghost use Rattle.std.specs.Prelude.{◌≡◌, ◌++◌, [], true, codes, string_bytes, IfOk};
+ghost use Rattle.std.specs.Prelude.{◌≡◌, ◌++◌, [], codes, string_bytes, IfOk};
 ghost use Rattle.std.specs.Fmt.{decimal};
-ghost use Rattle.line_server.specs.Spelling.{unreadable_text};
 ghost use Rattle.live_server.specs.Driving.{Tells, end_text, memory_text, no_step_words, unkept_text, unread_text};
 
 use cosem_data::memory::Memory;
@@ -55,22 +54,10 @@ impl<F: Write + Drop> Notices<F> {
         })
     }
 
-    /// Tells that the line with this number is no step of the meter itself, and says whether that was written whole.
-    pub(crate) fn tell_unreadable(&mut self, number: u64) -> bool
-        ensures { Tells (F.contents self.old.faults) (F.contents self.new.faults)
-            (unreadable_text number) result }
-    {
-        self.text.clear();
-        let Ok(()) = write!(self.text, "line {number}: unreadable\n") else {
-            return false;
-        };
-        self.write()
-    }
-
     /// Tells that the line with this number is no step of the meter itself, and why, and says whether that was written whole.
-    pub(crate) fn tell_why_unreadable(&mut self, number: u64, why: NoStep) -> bool
+    pub(crate) fn tell_unreadable(&mut self, number: u64, why: NoStep) -> bool
         ensures { Tells (F.contents self.old.faults) (F.contents self.new.faults)
-            (unread_text true number (no_step_words why)) result }
+            (unread_text number (no_step_words why)) result }
     {
         self.text.clear();
         let Ok(()) = write!(self.text, "line {number}: unreadable: {why}\n") else {

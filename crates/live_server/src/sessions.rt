@@ -154,8 +154,7 @@ where
     let notices = Notices::new(alloc, SharedOutput::new(rt, output)).map_err(
         |_| ServerFault::Memory,
     )?;
-    let is_verbose = service.manners.is_verbose;
-    let driver = Driver::new(alloc, open_seat(rt, board, None)?, notices, is_verbose);
+    let driver = Driver::new(alloc, open_seat(rt, board, None)?, notices);
     let seats = open_seats(rt, alloc, board, standings)?;
     let driver = run_threads(
         rt,
