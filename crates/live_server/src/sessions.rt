@@ -154,7 +154,9 @@ where
     let notices = Notices::new(alloc, SharedOutput::new(rt, output)).map_err(
         |_| ServerFault::Memory,
     )?;
-    let driver = Driver::new(alloc, open_seat(rt, board, None)?, notices);
+    let mut own = open_seat(rt, board, None)?;
+    own.take_reader();
+    let driver = Driver::new(alloc, own, notices);
     let seats = open_seats(rt, alloc, board, standings)?;
     let driver = run_threads(
         rt,
