@@ -1,7 +1,8 @@
 pub mod Answered
 pub mod Audits
 pub mod Ends
-pub mod Errors
 pub mod Made
+mod Told
 mod Trails
 mod Warned
+mod Written

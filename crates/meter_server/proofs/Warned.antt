@@ -8,27 +8,21 @@ use Rattle.meter_theory.specs.Plan.{Plan}
 use Rattle.verdict.proofs.Judged.{judged}
 use Rattle.verdict.specs.declared.Verdict.TheVariants.{Accepted}
 use Rattle.meter_server.specs.Answering.{TellsChecked, TellsJudgement}
-use Rattle.meter_server.specs.Program.{IsTold}
 use Rattle.meter_server.specs.Warning.{IsChecked, IsWarned, JudgesOn, Warns}
 use Rattle.meter_server.specs.declared.outcome.Outcome.{Outcome}
 use Rattle.meter_server.specs.declared.texts.Source.{Source}
 use Rattle.meter_server.proofs.Answered.{refused-so}
 use Rattle.meter_server.proofs.Made.{said-of}
 
--- lines that warn so were put behind it
-pub warned-so : (Says : List ℕ → Type 0) (lines : List ℕ) → IsTold Says lines → (before after : Outcome) → IsWarned (λ more. more ≡ lines) before after → IsWarned Says before after
-warned-so Says lines told before after (more, inl none, behind) = (more, inl none, behind)
-warned-so Says lines told before after (more, inr same, behind) = (more, subst (IsTold Says) (sym same) told, behind)
-
 -- a judgement of a plan is one of the text that has it
 judged-so : (tells_all : Bool) (config labels : Source) (made : Plan × Policy) (outcome : Outcome) → Reads (Ok made) (config_of config.text.now) → JudgesOn tells_all config labels made.0 made.1 outcome →
     TellsJudgement tells_all config labels outcome
 judged-so tells_all config labels made outcome reads (inl refuses) = (refused-so tells_all config labels made outcome reads refuses).0
-judged-so false config labels made outcome reads (inr (accepts, (text, is, empty))) =
-    subst (TellsJudgement false config labels) (sym is) (Accepted, judged made (config_of config.text.now) labels.text.now Accepted reads accepts, (refl, inl empty))
-judged-so true config labels made outcome reads (inr (accepts, (text, is, empty))) =
+judged-so false config labels made outcome reads (inr (accepts, (remarks, is, nothing))) =
+    subst (TellsJudgement false config labels) (sym is) (Accepted, judged made (config_of config.text.now) labels.text.now Accepted reads accepts, (refl, nothing))
+judged-so true config labels made outcome reads (inr (accepts, (remarks, is, nothing))) =
     let v = judged made (config_of config.text.now) labels.text.now Accepted reads accepts in
-    subst (TellsJudgement true config labels) (sym is) (Accepted, Some [], (v.0, v.1, v.2, v.3, (v.4, refl)), (refl, (refl, inl empty)))
+    subst (TellsJudgement true config labels) (sym is) (Accepted, Some [], (v.0, v.1, v.2, v.3, (v.4, refl)), (refl, (refl, nothing)))
 
 -- what is told of a plan is told of the text that has it
 pub checked-so : (tells_all : Bool) (warned : Warned) (config labels : Source) (made : Plan × Policy) (outcome : Outcome) → Reads (Ok made) (config_of config.text.now) →

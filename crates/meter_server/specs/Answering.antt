@@ -1,7 +1,6 @@
 -- What each command does with the files that it names, its input and its output (own profile throughout).
 use Rattle.std.specs.Prelude.{◌≡◌, ◌⊎◌, ◌++◌, ℕ, List, Bool, true, false, not, ◌||◌, codes, string_bytes, Option, Some, None, Result, Ok, Err, [], ◌∷◌}
 use Rattle.std.specs.Fmt.{decimal}
-use Rattle.std.specs.Io.KnownBytes.{Appends}
 use Rattle.command_words.specs.Commands.{Asked, command_of}
 use Rattle.command_words.specs.Commands.Asked.{Demo, Run, Edges, Label, Check, Why, Compare, Report, Quiet, Audit, Session, Serve, Trail, Encode, Decode}
 use Rattle.command_words.specs.declared.fault.WordsFault.TheVariants as words
@@ -21,8 +20,9 @@ use Rattle.meter_server.specs.Comparing.{ComparesFiles}
 use Rattle.meter_server.specs.Files.{ByFile, IsFile}
 use Rattle.meter_server.specs.Looking.{AsksWhy}
 use Rattle.meter_server.specs.Noticing.{NoticesAs}
-use Rattle.meter_server.specs.Outcomes.{error_of, status_of, translated, unless_closed}
+use Rattle.meter_server.specs.Outcomes.{error_of, remarks_of, status_of, translated, unless_closed}
 use Rattle.meter_server.specs.Program.{AnswersFrames, AnswersText, AnswersTrail, IsJudged, IsJudgedWhole, IsNoCommand, ListsEdges, TellsFault, TellsVerdict}
+use Rattle.meter_server.specs.Remarks.{WritesError}
 use Rattle.meter_server.specs.Reporting.{ReportsFile}
 use Rattle.meter_server.specs.Trailing.{PrintsTrail}
 use Rattle.meter_server.specs.Sources.{Given, MayGive, ReadsWhere, is_given_input, is_input}
@@ -34,14 +34,12 @@ use Rattle.step_stores.specs.declared.fault.StoreFault.{StoreFault}
 use Rattle.live_server.specs.declared.bind_fault.BindFault.{BindFault}
 use Rattle.live_server.specs.declared.fault.ServerFault.{ServerFault}
 use Rattle.live_server.specs.declared.fault.ServerFault.TheVariants as servers
-use Rattle.plan_lists.specs.Listing.{WritesText}
-use Rattle.plan_lists.specs.declared.fault.ListFault.{ListFault}
-use Rattle.plan_lists.specs.declared.fault.ListFault.TheVariants as lists
 use Rattle.step_words.specs.Translating.{Translates}
 use Rattle.step_words.specs.declared.texts.Way.{Way}
 use Rattle.step_words.specs.declared.texts.Way.TheVariants as ways
 use Rattle.step_words.specs.declared.translating.TranslationFault.{TranslationFault}
 use Rattle.text_files.specs.Files.{MayRead}
+use Rattle.whole_writes.specs.declared.WriteFailed.{WriteFailed}
 use Rattle.command_words.specs.declared.command.Warned.{Warned}
 use Rattle.meter_theory.specs.Labels.{Policy}
 use Rattle.meter_server.specs.Warning.{IsWarned, ListsLabels, Warns}
@@ -232,16 +230,10 @@ is_quiet (Some (Audit workers names names_file explains tells_progress)) = not t
 is_quiet (Some (Serve config labels served)) = false
 is_quiet _ = true
 
--- how a command ended is written on standard error: all of that, or a beginning of it, behind which a write failed; nothing, where there was no memory for it
-abbrev pub WritesError : Outcome → (before after : Option (List ℕ)) → Result (Unit {0}) ListFault → Type 0
-WritesError outcome before after (Err lists.Memory) = Appends before after []
-WritesError outcome before after written = WritesText (error_of outcome) before after written
-
--- how a command ended is told on standard error: as it is written there; and where there was no memory for that, this, or a beginning of it, where a write failed
-abbrev pub TellsError : Outcome → (before after : Option (List ℕ)) → Type 0
-TellsError outcome before after =
-    WritesError outcome before after (Ok tt) ⊎ WritesError outcome before after (Err lists.Write)
-    ⊎ (front : List ℕ) × (left : List ℕ) × (codes "cosem-flow: out of memory\n" ≡ front ++ left) × Appends before after front
+-- how a command ended is told on standard error; or that there was no memory for the text of that, which remarks don't want
+abbrev pub TellsError : Outcome → (before after : Option (List ℕ)) → Result (Unit {0}) WriteFailed → Type 0
+TellsError outcome before after written =
+    WritesError (error_of outcome) before after written ⊎ ((remarks_of outcome ≡ None) × WritesError (codes "cosem-flow: out of memory\n") before after written)
 
 -- what the program does for words, up to its exit status: what they ask for, and then it tells on standard output and standard error how that ended
 pub record Runs (reads : MayRead) (ws : List (List ℕ)) (before after : Moment) (error_before error_after : Option (List ℕ)) (status : ℕ) : Type 0 where
@@ -253,6 +245,7 @@ pub record Runs (reads : MayRead) (ws : List (List ℕ)) (before after : Moment)
   pub told : Outcome
   pub tells : TellsVerdict outcome between.written after.written told
   pub is_closed : Bool
-  pub explains : TellsError (unless_closed told is_closed) error_between error_after
+  pub written : Result (Unit {0}) WriteFailed
+  pub explains : TellsError (unless_closed told is_closed) error_between error_after written
   pub left : after.unread ≡ between.unread
   pub ends : status ≡ status_of (unless_closed told is_closed)

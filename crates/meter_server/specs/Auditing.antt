@@ -14,7 +14,8 @@ use Rattle.text_files.specs.Files.{MayRead}
 use Rattle.verdict.specs.Judging.{is_accepted}
 use Rattle.verdict.specs.declared.Verdict.{Verdict}
 use Rattle.meter_server.specs.Files.{ByFile}
-use Rattle.meter_server.specs.Program.{ExplainsVerdict, IsTold}
+use Rattle.meter_server.specs.Program.{ExplainsVerdict}
+use Rattle.meter_server.specs.Remarks.{Told, TellsBoth, cut_behind, told_of, whole}
 use Rattle.meter_server.specs.declared.outcome.Outcome.{Outcome}
 use Rattle.meter_server.specs.declared.outcome.Outcome.TheVariants.{Audited, Unaudited, UnreadFleet}
 use Rattle.meter_server.specs.declared.texts.Source.{Source}
@@ -28,34 +29,37 @@ abbrev pub behind_name : (name explanation : List ℕ) → List ℕ
 behind_name name explanation = if length explanation == 0 then [] else printable name ++ (codes ": " ++ explanation)
 
 -- the verdict on the two files of a name, which have these texts, is explained so
-pub record IsExplained (name : List ℕ) (text : Text) (verdict : Verdict) (told : List ℕ) : Type 0 where
+pub record IsExplained (name : List ℕ) (text : Text) (verdict : Verdict) (told : Told) : Type 0 where
   pub config : Source
   pub config_file : config.file.now ≡ config_path name
   pub config_text : config.text.now ≡ string_bytes text.config
   pub labels : Source
   pub labels_file : labels.file.now ≡ labels_path name
   pub labels_text : labels.text.now ≡ string_bytes text.labels
-  pub explanation : List ℕ
+  pub explanation : Told
   pub explains : ExplainsVerdict config labels verdict explanation
-  pub are : told ≡ behind_name name explanation
+  pub are : told ≡ record { lines = behind_name name explanation.lines; is_cut = explanation.is_cut }
+
+-- the same, unless memory was refused for it
+abbrev pub ExplainsOne : List ℕ → Text → Verdict → Told → Type 0
+ExplainsOne name text verdict told = IsExplained name text verdict told ⊎ (told ≡ cut_behind [])
 
 -- the verdicts on these names are explained so, one behind another
-abbrev pub ExplainsAll : List (List ℕ) → List Text → List Verdict → List ℕ → Type 0
-ExplainsAll (name ∷ names) (text ∷ texts) (verdict ∷ verdicts) told =
-    (here : List ℕ) × (behind : List ℕ) × (told ≡ here ++ behind) × IsExplained name text verdict here × ExplainsAll names texts verdicts behind
-ExplainsAll _ _ _ told = told ≡ []
+abbrev pub ExplainsAll : List (List ℕ) → List Text → List Verdict → Told → Type 0
+ExplainsAll (name ∷ names) (text ∷ texts) (verdict ∷ verdicts) told = TellsBoth (ExplainsOne name text verdict) (ExplainsAll names texts verdicts) told
+ExplainsAll _ _ _ told = told ≡ whole []
 
 -- the same where that is asked for, and else nothing
-abbrev pub ExplainsFleet : (explains : Bool) → List (List ℕ) → List Text → List Verdict → List ℕ → Type 0
-ExplainsFleet true names texts verdicts told = IsTold (ExplainsAll names texts verdicts) told
-ExplainsFleet false names texts verdicts told = told ≡ []
+abbrev pub ExplainsFleet : (explains : Bool) → List (List ℕ) → List Text → List Verdict → Told → Type 0
+ExplainsFleet true names texts verdicts told = ExplainsAll names texts verdicts told
+ExplainsFleet false names texts verdicts told = told ≡ whole []
 
 -- a command came to the verdicts on these texts, which are told and, where that is asked for, explained; or memory was refused
 abbrev pub JudgesFleet : (explains : Bool) → List (List ℕ) → List Text → Outcome → Type 0
 JudgesFleet explains names texts (Unaudited fault) = fault ≡ audits.Memory
 JudgesFleet explains names texts (Audited text accepts explanation) =
     (verdicts : List Verdict) × Audits texts verdicts × (string_bytes text ≡ verdicts_text names verdicts) × (accepts ≡ list_all is_accepted verdicts)
-    × ExplainsFleet explains names texts verdicts (string_bytes explanation)
+    × ExplainsFleet explains names texts verdicts (told_of explanation)
 JudgesFleet explains names texts _ = ⊥
 
 -- how a command ended whose fleet isn't read

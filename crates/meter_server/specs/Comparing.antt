@@ -1,5 +1,5 @@
 -- What a new configuration gives and takes. All of it is own profile.
-use Rattle.std.specs.Prelude.{◌≡◌, ◌⊎◌, ℕ, Bool, List, string_bytes, Option, Result, Ok}
+use Rattle.std.specs.Prelude.{◌≡◌, ◌⊎◌, ℕ, Bool, List, Option, Result, Ok}
 use Rattle.config_reader.specs.ConfigOf.{config_of}
 use Rattle.config_rules.specs.Faultless.{IsPolicyOf}
 use Rattle.config_rules.specs.PlanOf.{plan_of}
@@ -14,7 +14,8 @@ use Rattle.text_files.specs.Files.{MayRead}
 use Rattle.verdict.specs.declared.Verdict.TheVariants.{Config}
 use Rattle.meter_server.specs.Files.{IsFile, IsUnread}
 use Rattle.meter_server.specs.Outcomes.{compared}
-use Rattle.meter_server.specs.Program.{ExplainsFault, IsTold}
+use Rattle.meter_server.specs.Program.{ExplainsFault}
+use Rattle.meter_server.specs.Remarks.{told_of}
 use Rattle.meter_server.specs.declared.outcome.Outcome.{Outcome}
 use Rattle.meter_server.specs.declared.outcome.Outcome.TheVariants.{JudgedSide}
 use Rattle.meter_server.specs.declared.outcome.Side.{Side}
@@ -23,7 +24,7 @@ use Rattle.meter_server.specs.declared.texts.Source.{Source}
 
 -- a command came to this fault of the configuration on this side, which is explained
 abbrev pub IsFaultySide : Source → Side → ConfigFault → Outcome → Type 0
-IsFaultySide config side fault (JudgedSide told_side judged text) = (told_side ≡ side) × (judged ≡ Config fault) × IsTold (ExplainsFault config fault) (string_bytes text)
+IsFaultySide config side fault (JudgedSide told_side judged remarks) = (told_side ≡ side) × (judged ≡ Config fault) × ExplainsFault config fault (told_of remarks)
 IsFaultySide config side fault _ = ⊥
 
 -- the file with this path has a configuration of this plan and this policy

@@ -7,6 +7,7 @@ pub mod Looking
 pub mod Noticing
 pub mod Outcomes
 pub mod Program
+pub mod Remarks
 pub mod Reporting
 pub mod Sources
 pub mod Trailing

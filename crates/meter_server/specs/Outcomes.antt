@@ -1,7 +1,7 @@
 -- What the program tells whoever started it of how a command ended (own profile throughout).
 use Rattle.std.specs.Fmt.{decimal}
-use Rattle.std.specs.Prelude.{ℕ, Bool, true, false, ◌&&◌, List, [], ◌++◌, if◌then◌else◌, string_bytes, codes, Result, Ok, Err, String}
-use Rattle.std.specs.Global.{Global}
+use Rattle.std.specs.Prelude.{ℕ, Bool, true, false, ◌&&◌, List, [], ◌++◌, if◌then◌else◌, string_bytes, codes, Option, None, Some, Result, Ok, Err}
+use Rattle.std.specs.Option.{option_map_or}
 use Rattle.command_words.specs.declared.fault.WordsFault.{WordsFault}
 use Rattle.command_words.specs.declared.fault.WordsFault.TheVariants as words
 use Rattle.shown_text.specs.Printable.{printable}
@@ -15,11 +15,13 @@ use Rattle.live_server.specs.Faults as servers
 use Rattle.live_server.specs.declared.bind_fault.BindFault.{BindFault}
 use Rattle.live_server.specs.declared.fault.ServerFault.{ServerFault}
 use Rattle.verdict.specs.Lines.{verdict_line}
+use Rattle.meter_server.specs.Remarks.{told_of, told_text}
 use Rattle.meter_server.specs.Unread.{fleet_lines}
 use Rattle.meter_server.specs.declared.outcome.Side.{Side}
 use Rattle.meter_server.specs.declared.outcome.Side.TheVariants as sides
 use Rattle.meter_server.specs.declared.outcome.Outcome.{Outcome}
 use Rattle.meter_server.specs.declared.outcome.Outcome.TheVariants.{Done, Warned, Judged, JudgedWhole, JudgedSide, Compared, Words, Unread, UnreadFleet, Stranger, Fault, Broken, Unserved, Unbound, Unstored, Audited, Unaudited, Unwritten, Untranslated, Closed}
+use Rattle.meter_server.specs.declared.remarks.Remarks.{Remarks}
 use Rattle.line_server.specs.declared.fault.LineFault.{LineFault}
 use Rattle.line_server.specs.declared.fault.LineFault.TheVariants.{Line}
 use Rattle.line_server.specs.declared.fault.LineFault.TheVariants as lines
@@ -68,7 +70,7 @@ translated (Ok u) = Done
 translated (Err fault) = Untranslated fault
 
 -- how a command ended whose fleet was audited so, with this explanation of it
-abbrev pub audited : Told → String Global → Outcome
+abbrev pub audited : Told → Remarks → Outcome
 audited told explanation = Audited told.text told.is_accepted explanation
 
 -- the exit status of a verdict: 0 where it accepts
@@ -88,7 +90,7 @@ status_of_words words.Memory = 3
 -- the exit status: 0 done or accepted, 1 a verdict that refuses, 2 a command line that can't be used, 3 any other fault; 141 a closed output
 abbrev pub status_of : Outcome → ℕ
 status_of Done = 0
-status_of (Warned warnings) = 0
+status_of (Warned remarks) = 0
 status_of (Judged verdict explanation) = status_of_verdict verdict
 status_of (JudgedWhole verdict failures explanation) = status_of_verdict verdict
 status_of (JudgedSide side verdict explanation) = 1
@@ -159,30 +161,34 @@ unbound_line place why = codes "cosem-flow: " ++ (printable place ++ (codes ": "
 abbrev pub unstored_line : List ℕ → StoreFault → List ℕ
 unstored_line file why = codes "cosem-flow: " ++ (printable file ++ (codes ": " ++ (stores.fault_words why ++ codes "\n")))
 
--- what standard error tells: what explains a verdict, all else that went wrong, and why a line is unreadable, which standard output has told of
+-- what is told beside a verdict or a list
+abbrev pub remarks_of : Outcome → Option Remarks
+remarks_of (Warned remarks) = Some remarks
+remarks_of (Judged verdict remarks) = Some remarks
+remarks_of (JudgedWhole verdict failures remarks) = Some remarks
+remarks_of (JudgedSide side verdict remarks) = Some remarks
+remarks_of (Audited text accepts remarks) = Some remarks
+remarks_of _ = None
+
+-- what is told of anything else that went wrong, and of why a line is unreadable, which standard output has told of
+abbrev pub fault_text : Outcome → List ℕ
+fault_text (Compared true) = gives_more
+fault_text (Words (words.Usage text)) = string_bytes text
+fault_text (Words words.Memory) = codes "cosem-flow: out of memory\n"
+fault_text (Unread file why) = unread_line (string_bytes file) why
+fault_text (Stranger told) = line (string_bytes told)
+fault_text (Fault (Line number why)) = codes "cosem-flow: line " ++ (decimal number ++ (codes ": " ++ (reason_words why ++ codes "\n")))
+fault_text (Fault fault) = line (fault_words fault)
+fault_text (UnreadFleet files) = fleet_lines files.items
+fault_text (Unaudited fault) = line (audits.fault_words fault)
+fault_text (Broken fault) = line (told_words fault)
+fault_text (Unserved fault) = line (servers.fault_words fault)
+fault_text (Unbound place why) = unbound_line (string_bytes place) why
+fault_text (Unstored file why) = unstored_line (string_bytes file) why
+fault_text (Unwritten fault) = line (lists.fault_words fault)
+fault_text (Untranslated fault) = line (translations.fault_words fault)
+fault_text _ = []
+
+-- what standard error tells: what explains a verdict and what is warned of, or all else that went wrong
 abbrev pub error_of : Outcome → List ℕ
-error_of Done = []
-error_of (Warned warnings) = string_bytes warnings
-error_of Closed = []
-error_of (Judged verdict explanation) = string_bytes explanation
-error_of (JudgedWhole verdict failures explanation) = string_bytes explanation
-error_of (JudgedSide side verdict explanation) = string_bytes explanation
-error_of (Compared true) = gives_more
-error_of (Compared false) = []
-error_of (Words (words.Help text)) = []
-error_of (Words (words.Version text)) = []
-error_of (Words (words.Usage text)) = string_bytes text
-error_of (Words words.Memory) = codes "cosem-flow: out of memory\n"
-error_of (Unread file why) = unread_line (string_bytes file) why
-error_of (Stranger told) = line (string_bytes told)
-error_of (Fault (Line number why)) = codes "cosem-flow: line " ++ (decimal number ++ (codes ": " ++ (reason_words why ++ codes "\n")))
-error_of (Fault fault) = line (fault_words fault)
-error_of (UnreadFleet files) = fleet_lines files.items
-error_of (Audited text accepts explanation) = string_bytes explanation
-error_of (Unaudited fault) = line (audits.fault_words fault)
-error_of (Broken fault) = line (told_words fault)
-error_of (Unserved fault) = line (servers.fault_words fault)
-error_of (Unbound place why) = unbound_line (string_bytes place) why
-error_of (Unstored file why) = unstored_line (string_bytes file) why
-error_of (Unwritten fault) = line (lists.fault_words fault)
-error_of (Untranslated fault) = line (translations.fault_words fault)
+error_of outcome = option_map_or (λ remarks. told_text (told_of remarks)) (remarks_of outcome) (fault_text outcome)

@@ -1,6 +1,5 @@
 -- What a configuration without fault is warned of (own profile throughout).
-use Rattle.std.specs.Prelude.{◌≡◌, ◌⊎◌, ◌++◌, List, [], ℕ, Bool, Option, None, Some, Result, Ok, Err, String, length, map, string_bytes}
-use Rattle.std.specs.Global.{Global}
+use Rattle.std.specs.Prelude.{◌≡◌, ◌⊎◌, ◌++◌, List, [], ℕ, Bool, Option, None, Some, Result, Ok, Err, length, map}
 use Rattle.command_words.specs.declared.command.Warned.{Warned}
 use Rattle.command_words.specs.declared.command.Warned.TheVariants.{Nothing, Slips, SlipsAndWidths}
 use Rattle.config_rules.specs.Faultless.{IsPolicyOf}
@@ -19,10 +18,12 @@ use Rattle.meter_theory.specs.Plan.{Plan, cells}
 use Rattle.plan_lists.specs.Listing.{WritesLeast}
 use Rattle.verdict.specs.Judging.{IsVerdictOn}
 use Rattle.verdict.specs.declared.Verdict.TheVariants.{Accepted}
-use Rattle.meter_server.specs.Program.{IsFaulty, IsTold, RefusesOn}
+use Rattle.meter_server.specs.Program.{IsFaulty, RefusesOn}
+use Rattle.meter_server.specs.Remarks.{GoesOn, IsTold, Told, TellsBoth, told_of, whole}
 use Rattle.meter_server.specs.declared.outcome.Outcome.{Outcome}
 use Rattle.meter_server.specs.declared.outcome.Outcome.TheVariants.{Judged, JudgedWhole}
 use Rattle.meter_server.specs.declared.outcome.Outcome.TheVariants as outcomes
+use Rattle.meter_server.specs.declared.remarks.Remarks.{Remarks}
 use Rattle.meter_server.specs.declared.texts.Source.{Source}
 
 -- what is told of the slips in the configuration in a file, which has this plan
@@ -46,25 +47,25 @@ TellsWidths config labels P policy text =
     × (text ≡ width_line config.file.now whose.Policy (wider_cells (labelling_of_policy P policy) least) (length least) ++ width_of_given P least labels)
 
 -- what is warned of a plan and its policy, which the configuration in a file has, and of the labels in another, where they are given
-abbrev pub Warns : Warned → Source → Option Source → Plan → Policy → List ℕ → Type 0
-Warns Nothing config labels P policy text = text ≡ []
-Warns Slips config labels P policy text = TellsSlips config P text
-Warns SlipsAndWidths config labels P policy text =
-    (slips : List ℕ) × (widths : List ℕ) × TellsSlips config P slips × TellsWidths config labels P policy widths × (text ≡ slips ++ widths)
+abbrev pub Warns : Warned → Source → Option Source → Plan → Policy → Told → Type 0
+Warns Nothing config labels P policy told = told ≡ whole []
+Warns Slips config labels P policy told = IsTold (TellsSlips config P) told
+Warns SlipsAndWidths config labels P policy told = TellsBoth (IsTold (TellsSlips config P)) (IsTold (TellsWidths config labels P policy)) told
 
--- a verdict is told as before, with these lines behind what explains it; whatever else a command came to stays as it is
-abbrev pub IsBehind : (before : Outcome) → (lines : List ℕ) → (after : Outcome) → Type 0
-IsBehind (Judged verdict text) lines (Judged told all) = (told ≡ verdict) × (string_bytes all ≡ string_bytes text ++ lines)
-IsBehind (JudgedWhole verdict failures text) lines (JudgedWhole told whole all) = (told ≡ verdict) × (whole ≡ failures) × (string_bytes all ≡ string_bytes text ++ lines)
-IsBehind before lines after = after ≡ before
+-- a verdict is told as before, and behind what explains it these warnings; whatever else a command came to stays as it is
+abbrev pub IsBehind : (before : Outcome) → (warnings : Told) → (after : Outcome) → Type 0
+IsBehind (Judged verdict remarks) warnings (Judged judged all) = (judged ≡ verdict) × GoesOn (told_of remarks) warnings (told_of all)
+IsBehind (JudgedWhole verdict failures remarks) warnings (JudgedWhole judged failed all) =
+    (judged ≡ verdict) × (failed ≡ failures) × GoesOn (told_of remarks) warnings (told_of all)
+IsBehind before warnings after = after ≡ before
 
--- it is told with lines that warn so, or without them, since there was no memory for that
-abbrev pub IsWarned : (List ℕ → Type 0) → (before after : Outcome) → Type 0
-IsWarned Says before after = (lines : List ℕ) × IsTold Says lines × IsBehind before lines after
+-- the same with warnings that are told so
+abbrev pub IsWarned : (Told → Type 0) → (before after : Outcome) → Type 0
+IsWarned Tells before after = (warnings : Told) × Tells warnings × IsBehind before warnings after
 
 -- how the least labels of a plan are written, with what is warned of it and its policy
 abbrev pub ListsLabelsOf : Warned → Source → Plan → Policy → (before after : Option (List ℕ)) → Outcome → Type 0
-ListsLabelsOf warned config P policy before after (outcomes.Warned text) = WritesLeast P before after (Ok tt) × IsTold (Warns warned config None P policy) (string_bytes text)
+ListsLabelsOf warned config P policy before after (outcomes.Warned remarks) = WritesLeast P before after (Ok tt) × Warns warned config None P policy (told_of remarks)
 ListsLabelsOf warned config P policy before after (outcomes.Unwritten fault) = WritesLeast P before after (Err fault)
 ListsLabelsOf warned config P policy before after _ = ⊥
 
@@ -78,7 +79,7 @@ ListsLabels warned config said before after outcome =
 abbrev pub JudgesOn : (tells_all : Bool) → (config labels : Source) → Plan → Policy → Outcome → Type 0
 JudgesOn tells_all config labels P policy outcome =
     RefusesOn config labels P policy tells_all outcome
-    ⊎ (IsVerdictOn P policy labels.text.now Accepted × ((text : String Global) × (outcome ≡ Judged Accepted text) × (string_bytes text ≡ [])))
+    ⊎ (IsVerdictOn P policy labels.text.now Accepted × ((remarks : Remarks) × (outcome ≡ Judged Accepted remarks) × (told_of remarks ≡ whole [])))
 
 -- the same with what is warned of
 abbrev pub IsChecked : (tells_all : Bool) → Warned → (config labels : Source) → Plan → Policy → Outcome → Type 0

@@ -1,15 +1,15 @@
 //! The verdicts on many configurations, of the names that the words and a file have (own profile).
-ghost use Rattle.std.specs.Prelude.{◌≡◌, ◌++◌, false, IfOk, List, ℕ, MatchResult, OnOk, map, option_map, string_bytes};
+ghost use Rattle.std.specs.Prelude.{◌≡◌, ◌++◌, false, IfOk, MatchResult, map, option_map, string_bytes};
 ghost use Rattle.std.specs.Str.Lines.{lines};
 ghost use Rattle.fleet_audit.specs.Telling.{TellsAudit};
 ghost use Rattle.fleet_audit.specs.declared.fault.AuditFault.TheVariants.{Memory as OutOfMemory};
 ghost use Rattle.meter_server.specs.Auditing as spec;
-ghost use Rattle.meter_server.specs.Auditing.{AuditsFiles, AuditsNamed, ExplainsAll, IsExplained, JudgesFleet, TellsUnreadFleet};
-ghost use Rattle.meter_server.specs.Outcomes as outcomes;
-ghost use Rattle.meter_server.specs.Program.{IsTold};
+ghost use Rattle.meter_server.specs.Auditing.{AuditsFiles, AuditsNamed, ExplainsAll, ExplainsFleet, ExplainsOne, IsExplained, JudgesFleet, TellsUnreadFleet};
+ghost use Rattle.meter_server.specs.Remarks.{told_of};
 
 use crate::files::text_of_file;
 use crate::outcome::{Outcome, audited};
+use crate::remarks::Remarks;
 use crate::texts::{Source, explain_verdict};
 use cosem_data::memory::Memory;
 use fleet_audit::fault::AuditFault;
@@ -58,18 +58,19 @@ struct Judged<'a> {
 }
 
 impl<'a> Judged<'a> {
-    ghost use Rattle.std.specs.Prelude.{◌<◌, ◌++◌, [], IfNone, IfSome, List, ℕ, length, map};
-    ghost use Rattle.meter_server.specs.Auditing.{ExplainsAll, IsExplained};
+    ghost use Rattle.std.specs.Prelude.{◌<◌, [], IfNone, IfSome, length, map};
+    ghost use Rattle.meter_server.specs.Auditing.{ExplainsAll, ExplainsOne};
+    ghost use Rattle.meter_server.specs.Remarks as remarks;
+    ghost use Rattle.meter_server.specs.Remarks.{TellsBoth, whole};
 
     /// The first name with what belongs to it, and those behind it.
     fn first(self) -> Option<(One<'a>, Judged<'a>)>
         ensures none { IfNone result (ExplainsAll (map (λ name. name.now) self.entry.names.now)
-            self.entry.texts.now self.entry.verdicts.now []) }
-        ensures some { IfSome result (λ x. (here behind : List ℕ)
-            → IsExplained x.0.name.now x.0.text.now x.0.verdict.now here
-            → ExplainsAll (map (λ name. name.now) x.1.names.now) x.1.texts.now x.1.verdicts.now behind
-            → ExplainsAll (map (λ name. name.now) self.entry.names.now) self.entry.texts.now self.entry.verdicts.now
-            (here ++ behind)) }
+            self.entry.texts.now self.entry.verdicts.now (whole [])) }
+        ensures some { IfSome result (λ x. (told : remarks.Told)
+            → TellsBoth (ExplainsOne x.0.name.now x.0.text.now x.0.verdict.now)
+            (ExplainsAll (map (λ name. name.now) x.1.names.now) x.1.texts.now x.1.verdicts.now) told
+            → ExplainsAll (map (λ name. name.now) self.entry.names.now) self.entry.texts.now self.entry.verdicts.now told) }
         ensures fewer { IfSome result (λ x. length x.1.names.now < length self.entry.names.now) }
     {
         let (name, names) = self.names.split_first()?;
@@ -209,8 +210,10 @@ where
     ensures quiet { audit.entry.tells_progress ≡ false → E.contents errors.new ≡ E.contents errors.old }
 {
     match tell_fleet(rt, audit, names, texts, errors) {
-        Ok(told) if audit.explains => explained(rt.alloc(), names, texts, told),
-        Ok(told) => audited(told, String::new(rt.alloc())),
+        Ok(told) => {
+            let explanation = explain_fleet(rt.alloc(), audit, names, texts, &told.verdicts);
+            audited(told, explanation)
+        }
         Err(fault) => Outcome::Unaudited(fault),
     }
 }
@@ -237,59 +240,63 @@ where
     }
 }
 
-/// How a command ended that came to these verdicts, with what explains them.
-fn explained(alloc: Global, names: &[&str], texts: &[Text], told: Told) -> Outcome
-    ensures { (explanation : _) × (result ≡ outcomes.audited told explanation)
-        × IsTold (ExplainsAll (map (λ name. name.now) names.now) texts.now told.verdicts.items)
-        (string_bytes explanation) }
-{
-    match explain_all(alloc, names, texts, &told.verdicts) {
-        Ok(explanation) => audited(told, explanation),
-        Err(_) => audited(told, String::new(alloc)),
-    }
-}
-
-/// What explains these verdicts, one behind another. The error is that memory was refused.
-fn explain_all(
+/// What explains these verdicts, where that is asked for.
+fn explain_fleet(
     alloc: Global,
+    audit: Audit<'_, '_>,
     names: &[&str],
     texts: &[Text],
     verdicts: &[Verdict],
-) -> Result<String, Memory>
-    ensures { IfOk result (λ told. ExplainsAll (map (λ name. name.now) names.now) texts.now verdicts.now
-        (string_bytes told)) }
+) -> Remarks
+    ensures { ExplainsFleet audit.entry.explains (map (λ name. name.now) names.now) texts.now verdicts.now
+        (told_of result) }
 {
-    let mut told = String::new(alloc);
+    if audit.explains {
+        explain_all(alloc, names, texts, verdicts)
+    } else {
+        Remarks::none(alloc)
+    }
+}
+
+/// What explains these verdicts, one behind another.
+fn explain_all(alloc: Global, names: &[&str], texts: &[Text], verdicts: &[Verdict]) -> Remarks
+    ensures { ExplainsAll (map (λ name. name.now) names.now) texts.now verdicts.now (told_of result) }
+{
+    let mut told = Remarks::none(alloc);
     let mut left = Judged {
         names,
         texts,
         verdicts,
     };
     while let Some((one, behind)) = left.first() {
-        push_explained(alloc, one, &mut told)?;
+        let here = explain_one(alloc, one);
+        told = told.with(&here);
+        if told.is_cut {
+            return told;
+        }
         left = behind;
     }
-    Ok(told)
+    told
 }
 
-/// Puts behind a text what explains the verdict on a name. The error is that memory was refused.
-fn push_explained(alloc: Global, one: One<'_>, told: &mut String) -> Result<(), Memory>
-    ensures { OnOk result ((here : List ℕ) × (string_bytes told.new ≡ string_bytes told.old ++ here)
-        × IsExplained one.entry.name.now one.entry.text.now one.entry.verdict.now here) }
+/// What explains the verdict on a name, behind the name; nothing where memory is refused for it.
+fn explain_one(alloc: Global, one: One<'_>) -> Remarks
+    ensures { ExplainsOne one.entry.name.now one.entry.text.now one.entry.verdict.now (told_of result) }
 {
-    let here = explain_named(alloc, one.name, one.text, one.verdict)?;
-    told.push_str(here.as_str())?;
-    Ok(())
+    match explain_named(alloc, one.name, one.text, one.verdict) {
+        Ok(explanation) => explanation,
+        Err(refused) => Remarks::of(alloc, Err(refused)),
+    }
 }
 
-/// What explains the verdict on a name, behind the name.
+/// What explains the verdict on a name, behind the name. The error is that memory was refused for the first of its lines.
 fn explain_named(
     alloc: Global,
     name: &str,
     text: &Text,
     verdict: &Verdict,
-) -> Result<String, Memory>
-    ensures { IfOk result (λ told. IsExplained name.now text.now verdict.now (string_bytes told)) }
+) -> Result<Remarks, Memory>
+    ensures { IfOk result (λ remarks. IsExplained name.now text.now verdict.now (told_of remarks)) }
 {
     let config_file = format!(in alloc; "{name}.toml")?;
     let labels_file = format!(in alloc; "{name}.labels")?;
@@ -301,8 +308,9 @@ fn explain_named(
         file: labels_file.as_str(),
         text: text.labels.as_str(),
     };
-    let explanation = explain_verdict(alloc, config, labels, verdict)?;
-    behind_name(alloc, name, explanation.as_str())
+    let Remarks { lines, is_cut } = explain_verdict(alloc, config, labels, verdict);
+    let lines = behind_name(alloc, name, lines.as_str())?;
+    Ok(Remarks { lines, is_cut })
 }
 
 /// What explains the verdict on a name, behind the name; nothing where there is nothing to explain.

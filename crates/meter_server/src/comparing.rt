@@ -77,9 +77,6 @@ pub(crate) fn made_of<F: TextFiles>(
 fn faulty_side(alloc: Global, side: Side, config: Source<'_>, fault: ConfigFault) -> Outcome
     ensures { IsFaultySide config.entry side fault result }
 {
-    let explanation = match explain_fault(alloc, config, &fault) {
-        Ok(text) => text,
-        Err(_) => String::new(alloc),
-    };
+    let explanation = explain_fault(alloc, config, &fault);
     Outcome::JudgedSide(side, Verdict::Config(fault), explanation)
 }

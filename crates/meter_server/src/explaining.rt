@@ -1,7 +1,9 @@
 //! What explains the fault of a configuration, with the other faults that the same pass finds (own profile).
-ghost use Rattle.std.specs.Prelude.{◌≡◌, IfOk, string_bytes};
+ghost use Rattle.std.specs.Prelude.{IfOk, string_bytes};
 ghost use Rattle.meter_server.specs.Program.{ExplainsFault, ExplainsRest};
+ghost use Rattle.meter_server.specs.Remarks.{told_of};
 
+use crate::remarks::Remarks;
 use crate::texts::Source;
 use config_reader::laws::texts_are_refused_by_the_first_fault;
 use config_reader::read_or_refuse;
@@ -12,19 +14,16 @@ use explanations::config::explain_config;
 use explanations::others::explain_others;
 use std::alloc::Global;
 
-/// What explains the fault of the configuration in a file, and behind it the other faults that the same pass finds, in whole lines. The
-/// error is that memory was refused.
-pub(crate) fn explain_fault(
-    alloc: Global,
-    config: Source<'_>,
-    fault: &ConfigFault,
-) -> Result<String, Memory>
-    ensures { IfOk result (λ text. ExplainsFault config.entry fault.now (string_bytes text)) }
+/// What explains the fault of the configuration in a file, and behind it the other faults that the same pass finds.
+pub(crate) fn explain_fault(alloc: Global, config: Source<'_>, fault: &ConfigFault) -> Remarks
+    ensures { ExplainsFault config.entry fault.now (told_of result) }
 {
-    let mut text = explain_config(alloc, config.file, config.text, fault)?;
-    let rest = explain_rest(alloc, config)?;
-    text.push_str(&rest)?;
-    Ok(text)
+    let first = Remarks::of(
+        alloc,
+        explain_config(alloc, config.file, config.text, fault),
+    );
+    let rest = Remarks::of(alloc, explain_rest(alloc, config));
+    first.with(&rest)
 }
 
 /// What explains the faults behind the first, for which the text is read once more.

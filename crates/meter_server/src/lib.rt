@@ -13,6 +13,7 @@ mod noticing;
 pub mod outcome;
 pub mod output;
 pub mod program;
+pub mod remarks;
 mod reporting;
 mod serving;
 mod sources;

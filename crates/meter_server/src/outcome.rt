@@ -1,9 +1,10 @@
 //! How a command ended, and what is told of it (own profile).
-ghost use Rattle.std.specs.Prelude.{◌≡◌, ◌++◌, IfOk, string_bytes};
+ghost use Rattle.std.specs.Prelude.{◌≡◌, ◌++◌, IfOk, option_map, string_bytes};
 ghost use Rattle.verdict.specs.Lines.{verdict_line};
 ghost use Rattle.meter_server.specs.Outcomes as outcomes;
-ghost use Rattle.meter_server.specs.Outcomes.{error_of, line, output_of, status_of, unbound_line, unread_line, unstored_line};
+ghost use Rattle.meter_server.specs.Outcomes.{fault_text, line, output_of, remarks_of, status_of, unbound_line, unread_line, unstored_line};
 
+use crate::remarks::Remarks;
 use crate::unread::fleet_lines;
 use command_words::WordsFault;
 use cosem_data::memory::Memory;
@@ -41,16 +42,14 @@ pub enum Side {
 pub enum Outcome {
     /// It did what it was asked to do.
     Done,
-    /// It did that, and this text warns in whole lines of what is most likely a slip. It is empty where there is nothing to warn of, or
-    /// no memory to do so.
-    Warned(String),
-    /// It came to this verdict, and this text explains it in whole lines. The text is empty where there is nothing to explain, or
-    /// no memory to do so.
-    Judged(Verdict, String),
-    /// It came to this verdict, the first text tells all that fails in whole lines, and the second explains the verdict as of `Judged`.
-    JudgedWhole(Verdict, String, String),
-    /// It came to this verdict on one of two configurations, and this text explains it as of `Judged`.
-    JudgedSide(Side, Verdict, String),
+    /// It did that, and warns of what is most likely a slip.
+    Warned(Remarks),
+    /// It came to this verdict, which is explained, and warns of what is most likely a slip.
+    Judged(Verdict, Remarks),
+    /// The same, and this text tells all that fails in whole lines.
+    JudgedWhole(Verdict, String, Remarks),
+    /// It came to this verdict on one of two configurations, which is explained.
+    JudgedSide(Side, Verdict, Remarks),
     /// It told how two configurations differ, and whether the new one gives a client what the old one doesn't.
     Compared(bool),
     /// The words of the command line ask for help or the version, or are no command.
@@ -71,12 +70,12 @@ pub enum Outcome {
     Unbound(String, BindFault),
     /// The file with this path, which was to keep the steps of the live meter, isn't opened, and why.
     Unstored(String, StoreFault),
-    /// It came to the verdicts on many configurations, which these lines tell, and of which all accept or not. The second text explains
-    /// them in whole lines, where that is asked for and there is memory to do so.
+    /// It came to the verdicts on many configurations, which these lines tell, and of which all accept or not. They are explained where
+    /// that is asked for.
     Audited {
         text: String,
         is_accepted: bool,
-        explanation: String,
+        explanation: Remarks,
     },
     /// It came to no verdicts on them.
     Unaudited(AuditFault),
@@ -163,22 +162,29 @@ impl Outcome {
         }
     }
 
-    /// What is told on standard error: any other fault, what explains a verdict, and why a line is unreadable. Standard output
-    /// has told of the last two.
-    pub fn error(&self, alloc: Global) -> Result<String, Memory>
-        ensures { IfOk result (λ text. string_bytes text ≡ error_of self.now) }
+    /// What is told on standard error beside a verdict or a list; of other ends nothing.
+    pub fn remarks(&self) -> Option<&Remarks>
+        ensures { option_map (λ remarks. remarks.now) result ≡ remarks_of self.now }
     {
         match self {
-            Outcome::Done | Outcome::Compared(false) | Outcome::Closed => Ok(String::new(alloc)),
-            Outcome::Warned(warnings) => Ok(String::from_str(alloc, warnings.as_str())?),
-            Outcome::Judged(_, explanation)
-            | Outcome::JudgedWhole(_, _, explanation)
-            | Outcome::JudgedSide(_, _, explanation)
-            | Outcome::Audited { explanation, .. } => {
-                Ok(String::from_str(alloc, explanation.as_str())?)
-            }
+            Outcome::Warned(remarks)
+            | Outcome::Judged(_, remarks)
+            | Outcome::JudgedWhole(_, _, remarks)
+            | Outcome::JudgedSide(_, _, remarks)
+            | Outcome::Audited {
+                explanation: remarks,
+                ..
+            } => Some(remarks),
+            _ => None,
+        }
+    }
+
+    /// What is told on standard error of any other fault, and of why a line is unreadable, which standard output has told of.
+    pub fn fault_text(&self, alloc: Global) -> Result<String, Memory>
+        ensures { IfOk result (λ text. string_bytes text ≡ fault_text self.now) }
+    {
+        match self {
             Outcome::Compared(true) => Ok(String::from_str(alloc, GIVES_MORE)?),
-            Outcome::Words(WordsFault::Help(_) | WordsFault::Version(_)) => Ok(String::new(alloc)),
             Outcome::Words(WordsFault::Usage(text)) => Ok(String::from_str(alloc, text.as_str())?),
             Outcome::Words(WordsFault::Memory) => {
                 Ok(String::from_str(alloc, "cosem-flow: out of memory\n")?)
@@ -197,6 +203,7 @@ impl Outcome {
             Outcome::Unstored(file, why) => unstored_text(alloc, file.as_str(), *why),
             Outcome::Unwritten(fault) => line_of(alloc, fault.words()),
             Outcome::Untranslated(fault) => line_of(alloc, fault.told(alloc)?.as_str()),
+            _ => Ok(String::new(alloc)),
         }
     }
 }
@@ -325,7 +332,7 @@ pub(crate) fn compared(answer: Result<bool, ListFault>) -> Outcome
 }
 
 /// How a command ended whose fleet was audited so, with this explanation of it.
-pub(crate) fn audited(told: Told, explanation: String) -> Outcome
+pub(crate) fn audited(told: Told, explanation: Remarks) -> Outcome
     ensures { result ≡ outcomes.audited told explanation }
 {
     let Told {

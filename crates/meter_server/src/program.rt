@@ -1,7 +1,7 @@
 //! What the program does with its words: which files it reads, what it tells and where, and its exit status (own profile).
 ghost use Rattle.std.specs.Prelude.{◌≡◌, ◌⊎◌, IfOk, map, string_bytes, true};
 ghost use Rattle.command_words.specs.Commands.{command_of};
-ghost use Rattle.meter_server.specs.Answering.{Does, Runs, TellsError, WritesError, is_quiet};
+ghost use Rattle.meter_server.specs.Answering.{Does, Runs, TellsError, is_quiet};
 ghost use Rattle.plan_lists.specs.Listing.{WritesText};
 ghost use Rattle.meter_server.specs.Outcomes.{output_of};
 ghost use Rattle.meter_server.specs.Program.{AreMistaken, AskForHelp, TellsVerdict};
@@ -23,7 +23,7 @@ use step_keeping::keeper::Keeps;
 use step_keeping::recalling::Recalls;
 use step_stores::stores::Stores;
 use text_files::TextFiles;
-use whole_writes::write_whole;
+use whole_writes::{WriteFailed, write_whole};
 
 /// Does what the words of a command line ask for, the program's name first, and answers the exit status: `demo` and `run CONFIG`
 /// answer the step lines of the input on the output, by the configuration in the file that they name, and with `-v` tell of each
@@ -78,7 +78,8 @@ where
     let outcome = asked(rt, files, stores, opener, words, input, output, errors);
     let outcome = with_verdict(rt.alloc(), outcome, output);
     let outcome = outcome.unless_closed(output.is_closed());
-    tell(rt.alloc(), &outcome, errors);
+    // A write that fails there ends the telling: no stream is left to tell of it.
+    let _ = write_error(rt.alloc(), &outcome, errors);
     outcome.status()
 }
 
@@ -159,20 +160,19 @@ fn write_verdict<O: Write>(
     Ok(())
 }
 
-/// Tells on the error stream how a command ended. A write that fails there ends the telling: no stream is left to tell of it.
-fn tell<E: Write>(alloc: Global, outcome: &Outcome, errors: &mut E)
-    ensures { TellsError outcome.now (E.contents errors.old) (E.contents errors.new) }
+/// Writes on the error stream how a command ended: its remarks, or a fault, or that there was no memory for the text of a fault.
+fn write_error<E: Write>(
+    alloc: Global,
+    outcome: &Outcome,
+    errors: &mut E,
+) -> Result<(), WriteFailed>
+    ensures { TellsError outcome.now (E.contents errors.old) (E.contents errors.new) result }
 {
-    if let Err(ListFault::Memory) = write_error(alloc, outcome, errors) {
-        let _ = write_whole(errors, b"cosem-flow: out of memory\n");
+    if let Some(remarks) = outcome.remarks() {
+        return remarks.write(errors);
     }
-}
-
-/// Writes on the error stream how a command ended; nothing, where memory is refused.
-fn write_error<E: Write>(alloc: Global, outcome: &Outcome, errors: &mut E) -> Result<(), ListFault>
-    ensures { WritesError outcome.now (E.contents errors.old) (E.contents errors.new) result }
-{
-    let text = outcome.error(alloc)?;
-    write_whole(errors, text.as_bytes())?;
-    Ok(())
+    match outcome.fault_text(alloc) {
+        Ok(text) => write_whole(errors, text.as_bytes()),
+        Err(_) => write_whole(errors, b"cosem-flow: out of memory\n"),
+    }
 }

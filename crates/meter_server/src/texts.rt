@@ -7,15 +7,16 @@ ghost use Rattle.plan_lists.specs.Listing.{WritesText};
 ghost use Rattle.verdict.specs.Judging.{IsVerdictOn};
 ghost use Rattle.verdict.specs.declared.Verdict.TheVariants.{Accepted};
 ghost use Rattle.meter_server.specs.Program.{AnswersFrames, AnswersText, AnswersTrail, ExplainsVerdict, IsFaulty, IsJudged, IsJudgedWhole, ListsEdges, RefusesOn, edges_in};
+ghost use Rattle.meter_server.specs.Remarks.{told_of};
 ghost use Rattle.meter_server.specs.Warning.{IsChecked, ListsLabels, ListsLabelsOf};
 
 use crate::explaining::explain_fault;
 use crate::outcome::{Outcome, listed, outcome_of, served};
-use crate::warning::{Warning, warnings_told, with_warnings};
+use crate::remarks::Remarks;
+use crate::warning::{Warning, warnings_on, with_warnings};
 use command_words::{EdgesForm, Warned};
 use config_reader::read_config;
 use config_text::fault::ConfigFault;
-use cosem_data::memory::Memory;
 use explanations::labels::explain_labels;
 use explanations::refusal::explain_refusal;
 use flow_checker::check::Checked;
@@ -202,28 +203,31 @@ fn list_labels_of<'x, O: Write>(
                 plan,
                 policy,
             };
-            Outcome::Warned(warnings_told(alloc, of, warned))
+            Outcome::Warned(warnings_on(alloc, of, warned))
         }
         Err(fault) => Outcome::Unwritten(fault),
     }
 }
 
-/// What explains a verdict on the configuration in a file and the labels in another, in whole lines; nothing where they are
-/// accepted (own profile). The error is that memory was refused.
+/// What explains a verdict on the configuration in a file and the labels in another; nothing where they are accepted (own profile).
 pub(crate) fn explain_verdict(
     alloc: Global,
     config: Source<'_>,
     labels: Source<'_>,
     verdict: &Verdict,
-) -> Result<String, Memory>
-    ensures { IfOk result (λ text. ExplainsVerdict config.entry labels.entry verdict.now
-        (string_bytes text)) }
+) -> Remarks
+    ensures { ExplainsVerdict config.entry labels.entry verdict.now (told_of result) }
 {
     match verdict {
-        Verdict::Accepted => Ok(String::new(alloc)),
+        Verdict::Accepted => Remarks::none(alloc),
         Verdict::Config(fault) => explain_fault(alloc, config, fault),
-        Verdict::Labels(fault) => explain_labels(alloc, labels.file, labels.text, fault),
-        Verdict::Refused(refused) => explain_refusal(alloc, refused),
+        Verdict::Labels(fault) => {
+            Remarks::of(
+                alloc,
+                explain_labels(alloc, labels.file, labels.text, fault),
+            )
+        }
+        Verdict::Refused(refused) => Remarks::of(alloc, explain_refusal(alloc, refused)),
     }
 }
 
@@ -236,10 +240,8 @@ pub(crate) fn judged(
 ) -> Outcome
     ensures { IsJudged config.entry labels.entry verdict result }
 {
-    match explain_verdict(alloc, config, labels, &verdict) {
-        Ok(text) => Outcome::Judged(verdict, text),
-        Err(_) => Outcome::Judged(verdict, String::new(alloc)),
-    }
+    let explanation = explain_verdict(alloc, config, labels, &verdict);
+    Outcome::Judged(verdict, explanation)
 }
 
 /// A command that came to a verdict, with what explains it and all that fails; or without memory for the latter.
@@ -269,10 +271,8 @@ fn judged_behind(
 ) -> Outcome
     ensures { IsJudgedWhole config.entry labels.entry verdict (Some (string_bytes failures)) result }
 {
-    match explain_verdict(alloc, config, labels, &verdict) {
-        Ok(text) => Outcome::JudgedWhole(verdict, failures, text),
-        Err(_) => Outcome::JudgedWhole(verdict, failures, String::new(alloc)),
-    }
+    let explanation = explain_verdict(alloc, config, labels, &verdict);
+    Outcome::JudgedWhole(verdict, failures, explanation)
 }
 
 /// What is accepted of a plan and its policy, which the configuration in a file has, and of the labels in another; or how a command
@@ -323,9 +323,9 @@ pub(crate) fn checked(
         plan: &plan,
         policy: &policy,
     };
-    let warnings = warnings_told(alloc, of, warned);
+    let warnings = warnings_on(alloc, of, warned);
     let outcome = match accepted_of_texts(alloc, config, labels, plan, &policy, tells_all) {
-        Ok(_checked) => Outcome::Judged(Verdict::Accepted, String::new(alloc)),
+        Ok(_checked) => Outcome::Judged(Verdict::Accepted, Remarks::none(alloc)),
         Err(outcome) => outcome,
     };
     with_warnings(outcome, &warnings)
@@ -335,8 +335,6 @@ pub(crate) fn checked(
 pub(crate) fn faulty(alloc: Global, config: Source<'_>, fault: ConfigFault) -> Outcome
     ensures { IsFaulty config.entry fault result }
 {
-    match explain_fault(alloc, config, &fault) {
-        Ok(text) => Outcome::Judged(Verdict::Config(fault), text),
-        Err(_) => Outcome::Judged(Verdict::Config(fault), String::new(alloc)),
-    }
+    let explanation = explain_fault(alloc, config, &fault);
+    Outcome::Judged(Verdict::Config(fault), explanation)
 }

@@ -1,16 +1,17 @@
 //! What a configuration without fault is warned of (own profile).
-ghost use Rattle.std.specs.Prelude.{◌≡◌, ◌⊎◌, ◌++◌, IfOk, length, map, option_map, string_bytes};
+ghost use Rattle.std.specs.Prelude.{◌≡◌, IfOk, length, map, option_map, string_bytes};
 ghost use Rattle.config_warnings.specs.Widths.{wider_cells};
 ghost use Rattle.explanations.specs.Warnings.{width_line};
 ghost use Rattle.explanations.specs.declared.warnings.Whose.TheVariants as whose;
 ghost use Rattle.label_certificate.specs.LabelText.{labels_of_text};
 ghost use Rattle.meter_theory.specs.Labels.{labelling_of_policy};
 ghost use Rattle.meter_theory.specs.Plan.{cells};
-ghost use Rattle.meter_server.specs.Program.{IsTold};
+ghost use Rattle.meter_server.specs.Remarks.{told_of};
 ghost use Rattle.meter_server.specs.Warning as spec;
-ghost use Rattle.meter_server.specs.Warning.{IsWarned, TellsSlips, TellsWidths, Warns};
+ghost use Rattle.meter_server.specs.Warning.{IsBehind, TellsSlips, TellsWidths, Warns};
 
 use crate::outcome::Outcome;
+use crate::remarks::Remarks;
 use crate::texts::Source;
 use command_words::Warned;
 use config_warnings::finding::warnings;
@@ -36,28 +37,17 @@ pub(crate) struct Warning<'a> {
     pub policy: &'a Policy,
 }
 
-/// What is warned of, in whole lines; nothing where memory is refused.
-pub(crate) fn warnings_told(alloc: Global, of: Warning<'_>, warned: Warned) -> String
-    ensures { IsTold (Warns warned of.entry.config of.entry.labels of.entry.plan.now of.entry.policy.now) (string_bytes result) }
-{
-    match warning_lines(alloc, of, warned) {
-        Ok(lines) => lines,
-        Err(_) => String::new(alloc),
-    }
-}
-
-/// What is warned of, in whole lines.
-fn warning_lines(alloc: Global, of: Warning<'_>, warned: Warned) -> Result<String, Memory>
-    ensures { IfOk result (λ lines. Warns warned of.entry.config of.entry.labels of.entry.plan.now of.entry.policy.now (string_bytes lines)) }
+/// What is warned of.
+pub(crate) fn warnings_on(alloc: Global, of: Warning<'_>, warned: Warned) -> Remarks
+    ensures { Warns warned of.entry.config of.entry.labels of.entry.plan.now of.entry.policy.now (told_of result) }
 {
     match warned {
-        Warned::Nothing => Ok(String::new(alloc)),
-        Warned::Slips => slip_lines(alloc, of.config, of.plan),
+        Warned::Nothing => Remarks::none(alloc),
+        Warned::Slips => Remarks::of(alloc, slip_lines(alloc, of.config, of.plan)),
         Warned::SlipsAndWidths => {
-            let mut lines = slip_lines(alloc, of.config, of.plan)?;
-            let widths = width_lines(alloc, of)?;
-            lines.push_str(&widths)?;
-            Ok(lines)
+            let slips = Remarks::of(alloc, slip_lines(alloc, of.config, of.plan));
+            let widths = Remarks::of(alloc, width_lines(alloc, of));
+            slips.with(&widths)
         }
     }
 }
@@ -139,23 +129,17 @@ fn labels_line(
     )
 }
 
-/// A command that came to a verdict, with warnings behind what explains it, if there is memory for them.
-pub(crate) fn with_warnings(outcome: Outcome, warnings: &str) -> Outcome
-    ensures { IsWarned (λ more. more ≡ warnings.now) outcome result }
+/// A command that came to a verdict, with warnings behind what explains it.
+pub(crate) fn with_warnings(outcome: Outcome, warnings: &Remarks) -> Outcome
+    ensures { IsBehind outcome (told_of warnings.now) result }
 {
     match outcome {
-        Outcome::Judged(verdict, text) => Outcome::Judged(verdict, with_lines(text, warnings)),
-        Outcome::JudgedWhole(verdict, failures, text) => {
-            Outcome::JudgedWhole(verdict, failures, with_lines(text, warnings))
+        Outcome::Judged(verdict, explanation) => {
+            Outcome::Judged(verdict, explanation.with(warnings))
+        }
+        Outcome::JudgedWhole(verdict, failures, explanation) => {
+            Outcome::JudgedWhole(verdict, failures, explanation.with(warnings))
         }
         other => other,
     }
-}
-
-/// A text with lines behind it, or as it is where memory is refused.
-fn with_lines(mut text: String, lines: &str) -> String
-    ensures { (string_bytes result ≡ string_bytes text ++ lines.now) ⊎ (string_bytes result ≡ string_bytes text) }
-{
-    let _ = text.push_str(lines);
-    text
 }

@@ -15,7 +15,8 @@ returns-clause-runs g c =
       told = c.with_verdict-outcome.result;
       tells = c.with_verdict-outcome.ensures;
       is_closed = c.is_closed.result;
-      explains = subst (λ outcome. TellsError outcome (g.E.Write.contents c.asked-outcome.new.errors) (g.E.Write.contents c.tell.new.errors)) ends c.tell.ensures;
+      written = c.write_error.result;
+      explains = subst (λ outcome. TellsError outcome (g.E.Write.contents c.asked-outcome.new.errors) (g.E.Write.contents c.write_error.new.errors) c.write_error.result) ends c.write_error.ensures;
       left = refl;
       ends = c.status.ensures ∙ ap status_of ends;
     }
