@@ -1,12 +1,10 @@
 -- What is told as far as there is memory for it.
-use Rattle.std.proofs.Common.{◌≡◌, ℕ, Bool, true, false, List, [], ◌∷◌, ◌++◌, Result, Ok, Err, IfOk, String, append-nil, append_assoc, string_bytes, inl, inr, refl, ap, sym, subst, true≢false, ◌∙◌}
+use Rattle.std.proofs.Common.{◌≡◌, ℕ, Bool, true, false, List, [], ◌∷◌, Result, Ok, Err, IfOk, String, append-nil, append_assoc, string_bytes, inl, inr, refl, ap, sym, subst, true≢false, ◌∙◌}
 use Rattle.std.specs.Global.{Global}
-use Rattle.std.specs.Io.KnownBytes.{Appends}
-use Rattle.std.proofs.KnownBytes.{Appends-trans}
 use Rattle.cosem_data.specs.declared.memory.Memory.{Memory}
 use Rattle.fleet_audit.specs.declared.text.Text.{Text}
 use Rattle.verdict.specs.declared.Verdict.{Verdict}
-use Rattle.meter_server.specs.Auditing.{ExplainsAll, ExplainsOne}
+use Rattle.meter_server.specs.Auditing.{ExplainsAll}
 use Rattle.meter_server.specs.Remarks.{GoesOn, IsTold, Told, TellsBoth, cut_behind, joined, made, whole}
 
 -- lines that say so are told so, where they were made

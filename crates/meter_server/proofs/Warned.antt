@@ -1,5 +1,5 @@
 -- What is warned of behind a verdict.
-use Rattle.std.proofs.Common.{◌≡◌, ℕ, Bool, true, false, List, [], Some, inl, inr, refl, subst, sym, Ok}
+use Rattle.std.proofs.Common.{◌≡◌, Bool, true, false, [], Some, inl, inr, refl, subst, sym, Ok}
 use Rattle.config_reader.specs.ConfigOf.{Reads, config_of}
 use Rattle.config_text.specs.Parts.{ConfigText}
 use Rattle.command_words.specs.declared.command.Warned.{Warned}

@@ -1,5 +1,5 @@
 -- Lines that are written, and what stands behind them.
-use Rattle.std.proofs.Common.{◌≡◌, ◌<◌, ◌+◌, ℕ, List, ◌++◌, Option, Result, Ok, Err, OnErr, OnOk, append_assoc, length, sym, length-append, ap, arith, ◌∙◌}
+use Rattle.std.proofs.Common.{◌≡◌, ◌<◌, ℕ, List, ◌++◌, Option, Result, Ok, Err, OnErr, OnOk, append_assoc, length, sym, length-append, ap, arith, ◌∙◌}
 use Rattle.std.proofs.KnownBytes.{Appends-trans}
 use Rattle.std.specs.Io.KnownBytes.{Appends}
 use Rattle.whole_writes.specs.declared.WriteFailed.{WriteFailed}

@@ -1,5 +1,5 @@
 -- What each command does with the files that it names, its input and its output (own profile throughout).
-use Rattle.std.specs.Prelude.{◌≡◌, ◌⊎◌, ◌++◌, ℕ, List, Bool, true, false, not, ◌||◌, codes, string_bytes, Option, Some, None, Result, Ok, Err, [], ◌∷◌}
+use Rattle.std.specs.Prelude.{◌≡◌, ◌⊎◌, ◌++◌, ℕ, List, Bool, true, false, not, ◌||◌, codes, string_bytes, Option, Some, None, Result, Ok, Err, ◌∷◌}
 use Rattle.std.specs.Fmt.{decimal}
 use Rattle.command_words.specs.Commands.{Asked, command_of}
 use Rattle.command_words.specs.Commands.Asked.{Demo, Run, Edges, Label, Check, Why, Compare, Report, Quiet, Audit, Session, Serve, Trail, Encode, Decode}

@@ -1,6 +1,6 @@
 use Rattle.std.proofs.Common.{inr, map, refl}
 use Rattle.meter_server.specs.Auditing.{ExplainsAll, ExplainsOne}
-use Rattle.meter_server.specs.Remarks.{Told, told_of}
+use Rattle.meter_server.specs.Remarks.{told_of}
 use Rattle.meter_server.proofs.Told.{ends-cut, goes-on}
 use Rattle.meter_server.proofs.auditing.explain_all.Goals as goal
 

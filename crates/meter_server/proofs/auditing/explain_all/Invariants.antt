@@ -1,4 +1,4 @@
-use Rattle.std.proofs.Common.{◌≡◌, ℕ, false, length, map}
+use Rattle.std.proofs.Common.{◌≡◌, false, length, map}
 use Rattle.meter_server.specs.Auditing.{ExplainsAll}
 use Rattle.meter_server.specs.Remarks.{Told, joined, told_of}
 use Rattle.meter_server.proofs.auditing.explain_all.Given as goal
