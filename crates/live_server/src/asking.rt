@@ -71,7 +71,7 @@ struct Noted {
 /// A place at a live meter, for one session after another: a port, its share, and its reader, where it got one.
 ///
 /// Its reader answers GETs, without the lock, and all else is a step under it. A seat without a reader asks everything under
-/// the lock; one that no session took yet has none, since each step waits for all readers that there are.
+/// the lock.
 #[derive(Drop)]
 pub struct PortAsker<'b, N: Naming, W: Wait + Drop, R: Wait, K: Keeps + Drop> {
     rt: &'b R,
@@ -84,7 +84,7 @@ pub struct PortAsker<'b, N: Naming, W: Wait + Drop, R: Wait, K: Keeps + Drop> {
 }
 
 impl<'b, N: Naming, W: Wait + Drop, R: Wait, K: Keeps + Drop> PortAsker<'b, N, W, R, K> {
-    /// A seat at a new port of the board, without a reader, which notes there what becomes of steps that were to be kept.
+    /// A seat at a new port of the board, which gives its reader now, and notes there what becomes of steps that were to be kept.
     pub fn open(
         rt: &'b R,
         board: &'b Board<N, W, K>,
@@ -93,28 +93,18 @@ impl<'b, N: Naming, W: Wait + Drop, R: Wait, K: Keeps + Drop> PortAsker<'b, N, W
         ensures { IfOk result (λ asker. IsUnused asker.share) }
     {
         let (port, share) = board.port(rt)?;
+        let reader = port.reader(rt).ok();
         Ok(PortAsker {
             rt,
             port,
             share,
-            reader: None,
+            reader,
             noted: Noted {
                 is_behind: false,
                 refused: None,
             },
             standing,
         })
-    }
-
-    /// Takes the reader of its port, where it has none yet. It is told of all steps that are pending before it answers a GET.
-    pub fn take_reader(&mut self)
-        ensures share { self.new.share ≡ self.old.share }
-        ensures kept { IfSome self.old.reader (λ seen. self.new.reader ≡ Some seen) }
-    {
-        if self.reader.is_none() {
-            self.reader = self.port.reader(self.rt).ok();
-            self.noted.is_behind = true;
-        }
     }
 
     /// The plan of the meter.

@@ -154,9 +154,7 @@ where
     let notices = Notices::new(alloc, SharedOutput::new(rt, output)).map_err(
         |_| ServerFault::Memory,
     )?;
-    let mut own = open_seat(rt, board, None)?;
-    own.take_reader();
-    let driver = Driver::new(alloc, own, notices);
+    let driver = Driver::new(alloc, open_seat(rt, board, None)?, notices);
     let seats = open_seats(rt, alloc, board, standings)?;
     let driver = run_threads(
         rt,

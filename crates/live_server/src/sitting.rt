@@ -142,7 +142,6 @@ where
     ensures { result ≡ Err ServeFault.GaveUp → G.may_give_up shared.now.gate.now number }
 {
     let mut asker = asker.lock(rt);
-    asker.take_reader();
     let plan = asker.plan();
     let Some(standing) = shared.standings.get(number) else {
         return Ok(0);
