@@ -2,8 +2,8 @@
 use Rattle.std.specs.Prelude.{◌≡◌, ◌≢◌, ℕ, List, true, drop, Some, None, IsSome, option_map}
 use Rattle.std.specs.Str.{IsCharBoundary}
 use Rattle.toml_parser.specs.Strings.{Key}
-use Rattle.toml.specs.Data.{Data, Members, table}
-use Rattle.toml.specs.Parse.{key_equals, parse_document}
+use Rattle.toml.specs.Data.{Data}
+use Rattle.toml.specs.Parse.{key_equals}
 use Rattle.config_places.specs.Steps.{Step, IsPath, key_steps, EndsWith, value_along, above, is_group}
 use Rattle.config_places.specs.declared.spot.Spot.{Spot}
 use Rattle.config_places.specs.declared.spot.Spot.TheVariants.{Found, Missing}
@@ -30,7 +30,3 @@ Tells text document steps (Missing within) = (value_along steps document ≡ Non
 -- the spot is told of the steps that are written as the path
 abbrev pub IsSpotOf : List ℕ → List ℕ → Data → Spot → Type 0
 IsSpotOf text path document spot = (steps : List Step) × IsPath path steps × Tells text document steps spot
-
--- the text is a document with such a spot of the path
-abbrev pub IsToldOf : List ℕ → List ℕ → Spot → Type 0
-IsToldOf text path spot = (members : Members) × (parse_document text ≡ Some members) × IsSpotOf text path (table members) spot

@@ -4,7 +4,7 @@ ghost use Rattle.std.specs.Prelude.{◌≡◌, drop, map, IfOk, IfSome};
 ghost use Rattle.toml.specs.View.{view};
 ghost use Rattle.std.specs.Str.{IsCharBoundary};
 ghost use Rattle.config_places.specs.Steps.{step_of};
-ghost use Rattle.config_places.specs.Spots.{IsWithin, IsNamed, Tells, IsSpotOf, IsToldOf};
+ghost use Rattle.config_places.specs.Spots.{IsWithin, IsNamed, Tells, IsSpotOf};
 ghost use Rattle.config_places.specs.declared.spot.Spot.TheVariants.{Found, Missing};
 
 use crate::document::place_in;
@@ -101,8 +101,18 @@ fn spot_at(
     Ok(Some(Spot::Missing { within }))
 }
 
-/// The spot of a path in a text with this document.
-fn spot_in(alloc: Global, text: &str, document: &Value, path: &str) -> Result<Option<Spot>, Memory>
+/// Where a path leads in a text with this document: keys with dots between them, and indexes from 0 in brackets; a key that TOML
+/// doesn't take bare stands between quotation marks, as TOML writes it. None where the path isn't one, or leads to nothing even before its
+/// last step. Values are taken as deep in one another as TOML's reader takes them. Who looks for several places reads the document once.
+///
+/// # Errors
+/// Memory was refused.
+pub fn find_spot(
+    alloc: Global,
+    text: &str,
+    document: &Value,
+    path: &str,
+) -> Result<Option<Spot>, Memory>
     ensures within { IfOk result (λ spot. IfSome spot (IsWithin text.now)) }
     ensures told { IfOk result (λ spot. IfSome spot
         (IsSpotOf text.now path.now (view document.now))) }
@@ -114,22 +124,5 @@ fn spot_in(alloc: Global, text: &str, document: &Value, path: &str) -> Result<Op
         Ok(spot) => Ok(spot),
         Err(ParseError::OutOfMemory) => Err(Memory),
         Err(ParseError::At(..)) => Ok(None),
-    }
-}
-
-/// Where a path leads: keys with dots between them, and indexes from 0 in brackets; a key that TOML doesn't take bare stands between
-/// quotation marks, as TOML writes it. None where the path isn't one, or leads to nothing even before its last step, or the text is
-/// no TOML. Values are taken as deep in one another as TOML's reader takes them.
-///
-/// # Errors
-/// Memory was refused.
-pub fn find_spot(alloc: Global, text: &str, path: &str) -> Result<Option<Spot>, Memory>
-    ensures within { IfOk result (λ spot. IfSome spot (IsWithin text.now)) }
-    ensures told { IfOk result (λ spot. IfSome spot (IsToldOf text.now path.now)) }
-{
-    match toml::table_from_str(alloc, text) {
-        Ok(table) => spot_in(alloc, text, &Value::Table(table), path),
-        Err(error) if error.is_memory() => Err(Memory),
-        Err(_) => Ok(None),
     }
 }

@@ -10,7 +10,7 @@ use Rattle.value_text.specs.Texts.{value_in}
 use Rattle.value_words.specs.Words as words
 use Rattle.config_text.specs.declared.fault.ConfigFault.{ConfigFault}
 use Rattle.config_text.specs.declared.fault.ConfigFault.TheVariants as faults
-use Rattle.toml.specs.Data.{Data, Members, string, integer, float, boolean, datetime, array, table}
+use Rattle.toml.specs.Data.{Data, string, integer, float, boolean, datetime, array, table}
 use Rattle.toml.specs.Parse.{parse_document}
 use Rattle.explanations.specs.Advice.{meaning_at, mending_at}
 use Rattle.explanations.specs.Following.{object_name, shown_at, text_at}
@@ -97,13 +97,13 @@ TellsNoToml file text explanation = (start : ℕ) × TellsStop file text start e
 abbrev pub no_memory : List ℕ → List ℕ
 no_memory file = concat (codes "cosem-flow: " ∷ printable file ∷ codes ": " ∷ memory_meaning ∷ codes "\n  " ∷ memory_mending ∷ codes "\n" ∷ [])
 
--- the explanation of a fault at a place of a text that is this table, in this file (own profile)
-abbrev pub ExplainsFound : List ℕ → List ℕ → Code → List ℕ → Members → List ℕ → Type 0
-ExplainsFound file text code place members explanation =
-    (stand : List ℕ) × IsStand file text code place stand × (explanation ≡ told stand code place (table members))
+-- the explanation of a fault with this code at a place of a text that is this table, in this file (own profile)
+abbrev pub ExplainsAt : (file text : List ℕ) → Data → Code → (place explanation : List ℕ) → Type 0
+ExplainsAt file text whole code place explanation =
+    (stand : List ℕ) × IsStand file text whole code place stand × (explanation ≡ told stand code place whole)
 
 -- the explanation of a fault that a text has (own profile)
 abbrev pub Explains : List ℕ → List ℕ → ConfigFault → List ℕ → Type 0
 Explains file text faults.Memory explanation = explanation ≡ no_memory file
 Explains file text (faults.Found code place) explanation =
-    MatchOption (parse_document text) (TellsNoToml file text explanation) (λ members. ExplainsFound file text code (string_bytes place) members explanation)
+    MatchOption (parse_document text) (TellsNoToml file text explanation) (λ members. ExplainsAt file text (table members) code (string_bytes place) explanation)

@@ -1,19 +1,13 @@
 -- What is told of the other faults that the pass finds which refuses a configuration. All of it is own profile.
 use Rattle.std.specs.Prelude.{◌≡◌, ℕ, List, [], MatchOption}
 use Rattle.config_text.specs.Fault.{Fault}
-use Rattle.config_text.specs.declared.fault.Code.{Code}
 use Rattle.toml.specs.Data.{Data, table}
 use Rattle.toml.specs.Parse.{parse_document}
-use Rattle.explanations.specs.Config as config
+use Rattle.explanations.specs.Config.{ExplainsAt}
 use Rattle.explanations.specs.Several.{TellsFirst}
-use Rattle.explanations.specs.Standing.{IsStand}
 use Rattle.explanations.specs.declared.others.TheConstants.{TOLD}
 
--- the explanation of a fault with this code at a place of a text that is this table, in this file
-abbrev pub ExplainsAt : (file text : List ℕ) → Data → Code → (place : List ℕ) → List ℕ → Type 0
-ExplainsAt file text whole code place told = (stand : List ℕ) × IsStand file text code place stand × (told ≡ config.told stand code place whole)
-
--- the same of a fault with its place
+-- the explanation of a fault with its place, of a text that is this table, in this file
 abbrev pub ExplainsFault : (file text : List ℕ) → Data → Fault → List ℕ → Type 0
 ExplainsFault file text whole fault told = ExplainsAt file text whole fault.code fault.place told
 

@@ -2,10 +2,11 @@
 use Rattle.std.specs.Prelude.{◌≡◌, ◌⊎◌, ℕ, ◌+◌, ◌==◌, List, [], ◌∷◌, codes, if◌then◌else◌, take}
 use Rattle.std.specs.Fmt.{decimal, is_char_start}
 use Rattle.std.specs.List.{concat}
-use Rattle.config_places.specs.Spots.{IsToldOf, IsWithin}
+use Rattle.config_places.specs.Spots.{IsSpotOf, IsWithin}
 use Rattle.config_places.specs.declared.spot.Spot.{Spot}
 use Rattle.config_places.specs.declared.spot.Spot.TheVariants.{Found, Missing}
 use Rattle.config_text.specs.Fault.{number_of}
+use Rattle.toml.specs.Data.{Data}
 use Rattle.config_text.specs.declared.fault.Code.{Code}
 
 -- the line and the column behind these bytes, from those before them; a column counts characters (own profile)
@@ -25,8 +26,8 @@ abbrev pub bytes_before : Code → Spot → ℕ
 bytes_before code (Found key value) = if number_of code == 2 then key else value
 bytes_before code (Missing within) = within
 
--- a file with the line and the column of the spot in its text to which a place leads, or the file alone
-abbrev pub IsStand : List ℕ → List ℕ → Code → List ℕ → List ℕ → Type 0
-IsStand file text code place stand =
+-- a file with the line and the column of the spot in its text, which is this document, to which a place leads, or the file alone
+abbrev pub IsStand : (file text : List ℕ) → Data → Code → (place stand : List ℕ) → Type 0
+IsStand file text whole code place stand =
     (stand ≡ file)
-    ⊎ ((spot : Spot) × IsToldOf text place spot × IsWithin text spot × (stand ≡ stand_text file (place_behind 1 1 (take (bytes_before code spot) text))))
+    ⊎ ((spot : Spot) × IsSpotOf text place whole spot × IsWithin text spot × (stand ≡ stand_text file (place_behind 1 1 (take (bytes_before code spot) text))))

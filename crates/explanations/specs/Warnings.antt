@@ -23,7 +23,7 @@ warning_told stand place words whole =
 -- what is told of a warning of a text that is this table, in this file
 abbrev pub TellsWarning : (file text : List ℕ) → Data → Warning → List ℕ → Type 0
 TellsWarning file text whole warning told =
-    (stand : List ℕ) × IsStand file text Times (path_of warning) stand × (told ≡ warning_told stand (path_of warning) (words_of warning) whole)
+    (stand : List ℕ) × IsStand file text whole Times (path_of warning) stand × (told ≡ warning_told stand (path_of warning) (words_of warning) whole)
 
 -- what is told of the first of these warnings of a text that is this table, and how many more there are
 abbrev pub TellsWhole : (file text : List ℕ) → Data → List Warning → List ℕ → Type 0

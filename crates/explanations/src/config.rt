@@ -1,6 +1,6 @@
 //! The explanation of a configuration's fault (own profile).
 ghost use Rattle.std.specs.Prelude.{◌≡◌, ◌++◌, IfOk, OnOk, option_map, string_bytes};
-ghost use Rattle.toml.specs.View.{table_view, view};
+ghost use Rattle.toml.specs.View.{view};
 ghost use Rattle.explanations.specs.Config as spec;
 ghost use Rattle.explanations.specs.Config.{Explains};
 
@@ -13,7 +13,7 @@ use config_text::fault::{Code, ConfigFault};
 use cosem_data::memory::Memory;
 use shown_text::printable::printable_text;
 use std::alloc::Global;
-use toml::{Table, Value};
+use toml::Value;
 
 /// The line that tells the name of an object, if there is one.
 fn object_line(alloc: Global, name: Option<&str>) -> Result<String, Memory>
@@ -60,13 +60,7 @@ pub(crate) fn shown_lines(
 }
 
 /// What is told of a fault at a place of a text that is this table.
-pub(crate) fn told(
-    alloc: Global,
-    file: &str,
-    code: Code,
-    place: &str,
-    whole: &Value,
-) -> Result<String, Memory>
+fn told(alloc: Global, file: &str, code: Code, place: &str, whole: &Value) -> Result<String, Memory>
     ensures { IfOk result (λ told. string_bytes told
         ≡ spec.told file.now code place.now (view whole.now)) }
 {
@@ -79,18 +73,18 @@ pub(crate) fn told(
 }
 
 /// What is told of a fault at a place of a text that is this table, with the line and the column.
-fn explain_found(
+pub(crate) fn explain_found(
     alloc: Global,
     file: &str,
     text: &str,
+    whole: &Value,
     code: Code,
     place: &str,
-    whole: Table,
 ) -> Result<String, Memory>
-    ensures { IfOk result (λ told. spec.ExplainsFound file.now text.now code place.now (table_view whole) (string_bytes told)) }
+    ensures { IfOk result (λ told. spec.ExplainsAt file.now text.now (view whole.now) code place.now (string_bytes told)) }
 {
-    let file = with_stand(alloc, file, text, code, place)?;
-    told(alloc, file.as_str(), code, place, &Value::Table(whole))
+    let file = with_stand(alloc, file, text, whole, code, place)?;
+    told(alloc, file.as_str(), code, place, whole)
 }
 
 /// What is told where memory was refused.
@@ -130,7 +124,10 @@ pub fn explain_config(
     match fault {
         ConfigFault::Memory => no_memory(alloc, file),
         ConfigFault::Found { code, place } => match toml::table_from_str(alloc, text) {
-            Ok(table) => explain_found(alloc, file, text, *code, place.as_str(), table),
+            Ok(table) => {
+                let whole = Value::Table(table);
+                explain_found(alloc, file, text, &whole, *code, place.as_str())
+            }
             Err(error) => explain_no_toml(alloc, file, text, &error),
         },
     }

@@ -4,10 +4,8 @@ ghost use Rattle.toml.specs.View.{view};
 ghost use Rattle.explanations.specs.Others as spec;
 ghost use Rattle.explanations.specs.Several.{TellsEach};
 
-use crate::config::told;
+use crate::config::explain_found;
 use crate::several::{first_of, more_line};
-use crate::standing::with_stand;
-use config_text::fault::Code;
 use config_text::refusal::PlacedFault;
 use cosem_data::memory::Memory;
 use std::alloc::Global;
@@ -84,20 +82,5 @@ fn explained(
 ) -> Result<String, Memory>
     ensures { IfOk result (λ told. spec.ExplainsFault file.now text.now (view whole.now) fault.now (string_bytes told)) }
 {
-    explained_at(alloc, file, text, fault.code, fault.place.as_str(), whole)
-}
-
-/// The explanation of a fault with this code at a place.
-fn explained_at(
-    alloc: Global,
-    file: &str,
-    text: &str,
-    code: Code,
-    place: &str,
-    whole: &Value,
-) -> Result<String, Memory>
-    ensures { IfOk result (λ told. spec.ExplainsAt file.now text.now (view whole.now) code place.now (string_bytes told)) }
-{
-    let stand = with_stand(alloc, file, text, code, place)?;
-    told(alloc, stand.as_str(), code, place, whole)
+    explain_found(alloc, file, text, whole, fault.code, fault.place.as_str())
 }

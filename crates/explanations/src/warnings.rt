@@ -118,7 +118,7 @@ fn warning_told(
     ensures { IfOk result (λ told. spec.TellsWarning file.now text.now (view whole.now) warning (string_bytes told)) }
 {
     let path = warning.path(alloc)?;
-    let stand = with_stand(alloc, file, text, Code::Times, path.as_str())?;
+    let stand = with_stand(alloc, file, text, whole, Code::Times, path.as_str())?;
     warning_lines(alloc, stand.as_str(), path.as_str(), warning.words(), whole)
 }
 

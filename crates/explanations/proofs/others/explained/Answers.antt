@@ -3,7 +3,8 @@ use Rattle.std.proofs.lemmas.Result.{IfOk-weaker}
 use Rattle.std.specs.Prelude.{ℕ}
 use Rattle.config_text.specs.Fault.{Fault}
 use Rattle.toml.specs.View.{view}
-use Rattle.explanations.specs.Others.{ExplainsAt, ExplainsFault}
+use Rattle.explanations.specs.Config.{ExplainsAt}
+use Rattle.explanations.specs.Others.{ExplainsFault}
 use Rattle.explanations.proofs.others.explained.Goals as goal
 
 pub returns : goal.returns
@@ -11,6 +12,6 @@ returns c =
     let file = c.args.file.now in
     let text = c.args.text.now in
     let whole = view c.args.whole.now in
-    IfOk-weaker c.explained_at.result _ _
+    IfOk-weaker c.explain_found.result _ _
     (λ told is. subst (λ (fault : Fault). ExplainsFault file text whole fault (string_bytes told)) c.fault.view_is (subst (λ (place : List ℕ). ExplainsAt file text whole c.fault.inside.code place (string_bytes told)) c.as_str.ensures.value is))
-    c.explained_at.ensures
+    c.explain_found.ensures

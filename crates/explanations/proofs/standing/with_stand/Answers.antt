@@ -1,10 +1,11 @@
 use Rattle.std.proofs.Common.{◌≡◌, ◌≤◌, ◌==◌, ◌∙◌, ◌∷◌, ◌++◌, true, false, cond, ap, append-nil, inr, length, length-take-le, ℕ, List, subst, sym, take}
 use Rattle.std.specs.Prelude.{IfSome}
 use Rattle.std.specs.Fmt.{decimal}
-use Rattle.config_places.specs.Spots.{IsToldOf, IsWithin}
+use Rattle.config_places.specs.Spots.{IsSpotOf, IsWithin}
 use Rattle.config_places.specs.declared.spot.Spot.{Spot}
 use Rattle.config_places.specs.declared.spot.Spot.TheVariants.{Found, Missing}
 use Rattle.config_text.specs.Fault.{number_of}
+use Rattle.toml.specs.View.{view}
 use Rattle.config_text.specs.declared.fault.Code.{Code}
 use Rattle.explanations.specs.Standing.{bytes_before, place_behind, stand_text}
 use Rattle.explanations.proofs.standing.with_stand.Goals as goal
@@ -30,7 +31,7 @@ pub returns : goal.returns
 returns c =
     let text = c.args.text.now in
     let found = subst (λ o. IfSome o (IsWithin text)) c.in-Some.is c.in_ok-spot.ensures.within in
-    let told = subst (λ o. IfSome o (IsToldOf text c.args.place.now)) c.in-Some.is c.in_ok-spot.ensures.told in
+    let told = subst (λ o. IfSome o (IsSpotOf text c.args.place.now (view c.args.whole.now))) c.in-Some.is c.in_ok-spot.ensures.told in
     let before = bytes_before c.args.code c.in-Some.spot in
     let at = c.position_behind-line.ensures ∙ ap (λ (l : List ℕ). place_behind 1 1 (take c.bytes_before.result l)) c.as_bytes.ensures.value ∙ ap (λ (n : ℕ). place_behind 1 1 (take n text)) c.bytes_before.ensures in
     inr (c.in-Some.spot, told, found, c.in_ok-format.ensures.ok ∙ stand-is c.args.file.now _ _ (place_behind 1 1 (take before text)) at)

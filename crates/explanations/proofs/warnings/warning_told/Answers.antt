@@ -16,7 +16,7 @@ returns c =
     let whole = view c.args.whole.now in
     let place = c.as_str.ensures.value ∙ c.in_ok-path.ensures in
     let again = c.as_str-3.ensures.value ∙ c.in_ok-path.ensures in
-    let stands : IsStand file text Times (path_of c.args.warning) stand = subst (λ (p : List ℕ). IsStand file text Times p stand) place c.in_ok-stand.ensures in
+    let stands : IsStand file text whole Times (path_of c.args.warning) stand = subst (λ (p : List ℕ). IsStand file text whole Times p stand) place c.in_ok-stand.ensures in
     IfOk-weaker c.warning_lines.result _ _
     (λ told is. (
       stand,
