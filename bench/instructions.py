@@ -82,9 +82,14 @@ def is_of_library(name):
     return name.startswith(("toml::", "toml_parser::")) or "toml++value++Value+Destruct" in name
 
 
+# Who begins work of the library: the reader of configurations, and the end of what it read. (Functions that are the same code have one name
+# in the program, so that a part of the library can bear another crate's.)
+BEGINNERS = ("config_reader::", "config_text::", "std_collections::btree::node::Node::destroy")
+
+
 def is_begun_by(called, caller):
     """Whether work of the library begins with a call. (What is called inside of a recursion has a name with an apostrophe.)"""
-    return is_of_library(called) and "'" not in called and not is_of_library(caller)
+    return is_of_library(called) and "'" not in called and caller.startswith(BEGINNERS) and not is_of_library(caller)
 
 
 def page_faults(command):
