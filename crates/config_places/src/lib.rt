@@ -2,15 +2,16 @@
 //! between them and indexes from 0 in brackets, as `object[6].name`.
 #![tactic(auto)]
 
-mod arrays;
-mod document;
+mod contents;
 mod leading;
+mod lines;
 mod meeting;
-mod naming;
 mod path;
 mod place;
+mod search;
 mod spot;
 mod step;
 mod values;
 
-pub use spot::{Spot, find_spot};
+pub use contents::Contents;
+pub use spot::Spot;

@@ -1,7 +1,10 @@
 //! A place in a text, by the ends of the text that begin there.
 
 ghost use Rattle.std.specs.Prelude.{◌≡◌};
-ghost use Rattle.config_places.specs.Spots.{Stands};
+ghost use Rattle.config_places.specs.Spots.{place_told};
+ghost use Rattle.config_places.specs.Views.{meeting_view, place_view, places_view};
+
+use crate::meeting::Meeting;
 
 /// Where a key or an element stands.
 #[derive(Clone, Copy, Drop)]
@@ -10,7 +13,6 @@ pub(crate) struct Place<'a> {
     pub key: &'a str,
     /// The text from its value on.
     pub value: &'a str,
-    ghost stands: { Stands key.now value.now },
 }
 
 impl<'a> Place<'a> {
@@ -21,5 +23,17 @@ impl<'a> Place<'a> {
         ensures value { result.value.now ≡ at.now }
     {
         Place { key: at, value: at }
+    }
+
+    /// The place of wanted steps that a name with this place tells by how it stands to them; `inner` is what is told inside it.
+    pub fn told(self, meeting: Meeting<'_>, inner: Option<Place<'a>>) -> Option<Place<'a>>
+        ensures { places_view result ≡ place_told (meeting_view meeting.entry) (place_view self.entry) (places_view inner.entry) }
+    {
+        match meeting {
+            Meeting::Apart => None,
+            Meeting::Passes => Some(Place::alone(self.key)),
+            Meeting::Leads([]) => Some(self),
+            Meeting::Leads(_) => inner,
+        }
     }
 }

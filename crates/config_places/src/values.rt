@@ -1,26 +1,34 @@
 //! Values, and what is wanted inside them.
 
-ghost use Rattle.std.specs.Prelude.{◌≡◌, ◌≤◌, ◌<◌, length, IfOk};
-ghost use Rattle.toml_parser.specs.Reading.{Reads, Shortens, key_view};
-ghost use Rattle.toml.specs.Parse.{key_equals};
+ghost use Rattle.std.specs.Prelude.{◌≡◌, ◌<◌, ◌≤◌, ℕ, length, map, option_map, IfOk};
+ghost use Rattle.toml_parser.specs.Reading.{Gives, Reads, Shortens, key_view};
+ghost use Rattle.toml.specs.Parse as toml;
+ghost use Rattle.toml.specs.Parse.{read_map};
+ghost use Rattle.config_places.specs.Names as spec;
+ghost use Rattle.config_places.specs.Spots.{first_place};
+ghost use Rattle.config_places.specs.Steps.{step_of};
+ghost use Rattle.config_places.specs.Views.{places_view};
 
-use crate::meeting::{Meeting, meet};
-use crate::path::push_key;
+use crate::meeting::meet;
+use crate::path::steps_of_key;
 use crate::place::Place;
 use crate::step::Step;
 use std::alloc::Global;
 use toml_parser::text::{first, skip, skip_blank, skip_ws};
 use toml_parser::{ErrorKind, Key, ParseError, dotted_key, quoted, starts_string, unquoted};
 
-/// What stands behind a value with arrays and inline tables at most `depth` deep, and where in it the wanted steps lead.
+/// Where in the value at the front of a text the wanted steps lead, and what stands behind the value. Arrays and inline tables are at
+/// most `depth` deep.
 #[cycle(value)]
-fn value<'a>(
+pub(crate) fn value<'a>(
     alloc: Global,
     s: &'a str,
     depth: usize,
     wanted: &[Step],
 ) -> Result<(Option<Place<'a>>, &'a str), ParseError>
-    ensures { Shortens s.now result }
+    ensures value { Reads places_view result
+        (read_map (first_place (map step_of wanted.now)) (spec.names_in depth s.now)) }
+    ensures shorter { Shortens s.now result }
 {
     let byte = first(s);
     if byte != b'[' && byte != b'{' {
@@ -38,7 +46,8 @@ fn value<'a>(
 
 /// What stands behind a string, a number, a boolean or a date-time.
 fn behind_atom<'a>(alloc: Global, s: &'a str) -> Result<&'a str, ParseError>
-    ensures { IfOk result (λ rest. length rest.now < length s.now) }
+    ensures value { Gives (λ rest. rest.now) result (option_map (λ read. read.1) (toml.atom s.now)) }
+    ensures shorter { IfOk result (λ rest. length rest.now < length s.now) }
 {
     if starts_string(s) {
         let (_, rest) = quoted(alloc, s)?;
@@ -57,7 +66,9 @@ fn array<'a>(
     depth: usize,
     wanted: &[Step],
 ) -> Result<(Option<Place<'a>>, &'a str), ParseError>
-    ensures { Shortens s.now result }
+    ensures value { (n : ℕ) → length s.now < n → Reads places_view result
+        (read_map (first_place (map step_of wanted.now)) (spec.element_names (spec.names_in depth) n 0 s.now)) }
+    ensures shorter { Shortens s.now result }
 {
     let mut found = None;
     let mut rest = s;
@@ -67,11 +78,11 @@ fn array<'a>(
         if first(start) == b']' {
             return Ok((found, skip(start, 1)));
         }
-        let meeting = meet(wanted, &[Step::Element(index)]);
-        let (place, after) = placed(alloc, Place::alone(start), depth, meeting)?;
+        let steps = [Step::Element(index)];
+        let (place, after) = placed(alloc, Place::alone(start), depth, wanted, &steps)?;
         found = found.or(place);
         rest = after_element(after, b']', ErrorKind::Array)?;
-        index = index.saturating_add(1);
+        index += 1;
     }
 }
 
@@ -83,7 +94,9 @@ fn inline_table<'a>(
     depth: usize,
     wanted: &[Step],
 ) -> Result<(Option<Place<'a>>, &'a str), ParseError>
-    ensures { Shortens s.now result }
+    ensures value { (n : ℕ) → length s.now < n → Reads places_view result
+        (read_map (first_place (map step_of wanted.now)) (spec.member_names (spec.names_in depth) n s.now)) }
+    ensures shorter { Shortens s.now result }
 {
     let mut found = None;
     let mut rest = s;
@@ -92,7 +105,7 @@ fn inline_table<'a>(
         if first(start) == b'}' {
             return Ok((found, skip(start, 1)));
         }
-        let (place, after) = pair(alloc, start, depth, wanted)?;
+        let (place, after) = member(alloc, start, depth, wanted)?;
         found = found.or(place);
         rest = after_element(after, b'}', ErrorKind::InlineTable)?;
     }
@@ -100,47 +113,48 @@ fn inline_table<'a>(
 
 /// The same of a key with its value.
 #[cycle(value)]
-pub(crate) fn pair<'a>(
+fn member<'a>(
     alloc: Global,
     s: &'a str,
     depth: usize,
     wanted: &[Step],
 ) -> Result<(Option<Place<'a>>, &'a str), ParseError>
-    ensures { Shortens s.now result }
+    ensures value { Reads places_view result
+        (read_map (first_place (map step_of wanted.now)) (spec.keyed_names (spec.names_in depth) s.now)) }
+    ensures shorter { Shortens s.now result }
 {
     let (key, at_value) = key_equals(alloc, s)?;
-    let mut named = Vec::new(alloc);
-    push_key(&key, &mut named)?;
+    let steps = steps_of_key(alloc, &key)?;
     let place = Place {
         key: s,
         value: at_value,
     };
-    placed(alloc, place, depth, meet(wanted, &named))
+    placed(alloc, place, depth, wanted, &steps)
 }
 
-/// The same of a value at a place.
+/// The same of a value at a place, to which these steps lead.
 #[cycle(value)]
 fn placed<'a>(
     alloc: Global,
     place: Place<'a>,
     depth: usize,
-    meeting: Meeting<'_>,
+    wanted: &[Step],
+    steps: &[Step],
 ) -> Result<(Option<Place<'a>>, &'a str), ParseError>
-    ensures { Shortens place.entry.value.now result }
+    ensures value { Reads places_view result
+        (read_map (first_place (map step_of wanted.now))
+        (spec.value_names (spec.names_in depth) (map step_of steps.now) place.entry.key.now place.entry.value.now)) }
+    ensures shorter { Shortens place.entry.value.now result }
 {
-    let (inner, rest) = value(alloc, place.value, depth, meeting.below())?;
-    let found = match meeting {
-        Meeting::Apart => None,
-        Meeting::Passes => Some(Place::alone(place.key)),
-        Meeting::Leads([]) => Some(place),
-        Meeting::Leads(_) => inner,
-    };
-    Ok((found, rest))
+    let meeting = meet(wanted, steps);
+    let (inner, rest) = value(alloc, place.value, depth, meeting.left())?;
+    Ok((place.told(meeting, inner), rest))
 }
 
 /// After a comma, or at the closing bracket.
 fn after_element(s: &str, closing: u8, missing: ErrorKind) -> Result<&str, ParseError>
-    ensures { IfOk result (λ rest. length rest.now ≤ length s.now) }
+    ensures value { Gives (λ rest. rest.now) result (toml.after_element closing s.now) }
+    ensures within { IfOk result (λ rest. length rest.now ≤ length s.now) }
 {
     let rest = skip_blank(s, true);
     if first(rest) == b',' {
@@ -154,7 +168,7 @@ fn after_element(s: &str, closing: u8, missing: ErrorKind) -> Result<&str, Parse
 
 /// A key, and what stands behind its `=` and the white space after that.
 pub(crate) fn key_equals(alloc: Global, s: &str) -> Result<(Key, &str), ParseError>
-    ensures value { Reads key_view result (key_equals s.now) }
+    ensures value { Reads key_view result (toml.key_equals s.now) }
     ensures shorter { Shortens s.now result }
 {
     let (key, rest) = dotted_key(alloc, s)?;

@@ -4,9 +4,8 @@ use Rattle.std.specs.Prelude.{ℤ, Option, codes, nat_lt}
 use Rattle.meter_theory.specs.Lists.{IsIn}
 use Rattle.meter_theory.specs.declared.limits.TheConstants as limits
 use Rattle.config_text.specs.declared.fault.Code.TheVariants.{Limit}
-use Rattle.config_text.specs.Fault.{Fault, fault_where, ◌>>=◌}
+use Rattle.config_text.specs.Fault.{Fault, fault_where, first_of, ◌>>=◌}
 use Rattle.config_text.specs.Parts.{Text, MenuText, ConfigText, TargetText, ScriptRefText, CaptureText, ActionText, ScriptText, UpDownText, BodyText, DataText, RegisterText, ProfileText, ClockText, ScriptTableText, MonitorText, ScheduleText, UnknownText}
-use Rattle.config_text.proofs.FaultLists.{none_first}
 use Rattle.config_rules.specs.Walks.{Judge, each, each_action, each_capture, each_run, script_actions, both_scripts, references}
 use Rattle.config_rules.specs.Names.{menu_in}
 use Rattle.config_rules.specs.Passes as passes
@@ -14,9 +13,14 @@ use Rattle.config_rules.specs.Passes.{found, judged}
 use Rattle.config_rules.proofs.Nothing.{both_none, none_found, each_ok}
 
 -- a chain that found nothing: neither did its first line, nor the others
-pub then_ok : {A B : Type 0} (r : Result A Fault) (f : A → Result B Fault) (y : B) → r >>= f ≡ Ok y → (x : A) × (r ≡ Ok x) × (f x ≡ Ok y)
+pub then_ok : {A B E : Type 0} (r : Result A E) (f : A → Result B E) (y : B) → r >>= f ≡ Ok y → (x : A) × (r ≡ Ok x) × (f x ≡ Ok y)
 then_ok (Ok x) f y h = (x, refl, h)
 then_ok (Err e) f y h = cc
+
+-- where the first of them says nothing, there are no faults
+none_first : (faults : List Fault) → first_of faults ≡ Ok tt → faults ≡ []
+none_first [] h = refl
+none_first (fault ∷ faults) h = cc
 
 -- each action of each script was judged, and found right
 pub each_action_ok : (judge : Judge ActionText) (at : Text) (scripts : List ScriptText) → each_action judge at scripts ≡ [] →

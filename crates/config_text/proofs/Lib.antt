@@ -1,5 +1,2 @@
-pub mod FaultLemmas
-pub mod FaultLists
-pub mod FirstFaults
-pub mod FormFaults
 pub mod KeyLemmas
+pub mod Readings

@@ -1,5 +1,5 @@
--- The faults of a configuration, and what a reader's answer says of a definition.
-use Rattle.std.specs.Prelude.{◌≡◌, ℕ, List, [], ◌∷◌, Option, Some, None, Result, Ok, Err, ⊤, Bool, true, false, string_bytes}
+-- The faults of a configuration, and readings, which say something or have faults.
+use Rattle.std.specs.Prelude.{◌≡◌, ℕ, List, [], ◌∷◌, ◌++◌, Option, Some, None, Result, Ok, Err, ⊤, Bool, true, false, string_bytes}
 use Rattle.config_text.specs.Parts.{Text}
 use Rattle.config_text.specs.declared.fault.Code.{Code}
 use Rattle.config_text.specs.declared.fault.Code.TheVariants as codes
@@ -14,26 +14,49 @@ pub record Fault : Type 0 where
 abbrev pub faulty : {A : Type 0} → Code → Text → Result A Fault
 faulty code place = Err (record { code = code; place = place })
 
--- the ? of the logic: the first fault ends a chain of lines
+-- faults, of which there is one at least, in the order in which they are found
+pub record Faults : Type 0 where
+  pub first : Fault
+  pub others : List Fault
+
+-- the ? of the logic: what can't be read ends a chain of lines
 infixl 10 ◌>>=◌
-abbrev pub ◌>>=◌ : {A B : Type 0} → Result A Fault → (A → Result B Fault) → Result B Fault
+abbrev pub ◌>>=◌ : {A B E : Type 0} → Result A E → (A → Result B E) → Result B E
 (Ok x) >>= f = f x
 (Err e) >>= f = Err e
 
+-- one reading beside another: what the first makes of what the second says, or the faults of both
+infixl 10 ◌<*>◌
+abbrev pub ◌<*>◌ : {A B : Type 0} → Result (A → B) Faults → Result A Faults → Result B Faults
+(Ok make) <*> (Ok x) = Ok (make x)
+(Ok make) <*> (Err faults) = Err faults
+(Err faults) <*> (Ok x) = Err faults
+(Err faults) <*> (Err more) = Err (record { first = faults.first; others = faults.others ++ more.first ∷ more.others })
+
 -- what was found, or this fault
-abbrev pub found_or : {A : Type 0} → Code → Text → Option A → Result A Fault
+abbrev pub found_or : {A : Type 0} → Code → Text → Option A → Result A Faults
 found_or code place (Some x) = Ok x
-found_or code place None = faulty code place
+found_or code place None = Err (record { first = record { code = code; place = place }; others = [] })
+
+-- this, unless there are faults
+abbrev pub unless_faulty : {A : Type 0} → List Fault → A → Result A Faults
+unless_faulty [] x = Ok x
+unless_faulty (fault ∷ faults) x = Err (record { first = fault; others = faults })
+
+-- the faults of a reading
+abbrev pub faults_in : {A : Type 0} → Result A Faults → List Fault
+faults_in (Ok x) = []
+faults_in (Err faults) = faults.first ∷ faults.others
+
+-- a reading with the first of its faults alone
+abbrev pub by_first : {A : Type 0} → Result A Faults → Result A Fault
+by_first (Ok x) = Ok x
+by_first (Err faults) = Err faults.first
 
 -- this fault where the test holds
 abbrev pub fault_where : Code → Text → Bool → List Fault
 fault_where code place true = record { code = code; place = place } ∷ []
 fault_where code place false = []
-
--- the fault of a part, where it has one
-abbrev pub fault_in : {A : Type 0} → Result A Fault → List Fault
-fault_in (Ok x) = []
-fault_in (Err e) = e ∷ []
 
 -- the first of some faults, if there is one
 abbrev pub first_of : List Fault → Result ⊤ Fault
@@ -46,20 +69,10 @@ first_found [] = []
 first_found ([] ∷ passes) = first_found passes
 first_found ((fault ∷ faults) ∷ passes) = fault ∷ faults
 
--- the error is this fault, unless memory ran out
-abbrev pub IsFault : Code → Text → ConfigFault → Type 0
-IsFault code place faults.Memory = Unit {0}
-IsFault code place (faults.Found c p) = (c ≡ code) × (string_bytes p ≡ place)
-
 -- the error is the definition's, unless memory ran out
 abbrev pub Fails : {Y : Type 0} → ConfigFault → Result Y Fault → Type 0
 Fails faults.Memory read = Unit {0}
 Fails (faults.Found code place) read = read ≡ faulty code (string_bytes place)
-
--- what a function returned, seen by view, is what the definition gives, unless memory ran out
-abbrev pub Gives : {X Y : Type 0} → (X → Y) → Result X ConfigFault → Result Y Fault → Type 0
-Gives view (Ok x) read = read ≡ Ok (view x)
-Gives view (Err e) read = Fails e read
 
 -- what an error tells: its fault, or nothing where memory ran out (own profile)
 abbrev pub told : ConfigFault → Option Fault

@@ -4,7 +4,7 @@ use Rattle.std.specs.Prelude.{ℕ, ◌++◌, ◌&&◌, nat_le, int_le, length, �
 use Rattle.std.specs.Char.{is_ascii}
 use Rattle.std.specs.List.{list_all}
 use Rattle.toml.specs.Data.{Data, Members, get_member, as_str, as_integer, as_bool}
-use Rattle.config_text.specs.Fault.{Fault, found_or, ◌>>=◌}
+use Rattle.config_text.specs.Fault.{Faults, found_or, ◌>>=◌}
 use Rattle.config_text.specs.Parts.{Text}
 use Rattle.config_text.specs.declared.fault.Code.TheVariants.{Kind}
 
@@ -27,39 +27,39 @@ ascii_in low high (Some s) = if has_ascii low high s then Some s else None
 ascii_in low high None = None
 
 -- the text at a key
-unfoldable pub text_at : Text → Text → Members → Result Text Fault
+unfoldable pub text_at : Text → Text → Members → Result Text Faults
 text_at at key t = found_or Kind (at ++ key) (option_and_then as_str (get_member key t))
 
 -- the number at a key: in a range of natural numbers, in a range of integers, and any
-unfoldable pub natural_at : ℕ → ℕ → Text → Text → Members → Result ℕ Fault
+unfoldable pub natural_at : ℕ → ℕ → Text → Text → Members → Result ℕ Faults
 natural_at low high at key t = found_or Kind (at ++ key) (natural_in low high (option_and_then as_integer (get_member key t)))
 
-unfoldable pub signed_at : ℤ → ℤ → Text → Text → Members → Result ℤ Fault
+unfoldable pub signed_at : ℤ → ℤ → Text → Text → Members → Result ℤ Faults
 signed_at low high at key t = found_or Kind (at ++ key) (integer_in low high (option_and_then as_integer (get_member key t)))
 
-unfoldable pub integer_at : Text → Text → Members → Result ℤ Fault
+unfoldable pub integer_at : Text → Text → Members → Result ℤ Faults
 integer_at at key t = found_or Kind (at ++ key) (option_and_then as_integer (get_member key t))
 
 -- a key that may be left out
-abbrev pub optional : {A : Type 0} → (Data → Option A) → Text → Option Data → Result (Option A) Fault
+abbrev pub optional : {A : Type 0} → (Data → Option A) → Text → Option Data → Result (Option A) Faults
 optional kind place None = Ok None
 optional kind place (Some d) = do
   x ← found_or Kind place (kind d)
   Ok (Some x)
 
-unfoldable pub optional_text_at : Text → Text → Members → Result (Option Text) Fault
+unfoldable pub optional_text_at : Text → Text → Members → Result (Option Text) Faults
 optional_text_at at key t = optional as_str (at ++ key) (get_member key t)
 
-unfoldable pub optional_ascii_at : ℕ → ℕ → Text → Text → Members → Result (Option Text) Fault
+unfoldable pub optional_ascii_at : ℕ → ℕ → Text → Text → Members → Result (Option Text) Faults
 optional_ascii_at low high at key t = optional (λ d. ascii_in low high (as_str d)) (at ++ key) (get_member key t)
 
-unfoldable pub optional_integer_at : Text → Text → Members → Result (Option ℤ) Fault
+unfoldable pub optional_integer_at : Text → Text → Members → Result (Option ℤ) Faults
 optional_integer_at at key t = optional as_integer (at ++ key) (get_member key t)
 
 -- a yes or no, and what it is where it is left out
-abbrev pub flag_or : Bool → Text → Option Data → Result Bool Fault
+abbrev pub flag_or : Bool → Text → Option Data → Result Bool Faults
 flag_or absent place None = Ok absent
 flag_or absent place (Some d) = found_or Kind place (as_bool d)
 
-unfoldable pub flag_at : Bool → Text → Text → Members → Result Bool Fault
+unfoldable pub flag_at : Bool → Text → Text → Members → Result Bool Faults
 flag_at absent at key t = flag_or absent (at ++ key) (get_member key t)

@@ -3,15 +3,14 @@
 ghost use Rattle.std.specs.Prelude.{◌≡◌, ◌++◌, OnOk};
 ghost use Rattle.toml.specs.View.{table_view};
 ghost use Rattle.config_text.specs.BodyView.{body_text};
-ghost use Rattle.config_text.specs.Fault.{Gives};
+ghost use Rattle.config_text.specs.Refusals.{Gives};
 ghost use Rattle.config_text.specs.Classes as spec;
 
-use crate::fault::ConfigFault;
 use crate::keys::{needed, only};
 use crate::parts::BodyParts;
 use crate::place::Place;
 use crate::placed::PlacedFault;
-use crate::value_faults::text_fault_at;
+use crate::refusal::Refusal;
 use crate::values::text_at;
 use cosem_data::memory::Memory;
 use toml::Table;
@@ -31,21 +30,9 @@ pub(crate) fn clock_keys(
 
 /// What the table says of a clock. Whether the text is a moment is judged with the other values.
 #[tactic(auto, unfolding(crate::specs::Classes::clock_of))]
-pub(crate) fn clock_of(at: &Place<'_>, table: &Table) -> Result<BodyParts, ConfigFault>
+pub(crate) fn clock_of(at: &Place<'_>, table: &Table) -> Result<BodyParts, Refusal>
     ensures { Gives body_text result (spec.clock_of at.now (table_view table.now)) }
 {
     let time = text_at(at, "time", table)?;
     Ok(BodyParts::Clock { time })
-}
-
-/// Notes the values of a wrong kind in a clock.
-#[tactic(auto, unfolding(crate::specs::Classes::clock_faults))]
-pub(crate) fn clock_faults(
-    faults: &mut Vec<PlacedFault>,
-    at: &Place<'_>,
-    table: &Table,
-) -> Result<(), Memory>
-    ensures { OnOk result (faults.new.items ≡ faults.old.items ++ spec.clock_faults at.now (table_view table.now)) }
-{
-    text_fault_at(faults, at, "time", table)
 }

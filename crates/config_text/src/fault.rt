@@ -1,9 +1,8 @@
 //! What can be wrong with a configuration, and where.
-ghost use Rattle.std.specs.Prelude.{◌≡◌, ◌++◌};
+ghost use Rattle.std.specs.Prelude.{◌≡◌};
 ghost use Rattle.config_text.specs.declared.fault.ConfigFault.TheVariants.{Memory};
-ghost use Rattle.config_text.specs.Fault.{IsFault, number_of};
+ghost use Rattle.config_text.specs.Fault.{number_of};
 
-use crate::place::Place;
 use cosem_data::memory::Memory;
 use std::alloc::{AllocError, AllocFailed};
 
@@ -121,15 +120,5 @@ impl<T: Drop> From<AllocFailed<T>> for ConfigFault {
 
     fn from(_: AllocFailed<T>) -> Self {
         ConfigFault::Memory
-    }
-}
-
-/// The fault with this code at a key below a place, or want of memory.
-pub fn fault(code: Code, at: &Place<'_>, key: &str) -> ConfigFault
-    ensures { IsFault code (at.now ++ key.now) result }
-{
-    match format!(in at.alloc(); "{at}{key}") {
-        Ok(place) => ConfigFault::Found { code, place },
-        Err(_) => ConfigFault::Memory,
     }
 }

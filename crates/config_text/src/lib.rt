@@ -3,9 +3,11 @@
 //! `object[6].name`.
 #![tactic(auto)]
 
+mod both;
 mod checks;
 mod client;
 mod clock;
+mod elements;
 pub mod fault;
 pub mod hex_value;
 mod kept;
@@ -13,7 +15,6 @@ pub mod key_text;
 mod keys;
 mod lists;
 mod lookup;
-mod menus;
 mod monitor;
 pub mod noting;
 mod object;
@@ -28,11 +29,9 @@ mod right;
 mod schedule;
 mod script;
 pub mod service;
-mod table_faults;
 mod table_keys;
 mod tables;
 mod target;
-mod value_faults;
 mod values;
 
 pub use read::read_tables;

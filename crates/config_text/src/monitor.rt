@@ -3,20 +3,19 @@
 ghost use Rattle.std.specs.Prelude.{◌≡◌, ◌++◌, OnOk};
 ghost use Rattle.toml.specs.View.{table_view};
 ghost use Rattle.config_text.specs.BodyView.{body_text};
-ghost use Rattle.config_text.specs.Fault.{Gives};
+ghost use Rattle.config_text.specs.Refusals.{Gives};
 ghost use Rattle.config_text.specs.Classes as spec;
 
-use crate::fault::ConfigFault;
+use crate::both::both;
 use crate::keys::{needed, only};
 use crate::lists::texts_at;
 use crate::parts::{BodyParts, UpDownParts};
 use crate::place::Place;
 use crate::placed::PlacedFault;
-use crate::table_faults::{list_faults_at, table_faults_at};
+use crate::refusal::Refusal;
 use crate::table_keys::{list_keys_at, table_keys_at};
 use crate::tables::{TableForm, list_at, table_at};
 use crate::target::{ScriptRefTable, TargetTable};
-use crate::value_faults::texts_faults_at;
 use cosem_data::memory::Memory;
 use toml::Table;
 
@@ -24,15 +23,13 @@ use toml::Table;
 pub(crate) struct UpDownTable;
 
 impl TableForm for UpDownTable {
-    ghost use Rattle.config_text.specs.Classes.{up_down_keys, up_down_of, up_down_faults};
+    ghost use Rattle.config_text.specs.Classes.{up_down_keys, up_down_of};
 
     type Parts = UpDownParts;
 
     ghost keys = { λ form. up_down_keys };
 
     ghost says = { λ form. up_down_of };
-
-    ghost kinds = { λ form. up_down_faults };
 
     #[tactic(auto, unfolding(crate::specs::Classes::up_down_keys))]
     fn check_keys(
@@ -49,21 +46,11 @@ impl TableForm for UpDownTable {
     }
 
     #[tactic(auto, unfolding(crate::specs::Classes::up_down_of))]
-    fn read(&self, at: &Place<'_>, table: &Table) -> Result<UpDownParts, ConfigFault> {
-        let up = table_at(&ScriptRefTable, at, "up", table)?;
-        let down = table_at(&ScriptRefTable, at, "down", table)?;
+    fn read(&self, at: &Place<'_>, table: &Table) -> Result<UpDownParts, Refusal> {
+        let up = table_at(&ScriptRefTable, at, "up", table);
+        let down = table_at(&ScriptRefTable, at, "down", table);
+        let (up, down) = both(up, down)?;
         Ok(UpDownParts { up, down })
-    }
-
-    #[tactic(auto, unfolding(crate::specs::Classes::up_down_faults))]
-    fn check_kinds(
-        &self,
-        faults: &mut Vec<PlacedFault>,
-        at: &Place<'_>,
-        table: &Table,
-    ) -> Result<(), Memory> {
-        table_faults_at(faults, &ScriptRefTable, at, "up", table)?;
-        table_faults_at(faults, &ScriptRefTable, at, "down", table)
     }
 }
 
@@ -87,29 +74,16 @@ pub(crate) fn monitor_keys(
 
 /// What the table says of a register monitor.
 #[tactic(auto, unfolding(crate::specs::Classes::monitor_of))]
-pub(crate) fn monitor_of(at: &Place<'_>, table: &Table) -> Result<BodyParts, ConfigFault>
+pub(crate) fn monitor_of(at: &Place<'_>, table: &Table) -> Result<BodyParts, Refusal>
     ensures { Gives body_text result (spec.monitor_of at.now (table_view table.now)) }
 {
-    let monitored = table_at(&TargetTable, at, "monitored", table)?;
-    let thresholds = texts_at(at, "thresholds", table)?;
-    let actions = list_at(&UpDownTable, at, "action", table)?;
+    let monitored = table_at(&TargetTable, at, "monitored", table);
+    let thresholds = texts_at(at, "thresholds", table);
+    let actions = list_at(&UpDownTable, at, "action", table);
+    let ((monitored, thresholds), actions) = both(both(monitored, thresholds), actions)?;
     Ok(BodyParts::RegisterMonitor {
         monitored,
         thresholds,
         actions,
     })
-}
-
-/// Notes the values of a wrong kind in a register monitor.
-#[tactic(auto, unfolding(crate::specs::Classes::monitor_faults))]
-pub(crate) fn monitor_faults(
-    faults: &mut Vec<PlacedFault>,
-    at: &Place<'_>,
-    table: &Table,
-) -> Result<(), Memory>
-    ensures { OnOk result (faults.new.items ≡ faults.old.items ++ spec.monitor_faults at.now (table_view table.now)) }
-{
-    table_faults_at(faults, &TargetTable, at, "monitored", table)?;
-    texts_faults_at(faults, at, "thresholds", table)?;
-    list_faults_at(faults, &UpDownTable, at, "action", table)
 }

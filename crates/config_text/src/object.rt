@@ -3,25 +3,22 @@
 ghost use Rattle.std.specs.Prelude.{◌≡◌, ◌++◌, OnOk};
 ghost use Rattle.toml.specs.View.{table_view};
 ghost use Rattle.config_text.specs.BodyView.{body_text};
-ghost use Rattle.config_text.specs.Fault.{Gives};
+ghost use Rattle.config_text.specs.Refusals.{Gives};
 ghost use Rattle.config_text.specs.Objects as spec;
 
-use crate::clock::{clock_faults, clock_keys, clock_of};
-use crate::fault::ConfigFault;
+use crate::both::both;
+use crate::clock::{clock_keys, clock_of};
 use crate::keys::needed;
-use crate::monitor::{monitor_faults, monitor_keys, monitor_of};
+use crate::monitor::{monitor_keys, monitor_of};
 use crate::parts::{BodyParts, ObjectParts};
 use crate::place::Place;
 use crate::placed::PlacedFault;
-use crate::profile::{profile_faults, profile_keys, profile_of};
-use crate::refusal::keep;
-use crate::register::{
-    data_faults, data_keys, data_of, register_faults, register_keys, register_of,
-};
-use crate::schedule::{schedule_faults, schedule_keys, schedule_of};
-use crate::script::{script_table_faults, script_table_keys, script_table_of};
+use crate::profile::{profile_keys, profile_of};
+use crate::refusal::Refusal;
+use crate::register::{data_keys, data_of, register_keys, register_of};
+use crate::schedule::{schedule_keys, schedule_of};
+use crate::script::{script_table_keys, script_table_of};
 use crate::tables::TableForm;
-use crate::value_faults::text_fault_at;
 use crate::values::{flag_at, natural_at, natural_or_none, text_at};
 use cosem_data::memory::Memory;
 use meter_theory::classes::Class;
@@ -65,7 +62,7 @@ fn class_keys(
 }
 
 /// Whether the object is fed. It isn't looked at where the class isn't known.
-fn fed_of(class: Option<Class>, at: &Place<'_>, table: &Table) -> Result<bool, ConfigFault>
+fn fed_of(class: Option<Class>, at: &Place<'_>, table: &Table) -> Result<bool, Refusal>
     ensures { Gives (λ b. b) result (spec.fed_of class at.now (table_view table.now)) }
 {
     match class {
@@ -80,7 +77,7 @@ fn body_of(
     class: Option<Class>,
     at: &Place<'_>,
     table: &Table,
-) -> Result<BodyParts, ConfigFault>
+) -> Result<BodyParts, Refusal>
     ensures { Gives body_text result (spec.body_of menus class at.now (table_view table.now)) }
 {
     match class {
@@ -95,28 +92,6 @@ fn body_of(
     }
 }
 
-/// Notes the values of a wrong kind among those that the class asks for; none where it isn't known.
-fn body_faults(
-    faults: &mut Vec<PlacedFault>,
-    menus: bool,
-    class: Option<Class>,
-    at: &Place<'_>,
-    table: &Table,
-) -> Result<(), Memory>
-    ensures { OnOk result (faults.new.items ≡ faults.old.items ++ spec.body_faults menus class at.now (table_view table.now)) }
-{
-    match class {
-        Some(Class::Data) => data_faults(faults, at, table),
-        Some(Class::Register) => register_faults(faults, at, table),
-        Some(Class::ProfileGeneric) => profile_faults(faults, menus, at, table),
-        Some(Class::Clock) => clock_faults(faults, at, table),
-        Some(Class::ScriptTable) => script_table_faults(faults, at, table),
-        Some(Class::RegisterMonitor) => monitor_faults(faults, at, table),
-        Some(Class::SingleActionSchedule) => schedule_faults(faults, menus, at, table),
-        None => Ok(()),
-    }
-}
-
 /// `class`, `name`, perhaps `fed`, and what the class asks for: an object.
 #[derive(Drop)]
 pub(crate) struct ObjectTable {
@@ -125,15 +100,13 @@ pub(crate) struct ObjectTable {
 }
 
 impl TableForm for ObjectTable {
-    ghost use Rattle.config_text.specs.Objects.{object_keys, object_of, object_faults};
+    ghost use Rattle.config_text.specs.Objects.{object_keys, object_of};
 
     type Parts = ObjectParts;
 
     ghost keys = { λ form. object_keys form.version };
 
     ghost says = { λ form. object_of form.version };
-
-    ghost kinds = { λ form. object_faults form.version };
 
     #[tactic(auto, unfolding(crate::specs::Objects::object_keys))]
     fn check_keys(
@@ -149,31 +122,18 @@ impl TableForm for ObjectTable {
     }
 
     #[tactic(auto, unfolding(crate::specs::Objects::object_of))]
-    fn read(&self, at: &Place<'_>, table: &Table) -> Result<ObjectParts, ConfigFault> {
-        let class_id = natural_at(0, 65535, at, "class", table)? as u16;
-        let name = text_at(at, "name", table)?;
-        let class = Class::in_version(self.version, class_id);
-        let fed = fed_of(class, at, table)?;
-        let body = body_of(has_menus(self.version), class, at, table)?;
+    fn read(&self, at: &Place<'_>, table: &Table) -> Result<ObjectParts, Refusal> {
+        let class_id = natural_at(0, 65535, at, "class", table);
+        let name = text_at(at, "name", table);
+        let class = class_told(self.version, table);
+        let fed = fed_of(class, at, table);
+        let body = body_of(has_menus(self.version), class, at, table);
+        let (((class_id, name), fed), body) = both(both(both(class_id, name), fed), body)?;
         Ok(ObjectParts {
-            class_id,
+            class_id: class_id as u16,
             name,
             fed,
             body,
         })
-    }
-
-    #[tactic(auto, unfolding(crate::specs::Objects::object_faults))]
-    fn check_kinds(
-        &self,
-        faults: &mut Vec<PlacedFault>,
-        at: &Place<'_>,
-        table: &Table,
-    ) -> Result<(), Memory> {
-        keep(faults, natural_at(0, 65535, at, "class", table))?;
-        text_fault_at(faults, at, "name", table)?;
-        let class = class_told(self.version, table);
-        keep(faults, fed_of(class, at, table))?;
-        body_faults(faults, has_menus(self.version), class, at, table)
     }
 }

@@ -1,28 +1,24 @@
 //! The tables of a profile.
 
-ghost use Rattle.std.specs.Prelude.{◌≡◌, ◌++◌, [], OnOk, codes, if◌then◌else◌, map, None, Ok, option_map};
-ghost use Rattle.toml.specs.View.{array_view, table_view, view};
+ghost use Rattle.std.specs.Prelude.{◌≡◌, ◌++◌, [], OnOk, codes, if◌then◌else◌, map, option_map};
+ghost use Rattle.toml.specs.View.{table_view};
 ghost use Rattle.config_text.specs.BodyView.{body_text};
-ghost use Rattle.config_text.specs.Fault.{Gives};
+ghost use Rattle.config_text.specs.Refusals.{Gives};
 ghost use Rattle.config_text.specs.Classes as spec;
-ghost use Rattle.config_text.specs.Lists.{each};
-ghost use Rattle.config_text.specs.Tables.{lists_keys_at, lists_of, menu_of_lists_at, optional_lists_faults_at, tables_of};
+ghost use Rattle.config_text.specs.Tables.{lists_keys_at};
 
-use crate::fault::{Code, ConfigFault, fault};
+use crate::both::both;
+use crate::elements::{Element, array_of, menu_at};
 use crate::keys::{needed, only};
-use crate::lookup::value_at;
-use crate::menus::tables_of;
 use crate::parts::{AlternativeParts, BodyParts, CaptureParts};
 use crate::place::Place;
 use crate::placed::PlacedFault;
-use crate::refusal::keep;
-use crate::table_faults::{list_faults_at, optional_lists_faults_at};
+use crate::refusal::Refusal;
 use crate::table_keys::{list_keys_at, lists_keys_at};
-use crate::tables::{TableForm, list_at};
-use crate::target::{target_faults, target_of};
+use crate::tables::{TableForm, TableOf, list_at};
+use crate::target::target_of;
 use crate::values::{natural_at, optional_integer_at};
 use cosem_data::memory::Memory;
-use toml::value::Array;
 use toml::{Table, Value};
 
 /// The greatest integer that a TOML text can have.
@@ -32,15 +28,13 @@ const GREATEST: u64 = 9_223_372_036_854_775_807;
 pub(crate) struct CaptureTable;
 
 impl TableForm for CaptureTable {
-    ghost use Rattle.config_text.specs.Classes.{capture_keys, capture_of, capture_faults};
+    ghost use Rattle.config_text.specs.Classes.{capture_keys, capture_of};
 
     type Parts = CaptureParts;
 
     ghost keys = { λ form. capture_keys };
 
     ghost says = { λ form. capture_of };
-
-    ghost kinds = { λ form. capture_faults };
 
     #[tactic(auto, unfolding(crate::specs::Classes::capture_keys))]
     fn check_keys(
@@ -55,21 +49,11 @@ impl TableForm for CaptureTable {
     }
 
     #[tactic(auto, unfolding(crate::specs::Classes::capture_of))]
-    fn read(&self, at: &Place<'_>, table: &Table) -> Result<CaptureParts, ConfigFault> {
-        let target = target_of(at, table)?;
-        let data_index = optional_integer_at(at, "data_index", table)?;
+    fn read(&self, at: &Place<'_>, table: &Table) -> Result<CaptureParts, Refusal> {
+        let target = target_of(at, table);
+        let data_index = optional_integer_at(at, "data_index", table);
+        let (target, data_index) = both(target, data_index)?;
         Ok(CaptureParts { target, data_index })
-    }
-
-    #[tactic(auto, unfolding(crate::specs::Classes::capture_faults))]
-    fn check_kinds(
-        &self,
-        faults: &mut Vec<PlacedFault>,
-        at: &Place<'_>,
-        table: &Table,
-    ) -> Result<(), Memory> {
-        target_faults(faults, at, table)?;
-        keep(faults, optional_integer_at(at, "data_index", table))
     }
 }
 
@@ -138,51 +122,29 @@ pub(crate) fn profile_keys(
     only(faults, at, known_keys(menus), table)
 }
 
-/// The alternative in the array at a place.
-fn alternative_of(place: &Place<'_>, value: &Value) -> Result<AlternativeParts, ConfigFault>
-    ensures { Gives (λ a. a) result (tables_of spec.capture_of place.now (view value.now)) }
-{
-    let captures = tables_of(&CaptureTable, place, value)?;
-    Ok(AlternativeParts { captures })
-}
+/// An alternative to what a profile captures: an array of such attributes.
+struct Alternative;
 
-/// The alternatives in an array.
-#[tactic(auto, unfolding(crate::specs::Lists::each))]
-fn each_alternative(name: &Place<'_>, array: &Array) -> Result<Vec<AlternativeParts>, ConfigFault>
-    ensures { Gives (λ v. v.items) result (each (tables_of spec.capture_of) name.now 0
-        (array_view array.now)) }
-{
-    let mut all = Vec::with_capacity(name.alloc(), array.len())?;
-    for (i, value) in array.iter().enumerate() {
-        let place = name.element(i);
-        all.push(alternative_of(&place, value)?)?;
-    }
-    Ok(all)
-}
+impl Element for Alternative {
+    ghost use Rattle.std.specs.Prelude.{List};
+    ghost use Rattle.config_text.specs.Classes.{capture_of};
+    ghost use Rattle.config_text.specs.Parts.{CaptureText};
+    ghost use Rattle.config_text.specs.Tables.{tables_of};
 
-/// The alternatives in the array at a place.
-fn alternatives_of(place: &Place<'_>, value: &Value) -> Result<Vec<AlternativeParts>, ConfigFault>
-    ensures { Gives (λ v. v.items) result (lists_of spec.capture_of place.now (view value.now)) }
-{
-    match value.as_array() {
-        Some(items) => each_alternative(place, items),
-        None => Err(fault(Code::Kind, place, "")),
-    }
-}
+    type Parts = AlternativeParts;
 
-/// The alternatives in the array at a key, if it is there.
-#[tactic(auto, unfolding(crate::specs::Tables::menu_of_lists_at))]
-fn menu_at(
-    at: &Place<'_>,
-    key: &str,
-    table: &Table,
-) -> Result<Option<Vec<AlternativeParts>>, ConfigFault>
-    ensures { Gives (option_map (λ v. v.items)) result
-        (menu_of_lists_at spec.capture_of at.now key.now (table_view table.now)) }
-{
-    match value_at(table, key) {
-        Some(value) => Ok(Some(alternatives_of(&at.below(key), value)?)),
-        None => Ok(None),
+    ghost Said = { List CaptureText };
+
+    ghost seen = { λ alternative. alternative };
+
+    ghost says = { λ element. tables_of capture_of };
+
+    fn read(&self, place: &Place<'_>, value: &Value) -> Result<AlternativeParts, Refusal> {
+        let capture = TableOf {
+            form: &CaptureTable,
+        };
+        let captures = array_of(&capture, place, value)?;
+        Ok(AlternativeParts { captures })
     }
 }
 
@@ -191,13 +153,12 @@ fn menu_of(
     menus: bool,
     at: &Place<'_>,
     table: &Table,
-) -> Result<Option<Vec<AlternativeParts>>, ConfigFault>
-    ensures { Gives (option_map (λ v. v.items)) result (if menus
-        then menu_of_lists_at spec.capture_of at.now (codes "capture_menu") (table_view table.now)
-        else Ok None) }
+) -> Result<Option<Vec<AlternativeParts>>, Refusal>
+    ensures { Gives (option_map (λ v. v.items)) result
+        (spec.capture_menu_of menus at.now (table_view table.now)) }
 {
     if menus {
-        menu_at(at, "capture_menu", table)
+        menu_at(&Alternative, at, "capture_menu", table)
     } else {
         Ok(None)
     }
@@ -205,18 +166,19 @@ fn menu_of(
 
 /// What the table says of a profile, which may have a menu or not.
 #[tactic(auto, unfolding(crate::specs::Classes::profile_of))]
-pub(crate) fn profile_of(
-    menus: bool,
-    at: &Place<'_>,
-    table: &Table,
-) -> Result<BodyParts, ConfigFault>
+pub(crate) fn profile_of(menus: bool, at: &Place<'_>, table: &Table) -> Result<BodyParts, Refusal>
     ensures { Gives body_text result (spec.profile_of menus at.now (table_view table.now)) }
 {
-    let capture = list_at(&CaptureTable, at, "capture", table)?;
-    let period = natural_at(0, 4_294_967_295, at, "period", table)?;
-    let entries = natural_at(1, GREATEST, at, "entries", table)?;
-    let sort_method = optional_integer_at(at, "sort_method", table)?;
-    let menu = menu_of(menus, at, table)?;
+    let capture = list_at(&CaptureTable, at, "capture", table);
+    let period = natural_at(0, 4_294_967_295, at, "period", table);
+    let entries = natural_at(1, GREATEST, at, "entries", table);
+    let sort_method = optional_integer_at(at, "sort_method", table);
+    let menu = menu_of(menus, at, table);
+    let counts = both(both(capture, period), entries);
+    let ((((capture, period), entries), sort_method), menu) = both(
+        both(counts, sort_method),
+        menu,
+    )?;
     Ok(BodyParts::ProfileGeneric {
         capture,
         period: period as u32,
@@ -224,38 +186,4 @@ pub(crate) fn profile_of(
         sort_method,
         menu,
     })
-}
-
-/// Notes the values of a wrong kind in the alternatives of a profile, if it may have a menu.
-fn menu_faults(
-    faults: &mut Vec<PlacedFault>,
-    menus: bool,
-    at: &Place<'_>,
-    table: &Table,
-) -> Result<(), Memory>
-    ensures { OnOk result (faults.new.items ≡ faults.old.items
-        ++ (if menus then optional_lists_faults_at spec.capture_faults at.now (codes "capture_menu") (table_view table.now) else [])) }
-{
-    if menus {
-        optional_lists_faults_at(faults, &CaptureTable, at, "capture_menu", table)
-    } else {
-        Ok(())
-    }
-}
-
-/// Notes the values of a wrong kind in a profile, which may have a menu or not.
-#[tactic(auto, unfolding(crate::specs::Classes::profile_faults))]
-pub(crate) fn profile_faults(
-    faults: &mut Vec<PlacedFault>,
-    menus: bool,
-    at: &Place<'_>,
-    table: &Table,
-) -> Result<(), Memory>
-    ensures { OnOk result (faults.new.items ≡ faults.old.items ++ spec.profile_faults menus at.now (table_view table.now)) }
-{
-    list_faults_at(faults, &CaptureTable, at, "capture", table)?;
-    keep(faults, natural_at(0, 4_294_967_295, at, "period", table))?;
-    keep(faults, natural_at(1, GREATEST, at, "entries", table))?;
-    keep(faults, optional_integer_at(at, "sort_method", table))?;
-    menu_faults(faults, menus, at, table)
 }

@@ -2,19 +2,18 @@
 
 ghost use Rattle.std.specs.Prelude.{◌≡◌, IfOk, Ok};
 ghost use Rattle.toml.specs.View.{table_view};
-ghost use Rattle.config_text.specs.Fault.{Gives, fault_in};
-ghost use Rattle.config_text.specs.Refusals.{Finds};
+ghost use Rattle.config_text.specs.Refusals.{Finds, Gives};
 ghost use Rattle.config_text.specs.Document as spec;
 
+use crate::both::both;
 use crate::client::ClientTable;
-use crate::fault::{Code, ConfigFault, fault};
+use crate::fault::Code;
 use crate::keys::{needed, only};
 use crate::object::ObjectTable;
 use crate::parts::ConfigParts;
 use crate::place::Place;
-use crate::refusal::{Refusal, alone, keep, refuse};
+use crate::refusal::{Refusal, refuse, refused};
 use crate::right::{LabelTable, PolicyTable, RightTable};
-use crate::table_faults::{list_faults_at, optional_list_faults_at, table_faults_at};
 use crate::table_keys::{list_keys_at, table_keys_at};
 use crate::tables::{list_at, optional_list_at, table_at};
 use crate::values::{natural_at, natural_or_none};
@@ -27,8 +26,7 @@ use toml::Table;
 /// C1, where the text is no TOML.
 #[tactic(auto, unfolding(crate::specs::Document::document_of))]
 fn document(alloc: Global, text: &str) -> Result<Table, Refusal>
-    ensures table { IfOk result (λ t. spec.document_of text.now ≡ Ok (table_view t)) }
-    ensures faults { Finds result (fault_in (spec.document_of text.now)) }
+    ensures { Gives table_view result (spec.document_of text.now) }
 {
     match toml::table_from_str(alloc, text) {
         Ok(table) => Ok(table),
@@ -36,14 +34,14 @@ fn document(alloc: Global, text: &str) -> Result<Table, Refusal>
             if error.is_memory() {
                 Err(Refusal::Memory)
             } else {
-                let place = Place::top(alloc, "");
-                Err(alone(alloc, fault(Code::NotToml, &place, "text")))
+                let top = Place::top(alloc, "");
+                Err(refused(Code::NotToml, &top, "text"))
             }
         }
     }
 }
 
-/// The version by which objects are looked at for faults: 1, unless it is told to be 2.
+/// The version by which objects are looked at: 1, unless it is told to be 2.
 fn told_version(table: &Table) -> u8
     ensures { result ≡ spec.told_version (table_view table.now) }
 {
@@ -80,67 +78,37 @@ fn check_keys(alloc: Global, table: &Table) -> Result<(), Refusal>
     refuse(faults)
 }
 
-/// What the table says, or the first value of a wrong kind.
+/// What the table says. Objects are looked at by the version that is told.
+///
+/// # Errors
+/// C3 at each value of a wrong kind, and at each number or password out of its range.
 #[tactic(auto, unfolding(crate::specs::Document::parts_of))]
-fn parts_of(alloc: Global, table: &Table) -> Result<ConfigParts, ConfigFault>
+fn read_parts(alloc: Global, table: &Table) -> Result<ConfigParts, Refusal>
     ensures { Gives (λ x. x) result (spec.parts_of (table_view table.now)) }
 {
     let top = Place::top(alloc, "");
-    let version = natural_at(1, 2, &top, "version", table)? as u8;
-    let clients = list_at(&ClientTable, &top, "client", table)?;
-    let objects = list_at(&ObjectTable { version }, &top, "object", table)?;
-    let rights = optional_list_at(&RightTable, &top, "right", table)?;
-    let policy = table_at(&PolicyTable, &top, "policy", table)?;
-    let labels = optional_list_at(&LabelTable, &top, "label", table)?;
+    let version = natural_at(1, 2, &top, "version", table);
+    let clients = list_at(&ClientTable, &top, "client", table);
+    let form = ObjectTable {
+        version: told_version(table),
+    };
+    let objects = list_at(&form, &top, "object", table);
+    let rights = optional_list_at(&RightTable, &top, "right", table);
+    let policy = table_at(&PolicyTable, &top, "policy", table);
+    let labels = optional_list_at(&LabelTable, &top, "label", table);
+    let model = both(both(version, clients), objects);
+    let (((((version, clients), objects), rights), policy), labels) = both(
+        both(both(model, rights), policy),
+        labels,
+    )?;
     Ok(ConfigParts {
-        version,
+        version: version as u8,
         clients,
         objects,
         rights,
         policy,
         labels,
     })
-}
-
-/// Looks for values of a wrong kind. Objects are looked at by the version that is told.
-///
-/// # Errors
-/// C3 at each of them, and at each number or password out of its range.
-#[tactic(auto, unfolding(crate::specs::Document::kind_faults))]
-fn check_kinds(alloc: Global, table: &Table) -> Result<(), Refusal>
-    ensures { Finds result (spec.kind_faults (table_view table.now)) }
-{
-    let top = Place::top(alloc, "");
-    let mut faults = Vec::new(alloc);
-    keep(&mut faults, natural_at(1, 2, &top, "version", table))?;
-    list_faults_at(&mut faults, &ClientTable, &top, "client", table)?;
-    let objects = ObjectTable {
-        version: told_version(table),
-    };
-    list_faults_at(&mut faults, &objects, &top, "object", table)?;
-    optional_list_faults_at(&mut faults, &RightTable, &top, "right", table)?;
-    table_faults_at(&mut faults, &PolicyTable, &top, "policy", table)?;
-    optional_list_faults_at(&mut faults, &LabelTable, &top, "label", table)?;
-    refuse(faults)
-}
-
-/// What the table says.
-///
-/// # Errors
-/// C3, as `check_kinds` has it: it looks for more only where there is a fault.
-fn read_parts(alloc: Global, table: &Table) -> Result<ConfigParts, Refusal>
-    ensures parts { IfOk result (λ parts. spec.parts_of (table_view table.now) ≡ Ok parts) }
-    ensures faults { Finds result (spec.kind_faults (table_view table.now)) }
-{
-    match parts_of(alloc, table) {
-        Ok(parts) => Ok(parts),
-        Err(ConfigFault::Memory) => Err(Refusal::Memory),
-        Err(ConfigFault::Found { .. }) => {
-            // What it was refused by is the first of these.
-            check_kinds(alloc, table)?;
-            unreachable!()
-        }
-    }
 }
 
 /// Reads what the tables of a configuration text say (own profile), before names are looked up. Values are decoded, and not yet
@@ -152,7 +120,7 @@ fn read_parts(alloc: Global, table: &Table) -> Result<ConfigParts, Refusal>
 /// - C2 at each key that is missing or unknown, in any table;
 /// - C3 at each value of a wrong kind, and each number or password out of its range, in any table;
 /// - C0 where memory was refused, at any time.
-#[tactic(auto, unfolding(crate::specs::Document::tables_of, crate::specs::Document::table_faults))]
+#[tactic(auto, unfolding(crate::specs::Document::read_of, crate::specs::Document::tables_of, crate::specs::Document::table_faults))]
 pub fn read_tables(alloc: Global, text: &str) -> Result<ConfigParts, Refusal>
     ensures parts { IfOk result (λ parts. spec.tables_of text.now ≡ Ok parts) }
     ensures faults { Finds result (spec.table_faults text.now) }

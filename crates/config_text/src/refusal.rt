@@ -1,14 +1,13 @@
 //! Why a configuration is refused, with all the faults of one pass.
-ghost use Rattle.std.specs.Prelude.{◌≡◌, ◌++◌, ◌∷◌, [], List, OnOk, Result, option_map};
-ghost use Rattle.config_text.specs.declared.fault.Code.{Code};
-ghost use Rattle.config_text.specs.Fault.{Fault, Fails, Gives, IsFault, fault_in, first_of, told};
-ghost use Rattle.config_text.specs.Parts.{Text};
-ghost use Rattle.config_text.specs.Refusals.{Finds, Refuses, all_told, first_told};
+ghost use Rattle.std.specs.Prelude.{◌≡◌, ◌++◌, ◌∷◌, [], List, OnOk};
+ghost use Rattle.config_text.specs.Fault.{Fault, Fails, first_of, told};
+ghost use Rattle.config_text.specs.Refusals.{Adds, Finds, Refuses, first_told};
 
-use crate::fault::ConfigFault;
+use crate::fault::{Code, ConfigFault};
+use crate::place::Place;
 pub use crate::placed::PlacedFault;
 use cosem_data::memory::Memory;
-use std::alloc::{AllocError, Global};
+use std::alloc::{AllocError, AllocFailed};
 
 /// Why a configuration was refused, with all that the pass found which refuses it.
 #[derive(Debug, Drop)]
@@ -43,6 +42,16 @@ impl From<Memory> for Refusal {
     }
 }
 
+impl<T: Drop> From<AllocFailed<T>> for Refusal {
+    ghost use Rattle.config_text.specs.declared.refusal.Refusal.TheVariants as refusals;
+
+    ghost from_gives = { λ _ e. e ≡ refusals.Memory };
+
+    fn from(_: AllocFailed<T>) -> Self {
+        Refusal::Memory
+    }
+}
+
 impl Refusal {
     /// The first of the faults alone, or that memory was refused.
     pub fn into_first(self) -> ConfigFault
@@ -59,34 +68,28 @@ impl Refusal {
     }
 }
 
-/// The refusal by one fault alone, or by want of memory.
-pub fn alone(alloc: Global, fault: ConfigFault) -> Refusal
-    ensures exact { all_told result ≡ option_map (λ one. one ∷ []) (told fault) }
-    ensures fault { (code : Code) → (place : Text) → IsFault code place fault →
-        Refuses result (record { code = code; place = place } ∷ []) }
+/// The refusal by one fault, at a key below a place, or by want of memory.
+pub fn refused(code: Code, at: &Place<'_>, key: &str) -> Refusal
+    ensures { Refuses result (record { code = code; place = at.now ++ key.now } ∷ []) }
 {
-    match fault {
-        ConfigFault::Memory => Refusal::Memory,
-        ConfigFault::Found { code, place } => Refusal::Found {
+    match format!(in at.alloc(); "{at}{key}") {
+        Ok(place) => Refusal::Found {
             first: PlacedFault { code, place },
-            others: Vec::new(alloc),
+            others: Vec::new(at.alloc()),
         },
+        Err(_) => Refusal::Memory,
     }
 }
 
-/// Puts the fault that was found behind others, where one was. The error is that memory was refused, here or before.
-pub fn keep<T: Drop>(
-    faults: &mut Vec<PlacedFault>,
-    found: Result<T, ConfigFault>,
-) -> Result<(), Memory>
-    ensures { (said : Result T Fault) → Gives (λ x. x) found said →
-        OnOk result (faults.new.items ≡ faults.old.items ++ fault_in said) }
+/// Puts the faults of a refusal behind others. The error is that memory was refused, here or before.
+pub(crate) fn add_faults(faults: &mut Vec<PlacedFault>, refusal: Refusal) -> Result<(), Memory>
+    ensures { OnOk result (Adds refusal faults.old.items faults.new.items) }
 {
-    match found {
-        Ok(_) => Ok(()),
-        Err(ConfigFault::Memory) => Err(Memory),
-        Err(ConfigFault::Found { code, place }) => {
-            faults.push(PlacedFault { code, place })?;
+    match refusal {
+        Refusal::Memory => Err(Memory),
+        Refusal::Found { first, mut others } => {
+            faults.push(first)?;
+            faults.append(&mut others)?;
             Ok(())
         }
     }

@@ -3,16 +3,15 @@
 ghost use Rattle.std.specs.Prelude.{◌≡◌, ◌++◌, OnOk};
 ghost use Rattle.toml.specs.View.{table_view};
 ghost use Rattle.config_text.specs.BodyView.{body_text};
-ghost use Rattle.config_text.specs.Fault.{Gives};
+ghost use Rattle.config_text.specs.Refusals.{Gives};
 ghost use Rattle.config_text.specs.Classes as spec;
 
-use crate::fault::ConfigFault;
+use crate::both::both;
 use crate::keys::{needed, only};
 use crate::parts::BodyParts;
 use crate::place::Place;
 use crate::placed::PlacedFault;
-use crate::refusal::keep;
-use crate::value_faults::text_fault_at;
+use crate::refusal::Refusal;
 use crate::values::{natural_at, signed_at, text_at};
 use cosem_data::memory::Memory;
 use toml::Table;
@@ -32,23 +31,11 @@ pub(crate) fn data_keys(
 
 /// What the table says of Data.
 #[tactic(auto, unfolding(crate::specs::Classes::data_of))]
-pub(crate) fn data_of(at: &Place<'_>, table: &Table) -> Result<BodyParts, ConfigFault>
+pub(crate) fn data_of(at: &Place<'_>, table: &Table) -> Result<BodyParts, Refusal>
     ensures { Gives body_text result (spec.data_of at.now (table_view table.now)) }
 {
     let value = text_at(at, "value", table)?;
     Ok(BodyParts::Data { value })
-}
-
-/// Notes the values of a wrong kind in Data.
-#[tactic(auto, unfolding(crate::specs::Classes::data_faults))]
-pub(crate) fn data_faults(
-    faults: &mut Vec<PlacedFault>,
-    at: &Place<'_>,
-    table: &Table,
-) -> Result<(), Memory>
-    ensures { OnOk result (faults.new.items ≡ faults.old.items ++ spec.data_faults at.now (table_view table.now)) }
-{
-    text_fault_at(faults, at, "value", table)
 }
 
 /// Notes the keys that are missing or unknown in a register.
@@ -70,32 +57,18 @@ pub(crate) fn register_keys(
 
 /// What the table says of a register.
 #[tactic(auto, unfolding(crate::specs::Classes::register_of))]
-pub(crate) fn register_of(at: &Place<'_>, table: &Table) -> Result<BodyParts, ConfigFault>
+pub(crate) fn register_of(at: &Place<'_>, table: &Table) -> Result<BodyParts, Refusal>
     ensures { Gives body_text result (spec.register_of at.now (table_view table.now)) }
 {
-    let value = text_at(at, "value", table)?;
-    let default = text_at(at, "default", table)?;
-    let scaler = signed_at(-128, 127, at, "scaler", table)?;
-    let unit = natural_at(0, 255, at, "unit", table)?;
+    let value = text_at(at, "value", table);
+    let default = text_at(at, "default", table);
+    let scaler = signed_at(-128, 127, at, "scaler", table);
+    let unit = natural_at(0, 255, at, "unit", table);
+    let (((value, default), scaler), unit) = both(both(both(value, default), scaler), unit)?;
     Ok(BodyParts::Register {
         value,
         default,
         scaler: scaler as i8,
         unit: unit as u8,
     })
-}
-
-/// Notes the values of a wrong kind in a register.
-#[tactic(auto, unfolding(crate::specs::Classes::register_faults))]
-pub(crate) fn register_faults(
-    faults: &mut Vec<PlacedFault>,
-    at: &Place<'_>,
-    table: &Table,
-) -> Result<(), Memory>
-    ensures { OnOk result (faults.new.items ≡ faults.old.items ++ spec.register_faults at.now (table_view table.now)) }
-{
-    text_fault_at(faults, at, "value", table)?;
-    text_fault_at(faults, at, "default", table)?;
-    keep(faults, signed_at(-128, 127, at, "scaler", table))?;
-    keep(faults, natural_at(0, 255, at, "unit", table))
 }

@@ -1,26 +1,24 @@
 //! The table of a single action schedule.
 
-ghost use Rattle.std.specs.Prelude.{◌≡◌, ◌++◌, [], OnOk, codes, if◌then◌else◌, map, None, Ok, option_map};
+ghost use Rattle.std.specs.Prelude.{◌≡◌, ◌++◌, [], OnOk, codes, if◌then◌else◌, map, option_map};
 ghost use Rattle.toml.specs.View.{table_view};
 ghost use Rattle.config_text.specs.BodyView.{body_text};
-ghost use Rattle.config_text.specs.Fault.{Gives};
+ghost use Rattle.config_text.specs.Refusals.{Gives};
 ghost use Rattle.config_text.specs.Classes as spec;
-ghost use Rattle.config_text.specs.Tables.{list_keys_at, menu_at, optional_list_faults_at};
-ghost use Rattle.config_text.specs.Targets.{script_ref_keys, script_ref_of, script_ref_faults};
+ghost use Rattle.config_text.specs.Tables.{list_keys_at};
+ghost use Rattle.config_text.specs.Targets.{script_ref_keys};
 
-use crate::fault::ConfigFault;
+use crate::both::both;
+use crate::elements::menu_at;
 use crate::keys::{needed, only};
 use crate::lists::texts_at;
-use crate::menus::menu_at;
 use crate::parts::{BodyParts, ScriptRefParts};
 use crate::place::Place;
 use crate::placed::PlacedFault;
-use crate::refusal::keep;
-use crate::table_faults::{optional_list_faults_at, table_faults_at};
+use crate::refusal::Refusal;
 use crate::table_keys::{list_keys_at, table_keys_at};
-use crate::tables::table_at;
+use crate::tables::{TableOf, table_at};
 use crate::target::ScriptRefTable;
-use crate::value_faults::texts_faults_at;
 use crate::values::natural_at;
 use cosem_data::memory::Memory;
 use toml::Table;
@@ -86,12 +84,15 @@ fn menu_of(
     menus: bool,
     at: &Place<'_>,
     table: &Table,
-) -> Result<Option<Vec<ScriptRefParts>>, ConfigFault>
+) -> Result<Option<Vec<ScriptRefParts>>, Refusal>
     ensures { Gives (option_map (λ v. v.items)) result
-        (if menus then menu_at script_ref_of at.now (codes "script_menu") (table_view table.now) else Ok None) }
+        (spec.script_menu_of menus at.now (table_view table.now)) }
 {
     if menus {
-        menu_at(&ScriptRefTable, at, "script_menu", table)
+        let script = TableOf {
+            form: &ScriptRefTable,
+        };
+        menu_at(&script, at, "script_menu", table)
     } else {
         Ok(None)
     }
@@ -99,54 +100,18 @@ fn menu_of(
 
 /// What the table says of a single action schedule, which may have a menu or not.
 #[tactic(auto, unfolding(crate::specs::Classes::schedule_of))]
-pub(crate) fn schedule_of(
-    menus: bool,
-    at: &Place<'_>,
-    table: &Table,
-) -> Result<BodyParts, ConfigFault>
+pub(crate) fn schedule_of(menus: bool, at: &Place<'_>, table: &Table) -> Result<BodyParts, Refusal>
     ensures { Gives body_text result (spec.schedule_of menus at.now (table_view table.now)) }
 {
-    let script = table_at(&ScriptRefTable, at, "script", table)?;
-    let kind = natural_at(1, 5, at, "type", table)?;
-    let times = texts_at(at, "times", table)?;
-    let menu = menu_of(menus, at, table)?;
+    let script = table_at(&ScriptRefTable, at, "script", table);
+    let kind = natural_at(1, 5, at, "type", table);
+    let times = texts_at(at, "times", table);
+    let menu = menu_of(menus, at, table);
+    let (((script, kind), times), menu) = both(both(both(script, kind), times), menu)?;
     Ok(BodyParts::SingleActionSchedule {
         script,
         kind: kind as u8,
         times,
         menu,
     })
-}
-
-/// Notes the values of a wrong kind in the alternatives of a schedule, if it may have a menu.
-fn menu_faults(
-    faults: &mut Vec<PlacedFault>,
-    menus: bool,
-    at: &Place<'_>,
-    table: &Table,
-) -> Result<(), Memory>
-    ensures { OnOk result (faults.new.items ≡ faults.old.items
-        ++ (if menus then optional_list_faults_at script_ref_faults at.now (codes "script_menu") (table_view table.now) else [])) }
-{
-    if menus {
-        optional_list_faults_at(faults, &ScriptRefTable, at, "script_menu", table)
-    } else {
-        Ok(())
-    }
-}
-
-/// Notes the values of a wrong kind in a single action schedule, which may have a menu or not.
-#[tactic(auto, unfolding(crate::specs::Classes::schedule_faults))]
-pub(crate) fn schedule_faults(
-    faults: &mut Vec<PlacedFault>,
-    menus: bool,
-    at: &Place<'_>,
-    table: &Table,
-) -> Result<(), Memory>
-    ensures { OnOk result (faults.new.items ≡ faults.old.items ++ spec.schedule_faults menus at.now (table_view table.now)) }
-{
-    table_faults_at(faults, &ScriptRefTable, at, "script", table)?;
-    keep(faults, natural_at(1, 5, at, "type", table))?;
-    texts_faults_at(faults, at, "times", table)?;
-    menu_faults(faults, menus, at, table)
 }

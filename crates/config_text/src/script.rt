@@ -3,28 +3,26 @@
 ghost use Rattle.std.specs.Prelude.{◌≡◌, ◌++◌, OnOk};
 ghost use Rattle.toml.specs.View.{table_view};
 ghost use Rattle.config_text.specs.BodyView.{body_text};
-ghost use Rattle.config_text.specs.Fault.{Gives};
+ghost use Rattle.config_text.specs.Refusals.{Gives};
 ghost use Rattle.config_text.specs.Classes as spec;
 
-use crate::fault::ConfigFault;
+use crate::both::both;
 use crate::keys::{needed, only};
 use crate::parts::{ActionParts, BodyParts, ScriptParts};
 use crate::place::Place;
 use crate::placed::PlacedFault;
-use crate::refusal::keep;
+use crate::refusal::Refusal;
 use crate::service::Service;
-use crate::table_faults::list_faults_at;
 use crate::table_keys::list_keys_at;
 use crate::tables::{TableForm, list_at};
-use crate::target::{target_faults, target_of};
-use crate::value_faults::optional_text_fault_at;
+use crate::target::target_of;
 use crate::values::{natural_at, optional_text_at};
 use cosem_data::memory::Memory;
 use toml::Table;
 
 /// The service at a key: 1 writes an attribute, 2 invokes a method.
 #[tactic(auto, unfolding(crate::specs::Classes::service_at))]
-fn service_at(at: &Place<'_>, key: &str, table: &Table) -> Result<Service, ConfigFault>
+fn service_at(at: &Place<'_>, key: &str, table: &Table) -> Result<Service, Refusal>
     ensures { Gives (λ s. s) result (spec.service_at at.now key.now (table_view table.now)) }
 {
     let number = natural_at(1, 2, at, key, table)?;
@@ -39,15 +37,13 @@ fn service_at(at: &Place<'_>, key: &str, table: &Table) -> Result<Service, Confi
 pub(crate) struct ActionTable;
 
 impl TableForm for ActionTable {
-    ghost use Rattle.config_text.specs.Classes.{action_keys, action_of, action_faults};
+    ghost use Rattle.config_text.specs.Classes.{action_keys, action_of};
 
     type Parts = ActionParts;
 
     ghost keys = { λ form. action_keys };
 
     ghost says = { λ form. action_of };
-
-    ghost kinds = { λ form. action_faults };
 
     #[tactic(auto, unfolding(crate::specs::Classes::action_keys))]
     fn check_keys(
@@ -63,27 +59,16 @@ impl TableForm for ActionTable {
     }
 
     #[tactic(auto, unfolding(crate::specs::Classes::action_of))]
-    fn read(&self, at: &Place<'_>, table: &Table) -> Result<ActionParts, ConfigFault> {
-        let service = service_at(at, "service", table)?;
-        let target = target_of(at, table)?;
-        let value = optional_text_at(at, "value", table)?;
+    fn read(&self, at: &Place<'_>, table: &Table) -> Result<ActionParts, Refusal> {
+        let service = service_at(at, "service", table);
+        let target = target_of(at, table);
+        let value = optional_text_at(at, "value", table);
+        let ((service, target), value) = both(both(service, target), value)?;
         Ok(ActionParts {
             service,
             target,
             value,
         })
-    }
-
-    #[tactic(auto, unfolding(crate::specs::Classes::action_faults))]
-    fn check_kinds(
-        &self,
-        faults: &mut Vec<PlacedFault>,
-        at: &Place<'_>,
-        table: &Table,
-    ) -> Result<(), Memory> {
-        keep(faults, service_at(at, "service", table))?;
-        target_faults(faults, at, table)?;
-        optional_text_fault_at(faults, at, "value", table)
     }
 }
 
@@ -91,15 +76,13 @@ impl TableForm for ActionTable {
 pub(crate) struct ScriptTable;
 
 impl TableForm for ScriptTable {
-    ghost use Rattle.config_text.specs.Classes.{script_keys, script_of, script_faults};
+    ghost use Rattle.config_text.specs.Classes.{script_keys, script_of};
 
     type Parts = ScriptParts;
 
     ghost keys = { λ form. script_keys };
 
     ghost says = { λ form. script_of };
-
-    ghost kinds = { λ form. script_faults };
 
     #[tactic(auto, unfolding(crate::specs::Classes::script_keys))]
     fn check_keys(
@@ -115,24 +98,14 @@ impl TableForm for ScriptTable {
     }
 
     #[tactic(auto, unfolding(crate::specs::Classes::script_of))]
-    fn read(&self, at: &Place<'_>, table: &Table) -> Result<ScriptParts, ConfigFault> {
-        let id = natural_at(0, 65535, at, "id", table)?;
-        let actions = list_at(&ActionTable, at, "action", table)?;
+    fn read(&self, at: &Place<'_>, table: &Table) -> Result<ScriptParts, Refusal> {
+        let id = natural_at(0, 65535, at, "id", table);
+        let actions = list_at(&ActionTable, at, "action", table);
+        let (id, actions) = both(id, actions)?;
         Ok(ScriptParts {
             id: id as u16,
             actions,
         })
-    }
-
-    #[tactic(auto, unfolding(crate::specs::Classes::script_faults))]
-    fn check_kinds(
-        &self,
-        faults: &mut Vec<PlacedFault>,
-        at: &Place<'_>,
-        table: &Table,
-    ) -> Result<(), Memory> {
-        keep(faults, natural_at(0, 65535, at, "id", table))?;
-        list_faults_at(faults, &ActionTable, at, "action", table)
     }
 }
 
@@ -152,21 +125,9 @@ pub(crate) fn script_table_keys(
 
 /// What the table says of a script table.
 #[tactic(auto, unfolding(crate::specs::Classes::script_table_of))]
-pub(crate) fn script_table_of(at: &Place<'_>, table: &Table) -> Result<BodyParts, ConfigFault>
+pub(crate) fn script_table_of(at: &Place<'_>, table: &Table) -> Result<BodyParts, Refusal>
     ensures { Gives body_text result (spec.script_table_of at.now (table_view table.now)) }
 {
     let scripts = list_at(&ScriptTable, at, "script", table)?;
     Ok(BodyParts::ScriptTable { scripts })
-}
-
-/// Notes the values of a wrong kind in a script table.
-#[tactic(auto, unfolding(crate::specs::Classes::script_table_faults))]
-pub(crate) fn script_table_faults(
-    faults: &mut Vec<PlacedFault>,
-    at: &Place<'_>,
-    table: &Table,
-) -> Result<(), Memory>
-    ensures { OnOk result (faults.new.items ≡ faults.old.items ++ spec.script_table_faults at.now (table_view table.now)) }
-{
-    list_faults_at(faults, &ScriptTable, at, "script", table)
 }

@@ -5,13 +5,14 @@ ghost use Rattle.std.specs.Char.{is_ascii};
 ghost use Rattle.std.specs.List.{list_all};
 ghost use Rattle.toml.specs.Data.{as_str, as_integer, get_member};
 ghost use Rattle.toml.specs.View.{table_view};
-ghost use Rattle.config_text.specs.Fault.{Gives};
+ghost use Rattle.config_text.specs.Refusals.{Gives};
 ghost use Rattle.config_text.specs.Values as spec;
 
-use crate::fault::{Code, ConfigFault, fault};
+use crate::fault::Code;
 use crate::kept::Kept;
 use crate::lookup::{integer, text, value_at};
 use crate::place::Place;
+use crate::refusal::{Refusal, refused};
 use toml::Table;
 
 /// The text at a key.
@@ -19,12 +20,12 @@ use toml::Table;
 /// # Errors
 /// C3 at the key where it isn't a text.
 #[tactic(auto, unfolding(crate::specs::Values::text_at))]
-pub(crate) fn text_at<K: Kept>(at: &Place<'_>, key: &str, table: &Table) -> Result<K, ConfigFault>
+pub(crate) fn text_at<K: Kept>(at: &Place<'_>, key: &str, table: &Table) -> Result<K, Refusal>
     ensures { Gives (λ text. K.says text) result (spec.text_at at.now key.now (table_view table.now)) }
 {
     match text(table, key) {
         Some(found) => Ok(K::keep(at.alloc(), found)?),
-        None => Err(fault(Code::Kind, at, key)),
+        None => Err(refused(Code::Kind, at, key)),
     }
 }
 
@@ -37,14 +38,14 @@ pub(crate) fn optional_text_at<K: Kept>(
     at: &Place<'_>,
     key: &str,
     table: &Table,
-) -> Result<Option<K>, ConfigFault>
+) -> Result<Option<K>, Refusal>
     ensures { Gives (λ text. option_map K.says text) result (spec.optional_text_at at.now key.now
         (table_view table.now)) }
 {
     match value_at(table, key) {
         Some(value) => match value.as_str() {
             Some(found) => Ok(Some(K::keep(at.alloc(), found)?)),
-            None => Err(fault(Code::Kind, at, key)),
+            None => Err(refused(Code::Kind, at, key)),
         },
         None => Ok(None),
     }
@@ -58,7 +59,7 @@ fn is_ascii_alone(text: &str) -> bool
 }
 
 /// Whether a text is `low` to `high` ASCII characters.
-pub(crate) fn has_ascii(text: &str, low: usize, high: usize) -> bool
+fn has_ascii(text: &str, low: usize, high: usize) -> bool
     ensures { result ≡ spec.has_ascii low high text.now }
 {
     low <= text.len() && text.len() <= high && is_ascii_alone(text)
@@ -75,7 +76,7 @@ pub(crate) fn optional_ascii_at(
     at: &Place<'_>,
     key: &str,
     table: &Table,
-) -> Result<Option<String>, ConfigFault>
+) -> Result<Option<String>, Refusal>
     ensures { Gives (λ s. option_map string_bytes s) result
         (spec.optional_ascii_at low high at.now key.now (table_view table.now)) }
 {
@@ -84,7 +85,7 @@ pub(crate) fn optional_ascii_at(
             Some(found) if has_ascii(found, low, high) => {
                 Ok(Some(String::from_str(at.alloc(), found)?))
             }
-            _ => Err(fault(Code::Kind, at, key)),
+            _ => Err(refused(Code::Kind, at, key)),
         },
         None => Ok(None),
     }
@@ -123,14 +124,14 @@ pub(crate) fn natural_at(
     at: &Place<'_>,
     key: &str,
     table: &Table,
-) -> Result<u64, ConfigFault>
+) -> Result<u64, Refusal>
     ensures value { Gives (λ n. n) result (spec.natural_at low high at.now key.now
         (table_view table.now)) }
     ensures range { IfOk result (λ n. (low ≤ n) × (n ≤ high)) }
 {
     match natural(integer(table, key), low, high) {
         Some(number) => Ok(number),
-        None => Err(fault(Code::Kind, at, key)),
+        None => Err(refused(Code::Kind, at, key)),
     }
 }
 
@@ -157,14 +158,14 @@ pub(crate) fn signed_at(
     at: &Place<'_>,
     key: &str,
     table: &Table,
-) -> Result<i64, ConfigFault>
+) -> Result<i64, Refusal>
     ensures value { Gives (λ n. n) result (spec.signed_at low high at.now key.now
         (table_view table.now)) }
     ensures range { IfOk result (λ n. (low ≤ℤ n) × (n ≤ℤ high)) }
 {
     match signed(integer(table, key), low, high) {
         Some(number) => Ok(number),
-        None => Err(fault(Code::Kind, at, key)),
+        None => Err(refused(Code::Kind, at, key)),
     }
 }
 
@@ -173,12 +174,12 @@ pub(crate) fn signed_at(
 /// # Errors
 /// C3 at the key where it is something else.
 #[tactic(auto, unfolding(crate::specs::Values::integer_at))]
-pub(crate) fn integer_at(at: &Place<'_>, key: &str, table: &Table) -> Result<i64, ConfigFault>
+pub(crate) fn integer_at(at: &Place<'_>, key: &str, table: &Table) -> Result<i64, Refusal>
     ensures { Gives (λ n. n) result (spec.integer_at at.now key.now (table_view table.now)) }
 {
     match integer(table, key) {
         Some(number) => Ok(number),
-        None => Err(fault(Code::Kind, at, key)),
+        None => Err(refused(Code::Kind, at, key)),
     }
 }
 
@@ -191,13 +192,13 @@ pub(crate) fn optional_integer_at(
     at: &Place<'_>,
     key: &str,
     table: &Table,
-) -> Result<Option<i64>, ConfigFault>
+) -> Result<Option<i64>, Refusal>
     ensures { Gives (λ n. n) result (spec.optional_integer_at at.now key.now (table_view table.now)) }
 {
     match value_at(table, key) {
         Some(value) => match value.as_integer() {
             Some(number) => Ok(Some(number)),
-            None => Err(fault(Code::Kind, at, key)),
+            None => Err(refused(Code::Kind, at, key)),
         },
         None => Ok(None),
     }
@@ -213,13 +214,13 @@ pub(crate) fn flag_at(
     at: &Place<'_>,
     key: &str,
     table: &Table,
-) -> Result<bool, ConfigFault>
+) -> Result<bool, Refusal>
     ensures { Gives (λ b. b) result (spec.flag_at absent at.now key.now (table_view table.now)) }
 {
     match value_at(table, key) {
         Some(value) => match value.as_bool() {
             Some(flag) => Ok(flag),
-            None => Err(fault(Code::Kind, at, key)),
+            None => Err(refused(Code::Kind, at, key)),
         },
         None => Ok(absent),
     }

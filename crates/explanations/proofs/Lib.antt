@@ -1,2 +1,1 @@
 pub mod Lasts
-mod SeveralLemmas

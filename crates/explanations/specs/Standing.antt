@@ -1,8 +1,8 @@
 -- The line and the column at which a fault of a configuration stands. All of it is own profile.
-use Rattle.std.specs.Prelude.{◌≡◌, ◌⊎◌, ℕ, ◌+◌, ◌==◌, List, [], ◌∷◌, codes, if◌then◌else◌, take}
+use Rattle.std.specs.Prelude.{ℕ, ◌+◌, ◌==◌, List, [], ◌∷◌, codes, if◌then◌else◌, take, Option, Some, None}
 use Rattle.std.specs.Fmt.{decimal, is_char_start}
 use Rattle.std.specs.List.{concat}
-use Rattle.config_places.specs.Spots.{IsSpotOf, IsWithin}
+use Rattle.config_places.specs.Spots.{spot_of}
 use Rattle.config_places.specs.declared.spot.Spot.{Spot}
 use Rattle.config_places.specs.declared.spot.Spot.TheVariants.{Found, Missing}
 use Rattle.config_text.specs.Fault.{number_of}
@@ -26,8 +26,11 @@ abbrev pub bytes_before : Code → Spot → ℕ
 bytes_before code (Found key value) = if number_of code == 2 then key else value
 bytes_before code (Missing within) = within
 
--- a file with the line and the column of the spot in its text, which is this document, to which a place leads, or the file alone
-abbrev pub IsStand : (file text : List ℕ) → Data → Code → (place stand : List ℕ) → Type 0
-IsStand file text whole code place stand =
-    (stand ≡ file)
-    ⊎ ((spot : Spot) × IsSpotOf text place whole spot × IsWithin text spot × (stand ≡ stand_text file (place_behind 1 1 (take (bytes_before code spot) text))))
+-- a file with the line and the column of a spot in its text, or the file alone where there is none
+abbrev pub stand_at : (file text : List ℕ) → Code → Option Spot → List ℕ
+stand_at file text code None = file
+stand_at file text code (Some spot) = stand_text file (place_behind 1 1 (take (bytes_before code spot) text))
+
+-- the same of the spot to which a place leads in its text, which is this document
+abbrev pub stand_of : (file text : List ℕ) → Data → Code → (place : List ℕ) → List ℕ
+stand_of file text whole code place = stand_at file text code (spot_of text place whole)

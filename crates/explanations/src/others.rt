@@ -1,11 +1,12 @@
 //! What is told of the other faults that the pass finds which refuses a configuration (own profile).
-ghost use Rattle.std.specs.Prelude.{◌≡◌, ◌++◌, IfOk, OnOk, string_bytes};
+ghost use Rattle.std.specs.Prelude.{◌≡◌, ◌++◌, IfOk, OnOk, flat_map, string_bytes};
 ghost use Rattle.toml.specs.View.{view};
+ghost use Rattle.config_places.specs.Contents.{text_of};
 ghost use Rattle.explanations.specs.Others as spec;
-ghost use Rattle.explanations.specs.Several.{TellsEach};
 
 use crate::config::explain_found;
 use crate::several::{first_of, more_line};
+use config_places::Contents;
 use config_text::refusal::PlacedFault;
 use cosem_data::memory::Memory;
 use std::alloc::Global;
@@ -31,7 +32,10 @@ pub fn explain_others(
         return Ok(String::new(alloc));
     }
     match toml::table_from_str(alloc, text) {
-        Ok(table) => explain_first(alloc, file, text, &Value::Table(table), faults),
+        Ok(table) => {
+            let contents = Contents::read(alloc, text)?;
+            explain_first(alloc, file, &contents, &Value::Table(table), faults)
+        }
         Err(error) if error.is_memory() => Err(Memory),
         Err(_) => Ok(String::new(alloc)),
     }
@@ -41,14 +45,15 @@ pub fn explain_others(
 fn explain_first(
     alloc: Global,
     file: &str,
-    text: &str,
+    contents: &Contents<'_>,
     whole: &Value,
     faults: &[PlacedFault],
 ) -> Result<String, Memory>
-    ensures { IfOk result (λ told. spec.ExplainsWhole file.now text.now (view whole.now) faults.now (string_bytes told)) }
+    ensures { IfOk result (λ told. string_bytes told
+        ≡ spec.explained_first file.now (text_of contents.now) (view whole.now) faults.now) }
 {
     let told = first_of(TOLD, faults);
-    let mut lines = each_explained(alloc, file, text, whole, told)?;
+    let mut lines = each_explained(alloc, file, contents, whole, told)?;
     let more = more_line(alloc, file, "", faults.len().saturating_sub(TOLD))?;
     lines.push_str(&more)?;
     Ok(lines)
@@ -58,15 +63,16 @@ fn explain_first(
 fn each_explained(
     alloc: Global,
     file: &str,
-    text: &str,
+    contents: &Contents<'_>,
     whole: &Value,
     faults: &[PlacedFault],
 ) -> Result<String, Memory>
-    ensures { IfOk result (λ told. TellsEach (spec.ExplainsFault file.now text.now (view whole.now)) faults.now (string_bytes told)) }
+    ensures { IfOk result (λ told. string_bytes told
+        ≡ flat_map (spec.explained file.now (text_of contents.now) (view whole.now)) faults.now) }
 {
     let mut lines = String::new(alloc);
     for fault in faults {
-        let told = explained(alloc, file, text, whole, fault)?;
+        let told = explained(alloc, file, contents, whole, fault)?;
         lines.push_str(&told)?;
     }
     Ok(lines)
@@ -76,11 +82,19 @@ fn each_explained(
 fn explained(
     alloc: Global,
     file: &str,
-    text: &str,
+    contents: &Contents<'_>,
     whole: &Value,
     fault: &PlacedFault,
 ) -> Result<String, Memory>
-    ensures { IfOk result (λ told. spec.ExplainsFault file.now text.now (view whole.now) fault.now (string_bytes told)) }
+    ensures { IfOk result (λ told. string_bytes told
+        ≡ spec.explained file.now (text_of contents.now) (view whole.now) fault.now) }
 {
-    explain_found(alloc, file, text, whole, fault.code, fault.place.as_str())
+    explain_found(
+        alloc,
+        file,
+        contents,
+        whole,
+        fault.code,
+        fault.place.as_str(),
+    )
 }

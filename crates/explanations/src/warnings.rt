@@ -1,12 +1,13 @@
 //! What is told of what a configuration without fault is warned of (own profile).
-ghost use Rattle.std.specs.Prelude.{◌≡◌, ◌-◌, IfOk, OnOk, length, string_bytes, take};
+ghost use Rattle.std.specs.Prelude.{◌≡◌, ◌-◌, IfOk, OnOk, flat_map, length, string_bytes, take};
 ghost use Rattle.toml.specs.View.{view};
-ghost use Rattle.explanations.specs.Several.{TellsEach};
+ghost use Rattle.config_places.specs.Contents.{text_of};
 ghost use Rattle.explanations.specs.Warnings as spec;
 
 use crate::config::shown_lines;
 use crate::several::{first_of, more_line};
 use crate::standing::with_stand;
+use config_places::Contents;
 use config_text::fault::Code;
 use config_warnings::warning::Warning;
 use cosem_data::memory::Memory;
@@ -61,7 +62,10 @@ pub fn explain_warnings(
         return Ok(String::new(alloc));
     }
     match toml::table_from_str(alloc, text) {
-        Ok(table) => told_of(alloc, file, text, &Value::Table(table), warnings),
+        Ok(table) => {
+            let contents = Contents::read(alloc, text)?;
+            told_of(alloc, file, &contents, &Value::Table(table), warnings)
+        }
         Err(error) if error.is_memory() => Err(Memory),
         Err(_) => Ok(String::new(alloc)),
     }
@@ -71,14 +75,15 @@ pub fn explain_warnings(
 fn told_of(
     alloc: Global,
     file: &str,
-    text: &str,
+    contents: &Contents<'_>,
     whole: &Value,
     warnings: &[Warning],
 ) -> Result<String, Memory>
-    ensures { IfOk result (λ told. spec.TellsWhole file.now text.now (view whole.now) warnings.now (string_bytes told)) }
+    ensures { IfOk result (λ told. string_bytes told
+        ≡ spec.told_of_first file.now (text_of contents.now) (view whole.now) warnings.now) }
 {
     let told = first_of(TOLD, warnings);
-    let mut lines = each_told(alloc, file, text, whole, told)?;
+    let mut lines = each_told(alloc, file, contents, whole, told)?;
     let more = more_line(
         alloc,
         file,
@@ -93,15 +98,16 @@ fn told_of(
 fn each_told(
     alloc: Global,
     file: &str,
-    text: &str,
+    contents: &Contents<'_>,
     whole: &Value,
     warnings: &[Warning],
 ) -> Result<String, Memory>
-    ensures { IfOk result (λ told. TellsEach (spec.TellsWarning file.now text.now (view whole.now)) warnings.now (string_bytes told)) }
+    ensures { IfOk result (λ told. string_bytes told
+        ≡ flat_map (spec.told_of file.now (text_of contents.now) (view whole.now)) warnings.now) }
 {
     let mut lines = String::new(alloc);
     for warning in warnings {
-        let told = warning_told(alloc, file, text, whole, *warning)?;
+        let told = warning_told(alloc, file, contents, whole, *warning)?;
         lines.push_str(&told)?;
     }
     Ok(lines)
@@ -111,14 +117,15 @@ fn each_told(
 fn warning_told(
     alloc: Global,
     file: &str,
-    text: &str,
+    contents: &Contents<'_>,
     whole: &Value,
     warning: Warning,
 ) -> Result<String, Memory>
-    ensures { IfOk result (λ told. spec.TellsWarning file.now text.now (view whole.now) warning (string_bytes told)) }
+    ensures { IfOk result (λ told. string_bytes told
+        ≡ spec.told_of file.now (text_of contents.now) (view whole.now) warning) }
 {
     let path = warning.path(alloc)?;
-    let stand = with_stand(alloc, file, text, whole, Code::Times, path.as_str())?;
+    let stand = with_stand(alloc, file, contents, whole, Code::Times, path.as_str())?;
     warning_lines(alloc, stand.as_str(), path.as_str(), warning.words(), whole)
 }
 

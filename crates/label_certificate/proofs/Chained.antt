@@ -3,7 +3,7 @@ use Rattle.std.specs.Prelude.{◌≡◌, ◌≢◌, ◌<◌, ◌≤◌, ◌+◌,
 use Rattle.std.proofs.Common.{sym, ap, subst, ◌∙◌, arith, inl, inr}
 use Rattle.std.proofs.lemmas.List.{length-append, length-set, get_or-set_same, get_or-set_other, get_or-replicate, length-replicate, get_or_append_left}
 use Rattle.std.proofs.Math.Seq.{get_or-append_seam}
-use Rattle.label_certificate.specs.declared.arrow.Arrow.{Arrow}
+use Rattle.label_certificate.specs.declared.arrows.Arrow.{Arrow}
 use Rattle.label_certificate.specs.Chains.{AreChained, IsLast, up_to}
 use Rattle.label_certificate.specs.Closing.{arrow_at}
 use Rattle.label_certificate.proofs.Cases.{same_or_not, less_or_same}

@@ -25,9 +25,11 @@ use Rattle.flow_edges.specs.Table.{AreCells, AreWithin, IsLink, cell_at, edge_at
 use Rattle.label_certificate.specs.Closing.{Below, IsClosedBy, set_at}
 use Rattle.meter_theory.proofs.ClientSets.{nobody_in}
 use Rattle.std.proofs.lemmas.Bool.{false≢true}
-use Rattle.label_certificate.specs.declared.arrow.Arrow.{Arrow}
+use Rattle.label_certificate.specs.declared.arrows.Arrow.{Arrow}
+use Rattle.label_certificate.specs.declared.arrows.Direction.{Direction}
+use Rattle.label_certificate.specs.declared.arrows.Direction.TheVariants.{Along, Against}
 use Rattle.label_certificate.specs.Granted.{AreGranted, label_in}
-use Rattle.label_certificate.specs.Least.{AreClosed, against, along, labels_of_sets}
+use Rattle.label_certificate.specs.Least.{AreClosed, AreLinks, against, along, arrow_of, labels_of_sets}
 
 -- the place of an element
 pub place_in : (xs : List CellRef) (x : CellRef) → IsIn xs x → (k : ℕ) × (k < length xs) × (cell_at xs k ≡ x)
@@ -230,11 +232,10 @@ labels-more (y ∷ xs) (j ∷ is) (o ∷ ls) (suc k) x i l h m n p q r =
 pub links-within : (cs : List CellRef) (links : List Link) (n : ℕ) → AreWithin cs links → n ≡ length cs → (l : Link) → IsIn links l → (l.source < n) × (l.target < n)
 links-within cs links n w e l there = let k = link_in cs links l w there in (subst (λ m. l.source < m) (sym e) k.0, subst (λ m. l.target < m) (sym e) k.1)
 
-pub along-within : (links : List Link) (n : ℕ) → ((l : Link) → IsIn links l → (l.source < n) × (l.target < n)) → (a : Arrow) → IsIn (map along links) a → (a.from < n) × (a.to < n)
-along-within links n h a there = let k = from_map along links a there in subst (λ z. (z.from < n) × (z.to < n)) (sym k.2) (h k.0 k.1)
-
-pub against-within : (links : List Link) (n : ℕ) → ((l : Link) → IsIn links l → (l.source < n) × (l.target < n)) → (a : Arrow) → IsIn (map against links) a → (a.from < n) × (a.to < n)
-against-within links n h a there = let k = from_map against links a there in let ends = h k.0 k.1 in subst (λ z. (z.from < n) × (z.to < n)) (sym k.2) (ends.1, ends.0)
+-- an arrow of such links is between the same numbers
+pub arrows-within : (direction : Direction) (links : List Link) (n : ℕ) → AreLinks n links → (a : Arrow) → IsIn (map (arrow_of direction) links) a → (a.from < n) × (a.to < n)
+arrows-within Along links n h a there = let k = from_map along links a there in subst (λ z. (z.from < n) × (z.to < n)) (sym k.2) (h k.0 k.1)
+arrows-within Against links n h a there = let k = from_map against links a there in let ends = h k.0 k.1 in subst (λ z. (z.from < n) × (z.to < n)) (sym k.2) (ends.1, ends.0)
 
 -- the same of a list to which the label was pushed
 pub pushed-more : (xs : List CellRef) (is ls : List ClientSet) (k : ℕ) (e : CellRef × Label) (old new : Labels) → k < length xs → length is ≡ length xs → length ls ≡ length xs →

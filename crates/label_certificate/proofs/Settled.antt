@@ -6,7 +6,7 @@ use Rattle.cosem_data.specs.declared.clients.ClientSet.{ClientSet}
 use Rattle.meter_theory.specs.Lists.{IsIn}
 use Rattle.meter_theory.proofs.Lists.{in_range}
 use Rattle.object_model.proofs.Positions.{in-at}
-use Rattle.label_certificate.specs.declared.arrow.Arrow.{Arrow}
+use Rattle.label_certificate.specs.declared.arrows.Arrow.{Arrow}
 use Rattle.label_certificate.specs.Chains.{IsLast, up_to}
 use Rattle.label_certificate.specs.Closing.{AreArrows, Below, IsClosedBut, IsClosedBy, IsSub, arrow_at, missing, set_at}
 use Rattle.label_certificate.specs.Waiting.{IsTaken, Numbers, with_number}

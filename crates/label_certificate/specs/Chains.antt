@@ -1,6 +1,6 @@
 -- Arrows by their sources.
 use Rattle.std.specs.Prelude.{◌≡◌, ◌≢◌, ℕ, ◌+◌, ◌<◌, ◌≤◌, List, length, get_or, Option, Some, None, IfSome}
-use Rattle.label_certificate.specs.declared.arrow.Arrow.{Arrow}
+use Rattle.label_certificate.specs.declared.arrows.Arrow.{Arrow}
 use Rattle.label_certificate.specs.Closing.{arrow_at}
 
 -- how many arrows there are up to this one: own profile

@@ -6,7 +6,7 @@ use Rattle.cosem_data.specs.Clients.{has_client}
 use Rattle.meter_theory.specs.Lists.{IsIn}
 use Rattle.meter_theory.specs.Labels.{nobody}
 use Rattle.meter_theory.specs.declared.limits.TheConstants as limits
-use Rattle.label_certificate.specs.declared.arrow.Arrow.{Arrow}
+use Rattle.label_certificate.specs.declared.arrows.Arrow.{Arrow}
 
 -- each client of the one is in the other: own profile
 abbrev pub IsSub : ClientSet → ClientSet → Type 0

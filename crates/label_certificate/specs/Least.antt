@@ -6,7 +6,9 @@ use Rattle.meter_theory.specs.Labels.{Labels}
 use Rattle.meter_theory.specs.Lists.{IsIn}
 use Rattle.flow_edges.specs.declared.table.Link.{Link}
 use Rattle.label_certificate.specs.Closing.{Below, IsClosedBy}
-use Rattle.label_certificate.specs.declared.arrow.Arrow.{Arrow}
+use Rattle.label_certificate.specs.declared.arrows.Arrow.{Arrow}
+use Rattle.label_certificate.specs.declared.arrows.Direction.{Direction}
+use Rattle.label_certificate.specs.declared.arrows.Direction.TheVariants.{Along, Against}
 
 -- who influences the source of an edge influences its target: own profile
 abbrev pub along : Link → Arrow
@@ -15,6 +17,11 @@ along l = record { from = l.source; to = l.target }
 -- who learns the target of an edge learns its source: own profile
 abbrev pub against : Link → Arrow
 against l = record { from = l.target; to = l.source }
+
+-- the arrow that an edge is in a direction: own profile
+abbrev pub arrow_of : Direction → Link → Arrow
+arrow_of Along = along
+arrow_of Against = against
 
 -- the links are between the first n numbers: own profile
 abbrev pub AreLinks : ℕ → List Link → Type 0

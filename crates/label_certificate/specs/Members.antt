@@ -1,5 +1,5 @@
 -- Sets of clients from their places, and the names of a set's clients. All of it is own profile.
-use Rattle.std.specs.Prelude.{ℕ, ◌+◌, ◌^◌, ◌%◌, Bool, true, ◌&&◌, nat_le, cond, List, [], ◌∷◌, Option, Some}
+use Rattle.std.specs.Prelude.{ℕ, ◌+◌, Bool, true, ◌&&◌, nat_le, cond, List, [], ◌∷◌, Option, Some}
 use Rattle.cosem_data.specs.Digits.{◌>>=◌}
 use Rattle.cosem_data.specs.Clients.{has_client}
 use Rattle.cosem_data.specs.declared.clients.ClientSet.{ClientSet}

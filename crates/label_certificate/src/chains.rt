@@ -3,7 +3,7 @@ ghost use Rattle.std.specs.Prelude.{◌≡◌, length, IfOk};
 ghost use Rattle.label_certificate.specs.Chains.{AreChained};
 ghost use Rattle.label_certificate.specs.Closing.{AreArrows};
 
-use crate::arrow::Arrow;
+use crate::arrows::Arrows;
 use cosem_data::memory::Memory;
 use std::alloc::Global;
 
@@ -19,7 +19,7 @@ pub(crate) struct Chains {
 
 impl Chains {
     /// The chains of arrows between this many sets. The only error is want of memory.
-    pub(crate) fn new(alloc: Global, arrows: &[Arrow], sets: usize) -> Result<Chains, Memory>
+    pub(crate) fn new(alloc: Global, arrows: &Arrows<'_>, sets: usize) -> Result<Chains, Memory>
         requires { AreArrows sets arrows.now }
         ensures chained { IfOk result
             (λ chains. AreChained arrows.now chains.lasts.items chains.earlier.items) }
@@ -28,7 +28,8 @@ impl Chains {
     {
         let mut lasts = vec![in alloc; None; sets]?;
         let mut earlier = Vec::with_capacity(alloc, arrows.len())?;
-        for (number, arrow) in arrows.iter().enumerate() {
+        for number in 0..arrows.len() {
+            let arrow = arrows.at(number);
             earlier.push(lasts[arrow.from])?;
             lasts[arrow.from] = Some(number);
         }

@@ -4,7 +4,7 @@ ghost use Rattle.cosem_data.specs.declared.clients.ClientSet.{ClientSet};
 ghost use Rattle.label_certificate.specs.Chains.{AreChained};
 ghost use Rattle.label_certificate.specs.Closing.{AreArrows, Below, IsSub, IsClosedBut, IsClosedBy, missing, set_at};
 
-use crate::arrow::Arrow;
+use crate::arrows::Arrows;
 use crate::chains::Chains;
 use crate::waiting::Waiting;
 use cosem_data::clients::ClientSet;
@@ -14,7 +14,11 @@ use std::alloc::Global;
 /// Gives each set the clients of each set from which there is a way to it: what comes out are the least sets above these in
 /// which no client is lost along an arrow. An arrow is passed again only where its first set has grown since. The only error is
 /// want of memory, and some sets may have grown then.
-pub(crate) fn close(alloc: Global, arrows: &[Arrow], sets: &mut [ClientSet]) -> Result<(), Memory>
+pub(crate) fn close(
+    alloc: Global,
+    arrows: &Arrows<'_>,
+    sets: &mut [ClientSet],
+) -> Result<(), Memory>
     requires { AreArrows (length sets.old) arrows.now }
     ensures above { OnOk result (Below sets.old sets.new) }
     ensures closed { OnOk result (IsClosedBy arrows.now sets.new) }
@@ -32,7 +36,7 @@ pub(crate) fn close(alloc: Global, arrows: &[Arrow], sets: &mut [ClientSet]) -> 
 /// Passes each arrow from a set, and lets the sets that have grown wait. The only error is want of memory.
 fn pass_all(
     from: usize,
-    arrows: &[Arrow],
+    arrows: &Arrows<'_>,
     chains: &Chains,
     sets: &mut [ClientSet],
     waiting: &mut Waiting,
@@ -54,7 +58,7 @@ fn pass_all(
 {
     let mut next = chains.lasts[from];
     while let Some(number) = next {
-        let to = arrows[number].to;
+        let to = arrows.at(number).to;
         if pass(sets, from, to) {
             waiting.add(to)?;
         }

@@ -2,9 +2,9 @@
 ghost use Rattle.std.specs.Prelude.{◌≡◌, length, map, IfOk};
 ghost use Rattle.meter_theory.specs.Labels.{AreLeast};
 ghost use Rattle.meter_theory.specs.Plan as theory;
-ghost use Rattle.label_certificate.specs.Least.{AreClosed, AreLinks, against, along, labels_of_sets};
+ghost use Rattle.label_certificate.specs.Least.{AreClosed, AreLinks, arrow_of, labels_of_sets};
 
-use crate::arrow::Arrow;
+use crate::arrows::{Arrows, Direction};
 use crate::closing::close;
 use crate::granted::granted_to_cells;
 use crate::labels::Labels;
@@ -29,31 +29,33 @@ pub fn make_labels(alloc: Global, plan: &Plan) -> Result<Labels, Memory>
     let cells = table.cells();
     let granted = granted_to_cells(alloc, plan, cells)?;
     let links = table.links();
-    let influence = flow_along(alloc, links, &granted)?;
-    let learn = flow_against(alloc, links, &granted)?;
+    let influence = flow(
+        alloc,
+        links,
+        Direction::Along,
+        influence_sets(alloc, &granted)?,
+    )?;
+    let learn = flow(
+        alloc,
+        links,
+        Direction::Against,
+        learn_sets(alloc, &granted)?,
+    )?;
     let entries = entries_from(alloc, cells, &influence, &learn)?;
     Ok(Labels::new(entries))
 }
 
-/// The least sets above those that may influence, in which no client is lost from the source of an edge to its target.
-fn flow_along(alloc: Global, links: &[Link], granted: &[Label]) -> Result<Vec<ClientSet>, Memory>
-    requires { AreLinks (length granted.now) links.now }
-    ensures { IfOk result (λ sets. AreClosed (map along links.now)
-        (map (λ label. label.influence) granted.now) sets.items) }
+/// The least sets above these, in which no client is lost from one end of an edge to the other in a direction.
+fn flow(
+    alloc: Global,
+    links: &[Link],
+    direction: Direction,
+    mut sets: Vec<ClientSet>,
+) -> Result<Vec<ClientSet>, Memory>
+    requires { AreLinks (length sets.items) links.now }
+    ensures { IfOk result (λ flown. AreClosed (map (arrow_of direction) links.now) sets.items flown.items) }
 {
-    let mut sets = influence_sets(alloc, granted)?;
-    close(alloc, &arrows_along(alloc, links)?, &mut sets)?;
-    Ok(sets)
-}
-
-/// The least sets above those that may learn, in which no client is lost from the target of an edge to its source.
-fn flow_against(alloc: Global, links: &[Link], granted: &[Label]) -> Result<Vec<ClientSet>, Memory>
-    requires { AreLinks (length granted.now) links.now }
-    ensures { IfOk result (λ sets. AreClosed (map against links.now)
-        (map (λ label. label.learn) granted.now) sets.items) }
-{
-    let mut sets = learn_sets(alloc, granted)?;
-    close(alloc, &arrows_against(alloc, links)?, &mut sets)?;
+    close(alloc, &Arrows::new(links, direction), &mut sets)?;
     Ok(sets)
 }
 
@@ -77,34 +79,6 @@ fn learn_sets(alloc: Global, labels: &[Label]) -> Result<Vec<ClientSet>, Memory>
         sets.push(label.learn)?;
     }
     Ok(sets)
-}
-
-/// From each source to its target.
-fn arrows_along(alloc: Global, links: &[Link]) -> Result<Vec<Arrow>, Memory>
-    ensures { IfOk result (λ arrows. arrows.items ≡ map along links.now) }
-{
-    let mut arrows = Vec::with_capacity(alloc, links.len())?;
-    for link in links {
-        arrows.push(Arrow {
-            from: link.source,
-            to: link.target,
-        })?;
-    }
-    Ok(arrows)
-}
-
-/// From each target to its source.
-fn arrows_against(alloc: Global, links: &[Link]) -> Result<Vec<Arrow>, Memory>
-    ensures { IfOk result (λ arrows. arrows.items ≡ map against links.now) }
-{
-    let mut arrows = Vec::with_capacity(alloc, links.len())?;
-    for link in links {
-        arrows.push(Arrow {
-            from: link.target,
-            to: link.source,
-        })?;
-    }
-    Ok(arrows)
 }
 
 /// Each cell with its sets.

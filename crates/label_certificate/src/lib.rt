@@ -5,7 +5,7 @@
 //! (`Members`), and faults (`Faults`). The theorems are the functions of [`laws`].
 #![tactic(auto)]
 
-mod arrow;
+mod arrows;
 mod chains;
 mod closing;
 pub mod fault;

@@ -38,7 +38,7 @@ impl<'a> Ask<'a> {
 
     /// What the APDU asks of the meter, or `None` where it is no GET or SET of one attribute and no ACTION of one method. The only
     /// error is want of memory.
-    #[inline]
+    #[inline(always)]
     pub fn asking(&self, alloc: Global) -> Result<Option<Asking>, Memory>
         ensures asking { IfOk result (λ x. option_map asked x
             ≡ asking_at self.now.client self.now.apdu) }

@@ -61,7 +61,7 @@ const TICK: &[u8] = b"tick";
 
 /// What a line says; the byte that ends it is no part of it. An APDU is decoded into the room, whatever it holds. The only
 /// error is want of memory.
-#[inline]
+#[inline(always)]
 pub fn read_line<'a>(
     alloc: Global,
     plan: &Plan,
@@ -112,7 +112,7 @@ pub fn first_space(text: &[u8]) -> Option<usize>
 }
 
 /// What a line says that has its first space at this place.
-#[inline]
+#[inline(always)]
 fn said_at<'a>(
     alloc: Global,
     plan: &Plan,
@@ -130,7 +130,7 @@ fn said_at<'a>(
 }
 
 /// What a line says by its first word and what follows the space.
-#[inline]
+#[inline(always)]
 fn said_by<'a>(
     alloc: Global,
     plan: &Plan,
@@ -261,7 +261,7 @@ fn ticks_of(seconds: Option<u16>) -> Line<'static>
 }
 
 /// What a line says by its client, if the plan knows it by the word, and the hex digits behind the space.
-#[inline]
+#[inline(always)]
 fn asked_by<'a>(
     client: Option<u8>,
     word: &[u8],
@@ -322,7 +322,7 @@ fn digits_fault(text: &[u8]) -> Reason
 }
 
 /// Decodes hex digits in either case into the room, whatever it holds, and says whether they are that.
-#[inline]
+#[inline(always)]
 fn decode(text: &[u8], room: &mut Vec<u8>) -> Result<bool, Memory>
     ensures { IfOk result (λ read. cond read (Some room.new.items) None
         ≡ result_ok (decode_of text.now)) }
@@ -335,7 +335,7 @@ fn decode(text: &[u8], room: &mut Vec<u8>) -> Result<bool, Memory>
 }
 
 /// What a line says by its client and the bytes of its APDU.
-#[inline]
+#[inline(always)]
 fn ask_of(client: u8, apdu: &[u8]) -> Line<'_>
     ensures { result ≡ spec.ask_of client apdu.now }
 {

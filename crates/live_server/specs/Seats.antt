@@ -1,5 +1,9 @@
 -- Which seats are taken. All of it is own profile.
-use Rattle.std.specs.Prelude.{◌≡◌, ◌<◌, ℕ, nat_le, Bool, true, List, Some, slice_get}
+use Rattle.std.specs.Prelude.{◌≡◌, ◌==◌, ◌<◌, ℕ, min, if◌then◌else◌, nat_le, Bool, true, List, Some, slice_get}
+
+-- how many seats there are: as many as are asked for, 64 at most, and no more than connections in all, where these end (0 for no end)
+abbrev pub seats_for : (seats sessions : ℕ) → ℕ
+seats_for seats sessions = if sessions == 0 then min seats 64 else min (min seats 64) sessions
 
 -- the first seats are taken, so many
 abbrev pub AreTaken : ℕ → List Bool → Type 0

@@ -4,6 +4,7 @@ ghost use Rattle.std.specs.IoError.{error_kind, raw_os_error};
 ghost use Rattle.live_server.specs.Accepting as spec;
 
 use std::io::{self, ErrorKind, Write};
+use std::net::TcpStream;
 use std::sync::Wait;
 use std::thread::Parker;
 use std::time::Duration;
@@ -68,6 +69,9 @@ pub(crate) struct Untaken<F: Write + Drop> {
 }
 
 impl<F: Write + Drop> Untaken<F> {
+    ghost use Rattle.std.specs.Prelude.{◌≡◌, true};
+    ghost use Rattle.live_server.specs.Accepting as spec;
+
     /// None is told there yet.
     pub(crate) fn new(output: F) -> Self {
         Untaken {
@@ -76,17 +80,39 @@ impl<F: Write + Drop> Untaken<F> {
         }
     }
 
+    /// Lets a connection through that was taken; None where one is passed over, which is told.
+    ///
+    /// # Errors
+    /// The listening itself fails.
+    pub(crate) fn let_through<R: Wait>(
+        &mut self,
+        rt: &R,
+        stream: io::Result<TcpStream>,
+    ) -> io::Result<Option<TcpStream>>
+        ensures through { result ≡ spec.let_through stream }
+        ensures told { self.new.is_told ≡ spec.is_told_behind result self.old.is_told }
+    {
+        match stream {
+            Ok(stream) => {
+                self.is_told = false;
+                Ok(Some(stream))
+            }
+            Err(error) if is_passing(&error) => {
+                self.pass_over(rt);
+                Ok(None)
+            }
+            Err(error) => Err(error),
+        }
+    }
+
     /// Passes over a connection, and waits a while. That it can't be told is passed over too.
-    pub(crate) fn pass_over<R: Wait>(&mut self, rt: &R) {
+    fn pass_over<R: Wait>(&mut self, rt: &R)
+        ensures { self.new.is_told ≡ true }
+    {
         if !self.is_told {
             let _ = write_whole(&mut self.output, NOTICE.as_bytes());
             self.is_told = true;
         }
         Parker::new().park_timeout(rt, Duration::from_millis(PAUSE));
-    }
-
-    /// A connection is taken again.
-    pub(crate) fn end(&mut self) {
-        self.is_told = false;
     }
 }

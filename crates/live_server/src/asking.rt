@@ -28,7 +28,7 @@ use step_keeping::keeper::Keeps;
 use xdlms_services::asker::Asker;
 
 /// What became of the steps of a connection that were to be kept, for who writes its answers.
-#[derive(Clone, Copy, Debug, Drop)]
+#[derive(Clone, Copy, Drop)]
 pub struct Standing {
     /// A step can't be kept, and wasn't taken.
     pub is_unkept: bool,
@@ -60,7 +60,7 @@ impl Standing {
 }
 
 /// What a seat notes of the steps that were asked at it.
-#[derive(Clone, Copy, Debug, Drop)]
+#[derive(Drop)]
 struct Noted {
     /// Whether a step was taken that the reader wasn't told of.
     is_behind: bool,

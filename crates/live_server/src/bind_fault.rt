@@ -11,7 +11,7 @@ use std::fmt;
 use std::io::{self, ErrorKind};
 
 /// Why connections can't be taken at an address, as the system says (own profile).
-#[derive(Clone, Copy, Debug, PartialEq, Eq, Drop)]
+#[derive(Clone, Copy, Debug, Drop)]
 pub enum BindFault {
     /// Connections are taken there already.
     InUse,

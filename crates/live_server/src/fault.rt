@@ -3,12 +3,12 @@ ghost use Rattle.std.specs.Prelude.{◌≡◌, IfOk, string_bytes};
 
 use crate::bind_fault::BindFault;
 use cosem_data::memory::Memory;
-use std::alloc::Global;
+use std::alloc::{AllocFailed, Global};
 use std::error::Error;
 use std::fmt;
 
 /// Why connections are no longer served (own profile).
-#[derive(Clone, Copy, Debug, PartialEq, Eq, Drop)]
+#[derive(Clone, Copy, Debug, Drop)]
 pub enum ServerFault {
     /// No connection can be taken at the address, for this reason.
     Bind(BindFault),
@@ -32,6 +32,28 @@ impl ServerFault {
         ensures { IfOk result (λ text. string_bytes text ≡ fault_words self) }
     {
         Ok(format!(in alloc; "{self}")?)
+    }
+}
+
+impl From<Memory> for ServerFault {
+    ghost use Rattle.std.specs.Prelude.{◌≡◌};
+    ghost use Rattle.live_server.specs.declared.fault.ServerFault.TheVariants as faults;
+
+    ghost from_gives = { λ _ fault. fault ≡ faults.Memory };
+
+    fn from(_memory: Memory) -> ServerFault {
+        ServerFault::Memory
+    }
+}
+
+impl<T: Drop> From<AllocFailed<T>> for ServerFault {
+    ghost use Rattle.std.specs.Prelude.{◌≡◌};
+    ghost use Rattle.live_server.specs.declared.fault.ServerFault.TheVariants as faults;
+
+    ghost from_gives = { λ _ fault. fault ≡ faults.Memory };
+
+    fn from(_failed: AllocFailed<T>) -> ServerFault {
+        ServerFault::Memory
     }
 }
 

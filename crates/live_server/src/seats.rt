@@ -1,10 +1,11 @@
 //! The seats of a board, and which are taken.
 ghost use Rattle.std.specs.Prelude.{◌≡◌, ◌<◌, ◌⊎◌, ◌↔◌, true, false, Some, IfErr, IfSome, IsTrue, MatchOption, slice_get, slice_set, unwrap_or};
-ghost use Rattle.live_server.specs.Seats.{AreTaken, AreTakenFrom};
+ghost use Rattle.live_server.specs.Seats.{AreTaken, AreTakenFrom, seats_for};
 ghost use Rattle.live_server.specs.Faults.{IsFaultBy, MayGiveUp};
 
 use crate::asking::{PortAsker, Standing};
 use crate::fault::ServerFault;
+use cosem_data::memory::Memory;
 use gates::Gate;
 use meter_live::board::Board;
 use meter_live::fault::PortFault;
@@ -17,18 +18,23 @@ use step_keeping::keeper::Keeps;
 /// How many connections are answered at once (own profile).
 pub(crate) const SEATS: usize = 64;
 
-/// What becomes of the steps of so many seats' connections, 64 at most, each under a lock of its own.
-pub(crate) fn clear_standings(
-    alloc: Global,
-    count: usize,
-) -> Result<Vec<Mutex<Standing>>, ServerFault>
-    ensures { IfErr result (λ fault. fault ≡ ServerFault.Memory) }
+/// How many seats there are for so many connections in all (0 for no end): as many as are asked for, 64 at most, and none that no
+/// connection would take.
+pub(crate) fn seat_count(seats: usize, sessions: u64) -> u16
+    ensures { result ≡ seats_for seats sessions }
 {
+    let seats = seats.min(SEATS) as u16;
+    match u16::try_from(sessions) {
+        Ok(0) | Err(_) => seats,
+        Ok(sessions) => seats.min(sessions),
+    }
+}
+
+/// What becomes of the steps of so many seats' connections, each under a lock of its own.
+pub(crate) fn clear_standings(alloc: Global, count: u16) -> Result<Vec<Mutex<Standing>>, Memory> {
     let mut standings = Vec::new(alloc);
-    for _ in 0..count.min(SEATS) {
-        standings
-            .push(Mutex::new(Standing::CLEAR))
-            .map_err(|_| ServerFault::Memory)?;
+    for _ in 0..count {
+        standings.push(Mutex::new(Standing::CLEAR))?;
     }
     Ok(standings)
 }
@@ -67,9 +73,7 @@ pub(crate) fn open_seats<'b, N: Naming, W: Wait + Drop, R: Wait, K: Keeps + Drop
     let mut seats = Vec::new(alloc);
     for standing in standings {
         let seat = open_seat(rt, board, Some(standing))?;
-        seats
-            .push(Mutex::new(seat))
-            .map_err(|_| ServerFault::Memory)?;
+        seats.push(Mutex::new(seat))?;
     }
     Ok(seats)
 }
@@ -79,17 +83,11 @@ pub(crate) fn shares_of<N: Naming, W: Wait + Drop, R: Wait, K: Keeps + Drop>(
     alloc: Global,
     driver: PortAsker<'_, N, W, R, K>,
     seats: Vec<Mutex<PortAsker<'_, N, W, R, K>>>,
-) -> Result<Vec<Share<N>>, ServerFault>
-    ensures { IfErr result (λ fault. fault ≡ ServerFault.Memory) }
-{
+) -> Result<Vec<Share<N>>, Memory> {
     let mut shares = Vec::new(alloc);
-    shares
-        .push(driver.into_share())
-        .map_err(|_| ServerFault::Memory)?;
+    shares.push(driver.into_share())?;
     for seat in seats {
-        shares
-            .push(seat.into_inner().into_share())
-            .map_err(|_| ServerFault::Memory)?;
+        shares.push(seat.into_inner().into_share())?;
     }
     Ok(shares)
 }

@@ -5,7 +5,7 @@ ghost use Rattle.step_keeping.specs.Keeping.{AreKept};
 
 use crate::bind_fault::fault_of;
 use crate::fault::ServerFault;
-use crate::sessions::{Driven, Service, serve_accepted, serve_kept};
+use crate::sessions::{Driven, NoPast, Service, serve_kept};
 use crate::sitting::Manners;
 use cosem_data::memory::Memory;
 use flow_checker::check::Checked;
@@ -18,7 +18,7 @@ use std::num::NonZeroU16;
 use std::sync::Wait;
 use std::thread::Threads;
 use std::time::Clock;
-use step_keeping::keeper::Keeps;
+use step_keeping::keeper::{Keeps, Unkept};
 use step_keeping::recalling::Recalls;
 use whole_writes::write_whole;
 
@@ -54,19 +54,7 @@ where
     ensures plan { IfOk result (λ closed. closed.plan ≡ checked) }
     ensures meter { IfOk result (λ closed. IsState checked.plan closed.meter) }
 {
-    let Driven {
-        steps,
-        mut faults,
-        is_over,
-    } = driven;
-    let listener = bound(rt, place, &mut faults)?;
-    let service = service_at(&listener, place);
-    let driven = Driven {
-        steps,
-        faults,
-        is_over,
-    };
-    serve_accepted(rt, rt.alloc(), checked, service, driven)
+    serve_kept_at(rt, checked, NoPast, Unkept, place, driven)
 }
 
 /// The same by a live meter that goes on from the steps that were kept, and has each further one kept behind them.
@@ -79,7 +67,7 @@ pub fn serve_kept_at<R, I, E, K, P>(
     past: P,
     keeper: K,
     place: Place<'_>,
-    driven: Driven<'_, I, E>,
+    mut driven: Driven<'_, I, E>,
 ) -> Result<Closed, ServerFault>
 where
     R: AllocGlobal
@@ -96,18 +84,8 @@ where
     ensures plan { IfOk result (λ closed. closed.plan ≡ checked) }
     ensures meter { IfOk result (λ closed. IsState checked.plan closed.meter) }
 {
-    let Driven {
-        steps,
-        mut faults,
-        is_over,
-    } = driven;
-    let listener = bound(rt, place, &mut faults)?;
+    let listener = bound(rt, place, &mut driven.faults)?;
     let service = service_at(&listener, place);
-    let driven = Driven {
-        steps,
-        faults,
-        is_over,
-    };
     serve_kept(rt, rt.alloc(), checked, past, keeper, service, driven)
 }
 

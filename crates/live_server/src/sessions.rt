@@ -1,21 +1,24 @@
 //! Connections over TCP, each in a thread of its own, on one board.
-ghost use Rattle.std.specs.Prelude.{◌≡◌, ◌<◌, true, IfErr, IfOk, Err};
+ghost use Rattle.std.specs.Prelude.{◌≡◌, ◌+◌, ◌<◌, true, IfErr, IfOk, Err};
+ghost use Rattle.std.specs.Int.NonZero.{non_zero_u16_get};
 ghost use denote.Param.Send.{IsSend, IsSync};
 ghost use Rattle.meter_theory.specs.States.{IsState};
 ghost use Rattle.live_server.specs.Faults.{IsFaultBy};
+ghost use Rattle.live_server.specs.Seats.{seats_for};
 ghost use Rattle.step_keeping.specs.Keeping.{AreKept};
 
-use crate::accepting::{Untaken, is_passing};
+use crate::accepting::Untaken;
 use crate::asking::{PortAsker, Standing};
 use crate::by_line::ByLine;
 use crate::driver::Driver;
 use crate::fault::ServerFault;
 use crate::notices::Notices;
 use crate::output::SharedOutput;
-use crate::seats::{clear_standings, is_last, open_seat, open_seats, shares_of};
+use crate::seats::{clear_standings, is_last, open_seat, open_seats, seat_count, shares_of};
 use crate::sitting::{Manners, Shared, sit, turn_away};
 use flow_checker::check::Checked;
 use gates::Gate;
+use meter_core::step::Step;
 use meter_live::board::{Blanks, Board, Closed};
 use meter_live::names::Naming;
 use meter_live::resuming::ResumeFault;
@@ -24,6 +27,7 @@ use std::alloc::Global;
 use std::io::{self, Read, Write};
 use std::marker::Brand;
 use std::net::TcpListener;
+use std::num::NonZeroU16;
 use std::sync::{Mutex, Wait};
 use std::thread;
 use std::thread::Threads;
@@ -39,6 +43,22 @@ pub struct Service<'a, G: Gate> {
     pub sessions: u64,
     pub gate: &'a G,
     pub manners: Manners,
+}
+
+impl<G: Gate> Service<'_, G> {
+    /// How many seats there are.
+    fn seats(&self) -> u16
+        ensures { result ≡ seats_for self.now.manners.seats self.now.sessions }
+    {
+        seat_count(self.manners.seats, self.sessions)
+    }
+
+    /// How many readers there are: the driver's, and one for each seat.
+    fn readers(&self) -> NonZeroU16
+        ensures { non_zero_u16_get result ≡ seats_for self.now.manners.seats self.now.sessions + 1 }
+    {
+        NonZeroU16::MIN.saturating_add(self.seats())
+    }
 }
 
 /// The driver's lines, where it is told which of them are refused, and what is set once no further connection is answered: lines that
@@ -79,17 +99,30 @@ where
     ensures fault { IfErr result (λ fault. IsFaultBy G.may_give_up fault) }
 {
     match run_sessions(rt, alloc, &board, past, service, driven) {
-        Ok(shares) => match board.close(rt, shares) {
-            Ok(closed) => Ok(closed),
-            Err(not_all) => {
-                let (board, _shares) = not_all.into_parts();
-                board.end(rt);
-                Err(ServerFault::Board)
-            }
-        },
+        Ok(shares) => close(rt, board, shares),
         Err(fault) => {
             board.end(rt);
             Err(fault)
+        }
+    }
+}
+
+/// Closes a board with the shares of all that was taken. The only error is that there are fewer shares than ports that were opened.
+fn close<N: Naming, W: Wait + Drop, R: Wait, K: Keeps + Drop>(
+    rt: &R,
+    board: Board<N, W, K>,
+    shares: Vec<Share<N>>,
+) -> Result<Closed, ServerFault>
+    ensures plan { IfOk result (λ closed. closed.plan ≡ N.accepted) }
+    ensures meter { IfOk result (λ closed. IsState N.accepted.plan closed.meter) }
+    ensures fault { IfErr result (λ fault. fault ≡ ServerFault.Board) }
+{
+    match board.close(rt, shares) {
+        Ok(closed) => Ok(closed),
+        Err(not_all) => {
+            let (board, _shares) = not_all.into_parts();
+            board.end(rt);
+            Err(ServerFault::Board)
         }
     }
 }
@@ -118,14 +151,14 @@ where
         faults,
         is_over,
     } = driven;
-    let lines = ByLine::new(alloc, steps).map_err(|_| ServerFault::Memory)?;
-    let standings = clear_standings(alloc, service.manners.seats)?;
+    let mut lines = ByLine::new(alloc, steps)?;
+    let standings = clear_standings(alloc, service.seats())?;
     let output = Mutex::new(faults);
     let mut shares = run_lent(
-        rt, alloc, board, &service, lines, is_over, &output, &standings,
+        rt, alloc, board, &service, &mut lines, is_over, &output, &standings,
     )?;
     if let Some(past) = past {
-        shares.push(past).map_err(|_| ServerFault::Memory)?;
+        shares.push(past)?;
     }
     Ok(shares)
 }
@@ -136,7 +169,7 @@ fn run_lent<'b, N, W, R, I, F, G, K>(
     alloc: Global,
     board: &'b Board<N, W, K>,
     service: &Service<'_, G>,
-    lines: ByLine<I>,
+    lines: &mut ByLine<I>,
     is_over: &Mutex<bool>,
     output: &'b Mutex<F>,
     standings: &'b [Mutex<Standing>],
@@ -151,23 +184,21 @@ where
     K: Keeps + Drop + Send,
     ensures { IfErr result (λ fault. IsFaultBy G.may_give_up fault) }
 {
-    let notices = Notices::new(alloc, SharedOutput::new(rt, output)).map_err(
-        |_| ServerFault::Memory,
-    )?;
-    let driver = Driver::new(alloc, open_seat(rt, board, None)?, notices);
+    let notices = Notices::new(alloc, SharedOutput::new(rt, output))?;
+    let mut driver = Driver::new(alloc, open_seat(rt, board, None)?, notices);
     let seats = open_seats(rt, alloc, board, standings)?;
-    let driver = run_threads(
+    run_threads(
         rt,
         alloc,
         service,
-        driver,
+        &mut driver,
         lines,
         is_over,
         seats.as_slice(),
         output,
         standings,
     )?;
-    shares_of(alloc, driver.into_seat(), seats)
+    Ok(shares_of(alloc, driver.into_seat(), seats)?)
 }
 
 /// Answers the connections at the seats while the driver takes its lines.
@@ -175,13 +206,13 @@ fn run_threads<'b, N, W, R, I, F, G, K>(
     rt: &'b R,
     alloc: Global,
     service: &Service<'_, G>,
-    driver: Driver<'b, N, W, R, SharedOutput<'b, F, R>, K>,
-    lines: ByLine<I>,
+    driver: &mut Driver<'b, N, W, R, SharedOutput<'b, F, R>, K>,
+    lines: &mut ByLine<I>,
     is_over: &Mutex<bool>,
     seats: &[Mutex<PortAsker<'b, N, W, R, K>>],
     output: &'b Mutex<F>,
     standings: &'b [Mutex<Standing>],
-) -> Result<Driver<'b, N, W, R, SharedOutput<'b, F, R>, K>, ServerFault>
+) -> Result<(), ServerFault>
 where
     N: Naming + Send + Sync,
     W: Wait + Drop + Send + Sync,
@@ -194,32 +225,15 @@ where
 {
     let shared = Shared::new(service, output, standings);
     let lent = &shared;
-    let (driver, ended) = thread::join(
+    let (_driven, ended) = thread::join(
         rt,
-        move || drive(alloc, driver, lines),
+        move || driver.take_lines(alloc, lines),
         || accept_until_over(rt, alloc, seats, lent, service, is_over),
     );
-    ended.map_err(|_| ServerFault::Listen)?;
-    shared.ended()?;
-    Ok(driver)
-}
-
-/// The driver takes its lines.
-fn drive<N, W, R, I, F, K>(
-    alloc: Global,
-    mut driver: Driver<'_, N, W, R, F, K>,
-    mut lines: ByLine<I>,
-) -> Driver<'_, N, W, R, F, K>
-where
-    N: Naming,
-    W: Wait + Drop,
-    R: Wait,
-    I: Read + Drop,
-    F: Write + Drop,
-    K: Keeps + Drop,
-{
-    driver.take_lines(alloc, &mut lines);
-    driver
+    if ended.is_err() {
+        return Err(ServerFault::Listen);
+    }
+    shared.ended()
 }
 
 /// Takes connections as `accept_all` does, and sets then that all is over.
@@ -271,15 +285,9 @@ where
             let mut untaken = Untaken::new(SharedOutput::new(rt, shared.output));
             let mut count = 0u64;
             for stream in service.listener.incoming() {
-                let stream = match stream {
-                    Ok(stream) => stream,
-                    Err(error) if is_passing(&error) => {
-                        untaken.pass_over(rt);
-                        continue;
-                    }
-                    Err(error) => return Err(error),
+                let Some(stream) = untaken.let_through(rt, stream)? else {
+                    continue;
                 };
-                untaken.end();
                 match shared.take(rt) {
                     Some(number) => {
                         if let Some(seat) = seats.get(number) {
@@ -304,6 +312,20 @@ where
     )
 }
 
+/// No step was kept.
+#[derive(Drop)]
+pub(crate) struct NoPast;
+
+impl Recalls for NoPast {
+    ghost use Rattle.std.specs.Prelude.{[]};
+
+    ghost left = { λ _. [] };
+
+    fn recall(&mut self) -> Option<Step> {
+        None
+    }
+}
+
 /// Opens a live meter of what was accepted, of which nothing is kept, and answers connections as `serve_sessions` does.
 ///
 /// # Errors
@@ -325,8 +347,7 @@ where
     // A seat gave up only where a gate may have it do so.
     ensures fault { IfErr result (λ fault. IsFaultBy G.may_give_up fault) }
 {
-    let blanks = Blanks::new();
-    open_and_serve::<Brand, &R, R, I, F, G>(rt, rt, alloc, checked, blanks, service, driven)
+    serve_kept(rt, alloc, checked, NoPast, Unkept, service, driven)
 }
 
 /// Opens a live meter of what was accepted, which takes the steps that were kept and has each further one kept behind them, and answers
@@ -356,7 +377,7 @@ where
     // A seat gave up only where a gate may have it do so.
     ensures fault { IfErr result (λ fault. IsFaultBy G.may_give_up fault) }
 {
-    let blanks = Blanks::new();
+    let blanks = Blanks::for_readers(service.readers());
     resume_and_serve::<Brand, &R, R, I, F, G, K, P>(
         rt,
         rt,
@@ -374,37 +395,6 @@ where
 struct Kept<K: Keeps + Drop, P: Recalls + Drop> {
     past: P,
     keeper: K,
-}
-
-/// The same as `serve_accepted`, with what names the board.
-fn open_and_serve<N, W, R, I, F, G>(
-    rt: &R,
-    keep: W,
-    alloc: Global,
-    checked: Checked,
-    blanks: Blanks,
-    service: Service<'_, G>,
-    driven: Driven<'_, I, F>,
-) -> Result<Closed, ServerFault>
-where
-    N: Naming + Send + Sync,
-    W: Wait + Drop + Send + Sync,
-    R: Clock + Threads + Wait + Sync,
-    I: Read + Send + Drop,
-    F: Write + Send + Drop,
-    G: Gate + Sync,
-    requires plan { checked ≡ N.accepted }
-    requires book { blanks.history ≡ N.book }
-    requires steps { blanks.steps.name ≡ N.steps }
-    requires changes { blanks.changes.name ≡ N.changes }
-    ensures plan { IfOk result (λ closed. closed.plan ≡ checked) }
-    ensures meter { IfOk result (λ closed. IsState checked.plan closed.meter) }
-    ensures fault { IfErr result (λ fault. IsFaultBy G.may_give_up fault) }
-{
-    match Board::<N, W, Unkept>::open(keep, alloc, checked, Unkept, blanks) {
-        Ok(board) => serve_sessions(rt, alloc, board, None, service, driven),
-        Err(_) => Err(ServerFault::Memory),
-    }
 }
 
 /// The same as `serve_kept`, with what names the board.

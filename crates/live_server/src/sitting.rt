@@ -11,6 +11,7 @@ use frame_server::fault::ServeFault;
 use frame_server::serving::{Seat, serve_gated};
 use gates::Gate;
 use meter_live::names::Naming;
+use object_model::plan::Plan;
 use peer_watch::events::{End, Event, Tells};
 use peer_watch::gate::PeerGate;
 use peer_watch::peer::Peer;
@@ -24,6 +25,7 @@ use std::net::TcpStream;
 use std::sync::{Mutex, Wait};
 use std::time::Clock;
 use step_keeping::keeper::Keeps;
+use xdlms_services::asker::Asker;
 
 /// What holds of the connections of a server.
 #[derive(Clone, Copy)]
@@ -50,7 +52,7 @@ pub(crate) struct Shared<'g, 'o, G: Gate, F: Write + Drop> {
 }
 
 impl<'g, 'o, G: Gate, F: Write + Drop> Shared<'g, 'o, G, F> {
-    /// What the connections of a service share, with the output where all is told.
+    /// What the connections of a service share, with the output where all is told, and a standing for each seat.
     pub(crate) fn new(
         service: &Service<'g, G>,
         output: &'o Mutex<F>,
@@ -58,7 +60,7 @@ impl<'g, 'o, G: Gate, F: Write + Drop> Shared<'g, 'o, G, F> {
     ) -> Self {
         Shared {
             gate: service.gate,
-            taken: Mutex::new(Taken::new(service.gate, service.manners.seats)),
+            taken: Mutex::new(Taken::new(service.gate, standings.len())),
             output,
             standings,
             is_failure_told: Mutex::new(false),
@@ -147,38 +149,46 @@ where
         return Ok(0);
     };
     let log = ConnectionLog::opened(rt, alloc, shared, standing, plan, stream, number);
-    answer(rt, alloc, stream, &mut *asker, shared, number, &log)
-}
-
-/// The frames of one connection, answered at a seat, and that it was closed.
-fn answer<N, W, R, G, F, K>(
-    rt: &R,
-    alloc: Global,
-    stream: &TcpStream,
-    port: &mut PortAsker<'_, N, W, R, K>,
-    shared: &Shared<'_, '_, G, F>,
-    number: usize,
-    log: &ConnectionLog<'_, '_, '_, R, F>,
-) -> Result<u64, ServeFault>
-where
-    N: Naming,
-    W: Wait + Drop,
-    R: Clock + Wait,
-    G: Gate,
-    F: Write + Drop,
-    K: Keeps + Drop,
-    ensures { result ≡ Err ServeFault.GaveUp → G.may_give_up shared.now.gate.now number }
-{
-    let peer = Peer::opened(rt, shared.manners.rules);
-    let gate = PeerGate {
-        gate: shared.gate,
-        peer: &peer,
-    };
     let seat = Seat {
         number,
+        gate: shared.gate,
+    };
+    answer(
+        rt,
+        alloc,
+        stream,
+        &mut *asker,
+        plan,
+        &seat,
+        shared.manners.rules,
+        &log,
+    )
+}
+
+/// The frames of one connection, answered at a seat by these rules, and that it was closed.
+fn answer<C: Clock, A: Asker, G: Gate, T: Tells>(
+    clock: &C,
+    alloc: Global,
+    stream: &TcpStream,
+    asker: &mut A,
+    plan: &Plan,
+    seat: &Seat<'_, G>,
+    rules: Rules,
+    log: &T,
+) -> Result<u64, ServeFault>
+    requires { A.plan_of asker.old ≡ plan.now }
+    ensures { result ≡ Err ServeFault.GaveUp → G.may_give_up seat.now.gate.now seat.now.number }
+{
+    let peer = Peer::opened(clock, rules);
+    let gate = PeerGate {
+        gate: seat.gate,
+        peer: &peer,
+    };
+    let watched = Seat {
+        number: seat.number,
         gate: &gate,
     };
-    let ended = exchange(alloc, stream, port, &seat, log, &peer);
+    let ended = exchange(alloc, stream, asker, plan, &watched, log, &peer);
     log.tell(Event::Closed {
         why: end_of(&ended, peer.seen(), log.is_in_doubt()),
         requests: peer.seen().requests,
@@ -187,31 +197,25 @@ where
 }
 
 /// The frames of one connection, answered at a seat before its gate, with what is known of the connection.
-fn exchange<N, W, R, G, F, K>(
+fn exchange<C: Clock, A: Asker, G: Gate, T: Tells>(
     alloc: Global,
     stream: &TcpStream,
-    port: &mut PortAsker<'_, N, W, R, K>,
+    asker: &mut A,
+    plan: &Plan,
     seat: &Seat<'_, G>,
-    log: &ConnectionLog<'_, '_, '_, R, F>,
-    peer: &Peer<'_, R>,
+    log: &T,
+    peer: &Peer<'_, C>,
 ) -> Result<u64, ServeFault>
-where
-    N: Naming,
-    W: Wait + Drop,
-    R: Clock + Wait,
-    G: Gate,
-    F: Write + Drop,
-    K: Keeps + Drop,
+    requires { A.plan_of asker.old ≡ plan.now }
     ensures { result ≡ Err ServeFault.GaveUp → G.may_give_up seat.now.gate.now seat.now.number }
 {
-    let plan = port.plan();
     let mut reader = PeerReader { stream, peer };
     let mut writer = PeerWriter {
         stream,
         peer,
         told: log,
     };
-    serve_gated(alloc, &mut reader, &mut writer, plan, port, seat)
+    serve_gated(alloc, &mut reader, &mut writer, plan, asker, seat)
 }
 
 /// Why a connection was closed that ended so.

@@ -1,6 +1,7 @@
 //! A live meter that many threads use.
 ghost use Rattle.std.specs.Prelude.{◌≡◌, ◌<◌, [], true, IfOk, IfErr, OnOk, OnErr, ◌+◌, sum_by, vec_len};
 ghost use Rattle.std.specs.Coded.{codes};
+ghost use Rattle.std.specs.Int.NonZero.{non_zero_u16_get};
 ghost use mathlib.Core.List.{IsPrefix};
 ghost use Rattle.logbook.specs.Pages.{book_coded};
 ghost use Rattle.meter_core.specs.Judging.{IsJudged};
@@ -12,11 +13,9 @@ ghost use Rattle.meter_live.specs.Tally.{Counts, HasSeen, IsUnused};
 ghost use Rattle.meter_live.specs.Told.{IsToldOf};
 ghost use Rattle.step_keeping.specs.Keeping.{KeepsNone};
 
-use crate::archive::Archive;
 use crate::desk::{BoardReader, Desk};
 use crate::fault::{LiveFault, PortFault, ReaderFault};
 use crate::history::{Front, History};
-use crate::live::Live;
 use crate::names::Naming;
 use crate::share::Share;
 use cosem_data::memory::Memory;
@@ -28,6 +27,7 @@ use object_model::meter::Meter;
 use object_model::plan::Plan;
 use std::alloc::Global;
 use std::marker::Model;
+use std::num::NonZeroU16;
 use std::sync::ledger::Blank;
 use std::sync::{Mutex, MutexGuard, Wait};
 use step_keeping::keeper::Keeps;
@@ -35,26 +35,39 @@ use step_keeping::keeper::Keeps;
 /// A board has at most so many ports, numbered from 0, each with a reader (own profile).
 pub const PORTS: u16 = 256;
 
-/// What a board is opened with: an empty history, and two ledgers of a part for each port. By them its types name it.
+/// What a board is opened with: an empty history, and two ledgers of a part for each port, by which its types name it; and for how
+/// many readers at once it has room.
 #[derive(Drop)]
 pub struct Blanks {
     pub history: History,
     pub written: Front,
     pub steps: Blank,
     pub changes: Blank,
+    /// Each publication looks at the place of each of them. A port that finds none free gets no reader.
+    pub readers: NonZeroU16,
     pub ghost empty: { (written.book ≡ history) × (written.steps ≡ []) } by { Prim.hlevel (codes, step_code, book_coded) },
     pub ghost parts: { (steps.parts ≡ 256) × (changes.parts ≡ 256) },
 }
 
 impl Blanks {
-    /// What one board is opened with. It takes no memory.
-    pub fn new() -> Blanks {
+    /// What one board is opened with that has room for a reader of each port. It takes no memory.
+    pub fn new() -> Blanks
+        ensures { non_zero_u16_get result.readers ≡ 256 }
+    {
+        Blanks::for_readers(NonZeroU16::MIN.saturating_add(PORTS - 1))
+    }
+
+    /// What one board is opened with that has room for so many readers at once. It takes no memory.
+    pub fn for_readers(readers: NonZeroU16) -> Blanks
+        ensures { result.readers ≡ readers }
+    {
         let (history, written) = History::open();
         Blanks {
             history,
             written,
             steps: Blank::new(256),
             changes: Blank::new(256),
+            readers,
         }
     }
 }
@@ -163,22 +176,10 @@ impl<N: Naming, W: Wait + Drop, K: Keeps + Drop> Board<N, W, K> {
         requires unkept { KeepsNone (K.kept checked.plan keeper) }
         ensures err { IfErr result (λ given. given ≡ checked) }
     {
-        let Ok(beside) = checked.share() else {
-            return Err(checked);
-        };
-        let Blanks {
-            history,
-            written,
-            steps,
-            changes,
-        } = blanks;
-        let archive = Archive {
-            keeper,
-            history,
-            written,
-        };
-        let live = Live::of(&rt, alloc, checked, archive, usize::from(PORTS))?;
-        Ok(Board::of(Desk::new(rt, alloc, live, steps, changes), beside))
+        match Desk::open(rt, alloc, &checked, keeper, blanks) {
+            Ok(desk) => Ok(Board::of(desk, checked)),
+            Err(Memory) => Err(checked),
+        }
     }
 
     /// A board of this desk, with what was accepted beside the lock.

@@ -11,8 +11,11 @@ ghost use Rattle.meter_live.specs.Changes.{Answers, answer_after, is_get, takes_
 ghost use Rattle.meter_live.specs.Marks.{LieOnOne};
 ghost use Rattle.meter_live.specs.Tally.{Counts, HasSeen, IsUnused};
 ghost use Rattle.meter_live.specs.Told.{IsToldOf, acted, posted, put_by};
-ghost use Rattle.step_keeping.specs.Keeping.{IsKept};
+ghost use Rattle.meter_live.specs.Trail.{unstepped};
+ghost use Rattle.step_keeping.specs.Keeping.{IsKept, KeepsNone};
 
+use crate::archive::Archive;
+use crate::board::Blanks;
 use crate::fault::{LiveFault, PortFault, ReadRefused, ReaderFault};
 use crate::live::Live;
 use crate::names::{ChangeLedger, Naming, StepLedger};
@@ -111,8 +114,44 @@ impl<N: Naming, W: Wait + Drop, K: Keeps + Drop> Model for Desk<N, W, K> {
 }
 
 impl<N: Naming, W: Wait + Drop, K: Keeps + Drop> Desk<N, W, K> {
+    /// A desk of a meter that no step has reached, of which nothing is kept yet, without ports. The only error is that memory was
+    /// refused.
+    pub(crate) fn open(
+        rt: W,
+        alloc: Global,
+        checked: &Checked,
+        keeper: K,
+        blanks: Blanks,
+    ) -> Result<Self, Memory>
+        requires plan { checked.now ≡ N.accepted }
+        requires book { blanks.history ≡ N.book }
+        requires steps { blanks.steps.name ≡ N.steps }
+        requires changes { blanks.changes.name ≡ N.changes }
+        requires unkept { KeepsNone (K.kept checked.now.plan keeper) }
+        ensures { IfOk result (λ desk. desk.live.meter ≡ unstepped checked.now) }
+    {
+        let Blanks {
+            history,
+            written,
+            steps,
+            changes,
+            readers,
+        } = blanks;
+        let archive = Archive {
+            keeper,
+            history,
+            written,
+        };
+        let checked = checked.share()?;
+        let readers = usize::from(readers.get());
+        match Live::of(&rt, alloc, checked, archive, readers) {
+            Ok(live) => Ok(Desk::new(rt, alloc, live, steps, changes)),
+            Err(_) => Err(Memory),
+        }
+    }
+
     /// A desk of a meter that no step has reached, without ports.
-    pub(crate) fn new(rt: W, alloc: Global, live: Live<K>, steps: Blank, changes: Blank) -> Self
+    fn new(rt: W, alloc: Global, live: Live<K>, steps: Blank, changes: Blank) -> Self
         requires plan { live.meter.accepted ≡ N.accepted }
         requires book { live.book ≡ N.book }
         requires unused { (live.meter.count ≡ 0) × (live.meter.changes ≡ 0) }

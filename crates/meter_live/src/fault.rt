@@ -5,7 +5,7 @@ use cosem_data::memory::Memory;
 use step_keeping::fault::KeepFault;
 
 /// Why a step was not taken.
-#[derive(Clone, Copy, PartialEq, Eq, Debug)]
+#[derive(Clone, Copy, Debug)]
 pub enum LiveFault {
     /// Memory was refused.
     Memory,
@@ -52,14 +52,8 @@ pub enum PortFault {
     NoPort,
 }
 
-impl From<Memory> for PortFault {
-    fn from(_memory: Memory) -> PortFault {
-        PortFault::Memory
-    }
-}
-
 /// Why a port gave no reader. Giving one takes no memory.
-#[derive(Clone, Copy, PartialEq, Eq, Debug)]
+#[derive(Clone, Copy, Debug)]
 pub enum ReaderFault {
     /// It gave one before, or `left_right` gave no reading end.
     NoReader,
@@ -72,10 +66,4 @@ pub enum ReadRefused {
     Memory,
     /// `left_right` gave no entry into a copy.
     NoEntry,
-}
-
-impl From<Memory> for ReadRefused {
-    fn from(_memory: Memory) -> ReadRefused {
-        ReadRefused::Memory
-    }
 }

@@ -13,7 +13,7 @@ use crate::shown::{Note, Shown};
 use core::mem::replace_with;
 use cosem_data::memory::Memory;
 use left_right::writer::Writer;
-use std::alloc::{AllocError, Global};
+use std::alloc::Global;
 use std::marker::Model;
 use std::sync::Wait;
 
@@ -61,7 +61,7 @@ impl Pen {
         requires same { second ≡ first }
         ensures { IfOk result (λ pen. pen ≡ sending first []) }
     {
-        let end: End = Writer::new(alloc, first, second, readers).map_err(|_| Memory)?;
+        let end: End = Writer::new(alloc, first, second, readers)?;
         match send(rt, end) {
             (end, Ok(())) => Ok(Pen { end }),
             (end, Err(_)) => {
@@ -131,7 +131,7 @@ impl Pen {
             ≡ record { plan = self.old.plan; front = self.old.mark; pending = []; mark = self.old.mark }) }
         ensures err { OnErr result (self.new ≡ self.old) }
     {
-        replace_with(self, rt, |pen, rt| published(rt, pen)).map_err(|_| Memory)
+        replace_with(self, rt, |pen, rt| published(rt, pen))
     }
 
     /// Waits for the readers, and ends the copies.
@@ -146,8 +146,8 @@ fn unsent(_note: Note) -> Memory {
     Memory
 }
 
-/// Shows readers all that was sent.
-fn published<R: Wait>(rt: &R, pen: Pen) -> (Pen, Result<(), AllocError>)
+/// Shows readers all that was sent. The only error is that memory was refused.
+fn published<R: Wait>(rt: &R, pen: Pen) -> (Pen, Result<(), Memory>)
     requires { pen.mark ≡ all_marked pen }
     ensures { MatchResult result.1
         (λ _. result.0 ≡ record { plan = pen.plan; front = pen.mark; pending = []; mark = pen.mark })
@@ -159,7 +159,7 @@ fn published<R: Wait>(rt: &R, pen: Pen) -> (Pen, Result<(), AllocError>)
 }
 
 /// The same of the end, which may know nothing yet.
-fn send<R: Wait>(rt: &R, end: End) -> (End, Result<(), AllocError>)
+fn send<R: Wait>(rt: &R, end: End) -> (End, Result<(), Memory>)
     requires { (sending end.desk.shown.value (drop end.behind end.log.items)).mark
         ≡ all_marked (sending end.desk.shown.value (drop end.behind end.log.items)) }
     ensures { MatchResult result.1
@@ -174,6 +174,6 @@ fn send<R: Wait>(rt: &R, end: End) -> (End, Result<(), AllocError>)
     let (end, sent) = end.publish_as::<Sends, R>(rt);
     match sent {
         Ok(()) => (end, Ok(())),
-        Err(fault) => (end, Err(fault)),
+        Err(_) => (end, Err(Memory)),
     }
 }

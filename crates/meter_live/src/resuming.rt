@@ -4,11 +4,9 @@ ghost use Rattle.meter_theory.specs.Replies.{run};
 ghost use Rattle.meter_live.specs.Tally.{CountsAll, CountsOn, CountsOnly, IsUnused};
 ghost use Rattle.step_keeping.specs.Keeping.{AreKept};
 
-use crate::archive::Archive;
-use crate::board::{Blanks, Board, PORTS};
+use crate::board::{Blanks, Board};
 use crate::desk::{BoardReader, Desk};
 use crate::fault::{LiveFault, PortFault, ReaderFault};
-use crate::live::Live;
 use crate::names::Naming;
 use crate::share::Share;
 use cosem_data::memory::Memory;
@@ -23,7 +21,7 @@ use step_keeping::recalling::Recalls;
 const TOLD_AT_ONCE: u16 = 1024;
 
 /// Why a board doesn't go on from the steps that were kept.
-#[derive(Clone, Copy, PartialEq, Eq, Debug)]
+#[derive(Clone, Copy, Debug)]
 pub enum ResumeFault {
     /// Memory was refused.
     Memory,
@@ -90,7 +88,7 @@ impl<N: Naming, W: Wait + Drop, K: Keeps + Drop> Board<N, W, K> {
         rt: W,
         alloc: Global,
         checked: Checked,
-        past: P,
+        mut past: P,
         keeper: K,
         blanks: Blanks,
     ) -> Result<(Board<N, W, K>, Share<N>), ResumeFault>
@@ -102,27 +100,9 @@ impl<N: Naming, W: Wait + Drop, K: Keeps + Drop> Board<N, W, K> {
         ensures share { IfOk result (λ r. CountsOnly N.accepted.plan (P.left past) r.1) }
         ensures full { result ≡ Err ResumeFault.Full → 2 ^ 64 ≤ length (P.left past) }
     {
-        let Ok(beside) = checked.share() else {
-            return Err(ResumeFault::Memory);
-        };
-        let Blanks {
-            history,
-            written,
-            steps,
-            changes,
-        } = blanks;
-        let archive = Archive {
-            keeper: Unkept,
-            history,
-            written,
-        };
-        let Ok(live) = Live::of(&rt, alloc, checked, archive, usize::from(PORTS)) else {
-            return Err(ResumeFault::Memory);
-        };
-        let mut past = past;
-        let mut desk = Desk::new(rt, alloc, live, steps, changes);
+        let mut desk = Desk::open(rt, alloc, &checked, Unkept, blanks)?;
         let share = desk.restore(waits, alloc, &mut past)?;
-        Ok((Board::of(desk.kept_by(keeper), beside), share))
+        Ok((Board::of(desk.kept_by(keeper), checked), share))
     }
 }
 

@@ -25,7 +25,7 @@ impl Request {
 
     /// What the client at this place in the plan asks by the request, or `None` for a request for the next block of a
     /// value, which asks no step.
-    #[inline]
+    #[inline(always)]
     pub fn into_asking(self, client: u8) -> Option<Asking>
         ensures asking { option_map asked result ≡ asking_of client self }
         ensures service { IfSome result (λ asking. IsServiceOf (step_of asking.step) asking.service) }

@@ -50,7 +50,7 @@ pub(crate) const NEXT: u8 = 2;
 ///
 /// A value or a parameter that can't be read is no fault of the APDU. It is `Argument::Unreadable`,
 /// and whoever answers the request says which result that has.
-#[inline]
+#[inline(always)]
 pub fn read_apdu(alloc: Global, bytes: &[u8]) -> Result<Request, ApduFault>
     // What is read has this form.
     ensures found { IfOk result (λ request. IsRequest request bytes.now) }
@@ -73,7 +73,7 @@ const NEXT_LENGTH: usize = 7;
 
 /// The request that the bytes are, read from left to right.
 #[tactic(auto, unfolding(crate::specs::Reading::request_at))]
-#[inline]
+#[inline(always)]
 fn request_of(alloc: Global, bytes: &[u8]) -> Result<Request, ApduFault>
     ensures { Reads result (request_at bytes.now) }
 {
@@ -125,7 +125,7 @@ fn front_of(bytes: &[u8]) -> Front
 }
 
 /// The request of the service that the front names.
-#[inline]
+#[inline(always)]
 fn service_request(alloc: Global, front: Front, rest: &[u8]) -> Result<Request, ApduFault>
     ensures { Reads result (service_of front rest.now) }
 {
@@ -138,7 +138,7 @@ fn service_request(alloc: Global, front: Front, rest: &[u8]) -> Result<Request, 
 }
 
 /// Get-Request-Normal behind its front.
-#[inline]
+#[inline(always)]
 fn get_request(alloc: Global, front: Front, rest: &[u8]) -> Result<Request, ApduFault>
     ensures { Reads result (get_of front rest.now) }
 {

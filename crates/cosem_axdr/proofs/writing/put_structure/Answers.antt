@@ -1,10 +1,8 @@
-use Rattle.std.proofs.Common.{◌++◌, ◌∷◌, [], map, length, ap, refl, ◌∙◌, append_assoc}
+use Rattle.std.proofs.Common.{◌++◌, ◌∷◌, map, ap, refl, ◌∙◌}
 use Rattle.std.proofs.lemmas.Result.{on_ok_weaker}
 use Rattle.cosem_data.specs.Kinds.{tag_of}
-use Rattle.cosem_data.specs.Tree.{trees}
 use Rattle.cosem_data.specs.View.{tree}
 use Rattle.cosem_data.specs.declared.kind.Kind.TheVariants.{Structure}
-use Rattle.cosem_axdr.specs.Canonical.{all, shortest}
 use Rattle.cosem_axdr.proofs.Parts.{part_lengths, part_content}
 use Rattle.cosem_axdr.proofs.writing.put_structure.Goals as goal
 
@@ -13,12 +11,6 @@ put_parts-requires-clause-few c = (part_lengths (map tree c.args.parts.now) c.ar
 
 pub returns-clause-ok : goal.returns-clause-ok
 returns-clause-ok c =
-    let parts = c.args.parts.now in
-    let out = c.args.out.now.items in
-    let behind = shortest (length parts) ++ all (trees (map tree parts)) in
     on_ok_weaker c.put_parts.result
-    (λ written. written
-    ∙ ap (λ front. front ++ behind) (c.in_ok-push.ensures.items ∙ ap (λ tag. out ++ tag ∷ []) c.tag.ensures)
-    ∙ append_assoc out (tag_of Structure ∷ []) behind
-    ∙ ap (λ content. out ++ tag_of Structure ∷ content) (part_content (map tree parts) parts refl))
+    (λ written. written ∙ ap (λ content. c.args.out.now.items ++ tag_of Structure ∷ content) (part_content (map tree c.args.parts.now) c.args.parts.now refl))
     c.put_parts.ensures.ok

@@ -1,13 +1,14 @@
-use Rattle.std.proofs.Common.{◌≡◌, ◌≤◌, ◌==◌, ◌∙◌, ◌∷◌, ◌++◌, true, false, cond, ap, append-nil, inr, length, length-take-le, ℕ, List, subst, sym, take}
+use Rattle.std.proofs.Common.{◌≡◌, ◌≤◌, ◌==◌, ◌∙◌, ◌∷◌, ◌++◌, true, false, cond, ap, append-nil, length, length-take-le, ℕ, List, subst, sym, take}
 use Rattle.std.specs.Prelude.{IfSome}
 use Rattle.std.specs.Fmt.{decimal}
-use Rattle.config_places.specs.Spots.{IsSpotOf, IsWithin}
+use Rattle.config_places.specs.Contents.{text_of}
+use Rattle.config_places.specs.Spots.{IsWithin, spot_of}
 use Rattle.config_places.specs.declared.spot.Spot.{Spot}
 use Rattle.config_places.specs.declared.spot.Spot.TheVariants.{Found, Missing}
 use Rattle.config_text.specs.Fault.{number_of}
 use Rattle.toml.specs.View.{view}
 use Rattle.config_text.specs.declared.fault.Code.{Code}
-use Rattle.explanations.specs.Standing.{bytes_before, place_behind, stand_text}
+use Rattle.explanations.specs.Standing.{bytes_before, place_behind, stand_at, stand_text}
 use Rattle.explanations.proofs.standing.with_stand.Goals as goal
 
 -- no more bytes stand before a spot than the text has
@@ -23,15 +24,17 @@ stand-is file line column place is =
 
 pub slice_bounds-before-end : goal.slice_bounds-before-end
 slice_bounds-before-end c =
-    let found = subst (λ o. IfSome o (IsWithin c.args.text.now)) c.in-Some.is c.in_ok-spot.ensures.within in
-    let within = subst (λ (n : ℕ). n ≤ length c.args.text.now) (sym c.bytes_before.ensures) (bound c.args.text.now c.args.code c.in-Some.spot found) in
-    sym (length-take-le c.bytes_before.result c.as_bytes.result.now (subst (λ (l : List ℕ). c.bytes_before.result ≤ length l) (sym c.as_bytes.ensures.value) within))
+    let text = text_of c.args.contents.now in
+    let found = subst (λ o. IfSome o (IsWithin text)) c.in-Some.is c.in_ok-spot.ensures.within in
+    let within = subst (λ (n : ℕ). n ≤ length text) (sym c.bytes_before.ensures) (bound text c.args.code c.in-Some.spot found) in
+    sym (length-take-le c.bytes_before.result c.as_bytes.result.now (subst (λ (l : List ℕ). c.bytes_before.result ≤ length l) (sym (c.as_bytes.ensures.value ∙ c.text.ensures)) within))
 
 pub returns : goal.returns
 returns c =
-    let text = c.args.text.now in
-    let found = subst (λ o. IfSome o (IsWithin text)) c.in-Some.is c.in_ok-spot.ensures.within in
-    let told = subst (λ o. IfSome o (IsSpotOf text c.args.place.now (view c.args.whole.now))) c.in-Some.is c.in_ok-spot.ensures.told in
+    let text = text_of c.args.contents.now in
+    let spot : spot_of text c.args.place.now (view c.args.whole.now) ≡ _ = sym c.in_ok-spot.ensures.spot ∙ c.in-Some.is in
     let before = bytes_before c.args.code c.in-Some.spot in
-    let at = c.position_behind-line.ensures ∙ ap (λ (l : List ℕ). place_behind 1 1 (take c.bytes_before.result l)) c.as_bytes.ensures.value ∙ ap (λ (n : ℕ). place_behind 1 1 (take n text)) c.bytes_before.ensures in
-    inr (c.in-Some.spot, told, found, c.in_ok-format.ensures.ok ∙ stand-is c.args.file.now _ _ (place_behind 1 1 (take before text)) at)
+    let at = c.position_behind-line.ensures ∙ ap (λ (l : List ℕ). place_behind 1 1 (take c.bytes_before.result l)) (c.as_bytes.ensures.value ∙ c.text.ensures) ∙ ap (λ (n : ℕ). place_behind 1 1 (take n text)) c.bytes_before.ensures in
+    c.in_ok-format.ensures.ok
+    ∙ stand-is c.args.file.now _ _ (place_behind 1 1 (take before text)) at
+    ∙ ap (stand_at c.args.file.now text c.args.code) (sym spot)

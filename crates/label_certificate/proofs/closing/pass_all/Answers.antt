@@ -1,6 +1,7 @@
-use Rattle.std.proofs.Common.{◌<◌, ◌∙◌, length, None, sym, subst, refl}
+use Rattle.std.proofs.Common.{◌≡◌, ◌<◌, ◌∙◌, ap, length, None, sym, subst}
 use Rattle.std.proofs.lemmas.List.{get_or_default}
 use Rattle.object_model.proofs.Positions.{in-at}
+use Rattle.label_certificate.specs.declared.arrows.Arrow.{Arrow}
 use Rattle.label_certificate.specs.Chains.{IsLast}
 use Rattle.label_certificate.specs.Closing.{arrow_at}
 use Rattle.label_certificate.proofs.Passing.{IsPassing}
@@ -12,22 +13,25 @@ pub pass-requires-clause-to : goal.pass-requires-clause-to
 pass-requires-clause-to c =
     let i = c.in-Some.number in
     let so_far = subst (IsPassing c.args.arrows.now c.args.from c.args.sets.now c.loop-next.sets c.args.waiting.now c.loop-next.waiting) c.in-Some.is c.loop-next.invariant in
-    subst (λ n. (arrow_at c.args.arrows.now i).to < n) (sym c.loop-next.auto.sets)
-    (c.requires.arrows (arrow_at c.args.arrows.now i) (in-at c.args.arrows.now i (record { from = 0; to = 0 }) so_far.there.0)).1
+    subst (λ n. c.at-to.result.to < n) (sym c.loop-next.auto.sets)
+    (subst (λ (a : Arrow). a.to < length c.args.sets.now) (sym c.at-to.ensures)
+    (c.requires.arrows (arrow_at c.args.arrows.now i) (in-at c.args.arrows.now i (record { from = 0; to = 0 }) so_far.there.0)).1)
 
 pub add-requires : goal.add-requires
 add-requires c =
     let i = c.in-Some.number in
     let so_far = subst (IsPassing c.args.arrows.now c.args.from c.args.sets.now c.loop-next.sets c.args.waiting.now c.loop-next.waiting) c.in-Some.is c.loop-next.invariant in
-    subst (λ n. (arrow_at c.args.arrows.now i).to < n) (sym (so_far.bound ∙ c.requires.bound))
-    (c.requires.arrows (arrow_at c.args.arrows.now i) (in-at c.args.arrows.now i (record { from = 0; to = 0 }) so_far.there.0)).1
+    subst (λ n. c.at-to.result.to < n) (sym (so_far.bound ∙ c.requires.bound))
+    (subst (λ (a : Arrow). a.to < length c.args.sets.now) (sym c.at-to.ensures)
+    (c.requires.arrows (arrow_at c.args.arrows.now i) (in-at c.args.arrows.now i (record { from = 0; to = 0 }) so_far.there.0)).1)
 
 pub loop-next-preserved : goal.loop-next-preserved
 loop-next-preserved c =
     let xs = c.args.arrows.now in
     let from = c.args.from in
     let i = c.in-Some.number in
-    let to = (arrow_at xs i).to in
+    let to = c.at-to.result.to in
+    let to-is : to ≡ (arrow_at xs i).to = ap (λ (a : Arrow). a.to) c.at-to.ensures in
     let old = c.args.sets.now in
     let sets = c.loop-next.sets in
     let new = c.pass.new.sets in
@@ -39,8 +43,8 @@ loop-next-preserved c =
     let last : IsLast xs (arrow_at xs i).from i next = subst (IsLast xs (arrow_at xs i).from i) (get_or_default c.args.chains.now.earlier.items i None next low ∙ sym c.index-next-in-Some.ensures) (c.requires.chained.of_arrows i low) in
     elim c.if-pass.branch [
       | then-pass+in_ok-add w' ↦ subst (λ v. IsPassing xs from old new before v next) (sym w'.waiting-is)
-          (passing-grown xs from i to old sets new before w w'.add.new.self next so_far refl last c.pass.ensures.above c.pass.ensures.least c.pass.ensures.passed c.pass.ensures.others
+          (passing-grown xs from i to old sets new before w w'.add.new.self next so_far to-is last c.pass.ensures.above c.pass.ensures.least c.pass.ensures.passed c.pass.ensures.others
           (c.pass.ensures.grown w'.if-pass.true) w'.in_ok-add.ensures)
       | else-pass w' ↦ subst (λ v. IsPassing xs from old new before v next) (sym w'.waiting-is)
-          (passing-still xs from i to old sets new before w next so_far refl last c.pass.ensures.passed (c.pass.ensures.still w'.if-pass.false))
+          (passing-still xs from i to old sets new before w next so_far to-is last c.pass.ensures.passed (c.pass.ensures.still w'.if-pass.false))
     ]

@@ -8,17 +8,19 @@ use Rattle.label_certificate.proofs.Listed.{listed_in_order}
 use Rattle.label_certificate.proofs.least.make_labels.Goals as goal
 use Rattle.label_certificate.proofs.least.make_labels.Goals.{In_ok-entries}
 
-pub flow_along-requires : goal.flow_along-requires
-flow_along-requires c =
+pub flow-requires : goal.flow-requires
+flow-requires c =
     let within = ap (λ t. t.cells) c.in_ok-table.ensures in
-    links-within c.in_ok-table.table.cells c.links-links.result.now (length c.deref.result.now) c.links-links.ensures.within
-    (ap length c.deref.ensures.value ∙ (c.in_ok-granted.ensures.size ∙ sym (ap length within)))
+    let each = sizes c.deref.result.now (λ label. label.influence) c.in_ok-influence_sets.field-0.items (ap length c.in_ok-influence_sets.ensures) in
+    links-within c.in_ok-table.table.cells c.links-links.result.now (length c.in_ok-influence_sets.field-0.items) c.links-links.ensures.within
+    (each ∙ (ap length c.deref.ensures.value ∙ (c.in_ok-granted.ensures.size ∙ sym (ap length within))))
 
-pub flow_against-requires : goal.flow_against-requires
-flow_against-requires c =
+pub flow-requires-2 : goal.flow-requires-2
+flow-requires-2 c =
     let within = ap (λ t. t.cells) c.in_ok-table.ensures in
-    links-within c.in_ok-table.table.cells c.links-links.result.now (length c.deref-2.result.now) c.links-links.ensures.within
-    (ap length c.deref-2.ensures.value ∙ (c.in_ok-granted.ensures.size ∙ sym (ap length within)))
+    let each = sizes c.deref-2.result.now (λ label. label.learn) c.in_ok-learn_sets.field-0.items (ap length c.in_ok-learn_sets.ensures) in
+    links-within c.in_ok-table.table.cells c.links-links.result.now (length c.in_ok-learn_sets.field-0.items) c.links-links.ensures.within
+    (each ∙ (ap length c.deref-2.ensures.value ∙ (c.in_ok-granted.ensures.size ∙ sym (ap length within))))
 
 -- the labels are those of the sets, for all cells of the plan
 labels-are : (c : In_ok-entries) → c.in_ok-entries.entries.items ≡ labels_of_sets (cells c.args.plan.now) c.in_ok-influence.influence.items c.in_ok-learn.learn.items
@@ -30,8 +32,8 @@ labels-are c =
 -- their cells are all of the plan's
 cells-are : (c : In_ok-entries) → map (λ entry. entry.0) c.in_ok-entries.entries.items ≡ cells c.args.plan.now
 cells-are c =
-    let influence = sizes c.deref.result.now (λ label. label.influence) c.in_ok-influence.influence.items c.in_ok-influence.ensures.size in
-    let learn = sizes c.deref-2.result.now (λ label. label.learn) c.in_ok-learn.learn.items c.in_ok-learn.ensures.size in
+    let influence = sizes c.deref.result.now (λ label. label.influence) c.in_ok-influence.influence.items (c.in_ok-influence.ensures.size ∙ ap length c.in_ok-influence_sets.ensures) in
+    let learn = sizes c.deref-2.result.now (λ label. label.learn) c.in_ok-learn.learn.items (c.in_ok-learn.ensures.size ∙ ap length c.in_ok-learn_sets.ensures) in
     let all = c.in_ok-granted.ensures.size in
     ap (map (λ entry. entry.0)) (labels-are c)
     ∙ labels-cells (cells c.args.plan.now) c.in_ok-influence.influence.items c.in_ok-learn.learn.items
@@ -56,8 +58,8 @@ returns-clause-least c =
     (subst (λ t. map (edge_at t.cells) links ≡ t.edges) is c.links-links.ensures.edges)
     (subst (λ xs. AreWithin xs links) (ap (λ t. t.cells) is) c.links-links.ensures.within)
     c.in_ok-granted.ensures
-    (subst (λ ls. AreClosed (map along links) (map (λ label. label.influence) ls) influence) c.deref.ensures.value c.in_ok-influence.ensures)
-    (subst (λ ls. AreClosed (map against links) (map (λ label. label.learn) ls) learn) c.deref-2.ensures.value c.in_ok-learn.ensures))
+    (subst (λ start. AreClosed (map along links) start influence) (c.in_ok-influence_sets.ensures ∙ ap (map (λ label. label.influence)) c.deref.ensures.value) c.in_ok-influence.ensures)
+    (subst (λ start. AreClosed (map against links) start learn) (c.in_ok-learn_sets.ensures ∙ ap (map (λ label. label.learn)) c.deref-2.ensures.value) c.in_ok-learn.ensures))
 
 pub returns-clause-cells : goal.returns-clause-cells
 returns-clause-cells c = let at = (goal.at.returns-clause-cells c).In_ok-entries in ap (map (λ entry. entry.0)) c.new.ensures ∙ cells-are at

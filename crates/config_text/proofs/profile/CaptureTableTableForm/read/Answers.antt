@@ -1,0 +1,9 @@
+use Rattle.config_text.specs.Classes.{capture_of}
+use Rattle.config_text.proofs.Readings.{faults_in_both, refused_on}
+use Rattle.config_text.proofs.profile.CaptureTableTableForm.read.Goals as goal
+
+pub returns-in_err-target : goal.returns-in_err-target
+unfolding capture_of
+returns-in_err-target c =
+    let all = c.in_err-target.ensures.faults _ _ c.target_of-target.ensures.1 c.optional_integer_at-data_index.ensures.1 in
+    refused_on _ _ _ _ c.from_residual.ensures (simp faults_in_both all)

@@ -1,6 +1,0 @@
-use Rattle.std.proofs.Common.{◌≡◌, map, take}
-use Rattle.label_certificate.specs.Least.{against}
-use Rattle.label_certificate.proofs.least.arrows_against.Given as goal
-
-abbrev pub invariant-loop-link : goal.invariant-loop-link
-invariant-loop-link l = l.arrows.items ≡ map against (take l.link-index l.links)
