@@ -422,6 +422,8 @@ where
     requires steps { blanks.steps.name ≡ N.steps }
     requires changes { blanks.changes.name ≡ N.changes }
     requires kept { AreKept (K.kept checked.plan kept.keeper) (P.left kept.past) }
+    // There is room for the reader of each seat, and for the driver's.
+    requires readers { non_zero_u16_get blanks.readers ≡ seats_for service.manners.seats service.sessions + 1 }
     ensures plan { IfOk result (λ closed. closed.plan ≡ checked) }
     ensures meter { IfOk result (λ closed. IsState checked.plan closed.meter) }
     ensures fault { IfErr result (λ fault. IsFaultBy G.may_give_up fault) }
