@@ -10,8 +10,8 @@ use Rattle.meter_theory.specs.Lists.{IsIn}
 use Rattle.meter_theory.specs.Plan.{Plan, cells, is_cell}
 use Rattle.meter_theory.specs.declared.flow.Label.{Label}
 use Rattle.meter_theory.proofs.Lists.{any_in, in_any}
+use Rattle.object_model.proofs.Positions.{in-at}
 use Rattle.flow_edges.specs.Table.{cell_at, no_cell}
-use Rattle.flow_changes.proofs.Lists.{in-at}
 
 -- Labels of another plan
 

@@ -3,7 +3,6 @@ pub mod Once
 pub mod Told
 pub mod RightsTold
 pub mod OwnFacts
-pub mod MarkPlaces
 pub mod EdgesLacked
 pub mod Labelled
 pub mod Named

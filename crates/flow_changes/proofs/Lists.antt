@@ -1,5 +1,5 @@
 -- Tests and filters of lists that are made of others.
-use Rattle.std.specs.Prelude.{◌≡◌, ℕ, zero, suc, ◌+◌, ◌<◌, Bool, true, false, ◌&&◌, ◌||◌, cond, List, [], ◌∷◌, ◌++◌, filter, flat_map, get_or, length, map, take}
+use Rattle.std.specs.Prelude.{◌≡◌, ℕ, ◌+◌, ◌<◌, Bool, true, false, ◌&&◌, ◌||◌, cond, List, [], ◌∷◌, ◌++◌, filter, flat_map, get_or, length, map, take}
 use Rattle.std.specs.List.{list_any}
 use Rattle.std.proofs.Common.{refl, sym, ap, ap₂, ◌∙◌, append_assoc, arith, inl, inr}
 use Rattle.std.proofs.lemmas.List.{append-nil, map-append, map_more, map_push}
@@ -101,12 +101,6 @@ flat_map-agree f g (x ∷ xs) h = ap₂ (λ a b. a ++ b) (h x (inl refl)) (flat_
 pub flat_map-of-map : {A B C : Type 0} (g : B → List C) (f : A → B) (xs : List A) → flat_map g (map f xs) ≡ flat_map (λ x. g (f x)) xs
 flat_map-of-map g f [] = refl
 flat_map-of-map g f (x ∷ xs) = ap (λ ys. g (f x) ++ ys) (flat_map-of-map g f xs)
-
--- what stands at a number is in the list
-pub in-at : {A : Type 0} (xs : List A) (i : ℕ) (d : A) → i < length xs → IsIn xs (get_or xs i d)
-in-at [] i d h = absurd (omega arith)
-in-at (x ∷ xs) zero d h = inl refl
-in-at (x ∷ xs) (suc i) d h = inr (in-at xs i d (omega arith))
 
 -- some element passes exactly where the filter leaves one
 pub any-of-filter : {A : Type 0} (p : A → Bool) (xs : List A) → (0 < length (filter p xs) → list_any p xs ≡ true) × (length (filter p xs) ≡ 0 → list_any p xs ≡ false)

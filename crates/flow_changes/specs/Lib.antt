@@ -4,6 +4,6 @@ pub mod Shown
 pub mod Sides
 pub mod Singles
 pub mod Differences
-pub mod Marks
+pub mod Lacked
 pub mod Promises
 pub mod Written

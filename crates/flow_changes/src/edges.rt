@@ -1,16 +1,15 @@
 //! Edges of one configuration that another lacks.
-ghost use Rattle.std.specs.Prelude.{◌≡◌, ◌++◌, ◌<◌, ◌≤◌, ◌*◌, IfOk, OnOk, filter, length, map, not};
+ghost use Rattle.std.specs.Prelude.{◌≡◌, ◌++◌, ◌<◌, IfOk, OnOk, filter, length, map, not};
 ghost use Rattle.std.specs.List.{list_any};
 ghost use Rattle.meter_theory.specs.Edges as theory;
 ghost use Rattle.meter_theory.specs.Plan as plans;
-ghost use Rattle.flow_edges.specs.Table.{edge_at, place_of};
+ghost use Rattle.flow_edges.specs.Table.{edge_at};
 ghost use Rattle.label_certificate.specs.LabelText.{cell_place};
 ghost use Rattle.label_certificate.specs.Least.{AreLinks};
 ghost use Rattle.flow_changes.specs.Facts.{HasEdge};
-ghost use Rattle.flow_changes.specs.Marks as spec;
+ghost use Rattle.flow_changes.specs.Lacked as spec;
 ghost use Rattle.flow_changes.specs.Shown.{shown};
 
-use crate::causes::CauseSet;
 use crate::fact::Fact;
 use cosem_data::cell::CellRef;
 use cosem_data::memory::Memory;
@@ -31,13 +30,10 @@ pub(crate) fn push_edges(
     ensures { OnOk result (map shown facts.new.items ≡ map shown facts.old.items ++ map HasEdge
         (filter (λ e. not (list_any (theory.same_edge e) (theory.edges other_plan.now))) table.now.edges)) }
 {
-    table.known();
     other.known();
     let cells = table.cells();
-    let count = other.cells().len();
     let numbers = numbers_in(alloc, other_plan, cells)?;
-    let marks = marks_of(alloc, count, other.links())?;
-    push_unmarked(cells, table.links(), &numbers, count, &marks, facts)
+    push_lacked(cells, table.links(), &numbers, other, facts)
 }
 
 /// The number that each of these cells has in a plan, or None where it is no cell of it.
@@ -51,68 +47,38 @@ fn numbers_in(alloc: Global, plan: &Plan, cells: &[CellRef]) -> Result<Vec<Optio
     Ok(numbers)
 }
 
-/// For each pair of so many cells, source by source, the causes of the links between them.
-fn marks_of(alloc: Global, count: usize, links: &[Link]) -> Result<Vec<CauseSet>, Memory>
-    requires few { count ≤ 2048 }
-    requires links { AreLinks count links.now }
-    ensures { IfOk result (λ marks. spec.AreMarks count links.now marks.items) }
-{
-    let mut marks = vec![in alloc; CauseSet::new(); count * count]?;
-    for link in links {
-        let place = place_of(count, *link);
-        marks[place] = marks[place].with(link.cause);
-    }
-    Ok(marks)
-}
-
-/// Where the causes of the links between the cells of a link stand.
-fn place_of(count: usize, link: Link) -> usize
-    requires few { count ≤ 2048 }
-    requires source { link.source < count }
-    requires target { link.target < count }
-    ensures place { result ≡ place_of count link }
-    ensures within { result < count * count }
-{
-    link.source * count + link.target
-}
-
-/// Puts the edge of each of these links behind facts that has no mark where its cells have these numbers.
-fn push_unmarked(
+/// Puts the edge of each of these links behind facts that another table hasn't, where its cells have these numbers there.
+fn push_lacked(
     cells: &[CellRef],
     links: &[Link],
     numbers: &[Option<u16>],
-    count: usize,
-    marks: &[CauseSet],
+    other: &EdgeTable,
     facts: &mut Vec<Fact<'_>>,
 ) -> Result<(), Memory>
-    requires few { count ≤ 2048 }
     requires cells { length cells.now ≡ length numbers.now }
     requires links { AreLinks (length numbers.now) links.now }
-    requires numbers { spec.AreBelow count numbers.now }
-    requires marks { length marks.now ≡ count * count }
+    requires numbers { spec.AreBelow (length other.now.cells) numbers.now }
     ensures { OnOk result (map shown facts.new.items ≡ map shown facts.old.items
         ++ map (λ l. HasEdge (edge_at cells.now l))
-        (filter (λ l. not (spec.is_marked numbers.now count marks.now l)) links.now)) }
+        (filter (λ l. not (spec.is_there numbers.now other.now l)) links.now)) }
 {
     for link in links {
-        if !is_marked(numbers, count, marks, *link) {
+        if !is_there(numbers, other, *link) {
             facts.push(Fact::HasEdge(edge_between(cells, *link)))?;
         }
     }
     Ok(())
 }
 
-/// Whether a link has a mark where its cells have these numbers.
-fn is_marked(numbers: &[Option<u16>], count: usize, marks: &[CauseSet], link: Link) -> bool
-    requires few { count ≤ 2048 }
+/// Whether another table has the edge of a link, where its cells have these numbers there.
+fn is_there(numbers: &[Option<u16>], other: &EdgeTable, link: Link) -> bool
     requires source { link.source < length numbers.now }
     requires target { link.target < length numbers.now }
-    requires numbers { spec.AreBelow count numbers.now }
-    requires marks { length marks.now ≡ count * count }
-    ensures { result ≡ spec.is_marked numbers.now count marks.now link }
+    requires numbers { spec.AreBelow (length other.now.cells) numbers.now }
+    ensures { result ≡ spec.is_there numbers.now other.now link }
 {
     match there(numbers, link) {
-        Some(link) => marks[place_of(count, link)].has(link.cause),
+        Some(link) => other.has(link),
         None => false,
     }
 }

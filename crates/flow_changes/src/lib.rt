@@ -8,7 +8,6 @@
 //! - [`compare::compare`] tells how two configurations differ, and [`compare::write_comparison`] writes it.
 #![tactic(auto)]
 
-mod causes;
 mod cells;
 mod clients;
 pub mod compare;

@@ -11,7 +11,7 @@ use crate::namesakes::Namesakes;
 use cosem_data::cell::CellRef;
 use cosem_data::clients::ClientSet;
 use cosem_data::memory::Memory;
-use flow_ways::ends::set_for;
+use label_certificate::label_sets::set_for;
 use meter_theory::flow::Reach;
 
 /// Puts a fact behind others for each of these cells that a client influences and the other, if it is one, doesn't, then for

@@ -11,11 +11,13 @@ use Rattle.cosem_data.specs.Cells.{same_cell}
 use Rattle.cosem_data.specs.declared.cell.CellRef.{CellRef}
 use Rattle.cosem_data.proofs.Same.{same_cell-refl}
 use Rattle.meter_theory.specs.Edges.{same_cause, same_edge}
+use Rattle.meter_theory.specs.Lists.{IsIn}
+use Rattle.object_model.proofs.Positions.{in-at}
 use Rattle.flow_edges.specs.declared.table.Link.{Link}
 use Rattle.meter_theory.specs.declared.flow.Cause.{Cause}
 use Rattle.flow_edges.specs.Causes.{has_cause}
 use Rattle.flow_edges.specs.declared.causes.Causes.{Causes}
-use Rattle.flow_edges.specs.Table.{cell_at, edge_at, place_of, AreCells, AreWithin, CellEdges, IsLink, IsMarked}
+use Rattle.flow_edges.specs.Table.{cell_at, edge_at, no_cell, place_of, AreBetween, AreCells, AreWithin, CellEdges, IsLink, IsMarked}
 use Rattle.flow_edges.specs.Gather.{add_edge}
 use Rattle.flow_edges.proofs.Gathered.{joined}
 
@@ -41,6 +43,13 @@ pub place_within : (n s t : ℕ) → s < n → t < n → s * n + t < n * n
 place_within n s t q r =
     let row : suc s ≤ n = omega arith in
     omega (arith, mul-le-mul_right n row)
+
+-- edges of links within a list are between its cells
+pub between : (cells : List CellRef) (links : List Link) → AreWithin cells links → AreBetween cells (map (edge_at cells) links)
+between cells [] w e i = absurd i
+between cells (l ∷ links) w e (inl is) =
+    (subst (λ f. IsIn cells f.source) (sym is) (in-at cells l.source no_cell w.0.0), subst (λ f. IsIn cells f.target) (sym is) (in-at cells l.target no_cell w.0.1))
+between cells (l ∷ links) w e (inr i) = between cells links w.1 e i
 
 both-true : (a b c : Bool) → b ≡ true → c ≡ true → (a && (b && c)) ≡ a
 both-true true true true x y = refl

@@ -1,9 +1,10 @@
 -- Edges between the cells of a list, by their numbers, and the marks that tell which were found.
-use Rattle.std.specs.Prelude.{◌≡◌, ℕ, ◌+◌, ◌*◌, ◌<◌, ◌≤◌, true, List, [], ◌∷◌, length, get_or, map}
+use Rattle.std.specs.Prelude.{◌≡◌, ℕ, ◌+◌, ◌*◌, ◌<◌, ◌≤◌, Bool, true, List, [], ◌∷◌, length, get_or, map}
 use Rattle.std.specs.List.{list_any}
 use Rattle.cosem_data.specs.Cells.{cell, same_cell}
 use Rattle.cosem_data.specs.declared.cell.CellRef.{CellRef}
 use Rattle.meter_theory.specs.Edges.{edge, same_edge}
+use Rattle.meter_theory.specs.Lists.{IsIn}
 use Rattle.meter_theory.specs.declared.flow.Edge.{Edge}
 use Rattle.meter_theory.specs.declared.limits.TheConstants.{OBJECTS}
 use Rattle.flow_edges.specs.Causes.{has_cause}
@@ -26,6 +27,14 @@ cell_at cells i = get_or cells i no_cell
 -- the edge that a link between numbers stands for: own profile
 abbrev pub edge_at : List CellRef → Link → Edge
 edge_at cells l = edge l.cause (cell_at cells l.source) (cell_at cells l.target)
+
+-- an edge with its cause stands between the cells with its numbers: own profile
+abbrev pub has_link : CellEdges → Link → Bool
+has_link t l = list_any (same_edge (edge_at t.cells l)) t.edges
+
+-- each edge is between cells of the list: own profile
+abbrev pub AreBetween : List CellRef → List Edge → Type 0
+AreBetween cells edges = (e : Edge) → IsIn edges e → IsIn cells e.source × IsIn cells e.target
 
 -- where the mark of a link stands among those of n cells, one for each pair: own profile
 abbrev pub place_of : ℕ → Link → ℕ

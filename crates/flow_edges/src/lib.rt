@@ -3,6 +3,7 @@
 
 mod causes;
 pub mod edges;
+pub mod ends;
 mod marks;
 mod script_changes;
 pub mod table;

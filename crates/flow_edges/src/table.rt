@@ -1,7 +1,7 @@
 //! Edges between the cells of a list, each once, by a table of marks that tells which have been found.
-ghost use Rattle.std.specs.Prelude.{◌≡◌, ◌<◌, OnOk, OnErr, IfOk, length, map, []};
+ghost use Rattle.std.specs.Prelude.{◌≡◌, ◌<◌, ◌≤◌, ◌*◌, OnOk, OnErr, IfOk, length, map, []};
 ghost use Rattle.flow_edges.specs.Gather.{add_edge};
-ghost use Rattle.flow_edges.specs.Table.{edge_at, AreCells, AreWithin, IsLink};
+ghost use Rattle.flow_edges.specs.Table.{edge_at, has_link, place_of, AreBetween, AreCells, AreWithin, IsLink};
 
 use crate::causes::Causes;
 use cosem_data::cell::CellRef;
@@ -60,9 +60,10 @@ impl EdgeTable {
         })
     }
 
-    /// What the type keeps, for callers: no cell stands twice, and there are few.
+    /// What the type keeps, for callers: no cell stands twice, there are few, and edges are between them.
     pub fn known(&self)
-        ensures { AreCells self.now.cells }
+        ensures cells { AreCells self.now.cells }
+        ensures edges { AreBetween self.now.cells self.now.edges }
     {
         let _cells = &self.cells;
     }
@@ -80,6 +81,14 @@ impl EdgeTable {
         ensures within { AreWithin self.now.cells result.now }
     {
         &self.links
+    }
+
+    /// Whether the edge that a link stands for is one of them.
+    pub fn has(&self, link: Link) -> bool
+        requires { IsLink self.now.cells link }
+        ensures { result ≡ has_link self.now link }
+    {
+        self.marks[place_of(self.cells.len(), link)].has(link.cause)
     }
 
     /// The edges, by the names of their cells. The only error is want of memory.
@@ -101,19 +110,31 @@ impl EdgeTable {
         }) }
         ensures err { OnErr result (self.new ≡ self.old) }
     {
-        let place = source * self.cells.len() + target;
+        let link = Link {
+            source,
+            target,
+            cause,
+        };
+        let place = place_of(self.cells.len(), link);
         let found = self.marks[place];
         if found.has(cause) {
             return Ok(());
         }
-        self.links.push(Link {
-            source,
-            target,
-            cause,
-        })?;
+        self.links.push(link)?;
         self.marks[place] = found.with(cause);
         Ok(())
     }
+}
+
+/// Where the mark of a link stands among those of so many cells.
+fn place_of(count: usize, link: Link) -> usize
+    requires few { count ≤ 2048 }
+    requires source { link.source < count }
+    requires target { link.target < count }
+    ensures place { result ≡ place_of count link }
+    ensures within { result < count * count }
+{
+    link.source * count + link.target
 }
 
 /// The edges that links stand for.

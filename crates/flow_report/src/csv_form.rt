@@ -11,10 +11,10 @@ ghost use Rattle.flow_report.specs.Csv.{AreWritten, IsBetween, IsCsv, client_nam
 use cosem_data::cell::CellRef;
 use cosem_data::memory::Memory;
 use csv::{Writer, WriterBuilder};
-use flow_ways::ends::set_for;
 use flow_ways::ways::Ways;
 use flow_ways::why::reach_word;
 use label_certificate::numbered::policy_labels;
+use label_certificate::label_sets::set_for;
 use meter_theory::flow::{Label, Reach};
 use object_model::policy::Policy;
 use std::alloc::Global;

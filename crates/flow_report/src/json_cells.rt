@@ -14,10 +14,10 @@ use crate::json_values::{client_name, push_text, push_value, put_member, put_tex
 use cosem_data::cell::CellRef;
 use cosem_data::clients::ClientSet;
 use cosem_data::memory::Memory;
-use flow_ways::ends::set_for;
 use flow_ways::ways::Ways;
 use flow_ways::why::reach_word;
 use label_certificate::numbered::policy_labels;
+use label_certificate::label_sets::set_for;
 use meter_theory::flow::{Label, Reach};
 use object_model::plan::Plan;
 use object_model::policy::Policy;

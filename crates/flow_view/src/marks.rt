@@ -10,10 +10,10 @@ use crate::facts::Facts;
 use cosem_data::memory::Memory;
 use flow_changes::kind::Change;
 use flow_page::matrix::Found;
-use flow_ways::ends::set_for;
 use flow_ways::granting::{GrantedRequest, shown_request};
 use flow_ways::ways::Ways;
 use flow_ways::why::way_end;
+use label_certificate::label_sets::set_for;
 use meter_theory::flow::{Edge, Label, Reach};
 use std::alloc::Global;
 

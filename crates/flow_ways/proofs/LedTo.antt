@@ -16,7 +16,7 @@ use Rattle.flow_edges.specs.Table.{AreWithin, cell_at, edge_at}
 use Rattle.flow_edges.specs.declared.table.Link.{Link}
 use Rattle.flow_edges.proofs.Sources.{are-cells}
 use Rattle.flow_ways.specs.Arriving.{AreArriving, AreEdgesTo, FindsAllTo}
-use Rattle.flow_ways.specs.Ends.{far_of}
+use Rattle.flow_edges.specs.Ends.{far_of}
 use Rattle.flow_ways.specs.Rounds.{AreLinksOf}
 use Rattle.flow_ways.proofs.Reached.{far-cell-at, far-low, same-numbers}
 

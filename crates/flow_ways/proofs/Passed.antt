@@ -13,7 +13,7 @@ use Rattle.meter_theory.specs.declared.flow.Reach.TheVariants.{Influence, Learn}
 use Rattle.flow_edges.specs.declared.table.Link.{Link}
 use Rattle.label_certificate.specs.Closing.{set_at}
 use Rattle.label_certificate.specs.Least.{AreLinks}
-use Rattle.flow_ways.specs.Ends.{far_of, near_of}
+use Rattle.flow_edges.specs.Ends.{far_of, near_of}
 use Rattle.flow_ways.specs.Rounds.{IsAdded, IsRound, leads}
 
 -- a link that no table has

@@ -21,7 +21,7 @@ use Rattle.label_certificate.specs.Granted.{AreGranted, label_in}
 use Rattle.label_certificate.specs.Least.{AreLinks}
 use Rattle.label_certificate.proofs.Closed.{item_at, link_in, place_in}
 use Rattle.meter_theory.proofs.Rounds.{IsStill}
-use Rattle.flow_ways.specs.Ends.{far_of, near_of}
+use Rattle.flow_edges.specs.Ends.{far_of, near_of}
 use Rattle.flow_ways.specs.Rounds.{AreLinksOf, AreReached, FollowsRound, IsRound, leads}
 
 -- tests that pass together are one

@@ -13,7 +13,7 @@ use Rattle.meter_theory.proofs.Rounds.{later, near-cell, within-way}
 use Rattle.meter_theory.proofs.Ways.{distance-first, first-distance, led-first, nearer-first}
 use Rattle.flow_edges.specs.Table.{AreCells, IsLink, cell_at, edge_at}
 use Rattle.flow_edges.specs.declared.table.Link.{Link}
-use Rattle.flow_ways.specs.Ends.{far_of, near_of}
+use Rattle.flow_edges.specs.Ends.{far_of, near_of}
 use Rattle.flow_ways.specs.Kept.{leads_within}
 use Rattle.flow_ways.proofs.Reached.{far-cell-at, far-low, near-cell-at, near-low, same-numbers, same-test}
 

@@ -9,7 +9,7 @@ use Rattle.meter_theory.specs.declared.flow.Edge.{Edge}
 use Rattle.meter_theory.specs.declared.flow.Reach.{Reach}
 use Rattle.flow_edges.specs.Table.{AreWithin, cell_at, edge_at}
 use Rattle.flow_edges.specs.declared.table.Link.{Link}
-use Rattle.flow_ways.specs.Ends.{far_of}
+use Rattle.flow_edges.specs.Ends.{far_of}
 
 -- for each of n cells the links that lead to it, in their order: own profile
 pub record AreArriving (reach : Reach) (n : ℕ) (links : List Link) (lists : List (List Link)) : Type 0 where

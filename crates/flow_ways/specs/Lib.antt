@@ -1,4 +1,3 @@
-pub mod Ends
 pub mod Rounds
 pub mod Arriving
 pub mod Distances

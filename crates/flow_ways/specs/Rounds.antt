@@ -10,7 +10,7 @@ use Rattle.meter_theory.specs.Edges.{edges}
 use Rattle.flow_edges.specs.Table.{AreWithin, cell_at, edge_at}
 use Rattle.flow_edges.specs.declared.table.Link.{Link}
 use Rattle.label_certificate.specs.Closing.{set_at}
-use Rattle.flow_ways.specs.Ends.{far_of, near_of}
+use Rattle.flow_edges.specs.Ends.{far_of, near_of}
 
 -- the set with this number has more these clients, and no other set has changed: own profile
 pub record IsAdded (given : ClientSet) (number : ℕ) (old new : List ClientSet) : Type 0 where

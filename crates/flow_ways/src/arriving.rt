@@ -3,8 +3,8 @@ ghost use Rattle.std.specs.Prelude.{◌≡◌, [], IfOk, map, replicate};
 ghost use Rattle.label_certificate.specs.Least.{AreLinks};
 ghost use Rattle.flow_ways.specs.Arriving.{AreArriving};
 
-use crate::ends::far_of;
 use cosem_data::memory::Memory;
+use flow_edges::ends::far_of;
 use flow_edges::table::Link;
 use meter_theory::flow::Reach;
 use std::alloc::Global;

@@ -6,10 +6,11 @@ ghost use Rattle.label_certificate.specs.Granted.{AreGranted};
 ghost use Rattle.flow_ways.specs.Distances.{AreDistances, AreNoted, IsCellNoted};
 ghost use Rattle.flow_ways.specs.Rounds.{AreLinksOf, AreReached};
 
-use crate::rounds::{next_round, sets_for};
+use crate::rounds::next_round;
 use cosem_data::clients::ClientSet;
 use cosem_data::memory::Memory;
 use flow_edges::table::{EdgeTable, Link};
+use label_certificate::label_sets::sets_for;
 use meter_theory::flow::{Label, Reach};
 use meter_theory::limits::CLIENTS;
 use object_model::plan::Plan;

@@ -9,7 +9,6 @@
 pub mod access;
 mod arriving;
 mod distances;
-pub mod ends;
 pub mod granting;
 pub mod laws;
 mod rounds;

@@ -1,32 +1,16 @@
 //! Sets of clients, round by round.
-ghost use Rattle.std.specs.Prelude.{◌≡◌, ◌<◌, false, length, map, option_map, IfOk};
-ghost use Rattle.meter_theory.specs.Ways.{set_for};
+ghost use Rattle.std.specs.Prelude.{◌≡◌, ◌<◌, false, length, option_map, IfOk};
 ghost use Rattle.label_certificate.specs.Least.{AreLinks};
 ghost use Rattle.label_certificate.specs.Closing.{set_at};
-ghost use Rattle.flow_ways.specs.Ends.{far_of, near_of};
+ghost use Rattle.flow_edges.specs.Ends.{far_of, near_of};
 ghost use Rattle.flow_ways.specs.Rounds.{FollowsRound, IsAdded, IsRound};
 
-use crate::ends::{far_of, near_of, set_for};
 use cosem_data::clients::ClientSet;
 use cosem_data::memory::Memory;
+use flow_edges::ends::{far_of, near_of};
 use flow_edges::table::Link;
-use meter_theory::flow::{Label, Reach};
+use meter_theory::flow::Reach;
 use std::alloc::Global;
-
-/// The clients of each label that have this reach.
-pub(crate) fn sets_for(
-    alloc: Global,
-    reach: Reach,
-    labels: &[Label],
-) -> Result<Vec<ClientSet>, Memory>
-    ensures { IfOk result (λ sets. sets.items ≡ map (set_for reach) labels.now) }
-{
-    let mut sets = Vec::with_capacity(alloc, labels.len())?;
-    for label in labels {
-        sets.push(set_for(reach, *label))?;
-    }
-    Ok(sets)
-}
 
 /// The sets one round later, unless they would stay as they are: each has more the clients of every set from which a link leads
 /// to it.

@@ -12,10 +12,10 @@ ghost use Rattle.flow_ways.specs.Kept.{IsShown, leads_within};
 
 use crate::arriving::arriving;
 use crate::distances::distances;
-use crate::ends::{far_of, near_of};
 use cosem_data::cell::CellRef;
 use cosem_data::memory::Memory;
 use flow_edges::edges::edge_table;
+use flow_edges::ends::{far_of, near_of};
 use flow_edges::table::{EdgeTable, Link, edge_between};
 use label_certificate::granted::granted_labels;
 use meter_theory::flow::{Edge, Reach};

@@ -6,12 +6,13 @@ ghost use Rattle.flow_edges.specs.Table.{cell_at};
 ghost use Rattle.flow_ways.specs.Why as spec;
 ghost use Rattle.flow_ways.specs.Why.{IsBlockPut, IsWhy};
 
-use crate::ends::{near_end, set_for};
 use crate::granting::{GrantedRequest, shown_request};
 use crate::ways::Ways;
 use cosem_data::cell::{CellRef, MethodRef};
 use cosem_data::memory::Memory;
+use flow_edges::ends::near_end;
 use label_certificate::numbered::source_of;
+use label_certificate::label_sets::set_for;
 use meter_theory::flow::{Edge, Reach};
 use meter_theory::limits::CLIENTS;
 use object_model::plan::Plan;

@@ -26,10 +26,11 @@ use Rattle.label_certificate.specs.Closing.{Below, IsClosedBy, set_at}
 use Rattle.meter_theory.proofs.ClientSets.{nobody_in}
 use Rattle.std.proofs.lemmas.Bool.{false≢true}
 use Rattle.label_certificate.specs.declared.arrows.Arrow.{Arrow}
-use Rattle.label_certificate.specs.declared.arrows.Direction.{Direction}
-use Rattle.label_certificate.specs.declared.arrows.Direction.TheVariants.{Along, Against}
+use Rattle.meter_theory.specs.Ways.{set_for}
+use Rattle.meter_theory.specs.declared.flow.Reach.{Reach}
+use Rattle.meter_theory.specs.declared.flow.Reach.TheVariants.{Influence, Learn}
 use Rattle.label_certificate.specs.Granted.{AreGranted, label_in}
-use Rattle.label_certificate.specs.Least.{AreClosed, AreLinks, against, along, arrow_of, labels_of_sets}
+use Rattle.label_certificate.specs.Least.{AreClosed, AreLinks, arrow_of, labels_of_sets}
 
 -- the place of an element
 pub place_in : (xs : List CellRef) (x : CellRef) → IsIn xs x → (k : ℕ) × (k < length xs) × (cell_at xs k ≡ x)
@@ -80,16 +81,16 @@ has-nobody c h = absurd (false≢true (sym (nobody_in c) ∙ h))
 
 module _ (P : Plan) (sound : IsSound P) (are : AreCells (cells P)) (links : List Link) (granted : List Label) (influence learn : List ClientSet)
     (linked : map (edge_at (cells P)) links ≡ edges P) (inside : AreWithin (cells P) links) (g : AreGranted P granted)
-    (i : AreClosed (map along links) (map (λ l. l.influence) granted) influence)
-    (l : AreClosed (map against links) (map (λ l. l.learn) granted) learn) where
+    (i : AreClosed (map (arrow_of Influence) links) (map (set_for Influence) granted) influence)
+    (l : AreClosed (map (arrow_of Learn) links) (map (set_for Learn) granted) learn) where
   abbrev pub labels : Labels
   labels = labels_of_sets (cells P) influence learn
 
   influence_size : length influence ≡ length (cells P)
-  influence_size = i.size ∙ (length-map granted (λ l. l.influence) ∙ g.size)
+  influence_size = i.size ∙ (length-map granted (set_for Influence) ∙ g.size)
 
   learn_size : length learn ≡ length (cells P)
-  learn_size = l.size ∙ (length-map granted (λ l. l.learn) ∙ g.size)
+  learn_size = l.size ∙ (length-map granted (set_for Learn) ∙ g.size)
 
   sets_of : (k : ℕ) → k < length (cells P) → label_at labels (cell_at (cells P) k) ≡ Some (record { influence = set_at influence k; learn = set_at learn k })
   sets_of k h = labelled-at (cells P) influence learn k are.apart h influence_size learn_size
@@ -97,11 +98,11 @@ module _ (P : Plan) (sound : IsSound P) (are : AreCells (cells P)) (links : List
   label_is : (k : ℕ) → k < length (cells P) → labelling_of labels (cell_at (cells P) k) ≡ record { influence = set_at influence k; learn = set_at learn k }
   label_is k h = ap (or_else (record { influence = nobody; learn = nobody })) (sets_of k h)
 
-  begun_influence : (k : ℕ) → k < length (cells P) → set_at (map (λ l. l.influence) granted) k ≡ (label_in granted k).influence
-  begun_influence k h = get_or-map (λ l. l.influence) granted k (record { influence = nobody; learn = nobody }) nobody (subst (λ n. k < n) (sym g.size) h)
+  begun_influence : (k : ℕ) → k < length (cells P) → set_at (map (set_for Influence) granted) k ≡ (label_in granted k).influence
+  begun_influence k h = get_or-map (set_for Influence) granted k (record { influence = nobody; learn = nobody }) nobody (subst (λ n. k < n) (sym g.size) h)
 
-  begun_learn : (k : ℕ) → k < length (cells P) → set_at (map (λ l. l.learn) granted) k ≡ (label_in granted k).learn
-  begun_learn k h = get_or-map (λ l. l.learn) granted k (record { influence = nobody; learn = nobody }) nobody (subst (λ n. k < n) (sym g.size) h)
+  begun_learn : (k : ℕ) → k < length (cells P) → set_at (map (set_for Learn) granted) k ≡ (label_in granted k).learn
+  begun_learn k h = get_or-map (set_for Learn) granted k (record { influence = nobody; learn = nobody }) nobody (subst (λ n. k < n) (sym g.size) h)
 
   -- an edge is a link between numbers
   link_of : (e : Edge) → IsEdge P e → (k : Link) × IsIn links k × IsLink (cells P) k × (e ≡ edge_at (cells P) k)
@@ -132,12 +133,12 @@ module _ (P : Plan) (sound : IsSound P) (are : AreCells (cells P)) (links : List
         subst (λ z. within (labelling_of labels z.source).influence (labelling_of labels z.target).influence ≡ true) (sym k.3)
         (subst (λ z. within z.influence (labelling_of labels (cell_at (cells P) k.0.target)).influence ≡ true) (sym (label_is k.0.source k.2.0))
         (subst (λ z. within (set_at influence k.0.source) z.influence ≡ true) (sym (label_is k.0.target k.2.1))
-        (within_from (set_at influence k.0.source) (set_at influence k.0.target) (i.closed (along k.0) (in_map along links k.0 k.1)))));
+        (within_from (set_at influence k.0.source) (set_at influence k.0.target) (i.closed (arrow_of Influence k.0) (in_map (arrow_of Influence) links k.0 k.1)))));
     learn_flows = λ e is. let k = link_of e is in
         subst (λ z. within (labelling_of labels z.target).learn (labelling_of labels z.source).learn ≡ true) (sym k.3)
         (subst (λ z. within z.learn (labelling_of labels (cell_at (cells P) k.0.source)).learn ≡ true) (sym (label_is k.0.target k.2.1))
         (subst (λ z. within (set_at learn k.0.target) z.learn ≡ true) (sym (label_is k.0.source k.2.0))
-        (within_from (set_at learn k.0.target) (set_at learn k.0.source) (l.closed (against k.0) (in_map against links k.0 k.1)))));
+        (within_from (set_at learn k.0.target) (set_at learn k.0.source) (l.closed (arrow_of Learn k.0) (in_map (arrow_of Learn) links k.0 k.1)))));
   }
 
   module _ (others : Labels) (o : Covers P others) where
@@ -153,25 +154,25 @@ module _ (P : Plan) (sound : IsSound P) (are : AreCells (cells P)) (links : List
     learn_is : (k : ℕ) → k < length (cells P) → set_at other_learn k ≡ (labelling_of others (cell_at (cells P) k)).learn
     learn_is k h = get_or-map (λ x. (labelling_of others x).learn) (cells P) k (cell_at [] 0) nobody h
 
-    influence_closed : IsClosedBy (map along links) other_influence
+    influence_closed : IsClosedBy (map (arrow_of Influence) links) other_influence
     influence_closed a there c h =
-        let k = from_map along links a there in
+        let k = from_map (arrow_of Influence) links a there in
         let w = link_in (cells P) links k.0 inside k.1 in
         subst (λ z. has_client (set_at other_influence z.to) c ≡ true) (sym k.2)
         (subst (λ s. has_client s c ≡ true) (sym (influence_is k.0.target w.1))
         (within_has (labelling_of others (cell_at (cells P) k.0.source)).influence (labelling_of others (cell_at (cells P) k.0.target)).influence (o.influence_flows (edge_at (cells P) k.0) (edge_of k.0 k.1)) c
         (subst (λ s. has_client s c ≡ true) (influence_is k.0.source w.0) (subst (λ z. has_client (set_at other_influence z.from) c ≡ true) k.2 h))))
 
-    learn_closed : IsClosedBy (map against links) other_learn
+    learn_closed : IsClosedBy (map (arrow_of Learn) links) other_learn
     learn_closed a there c h =
-        let k = from_map against links a there in
+        let k = from_map (arrow_of Learn) links a there in
         let w = link_in (cells P) links k.0 inside k.1 in
         subst (λ z. has_client (set_at other_learn z.to) c ≡ true) (sym k.2)
         (subst (λ s. has_client s c ≡ true) (sym (learn_is k.0.source w.0))
         (within_has (labelling_of others (cell_at (cells P) k.0.target)).learn (labelling_of others (cell_at (cells P) k.0.source)).learn (o.learn_flows (edge_at (cells P) k.0) (edge_of k.0 k.1)) c
         (subst (λ s. has_client s c ≡ true) (learn_is k.0.target w.1) (subst (λ z. has_client (set_at other_learn z.from) c ≡ true) k.2 h))))
 
-    influence_above : Below (map (λ l. l.influence) granted) other_influence
+    influence_above : Below (map (set_for Influence) granted) other_influence
     influence_above k c h = at (less_or_not k (length (cells P)))
       where
         at : (k < length (cells P)) ⊎ (length (cells P) < suc k) → has_client (set_at other_influence k) c ≡ true
@@ -179,9 +180,9 @@ module _ (P : Plan) (sound : IsSound P) (are : AreCells (cells P)) (links : List
             subst (λ s. has_client s c ≡ true) (sym (influence_is k less))
             (o.changers c (cell_at (cells P) k) (((g.each k less).influence c).0 (subst (λ s. has_client s c ≡ true) (begun_influence k less) h)))
         at (inr past) = absurd (has-nobody c (subst (λ s. has_client s c ≡ true)
-            (past-nobody (map (λ l. l.influence) granted) k (subst (λ n. n < suc k) (sym (length-map granted (λ l. l.influence) ∙ g.size)) past)) h))
+            (past-nobody (map (set_for Influence) granted) k (subst (λ n. n < suc k) (sym (length-map granted (set_for Influence) ∙ g.size)) past)) h))
 
-    learn_above : Below (map (λ l. l.learn) granted) other_learn
+    learn_above : Below (map (set_for Learn) granted) other_learn
     learn_above k c h = at (less_or_not k (length (cells P)))
       where
         at : (k < length (cells P)) ⊎ (length (cells P) < suc k) → has_client (set_at other_learn k) c ≡ true
@@ -189,7 +190,7 @@ module _ (P : Plan) (sound : IsSound P) (are : AreCells (cells P)) (links : List
             subst (λ s. has_client s c ≡ true) (sym (learn_is k less))
             (o.readers c (cell_at (cells P) k) (item_at (cells P) k less) (sym ((g.each k less).learn c) ∙ subst (λ s. has_client s c ≡ true) (begun_learn k less) h))
         at (inr past) = absurd (has-nobody c (subst (λ s. has_client s c ≡ true)
-            (past-nobody (map (λ l. l.learn) granted) k (subst (λ n. n < suc k) (sym (length-map granted (λ l. l.learn) ∙ g.size)) past)) h))
+            (past-nobody (map (set_for Learn) granted) k (subst (λ n. n < suc k) (sym (length-map granted (set_for Learn) ∙ g.size)) past)) h))
 
     least_influence : (k : ℕ) → k < length (cells P) → within (set_at influence k) (labelling_of others (cell_at (cells P) k)).influence ≡ true
     least_influence k h = within_from (set_at influence k) (labelling_of others (cell_at (cells P) k)).influence
@@ -233,9 +234,9 @@ pub links-within : (cs : List CellRef) (links : List Link) (n : ℕ) → AreWith
 links-within cs links n w e l there = let k = link_in cs links l w there in (subst (λ m. l.source < m) (sym e) k.0, subst (λ m. l.target < m) (sym e) k.1)
 
 -- an arrow of such links is between the same numbers
-pub arrows-within : (direction : Direction) (links : List Link) (n : ℕ) → AreLinks n links → (a : Arrow) → IsIn (map (arrow_of direction) links) a → (a.from < n) × (a.to < n)
-arrows-within Along links n h a there = let k = from_map along links a there in subst (λ z. (z.from < n) × (z.to < n)) (sym k.2) (h k.0 k.1)
-arrows-within Against links n h a there = let k = from_map against links a there in let ends = h k.0 k.1 in subst (λ z. (z.from < n) × (z.to < n)) (sym k.2) (ends.1, ends.0)
+pub arrows-within : (reach : Reach) (links : List Link) (n : ℕ) → AreLinks n links → (a : Arrow) → IsIn (map (arrow_of reach) links) a → (a.from < n) × (a.to < n)
+arrows-within Influence links n h a there = let k = from_map (arrow_of Influence) links a there in subst (λ z. (z.from < n) × (z.to < n)) (sym k.2) (h k.0 k.1)
+arrows-within Learn links n h a there = let k = from_map (arrow_of Learn) links a there in let ends = h k.0 k.1 in subst (λ z. (z.from < n) × (z.to < n)) (sym k.2) (ends.1, ends.0)
 
 -- the same of a list to which the label was pushed
 pub pushed-more : (xs : List CellRef) (is ls : List ClientSet) (k : ℕ) (e : CellRef × Label) (old new : Labels) → k < length xs → length is ≡ length xs → length ls ≡ length xs →
@@ -253,6 +254,3 @@ written-back new rest n e = ap (λ k. take k (new ++ rest)) e ∙ take-append_se
 pub if-ok-then : {A E : Type 0} {F G : A → Type 0} (r : Result A E) → ((x : A) → F x → G x) → IfOk r F → IfOk r G
 if-ok-then (Ok x) f h = f x h
 if-ok-then (Err e) f h = tt
-
-pub sizes : (labels : List Label) (f : Label → ClientSet) (sets : List ClientSet) → length sets ≡ length (map f labels) → length sets ≡ length labels
-sizes labels f sets e = e ∙ length-map labels f

@@ -4,24 +4,15 @@ use Rattle.cosem_data.specs.declared.cell.CellRef.{CellRef}
 use Rattle.cosem_data.specs.declared.clients.ClientSet.{ClientSet}
 use Rattle.meter_theory.specs.Labels.{Labels}
 use Rattle.meter_theory.specs.Lists.{IsIn}
+use Rattle.meter_theory.specs.declared.flow.Reach.{Reach}
+use Rattle.flow_edges.specs.Ends.{far_of, near_of}
 use Rattle.flow_edges.specs.declared.table.Link.{Link}
 use Rattle.label_certificate.specs.Closing.{Below, IsClosedBy}
 use Rattle.label_certificate.specs.declared.arrows.Arrow.{Arrow}
-use Rattle.label_certificate.specs.declared.arrows.Direction.{Direction}
-use Rattle.label_certificate.specs.declared.arrows.Direction.TheVariants.{Along, Against}
 
--- who influences the source of an edge influences its target: own profile
-abbrev pub along : Link → Arrow
-along l = record { from = l.source; to = l.target }
-
--- who learns the target of an edge learns its source: own profile
-abbrev pub against : Link → Arrow
-against l = record { from = l.target; to = l.source }
-
--- the arrow that an edge is in a direction: own profile
-abbrev pub arrow_of : Direction → Link → Arrow
-arrow_of Along = along
-arrow_of Against = against
+-- who influences the source of an edge influences its target, and who learns its target learns its source: own profile
+abbrev pub arrow_of : Reach → Link → Arrow
+arrow_of reach l = record { from = near_of reach l; to = far_of reach l }
 
 -- the links are between the first n numbers: own profile
 abbrev pub AreLinks : ℕ → List Link → Type 0

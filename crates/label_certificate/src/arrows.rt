@@ -1,51 +1,38 @@
-//! Edges as arrows along which clients flow.
+//! Edges as arrows along which clients come.
 ghost use Rattle.std.specs.Prelude.{◌≡◌, map};
 ghost use Rattle.label_certificate.specs.Least.{arrow_of};
 
+use flow_edges::ends::{far_of, near_of};
 use flow_edges::table::Link;
+use meter_theory::flow::Reach;
 use std::marker::Model;
 
 /// From a set to one that has at least its clients: each by its place in a list of sets, counted from 0 (own profile).
 #[derive(Clone, Copy, Debug, Drop)]
 pub(crate) struct Arrow {
-    /// The set whose clients flow.
+    /// The set whose clients come.
     pub from: usize,
-    /// The set to which they flow.
+    /// The set to which they come.
     pub to: usize,
 }
 
-/// Which way clients flow along edges (own profile).
-#[derive(Clone, Copy, Debug, Drop)]
-pub(crate) enum Direction {
-    /// From the source of an edge to its target, as those do who may influence.
-    Along,
-    /// From its target to its source, as those do who may learn.
-    Against,
-}
-
-impl Direction {
-    /// The arrow that an edge is.
-    fn arrow(self, link: &Link) -> Arrow
-        ensures { result ≡ arrow_of self link.now }
+impl Arrow {
+    /// The arrow along an edge of the clients that have a reach.
+    fn of(reach: Reach, link: &Link) -> Arrow
+        ensures { result ≡ arrow_of reach link.now }
     {
-        match self {
-            Direction::Along => Arrow {
-                from: link.source,
-                to: link.target,
-            },
-            Direction::Against => Arrow {
-                from: link.target,
-                to: link.source,
-            },
+        Arrow {
+            from: near_of(reach, *link),
+            to: far_of(reach, *link),
         }
     }
 }
 
-/// Edges as arrows in a direction. Contracts see the arrows.
+/// Edges as the arrows along which clients come that have a reach. Contracts see the arrows.
 #[derive(Drop)]
 pub(crate) struct Arrows<'l> {
     links: &'l [Link],
-    direction: Direction,
+    reach: Reach,
 }
 
 impl<'l> Model for Arrows<'l> {
@@ -55,7 +42,7 @@ impl<'l> Model for Arrows<'l> {
 
     ghost Value = { List Arrow };
 
-    ghost view = { λ a. map (arrow_of a.direction) a.links.now };
+    ghost view = { λ a. map (arrow_of a.reach) a.links.now };
 }
 
 impl<'l> Arrows<'l> {
@@ -63,11 +50,11 @@ impl<'l> Arrows<'l> {
     ghost use Rattle.label_certificate.specs.Closing.{arrow_at};
     ghost use Rattle.label_certificate.specs.Least.{arrow_of};
 
-    /// Edges in a direction.
-    pub(crate) fn new(links: &'l [Link], direction: Direction) -> Arrows<'l>
-        ensures { result ≡ map (arrow_of direction) links.now }
+    /// Edges, for a reach.
+    pub(crate) fn new(links: &'l [Link], reach: Reach) -> Arrows<'l>
+        ensures { result ≡ map (arrow_of reach) links.now }
     {
-        Arrows { links, direction }
+        Arrows { links, reach }
     }
 
     /// How many there are.
@@ -82,6 +69,6 @@ impl<'l> Arrows<'l> {
         requires { number < length self.now }
         ensures { result ≡ arrow_at self.now number }
     {
-        self.direction.arrow(&self.links[number])
+        Arrow::of(self.reach, &self.links[number])
     }
 }

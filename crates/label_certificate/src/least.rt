@@ -2,18 +2,20 @@
 ghost use Rattle.std.specs.Prelude.{◌≡◌, length, map, IfOk};
 ghost use Rattle.meter_theory.specs.Labels.{AreLeast};
 ghost use Rattle.meter_theory.specs.Plan as theory;
+ghost use Rattle.meter_theory.specs.Ways.{set_for};
 ghost use Rattle.label_certificate.specs.Least.{AreClosed, AreLinks, arrow_of, labels_of_sets};
 
-use crate::arrows::{Arrows, Direction};
+use crate::arrows::Arrows;
 use crate::closing::close;
 use crate::granted::granted_to_cells;
+use crate::label_sets::sets_for;
 use crate::labels::Labels;
 use cosem_data::cell::CellRef;
 use cosem_data::clients::ClientSet;
 use cosem_data::memory::Memory;
 use flow_edges::edges::edge_table;
 use flow_edges::table::Link;
-use meter_theory::flow::Label;
+use meter_theory::flow::{Label, Reach};
 use object_model::plan::Plan;
 use std::alloc::Global;
 
@@ -29,55 +31,24 @@ pub fn make_labels(alloc: Global, plan: &Plan) -> Result<Labels, Memory>
     let cells = table.cells();
     let granted = granted_to_cells(alloc, plan, cells)?;
     let links = table.links();
-    let influence = flow(
-        alloc,
-        links,
-        Direction::Along,
-        influence_sets(alloc, &granted)?,
-    )?;
-    let learn = flow(
-        alloc,
-        links,
-        Direction::Against,
-        learn_sets(alloc, &granted)?,
-    )?;
+    let influence = flow(alloc, links, Reach::Influence, &granted)?;
+    let learn = flow(alloc, links, Reach::Learn, &granted)?;
     let entries = entries_from(alloc, cells, &influence, &learn)?;
     Ok(Labels::new(entries))
 }
 
-/// The least sets above these, in which no client is lost from one end of an edge to the other in a direction.
+/// The least sets above those of labels, for a reach, in which no client is lost along an edge.
 fn flow(
     alloc: Global,
     links: &[Link],
-    direction: Direction,
-    mut sets: Vec<ClientSet>,
+    reach: Reach,
+    labels: &[Label],
 ) -> Result<Vec<ClientSet>, Memory>
-    requires { AreLinks (length sets.items) links.now }
-    ensures { IfOk result (λ flown. AreClosed (map (arrow_of direction) links.now) sets.items flown.items) }
+    requires { AreLinks (length labels.now) links.now }
+    ensures { IfOk result (λ sets. AreClosed (map (arrow_of reach) links.now) (map (set_for reach) labels.now) sets.items) }
 {
-    close(alloc, &Arrows::new(links, direction), &mut sets)?;
-    Ok(sets)
-}
-
-/// The clients that may influence, of each label.
-fn influence_sets(alloc: Global, labels: &[Label]) -> Result<Vec<ClientSet>, Memory>
-    ensures { IfOk result (λ sets. sets.items ≡ map (λ label. label.influence) labels.now) }
-{
-    let mut sets = Vec::with_capacity(alloc, labels.len())?;
-    for label in labels {
-        sets.push(label.influence)?;
-    }
-    Ok(sets)
-}
-
-/// The clients that may learn, of each label.
-fn learn_sets(alloc: Global, labels: &[Label]) -> Result<Vec<ClientSet>, Memory>
-    ensures { IfOk result (λ sets. sets.items ≡ map (λ label. label.learn) labels.now) }
-{
-    let mut sets = Vec::with_capacity(alloc, labels.len())?;
-    for label in labels {
-        sets.push(label.learn)?;
-    }
+    let mut sets = sets_for(alloc, reach, labels)?;
+    close(alloc, &Arrows::new(links, reach), &mut sets)?;
     Ok(sets)
 }
 

@@ -11,6 +11,7 @@ mod closing;
 pub mod fault;
 pub mod granted;
 mod joining;
+pub mod label_sets;
 pub mod labels;
 pub mod laws;
 pub mod least;

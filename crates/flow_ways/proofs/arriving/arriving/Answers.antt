@@ -1,7 +1,7 @@
 use Rattle.std.proofs.Common.{◌≡◌, ◌∙◌, ◌++◌, ◌∷◌, [], arith, get_or, length, map, rules, slice_set, subst, sym, take, vec_len, refl}
 use Rattle.std.proofs.lemmas.List.{length-map, take_more}
 use Rattle.flow_ways.specs.Arriving.{AreArriving}
-use Rattle.flow_ways.specs.Ends.{far_of}
+use Rattle.flow_edges.specs.Ends.{far_of}
 use Rattle.flow_ways.proofs.LedTo.{none-arrive, one-arrives}
 use Rattle.flow_ways.proofs.Passed.{far-within, link-there, no_link}
 use Rattle.flow_ways.proofs.arriving.arriving.Goals as goal

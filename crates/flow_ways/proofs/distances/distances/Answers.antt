@@ -9,7 +9,7 @@ pub overflow_mul-len : goal.overflow_mul-len
 overflow_mul-len c =
     let long : vec_len c.in_ok-sets.sets ≡ length c.in_ok-sets.sets.items = search rules in
     let many = ap length c.in_ok-sets.ensures ∙ length-map c.args.granted.now (set_for c.args.reach) in
-    omega (arith, c.len.ensures, long, many, c.requires.granted.size, ap length c.requires.cells, c.known-2.ensures.few)
+    omega (arith, c.len.ensures, long, many, c.requires.granted.size, ap length c.requires.cells, c.known-2.ensures.cells.few)
 
 pub number_rounds-requires-clause-sets : goal.number_rounds-requires-clause-sets
 number_rounds-requires-clause-sets c =

@@ -1,26 +1,25 @@
 use Rattle.std.proofs.Common.{◌≡◌, ◌∙◌, map, sym, ap, ap₂, subst, length}
+use Rattle.std.proofs.lemmas.List.{length-map}
 use Rattle.meter_theory.specs.Labels.{AreLeast}
 use Rattle.meter_theory.specs.Plan.{cells}
+use Rattle.meter_theory.specs.Ways.{set_for}
+use Rattle.meter_theory.specs.declared.flow.Reach.TheVariants.{Influence, Learn}
 use Rattle.flow_edges.specs.Table.{AreCells, AreWithin, edge_at}
-use Rattle.label_certificate.specs.Least.{AreClosed, against, along, labels_of_sets}
-use Rattle.label_certificate.proofs.Closed.{are-least, labels-cells, links-within, sizes}
+use Rattle.label_certificate.specs.Least.{AreClosed, arrow_of, labels_of_sets}
+use Rattle.label_certificate.proofs.Closed.{are-least, labels-cells, links-within}
 use Rattle.label_certificate.proofs.Listed.{listed_in_order}
 use Rattle.label_certificate.proofs.least.make_labels.Goals as goal
 use Rattle.label_certificate.proofs.least.make_labels.Goals.{In_ok-entries}
 
 pub flow-requires : goal.flow-requires
 flow-requires c =
-    let within = ap (λ t. t.cells) c.in_ok-table.ensures in
-    let each = sizes c.deref.result.now (λ label. label.influence) c.in_ok-influence_sets.field-0.items (ap length c.in_ok-influence_sets.ensures) in
-    links-within c.in_ok-table.table.cells c.links-links.result.now (length c.in_ok-influence_sets.field-0.items) c.links-links.ensures.within
-    (each ∙ (ap length c.deref.ensures.value ∙ (c.in_ok-granted.ensures.size ∙ sym (ap length within))))
+    links-within c.in_ok-table.table.cells c.links-links.result.now (length c.deref.result.now) c.links-links.ensures.within
+    (ap length c.deref.ensures.value ∙ (c.in_ok-granted.ensures.size ∙ sym (ap (λ t. length t.cells) c.in_ok-table.ensures)))
 
 pub flow-requires-2 : goal.flow-requires-2
 flow-requires-2 c =
-    let within = ap (λ t. t.cells) c.in_ok-table.ensures in
-    let each = sizes c.deref-2.result.now (λ label. label.learn) c.in_ok-learn_sets.field-0.items (ap length c.in_ok-learn_sets.ensures) in
-    links-within c.in_ok-table.table.cells c.links-links.result.now (length c.in_ok-learn_sets.field-0.items) c.links-links.ensures.within
-    (each ∙ (ap length c.deref-2.ensures.value ∙ (c.in_ok-granted.ensures.size ∙ sym (ap length within))))
+    links-within c.in_ok-table.table.cells c.links-links.result.now (length c.deref-2.result.now) c.links-links.ensures.within
+    (ap length c.deref-2.ensures.value ∙ (c.in_ok-granted.ensures.size ∙ sym (ap (λ t. length t.cells) c.in_ok-table.ensures)))
 
 -- the labels are those of the sets, for all cells of the plan
 labels-are : (c : In_ok-entries) → c.in_ok-entries.entries.items ≡ labels_of_sets (cells c.args.plan.now) c.in_ok-influence.influence.items c.in_ok-learn.learn.items
@@ -32,13 +31,11 @@ labels-are c =
 -- their cells are all of the plan's
 cells-are : (c : In_ok-entries) → map (λ entry. entry.0) c.in_ok-entries.entries.items ≡ cells c.args.plan.now
 cells-are c =
-    let influence = sizes c.deref.result.now (λ label. label.influence) c.in_ok-influence.influence.items (c.in_ok-influence.ensures.size ∙ ap length c.in_ok-influence_sets.ensures) in
-    let learn = sizes c.deref-2.result.now (λ label. label.learn) c.in_ok-learn.learn.items (c.in_ok-learn.ensures.size ∙ ap length c.in_ok-learn_sets.ensures) in
+    let influence = c.in_ok-influence.ensures.size ∙ length-map c.deref.result.now (set_for Influence) ∙ ap length c.deref.ensures.value in
+    let learn = c.in_ok-learn.ensures.size ∙ length-map c.deref-2.result.now (set_for Learn) ∙ ap length c.deref-2.ensures.value in
     let all = c.in_ok-granted.ensures.size in
     ap (map (λ entry. entry.0)) (labels-are c)
-    ∙ labels-cells (cells c.args.plan.now) c.in_ok-influence.influence.items c.in_ok-learn.learn.items
-    (influence ∙ (ap length c.deref.ensures.value ∙ all))
-    (learn ∙ (ap length c.deref-2.ensures.value ∙ all))
+    ∙ labels-cells (cells c.args.plan.now) c.in_ok-influence.influence.items c.in_ok-learn.learn.items (influence ∙ all) (learn ∙ all)
 
 pub new-requires : goal.new-requires
 new-requires c = (c.args.plan.now, c.known.ensures.sound, listed_in_order c.args.plan.now c.in_ok-entries.entries.items c.known.ensures.sound (cells-are c))
@@ -54,12 +51,12 @@ returns-clause-least c =
     let learn = c.in_ok-learn.learn.items in
     subst (AreLeast P)
     (sym (c.new.ensures ∙ labels-are at))
-    (are-least P c.known.ensures.sound (subst AreCells (ap (λ t. t.cells) is) c.known-2.ensures) links granted influence learn
+    (are-least P c.known.ensures.sound (subst AreCells (ap (λ t. t.cells) is) c.known-2.ensures.cells) links granted influence learn
     (subst (λ t. map (edge_at t.cells) links ≡ t.edges) is c.links-links.ensures.edges)
     (subst (λ xs. AreWithin xs links) (ap (λ t. t.cells) is) c.links-links.ensures.within)
     c.in_ok-granted.ensures
-    (subst (λ start. AreClosed (map along links) start influence) (c.in_ok-influence_sets.ensures ∙ ap (map (λ label. label.influence)) c.deref.ensures.value) c.in_ok-influence.ensures)
-    (subst (λ start. AreClosed (map against links) start learn) (c.in_ok-learn_sets.ensures ∙ ap (map (λ label. label.learn)) c.deref-2.ensures.value) c.in_ok-learn.ensures))
+    (subst (λ start. AreClosed (map (arrow_of Influence) links) (map (set_for Influence) start) influence) c.deref.ensures.value c.in_ok-influence.ensures)
+    (subst (λ start. AreClosed (map (arrow_of Learn) links) (map (set_for Learn) start) learn) c.deref-2.ensures.value c.in_ok-learn.ensures))
 
 pub returns-clause-cells : goal.returns-clause-cells
 returns-clause-cells c = let at = (goal.at.returns-clause-cells c).In_ok-entries in ap (map (λ entry. entry.0)) c.new.ensures ∙ cells-are at

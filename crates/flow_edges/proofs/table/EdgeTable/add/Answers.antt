@@ -1,4 +1,4 @@
-use Rattle.std.proofs.Common.{◌≡◌, ◌+◌, ◌*◌, ◌<◌, ◌∙◌, length, true, false, sym, ap, subst, set, rules}
+use Rattle.std.proofs.Common.{◌≡◌, ◌<◌, ◌∙◌, length, true, false, sym, ap, subst, set, rules}
 use Rattle.std.specs.Prelude.{◌||◌}
 use Rattle.meter_theory.specs.Edges.{same_cause}
 use Rattle.flow_edges.specs.declared.table.Link.{Link}
@@ -18,10 +18,10 @@ fits c =
     (subst (λ cs. c.args.source < length cs) (sym cells) c.requires.source, subst (λ cs. c.args.target < length cs) (sym cells) c.requires.target)
 
 -- the place of its cells among the marks
-place : (c : After-has) → c.args.source * c.len.result + c.args.target ≡ place_of (length c.self.inside.cells.items) (link c)
+place : (c : After-has) → c.place_of-place.result ≡ place_of (length c.self.inside.cells.items) (link c)
 place c =
     let long : c.len.result ≡ length c.self.inside.cells.items = search rules in
-    ap (λ n. c.args.source * n + c.args.target) long
+    c.place_of-place.ensures.place ∙ ap (λ n. place_of n (link c)) long
 
 -- and their mark
 mark : (c : After-has) → c.index-found.result.now ≡ mark_at c.self.inside.marks.items (place_of (length c.self.inside.cells.items) (link c))

@@ -4,7 +4,7 @@ use Rattle.meter_theory.specs.Plan.{cells}
 use Rattle.meter_theory.specs.Ways.{is_within}
 use Rattle.flow_edges.specs.Table.{cell_at}
 use Rattle.flow_edges.proofs.Sources.{are-cells}
-use Rattle.flow_ways.specs.Ends.{far_of, near_of}
+use Rattle.flow_edges.specs.Ends.{far_of, near_of}
 use Rattle.flow_ways.proofs.Shown.{link-leads}
 use Rattle.flow_ways.proofs.ways.Ways.leads.Goals as goal
 

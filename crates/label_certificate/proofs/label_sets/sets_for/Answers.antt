@@ -2,7 +2,7 @@ use Rattle.std.proofs.Common.{List, ◌∙◌, ◌++◌, ◌∷◌, [], ap, ap�
 use Rattle.std.proofs.lemmas.List.{map_more}
 use Rattle.cosem_data.specs.declared.clients.ClientSet.{ClientSet}
 use Rattle.meter_theory.specs.Ways.{set_for}
-use Rattle.flow_ways.proofs.rounds.sets_for.Goals as goal
+use Rattle.label_certificate.proofs.label_sets.sets_for.Goals as goal
 
 pub loop-label-preserved : goal.loop-label-preserved
 loop-label-preserved c =
