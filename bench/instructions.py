@@ -6,7 +6,9 @@
 Told are the instructions for a mixed line of the demo, and for one that is judged for a client, for a GET by a random name over 512 objects and 2,048 rights, for a byte
 of that configuration's text, for a GET of a buffer of 1,000 rows, whole and by 10 rows, for a capture into full buffers of
 10 and 1,000 rows, for a second over 512 objects of which 20 have a turn at it, told by `tick 3600` and by 3,600 lines `at`, and for a GET
-and a SET of one session that is served over TCP: each such figure is a run with many lines less one with few. And those of whole runs of `check`,
+and a SET of one session that is served over TCP: each such figure is a run with many lines less one with few. Those of the session are told
+beside an ordinary program's, `bench/plain_meter.rs`, which is the demo's live meter in plain Rust without any proof, gives the same answers and is compiled by
+`rustc -O`; where there is no rustc they are told alone. And those of whole runs of `check`,
 `edges` and `label` for a configuration of 512 objects with some 250,000 edges, of which the `toml` library's own part is told, of `why` and of `compare` beside that of `label`,
 and of `report` beside those of `label` and `edges`; and of an audit of 64 such texts by one worker and by four, beside the library's part and with the page
 faults of each, as the program is without its launcher. Run `tools/build` first; another program of the same words can be named, to be counted beside it.
@@ -27,7 +29,7 @@ import check
 import config
 import demo
 import profile
-from serve import DONE, MANAGER, MANAGERS_AARQ, SET
+from serve import DONE, MANAGER, MANAGERS_AARQ, SET, plain_meter
 from session import AARE, AARQ, GET, READER, VALUE, frame
 
 LABELS = os.path.join(os.path.dirname(demo.CONFIG), "demo.labels")
@@ -118,13 +120,12 @@ def audited(program, folder, text):
     print(f"an audit of 64: {one} by one worker, {one / part:.2f} times the toml library's own; by four {four / one:.3f} times that, with {more / less:.2f} times the {less} page faults")
 
 
-def served(program, client, begin, request, answer, count):
-    """The instructions of a live meter of the demo for one session, in which the client asks the same so often."""
+def served(words, client, begin, request, answer, count):
+    """The instructions of a live meter of the demo, which these words begin, for one session, in which the client asks the same so often."""
     with socket.socket() as free:
         free.bind(("127.0.0.1", 0))
         port = free.getsockname()[1]
-    command = ["valgrind", "--tool=callgrind", "--callgrind-out-file=/dev/null", program, "serve", demo.CONFIG, LABELS]
-    command += ["--port", str(port), "--sessions", "1"]
+    command = ["valgrind", "--tool=callgrind", "--callgrind-out-file=/dev/null", *words, "--port", str(port), "--sessions", "1"]
     serving = subprocess.Popen(command, stdin=subprocess.DEVNULL, stdout=subprocess.DEVNULL, stderr=subprocess.PIPE)
     while b"connections are taken" not in serving.stderr.readline():
         pass
@@ -141,6 +142,12 @@ def served(program, client, begin, request, answer, count):
     if serving.wait() != 0:
         sys.exit(f"the live meter ended with {serving.returncode}")
     return int(COUNTED.search(told).group(1))
+
+
+def of_session(words, *asked):
+    """The instructions of a live meter for one request of a session."""
+    few, many = (served(words, *asked, count) for count in (500, 4_500))
+    return (many - few) / 4_000
 
 
 def main():
@@ -178,9 +185,14 @@ def main():
         at = each(wide, "", lambda: next(moments), 0, 3_600)
         tick = each(wide, f"at {begin.isoformat()}\n", lambda: "tick 3600\n", 0, 1) / 3_600
         print(f"a second over 512 objects: {tick:.0f} by tick, {at:.0f} by at")
+        serve, plain = [program, "serve", demo.CONFIG, LABELS], plain_meter(folder)
         for name, asked in (("GET", (READER, AARQ, GET, VALUE)), ("SET", (MANAGER, MANAGERS_AARQ, SET, DONE))):
-            few, many = (served(program, *asked, count) for count in (500, 4_500))
-            print(f"a {name} of a session that is served: {(many - few) / 4_000:.0f}")
+            ours = of_session(serve, *asked)
+            beside = " (there is no rustc for an ordinary program beside it)"
+            if plain:
+                theirs = of_session([plain], *asked)
+                beside = f", {ours / theirs:.2f} times an ordinary program's {theirs:.0f}"
+            print(f"a {name} of a session that is served: {ours:.0f}{beside}")
         large = check.config(512)
         text = profile.written(folder, "large.toml", large)
         # (a release that takes one right away, so that nobody gains)

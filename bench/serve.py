@@ -2,6 +2,7 @@
 """Requests per second of `cosem-flow serve` over loopback, beside a server in C that answers frames of the same sizes.
 
     bench/serve.py [REQUESTS]
+    bench/serve.py plain [REQUESTS]
 
 An asking program in C associates each session, and then sends so many requests in each, one after another, by a write each, and reads
 each answer whole before the next; only the requests are timed. The server in C has a thread for each connection too, with TCP_NODELAY
@@ -11,9 +12,14 @@ session that reads the register, four of them at once, and four at once whose ev
 of SETs alone, by the demo and by a configuration with ten profiles of 1,000 entries more, empty and full: what a SET takes mustn't grow
 with buffers that it doesn't touch. Each figure is the best of three runs, each by a server of its own, on at most four cores. Nothing
 is judged but answers and ends; what is wanted stands beside a figure. It needs gcc; run `tools/build` first.
+
+By `plain` it is one session of GETs and one of SETs, beside an ordinary program of the same function, `bench/plain_meter.rs`, whose answers are
+compared too. They take turns, nine each; told are the least time of a request, and the median, which tells how noisy the machine is. That
+needs rustc.
 """
 import os
 import socket
+import statistics
 import subprocess
 import sys
 import tempfile
@@ -27,6 +33,7 @@ HOST = "127.0.0.1"
 ENDED = b"cosem-flow: the lines have ended: the meter takes no further step of its own\n"
 CORES = 4
 RUNS = 3
+TURNS = 9
 SECONDS_TO_END = 60
 MANAGER = 1
 MANAGERS_AARQ = AARQ.replace(b"12345678", b"00000000")
@@ -194,10 +201,24 @@ def labelled(folder, name, text):
     return config, written(folder, f"{name}.labels", labels)
 
 
+def plain_meter(folder):
+    """The ordinary program of the same function, which is compiled into the folder; or None where there is no rustc."""
+    made = os.path.join(folder, "plain_meter")
+    source = os.path.join(os.path.dirname(os.path.abspath(__file__)), "plain_meter.rs")
+    try:
+        subprocess.run(["rustc", "--edition", "2024", "-O", "-o", made, source], check=True)
+    except FileNotFoundError:
+        return None
+    return made
+
+
 def rate(helper, files, sessions, given, count, is_filled=False):
-    """Requests per second of so many sessions at once, by a server of its own: `serve` by two files, or without any the one in C."""
+    """Requests per second of so many sessions at once, by a server of its own: `serve` by two files, the ordinary program by its own file,
+    or without any the one in C."""
     port = free_port()
-    if files:
+    if len(files) == 1:
+        server = started("plain", [*files, "--port", str(port), "--sessions", str(sessions)], port)
+    elif files:
         server = started("cosem-flow", serve_command(*files, port, sessions + int(is_filled)), port)
     else:
         server = started("echo", [helper, str(port), str(sessions)], port)
@@ -214,12 +235,40 @@ def rate(helper, files, sessions, given, count, is_filled=False):
     return sessions * count / float(asked.stdout)
 
 
-def main():
-    count = int(sys.argv[1]) if len(sys.argv) > 1 else 200_000
-    os.sched_setaffinity(0, sorted(os.sched_getaffinity(0))[:CORES])
+def helper_in(folder):
+    """The program in C, which is compiled into the folder."""
+    helper = os.path.join(folder, "helper")
+    subprocess.run(["gcc", "-O2", "-pthread", "-x", "c", "-o", helper, "-"], input=HELPER.encode(), check=True)
+    return helper
+
+
+def beside_plain(count):
+    """One session of GETs and one of SETs, by turns of `serve` and of the ordinary program."""
     with tempfile.TemporaryDirectory() as folder:
-        helper = os.path.join(folder, "helper")
-        subprocess.run(["gcc", "-O2", "-pthread", "-x", "c", "-o", helper, "-"], input=HELPER.encode(), check=True)
+        helper, plain = helper_in(folder), plain_meter(folder)
+        if not plain:
+            sys.exit("there is no rustc for an ordinary program")
+        for name, given in (("GET", frames(READER, AARQ, [(GET, VALUE)])), ("SET", frames(MANAGER, MANAGERS_AARQ, [(SET, DONE)]))):
+            taken = {(CONFIG, LABELS): [], (plain,): []}
+            for _ in range(TURNS):
+                for files, times in taken.items():
+                    times.append(1e6 / rate(helper, files, 1, given, count))
+            ours, theirs = taken.values()
+            print(
+                f"a {name} of one session, {count} one after another: {min(ours):.2f} microseconds at least, {statistics.median(ours):.2f} as the median, "
+                f"an ordinary program's {min(theirs):.2f} and {statistics.median(theirs):.2f}; {min(ours) / min(theirs):.2f} times by the least"
+            )
+
+
+def main():
+    words = sys.argv[1:]
+    os.sched_setaffinity(0, sorted(os.sched_getaffinity(0))[:CORES])
+    if words[:1] == ["plain"]:
+        beside_plain(int(words[1]) if words[1:] else 100_000)
+        return
+    count = int(words[0]) if words else 200_000
+    with tempfile.TemporaryDirectory() as folder:
+        helper = helper_in(folder)
         with open(CONFIG) as lines:
             text = lines.read()
         demo, buffers = (CONFIG, LABELS), labelled(folder, "large", large(text))

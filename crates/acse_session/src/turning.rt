@@ -243,6 +243,9 @@ fn code_answer(
     })
 }
 
+/// The room that a reply with a value begins with, in which most keep.
+const SHORT_LENGTH: usize = 64;
+
 /// How many bytes stand in front of the value in the reply to a GET (IEC 62056-5-3, Get-Response-Normal).
 const FRONT_LENGTH: usize = 4;
 
@@ -286,7 +289,7 @@ fn whole_value(alloc: Global, a: Association, invoke: u8, value: &Data) -> Resul
     ensures fits { IfOk result (λ after. (length after.answer.items ≤ 1024)
         × IsKept after.association after.transfer) }
 {
-    let mut answer = Vec::new(alloc);
+    let mut answer = Vec::with_capacity(alloc, SHORT_LENGTH)?;
     write_value(invoke, value, &mut answer)?;
     Ok(After {
         answer,

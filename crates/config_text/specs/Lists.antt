@@ -65,3 +65,19 @@ optional_naturals_at low high at key t = optional_array_at (natural_of low high)
 unfoldable pub each_fault : (Text → Data → List Fault) → Text → ℕ → Items → List Fault
 each_fault finds name i no_items = []
 each_fault finds name i (item d rest) = finds (element_place name i) d ++ each_fault finds name (i + 1) rest
+
+-- what is no table, and no array, has no keys
+abbrev pub no_keys : Text → Data → List Fault
+no_keys place d = []
+
+-- the elements of an array, none where there is no array
+abbrev pub items_or_none : Option Items → Items
+items_or_none None = no_items
+items_or_none (Some ds) = ds
+
+-- what is found in each element of an array, if there is one, and in those of the array at a key
+abbrev pub faults_in_array : (Text → Data → List Fault) → Text → Option Items → List Fault
+faults_in_array finds place array = each_fault finds place 0 (items_or_none array)
+
+abbrev pub faults_in_array_at : (Text → Data → List Fault) → Text → Text → Members → List Fault
+faults_in_array_at finds at key t = faults_in_array finds (at ++ key) (option_and_then as_array (get_member key t))

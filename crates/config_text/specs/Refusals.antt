@@ -29,6 +29,11 @@ Finds (Err refusal) faults = Refuses refusal faults
 abbrev pub Gives : {X Y : Type 0} → (X → Y) → Result X Refusal → Result Y Faults → Type 0
 Gives view result said = IfOk result (λ x. said ≡ Ok (view x)) × Finds result (faults_in said)
 
+-- a function read what the definition says, and no key is missing or unknown; or it was refused, and where no key is, then by all the
+-- faults that the definition has, unless memory ran out (own profile)
+abbrev pub Reads : {X Y : Type 0} → (X → Y) → Result X Refusal → List Fault → Result Y Faults → Type 0
+Reads view result keys said = IfOk result (λ x. (keys ≡ []) × (said ≡ Ok (view x))) × (keys ≡ [] → Finds result (faults_in said))
+
 -- the first fault of a refusal, or nothing where memory ran out (own profile)
 abbrev pub first_told : Refusal → Option Fault
 first_told refusals.Memory = None

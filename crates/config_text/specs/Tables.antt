@@ -1,11 +1,11 @@
 -- Tables inside of tables: their keys, and what they say. `keys` and `says` are what a form of table gives for a table at a place,
 -- which ends with a dot: the faults of its keys, and what it says, or the faults of its values.
 use Rattle.std.specs.Prelude.{◌++◌, List, [], codes, Option, Some, None, option_and_then, Result}
-use Rattle.toml.specs.Data.{Data, Items, Members, no_items, get_member, as_array, as_table}
+use Rattle.toml.specs.Data.{Data, Members, get_member, as_array, as_table}
 use Rattle.config_text.specs.Fault.{Fault, Faults, found_or, ◌>>=◌}
 use Rattle.config_text.specs.Parts.{Text}
 use Rattle.config_text.specs.declared.fault.Code.TheVariants.{Kind}
-use Rattle.config_text.specs.Lists.{array_at, array_of, each_fault, optional_array_at}
+use Rattle.config_text.specs.Lists.{array_at, array_of, faults_in_array, faults_in_array_at, optional_array_at}
 
 -- the faults of the keys of a table; what is no table has no keys
 abbrev pub keys_of : (Text → Members → List Fault) → Text → Option Members → List Fault
@@ -15,25 +15,19 @@ keys_of keys place (Some t) = keys (place ++ codes ".") t
 abbrev pub keys_in : (Text → Members → List Fault) → Text → Data → List Fault
 keys_in keys place d = keys_of keys place (as_table d)
 
--- the elements of an array, none where there is no array
-abbrev pub items_or_none : Option Items → Items
-items_or_none None = no_items
-items_or_none (Some ds) = ds
-
 -- of the tables in an array
 abbrev pub list_keys_in : (Text → Members → List Fault) → Text → Data → List Fault
-list_keys_in keys place d = each_fault (keys_in keys) place 0 (items_or_none (as_array d))
+list_keys_in keys place d = faults_in_array (keys_in keys) place (as_array d)
 
 -- at a key: of its table, of the tables in its array, and of those in each array of its array
 unfoldable pub table_keys_at : (Text → Members → List Fault) → Text → Text → Members → List Fault
 table_keys_at keys at key t = keys_of keys (at ++ key) (option_and_then as_table (get_member key t))
 
 unfoldable pub list_keys_at : (Text → Members → List Fault) → Text → Text → Members → List Fault
-list_keys_at keys at key t = each_fault (keys_in keys) (at ++ key) 0 (items_or_none (option_and_then as_array (get_member key t)))
+list_keys_at keys at key t = faults_in_array_at (keys_in keys) at key t
 
 unfoldable pub lists_keys_at : (Text → Members → List Fault) → Text → Text → Members → List Fault
-lists_keys_at keys at key t =
-    each_fault (list_keys_in keys) (at ++ key) 0 (items_or_none (option_and_then as_array (get_member key t)))
+lists_keys_at keys at key t = faults_in_array_at (list_keys_in keys) at key t
 
 -- what a table says; what is no table is a fault
 abbrev pub table_or : {A : Type 0} → (Text → Members → Result A Faults) → Text → Option Members → Result A Faults

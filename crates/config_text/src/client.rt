@@ -1,7 +1,7 @@
 //! A client's table.
 
 use crate::both::both;
-use crate::keys::{needed, only};
+use crate::keys::{needed, no_others, only};
 use crate::parts::ClientParts;
 use crate::place::Place;
 use crate::placed::PlacedFault;
@@ -10,6 +10,9 @@ use crate::tables::TableForm;
 use crate::values::{natural_at, optional_ascii_at, text_at};
 use cosem_data::memory::Memory;
 use toml::Table;
+
+/// The keys of a client.
+const KEYS: [&str; 3] = ["name", "sap", "password"];
 
 /// `name`, `sap` and perhaps `password`: a client.
 pub(crate) struct ClientTable;
@@ -32,11 +35,12 @@ impl TableForm for ClientTable {
     ) -> Result<(), Memory> {
         needed(faults, at, "name", table)?;
         needed(faults, at, "sap", table)?;
-        only(faults, at, &["name", "sap", "password"], table)
+        only(faults, at, &KEYS, table)
     }
 
-    #[tactic(auto, unfolding(crate::specs::Clients::client_of))]
+    #[tactic(auto, unfolding(crate::specs::Clients::client_of, crate::specs::Clients::client_keys))]
     fn read(&self, at: &Place<'_>, table: &Table) -> Result<ClientParts, Refusal> {
+        no_others(at, &KEYS, table)?;
         let name = text_at(at, "name", table);
         let sap = natural_at(1, 127, at, "sap", table);
         let password = optional_ascii_at(1, 64, at, "password", table);

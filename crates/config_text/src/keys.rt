@@ -7,6 +7,7 @@ ghost use Rattle.toml.specs.View.{table_view};
 ghost use Rattle.config_text.specs.KeyText as text;
 ghost use Rattle.config_text.specs.declared.fault.Code.TheVariants.{Key};
 ghost use Rattle.config_text.specs.Keys as spec;
+ghost use Rattle.config_text.specs.Refusals.{Finds};
 
 use crate::fault::Code;
 use crate::key_text::key_text;
@@ -14,6 +15,7 @@ use crate::lookup::value_at;
 use crate::noting::{note, note_if};
 use crate::place::Place;
 use crate::placed::PlacedFault;
+use crate::refusal::{Refusal, refuse};
 use cosem_data::memory::Memory;
 use toml::Table;
 
@@ -78,4 +80,16 @@ pub(crate) fn only(
         known_key(faults, at, known, key.as_str())?;
     }
     Ok(())
+}
+
+/// A table has no other keys than the known ones.
+///
+/// # Errors
+/// C2 at each other key.
+pub(crate) fn no_others(at: &Place<'_>, known: &[&str], table: &Table) -> Result<(), Refusal>
+    ensures { Finds result (spec.only at.now (map (λ k. k.now) known.now) (table_view table.now)) }
+{
+    let mut faults = Vec::new(at.alloc());
+    only(&mut faults, at, known, table)?;
+    refuse(faults)
 }

@@ -1,7 +1,8 @@
 //! Arrays of texts and of numbers.
 
-ghost use Rattle.std.specs.Prelude.{map};
+ghost use Rattle.std.specs.Prelude.{◌≡◌, [], IfOk, map};
 ghost use Rattle.toml.specs.View.{table_view};
+ghost use Rattle.config_text.specs.Keys.{needed};
 ghost use Rattle.config_text.specs.Lists as spec;
 ghost use Rattle.config_text.specs.Refusals.{Gives};
 
@@ -21,7 +22,7 @@ struct TextElement<K> {
 }
 
 impl<K: Kept> Element for TextElement<K> {
-    ghost use Rattle.config_text.specs.Lists.{text_of};
+    ghost use Rattle.config_text.specs.Lists.{no_keys, text_of};
     ghost use Rattle.config_text.specs.Parts.{Text};
 
     type Parts = K;
@@ -29,6 +30,8 @@ impl<K: Kept> Element for TextElement<K> {
     ghost Said = { Text };
 
     ghost seen = { K.says };
+
+    ghost keys = { λ element. no_keys };
 
     ghost says = { λ element. text_of };
 
@@ -45,8 +48,9 @@ impl<K: Kept> Element for TextElement<K> {
 /// # Errors
 /// C3 at the key where it is no array, and at each element that is no text.
 pub(crate) fn texts_at<K: Kept>(at: &Place<'_>, key: &str, table: &Table) -> Result<Vec<K>, Refusal>
-    ensures { Gives (λ v. map K.says v.items) result (spec.texts_at at.now key.now
+    ensures value { Gives (λ v. map K.says v.items) result (spec.texts_at at.now key.now
         (table_view table.now)) }
+    ensures there { IfOk result (λ _. needed at.now key.now (table_view table.now) ≡ []) }
 {
     let text: TextElement<K> = TextElement { kept: PhantomData };
     array_at(&text, at, key, table)
@@ -61,13 +65,15 @@ struct NaturalElement {
 
 impl Element for NaturalElement {
     ghost use Rattle.std.specs.Prelude.{ℕ};
-    ghost use Rattle.config_text.specs.Lists.{natural_of};
+    ghost use Rattle.config_text.specs.Lists.{natural_of, no_keys};
 
     type Parts = u8;
 
     ghost Said = { ℕ };
 
     ghost seen = { λ n. n };
+
+    ghost keys = { λ element. no_keys };
 
     ghost says = { λ element. natural_of element.low element.high };
 

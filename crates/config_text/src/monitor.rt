@@ -3,11 +3,11 @@
 ghost use Rattle.std.specs.Prelude.{◌≡◌, ◌++◌, OnOk};
 ghost use Rattle.toml.specs.View.{table_view};
 ghost use Rattle.config_text.specs.BodyView.{body_text};
-ghost use Rattle.config_text.specs.Refusals.{Gives};
+ghost use Rattle.config_text.specs.Refusals.{Reads};
 ghost use Rattle.config_text.specs.Classes as spec;
 
 use crate::both::both;
-use crate::keys::{needed, only};
+use crate::keys::{needed, no_others, only};
 use crate::lists::texts_at;
 use crate::parts::{BodyParts, UpDownParts};
 use crate::place::Place;
@@ -18,6 +18,12 @@ use crate::tables::{TableForm, list_at, table_at};
 use crate::target::{ScriptRefTable, TargetTable};
 use cosem_data::memory::Memory;
 use toml::Table;
+
+/// The keys of the scripts of a threshold.
+const UP_DOWN_KEYS: [&str; 2] = ["up", "down"];
+
+/// The keys of a register monitor.
+const MONITOR_KEYS: [&str; 6] = ["class", "name", "fed", "monitored", "thresholds", "action"];
 
 /// `up` and `down`: the scripts of a threshold.
 pub(crate) struct UpDownTable;
@@ -42,11 +48,12 @@ impl TableForm for UpDownTable {
         table_keys_at(faults, &ScriptRefTable, at, "up", table)?;
         needed(faults, at, "down", table)?;
         table_keys_at(faults, &ScriptRefTable, at, "down", table)?;
-        only(faults, at, &["up", "down"], table)
+        only(faults, at, &UP_DOWN_KEYS, table)
     }
 
-    #[tactic(auto, unfolding(crate::specs::Classes::up_down_of))]
+    #[tactic(auto, unfolding(crate::specs::Classes::up_down_of, crate::specs::Classes::up_down_keys))]
     fn read(&self, at: &Place<'_>, table: &Table) -> Result<UpDownParts, Refusal> {
+        no_others(at, &UP_DOWN_KEYS, table)?;
         let up = table_at(&ScriptRefTable, at, "up", table);
         let down = table_at(&ScriptRefTable, at, "down", table);
         let (up, down) = both(up, down)?;
@@ -68,15 +75,15 @@ pub(crate) fn monitor_keys(
     needed(faults, at, "thresholds", table)?;
     needed(faults, at, "action", table)?;
     list_keys_at(faults, &UpDownTable, at, "action", table)?;
-    let known = ["class", "name", "fed", "monitored", "thresholds", "action"];
-    only(faults, at, &known, table)
+    only(faults, at, &MONITOR_KEYS, table)
 }
 
 /// What the table says of a register monitor.
-#[tactic(auto, unfolding(crate::specs::Classes::monitor_of))]
+#[tactic(auto, unfolding(crate::specs::Classes::monitor_of, crate::specs::Classes::monitor_keys))]
 pub(crate) fn monitor_of(at: &Place<'_>, table: &Table) -> Result<BodyParts, Refusal>
-    ensures { Gives body_text result (spec.monitor_of at.now (table_view table.now)) }
+    ensures { Reads body_text result (spec.monitor_keys at.now (table_view table.now)) (spec.monitor_of at.now (table_view table.now)) }
 {
+    no_others(at, &MONITOR_KEYS, table)?;
     let monitored = table_at(&TargetTable, at, "monitored", table);
     let thresholds = texts_at(at, "thresholds", table);
     let actions = list_at(&UpDownTable, at, "action", table);

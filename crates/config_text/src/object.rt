@@ -1,10 +1,14 @@
 //! An object's table.
 
-ghost use Rattle.std.specs.Prelude.{◌≡◌, ◌++◌, OnOk};
+ghost use Rattle.std.specs.Prelude.{◌≡◌, ◌++◌, ◌≤◌, ℕ, IfOk, OnOk, Option, option_and_then};
 ghost use Rattle.toml.specs.View.{table_view};
+ghost use Rattle.meter_theory.specs.Classes.{class_in};
 ghost use Rattle.config_text.specs.BodyView.{body_text};
-ghost use Rattle.config_text.specs.Refusals.{Gives};
+ghost use Rattle.config_text.specs.Fault.{found_or};
+ghost use Rattle.config_text.specs.Parts.{Text};
+ghost use Rattle.config_text.specs.Refusals.{Gives, Reads};
 ghost use Rattle.config_text.specs.Objects as spec;
+ghost use Rattle.config_text.specs.declared.fault.Code.TheVariants.{Kind};
 
 use crate::both::both;
 use crate::clock::{clock_keys, clock_of};
@@ -30,6 +34,19 @@ fn class_told(version: u8, table: &Table) -> Option<Class>
 {
     let class_id = natural_or_none(0, 65535, "class", table)?;
     Class::in_version(version, class_id as u16)
+}
+
+/// The same of a number that was read. The error is that memory was refused.
+fn class_read(version: u8, class_id: &Result<u64, Refusal>) -> Result<Option<Class>, Memory>
+    requires { IfOk class_id.now (λ n. n ≤ 65535) }
+    ensures { IfOk result (λ class. (place : Text) (told : Option ℕ) →
+        Gives (λ n. n) class_id.now (found_or Kind place told) → class ≡ option_and_then (class_in version) told) }
+{
+    match class_id {
+        Ok(number) => Ok(Class::in_version(version, *number as u16)),
+        Err(Refusal::Found { .. }) => Ok(None),
+        Err(Refusal::Memory) => Err(Memory),
+    }
 }
 
 /// Whether a text of this version may have menus.
@@ -78,7 +95,7 @@ fn body_of(
     at: &Place<'_>,
     table: &Table,
 ) -> Result<BodyParts, Refusal>
-    ensures { Gives body_text result (spec.body_of menus class at.now (table_view table.now)) }
+    ensures { Reads body_text result (spec.class_keys menus class at.now (table_view table.now)) (spec.body_of menus class at.now (table_view table.now)) }
 {
     match class {
         Some(Class::Data) => data_of(at, table),
@@ -121,11 +138,11 @@ impl TableForm for ObjectTable {
         class_keys(faults, has_menus(self.version), class, at, table)
     }
 
-    #[tactic(auto, unfolding(crate::specs::Objects::object_of))]
+    #[tactic(auto, unfolding(crate::specs::Objects::object_of, crate::specs::Objects::object_keys))]
     fn read(&self, at: &Place<'_>, table: &Table) -> Result<ObjectParts, Refusal> {
         let class_id = natural_at(0, 65535, at, "class", table);
         let name = text_at(at, "name", table);
-        let class = class_told(self.version, table);
+        let class = class_read(self.version, &class_id)?;
         let fed = fed_of(class, at, table);
         let body = body_of(has_menus(self.version), class, at, table);
         let (((class_id, name), fed), body) = both(both(both(class_id, name), fed), body)?;

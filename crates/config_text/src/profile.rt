@@ -3,13 +3,13 @@
 ghost use Rattle.std.specs.Prelude.{◌≡◌, ◌++◌, [], OnOk, codes, if◌then◌else◌, map, option_map};
 ghost use Rattle.toml.specs.View.{table_view};
 ghost use Rattle.config_text.specs.BodyView.{body_text};
-ghost use Rattle.config_text.specs.Refusals.{Gives};
+ghost use Rattle.config_text.specs.Refusals.{Reads};
 ghost use Rattle.config_text.specs.Classes as spec;
 ghost use Rattle.config_text.specs.Tables.{lists_keys_at};
 
 use crate::both::both;
 use crate::elements::{Element, array_of, menu_at};
-use crate::keys::{needed, only};
+use crate::keys::{needed, no_others, only};
 use crate::parts::{AlternativeParts, BodyParts, CaptureParts};
 use crate::place::Place;
 use crate::placed::PlacedFault;
@@ -23,6 +23,9 @@ use toml::{Table, Value};
 
 /// The greatest integer that a TOML text can have.
 const GREATEST: u64 = 9_223_372_036_854_775_807;
+
+/// The keys of an attribute that a profile captures.
+const CAPTURE_KEYS: [&str; 3] = ["object", "index", "data_index"];
 
 /// `object`, `index` and perhaps `data_index`: an attribute that a profile captures.
 pub(crate) struct CaptureTable;
@@ -45,11 +48,12 @@ impl TableForm for CaptureTable {
     ) -> Result<(), Memory> {
         needed(faults, at, "object", table)?;
         needed(faults, at, "index", table)?;
-        only(faults, at, &["object", "index", "data_index"], table)
+        only(faults, at, &CAPTURE_KEYS, table)
     }
 
-    #[tactic(auto, unfolding(crate::specs::Classes::capture_of))]
+    #[tactic(auto, unfolding(crate::specs::Classes::capture_of, crate::specs::Classes::capture_keys))]
     fn read(&self, at: &Place<'_>, table: &Table) -> Result<CaptureParts, Refusal> {
+        no_others(at, &CAPTURE_KEYS, table)?;
         let target = target_of(at, table);
         let data_index = optional_integer_at(at, "data_index", table);
         let (target, data_index) = both(target, data_index)?;
@@ -127,15 +131,17 @@ struct Alternative;
 
 impl Element for Alternative {
     ghost use Rattle.std.specs.Prelude.{List};
-    ghost use Rattle.config_text.specs.Classes.{capture_of};
+    ghost use Rattle.config_text.specs.Classes.{capture_keys, capture_of};
     ghost use Rattle.config_text.specs.Parts.{CaptureText};
-    ghost use Rattle.config_text.specs.Tables.{tables_of};
+    ghost use Rattle.config_text.specs.Tables.{list_keys_in, tables_of};
 
     type Parts = AlternativeParts;
 
     ghost Said = { List CaptureText };
 
     ghost seen = { λ alternative. alternative };
+
+    ghost keys = { λ element. list_keys_in capture_keys };
 
     ghost says = { λ element. tables_of capture_of };
 
@@ -154,7 +160,8 @@ fn menu_of(
     at: &Place<'_>,
     table: &Table,
 ) -> Result<Option<Vec<AlternativeParts>>, Refusal>
-    ensures { Gives (option_map (λ v. v.items)) result
+    ensures { Reads (option_map (λ v. v.items)) result
+        (if menus then lists_keys_at spec.capture_keys at.now (codes "capture_menu") (table_view table.now) else [])
         (spec.capture_menu_of menus at.now (table_view table.now)) }
 {
     if menus {
@@ -165,10 +172,11 @@ fn menu_of(
 }
 
 /// What the table says of a profile, which may have a menu or not.
-#[tactic(auto, unfolding(crate::specs::Classes::profile_of))]
+#[tactic(auto, unfolding(crate::specs::Classes::profile_of, crate::specs::Classes::profile_keys))]
 pub(crate) fn profile_of(menus: bool, at: &Place<'_>, table: &Table) -> Result<BodyParts, Refusal>
-    ensures { Gives body_text result (spec.profile_of menus at.now (table_view table.now)) }
+    ensures { Reads body_text result (spec.profile_keys menus at.now (table_view table.now)) (spec.profile_of menus at.now (table_view table.now)) }
 {
+    no_others(at, known_keys(menus), table)?;
     let capture = list_at(&CaptureTable, at, "capture", table);
     let period = natural_at(0, 4_294_967_295, at, "period", table);
     let entries = natural_at(1, GREATEST, at, "entries", table);

@@ -1,14 +1,17 @@
 //! The tables of a configuration text, read pass by pass.
 
-ghost use Rattle.std.specs.Prelude.{◌≡◌, IfOk, Ok};
+ghost use Rattle.std.specs.Prelude.{◌≡◌, ◌≤◌, ℕ, IfOk, Ok, Option, unwrap_or};
 ghost use Rattle.toml.specs.View.{table_view};
-ghost use Rattle.config_text.specs.Refusals.{Finds, Gives};
+ghost use Rattle.config_text.specs.Fault.{found_or};
+ghost use Rattle.config_text.specs.Parts.{Text};
+ghost use Rattle.config_text.specs.Refusals.{Finds, Gives, Reads};
 ghost use Rattle.config_text.specs.Document as spec;
+ghost use Rattle.config_text.specs.declared.fault.Code.TheVariants.{Kind};
 
 use crate::both::both;
 use crate::client::ClientTable;
 use crate::fault::Code;
-use crate::keys::{needed, only};
+use crate::keys::{needed, no_others, only};
 use crate::object::ObjectTable;
 use crate::parts::ConfigParts;
 use crate::place::Place;
@@ -17,8 +20,12 @@ use crate::right::{LabelTable, PolicyTable, RightTable};
 use crate::table_keys::{list_keys_at, table_keys_at};
 use crate::tables::{list_at, optional_list_at, table_at};
 use crate::values::{natural_at, natural_or_none};
+use cosem_data::memory::Memory;
 use std::alloc::Global;
 use toml::Table;
+
+/// The keys of a configuration text.
+const KEYS: [&str; 6] = ["version", "client", "object", "right", "policy", "label"];
 
 /// The table of a TOML text.
 ///
@@ -51,6 +58,19 @@ fn told_version(table: &Table) -> u8
     }
 }
 
+/// The same by a number that was read. The error is that memory was refused.
+fn version_read(version: &Result<u64, Refusal>) -> Result<u8, Memory>
+    requires { IfOk version.now (λ n. n ≤ 2) }
+    ensures { IfOk result (λ number. (place : Text) (told : Option ℕ) →
+        Gives (λ n. n) version.now (found_or Kind place told) → number ≡ unwrap_or told 1) }
+{
+    match version {
+        Ok(number) => Ok(*number as u8),
+        Err(Refusal::Found { .. }) => Ok(1),
+        Err(Refusal::Memory) => Err(Memory),
+    }
+}
+
 /// Looks for keys that are missing or unknown.
 ///
 /// # Errors
@@ -73,25 +93,25 @@ fn check_keys(alloc: Global, table: &Table) -> Result<(), Refusal>
     needed(&mut faults, &top, "policy", table)?;
     table_keys_at(&mut faults, &PolicyTable, &top, "policy", table)?;
     list_keys_at(&mut faults, &LabelTable, &top, "label", table)?;
-    let known = ["version", "client", "object", "right", "policy", "label"];
-    only(&mut faults, &top, &known, table)?;
+    only(&mut faults, &top, &KEYS, table)?;
     refuse(faults)
 }
 
-/// What the table says. Objects are looked at by the version that is told.
+/// What the table says, in one walk in which each key is looked up once. Objects are looked at by the version that is told.
 ///
 /// # Errors
-/// C3 at each value of a wrong kind, and at each number or password out of its range.
-#[tactic(auto, unfolding(crate::specs::Document::parts_of))]
+/// Where keys are missing or unknown, faults, which need not be all; else C3 at each value of a wrong kind, and at each number or
+/// password out of its range.
+#[tactic(auto, unfolding(crate::specs::Document::parts_of, crate::specs::Document::key_faults))]
 fn read_parts(alloc: Global, table: &Table) -> Result<ConfigParts, Refusal>
-    ensures { Gives (λ x. x) result (spec.parts_of (table_view table.now)) }
+    ensures { Reads (λ x. x) result (spec.key_faults (table_view table.now)) (spec.parts_of (table_view table.now)) }
 {
     let top = Place::top(alloc, "");
+    no_others(&top, &KEYS, table)?;
     let version = natural_at(1, 2, &top, "version", table);
     let clients = list_at(&ClientTable, &top, "client", table);
-    let form = ObjectTable {
-        version: told_version(table),
-    };
+    let told = version_read(&version)?;
+    let form = ObjectTable { version: told };
     let objects = list_at(&form, &top, "object", table);
     let rights = optional_list_at(&RightTable, &top, "right", table);
     let policy = table_at(&PolicyTable, &top, "policy", table);
@@ -126,6 +146,12 @@ pub fn read_tables(alloc: Global, text: &str) -> Result<ConfigParts, Refusal>
     ensures faults { Finds result (spec.table_faults text.now) }
 {
     let table = document(alloc, text)?;
-    check_keys(alloc, &table)?;
-    read_parts(alloc, &table)
+    match read_parts(alloc, &table) {
+        Ok(parts) => Ok(parts),
+        Err(refusal) => {
+            // Faults of keys go before those of values, and all of them are told.
+            check_keys(alloc, &table)?;
+            Err(refusal)
+        }
+    }
 }

@@ -3,11 +3,11 @@
 ghost use Rattle.std.specs.Prelude.{◌≡◌, ◌++◌, OnOk};
 ghost use Rattle.toml.specs.View.{table_view};
 ghost use Rattle.config_text.specs.BodyView.{body_text};
-ghost use Rattle.config_text.specs.Refusals.{Gives};
+ghost use Rattle.config_text.specs.Refusals.{Reads};
 ghost use Rattle.config_text.specs.Classes as spec;
 
 use crate::both::both;
-use crate::keys::{needed, only};
+use crate::keys::{needed, no_others, only};
 use crate::parts::BodyParts;
 use crate::place::Place;
 use crate::placed::PlacedFault;
@@ -15,6 +15,12 @@ use crate::refusal::Refusal;
 use crate::values::{natural_at, signed_at, text_at};
 use cosem_data::memory::Memory;
 use toml::Table;
+
+/// The keys of Data.
+const DATA_KEYS: [&str; 4] = ["class", "name", "fed", "value"];
+
+/// The keys of a register.
+const REGISTER_KEYS: [&str; 7] = ["class", "name", "fed", "value", "default", "scaler", "unit"];
 
 /// Notes the keys that are missing or unknown in Data.
 #[tactic(auto, unfolding(crate::specs::Classes::data_keys))]
@@ -26,14 +32,15 @@ pub(crate) fn data_keys(
     ensures { OnOk result (faults.new.items ≡ faults.old.items ++ spec.data_keys at.now (table_view table.now)) }
 {
     needed(faults, at, "value", table)?;
-    only(faults, at, &["class", "name", "fed", "value"], table)
+    only(faults, at, &DATA_KEYS, table)
 }
 
 /// What the table says of Data.
-#[tactic(auto, unfolding(crate::specs::Classes::data_of))]
+#[tactic(auto, unfolding(crate::specs::Classes::data_of, crate::specs::Classes::data_keys))]
 pub(crate) fn data_of(at: &Place<'_>, table: &Table) -> Result<BodyParts, Refusal>
-    ensures { Gives body_text result (spec.data_of at.now (table_view table.now)) }
+    ensures { Reads body_text result (spec.data_keys at.now (table_view table.now)) (spec.data_of at.now (table_view table.now)) }
 {
+    no_others(at, &DATA_KEYS, table)?;
     let value = text_at(at, "value", table)?;
     Ok(BodyParts::Data { value })
 }
@@ -51,15 +58,15 @@ pub(crate) fn register_keys(
     needed(faults, at, "default", table)?;
     needed(faults, at, "scaler", table)?;
     needed(faults, at, "unit", table)?;
-    let known = ["class", "name", "fed", "value", "default", "scaler", "unit"];
-    only(faults, at, &known, table)
+    only(faults, at, &REGISTER_KEYS, table)
 }
 
 /// What the table says of a register.
-#[tactic(auto, unfolding(crate::specs::Classes::register_of))]
+#[tactic(auto, unfolding(crate::specs::Classes::register_of, crate::specs::Classes::register_keys))]
 pub(crate) fn register_of(at: &Place<'_>, table: &Table) -> Result<BodyParts, Refusal>
-    ensures { Gives body_text result (spec.register_of at.now (table_view table.now)) }
+    ensures { Reads body_text result (spec.register_keys at.now (table_view table.now)) (spec.register_of at.now (table_view table.now)) }
 {
+    no_others(at, &REGISTER_KEYS, table)?;
     let value = text_at(at, "value", table);
     let default = text_at(at, "default", table);
     let scaler = signed_at(-128, 127, at, "scaler", table);

@@ -3,14 +3,14 @@
 ghost use Rattle.std.specs.Prelude.{◌≡◌, ◌++◌, [], OnOk, codes, if◌then◌else◌, map, option_map};
 ghost use Rattle.toml.specs.View.{table_view};
 ghost use Rattle.config_text.specs.BodyView.{body_text};
-ghost use Rattle.config_text.specs.Refusals.{Gives};
+ghost use Rattle.config_text.specs.Refusals.{Reads};
 ghost use Rattle.config_text.specs.Classes as spec;
 ghost use Rattle.config_text.specs.Tables.{list_keys_at};
 ghost use Rattle.config_text.specs.Targets.{script_ref_keys};
 
 use crate::both::both;
 use crate::elements::menu_at;
-use crate::keys::{needed, only};
+use crate::keys::{needed, no_others, only};
 use crate::lists::texts_at;
 use crate::parts::{BodyParts, ScriptRefParts};
 use crate::place::Place;
@@ -85,7 +85,8 @@ fn menu_of(
     at: &Place<'_>,
     table: &Table,
 ) -> Result<Option<Vec<ScriptRefParts>>, Refusal>
-    ensures { Gives (option_map (λ v. v.items)) result
+    ensures { Reads (option_map (λ v. v.items)) result
+        (if menus then list_keys_at script_ref_keys at.now (codes "script_menu") (table_view table.now) else [])
         (spec.script_menu_of menus at.now (table_view table.now)) }
 {
     if menus {
@@ -99,10 +100,11 @@ fn menu_of(
 }
 
 /// What the table says of a single action schedule, which may have a menu or not.
-#[tactic(auto, unfolding(crate::specs::Classes::schedule_of))]
+#[tactic(auto, unfolding(crate::specs::Classes::schedule_of, crate::specs::Classes::schedule_keys))]
 pub(crate) fn schedule_of(menus: bool, at: &Place<'_>, table: &Table) -> Result<BodyParts, Refusal>
-    ensures { Gives body_text result (spec.schedule_of menus at.now (table_view table.now)) }
+    ensures { Reads body_text result (spec.schedule_keys menus at.now (table_view table.now)) (spec.schedule_of menus at.now (table_view table.now)) }
 {
+    no_others(at, known_keys(menus), table)?;
     let script = table_at(&ScriptRefTable, at, "script", table);
     let kind = natural_at(1, 5, at, "type", table);
     let times = texts_at(at, "times", table);

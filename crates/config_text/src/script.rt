@@ -1,13 +1,14 @@
 //! The tables of a script table.
 
-ghost use Rattle.std.specs.Prelude.{◌≡◌, ◌++◌, OnOk};
+ghost use Rattle.std.specs.Prelude.{◌≡◌, ◌++◌, [], IfOk, OnOk};
 ghost use Rattle.toml.specs.View.{table_view};
 ghost use Rattle.config_text.specs.BodyView.{body_text};
-ghost use Rattle.config_text.specs.Refusals.{Gives};
+ghost use Rattle.config_text.specs.Keys as keys;
+ghost use Rattle.config_text.specs.Refusals.{Gives, Reads};
 ghost use Rattle.config_text.specs.Classes as spec;
 
 use crate::both::both;
-use crate::keys::{needed, only};
+use crate::keys::{needed, no_others, only};
 use crate::parts::{ActionParts, BodyParts, ScriptParts};
 use crate::place::Place;
 use crate::placed::PlacedFault;
@@ -23,7 +24,8 @@ use toml::Table;
 /// The service at a key: 1 writes an attribute, 2 invokes a method.
 #[tactic(auto, unfolding(crate::specs::Classes::service_at))]
 fn service_at(at: &Place<'_>, key: &str, table: &Table) -> Result<Service, Refusal>
-    ensures { Gives (λ s. s) result (spec.service_at at.now key.now (table_view table.now)) }
+    ensures value { Gives (λ s. s) result (spec.service_at at.now key.now (table_view table.now)) }
+    ensures there { IfOk result (λ _. keys.needed at.now key.now (table_view table.now) ≡ []) }
 {
     let number = natural_at(1, 2, at, key, table)?;
     if number == 1 {
@@ -32,6 +34,9 @@ fn service_at(at: &Place<'_>, key: &str, table: &Table) -> Result<Service, Refus
         Ok(Service::Invoke)
     }
 }
+
+/// The keys of an action of a script.
+const ACTION_KEYS: [&str; 4] = ["service", "object", "index", "value"];
 
 /// `service`, `object`, `index` and perhaps `value`: an action of a script.
 pub(crate) struct ActionTable;
@@ -55,11 +60,12 @@ impl TableForm for ActionTable {
         needed(faults, at, "service", table)?;
         needed(faults, at, "object", table)?;
         needed(faults, at, "index", table)?;
-        only(faults, at, &["service", "object", "index", "value"], table)
+        only(faults, at, &ACTION_KEYS, table)
     }
 
-    #[tactic(auto, unfolding(crate::specs::Classes::action_of))]
+    #[tactic(auto, unfolding(crate::specs::Classes::action_of, crate::specs::Classes::action_keys))]
     fn read(&self, at: &Place<'_>, table: &Table) -> Result<ActionParts, Refusal> {
+        no_others(at, &ACTION_KEYS, table)?;
         let service = service_at(at, "service", table);
         let target = target_of(at, table);
         let value = optional_text_at(at, "value", table);
@@ -71,6 +77,9 @@ impl TableForm for ActionTable {
         })
     }
 }
+
+/// The keys of a script.
+const SCRIPT_KEYS: [&str; 2] = ["id", "action"];
 
 /// `id` and `action`: a script.
 pub(crate) struct ScriptTable;
@@ -94,11 +103,12 @@ impl TableForm for ScriptTable {
         needed(faults, at, "id", table)?;
         needed(faults, at, "action", table)?;
         list_keys_at(faults, &ActionTable, at, "action", table)?;
-        only(faults, at, &["id", "action"], table)
+        only(faults, at, &SCRIPT_KEYS, table)
     }
 
-    #[tactic(auto, unfolding(crate::specs::Classes::script_of))]
+    #[tactic(auto, unfolding(crate::specs::Classes::script_of, crate::specs::Classes::script_keys))]
     fn read(&self, at: &Place<'_>, table: &Table) -> Result<ScriptParts, Refusal> {
+        no_others(at, &SCRIPT_KEYS, table)?;
         let id = natural_at(0, 65535, at, "id", table);
         let actions = list_at(&ActionTable, at, "action", table);
         let (id, actions) = both(id, actions)?;
@@ -108,6 +118,9 @@ impl TableForm for ScriptTable {
         })
     }
 }
+
+/// The keys of a script table.
+const TABLE_KEYS: [&str; 4] = ["class", "name", "fed", "script"];
 
 /// Notes the keys that are missing or unknown in a script table.
 #[tactic(auto, unfolding(crate::specs::Classes::script_table_keys))]
@@ -120,14 +133,15 @@ pub(crate) fn script_table_keys(
 {
     needed(faults, at, "script", table)?;
     list_keys_at(faults, &ScriptTable, at, "script", table)?;
-    only(faults, at, &["class", "name", "fed", "script"], table)
+    only(faults, at, &TABLE_KEYS, table)
 }
 
 /// What the table says of a script table.
-#[tactic(auto, unfolding(crate::specs::Classes::script_table_of))]
+#[tactic(auto, unfolding(crate::specs::Classes::script_table_of, crate::specs::Classes::script_table_keys))]
 pub(crate) fn script_table_of(at: &Place<'_>, table: &Table) -> Result<BodyParts, Refusal>
-    ensures { Gives body_text result (spec.script_table_of at.now (table_view table.now)) }
+    ensures { Reads body_text result (spec.script_table_keys at.now (table_view table.now)) (spec.script_table_of at.now (table_view table.now)) }
 {
+    no_others(at, &TABLE_KEYS, table)?;
     let scripts = list_at(&ScriptTable, at, "script", table)?;
     Ok(BodyParts::ScriptTable { scripts })
 }

@@ -1,7 +1,9 @@
 //! Tables inside of tables, and what they say.
 
+ghost use Rattle.std.specs.Prelude.{◌≡◌, [], IfOk};
 ghost use Rattle.toml.specs.View.{table_view};
-ghost use Rattle.config_text.specs.Refusals.{Gives};
+ghost use Rattle.config_text.specs.Keys.{needed};
+ghost use Rattle.config_text.specs.Refusals.{Reads};
 ghost use Rattle.config_text.specs.Tables as spec;
 
 use crate::elements::{Element, array_at, optional_array_at};
@@ -20,7 +22,7 @@ pub(crate) trait TableForm {
     ghost use Rattle.toml.specs.View.{table_view};
     ghost use Rattle.config_text.specs.Fault.{Fault, Faults};
     ghost use Rattle.config_text.specs.Parts.{Text};
-    ghost use Rattle.config_text.specs.Refusals.{Gives};
+    ghost use Rattle.config_text.specs.Refusals.{Reads};
 
     /// What a table says.
     type Parts: Drop;
@@ -40,12 +42,12 @@ pub(crate) trait TableForm {
     ) -> Result<(), Memory>
         ensures { OnOk result (faults.new.items ≡ faults.old.items ++ keys self.now at.now (table_view table.now)) };
 
-    /// Reads a table.
+    /// Reads a table, in which each key is looked up once.
     ///
     /// # Errors
-    /// C3 at each value of a wrong kind.
+    /// Where keys are missing or unknown, faults, which need not be all; else C3 at each value of a wrong kind.
     fn read(&self, at: &Place<'_>, table: &Table) -> Result<Self::Parts, Refusal>
-        ensures { Gives (λ x. x) result (says self.now at.now (table_view table.now)) };
+        ensures { Reads (λ x. x) result (keys self.now at.now (table_view table.now)) (says self.now at.now (table_view table.now)) };
 }
 
 /// A table of a form, as an element of an array.
@@ -55,13 +57,15 @@ pub(crate) struct TableOf<'a, T> {
 }
 
 impl<'a, T: TableForm> Element for TableOf<'a, T> {
-    ghost use Rattle.config_text.specs.Tables.{table_of};
+    ghost use Rattle.config_text.specs.Tables.{keys_in, table_of};
 
     type Parts = T::Parts;
 
     ghost Said = { T.Parts };
 
     ghost seen = { λ parts. parts };
+
+    ghost keys = { λ element. keys_in (T.keys element.form.now) };
 
     ghost says = { λ element. table_of (T.says element.form.now) };
 
@@ -77,14 +81,17 @@ impl<'a, T: TableForm> Element for TableOf<'a, T> {
 ///
 /// # Errors
 /// C3 at the key where it is no array, at each element that is no table, and where the tables say so.
+#[tactic(auto, unfolding(crate::specs::Tables::list_keys_at))]
 pub(crate) fn list_at<T: TableForm>(
     form: &T,
     at: &Place<'_>,
     key: &str,
     table: &Table,
 ) -> Result<Vec<T::Parts>, Refusal>
-    ensures { Gives (λ v. v.items) result (spec.list_at (T.says form.now) at.now key.now
-        (table_view table.now)) }
+    ensures read { Reads (λ v. v.items) result
+        (spec.list_keys_at (T.keys form.now) at.now key.now (table_view table.now))
+        (spec.list_at (T.says form.now) at.now key.now (table_view table.now)) }
+    ensures there { IfOk result (λ _. needed at.now key.now (table_view table.now) ≡ []) }
 {
     array_at(&TableOf { form }, at, key, table)
 }
@@ -93,14 +100,16 @@ pub(crate) fn list_at<T: TableForm>(
 ///
 /// # Errors
 /// C3 at the key where it is no array, at each element that is no table, and where the tables say so.
+#[tactic(auto, unfolding(crate::specs::Tables::list_keys_at))]
 pub(crate) fn optional_list_at<T: TableForm>(
     form: &T,
     at: &Place<'_>,
     key: &str,
     table: &Table,
 ) -> Result<Vec<T::Parts>, Refusal>
-    ensures { Gives (λ v. v.items) result (spec.optional_list_at (T.says form.now) at.now key.now
-        (table_view table.now)) }
+    ensures { Reads (λ v. v.items) result
+        (spec.list_keys_at (T.keys form.now) at.now key.now (table_view table.now))
+        (spec.optional_list_at (T.says form.now) at.now key.now (table_view table.now)) }
 {
     optional_array_at(&TableOf { form }, at, key, table)
 }
@@ -109,15 +118,17 @@ pub(crate) fn optional_list_at<T: TableForm>(
 ///
 /// # Errors
 /// C3 at the key where it is no table, and where the table says so.
-#[tactic(auto, unfolding(crate::specs::Tables::table_at))]
+#[tactic(auto, unfolding(crate::specs::Tables::table_at, crate::specs::Tables::table_keys_at, crate::specs::Keys::needed))]
 pub(crate) fn table_at<T: TableForm>(
     form: &T,
     at: &Place<'_>,
     key: &str,
     table: &Table,
 ) -> Result<T::Parts, Refusal>
-    ensures { Gives (λ x. x) result (spec.table_at (T.says form.now) at.now key.now
-        (table_view table.now)) }
+    ensures read { Reads (λ x. x) result
+        (spec.table_keys_at (T.keys form.now) at.now key.now (table_view table.now))
+        (spec.table_at (T.says form.now) at.now key.now (table_view table.now)) }
+    ensures there { IfOk result (λ _. needed at.now key.now (table_view table.now) ≡ []) }
 {
     match table_in(table, key) {
         Some(inner) => form.read(&at.below(key).below("."), inner),

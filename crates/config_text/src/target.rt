@@ -1,11 +1,13 @@
 //! The tables that name an attribute or method, and a script.
 
+ghost use Rattle.std.specs.Prelude.{◌≡◌, [], IfOk, codes};
 ghost use Rattle.toml.specs.View.{table_view};
+ghost use Rattle.config_text.specs.Keys as keys;
 ghost use Rattle.config_text.specs.Refusals.{Gives};
 ghost use Rattle.config_text.specs.Targets as spec;
 
 use crate::both::both;
-use crate::keys::{needed, only};
+use crate::keys::{needed, no_others, only};
 use crate::parts::{ScriptRefParts, TargetParts};
 use crate::place::Place;
 use crate::placed::PlacedFault;
@@ -18,7 +20,9 @@ use toml::Table;
 /// The attribute or method that a table names, among other things that it says.
 #[tactic(auto, unfolding(crate::specs::Targets::target_of))]
 pub(crate) fn target_of(at: &Place<'_>, table: &Table) -> Result<TargetParts, Refusal>
-    ensures { Gives (λ x. x) result (spec.target_of at.now (table_view table.now)) }
+    ensures value { Gives (λ x. x) result (spec.target_of at.now (table_view table.now)) }
+    ensures object_there { IfOk result (λ _. keys.needed at.now (codes "object") (table_view table.now) ≡ []) }
+    ensures index_there { IfOk result (λ _. keys.needed at.now (codes "index") (table_view table.now) ≡ []) }
 {
     let object = text_at(at, "object", table);
     let index = natural_at(0, 127, at, "index", table);
@@ -28,6 +32,9 @@ pub(crate) fn target_of(at: &Place<'_>, table: &Table) -> Result<TargetParts, Re
         index: index as u8,
     })
 }
+
+/// The keys of an attribute or method.
+const TARGET_KEYS: [&str; 2] = ["object", "index"];
 
 /// `object` and `index`: an attribute or method.
 pub(crate) struct TargetTable;
@@ -50,13 +57,18 @@ impl TableForm for TargetTable {
     ) -> Result<(), Memory> {
         needed(faults, at, "object", table)?;
         needed(faults, at, "index", table)?;
-        only(faults, at, &["object", "index"], table)
+        only(faults, at, &TARGET_KEYS, table)
     }
 
+    #[tactic(auto, unfolding(crate::specs::Targets::target_keys))]
     fn read(&self, at: &Place<'_>, table: &Table) -> Result<TargetParts, Refusal> {
+        no_others(at, &TARGET_KEYS, table)?;
         target_of(at, table)
     }
 }
+
+/// The keys of a script of a script table.
+const SCRIPT_REF_KEYS: [&str; 2] = ["table", "script"];
 
 /// `table` and `script`: a script of a script table.
 pub(crate) struct ScriptRefTable;
@@ -79,11 +91,12 @@ impl TableForm for ScriptRefTable {
     ) -> Result<(), Memory> {
         needed(faults, at, "table", table)?;
         needed(faults, at, "script", table)?;
-        only(faults, at, &["table", "script"], table)
+        only(faults, at, &SCRIPT_REF_KEYS, table)
     }
 
-    #[tactic(auto, unfolding(crate::specs::Targets::script_ref_of))]
+    #[tactic(auto, unfolding(crate::specs::Targets::script_ref_of, crate::specs::Targets::script_ref_keys))]
     fn read(&self, at: &Place<'_>, table: &Table) -> Result<ScriptRefParts, Refusal> {
+        no_others(at, &SCRIPT_REF_KEYS, table)?;
         let name = text_at(at, "table", table);
         let script = integer_at(at, "script", table);
         let (name, script) = both(name, script)?;

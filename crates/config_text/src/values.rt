@@ -1,10 +1,11 @@
 //! What a table says at a key that holds a text, a number or a yes or no. `at` is the place of the table, up to its dot.
 
-ghost use Rattle.std.specs.Prelude.{◌≡◌, ◌≤◌, ◌≤ℤ◌, option_map, option_and_then, string_bytes, length, IfOk, IfSome};
+ghost use Rattle.std.specs.Prelude.{◌≡◌, ◌≤◌, ◌≤ℤ◌, [], option_map, option_and_then, string_bytes, length, IfOk, IfSome};
 ghost use Rattle.std.specs.Char.{is_ascii};
 ghost use Rattle.std.specs.List.{list_all};
 ghost use Rattle.toml.specs.Data.{as_str, as_integer, get_member};
 ghost use Rattle.toml.specs.View.{table_view};
+ghost use Rattle.config_text.specs.Keys.{needed};
 ghost use Rattle.config_text.specs.Refusals.{Gives};
 ghost use Rattle.config_text.specs.Values as spec;
 
@@ -19,9 +20,10 @@ use toml::Table;
 ///
 /// # Errors
 /// C3 at the key where it isn't a text.
-#[tactic(auto, unfolding(crate::specs::Values::text_at))]
+#[tactic(auto, unfolding(crate::specs::Values::text_at, crate::specs::Keys::needed))]
 pub(crate) fn text_at<K: Kept>(at: &Place<'_>, key: &str, table: &Table) -> Result<K, Refusal>
-    ensures { Gives (λ text. K.says text) result (spec.text_at at.now key.now (table_view table.now)) }
+    ensures value { Gives (λ text. K.says text) result (spec.text_at at.now key.now (table_view table.now)) }
+    ensures there { IfOk result (λ _. needed at.now key.now (table_view table.now) ≡ []) }
 {
     match text(table, key) {
         Some(found) => Ok(K::keep(at.alloc(), found)?),
@@ -117,7 +119,7 @@ pub(crate) fn natural_or_none(low: u64, high: u64, key: &str, table: &Table) -> 
 ///
 /// # Errors
 /// C3 at the key where it is something else.
-#[tactic(auto, unfolding(crate::specs::Values::natural_at))]
+#[tactic(auto, unfolding(crate::specs::Values::natural_at, crate::specs::Keys::needed))]
 pub(crate) fn natural_at(
     low: u64,
     high: u64,
@@ -127,6 +129,7 @@ pub(crate) fn natural_at(
 ) -> Result<u64, Refusal>
     ensures value { Gives (λ n. n) result (spec.natural_at low high at.now key.now
         (table_view table.now)) }
+    ensures there { IfOk result (λ _. needed at.now key.now (table_view table.now) ≡ []) }
     ensures range { IfOk result (λ n. (low ≤ n) × (n ≤ high)) }
 {
     match natural(integer(table, key), low, high) {
@@ -151,7 +154,7 @@ fn signed(found: Option<i64>, low: i64, high: i64) -> Option<i64>
 ///
 /// # Errors
 /// C3 at the key where it is something else.
-#[tactic(auto, unfolding(crate::specs::Values::signed_at))]
+#[tactic(auto, unfolding(crate::specs::Values::signed_at, crate::specs::Keys::needed))]
 pub(crate) fn signed_at(
     low: i64,
     high: i64,
@@ -161,6 +164,7 @@ pub(crate) fn signed_at(
 ) -> Result<i64, Refusal>
     ensures value { Gives (λ n. n) result (spec.signed_at low high at.now key.now
         (table_view table.now)) }
+    ensures there { IfOk result (λ _. needed at.now key.now (table_view table.now) ≡ []) }
     ensures range { IfOk result (λ n. (low ≤ℤ n) × (n ≤ℤ high)) }
 {
     match signed(integer(table, key), low, high) {
@@ -173,9 +177,10 @@ pub(crate) fn signed_at(
 ///
 /// # Errors
 /// C3 at the key where it is something else.
-#[tactic(auto, unfolding(crate::specs::Values::integer_at))]
+#[tactic(auto, unfolding(crate::specs::Values::integer_at, crate::specs::Keys::needed))]
 pub(crate) fn integer_at(at: &Place<'_>, key: &str, table: &Table) -> Result<i64, Refusal>
-    ensures { Gives (λ n. n) result (spec.integer_at at.now key.now (table_view table.now)) }
+    ensures value { Gives (λ n. n) result (spec.integer_at at.now key.now (table_view table.now)) }
+    ensures there { IfOk result (λ _. needed at.now key.now (table_view table.now) ≡ []) }
 {
     match integer(table, key) {
         Some(number) => Ok(number),

@@ -7,11 +7,11 @@ use Rattle.hex.specs.declared.error.FromHexError.TheVariants.{InvalidHexCharacte
 use Rattle.line_server.specs.declared.digits.TheConstants.{PAIRS, VALUES}
 
 -- a test holds of each number below n
-abbrev all_below : (ℕ → Bool) → ℕ → Bool
+abbrev pub all_below : (ℕ → Bool) → ℕ → Bool
 all_below test zero = true
 all_below test (suc n) = test n && all_below test n
 
-all_below_at : (test : ℕ → Bool) (n k : ℕ) → all_below test n ≡ true → k < n → test k ≡ true
+pub all_below_at : (test : ℕ → Bool) (n k : ℕ) → all_below test n ≡ true → k < n → test k ≡ true
 all_below_at test zero k h lt = absurd (omega arith)
 all_below_at test (suc n) k h lt =
     let parts = and_parts (test n) (all_below test n) h in

@@ -7,3 +7,5 @@ pub mod Alone
 pub mod Exact
 mod Lefts
 mod DigitTables
+mod DigitBlocks
+mod DigitLanes

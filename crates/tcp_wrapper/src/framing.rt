@@ -1,6 +1,6 @@
 //! Frames as they are made, and what is fixed in them.
-ghost use Rattle.std.specs.Prelude.{◌≡◌, ◌≤◌, length, IfOk};
-ghost use Rattle.tcp_wrapper.specs.Stream.{framed};
+ghost use Rattle.std.specs.Prelude.{◌≡◌, ◌≤◌, ◌++◌, length, IfOk};
+ghost use Rattle.tcp_wrapper.specs.Stream.{framed, word};
 
 use cosem_data::memory::Memory;
 use std::alloc::Global;
@@ -26,12 +26,28 @@ pub fn frame(alloc: Global, source: u16, destination: u16, apdu: &[u8]) -> Resul
     requires { length apdu.now ≤ 1024 }
     ensures { IfOk result (λ bytes. bytes.items ≡ framed source destination apdu.now) }
 {
-    let length = apdu.len() as u16;
     let mut bytes = Vec::with_capacity(alloc, HEADER_LENGTH + apdu.len())?;
-    bytes.extend_from_slice(&VERSION.to_be_bytes())?;
-    bytes.extend_from_slice(&source.to_be_bytes())?;
-    bytes.extend_from_slice(&destination.to_be_bytes())?;
-    bytes.extend_from_slice(&length.to_be_bytes())?;
+    bytes.extend_from_slice(&header(source, destination, apdu.len() as u16))?;
     bytes.extend_from_slice(apdu)?;
     Ok(bytes)
+}
+
+/// The header of a frame with an APDU of this length (IEC 62056-4-7, the wrapper header).
+fn header(source: u16, destination: u16, length: u16) -> [u8; HEADER_LENGTH]
+    ensures { result ≡ word 1 ++ (word source ++ (word destination ++ word length)) }
+{
+    let [version_high, version_low] = VERSION.to_be_bytes();
+    let [source_high, source_low] = source.to_be_bytes();
+    let [destination_high, destination_low] = destination.to_be_bytes();
+    let [length_high, length_low] = length.to_be_bytes();
+    [
+        version_high,
+        version_low,
+        source_high,
+        source_low,
+        destination_high,
+        destination_low,
+        length_high,
+        length_low,
+    ]
 }

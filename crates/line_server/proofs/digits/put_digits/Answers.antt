@@ -1,19 +1,10 @@
-use Rattle.std.proofs.Common.{◌≡◌, ◌+◌, ◌*◌, ◌/◌, ◌%◌, ℕ, arith, ap, ◌∙◌, slice_index}
-use Rattle.hex.specs.Hex.{upper_digits}
-use Rattle.hex.proofs.Pairs.{encode_step, encode_done}
-use Rattle.line_server.specs.declared.digits.TheConstants.{PAIRS}
-use Rattle.line_server.proofs.DigitTables.{digits_at_byte}
+use Rattle.std.proofs.Common.{◌*◌, ◌-◌, length, arith}
+use Rattle.line_server.proofs.DigitBlocks.{fewer_digits, no_byte}
 use Rattle.line_server.proofs.digits.put_digits.Goals as goal
 
-pub bytes-preserved : goal.bytes-preserved
-bytes-preserved c =
-    let byte : ℕ = slice_index c.args.bytes.now c.bytes.i in
-    let pair = digits_at_byte byte (omega arith) in
-    let high : slice_index PAIRS (2 * c.from-place.result) ≡ slice_index upper_digits (byte / 16) =
-    ap (λ (k : ℕ). slice_index PAIRS (2 * k)) c.from-place.ensures ∙ pair.0 in
-    let low : slice_index PAIRS (2 * c.from-place.result + 1) ≡ slice_index upper_digits (byte % 16) =
-    ap (λ (k : ℕ). slice_index PAIRS (2 * k + 1)) c.from-place.ensures ∙ pair.1 in
-    encode_step upper_digits c.args.bytes.now c.bytes.room c.bytes.i _ _ (omega arith) (omega arith) high low c.bytes.invariant
+pub loop-i-init : goal.loop-i-init
+loop-i-init c = no_byte
 
-pub returns : goal.returns
-returns c = encode_done _ _ _ c.bytes.i (omega arith) (omega arith) c.bytes.invariant
+pub put_block-requires-2-clause-begun : goal.put_block-requires-2-clause-begun
+put_block-requires-2-clause-begun c =
+    fewer_digits c.args.bytes.now c.loop-i.room (length c.args.bytes.now - 8) (8 * c.loop-i.i) (omega arith) (omega arith) c.loop-i.invariant

@@ -1,8 +1,8 @@
-use Rattle.std.proofs.Common.{◌≡◌, ◌*◌, take, drop}
-use Rattle.hex.specs.Hex.{decode_pairs}
-use Rattle.hex.proofs.Pairs.{prepend}
+use Rattle.std.proofs.Common.{◌≡◌, ◌*◌, Some, take}
+use Rattle.std.specs.Result.{result_ok}
+use Rattle.hex.specs.Hex.{decode_of}
 use Rattle.line_server.proofs.digits.take_digits.Given as goal
 
--- the bytes so far stand in front of what the digits that are left come to
-abbrev pub invariant-bytes : goal.invariant-bytes
-invariant-bytes l = decode_pairs 0 l.digits ≡ prepend (take l.i l.room) (decode_pairs (2 * l.i) (drop (2 * l.i) l.digits))
+-- the bytes of the blocks so far stand in front
+abbrev pub invariant-loop-i : goal.invariant-loop-i
+invariant-loop-i l = result_ok (decode_of (take (2 * (8 * l.i)) l.digits)) ≡ Some (take (8 * l.i) l.room)
