@@ -1,14 +1,11 @@
 //! An object's table.
 
-ghost use Rattle.std.specs.Prelude.{◌≡◌, ◌++◌, ◌≤◌, ℕ, IfOk, OnOk, Option, option_and_then};
+ghost use Rattle.std.specs.Prelude.{◌≡◌, ◌++◌, ◌≤◌, IfSome, OnOk, option_and_then};
 ghost use Rattle.toml.specs.View.{table_view};
 ghost use Rattle.meter_theory.specs.Classes.{class_in};
 ghost use Rattle.config_text.specs.BodyView.{body_text};
-ghost use Rattle.config_text.specs.Fault.{found_or};
-ghost use Rattle.config_text.specs.Parts.{Text};
 ghost use Rattle.config_text.specs.Refusals.{Gives, Reads};
 ghost use Rattle.config_text.specs.Objects as spec;
-ghost use Rattle.config_text.specs.declared.fault.Code.TheVariants.{Kind};
 
 use crate::both::both;
 use crate::clock::{clock_keys, clock_of};
@@ -23,30 +20,18 @@ use crate::register::{data_keys, data_of, register_keys, register_of};
 use crate::schedule::{schedule_keys, schedule_of};
 use crate::script::{script_table_keys, script_table_of};
 use crate::tables::TableForm;
-use crate::values::{flag_at, natural_at, natural_or_none, text_at};
+use crate::values::{flag_at, natural_at, natural_or_none, natural_read, text_at};
 use cosem_data::memory::Memory;
 use meter_theory::classes::Class;
 use toml::Table;
 
-/// The class of an object's table, if it can be one and is known in this version.
-fn class_told(version: u8, table: &Table) -> Option<Class>
-    ensures { result ≡ spec.class_told version (table_view table.now) }
+/// The class with the number that is told, if one is and the class is known in this version.
+fn class_told(version: u8, told: Option<u64>) -> Option<Class>
+    requires { IfSome told (λ n. n ≤ 65535) }
+    ensures { result ≡ option_and_then (class_in version) told }
 {
-    let class_id = natural_or_none(0, 65535, "class", table)?;
+    let class_id = told?;
     Class::in_version(version, class_id as u16)
-}
-
-/// The same of a number that was read. The error is that memory was refused.
-fn class_read(version: u8, class_id: &Result<u64, Refusal>) -> Result<Option<Class>, Memory>
-    requires { IfOk class_id.now (λ n. n ≤ 65535) }
-    ensures { IfOk result (λ class. (place : Text) (told : Option ℕ) →
-        Gives (λ n. n) class_id.now (found_or Kind place told) → class ≡ option_and_then (class_in version) told) }
-{
-    match class_id {
-        Ok(number) => Ok(Class::in_version(version, *number as u16)),
-        Err(Refusal::Found { .. }) => Ok(None),
-        Err(Refusal::Memory) => Err(Memory),
-    }
 }
 
 /// Whether a text of this version may have menus.
@@ -134,7 +119,8 @@ impl TableForm for ObjectTable {
     ) -> Result<(), Memory> {
         needed(faults, at, "class", table)?;
         needed(faults, at, "name", table)?;
-        let class = class_told(self.version, table);
+        let told = natural_or_none(0, 65535, "class", table);
+        let class = class_told(self.version, told);
         class_keys(faults, has_menus(self.version), class, at, table)
     }
 
@@ -142,7 +128,8 @@ impl TableForm for ObjectTable {
     fn read(&self, at: &Place<'_>, table: &Table) -> Result<ObjectParts, Refusal> {
         let class_id = natural_at(0, 65535, at, "class", table);
         let name = text_at(at, "name", table);
-        let class = class_read(self.version, &class_id)?;
+        let told = natural_read(&class_id)?;
+        let class = class_told(self.version, told);
         let fed = fed_of(class, at, table);
         let body = body_of(has_menus(self.version), class, at, table);
         let (((class_id, name), fed), body) = both(both(both(class_id, name), fed), body)?;

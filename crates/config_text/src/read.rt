@@ -1,12 +1,9 @@
 //! The tables of a configuration text, read pass by pass.
 
-ghost use Rattle.std.specs.Prelude.{◌≡◌, ◌≤◌, ℕ, IfOk, Ok, Option, unwrap_or};
+ghost use Rattle.std.specs.Prelude.{◌≡◌, ◌≤◌, IfOk, IfSome, Ok, unwrap_or};
 ghost use Rattle.toml.specs.View.{table_view};
-ghost use Rattle.config_text.specs.Fault.{found_or};
-ghost use Rattle.config_text.specs.Parts.{Text};
 ghost use Rattle.config_text.specs.Refusals.{Finds, Gives, Reads};
 ghost use Rattle.config_text.specs.Document as spec;
-ghost use Rattle.config_text.specs.declared.fault.Code.TheVariants.{Kind};
 
 use crate::both::both;
 use crate::client::ClientTable;
@@ -19,7 +16,7 @@ use crate::refusal::{Refusal, refuse, refused};
 use crate::right::{LabelTable, PolicyTable, RightTable};
 use crate::table_keys::{list_keys_at, table_keys_at};
 use crate::tables::{list_at, optional_list_at, table_at};
-use crate::values::{natural_at, natural_or_none};
+use crate::values::{natural_at, natural_or_none, natural_read};
 use cosem_data::memory::Memory;
 use std::alloc::Global;
 use toml::Table;
@@ -49,25 +46,13 @@ fn document(alloc: Global, text: &str) -> Result<Table, Refusal>
 }
 
 /// The version by which objects are looked at: 1, unless it is told to be 2.
-fn told_version(table: &Table) -> u8
-    ensures { result ≡ spec.told_version (table_view table.now) }
+fn version_told(told: Option<u64>) -> u8
+    requires { IfSome told (λ n. n ≤ 2) }
+    ensures { result ≡ unwrap_or told 1 }
 {
-    match natural_or_none(1, 2, "version", table) {
+    match told {
         Some(version) => version as u8,
         None => 1,
-    }
-}
-
-/// The same by a number that was read. The error is that memory was refused.
-fn version_read(version: &Result<u64, Refusal>) -> Result<u8, Memory>
-    requires { IfOk version.now (λ n. n ≤ 2) }
-    ensures { IfOk result (λ number. (place : Text) (told : Option ℕ) →
-        Gives (λ n. n) version.now (found_or Kind place told) → number ≡ unwrap_or told 1) }
-{
-    match version {
-        Ok(number) => Ok(*number as u8),
-        Err(Refusal::Found { .. }) => Ok(1),
-        Err(Refusal::Memory) => Err(Memory),
     }
 }
 
@@ -85,8 +70,9 @@ fn check_keys(alloc: Global, table: &Table) -> Result<(), Refusal>
     needed(&mut faults, &top, "client", table)?;
     list_keys_at(&mut faults, &ClientTable, &top, "client", table)?;
     needed(&mut faults, &top, "object", table)?;
+    let told = natural_or_none(1, 2, "version", table);
     let objects = ObjectTable {
-        version: told_version(table),
+        version: version_told(told),
     };
     list_keys_at(&mut faults, &objects, &top, "object", table)?;
     list_keys_at(&mut faults, &RightTable, &top, "right", table)?;
@@ -110,8 +96,10 @@ fn read_parts(alloc: Global, table: &Table) -> Result<ConfigParts, Refusal>
     no_others(&top, &KEYS, table)?;
     let version = natural_at(1, 2, &top, "version", table);
     let clients = list_at(&ClientTable, &top, "client", table);
-    let told = version_read(&version)?;
-    let form = ObjectTable { version: told };
+    let told = natural_read(&version)?;
+    let form = ObjectTable {
+        version: version_told(told),
+    };
     let objects = list_at(&form, &top, "object", table);
     let rights = optional_list_at(&RightTable, &top, "right", table);
     let policy = table_at(&PolicyTable, &top, "policy", table);

@@ -1,19 +1,24 @@
 //! What a table says at a key that holds a text, a number or a yes or no. `at` is the place of the table, up to its dot.
 
-ghost use Rattle.std.specs.Prelude.{◌≡◌, ◌≤◌, ◌≤ℤ◌, [], option_map, option_and_then, string_bytes, length, IfOk, IfSome};
+ghost use Rattle.std.specs.Prelude.{◌≡◌, ◌≤◌, ◌≤ℤ◌, ℕ, [], Option, option_map, option_and_then, string_bytes, length, IfOk, IfSome};
 ghost use Rattle.std.specs.Char.{is_ascii};
 ghost use Rattle.std.specs.List.{list_all};
+ghost use Rattle.std.specs.Result.{result_ok};
 ghost use Rattle.toml.specs.Data.{as_str, as_integer, get_member};
 ghost use Rattle.toml.specs.View.{table_view};
+ghost use Rattle.config_text.specs.Fault.{found_or};
 ghost use Rattle.config_text.specs.Keys.{needed};
+ghost use Rattle.config_text.specs.Parts.{Text};
 ghost use Rattle.config_text.specs.Refusals.{Gives};
 ghost use Rattle.config_text.specs.Values as spec;
+ghost use Rattle.config_text.specs.declared.fault.Code.TheVariants.{Kind};
 
 use crate::fault::Code;
 use crate::kept::Kept;
 use crate::lookup::{integer, text, value_at};
 use crate::place::Place;
 use crate::refusal::{Refusal, refused};
+use cosem_data::memory::Memory;
 use toml::Table;
 
 /// The text at a key.
@@ -135,6 +140,19 @@ pub(crate) fn natural_at(
     match natural(integer(table, key), low, high) {
         Some(number) => Ok(number),
         None => Err(refused(Code::Kind, at, key)),
+    }
+}
+
+/// The number of a reading, or none where it found a fault instead. The error is that memory was refused.
+pub(crate) fn natural_read(reading: &Result<u64, Refusal>) -> Result<Option<u64>, Memory>
+    ensures value { IfOk result (λ told. (place : Text) (number : Option ℕ) →
+        Gives (λ n. n) reading.now (found_or Kind place number) → told ≡ number) }
+    ensures read { IfOk result (λ told. told ≡ result_ok reading.now) }
+{
+    match reading {
+        Ok(number) => Ok(Some(*number)),
+        Err(Refusal::Found { .. }) => Ok(None),
+        Err(Refusal::Memory) => Err(Memory),
     }
 }
 

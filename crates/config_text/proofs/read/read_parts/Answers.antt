@@ -12,7 +12,7 @@ returns-in_err-no_others c = refused_keys _ _ _ _ _ _ c.from_residual.ensures (s
 pub returns-in_err-version : goal.returns-in_err-version
 unfolding key_faults parts_of natural_at
 returns-in_err-version c =
-    let told = c.in_ok-told.ensures _ _ c.natural_at-version.ensures.value in
+    let told = simp (c.in_ok-told.ensures.value _ _ c.natural_at-version.ensures.value) at c.version_told.ensures in
     refused_on _ _ _ _ _ c.from_residual-in_err-version.ensures (λ none.
     let count = simp length-append at (ap length none) in
     let two = c.both.ensures.faults _ _ c.natural_at-version.ensures.value.1 (c.list_at-clients.ensures.read.1 (rw c.top-top.ensures (nil_from_length _ (omega (arith, count))))) in
@@ -25,7 +25,7 @@ returns-in_err-version c =
 pub returns : goal.returns
 unfolding key_faults parts_of natural_at
 returns c =
-    let told = c.in_ok-told.ensures _ _ c.natural_at-version.ensures.value in
+    let told = simp (c.in_ok-told.ensures.value _ _ c.natural_at-version.ensures.value) at c.version_told.ensures in
     let last = c.in_ok-version.ensures.read in
     let five = simp last.0 at c.both-3.ensures.read in
     let four = simp five.0 at c.both-2.ensures.read in

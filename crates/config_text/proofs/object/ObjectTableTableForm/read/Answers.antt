@@ -8,7 +8,7 @@ use Rattle.config_text.proofs.object.ObjectTableTableForm.read.Goals as goal
 pub returns-in_err-class_id : goal.returns-in_err-class_id
 unfolding object_keys object_of natural_at
 returns-in_err-class_id c =
-    let class = c.in_ok-class.ensures _ _ c.natural_at-class_id.ensures.value in
+    let class = simp (c.in_ok-told.ensures.value _ _ c.natural_at-class_id.ensures.value) at c.class_told-class.ensures in
     refused_on _ _ _ _ _ c.from_residual-in_err-class_id.ensures (λ none.
     let two = c.both.ensures.faults _ _ c.natural_at-class_id.ensures.value.1 c.text_at-name.ensures.value.1 in
     let three = c.both-2.ensures.faults _ _ two c.fed_of-fed.ensures.1 in
@@ -18,7 +18,7 @@ returns-in_err-class_id c =
 pub returns : goal.returns
 unfolding object_keys object_of natural_at
 returns c =
-    let class = c.in_ok-class.ensures _ _ c.natural_at-class_id.ensures.value in
+    let class = simp (c.in_ok-told.ensures.value _ _ c.natural_at-class_id.ensures.value) at c.class_told-class.ensures in
     let last = c.in_ok-class_id.ensures.read in
     let three = simp last.0 at c.both-2.ensures.read in
     let two = simp three.0 at c.both.ensures.read in
