@@ -1,6 +1,6 @@
 //! Arrows by their sources.
-ghost use Rattle.std.specs.Prelude.{◌≡◌, length, IfOk};
-ghost use Rattle.label_certificate.specs.Chains.{AreChained};
+ghost use Rattle.std.specs.Prelude.{◌≡◌, ◌<◌, length, IfOk};
+ghost use Rattle.label_certificate.specs.Chains.{AreChained, before};
 ghost use Rattle.label_certificate.specs.Closing.{AreArrows};
 
 use crate::arrows::Arrows;
@@ -13,8 +13,9 @@ use std::alloc::Global;
 pub(crate) struct Chains {
     /// The last arrow of each source.
     pub(crate) lasts: Vec<Option<usize>>,
-    /// The arrow of the same source before each arrow.
-    pub(crate) earlier: Vec<Option<usize>>,
+    /// The arrow of the same source before each arrow; the first of a source leads to itself, which takes half the memory of an
+    /// option.
+    pub(crate) earlier: Vec<usize>,
 }
 
 impl Chains {
@@ -30,9 +31,22 @@ impl Chains {
         let mut earlier = Vec::with_capacity(alloc, arrows.len())?;
         for number in 0..arrows.len() {
             let arrow = arrows.at(number);
-            earlier.push(lasts[arrow.from])?;
+            earlier.push(lasts[arrow.from].unwrap_or(number))?;
             lasts[arrow.from] = Some(number);
         }
         Ok(Chains { lasts, earlier })
+    }
+
+    /// The arrow of the same source before this one, if one is.
+    pub(crate) fn before(&self, number: usize) -> Option<usize>
+        requires { number < length self.now.earlier.items }
+        ensures { result ≡ before self.now.earlier.items number }
+    {
+        let earlier = self.earlier[number];
+        if earlier == number {
+            None
+        } else {
+            Some(earlier)
+        }
     }
 }

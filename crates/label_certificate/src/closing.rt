@@ -62,7 +62,7 @@ fn pass_all(
         if pass(sets, from, to) {
             waiting.add(to)?;
         }
-        next = chains.earlier[number];
+        next = chains.before(number);
     }
     Ok(())
 }

@@ -1,5 +1,4 @@
-use Rattle.std.proofs.Common.{◌≡◌, ◌<◌, ◌∙◌, ap, length, None, sym, subst}
-use Rattle.std.proofs.lemmas.List.{get_or_default}
+use Rattle.std.proofs.Common.{◌≡◌, ◌<◌, ◌∙◌, ap, length, sym, subst}
 use Rattle.object_model.proofs.Positions.{in-at}
 use Rattle.label_certificate.specs.declared.arrows.Arrow.{Arrow}
 use Rattle.label_certificate.specs.Chains.{IsLast}
@@ -37,10 +36,10 @@ loop-next-preserved c =
     let new = c.pass.new.sets in
     let before = c.args.waiting.now in
     let w = c.loop-next.waiting in
-    let next = c.index-next-in-Some.result.now in
+    let next = c.before-next.result in
     let so_far = subst (IsPassing xs from old sets before w) c.in-Some.is c.loop-next.invariant in
     let low : i < length c.args.chains.now.earlier.items = subst (λ n. i < n) (sym c.requires.earlier) so_far.there.0 in
-    let last : IsLast xs (arrow_at xs i).from i next = subst (IsLast xs (arrow_at xs i).from i) (get_or_default c.args.chains.now.earlier.items i None next low ∙ sym c.index-next-in-Some.ensures) (c.requires.chained.of_arrows i low) in
+    let last : IsLast xs (arrow_at xs i).from i next = subst (IsLast xs (arrow_at xs i).from i) (sym c.before-next.ensures) (c.requires.chained.of_arrows i low) in
     elim c.if-pass.branch [
       | then-pass+in_ok-add w' ↦ subst (λ v. IsPassing xs from old new before v next) (sym w'.waiting-is)
           (passing-grown xs from i to old sets new before w w'.add.new.self next so_far to-is last c.pass.ensures.above c.pass.ensures.least c.pass.ensures.passed c.pass.ensures.others

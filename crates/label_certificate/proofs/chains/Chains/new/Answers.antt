@@ -1,4 +1,5 @@
 use Rattle.std.proofs.Common.{◌≡◌, ◌<◌, ◌++◌, ◌∷◌, ◌∙◌, [], Some, None, get_or, length, vec_len, set, sym, ap, ◌+◌, subst, rules}
+use Rattle.std.specs.Prelude.{unwrap_or}
 use Rattle.std.proofs.lemmas.List.{get_or_default, length-append, length-set}
 use Rattle.object_model.proofs.Positions.{in-at}
 use Rattle.label_certificate.specs.declared.arrows.Arrow.{Arrow}
@@ -32,11 +33,13 @@ loop-number-preserved c =
     let before : i < length c.args.arrows.now = subst (λ n. i < n) c.len-number-end.ensures c.loop-number-test.true in
     let low : s < length lasts = subst (λ n. s < n) (sym c.loop-number.invariant.lasts)
     (subst (λ (a : Arrow). a.from < c.args.sets) (sym c.at-arrow.ensures) (c.requires (arrow_at c.args.arrows.now i) (in-at c.args.arrows.now i (record { from = 0; to = 0 }) before)).0) in
-    let pushed : c.push.new.self.items ≡ earlier ++ get_or lasts s None ∷ [] =
-    c.in_ok-push.ensures.items ∙ ap (λ r. earlier ++ r ∷ []) (c.index.ensures ∙ sym (get_or_default lasts s None c.index.result.now low)) in
+    let new = unwrap_or (get_or lasts s None) i in
+    let pushed : c.push.new.self.items ≡ earlier ++ new ∷ [] =
+    c.in_ok-push.ensures.items
+    ∙ ap (λ r. earlier ++ r ∷ []) (c.unwrap_or.ensures ∙ ap (λ last. unwrap_or last i) (c.index.ensures ∙ sym (get_or_default lasts s None c.index.result.now low))) in
     record {
       chained = subst (AreChained c.args.arrows.now (set lasts s (Some i))) (sym pushed)
           (chained-more c.args.arrows.now lasts earlier i s c.loop-number.invariant.chained c.loop-number.invariant.earlier (ap (λ (a : Arrow). a.from) c.at-arrow.ensures) low);
       lasts = length-set lasts s (Some i) ∙ c.loop-number.invariant.lasts;
-      earlier = ap length pushed ∙ (length-append earlier (get_or lasts s None ∷ []) ∙ ap (λ n. n + 1) c.loop-number.invariant.earlier);
+      earlier = ap length pushed ∙ (length-append earlier (new ∷ []) ∙ ap (λ n. n + 1) c.loop-number.invariant.earlier);
     }
