@@ -160,7 +160,7 @@ pub fn permit_set(
 }
 
 /// As `permit_set`, of what was looked up at the name.
-pub(crate) fn permit_set_at(
+pub fn permit_set_at(
     instance: &Instance,
     client: u8,
     descriptor: &Descriptor,
@@ -268,7 +268,7 @@ pub fn permit_action(
 }
 
 /// As `permit_action`, of what was looked up at the name.
-pub(crate) fn permit_action_at(
+pub fn permit_action_at(
     instance: &Instance,
     client: u8,
     descriptor: &Descriptor,

@@ -29,6 +29,13 @@ sets_clock kinds.Tick = true
 sets_clock (kinds.ClockAt moment) = true
 sets_clock _ = false
 
+-- whether the step is the turn of a profile, a register monitor or a schedule
+abbrev pub is_turn : Step → Bool
+is_turn (kinds.CaptureAt profile) = true
+is_turn (kinds.Evaluate monitor) = true
+is_turn (kinds.ScheduleAt schedule) = true
+is_turn _ = false
+
 -- the reply of the theory that a reply is: own profile
 abbrev pub reply_of : Reply → answers.Reply
 reply_of (replies.Value value) = answers.Value (tree value)

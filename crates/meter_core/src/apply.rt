@@ -10,15 +10,15 @@ ghost use Rattle.meter_theory.specs.Replies as answers;
 ghost use Rattle.meter_theory.specs.Replies.{reply_to};
 ghost use Rattle.meter_theory.specs.States.{IsState, MayStand};
 ghost use Rattle.meter_effects.specs.Adds.{StandsFor};
-ghost use Rattle.object_model.specs.Undone.{undone};
+ghost use Rattle.object_model.specs.Tables.{number_at};
 ghost use Rattle.meter_core.specs.Back.{taken_back};
 ghost use Rattle.meter_core.specs.Judging as spec;
-ghost use Rattle.meter_core.specs.Judging.{IsJudged, MayBeSet};
+ghost use Rattle.meter_core.specs.Judging.{IsJudged, MayBeSet, Says};
 ghost use Rattle.meter_core.specs.Memory.{needs_no_memory};
-ghost use Rattle.meter_core.specs.StepView.{argument_of, reply_of, sets_clock, step_of};
+ghost use Rattle.meter_core.specs.StepView.{argument_of, is_turn, reply_of, step_of};
 
 use crate::back::Back;
-use crate::judged::{Judged, refusal};
+use crate::judged::{Judged, Judgement, judge};
 use crate::reply::Reply;
 use crate::shown::show;
 use crate::step::Step;
@@ -28,7 +28,7 @@ use cosem_data::data::Data;
 use cosem_data::memory::Memory;
 use meter_effects::effects::apply_all;
 use meter_effects::own_steps::{
-    capture_effects, evaluation_effects, input_effects, schedule_effects,
+    capture_effects, evaluation_effects, schedule_effects, takes_input_at,
 };
 use meter_effects::scripts::push_method;
 use meter_theory::access::AccessCode;
@@ -37,7 +37,6 @@ use object_model::argument::Argument;
 use object_model::effect::Effect;
 use object_model::meter::Meter;
 use object_model::plan::Plan;
-use object_model::undo::Undo;
 use std::alloc::Global;
 
 /// What a step was answered, and what takes it back.
@@ -59,7 +58,7 @@ pub fn apply(alloc: Global, plan: &Plan, meter: &mut Meter, step: &Step) -> Resu
     ensures denied { needs_no_memory plan.now meter.old (step_of step.now) ≡ true → IsOk result }
 {
     plan.known();
-    let Applied { reply, back } = apply_by(alloc, plan, meter, step, refusal(plan, step))?;
+    let Applied { reply, back } = apply_by(alloc, plan, meter, step, judge(plan, step))?;
     back.let_go();
     Ok(reply)
 }
@@ -82,19 +81,19 @@ pub fn apply_judged(
     ensures denied { needs_no_memory plan.now meter.old (step_of judged.now.step) ≡ true → IsOk result }
 {
     plan.known();
-    apply_by(alloc, plan, meter, &judged.step, judged.refusal)
+    apply_by(alloc, plan, meter, &judged.step, judged.judgement)
 }
 
-/// Takes one step, which the plan refuses by this code, if it does.
+/// Takes one step, of which the plan says this.
 fn apply_by(
     alloc: Global,
     plan: &Plan,
     meter: &mut Meter,
     step: &Step,
-    refusal: Option<AccessCode>,
+    judgement: Judgement,
 ) -> Result<Applied, Memory>
     requires of_plan { IsState plan.now meter.old }
-    requires judged { refusal ≡ spec.refusal plan.now (step_of step.now) }
+    requires judged { Says plan.now (step_of step.now) judgement }
     ensures ok { OnOk result (meter.new ≡ next plan.now meter.old (step_of step.now)) }
     ensures reply { IfOk result (λ applied. reply_of applied.reply
         ≡ reply_to plan.now meter.old (step_of step.now)) }
@@ -102,21 +101,23 @@ fn apply_by(
     ensures err { OnErr result (meter.new ≡ meter.old) }
     ensures denied { needs_no_memory plan.now meter.old (step_of step.now) ≡ true → IsOk result }
 {
-    match refusal {
+    match judgement.refusal {
         Some(code) => Ok(unchanged(Reply::Code(code))),
-        None => apply_granted(alloc, plan, meter, step),
+        None => apply_granted(alloc, plan, meter, step, judgement.number),
     }
 }
 
-/// Takes one step, which the plan doesn't refuse: a GET may still be refused.
+/// Takes one step, which the plan doesn't refuse, and which names the object with this number: a GET may still be refused.
 fn apply_granted(
     alloc: Global,
     plan: &Plan,
     meter: &mut Meter,
     step: &Step,
+    number: Option<u16>,
 ) -> Result<Applied, Memory>
     requires of_plan { IsState plan.now meter.old }
     requires granted { None ≡ spec.refusal plan.now (step_of step.now) }
+    requires named { number ≡ spec.number_named plan.now (step_of step.now) }
     ensures ok { OnOk result (meter.new ≡ next plan.now meter.old (step_of step.now)) }
     ensures reply { IfOk result (λ applied. reply_of applied.reply
         ≡ reply_to plan.now meter.old (step_of step.now)) }
@@ -137,12 +138,13 @@ fn apply_granted(
             attribute,
             value,
             ..
-        } => set(alloc, plan, meter, attribute, value),
+        } => set(alloc, plan, meter, attribute, value, number),
         Step::Act {
             method,
             argument,
             ..
-        } => act(alloc, plan, meter, method, argument),
+        } => act(alloc, plan, meter, method, argument, number),
+        Step::Input { cell, value } => input(alloc, plan, meter, cell, value),
         Step::Tick => Ok(tick(plan, meter)),
         Step::ClockAt { moment } => Ok(clock_at(plan, meter, *moment)),
         _ => own(alloc, plan, meter, step),
@@ -189,15 +191,18 @@ fn clock_at(plan: &Plan, meter: &mut Meter, moment: Moment) -> Applied
     }
 }
 
-/// A granted SET (IEC 62056-5-3): its value, if it brings one, is put in its cell. The only error is that memory was refused.
+/// A granted SET (IEC 62056-5-3) of the object with this number: its value, if it brings one, is put in its cell. The only error
+/// is that memory was refused.
 fn set(
     alloc: Global,
     plan: &Plan,
     meter: &mut Meter,
     attribute: &Descriptor,
     value: &Argument,
+    number: Option<u16>,
 ) -> Result<Applied, Memory>
     requires of_plan { IsState plan.now meter.old }
+    requires named { number ≡ number_at plan.now.objects attribute.now.name }
     requires fits { MayBeSet plan.now (cell_of attribute.now) (argument_of value.now) }
     ensures ok { OnOk result (meter.new ≡ effects plan.now meter.old
         (given_value (cell_of attribute.now) (argument_of value.now))) }
@@ -209,33 +214,26 @@ fn set(
         return Ok(unchanged(Reply::Code(AccessCode::Success)));
     };
     let given = value.try_clone(alloc)?;
-    let undo = put(alloc, plan, meter, attribute.attribute(), given);
+    let instance = plan.instance_at(&attribute.name, number);
+    let undo = meter.put(&instance, &attribute.attribute(), given);
     Ok(Applied {
         reply: Reply::Code(AccessCode::Success),
         back: Back::Effect(undo),
     })
 }
 
-/// Puts a value that may stand in its cell.
-fn put(alloc: Global, plan: &Plan, meter: &mut Meter, cell: CellRef, given: Data) -> Undo
-    requires of_plan { IsState plan.now meter.old }
-    requires fits { MayStand plan.now cell (tree given) }
-    ensures put { meter.new ≡ steps.write meter.old cell (tree given) }
-    ensures before { undone result meter.new ≡ meter.old }
-{
-    meter.take(alloc, plan, Effect::Put(cell, given)).unwrap()
-}
-
-/// A granted ACTION (IEC 62056-5-3): its method does what it does. The only error is that memory was refused, which without
-/// effects it isn't.
+/// A granted ACTION (IEC 62056-5-3) on the object with this number: its method does what it does. The only error is that memory
+/// was refused, which without effects it isn't.
 fn act(
     alloc: Global,
     plan: &Plan,
     meter: &mut Meter,
     method: &Descriptor,
     argument: &Argument,
+    number: Option<u16>,
 ) -> Result<Applied, Memory>
-    requires { IsState plan.now meter.old }
+    requires of_plan { IsState plan.now meter.old }
+    requires named { number ≡ number_at plan.now.objects method.now.name }
     ensures ok { OnOk result (meter.new ≡ effects plan.now meter.old
         (method_effects plan.now (method_of method.now) (argument_of argument.now))) }
     ensures reply { IfOk result (λ applied. reply_of applied.reply ≡ answers.Code codes.Success) }
@@ -245,8 +243,9 @@ fn act(
         → IsOk result }
 {
     plan.known();
+    let instance = plan.instance_at(&method.name, number);
     let mut effects = Vec::new(alloc);
-    push_method(alloc, plan, &method.method(), argument, &mut effects)?;
+    push_method(alloc, &instance, &method.method(), argument, &mut effects)?;
     let undos = apply_all(alloc, plan, meter, effects)?;
     Ok(Applied {
         reply: Reply::Code(AccessCode::Success),
@@ -254,11 +253,40 @@ fn act(
     })
 }
 
-/// A step that the meter takes by itself, without an answer.
+/// A measured value is put where it goes to the value of a fed object and may stand there. The only error is that memory was
+/// refused, which without an effect it isn't.
+fn input(
+    alloc: Global,
+    plan: &Plan,
+    meter: &mut Meter,
+    cell: &CellRef,
+    measured: &Data,
+) -> Result<Applied, Memory>
+    requires { IsState plan.now meter.old }
+    ensures ok { OnOk result (meter.new ≡ next plan.now meter.old (steps.Input cell.now (tree measured.now))) }
+    ensures reply { IfOk result (λ applied. reply_of applied.reply ≡ answers.Quiet) }
+    ensures before { IfOk result (λ applied. taken_back plan.now applied.back meter.new ≡ meter.old) }
+    ensures err { OnErr result (meter.new ≡ meter.old) }
+    ensures none { steps.effects_of plan.now meter.old (steps.Input cell.now (tree measured.now)) ≡ []
+        → IsOk result }
+{
+    let instance = plan.instance(&cell.name);
+    if !takes_input_at(&instance, cell, measured) {
+        return Ok(unchanged(Reply::Quiet));
+    }
+    let given = measured.try_clone(alloc)?;
+    let undo = meter.put(&instance, cell, given);
+    Ok(Applied {
+        reply: Reply::Quiet,
+        back: Back::Effect(undo),
+    })
+}
+
+/// The turn of a profile, a register monitor or a schedule, which is taken without an answer.
 fn own(alloc: Global, plan: &Plan, meter: &mut Meter, step: &Step) -> Result<Applied, Memory>
     requires of_plan { IsState plan.now meter.old }
     requires own { client_of (step_of step.now) ≡ None }
-    requires clock { sets_clock step.now ≡ false }
+    requires turn { is_turn step.now ≡ true }
     ensures ok { OnOk result (meter.new ≡ next plan.now meter.old (step_of step.now)) }
     ensures reply { IfOk result (λ applied. reply_of applied.reply
         ≡ reply_to plan.now meter.old (step_of step.now)) }
@@ -275,8 +303,7 @@ fn own(alloc: Global, plan: &Plan, meter: &mut Meter, step: &Step) -> Result<App
     })
 }
 
-/// The effects of a step that the meter takes by itself. The only error is that memory was refused, which without effects
-/// it isn't.
+/// The effects of such a turn. The only error is that memory was refused, which without effects it isn't.
 fn own_effects(
     alloc: Global,
     plan: &Plan,
@@ -285,13 +312,12 @@ fn own_effects(
 ) -> Result<Vec<Effect>, Memory>
     requires of_plan { IsState plan.now meter.now }
     requires own { client_of (step_of step.now) ≡ None }
-    requires clock { sets_clock step.now ≡ false }
+    requires turn { is_turn step.now ≡ true }
     ensures ok { IfOk result (λ list. StandsFor plan.now
         (steps.effects_of plan.now meter.now (step_of step.now)) list.items) }
     ensures none { steps.effects_of plan.now meter.now (step_of step.now) ≡ [] → IsOk result }
 {
     match step {
-        Step::Input { cell, value } => input_effects(alloc, plan, cell, value),
         Step::CaptureAt { profile } => {
             let moment = meter.present(plan);
             capture_effects(alloc, plan, meter, *profile, moment)

@@ -3,20 +3,29 @@ ghost use Rattle.std.specs.Prelude.{◌≡◌};
 ghost use Rattle.meter_theory.specs.Plan.{Plan as PlanValue};
 ghost use Rattle.meter_core.specs.Changing.{is_changing};
 ghost use Rattle.meter_core.specs.Judging as spec;
-ghost use Rattle.meter_core.specs.Judging.{IsJudged};
+ghost use Rattle.meter_core.specs.Judging.{IsJudged, Says};
 ghost use Rattle.meter_core.specs.StepView.{step_of};
 
 use crate::step::Step;
-use association_views::permits::{permit_action, permit_get, permit_set};
+use association_views::permits::{permit_action_at, permit_get, permit_set_at};
 use meter_theory::access::AccessCode;
 use object_model::plan::Plan;
 
-/// A step, with what a plan says of it whatever the state is, so that it is judged once on its way to the meter.
+/// What a plan says of a step, whatever the state is.
+#[derive(Clone, Copy, Drop)]
+pub struct Judgement {
+    /// The code that a SET or an ACTION is refused by. Any other step has none.
+    pub refusal: Option<AccessCode>,
+    /// The number, from 0 in plan order, of the object that a SET or an ACTION names, if one has the name. Any other step has
+    /// none.
+    pub number: Option<u16>,
+}
+
+/// A step, with what a plan says of it, so that on its way to the meter it is judged once, and its object looked up once.
 #[derive(Drop)]
 pub struct Judged {
     pub step: Step,
-    /// The code that a SET or an ACTION is refused by. Any other step has none.
-    pub refusal: Option<AccessCode>,
+    pub judgement: Judgement,
 }
 
 impl Judged {
@@ -25,8 +34,8 @@ impl Judged {
         ensures step { result.step ≡ step }
         ensures judged { IsJudged plan.now result }
     {
-        let refusal = refusal(plan, &step);
-        Judged { step, refusal }
+        let judgement = judge(plan, &step);
+        Judged { step, judgement }
     }
 
     /// Whether the step may change a meter of the plan that judged it: a SET or an ACTION that is granted may, and each step of the
@@ -37,14 +46,15 @@ impl Judged {
     {
         match self.step {
             Step::Get { .. } => false,
-            _ => self.refusal.is_none(),
+            _ => self.judgement.refusal.is_none(),
         }
     }
 }
 
-/// The code that a plan refuses a SET or an ACTION by (IEC 62056-5-3, Data-Access-Result, Action-Result), where it does.
-pub(crate) fn refusal(plan: &Plan, step: &Step) -> Option<AccessCode>
-    ensures { result ≡ spec.refusal plan.now (step_of step.now) }
+/// What a plan says of a step: whether it refuses a SET or an ACTION, and by which code (IEC 62056-5-3, Data-Access-Result,
+/// Action-Result), and the number of the object, which is looked up once.
+pub(crate) fn judge(plan: &Plan, step: &Step) -> Judgement
+    ensures { Says plan.now (step_of step.now) result }
 {
     match step {
         Step::Set {
@@ -52,13 +62,30 @@ pub(crate) fn refusal(plan: &Plan, step: &Step) -> Option<AccessCode>
             attribute,
             selected,
             value,
-        } => permit_set(plan, *client, attribute, *selected, value).err(),
+        } => {
+            let instance = plan.instance(&attribute.name);
+            let refusal = permit_set_at(&instance, *client, attribute, *selected, value).err();
+            Judgement {
+                refusal,
+                number: instance.number(),
+            }
+        }
         Step::Act {
             client,
             method,
             argument,
-        } => permit_action(plan, *client, method, argument).err(),
-        _ => None,
+        } => {
+            let instance = plan.instance(&method.name);
+            let refusal = permit_action_at(&instance, *client, method, argument).err();
+            Judgement {
+                refusal,
+                number: instance.number(),
+            }
+        }
+        _ => Judgement {
+            refusal: None,
+            number: None,
+        },
     }
 }
 

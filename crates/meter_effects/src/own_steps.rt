@@ -1,10 +1,10 @@
-//! The effects of the steps that a meter takes by itself: inputs, captures, evaluations and schedules. All guards are judged
-//! in the state before the step (own profile).
+//! What the steps do that a meter takes by itself: the effects of captures, evaluations and schedules, and which inputs are taken.
+//! All guards are judged in the state before the step (own profile).
 ghost use Rattle.std.specs.Prelude.{◌≡◌, ◌&&◌, [], flat_map, option_map, Some, IfOk, OnOk, IsOk};
 ghost use Rattle.cosem_data.specs.View.{tree};
 ghost use Rattle.meter_theory.specs.Plan as plans;
 ghost use Rattle.meter_theory.specs.Plan.{rule_of};
-ghost use Rattle.meter_theory.specs.State.{State, value};
+ghost use Rattle.meter_theory.specs.State.{value};
 ghost use Rattle.meter_theory.specs.States.{IsState};
 ghost use Rattle.meter_theory.specs.Steps as theory;
 ghost use Rattle.meter_theory.specs.Times.{is_capture_due, is_schedule_due};
@@ -32,34 +32,21 @@ use object_model::part::Part;
 use object_model::plan::Plan;
 use std::alloc::Global;
 
-/// The effect of an input, if it goes to the value of a fed object and may stand there. The only error is that memory
-/// was refused, which without effects it isn't.
-pub fn input_effects(
-    alloc: Global,
-    plan: &Plan,
-    cell: &CellRef,
-    given: &Data,
-) -> Result<Vec<Effect>, Memory>
-    ensures ok { IfOk result (λ list. (s : State) → StandsFor plan.now
-        (theory.effects_of plan.now s (theory.Input cell.now (tree given.now))) list.items) }
-    ensures none { (s : State) →
-        theory.effects_of plan.now s (theory.Input cell.now (tree given.now)) ≡ [] → IsOk result }
-{
-    let mut effects = Vec::new(alloc);
-    if !takes_input(plan, cell, given) {
-        return Ok(effects);
-    }
-    push_effect(&mut effects, Effect::Put(*cell, given.try_clone(alloc)?))?;
-    Ok(effects)
-}
-
 /// Whether the cell is the value of a fed object, and the value may stand there.
 pub fn takes_input(plan: &Plan, cell: &CellRef, given: &Data) -> bool
     ensures { result ≡ (theory.is_fed plan.now cell.now
         && theory.meets_some (rule_of plan.now cell.now) (tree given.now)) }
 {
-    let instance = plan.instance(&cell.name);
-    is_fed(&instance, cell) && instance.rule(cell.class_id, cell.index, given).is_ok()
+    takes_input_at(&plan.instance(&cell.name), cell, given)
+}
+
+/// As `takes_input`, of what was looked up at the cell's name.
+pub fn takes_input_at(instance: &Instance<'_>, cell: &CellRef, given: &Data) -> bool
+    requires { cell.now.name ≡ instance.now.name }
+    ensures { result ≡ (theory.is_fed instance.now.plan cell.now
+        && theory.meets_some (rule_of instance.now.plan cell.now) (tree given.now)) }
+{
+    is_fed(instance, cell) && instance.rule(cell.class_id, cell.index, given).is_ok()
 }
 
 /// Whether the cell is the value of a fed object.

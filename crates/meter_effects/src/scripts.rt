@@ -7,13 +7,12 @@ ghost use Rattle.object_model.specs.EffectView.{effect_of, MayTake};
 ghost use Rattle.meter_effects.specs.Adds.{Adds};
 ghost use Rattle.meter_effects.specs.Planned.{planned_of, MayBePlanned};
 
-use crate::walk::{Planned, Visitor, each_of_method, each_of_script};
+use crate::walk::{Planned, Visitor, each_of_method_at, each_of_script};
 use cosem_data::cell::MethodRef;
 use cosem_data::memory::Memory;
 use object_model::argument::Argument;
 use object_model::effect::Effect;
 use object_model::instance::Instance;
-use object_model::plan::Plan;
 use std::alloc::Global;
 use std::mem;
 
@@ -48,24 +47,26 @@ impl Copies {
     }
 }
 
-/// Adds the effects of a method that is called with this argument: of execute those of the script with that number, of
-/// reset and capture their own. The only error is that memory was refused, which without effects it isn't.
+/// Adds the effects of a method of what was looked up at its name, when it is called with this argument: of execute those of
+/// the script with that number, of reset and capture their own. The only error is that memory was refused, which without effects
+/// it isn't.
 pub fn push_method(
     alloc: Global,
-    plan: &Plan,
+    instance: &Instance<'_>,
     method: &MethodRef,
     argument: &Argument,
     effects: &mut Vec<Effect>,
 ) -> Result<(), Memory>
-    ensures ok { OnOk result (Adds plan.now
-        (theory.method_effects plan.now method.now (argument_of argument.now))
+    requires { method.now.name ≡ instance.now.name }
+    ensures ok { OnOk result (Adds instance.now.plan
+        (theory.method_effects instance.now.plan method.now (argument_of argument.now))
         effects.old.items effects.new.items) }
-    ensures none { theory.method_effects plan.now method.now (argument_of argument.now) ≡ [] →
-        IsOk result }
+    ensures none { theory.method_effects instance.now.plan method.now (argument_of argument.now) ≡ []
+        → IsOk result }
 {
-    plan.known();
+    instance.plan().known();
     let mut copies = Copies::behind(alloc, effects);
-    let walked = each_of_method(plan, method, argument, &mut copies);
+    let walked = each_of_method_at(instance, method, argument, &mut copies);
     *effects = copies.effects;
     walked
 }

@@ -102,13 +102,28 @@ pub fn each_of_method<V: Visitor>(
     ensures none { theory.method_effects plan.now method.now (argument_of argument.now) ≡ [] →
         IsOk result }
 {
-    let instance = plan.instance(&method.name);
+    each_of_method_at(&plan.instance(&method.name), method, argument, visitor)
+}
+
+/// As `each_of_method`, of what was looked up at the method's name.
+pub(crate) fn each_of_method_at<V: Visitor>(
+    instance: &Instance<'_>,
+    method: &MethodRef,
+    argument: &Argument,
+    visitor: &mut V,
+) -> Result<(), V::Stop>
+    requires { method.now.name ≡ instance.now.name }
+    ensures ok { OnOk result (FoldsTo V.meets visitor.old
+        (theory.method_effects instance.now.plan method.now (argument_of argument.now)) visitor.new) }
+    ensures none { theory.method_effects instance.now.plan method.now (argument_of argument.now) ≡ []
+        → IsOk result }
+{
     let Some(object) = instance.object() else {
         return Ok(());
     };
     match object.part() {
         Part::ScriptTable(_) => match argument.script_number() {
-            Some(script) => each_of_script(&instance, script, visitor),
+            Some(script) => each_of_script(instance, script, visitor),
             None => Ok(()),
         },
         _ => each_of_plain_method(object, method.index, visitor),

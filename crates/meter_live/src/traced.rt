@@ -58,7 +58,7 @@ impl Entry {
     fn new(port: u8, judged: Judged, reply: Reply) -> Entry
         ensures { result ≡ record { port = port; step = step_of judged.step; reply = reply_of reply } }
     {
-        let Judged { step, refusal: _ } = judged;
+        let Judged { step, judgement: _ } = judged;
         Entry { port, step, reply }
     }
 

@@ -82,6 +82,13 @@ impl<'a> Instance<'a> {
         self.name
     }
 
+    /// The number, from 0 in plan order, of the object with this name, or None where the plan has none.
+    pub fn number(&self) -> Option<u16>
+        ensures { result ≡ number_at self.now.plan.objects self.now.name }
+    {
+        self.number
+    }
+
     /// The object with this name, or None where the plan has none.
     pub fn object(&self) -> Option<&'a Object>
         ensures { option_map (λ o. o.now) result ≡ object_at self.now.plan self.now.name }
@@ -318,6 +325,18 @@ impl Plan {
         ensures { result ≡ record { plan = self.now; name = name.now } }
     {
         Instance::of(self, *name)
+    }
+
+    /// The same of a name that was looked up before: the object there has this number, if there is one. It takes no search.
+    pub fn instance_at(&self, name: &LogicalName, number: Option<u16>) -> Instance<'_>
+        requires { number ≡ number_at self.now.objects name.now }
+        ensures { result ≡ record { plan = self.now; name = name.now } }
+    {
+        Instance {
+            plan: self,
+            name: *name,
+            number,
+        }
     }
 
     /// The object with this logical name, or None where there is none.

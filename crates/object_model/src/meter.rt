@@ -143,7 +143,7 @@ impl Meter {
         ensures free { ((profile : NameValue) → effect ≡ Effect.Capture profile → ⊥) → IsOk result }
     {
         match effect {
-            Effect::Put(cell, given) => Ok(self.put(plan, &cell, given)),
+            Effect::Put(cell, given) => Ok(self.put(&plan.instance(&cell.name), &cell, given)),
             Effect::Remember(monitor, now) => Ok(self.remember(plan, monitor, now)),
             Effect::Capture(profile) => self.capture(alloc, plan, profile),
             Effect::Clear(profile) => Ok(self.clear(plan, profile)),
@@ -178,18 +178,20 @@ impl Meter {
         }
     }
 
-    /// Puts a value that may stand in a settable cell, by the class of its object. Capture_objects of a profile are put as the
-    /// profile is emptied.
-    fn put(&mut self, plan: &Plan, cell: &CellRef, given: Data) -> Undo
-        requires of_plan { IsState plan.now self.old }
-        requires fits { MayStand plan.now cell.now (tree given) }
+    /// Puts a value that may stand in a settable cell of what stands at its name in the meter's plan, by the class of the object,
+    /// and hands out what takes it back. Capture_objects of a profile are put as the profile is emptied. It takes no memory and no
+    /// search for the name.
+    pub fn put(&mut self, instance: &Instance<'_>, cell: &CellRef, given: Data) -> Undo
+        requires of_plan { IsState instance.now.plan self.old }
+        requires named { cell.now.name ≡ instance.now.name }
+        requires fits { MayStand instance.now.plan cell.now (tree given) }
         ensures put { self.new ≡ theory.write self.old cell.now (tree given) }
         ensures before { undone result self.new ≡ self.old }
     {
         if empties(cell) {
-            return self.choose(plan, cell.name, given);
+            return self.choose(instance, given);
         }
-        let change = self.put_value(plan, cell, given);
+        let change = self.put_value(instance, cell, given);
         Undo {
             name: cell.name,
             change,
@@ -198,19 +200,19 @@ impl Meter {
     }
 
     /// Puts a value that may stand in a cell, the same where a write of it empties nothing.
-    fn put_value(&mut self, plan: &Plan, cell: &CellRef, given: Data) -> Change
-        requires of_plan { IsState plan.now self.old }
-        requires fits { MayStand plan.now cell.now (tree given) }
+    fn put_value(&mut self, instance: &Instance<'_>, cell: &CellRef, given: Data) -> Change
+        requires of_plan { IsState instance.now.plan self.old }
+        requires named { cell.now.name ≡ instance.now.name }
+        requires fits { MayStand instance.now.plan cell.now (tree given) }
         requires other { theory.empties cell.now ≡ false }
         ensures put { self.new ≡ state.put self.old cell.now (kept cell.now (tree given)) }
         ensures before { change_undone cell.now.name result self.new ≡ self.old }
     {
-        plan.known();
-        let instance = plan.instance(&cell.name);
+        instance.plan().known();
         let Some(object) = instance.object() else {
             unreachable!();
         };
-        let Some(place) = place_of(&instance, &self.objects, cell) else {
+        let Some(place) = place_of(instance, &self.objects, cell) else {
             unreachable!();
         };
         let part = object.part();
@@ -220,31 +222,33 @@ impl Meter {
 
     /// Puts which cells a profile captures from now on: it is emptied, and then the value is put (IEC 62056-6-2, Profile
     /// generic, capture_objects). It takes no memory, so both are done.
-    fn choose(&mut self, plan: &Plan, profile: LogicalName, objects: Data) -> Undo
-        requires of_plan { keys self.old ≡ held plan.now }
-        requires there { IsIn (cells plan.now) (plans.capture_objects profile) }
+    fn choose(&mut self, instance: &Instance<'_>, objects: Data) -> Undo
+        requires of_plan { keys self.old ≡ held instance.now.plan }
+        requires there { IsIn (cells instance.now.plan) (plans.capture_objects instance.now.name) }
         ensures put { self.new
-            ≡ theory.write self.old (plans.capture_objects profile) (tree objects) }
+            ≡ theory.write self.old (plans.capture_objects instance.now.name) (tree objects) }
         ensures before { undone result self.new ≡ self.old }
     {
-        let emptied = self.empty(plan, profile);
-        let change = self.put_objects(plan, profile, objects);
+        let emptied = self.empty(instance);
+        let change = self.put_objects(instance, objects);
         Undo {
-            name: profile,
+            name: instance.name(),
             change,
             emptied: Some(emptied),
         }
     }
 
     /// Puts which cells a profile captures from now on, and nothing else.
-    fn put_objects(&mut self, plan: &Plan, profile: LogicalName, objects: Data) -> Change
-        requires of_plan { keys self.old ≡ held plan.now }
-        requires there { IsIn (cells plan.now) (plans.capture_objects profile) }
-        ensures put { self.new ≡ state.put self.old (plans.capture_objects profile) (tree objects) }
-        ensures before { change_undone profile result self.new ≡ self.old }
+    fn put_objects(&mut self, instance: &Instance<'_>, objects: Data) -> Change
+        requires of_plan { keys self.old ≡ held instance.now.plan }
+        requires there { IsIn (cells instance.now.plan) (plans.capture_objects instance.now.name) }
+        ensures put { self.new
+            ≡ state.put self.old (plans.capture_objects instance.now.name) (tree objects) }
+        ensures before { change_undone instance.now.name result self.new ≡ self.old }
     {
+        let profile = instance.name();
         let cell = capture_objects(profile);
-        let Some(place) = place_of(&plan.instance(&profile), &self.objects, &cell) else {
+        let Some(place) = place_of(instance, &self.objects, &cell) else {
             unreachable!();
         };
         put_objects_in(&mut self.objects, place, profile, objects)
@@ -390,7 +394,7 @@ impl Meter {
         ensures cleared { self.new ≡ theory.clear self.old profile }
         ensures before { undone result self.new ≡ self.old }
     {
-        let cleared = self.empty(plan, profile);
+        let cleared = self.empty(&plan.instance(&profile));
         Undo {
             name: profile,
             change: Change::ProfileGeneric(ProfileChange::Cleared(cleared)),
@@ -399,12 +403,14 @@ impl Meter {
     }
 
     /// The same, with what was there before.
-    fn empty(&mut self, plan: &Plan, profile: LogicalName) -> Cleared
-        requires { keys self.old ≡ held plan.now }
-        ensures cleared { self.new ≡ theory.clear self.old profile }
-        ensures before { profile_undone profile (profiles.Cleared result) self.new ≡ self.old }
+    fn empty(&mut self, instance: &Instance<'_>) -> Cleared
+        requires { keys self.old ≡ held instance.now.plan }
+        ensures cleared { self.new ≡ theory.clear self.old instance.now.name }
+        ensures before { profile_undone instance.now.name (profiles.Cleared result) self.new
+            ≡ self.old }
     {
-        match place_of(&plan.instance(&profile), &self.objects, &buffer(profile)) {
+        let profile = instance.name();
+        match place_of(instance, &self.objects, &buffer(profile)) {
             Some(place) => clear_in(&mut self.objects, place, profile),
             None => Cleared {
                 buffer: Rows::none(),

@@ -10,9 +10,10 @@ use Rattle.meter_core.proofs.apply.set.Goals as goal
 
 pub put-undo-requires-clause-fits : goal.put-undo-requires-clause-fits
 put-undo-requires-clause-fits c =
-    subst (λ x. MayStand c.args.plan.now x (tree c.in_ok-given.given)) (sym c.attribute.ensures)
+    subst (λ i. MayStand i.plan c.attribute.result (tree c.in_ok-given.given)) (sym c.instance_at-instance.ensures)
+    (subst (λ x. MayStand c.args.plan.now x (tree c.in_ok-given.given)) (sym c.attribute.ensures)
     (subst (λ v. MayStand c.args.plan.now (cell_of c.args.attribute.now) (tree v)) (sym c.in_ok-given.ensures)
-    (subst (λ v. MayBeSet c.args.plan.now (cell_of c.args.attribute.now) (argument_of v)) c.in-Value.is c.requires.fits))
+    (subst (λ v. MayBeSet c.args.plan.now (cell_of c.args.attribute.now) (argument_of v)) c.in-Value.is c.requires.fits)))
 
 pub returns-clause-ok : goal.returns-clause-ok
 returns-clause-ok c =

@@ -11,5 +11,6 @@ pub choose-requires-clause-there : goal.choose-requires-clause-there
 choose-requires-clause-there c =
     let x = c.args.cell.now in
     let both = and_parts (x.class_id == 7) (x.index == 3) (sym c.empties.ensures ∙ c.if-empties.true) in
-    subst (IsIn (cells c.args.plan.now)) (ap₂ (λ class index. cell class x.name index) (eqb-true x.class_id 7 both.0) (eqb-true x.index 3 both.1))
-    (put-is-there c.args.plan.now c.args.self.now x (tree c.args.given) c.requires.of_plan c.requires.fits)
+    subst (λ n. IsIn (cells c.args.instance.now.plan) (cell 7 n 3)) c.requires.named
+    (subst (IsIn (cells c.args.instance.now.plan)) (ap₂ (λ class index. cell class x.name index) (eqb-true x.class_id 7 both.0) (eqb-true x.index 3 both.1))
+    (put-is-there c.args.instance.now.plan c.args.self.now x (tree c.args.given) c.requires.of_plan c.requires.fits))
