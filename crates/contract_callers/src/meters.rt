@@ -118,7 +118,7 @@ pub fn reset(
     requires fits { MayTake plan.now (Effect.Clear profile) }
     ensures { IsOk result }
 {
-    meter.take(alloc, plan, Effect::Clear(profile))
+    meter.take(alloc, &plan.instance(&profile), Effect::Clear(profile))
 }
 
 /// The label of a cell by a policy.

@@ -33,9 +33,11 @@ use Rattle.object_model.specs.declared.argument.Argument.TheVariants as argument
 use Rattle.object_model.specs.ArgumentView.{argument_of, selection_of}
 use Rattle.association_views.specs.Permits.{permitted}
 use Rattle.meter_core.specs.Copies.{shows_value}
-use Rattle.meter_core.specs.Judging.{refused_by, refusal, MayBeSet}
+use Rattle.meter_core.specs.Judging.{refused_by, refusal, number_named, MayBeSet}
 use Rattle.meter_core.specs.Memory.{needs_no_memory}
-use Rattle.meter_core.specs.StepView.{shown_of}
+use Rattle.meter_core.specs.StepView.{shown_of, step_of, turn_of}
+use Rattle.meter_core.specs.declared.step.Step as kind
+use Rattle.meter_core.specs.declared.step.Step.TheVariants as kinds
 use Rattle.meter_core.specs.declared.shown.Shown.{Shown}
 use Rattle.meter_core.specs.declared.shown.Shown.TheVariants as shown
 
@@ -194,7 +196,21 @@ pub act_calls_none : (P : Plan) (s : State) (c : ℕ) (d : Descriptor) (argument
     → method_effects P (method_of d) argument ≡ []
 act_calls_none P s c d argument h needs = act_calls P s c d argument h ∙ no_effects (effects_of P s (Act c d argument)) needs
 
+-- the plan says nothing of a step that is no SET and no ACTION
+pub nothing_said : (P : Plan) (step : kind.Step) → ((c : ℕ) (d : Descriptor) (chosen : Bool) (v : code.Argument) → step ≡ kinds.Set c d chosen v → ⊥)
+    → ((c : ℕ) (d : Descriptor) (argument : code.Argument) → step ≡ kinds.Act c d argument → ⊥) → (None ≡ refusal P (step_of step)) × (None ≡ number_named P (step_of step))
+nothing_said P (kinds.Set c d chosen v) no_set no_act = absurd (no_set c d chosen v refl)
+nothing_said P (kinds.Act c d argument) no_set no_act = absurd (no_act c d argument refl)
+nothing_said P _ no_set no_act = (refl, refl)
+
 -- the meter's own steps
+
+-- a turn is no client's step
+pub turn_own : (step : kind.Step) (n : LogicalName) → turn_of step ≡ Some n → client_of (step_of step) ≡ None
+turn_own (kinds.CaptureAt m) n h = refl
+turn_own (kinds.Evaluate m) n h = refl
+turn_own (kinds.ScheduleAt m) n h = refl
+turn_own _ n h = cc
 
 pub own_reply : (P : Plan) (s : State) (step : Step) → client_of step ≡ None → Quiet ≡ reply_to P s step
 own_reply P s (Get c d selection) own = cc

@@ -1,6 +1,7 @@
 -- What a step and a reply of the code stand for.
-use Rattle.std.specs.Prelude.{Bool, true, false}
+use Rattle.std.specs.Prelude.{Bool, true, false, Option, Some, None}
 use Rattle.cosem_data.specs.View.{tree}
+use Rattle.cosem_data.specs.declared.name.LogicalName.{LogicalName}
 use Rattle.meter_theory.specs.Steps as steps
 use Rattle.meter_theory.specs.Replies as answers
 pub use Rattle.object_model.specs.ArgumentView.{argument_of, selection_of}
@@ -29,12 +30,12 @@ sets_clock kinds.Tick = true
 sets_clock (kinds.ClockAt moment) = true
 sets_clock _ = false
 
--- whether the step is the turn of a profile, a register monitor or a schedule
-abbrev pub is_turn : Step → Bool
-is_turn (kinds.CaptureAt profile) = true
-is_turn (kinds.Evaluate monitor) = true
-is_turn (kinds.ScheduleAt schedule) = true
-is_turn _ = false
+-- the profile, register monitor or schedule whose turn the step is: own profile
+abbrev pub turn_of : Step → Option LogicalName
+turn_of (kinds.CaptureAt profile) = Some profile
+turn_of (kinds.Evaluate monitor) = Some monitor
+turn_of (kinds.ScheduleAt schedule) = Some schedule
+turn_of _ = None
 
 -- the reply of the theory that a reply is: own profile
 abbrev pub reply_of : Reply → answers.Reply

@@ -1,11 +1,11 @@
 //! One step of a meter.
-ghost use Rattle.std.specs.Prelude.{◌≡◌, true, false, [], None, OnOk, OnErr, IfOk, IsOk};
+ghost use Rattle.std.specs.Prelude.{◌≡◌, true, [], Some, None, OnOk, OnErr, IfOk, IsOk};
 ghost use Rattle.cosem_data.specs.View.{tree};
 ghost use Rattle.cosem_data.specs.declared.cell.CellRef.{CellRef};
 ghost use Rattle.meter_theory.specs.declared.access.AccessCode.TheVariants as codes;
 ghost use Rattle.meter_theory.specs.Rights.{cell_of, method_of};
 ghost use Rattle.meter_theory.specs.Steps as steps;
-ghost use Rattle.meter_theory.specs.Steps.{client_of, effects, given_value, method_effects, next};
+ghost use Rattle.meter_theory.specs.Steps.{effects, given_value, method_effects, next};
 ghost use Rattle.meter_theory.specs.Replies as answers;
 ghost use Rattle.meter_theory.specs.Replies.{reply_to};
 ghost use Rattle.meter_theory.specs.States.{IsState, MayStand};
@@ -15,7 +15,7 @@ ghost use Rattle.meter_core.specs.Back.{taken_back};
 ghost use Rattle.meter_core.specs.Judging as spec;
 ghost use Rattle.meter_core.specs.Judging.{IsJudged, MayBeSet, Says};
 ghost use Rattle.meter_core.specs.Memory.{needs_no_memory};
-ghost use Rattle.meter_core.specs.StepView.{argument_of, is_turn, reply_of, step_of};
+ghost use Rattle.meter_core.specs.StepView.{argument_of, reply_of, step_of, turn_of};
 
 use crate::back::Back;
 use crate::judged::{Judged, Judgement, judge};
@@ -35,6 +35,7 @@ use meter_theory::access::AccessCode;
 use meter_theory::refs::Descriptor;
 use object_model::argument::Argument;
 use object_model::effect::Effect;
+use object_model::instance::Instance;
 use object_model::meter::Meter;
 use object_model::plan::Plan;
 use std::alloc::Global;
@@ -58,9 +59,26 @@ pub fn apply(alloc: Global, plan: &Plan, meter: &mut Meter, step: &Step) -> Resu
     ensures denied { needs_no_memory plan.now meter.old (step_of step.now) ≡ true → IsOk result }
 {
     plan.known();
-    let Applied { reply, back } = apply_by(alloc, plan, meter, step, judge(plan, step))?;
+    let Applied { reply, back } = apply_step(alloc, plan, meter, step)?;
     back.let_go();
     Ok(reply)
+}
+
+/// Takes one step, and hands out what takes it back. Of a SET and an ACTION the plan is asked, which refuses no other step.
+fn apply_step(alloc: Global, plan: &Plan, meter: &mut Meter, step: &Step) -> Result<Applied, Memory>
+    requires { IsState plan.now meter.old }
+    ensures ok { OnOk result (meter.new ≡ next plan.now meter.old (step_of step.now)) }
+    ensures reply { IfOk result (λ applied. reply_of applied.reply
+        ≡ reply_to plan.now meter.old (step_of step.now)) }
+    ensures err { OnErr result (meter.new ≡ meter.old) }
+    ensures denied { needs_no_memory plan.now meter.old (step_of step.now) ≡ true → IsOk result }
+{
+    match step {
+        Step::Set { .. } | Step::Act { .. } => {
+            apply_by(alloc, plan, meter, step, judge(plan, step))
+        }
+        _ => apply_granted(alloc, plan, meter, step, None),
+    }
 }
 
 /// The same of a step that the plan has judged, which isn't judged again.
@@ -147,7 +165,9 @@ fn apply_granted(
         Step::Input { cell, value } => input(alloc, plan, meter, cell, value),
         Step::Tick => Ok(tick(plan, meter)),
         Step::ClockAt { moment } => Ok(clock_at(plan, meter, *moment)),
-        _ => own(alloc, plan, meter, step),
+        Step::CaptureAt { profile: name }
+        | Step::Evaluate { monitor: name }
+        | Step::ScheduleAt { schedule: name } => own(alloc, &plan.instance(name), meter, step),
     }
 }
 
@@ -246,7 +266,7 @@ fn act(
     let instance = plan.instance_at(&method.name, number);
     let mut effects = Vec::new(alloc);
     push_method(alloc, &instance, &method.method(), argument, &mut effects)?;
-    let undos = apply_all(alloc, plan, meter, effects)?;
+    let undos = apply_all(alloc, &instance, meter, effects)?;
     Ok(Applied {
         reply: Reply::Code(AccessCode::Success),
         back: Back::Effects(undos),
@@ -282,21 +302,27 @@ fn input(
     })
 }
 
-/// The turn of a profile, a register monitor or a schedule, which is taken without an answer.
-fn own(alloc: Global, plan: &Plan, meter: &mut Meter, step: &Step) -> Result<Applied, Memory>
-    requires of_plan { IsState plan.now meter.old }
-    requires own { client_of (step_of step.now) ≡ None }
-    requires turn { is_turn step.now ≡ true }
-    ensures ok { OnOk result (meter.new ≡ next plan.now meter.old (step_of step.now)) }
+/// The turn of a profile, a register monitor or a schedule, which is taken without an answer, and whose name was looked up.
+fn own(
+    alloc: Global,
+    instance: &Instance<'_>,
+    meter: &mut Meter,
+    step: &Step,
+) -> Result<Applied, Memory>
+    requires of_plan { IsState instance.now.plan meter.old }
+    requires turn { turn_of step.now ≡ Some instance.now.name }
+    ensures ok { OnOk result (meter.new ≡ next instance.now.plan meter.old (step_of step.now)) }
     ensures reply { IfOk result (λ applied. reply_of applied.reply
-        ≡ reply_to plan.now meter.old (step_of step.now)) }
-    ensures before { IfOk result (λ applied. taken_back plan.now applied.back meter.new ≡ meter.old) }
+        ≡ reply_to instance.now.plan meter.old (step_of step.now)) }
+    ensures before { IfOk result (λ applied. taken_back instance.now.plan applied.back meter.new
+        ≡ meter.old) }
     ensures err { OnErr result (meter.new ≡ meter.old) }
-    ensures denied { needs_no_memory plan.now meter.old (step_of step.now) ≡ true → IsOk result }
+    ensures denied { needs_no_memory instance.now.plan meter.old (step_of step.now) ≡ true
+        → IsOk result }
 {
-    plan.known();
-    let effects = own_effects(alloc, plan, meter, step)?;
-    let undos = apply_all(alloc, plan, meter, effects)?;
+    instance.plan().known();
+    let effects = own_effects(alloc, instance, meter, step)?;
+    let undos = apply_all(alloc, instance, meter, effects)?;
     Ok(Applied {
         reply: Reply::Quiet,
         back: Back::Effects(undos),
@@ -306,26 +332,24 @@ fn own(alloc: Global, plan: &Plan, meter: &mut Meter, step: &Step) -> Result<App
 /// The effects of such a turn. The only error is that memory was refused, which without effects it isn't.
 fn own_effects(
     alloc: Global,
-    plan: &Plan,
+    instance: &Instance<'_>,
     meter: &Meter,
     step: &Step,
 ) -> Result<Vec<Effect>, Memory>
-    requires of_plan { IsState plan.now meter.now }
-    requires own { client_of (step_of step.now) ≡ None }
-    requires turn { is_turn step.now ≡ true }
-    ensures ok { IfOk result (λ list. StandsFor plan.now
-        (steps.effects_of plan.now meter.now (step_of step.now)) list.items) }
-    ensures none { steps.effects_of plan.now meter.now (step_of step.now) ≡ [] → IsOk result }
+    requires of_plan { IsState instance.now.plan meter.now }
+    requires turn { turn_of step.now ≡ Some instance.now.name }
+    ensures ok { IfOk result (λ list. StandsFor instance.now.plan
+        (steps.effects_of instance.now.plan meter.now (step_of step.now)) list.items) }
+    ensures none { steps.effects_of instance.now.plan meter.now (step_of step.now) ≡ []
+        → IsOk result }
 {
     match step {
-        Step::CaptureAt { profile } => {
-            let moment = meter.present(plan);
-            capture_effects(alloc, plan, meter, *profile, moment)
+        Step::CaptureAt { .. } => {
+            capture_effects(alloc, instance, meter, meter.present(instance.plan()))
         }
-        Step::Evaluate { monitor } => evaluation_effects(alloc, plan, meter, *monitor),
-        Step::ScheduleAt { schedule } => {
-            let moment = meter.present(plan);
-            schedule_effects(alloc, plan, meter, *schedule, moment)
+        Step::Evaluate { .. } => evaluation_effects(alloc, instance, meter),
+        Step::ScheduleAt { .. } => {
+            schedule_effects(alloc, instance, meter, meter.present(instance.plan()))
         }
         _ => Ok(Vec::new(alloc)),
     }

@@ -21,7 +21,6 @@ use class_profile::due::is_due as is_capture_due;
 use cosem_data::cell::CellRef;
 use cosem_data::data::Data;
 use cosem_data::memory::Memory;
-use cosem_data::name::LogicalName;
 use meter_theory::refs::ScriptRef;
 use object_model::cells::{capture_period, execution_time, seen, thresholds};
 use object_model::effect::Effect;
@@ -62,30 +61,30 @@ fn is_fed(instance: &Instance<'_>, cell: &CellRef) -> bool
     }
 }
 
-/// The capture of the profile with this name, if it is due at the moment at which the clock stands. The only error is that memory was refused,
-/// which without effects it isn't.
+/// The capture of the profile here, if there is one, and it is due at the moment at which the clock stands. The only error is
+/// that memory was refused, which without effects it isn't.
 pub fn capture_effects(
     alloc: Global,
-    plan: &Plan,
+    instance: &Instance<'_>,
     meter: &Meter,
-    profile: LogicalName,
     moment: Moment,
 ) -> Result<Vec<Effect>, Memory>
-    requires of_plan { IsState plan.now meter.now }
-    requires present { moment ≡ theory.present plan.now meter.now }
-    ensures ok { IfOk result (λ list. StandsFor plan.now
-        (theory.effects_of plan.now meter.now (theory.CaptureAt profile)) list.items) }
-    ensures none { theory.effects_of plan.now meter.now (theory.CaptureAt profile) ≡ [] → IsOk result }
+    requires of_plan { IsState instance.now.plan meter.now }
+    requires present { moment ≡ theory.present instance.now.plan meter.now }
+    ensures ok { IfOk result (λ list. StandsFor instance.now.plan
+        (theory.effects_of instance.now.plan meter.now (theory.CaptureAt instance.now.name))
+        list.items) }
+    ensures none { theory.effects_of instance.now.plan meter.now (theory.CaptureAt instance.now.name)
+        ≡ [] → IsOk result }
 {
     let mut effects = Vec::new(alloc);
-    let instance = plan.instance(&profile);
     let Some(_) = instance.profile() else {
         return Ok(effects);
     };
-    if !is_period_over(meter, &instance, moment) {
+    if !is_period_over(meter, instance, moment) {
         return Ok(effects);
     }
-    push_effect(&mut effects, Effect::Capture(profile))?;
+    push_effect(&mut effects, Effect::Capture(instance.name()))?;
     Ok(effects)
 }
 
@@ -101,33 +100,33 @@ fn is_period_over(meter: &Meter, instance: &Instance<'_>, moment: Moment) -> boo
     }
 }
 
-/// The effects of the script of the schedule with this name, if the moment at which the clock stands is one of its times. The only error is that memory was
-/// refused, which without effects it isn't.
+/// The effects of the script of the schedule here, if there is one, and the moment at which the clock stands is one of its
+/// times. The only error is that memory was refused, which without effects it isn't.
 pub fn schedule_effects(
     alloc: Global,
-    plan: &Plan,
+    instance: &Instance<'_>,
     meter: &Meter,
-    schedule: LogicalName,
     moment: Moment,
 ) -> Result<Vec<Effect>, Memory>
-    requires of_plan { IsState plan.now meter.now }
-    requires present { moment ≡ theory.present plan.now meter.now }
-    ensures ok { IfOk result (λ list. StandsFor plan.now
-        (theory.effects_of plan.now meter.now (theory.ScheduleAt schedule)) list.items) }
-    ensures none { theory.effects_of plan.now meter.now (theory.ScheduleAt schedule) ≡ [] → IsOk result }
+    requires of_plan { IsState instance.now.plan meter.now }
+    requires present { moment ≡ theory.present instance.now.plan meter.now }
+    ensures ok { IfOk result (λ list. StandsFor instance.now.plan
+        (theory.effects_of instance.now.plan meter.now (theory.ScheduleAt instance.now.name))
+        list.items) }
+    ensures none { theory.effects_of instance.now.plan meter.now (theory.ScheduleAt instance.now.name)
+        ≡ [] → IsOk result }
 {
     let mut effects = Vec::new(alloc);
-    let instance = plan.instance(&schedule);
     let Some(object) = instance.object() else {
         return Ok(effects);
     };
     let Part::SingleActionSchedule(part) = object.part() else {
         return Ok(effects);
     };
-    if !is_time(meter, &instance, moment) {
+    if !is_time(meter, instance, moment) {
         return Ok(effects);
     }
-    push_present(alloc, meter, &instance, part, &mut effects)?;
+    push_present(alloc, meter, instance, part, &mut effects)?;
     Ok(effects)
 }
 
@@ -164,23 +163,25 @@ fn is_time(meter: &Meter, instance: &Instance<'_>, moment: Moment) -> bool
     }
 }
 
-/// The effects of an evaluation of the register monitor with this name: of the scripts that are due, in the order of
+/// The effects of an evaluation of the register monitor here, if there is one: of the scripts that are due, in the order of
 /// the thresholds, and then what it remembers. All thresholds are judged before any script runs, and what it remembers is
 /// the monitored value before the step. The only error is that memory was refused, which without effects it isn't.
 pub fn evaluation_effects(
     alloc: Global,
-    plan: &Plan,
+    instance: &Instance<'_>,
     meter: &Meter,
-    name: LogicalName,
 ) -> Result<Vec<Effect>, Memory>
-    requires { IsState plan.now meter.now }
-    ensures ok { IfOk result (λ list. StandsFor plan.now
-        (theory.effects_of plan.now meter.now (theory.Evaluate name)) list.items) }
-    ensures none { theory.effects_of plan.now meter.now (theory.Evaluate name) ≡ [] → IsOk result }
+    requires { IsState instance.now.plan meter.now }
+    ensures ok { IfOk result (λ list. StandsFor instance.now.plan
+        (theory.effects_of instance.now.plan meter.now (theory.Evaluate instance.now.name))
+        list.items) }
+    ensures none { theory.effects_of instance.now.plan meter.now (theory.Evaluate instance.now.name)
+        ≡ [] → IsOk result }
 {
+    let plan = instance.plan();
     plan.known();
+    let name = instance.name();
     let mut effects = Vec::new(alloc);
-    let instance = plan.instance(&name);
     let Some(object) = instance.object() else {
         return Ok(effects);
     };
@@ -192,8 +193,8 @@ pub fn evaluation_effects(
     };
     let now = meter.value_at(alloc, &source, &part.monitored_value)?;
     let monitor = Monitor {
-        thresholds: meter.value_at(alloc, &instance, &thresholds(name))?,
-        seen: meter.value_at(alloc, &instance, &seen(name))?,
+        thresholds: meter.value_at(alloc, instance, &thresholds(name))?,
+        seen: meter.value_at(alloc, instance, &seen(name))?,
     };
     push_scripts(alloc, plan, &monitor.due(alloc, part, &now)?, &mut effects)?;
     push_effect(&mut effects, Effect::Remember(name, now))?;

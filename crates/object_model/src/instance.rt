@@ -82,6 +82,22 @@ impl<'a> Instance<'a> {
         self.name
     }
 
+    /// What the plan has at a name. It takes a search only where the name is another one.
+    pub fn at(&self, name: LogicalName) -> Instance<'a>
+        ensures { result ≡ record { plan = self.now.plan; name = name } }
+    {
+        let number = if name == self.name {
+            self.number
+        } else {
+            self.plan.number_of(&name)
+        };
+        Instance {
+            plan: self.plan,
+            name,
+            number,
+        }
+    }
+
     /// The number, from 0 in plan order, of the object with this name, or None where the plan has none.
     pub fn number(&self) -> Option<u16>
         ensures { result ≡ number_at self.now.plan.objects self.now.name }

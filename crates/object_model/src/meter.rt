@@ -131,22 +131,29 @@ impl Meter {
         }
     }
 
-    /// Takes an effect of a step of the meter's plan, and hands out what takes it back. The only error is that memory was
-    /// refused for what a capture captures, and the meter is as it was then.
-    pub fn take(&mut self, alloc: Global, plan: &Plan, effect: Effect) -> Result<Undo, Memory>
-        requires of_plan { IsState plan.now self.old }
-        requires fits { MayTake plan.now effect }
-        ensures ok { OnOk result (self.new ≡ theory.effect plan.now self.old (effect_of effect)) }
+    /// Takes an effect of a step of the meter's plan, and hands out what takes it back. What the step names was looked up
+    /// before: an effect on it takes no search for its name. The only error is that memory was refused for what a capture
+    /// captures, and the meter is as it was then.
+    pub fn take(
+        &mut self,
+        alloc: Global,
+        named: &Instance<'_>,
+        effect: Effect,
+    ) -> Result<Undo, Memory>
+        requires of_plan { IsState named.now.plan self.old }
+        requires fits { MayTake named.now.plan effect }
+        ensures ok { OnOk result (self.new
+            ≡ theory.effect named.now.plan self.old (effect_of effect)) }
         ensures before { IfOk result (λ undo. undone undo self.new ≡ self.old) }
         ensures err { OnErr result (self.new ≡ self.old) }
         // Only a capture takes memory.
         ensures free { ((profile : NameValue) → effect ≡ Effect.Capture profile → ⊥) → IsOk result }
     {
         match effect {
-            Effect::Put(cell, given) => Ok(self.put(&plan.instance(&cell.name), &cell, given)),
-            Effect::Remember(monitor, now) => Ok(self.remember(plan, monitor, now)),
-            Effect::Capture(profile) => self.capture(alloc, plan, profile),
-            Effect::Clear(profile) => Ok(self.clear(plan, profile)),
+            Effect::Put(cell, given) => Ok(self.put(&named.at(cell.name), &cell, given)),
+            Effect::Remember(monitor, now) => Ok(self.remember(&named.at(monitor), now)),
+            Effect::Capture(profile) => self.capture(alloc, &named.at(profile)),
+            Effect::Clear(profile) => Ok(self.clear(&named.at(profile))),
         }
     }
 
@@ -255,14 +262,16 @@ impl Meter {
     }
 
     /// A register monitor remembers what it watches.
-    fn remember(&mut self, plan: &Plan, monitor: LogicalName, now: Data) -> Undo
-        requires of_plan { IsState plan.now self.old }
-        requires fits { Fits plan.now (theory.Put (plans.seen monitor) (tree now)) }
-        ensures put { self.new ≡ state.put self.old (plans.seen monitor) (tree now) }
+    fn remember(&mut self, instance: &Instance<'_>, now: Data) -> Undo
+        requires of_plan { IsState instance.now.plan self.old }
+        requires fits { Fits instance.now.plan
+            (theory.Put (plans.seen instance.now.name) (tree now)) }
+        ensures put { self.new ≡ state.put self.old (plans.seen instance.now.name) (tree now) }
         ensures before { undone result self.new ≡ self.old }
     {
+        let monitor = instance.name();
         let cell = seen(monitor);
-        let Some(place) = place_of(&plan.instance(&monitor), &self.objects, &cell) else {
+        let Some(place) = place_of(instance, &self.objects, &cell) else {
             unreachable!();
         };
         let change = remember_in(&mut self.objects, place, monitor, now);
@@ -274,23 +283,23 @@ impl Meter {
     }
 
     /// A profile captures a row of the values of the cells that it captures now (IEC 62056-6-2, Profile generic, capture).
-    fn capture(&mut self, alloc: Global, plan: &Plan, profile: LogicalName) -> Result<Undo, Memory>
-        requires of_plan { IsState plan.now self.old }
-        requires fits { IsProfile plan.now profile }
-        ensures ok { OnOk result (self.new
-            ≡ theory.capture self.old profile (captures_of (object_at plan.now profile))) }
+    fn capture(&mut self, alloc: Global, instance: &Instance<'_>) -> Result<Undo, Memory>
+        requires of_plan { IsState instance.now.plan self.old }
+        requires fits { IsProfile instance.now.plan instance.now.name }
+        ensures ok { OnOk result (self.new ≡ theory.capture self.old instance.now.name
+            (captures_of (object_at instance.now.plan instance.now.name))) }
         ensures before { IfOk result (λ undo. undone undo self.new ≡ self.old) }
         ensures err { OnErr result (self.new ≡ self.old) }
     {
-        let instance = plan.instance(&profile);
+        let profile = instance.name();
         let Some(part) = instance.profile() else {
             unreachable!();
         };
-        let Some(place) = place_of(&instance, &self.objects, &buffer(profile)) else {
+        let Some(place) = place_of(instance, &self.objects, &buffer(profile)) else {
             unreachable!();
         };
-        let columns = self.columns(&instance, part);
-        let row = self.captured_values(alloc, plan, columns.cells, columns.numbers)?;
+        let columns = self.columns(instance, part);
+        let row = self.captured_values(alloc, instance.plan(), columns.cells, columns.numbers)?;
         let change = capture_in(alloc, &mut self.objects, place, profile, part, row)?;
         Ok(Undo {
             name: profile,
@@ -389,14 +398,14 @@ impl Meter {
     }
 
     /// Empties a profile (IEC 62056-6-2, Profile generic, reset). Where the plan has none, nothing changes.
-    fn clear(&mut self, plan: &Plan, profile: LogicalName) -> Undo
-        requires { IsState plan.now self.old }
-        ensures cleared { self.new ≡ theory.clear self.old profile }
+    fn clear(&mut self, instance: &Instance<'_>) -> Undo
+        requires { IsState instance.now.plan self.old }
+        ensures cleared { self.new ≡ theory.clear self.old instance.now.name }
         ensures before { undone result self.new ≡ self.old }
     {
-        let cleared = self.empty(&plan.instance(&profile));
+        let cleared = self.empty(instance);
         Undo {
-            name: profile,
+            name: instance.name(),
             change: Change::ProfileGeneric(ProfileChange::Cleared(cleared)),
             emptied: None,
         }
