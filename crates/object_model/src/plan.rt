@@ -274,16 +274,7 @@ fn clock_of(objects: &[Object]) -> Option<LogicalName>
 fn place_named(clients: &[Client], name: &[u8]) -> Option<usize>
     ensures { result ≡ position_from (λ c. bytes_eq c.name name.now) 0 clients.now }
 {
-    clients
-        .iter()
-        .position(|client| is_text(client.name(), name))
-}
-
-/// Whether two texts are the same. The lengths and the first bytes, which tell most names of clients apart, are compared before all of it.
-fn is_text(text: &[u8], other: &[u8]) -> bool
-    ensures { result ≡ bytes_eq text.now other.now }
-{
-    text.len() == other.len() && text.first() == other.first() && text == other
+    clients.iter().position(|client| client.name() == name)
 }
 
 /// The names of objects, in their order.
