@@ -1,7 +1,7 @@
 -- A code as a permit, and the code of a value.
-use Rattle.std.specs.Prelude.{not, [], ◌∷◌, Option, Result, Ok, Err}
+use Rattle.std.specs.Prelude.{not, [], ◌∷◌, Bool, List, Option, Result, Ok, Err}
 use Rattle.meter_theory.specs.declared.access.AccessCode.{AccessCode}
-use Rattle.meter_theory.specs.declared.access.AccessCode.TheVariants.{Success, TypeUnmatched, OtherReason}
+use Rattle.meter_theory.specs.declared.access.AccessCode.TheVariants.{Success, ObjectUndefined, ObjectClassInconsistent, TypeUnmatched, OtherReason}
 use Rattle.meter_theory.specs.Value.{Rule}
 use Rattle.meter_theory.specs.Rights.{Argument, first_place, has_valid_tag, meets_rule}
 
@@ -13,3 +13,7 @@ permitted code = Err code
 -- the code of a SET whose places before the value are passed
 abbrev pub value_code : Option Rule → Argument → AccessCode
 value_code rule v = first_place ((not (has_valid_tag rule v), TypeUnmatched) ∷ (not (meets_rule rule v), OtherReason) ∷ [])
+
+-- the places that each request has first: whether the name is in the client's view, the class is that of what stands there, and it has the index
+abbrev pub member_places : Bool → Bool → Bool → List (Bool × AccessCode)
+member_places seen of_class has = (not seen, ObjectUndefined) ∷ (not of_class, ObjectClassInconsistent) ∷ (not has, ObjectUndefined) ∷ []

@@ -4,11 +4,11 @@ ghost use Rattle.std.specs.Prelude.{◌≡◌, ℕ, ℤ, pos, int_le, nat_le, is
 ghost use Rattle.cosem_data.specs.Cells.{cell};
 ghost use Rattle.meter_theory.specs.Access.{is_success};
 ghost use Rattle.meter_theory.specs.Rights as rights;
-ghost use Rattle.meter_theory.specs.Rights.{is_index};
+ghost use Rattle.meter_theory.specs.Rights.{first_place, in_view, is_index};
 ghost use Rattle.meter_theory.specs.Plan.{interface_at, object_at, rule_of};
 ghost use Rattle.object_model.specs.ArgumentView.{argument_of, selection_of};
 ghost use Rattle.object_model.specs.PartView.{part_of};
-ghost use Rattle.association_views.specs.Permits.{permitted, value_code};
+ghost use Rattle.association_views.specs.Permits.{member_places, permitted, value_code};
 
 use crate::selection::descriptor_in;
 use class_control::script_table::{ScriptTable, knows_script};
@@ -59,6 +59,32 @@ fn has_method(instance: &Instance, descriptor: &Descriptor) -> bool
         Some(interface) => is_index(descriptor.index, interface.methods),
         None => false,
     }
+}
+
+/// The places that each request has first, whether it names an attribute or a method: `ObjectUndefined` where the name isn't in
+/// the client's view, `ObjectClassInconsistent` where another class stands there, and `ObjectUndefined` where that has no such
+/// index.
+fn permit_member(
+    instance: &Instance,
+    client: u8,
+    class_id: u16,
+    has_index: bool,
+) -> Result<(), AccessCode>
+    ensures { result ≡ permitted (first_place (member_places
+        (in_view instance.now.plan client instance.now.name)
+        (rights.class_is class_id (interface_at instance.now.plan instance.now.name))
+        has_index)) }
+{
+    if !instance.in_view(client) {
+        return Err(AccessCode::ObjectUndefined);
+    }
+    if !class_is(instance, class_id) {
+        return Err(AccessCode::ObjectClassInconsistent);
+    }
+    if !has_index {
+        return Err(AccessCode::ObjectUndefined);
+    }
+    Ok(())
 }
 
 /// Only a profile's buffer takes a selector, and only selector 2, by entry.
@@ -116,15 +142,12 @@ pub fn permit_get_at(
         (selection_of selection.now)) }
 {
     let cell = descriptor.attribute();
-    if !instance.in_view(client) {
-        return Err(AccessCode::ObjectUndefined);
-    }
-    if !class_is(instance, descriptor.class_id) {
-        return Err(AccessCode::ObjectClassInconsistent);
-    }
-    if !has_attribute(instance, descriptor) {
-        return Err(AccessCode::ObjectUndefined);
-    }
+    permit_member(
+        instance,
+        client,
+        descriptor.class_id,
+        has_attribute(instance, descriptor),
+    )?;
     if !instance.may_read(client, cell.index) {
         return Err(AccessCode::ReadWriteDenied);
     }
@@ -172,15 +195,12 @@ pub fn permit_set_at(
         (argument_of value.now)) }
 {
     let cell = descriptor.attribute();
-    if !instance.in_view(client) {
-        return Err(AccessCode::ObjectUndefined);
-    }
-    if !class_is(instance, descriptor.class_id) {
-        return Err(AccessCode::ObjectClassInconsistent);
-    }
-    if !has_attribute(instance, descriptor) {
-        return Err(AccessCode::ObjectUndefined);
-    }
+    permit_member(
+        instance,
+        client,
+        descriptor.class_id,
+        has_attribute(instance, descriptor),
+    )?;
     if !instance.may_set(client, cell.index) {
         return Err(AccessCode::ReadWriteDenied);
     }
@@ -279,15 +299,12 @@ pub fn permit_action_at(
         (argument_of argument.now)) }
 {
     let method = descriptor.method();
-    if !instance.in_view(client) {
-        return Err(AccessCode::ObjectUndefined);
-    }
-    if !class_is(instance, descriptor.class_id) {
-        return Err(AccessCode::ObjectClassInconsistent);
-    }
-    if !has_method(instance, descriptor) {
-        return Err(AccessCode::ObjectUndefined);
-    }
+    permit_member(
+        instance,
+        client,
+        descriptor.class_id,
+        has_method(instance, descriptor),
+    )?;
     if !instance.may_act(client, method.index) {
         return Err(AccessCode::ReadWriteDenied);
     }
