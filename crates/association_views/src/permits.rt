@@ -63,7 +63,8 @@ fn has_method(instance: &Instance, descriptor: &Descriptor) -> bool
 
 /// The places that each request has first, whether it names an attribute or a method: `ObjectUndefined` where the name isn't in
 /// the client's view, `ObjectClassInconsistent` where another class stands there, and `ObjectUndefined` where that has no such
-/// index.
+/// index. Inlined, since what stands at the name is looked at twice for them.
+#[inline(always)]
 fn permit_member(
     instance: &Instance,
     client: u8,
