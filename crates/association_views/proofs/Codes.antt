@@ -7,7 +7,7 @@ use Rattle.meter_theory.specs.declared.access.AccessCode.TheVariants as codes
 use Rattle.meter_theory.specs.Value.{Rule, valid_tag, meets}
 use Rattle.meter_theory.specs.Rights.{Given, first_place}
 use Rattle.cosem_class.specs.Judged.{rule_answer}
-use Rattle.association_views.specs.Permits.{member_places, permitted, value_code}
+use Rattle.association_views.specs.Permits.{named_places, permitted, value_code}
 
 pub rule_permits : (rule : Option Rule) (value : Tree) → rule_answer rule value ≡ permitted (value_code rule (Given value))
 rule_permits None value = refl
@@ -19,12 +19,11 @@ rule_permits (Some rule) value = at (valid_tag rule value) (meets rule value)
     at true false = refl
     at false fits = refl
 
--- what passes the first places of a request is in view, of the class, and has the index
-pub member : (seen of_class has : Bool) (unit : Unit {0}) → Ok unit ≡ permitted (first_place (member_places seen of_class has)) → (seen ≡ true) × (of_class ≡ true) × (has ≡ true)
-member true true true unit h = (refl, refl, refl)
-member true true false unit h = cc
-member true false has unit h = cc
-member false of_class has unit h = cc
+-- what passes the first places of a request is in view and of the class
+pub named : (seen of_class : Bool) → Ok (tt {0}) ≡ permitted (first_place (named_places seen of_class)) → (seen ≡ true) × (of_class ≡ true)
+named true true h = (refl, refl)
+named true false h = cc
+named false of_class h = cc
 
 -- a SET that passes the places before the value has the code of the value
 pub all_passed : {seen of_class has may selected : Bool} {code : AccessCode} → seen ≡ true → of_class ≡ true → has ≡ true → may ≡ true → selected ≡ false

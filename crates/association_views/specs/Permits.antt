@@ -14,6 +14,6 @@ permitted code = Err code
 abbrev pub value_code : Option Rule → Argument → AccessCode
 value_code rule v = first_place ((not (has_valid_tag rule v), TypeUnmatched) ∷ (not (meets_rule rule v), OtherReason) ∷ [])
 
--- the places that each request has first: whether the name is in the client's view, the class is that of what stands there, and it has the index
-abbrev pub member_places : Bool → Bool → Bool → List (Bool × AccessCode)
-member_places seen of_class has = (not seen, ObjectUndefined) ∷ (not of_class, ObjectClassInconsistent) ∷ (not has, ObjectUndefined) ∷ []
+-- the places that each request has first: whether the name is in the client's view, and whether the class of what stands there is the one that is named
+abbrev pub named_places : Bool → Bool → List (Bool × AccessCode)
+named_places seen of_class = (not seen, ObjectUndefined) ∷ (not of_class, ObjectClassInconsistent) ∷ []

@@ -1,6 +1,7 @@
 //! Whether a client's request is allowed, by the plan and the request alone, in the order of places (own profile). Nothing
 //! here takes memory.
-ghost use Rattle.std.specs.Prelude.{◌≡◌, ℕ, ℤ, pos, int_le, nat_le, is_some};
+ghost use Rattle.std.specs.Prelude.{◌≡◌, ℕ, ℤ, pos, int_le, nat_le, is_some, IfOk, Ok, Some};
+ghost use Rattle.std.specs.Result.{result_and};
 ghost use Rattle.cosem_data.specs.Cells.{cell};
 ghost use Rattle.meter_theory.specs.Access.{is_success};
 ghost use Rattle.meter_theory.specs.Rights as rights;
@@ -8,7 +9,7 @@ ghost use Rattle.meter_theory.specs.Rights.{first_place, in_view, is_index};
 ghost use Rattle.meter_theory.specs.Plan.{interface_at, object_at, rule_of};
 ghost use Rattle.object_model.specs.ArgumentView.{argument_of, selection_of};
 ghost use Rattle.object_model.specs.PartView.{part_of};
-ghost use Rattle.association_views.specs.Permits.{member_places, permitted, value_code};
+ghost use Rattle.association_views.specs.Permits.{named_places, permitted, value_code};
 
 use crate::selection::descriptor_in;
 use class_control::script_table::{ScriptTable, knows_script};
@@ -16,7 +17,7 @@ use class_profile::profile::Profile;
 use cosem_class::class::InterfaceClass;
 use cosem_data::cell::CellRef;
 use meter_theory::access::AccessCode;
-use meter_theory::refs::Descriptor;
+use meter_theory::refs::{Descriptor, Interface};
 use object_model::argument::Argument;
 use object_model::instance::Instance;
 use object_model::part::Part;
@@ -29,63 +30,23 @@ fn is_index(index: i8, highest: u8) -> bool
     1 <= index && i16::from(index) <= i16::from(highest)
 }
 
-/// Whether what stands at the name is of this class.
-fn class_is(instance: &Instance, class_id: u16) -> bool
-    ensures { result ≡ rights.class_is class_id (interface_at instance.now.plan instance.now.name) }
-{
-    match instance.interface() {
-        Some(interface) => interface.class_id == class_id,
-        None => false,
-    }
-}
-
-/// Whether the class of what stands at the name has an attribute with this index.
-fn has_attribute(instance: &Instance, descriptor: &Descriptor) -> bool
-    ensures { result ≡ rights.has_attribute descriptor.now.index
-        (interface_at instance.now.plan instance.now.name) }
-{
-    match instance.interface() {
-        Some(interface) => is_index(descriptor.index, interface.attributes),
-        None => false,
-    }
-}
-
-/// Whether the class of what stands at the name has a method with this index.
-fn has_method(instance: &Instance, descriptor: &Descriptor) -> bool
-    ensures { result ≡ rights.has_method descriptor.now.index
-        (interface_at instance.now.plan instance.now.name) }
-{
-    match instance.interface() {
-        Some(interface) => is_index(descriptor.index, interface.methods),
-        None => false,
-    }
-}
-
-/// The places that each request has first, whether it names an attribute or a method: `ObjectUndefined` where the name isn't in
-/// the client's view, `ObjectClassInconsistent` where another class stands there, and `ObjectUndefined` where that has no such
-/// index. Inlined, since what stands at the name is looked at twice for them.
-#[inline(always)]
-fn permit_member(
-    instance: &Instance,
-    client: u8,
-    class_id: u16,
-    has_index: bool,
-) -> Result<(), AccessCode>
-    ensures { result ≡ permitted (first_place (member_places
+/// The interface class of what stands at the name, by the places that each request has first, whether it names an attribute or
+/// a method: `ObjectUndefined` where the name isn't in the client's view, `ObjectClassInconsistent` where another class stands
+/// there.
+fn interface_named(instance: &Instance, client: u8, class_id: u16) -> Result<Interface, AccessCode>
+    ensures ok { IfOk result (λ interface.
+        interface_at instance.now.plan instance.now.name ≡ Some interface) }
+    ensures code { result_and result (Ok tt) ≡ permitted (first_place (named_places
         (in_view instance.now.plan client instance.now.name)
-        (rights.class_is class_id (interface_at instance.now.plan instance.now.name))
-        has_index)) }
+        (rights.class_is class_id (interface_at instance.now.plan instance.now.name)))) }
 {
     if !instance.in_view(client) {
         return Err(AccessCode::ObjectUndefined);
     }
-    if !class_is(instance, class_id) {
-        return Err(AccessCode::ObjectClassInconsistent);
+    match instance.interface() {
+        Some(interface) if interface.class_id == class_id => Ok(interface),
+        _ => Err(AccessCode::ObjectClassInconsistent),
     }
-    if !has_index {
-        return Err(AccessCode::ObjectUndefined);
-    }
-    Ok(())
 }
 
 /// Only a profile's buffer takes a selector, and only selector 2, by entry.
@@ -143,12 +104,10 @@ pub fn permit_get_at(
         (selection_of selection.now)) }
 {
     let cell = descriptor.attribute();
-    permit_member(
-        instance,
-        client,
-        descriptor.class_id,
-        has_attribute(instance, descriptor),
-    )?;
+    let interface = interface_named(instance, client, descriptor.class_id)?;
+    if !is_index(descriptor.index, interface.attributes) {
+        return Err(AccessCode::ObjectUndefined);
+    }
     if !instance.may_read(client, cell.index) {
         return Err(AccessCode::ReadWriteDenied);
     }
@@ -196,12 +155,10 @@ pub fn permit_set_at(
         (argument_of value.now)) }
 {
     let cell = descriptor.attribute();
-    permit_member(
-        instance,
-        client,
-        descriptor.class_id,
-        has_attribute(instance, descriptor),
-    )?;
+    let interface = interface_named(instance, client, descriptor.class_id)?;
+    if !is_index(descriptor.index, interface.attributes) {
+        return Err(AccessCode::ObjectUndefined);
+    }
     if !instance.may_set(client, cell.index) {
         return Err(AccessCode::ReadWriteDenied);
     }
@@ -300,12 +257,10 @@ pub fn permit_action_at(
         (argument_of argument.now)) }
 {
     let method = descriptor.method();
-    permit_member(
-        instance,
-        client,
-        descriptor.class_id,
-        has_method(instance, descriptor),
-    )?;
+    let interface = interface_named(instance, client, descriptor.class_id)?;
+    if !is_index(descriptor.index, interface.methods) {
+        return Err(AccessCode::ObjectUndefined);
+    }
     if !instance.may_act(client, method.index) {
         return Err(AccessCode::ReadWriteDenied);
     }
