@@ -5,6 +5,7 @@ use crate::check::Checked;
 use crate::learned::first_learned;
 use cosem_data::cell::CellRef;
 use meter_effects::walk::{Planned, Visitor};
+use object_model::instance::Instance;
 use std::convert::Infallible;
 
 /// The first cell, if there was one, that an effect changes and a client may learn by the policy.
@@ -42,9 +43,9 @@ impl<'a> Visitor for Looking<'a> {
 
     type Stop = Infallible;
 
-    ghost meets = { LooksOn };
+    ghost meets = { λ plan old effect new. LooksOn old effect new };
 
-    fn visit(&mut self, effect: &Planned<'_>) -> Result<(), Infallible> {
+    fn visit(&mut self, _object: &Instance<'_>, effect: &Planned<'_>) -> Result<(), Infallible> {
         if self.found.is_none() {
             self.found = first_learned(self.checked, self.client, effect.changed().as_slice());
         }

@@ -8,3 +8,4 @@ pub mod Objects
 pub mod Sources
 pub mod Walked
 pub mod Kept
+pub mod References

@@ -17,10 +17,9 @@ use Rattle.flow_edges.specs.declared.script_changes.Numbers.{Numbers}
 abbrev pub numbers_of : Plan → List CellRef → List ℕ
 numbers_of P xs = filter_map (λ x. position_from (same_cell x) 0 (cells P)) xs
 
--- behind the numbers of before stand those of the cells that the effect changes, and the plan stays: own profile
-pub record NumbersMore (old : Numbers) (effect : Effect) (new : Numbers) : Type 0 where
-  pub plan : new.plan.now ≡ old.plan.now
-  pub numbers : new.numbers.items ≡ old.numbers.items ++ numbers_of old.plan.now (changed_by effect)
+-- behind the numbers of before stand those of the cells that the effect changes: own profile
+abbrev pub NumbersMore : Plan → Numbers → Effect → Numbers → Type 0
+NumbersMore P old effect new = new.numbers.items ≡ old.numbers.items ++ numbers_of P (changed_by effect)
 
 -- by the script's number, and then by the bytes of the table's name: own profile
 abbrev pub script_cmp : ℕ × List ℕ → ℕ × List ℕ → Ordering

@@ -1,5 +1,5 @@
 //! The edges of a plan.
-ghost use Rattle.std.specs.Prelude.{◌≡◌, ◌<◌, ℕ, Bool, IfOk, OnOk, length, map, filter, flat_map};
+ghost use Rattle.std.specs.Prelude.{◌≡◌, ◌<◌, ℕ, Bool, IfOk, OnOk, Some, length, map, filter, flat_map, slice_get};
 ghost use Rattle.class_control.specs.PartView.{monitor_part_of, schedule_part_of, scripts_of_part};
 ghost use Rattle.class_profile.specs.PartView.{captures_of_part, profile_part_of};
 ghost use Rattle.cosem_data.specs.declared.cell.CellRef.{CellRef as CellValue};
@@ -9,6 +9,7 @@ ghost use Rattle.meter_theory.specs.Edges as theory;
 ghost use Rattle.flow_edges.specs.Gather.{IsGathered, both_at, captures_into};
 ghost use Rattle.flow_edges.specs.Sources.{AreOfPlan, HasPart};
 ghost use Rattle.flow_edges.specs.Table.{cell_at};
+ghost use Rattle.object_model.specs.Tables.{AreNumbersOf, number_at};
 
 use crate::marks::{changed_by_monitor, changed_by_schedule};
 use crate::script_changes::ScriptChanges;
@@ -17,12 +18,12 @@ use class_control::parts::{MonitorPart, SchedulePart};
 use class_profile::profile::ProfilePart;
 use cosem_data::cell::CellRef;
 use cosem_data::memory::Memory;
-use cosem_data::name::LogicalName;
 use meter_theory::flow::{Cause, Edge};
 use object_model::cells::{
     buffer, capture_objects, capture_period, clock_time, entries_in_use, executed_script,
     execution_time, seen, thresholds,
 };
+use object_model::instance::Instance;
 use object_model::object::Object;
 use object_model::part::Part;
 use object_model::plan::Plan;
@@ -43,32 +44,35 @@ pub fn edge_table(alloc: Global, plan: &Plan) -> Result<EdgeTable, Memory>
     plan.known();
     let mut table = EdgeTable::new(alloc, plan.cells(alloc)?)?;
     let mut changes = ScriptChanges::new(alloc, plan);
-    for object in plan.objects() {
-        add_object(alloc, plan, object, &mut changes, &mut table)?;
+    let objects = plan.objects();
+    for (number, object) in objects.iter().enumerate() {
+        add_object(alloc, plan, number as u16, object, &mut changes, &mut table)?;
     }
     Ok(table)
 }
 
-/// Adds the edges that an object of the plan makes.
+/// Adds the edges that the object with this number makes.
 fn add_object(
     alloc: Global,
     plan: &Plan,
+    number: u16,
     object: &Object,
     changes: &mut ScriptChanges<'_>,
     table: &mut EdgeTable,
 ) -> Result<(), Memory>
     requires cells { table.old.cells ≡ plans.cells plan.now }
     requires changes { changes.old ≡ plan.now }
-    requires object { IsIn plan.now.objects object.now }
+    requires object { slice_get plan.now.objects number ≡ Some object.now }
     ensures changes { changes.new ≡ changes.old }
     ensures edges { OnOk result (IsGathered table.old table.new
         (theory.edges_in plan.now object.now.name object.now.part)) }
 {
-    let name = object.name();
+    plan.known();
+    let instance = plan.instance_of(number);
     match object.part() {
-        Part::RegisterMonitor(part) => add_monitor(alloc, plan, name, part, changes, table),
-        Part::ProfileGeneric(part) => add_profile(plan, name, part, table),
-        Part::SingleActionSchedule(part) => add_schedule(alloc, plan, name, part, changes, table),
+        Part::RegisterMonitor(part) => add_monitor(alloc, &instance, part, changes, table),
+        Part::ProfileGeneric(part) => add_profile(&instance, part, table),
+        Part::SingleActionSchedule(part) => add_schedule(alloc, &instance, part, changes, table),
         _ => Ok(()),
     }
 }
@@ -76,161 +80,173 @@ fn add_object(
 /// Adds the edges that a profile makes: to its buffer from what it may capture, and to its buffer and its entries in use from
 /// its menu, from its capture period, and from the clock.
 fn add_profile(
-    plan: &Plan,
-    name: LogicalName,
+    instance: &Instance<'_>,
     part: &ProfilePart,
     table: &mut EdgeTable,
 ) -> Result<(), Memory>
-    requires cells { table.old.cells ≡ plans.cells plan.now }
-    requires part { HasPart plan.now name (profile_part_of part.now) }
+    requires cells { table.old.cells ≡ plans.cells instance.now.plan }
+    requires part { HasPart instance.now.plan instance.now.name (profile_part_of part.now) }
     ensures { OnOk result (IsGathered table.old table.new
-        (theory.edges_in plan.now name (profile_part_of part.now))) }
+        (theory.edges_in instance.now.plan instance.now.name (profile_part_of part.now))) }
 {
-    plan.known();
-    let rows = number_of(plan, &buffer(name));
-    let period = number_of(plan, &capture_period(name));
-    let in_use = number_of(plan, &entries_in_use(name));
-    add_alternatives(plan, part, rows, table)?;
-    add_menu_to_both(plan, name, part, rows, in_use, table)?;
+    instance.plan().known();
+    let name = instance.name();
+    let rows = number_of(instance, &buffer(name));
+    let period = number_of(instance, &capture_period(name));
+    let in_use = number_of(instance, &entries_in_use(name));
+    add_alternatives(instance, part, rows, table)?;
+    add_menu_to_both(instance, part, rows, in_use, table)?;
     table.add(Cause::Period, period, rows)?;
     table.add(Cause::Period, period, in_use)?;
-    add_clock_to_both(plan, rows, in_use, table)
+    add_clock_to_both(instance, rows, in_use, table)
 }
 
 /// Adds the edges from the capture_objects of a profile to two cells. Without a menu there are none.
 fn add_menu_to_both(
-    plan: &Plan,
-    name: LogicalName,
+    instance: &Instance<'_>,
     part: &ProfilePart,
     first: usize,
     second: usize,
     table: &mut EdgeTable,
 ) -> Result<(), Memory>
-    requires cells { table.old.cells ≡ plans.cells plan.now }
-    requires part { HasPart plan.now name (profile_part_of part.now) }
+    requires cells { table.old.cells ≡ plans.cells instance.now.plan }
+    requires part { HasPart instance.now.plan instance.now.name (profile_part_of part.now) }
     requires first { first < length table.old.cells }
     requires second { second < length table.old.cells }
     ensures { OnOk result (IsGathered table.old table.new
         (theory.menu_edges (captures_of_part part.now)
-        (plans.capture_objects name) (both_at table.old.cells first second))) }
+        (plans.capture_objects instance.now.name) (both_at table.old.cells first second))) }
 {
     if !part.has_menu() {
         return Ok(());
     }
-    let objects = number_of(plan, &capture_objects(name));
+    let objects = number_of(instance, &capture_objects(instance.name()));
     table.add(Cause::Menu, objects, first)?;
     table.add(Cause::Menu, objects, second)
 }
 
 /// Adds the edges from the executed_script of a schedule to each target. Without a menu there are none.
 fn add_menu_to_each(
-    plan: &Plan,
-    name: LogicalName,
+    instance: &Instance<'_>,
     part: &SchedulePart,
     targets: &[bool],
     table: &mut EdgeTable,
 ) -> Result<(), Memory>
-    requires cells { table.old.cells ≡ plans.cells plan.now }
-    requires part { HasPart plan.now name (schedule_part_of part.now) }
+    requires cells { table.old.cells ≡ plans.cells instance.now.plan }
+    requires part { HasPart instance.now.plan instance.now.name (schedule_part_of part.now) }
     requires targets { length targets.now ≡ length table.old.cells }
     ensures { (p : CellValue → Bool) → targets.now ≡ map p table.old.cells →
         OnOk result (IsGathered table.old table.new (theory.menu_edges (scripts_of_part part.now)
-        (plans.executed_script name) (filter p table.old.cells))) }
+        (plans.executed_script instance.now.name) (filter p table.old.cells))) }
 {
     if !part.has_menu() {
         return Ok(());
     }
-    let script = number_of(plan, &executed_script(name));
+    let script = number_of(instance, &executed_script(instance.name()));
     add_all(Cause::Menu, &[script], targets, table)
 }
 
 /// Adds the edges from the clock of the plan to two cells. Without a clock there are none.
 fn add_clock_to_both(
-    plan: &Plan,
+    instance: &Instance<'_>,
     first: usize,
     second: usize,
     table: &mut EdgeTable,
 ) -> Result<(), Memory>
-    requires cells { table.old.cells ≡ plans.cells plan.now }
+    requires cells { table.old.cells ≡ plans.cells instance.now.plan }
     requires first { first < length table.old.cells }
     requires second { second < length table.old.cells }
     ensures { OnOk result (IsGathered table.old table.new
-        (theory.edges_from_clock plan.now (both_at table.old.cells first second))) }
+        (theory.edges_from_clock instance.now.plan (both_at table.old.cells first second))) }
 {
-    let Some(name) = plan.clock() else {
+    let Some(clock) = instance.plan().clock_instance() else {
         return Ok(());
     };
-    let clock = number_of(plan, &clock_time(name));
+    let clock = number_of(&clock, &clock_time(clock.name()));
     table.add(Cause::Clock, clock, first)?;
     table.add(Cause::Clock, clock, second)
 }
 
 /// Adds the edges from the clock of the plan to each target. Without a clock there are none.
-fn add_clock_to_each(plan: &Plan, targets: &[bool], table: &mut EdgeTable) -> Result<(), Memory>
-    requires cells { table.old.cells ≡ plans.cells plan.now }
+fn add_clock_to_each(
+    instance: &Instance<'_>,
+    targets: &[bool],
+    table: &mut EdgeTable,
+) -> Result<(), Memory>
+    requires cells { table.old.cells ≡ plans.cells instance.now.plan }
     requires targets { length targets.now ≡ length table.old.cells }
     ensures { (p : CellValue → Bool) → targets.now ≡ map p table.old.cells →
         OnOk result (IsGathered table.old table.new
-        (theory.edges_from_clock plan.now (filter p table.old.cells))) }
+        (theory.edges_from_clock instance.now.plan (filter p table.old.cells))) }
 {
-    let Some(name) = plan.clock() else {
+    let Some(clock) = instance.plan().clock_instance() else {
         return Ok(());
     };
-    let clock = number_of(plan, &clock_time(name));
+    let clock = number_of(&clock, &clock_time(clock.name()));
     add_all(Cause::Clock, &[clock], targets, table)
 }
 
 /// Adds an edge from each cell that a profile may capture to the buffer with this number, alternative by alternative.
 fn add_alternatives(
-    plan: &Plan,
+    instance: &Instance<'_>,
     part: &ProfilePart,
     buffer: usize,
     table: &mut EdgeTable,
 ) -> Result<(), Memory>
-    requires cells { table.old.cells ≡ plans.cells plan.now }
-    requires captured { AreOfPlan plan.now (theory.captured_by (captures_of_part part.now)) }
+    requires cells { table.old.cells ≡ plans.cells instance.now.plan }
+    requires part { HasPart instance.now.plan instance.now.name (profile_part_of part.now) }
+    requires captured { AreOfPlan instance.now.plan (theory.captured_by (captures_of_part part.now)) }
     requires buffer { buffer < length table.old.cells }
     ensures { OnOk result (IsGathered table.old table.new
         (captures_into (cell_at table.old.cells buffer) (theory.captured_by (captures_of_part part.now)))) }
 {
-    add_captured(plan, &part.captured, buffer, table)?;
-    add_menu_captures(plan, &part.menu, buffer, table)
+    instance.plan().known();
+    let (numbers, others) = instance.references().split_at(part.captured.len());
+    add_captured(instance, &part.captured, numbers, buffer, table)?;
+    add_menu_captures(instance, &part.menu, others, buffer, table)
 }
 
-/// Adds an edge from each cell of the alternatives of a menu to the buffer with this number.
+/// Adds an edge from each cell of the alternatives of a menu, whose objects have these numbers, to the buffer with this number.
 fn add_menu_captures(
-    plan: &Plan,
+    instance: &Instance<'_>,
     menu: &[Vec<CellRef>],
+    numbers: &[u16],
     buffer: usize,
     table: &mut EdgeTable,
 ) -> Result<(), Memory>
-    requires cells { table.old.cells ≡ plans.cells plan.now }
-    requires captured { AreOfPlan plan.now (flat_map (λ xs. xs.items) menu.now) }
+    requires cells { table.old.cells ≡ plans.cells instance.now.plan }
+    requires captured { AreOfPlan instance.now.plan (flat_map (λ xs. xs.items) menu.now) }
+    requires numbers { AreNumbersOf instance.now.plan (flat_map (λ xs. xs.items) menu.now) numbers.now }
     requires buffer { buffer < length table.old.cells }
     ensures { OnOk result (IsGathered table.old table.new
         (captures_into (cell_at table.old.cells buffer) (flat_map (λ xs. xs.items) menu.now))) }
 {
+    let mut left = numbers;
     for captured in menu {
-        add_captured(plan, captured, buffer, table)?;
+        let (numbers, rest) = left.split_at(captured.len());
+        add_captured(instance, captured, numbers, buffer, table)?;
+        left = rest;
     }
     Ok(())
 }
 
-/// Adds an edge from each captured cell to the buffer with this number.
+/// Adds an edge from each captured cell, whose objects have these numbers, to the buffer with this number.
 fn add_captured(
-    plan: &Plan,
+    instance: &Instance<'_>,
     captured: &[CellRef],
+    numbers: &[u16],
     buffer: usize,
     table: &mut EdgeTable,
 ) -> Result<(), Memory>
-    requires cells { table.old.cells ≡ plans.cells plan.now }
-    requires captured { AreOfPlan plan.now captured.now }
+    requires cells { table.old.cells ≡ plans.cells instance.now.plan }
+    requires captured { AreOfPlan instance.now.plan captured.now }
+    requires numbers { AreNumbersOf instance.now.plan captured.now numbers.now }
     requires buffer { buffer < length table.old.cells }
     ensures { OnOk result (IsGathered table.old table.new
         (captures_into (cell_at table.old.cells buffer) captured.now)) }
 {
-    for source in captured {
-        let source = number_of(plan, source);
+    for (place, source) in captured.iter().enumerate() {
+        let source = number_under(instance, numbers[place], source);
         table.add(Cause::Captured, source, buffer)?;
     }
     Ok(())
@@ -240,63 +256,76 @@ fn add_captured(
 /// changes which it may run.
 fn add_schedule(
     alloc: Global,
-    plan: &Plan,
-    name: LogicalName,
+    instance: &Instance<'_>,
     part: &SchedulePart,
     changes: &mut ScriptChanges<'_>,
     table: &mut EdgeTable,
 ) -> Result<(), Memory>
-    requires cells { table.old.cells ≡ plans.cells plan.now }
-    requires changes { changes.old ≡ plan.now }
-    requires part { HasPart plan.now name (schedule_part_of part.now) }
+    requires cells { table.old.cells ≡ plans.cells instance.now.plan }
+    requires changes { changes.old ≡ instance.now.plan }
+    requires part { HasPart instance.now.plan instance.now.name (schedule_part_of part.now) }
     ensures changes { changes.new ≡ changes.old }
     ensures edges { OnOk result (IsGathered table.old table.new
-        (theory.edges_in plan.now name (schedule_part_of part.now))) }
+        (theory.edges_in instance.now.plan instance.now.name (schedule_part_of part.now))) }
 {
-    plan.known();
-    let times = number_of(plan, &execution_time(name));
-    let targets = changed_by_schedule(alloc, changes, table.cells().len(), part)?;
+    instance.plan().known();
+    let times = number_of(instance, &execution_time(instance.name()));
+    let tables = instance.references();
+    let targets = changed_by_schedule(alloc, changes, table.cells().len(), part, tables)?;
     add_all(Cause::Schedule, &[times], &targets, table)?;
-    add_menu_to_each(plan, name, part, &targets, table)?;
-    add_clock_to_each(plan, &targets, table)
+    add_menu_to_each(instance, part, &targets, table)?;
+    add_clock_to_each(instance, &targets, table)
 }
 
 /// Adds the edges that a register monitor makes: to what it has seen, and from what decides which of its scripts run to each
 /// cell that they change.
 fn add_monitor(
     alloc: Global,
-    plan: &Plan,
-    name: LogicalName,
+    instance: &Instance<'_>,
     part: &MonitorPart,
     changes: &mut ScriptChanges<'_>,
     table: &mut EdgeTable,
 ) -> Result<(), Memory>
-    requires cells { table.old.cells ≡ plans.cells plan.now }
-    requires changes { changes.old ≡ plan.now }
-    requires part { HasPart plan.now name (monitor_part_of part.now) }
+    requires cells { table.old.cells ≡ plans.cells instance.now.plan }
+    requires changes { changes.old ≡ instance.now.plan }
+    requires part { HasPart instance.now.plan instance.now.name (monitor_part_of part.now) }
     ensures changes { changes.new ≡ changes.old }
     ensures edges { OnOk result (IsGathered table.old table.new
-        (theory.edges_in plan.now name (monitor_part_of part.now))) }
+        (theory.edges_in instance.now.plan instance.now.name (monitor_part_of part.now))) }
 {
-    plan.known();
-    let monitored = number_of(plan, &part.monitored_value);
-    let limits = number_of(plan, &thresholds(name));
-    let last = number_of(plan, &seen(name));
+    instance.plan().known();
+    let (watched, tables) = instance.references().split_at(1);
+    let monitored = number_under(instance, watched[0], &part.monitored_value);
+    let name = instance.name();
+    let limits = number_of(instance, &thresholds(name));
+    let last = number_of(instance, &seen(name));
     table.add(Cause::Monitored, monitored, last)?;
-    let targets = changed_by_monitor(alloc, changes, table.cells().len(), &part.actions)?;
+    let cells = table.cells().len();
+    let targets = changed_by_monitor(alloc, changes, cells, &part.actions, tables)?;
     add_all(Cause::Monitor, &[monitored, limits, last], &targets, table)
 }
 
-/// The number of one of the cells of a plan.
-fn number_of(plan: &Plan, cell: &CellRef) -> usize
-    requires { IsIn (plans.cells plan.now) cell.now }
-    ensures within { result < length (plans.cells plan.now) }
-    ensures there { cell_at (plans.cells plan.now) result ≡ cell.now }
+/// The number of one of the cells of what stands here.
+fn number_of(instance: &Instance<'_>, cell: &CellRef) -> usize
+    requires of_plan { IsIn (plans.cells instance.now.plan) cell.now }
+    requires named { cell.now.name ≡ instance.now.name }
+    ensures within { result < length (plans.cells instance.now.plan) }
+    ensures there { cell_at (plans.cells instance.now.plan) result ≡ cell.now }
 {
-    match plan.cell_number(cell) {
+    match instance.cell_number(cell.class_id, cell.index) {
         Some(number) => usize::from(number),
         None => unreachable!(),
     }
+}
+
+/// The number of one of the cells of the object that has this number in the same plan.
+fn number_under(instance: &Instance<'_>, object: u16, cell: &CellRef) -> usize
+    requires of_plan { IsIn (plans.cells instance.now.plan) cell.now }
+    requires number { number_at instance.now.plan.objects cell.now.name ≡ Some object }
+    ensures within { result < length (plans.cells instance.now.plan) }
+    ensures there { cell_at (plans.cells instance.now.plan) result ≡ cell.now }
+{
+    number_of(&Instance::numbered(instance.plan(), object), cell)
 }
 
 /// Adds the edges from each source to each target.

@@ -15,6 +15,7 @@ use meter_effects::walk::{Planned, Visitor, each_of_calls, each_of_method};
 use meter_theory::flow::Reach;
 use object_model::argument::Argument;
 use object_model::cells::changed_by_write;
+use object_model::instance::Instance;
 use object_model::object::Object;
 use object_model::part::Part;
 use object_model::plan::Plan;
@@ -203,9 +204,9 @@ impl Visitor for Seeking {
 
     type Stop = Infallible;
 
-    ghost meets = { SeeksMore };
+    ghost meets = { λ plan old effect new. SeeksMore old effect new };
 
-    fn visit(&mut self, effect: &Planned<'_>) -> Result<(), Infallible> {
+    fn visit(&mut self, _object: &Instance<'_>, effect: &Planned<'_>) -> Result<(), Infallible> {
         if is_among(effect.changed().as_slice(), &self.cell) {
             self.found = true;
         }

@@ -218,6 +218,12 @@ emptied-more P xs k x old now new less is first next =
     ∙ list_any-append (λ z. may_set P c z && among (emptied_by z) y) (take k xs) (x ∷ []))
     first next
 
+-- the entries of a profile are its own
+pub entries-named : (n : LogicalName) (x : CellRef) → IsIn (buffer n ∷ entries_in_use n ∷ []) x → x.name ≡ n
+entries-named n x (inl same) = ap (λ y. y.name) same
+entries-named n x (inr (inl same)) = ap (λ y. y.name) same
+entries-named n x (inr (inr none)) = absurd none
+
 -- a cell whose write empties nothing
 pub empties-nothing : (P : Plan) (y : CellRef) → empties y ≡ false → (c : ℕ) (x : CellRef) → may_empty P (y ∷ []) c x ≡ false
 empties-nothing P y none c x =

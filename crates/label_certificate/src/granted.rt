@@ -1,5 +1,6 @@
 //! What the rights of a plan ask of the labels of its cells.
-ghost use Rattle.std.specs.Prelude.{◌≡◌, ℕ, ◌∷◌, [], length, IfOk};
+ghost use Rattle.std.specs.Prelude.{◌≡◌, ℕ, ◌∷◌, [], Some, length, IfOk};
+ghost use Rattle.object_model.specs.Tables.{AreNumbersOf, number_at};
 ghost use Rattle.cosem_data.specs.Cells.{cell};
 ghost use Rattle.meter_theory.specs.Plan as theory;
 ghost use Rattle.meter_theory.specs.Labels.{has};
@@ -36,32 +37,41 @@ pub(crate) fn granted_to_cells(
     ensures { IfOk result (λ labels. AreGranted plan.now labels.items) }
 {
     plan.known();
-    let mut labels = own_labels(alloc, plan, cells)?;
-    join_writes(plan, cells, &mut labels);
-    for object in plan.objects() {
-        join_methods(plan, object, &mut labels);
+    let owners = plan.owners(alloc)?;
+    let mut labels = own_labels(alloc, plan, cells, &owners)?;
+    join_writes(plan, cells, &owners, &mut labels);
+    let objects = plan.objects();
+    for (number, object) in objects.iter().enumerate() {
+        join_methods(&plan.instance_of(number as u16), object, &mut labels);
     }
     Ok(labels)
 }
 
-/// For each cell the clients that may set it, and those that may read it.
-fn own_labels(alloc: Global, plan: &Plan, cells: &[CellRef]) -> Result<Vec<Label>, Memory>
-    requires { cells.now ≡ theory.cells plan.now }
+/// For each cell, whose objects have these numbers, the clients that may set it, and those that may read it.
+fn own_labels(
+    alloc: Global,
+    plan: &Plan,
+    cells: &[CellRef],
+    owners: &[u16],
+) -> Result<Vec<Label>, Memory>
+    requires cells { cells.now ≡ theory.cells plan.now }
+    requires owners { AreNumbersOf plan.now cells.now owners.now }
     ensures { IfOk result (λ labels. AreOwn plan.now labels.items) }
 {
     let mut labels = Vec::with_capacity(alloc, cells.len())?;
-    for cell in cells {
-        labels.push(own_label(plan, cell))?;
+    for (place, cell) in cells.iter().enumerate() {
+        labels.push(own_label(plan, owners[place], cell))?;
     }
     Ok(labels)
 }
 
-/// The clients that may set a cell, and those that may read it.
-fn own_label(plan: &Plan, cell: &CellRef) -> Label
+/// The clients that may set a cell of the object with this number, and those that may read it.
+fn own_label(plan: &Plan, object: u16, cell: &CellRef) -> Label
+    requires { number_at plan.now.objects cell.now.name ≡ Some object }
     ensures influence { (c : ℕ) → has result.influence c ≡ may_set plan.now c cell.now }
     ensures learn { (c : ℕ) → has result.learn c ≡ may_get plan.now c cell.now }
 {
-    let instance = plan.instance(&cell.name);
+    let instance = Instance::numbered(plan, object);
     Label {
         influence: setters(&instance, cell.index),
         learn: readers(&instance, cell.index),
@@ -98,34 +108,38 @@ fn readers(instance: &Instance<'_>, index: u8) -> ClientSet
     clients
 }
 
-/// Lets the clients that may set a cell influence those that this empties.
-fn join_writes(plan: &Plan, cells: &[CellRef], labels: &mut [Label])
-    requires { length labels.old ≡ length (theory.cells plan.now) }
+/// Lets the clients that may set a cell, whose objects have these numbers, influence those that this empties.
+fn join_writes(plan: &Plan, cells: &[CellRef], owners: &[u16], labels: &mut [Label])
+    requires owners { AreNumbersOf plan.now cells.now owners.now }
+    requires labels { length labels.old ≡ length (theory.cells plan.now) }
     ensures { AreJoined plan.now (may_empty plan.now cells.now) labels.old labels.new }
 {
-    for cell in cells {
-        join_write(plan, cell, labels);
+    for (place, cell) in cells.iter().enumerate() {
+        join_write(plan, owners[place], cell, labels);
     }
 }
 
-/// Lets the clients that may set one cell influence those that this empties. Most cells empty none.
-fn join_write(plan: &Plan, cell: &CellRef, labels: &mut [Label])
-    requires { length labels.old ≡ length (theory.cells plan.now) }
+/// Lets the clients that may set one cell of the object with this number influence those that this empties. Most cells empty none.
+fn join_write(plan: &Plan, object: u16, cell: &CellRef, labels: &mut [Label])
+    requires object { number_at plan.now.objects cell.now.name ≡ Some object }
+    requires labels { length labels.old ≡ length (theory.cells plan.now) }
     ensures { AreJoined plan.now (may_empty plan.now (cell.now ∷ [])) labels.old labels.new }
 {
     if !empties(cell) {
         return;
     }
-    let clients = setters(&plan.instance(&cell.name), cell.index);
-    join(plan, &entries_of(cell.name), clients, labels);
+    let instance = Instance::numbered(plan, object);
+    let clients = setters(&instance, cell.index);
+    join(&instance, &entries_of(cell.name), clients, labels);
 }
 
-/// Lets the clients that may call a method of the object influence the cells that it changes.
-fn join_methods(plan: &Plan, object: &Object, labels: &mut [Label])
-    requires { length labels.old ≡ length (theory.cells plan.now) }
-    ensures { AreJoined plan.now (may_call_for plan.now (methods_of object.now)) labels.old labels.new }
+/// Lets the clients that may call a method of the object here influence the cells that it changes.
+fn join_methods(instance: &Instance<'_>, object: &Object, labels: &mut [Label])
+    requires named { object.now.name ≡ instance.now.name }
+    requires labels { length labels.old ≡ length (theory.cells instance.now.plan) }
+    ensures { AreJoined instance.now.plan (may_call_for instance.now.plan (methods_of object.now))
+        labels.old labels.new }
 {
-    let instance = plan.instance(&object.name());
     let interface = object.part().interface();
     for place in 0..interface.methods {
         let method = MethodRef {
@@ -133,8 +147,8 @@ fn join_methods(plan: &Plan, object: &Object, labels: &mut [Label])
             name: object.name(),
             index: place + 1,
         };
-        let clients = callers(&instance, method.index);
-        join_method(plan, &method, clients, labels);
+        let clients = callers(instance, method.index);
+        join_method(instance, &method, clients, labels);
     }
 }
 

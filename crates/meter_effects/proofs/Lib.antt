@@ -7,3 +7,4 @@ pub mod Added
 pub mod Targets
 pub mod Walks
 pub mod Copied
+pub mod Shown

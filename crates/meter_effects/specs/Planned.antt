@@ -1,6 +1,8 @@
 -- What an effect of the plan stands for, and what effects of a sound plan may do.
-use Rattle.std.specs.Prelude.{List, [], ◌∷◌}
+use Rattle.std.specs.Prelude.{◌≡◌, List, [], ◌∷◌}
 use Rattle.cosem_data.specs.View.{tree}
+use Rattle.cosem_data.specs.declared.cell.CellRef.{CellRef}
+use Rattle.cosem_data.specs.declared.name.LogicalName.{LogicalName}
 use Rattle.meter_theory.specs.Lists.{IsIn}
 use Rattle.meter_theory.specs.Plan.{Plan}
 use Rattle.meter_theory.specs.States.{MayStand}
@@ -16,6 +18,16 @@ abbrev pub planned_of : Planned → theory.Effect
 planned_of (planned.Put cell value) = theory.Put cell (tree value.now)
 planned_of (planned.Capture profile) = theory.Capture profile
 planned_of (planned.Clear profile) = theory.Clear profile
+
+-- the object that an effect changes: own profile
+abbrev pub named_by : theory.Effect → LogicalName
+named_by (theory.Put x v) = x.name
+named_by (theory.Capture n) = n
+named_by (theory.Clear n) = n
+
+-- these are cells of the object with this name: own profile
+abbrev pub AreOf : LogicalName → List CellRef → Type 0
+AreOf n xs = (x : CellRef) → IsIn xs x → x.name ≡ n
 
 -- The value of a put may stand in its cell, and a profile captures: own profile.
 abbrev pub MayBePlanned : Plan → theory.Effect → Type 0

@@ -28,9 +28,9 @@ impl Visitor for Copies {
 
     type Stop = Memory;
 
-    ghost meets = { λ old effect new. IsCopied old.effects.items effect new.effects.items };
+    ghost meets = { λ plan old effect new. IsCopied old.effects.items effect new.effects.items };
 
-    fn visit(&mut self, effect: &Planned<'_>) -> Result<(), Memory> {
+    fn visit(&mut self, _object: &Instance<'_>, effect: &Planned<'_>) -> Result<(), Memory> {
         push_effect(&mut self.effects, copied(self.alloc, effect)?)
     }
 }

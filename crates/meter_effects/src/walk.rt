@@ -6,6 +6,7 @@ ghost use Rattle.meter_theory.specs.Edges.{scripts_effects, scripts_named};
 ghost use Rattle.meter_theory.specs.Labels.{all_scripts, calls_effects};
 ghost use Rattle.meter_theory.specs.Lists.{for_some};
 ghost use Rattle.meter_theory.specs.Menus.{alternatives};
+ghost use Rattle.meter_theory.specs.Plan.{object_at};
 ghost use Rattle.meter_theory.specs.Steps as theory;
 ghost use Rattle.class_control.specs.ActionView.{action_of};
 ghost use Rattle.class_control.specs.PartView.{scripts_of_part};
@@ -13,7 +14,7 @@ ghost use Rattle.class_control.specs.ScriptView.{script_of};
 ghost use Rattle.cosem_class.specs.Parts.{target};
 ghost use Rattle.object_model.specs.ArgumentView.{argument_of};
 ghost use Rattle.object_model.specs.Tables.{references_at};
-ghost use Rattle.meter_effects.specs.Planned.{planned_of};
+ghost use Rattle.meter_effects.specs.Planned.{named_by, planned_of};
 ghost use Rattle.meter_effects.specs.Targets.{named_script, AreFew, AreTargets, StartsAt};
 
 use class_control::action::Action;
@@ -55,29 +56,32 @@ impl Planned<'_> {
 
 /// What is shown the effects to which a walk comes.
 pub trait Visitor {
-    ghost use Rattle.std.specs.Prelude.{OnOk};
+    ghost use Rattle.std.specs.Prelude.{◌≡◌, OnOk};
+    ghost use Rattle.meter_theory.specs.Plan as plans;
     ghost use Rattle.meter_theory.specs.Steps as theory;
-    ghost use Rattle.meter_effects.specs.Planned.{planned_of};
+    ghost use Rattle.meter_effects.specs.Planned.{named_by, planned_of};
 
     /// Why a walk is ended early.
     type Stop;
 
-    /// The effect leads from the old to the new.
-    ghost meets: { Self → theory.Effect → Self → Type 0 };
+    /// Over the plan the effect leads from the old to the new.
+    ghost meets: { plans.Plan → Self → theory.Effect → Self → Type 0 };
 
-    /// Is shown an effect, the next in order. An error ends the walk.
-    fn visit(&mut self, effect: &Planned<'_>) -> Result<(), Self::Stop>
-        ensures { OnOk result (meets self.old (planned_of effect.now) self.new) };
+    /// Is shown an effect, the next in order, with the object that it changes, which the walk comes to without a search. An error
+    /// ends the walk.
+    fn visit(&mut self, object: &Instance<'_>, effect: &Planned<'_>) -> Result<(), Self::Stop>
+        requires { named_by (planned_of effect.now) ≡ object.now.name }
+        ensures { OnOk result (meets object.now.plan self.old (planned_of effect.now) self.new) };
 }
 
 /// Shows the effects of the script of a table with this number, in their order; the null script and one that the table lacks
 /// are without. The only error is the visitor's.
-pub(crate) fn each_of_script<V: Visitor>(
+pub fn each_of_script<V: Visitor>(
     table: &Instance<'_>,
     script: u16,
     visitor: &mut V,
 ) -> Result<(), V::Stop>
-    ensures ok { OnOk result (FoldsTo V.meets visitor.old (theory.effects_of_script table.now.plan
+    ensures ok { OnOk result (FoldsTo (V.meets table.now.plan) visitor.old (theory.effects_of_script table.now.plan
         (record { table = table.now.name; script = script }))
         visitor.new) }
     ensures none { theory.effects_of_script table.now.plan
@@ -97,7 +101,7 @@ pub fn each_of_method<V: Visitor>(
     argument: &Argument,
     visitor: &mut V,
 ) -> Result<(), V::Stop>
-    ensures ok { OnOk result (FoldsTo V.meets visitor.old
+    ensures ok { OnOk result (FoldsTo (V.meets plan.now) visitor.old
         (theory.method_effects plan.now method.now (argument_of argument.now)) visitor.new) }
     ensures none { theory.method_effects plan.now method.now (argument_of argument.now) ≡ [] →
         IsOk result }
@@ -113,7 +117,7 @@ pub(crate) fn each_of_method_at<V: Visitor>(
     visitor: &mut V,
 ) -> Result<(), V::Stop>
     requires { method.now.name ≡ instance.now.name }
-    ensures ok { OnOk result (FoldsTo V.meets visitor.old
+    ensures ok { OnOk result (FoldsTo (V.meets instance.now.plan) visitor.old
         (theory.method_effects instance.now.plan method.now (argument_of argument.now)) visitor.new) }
     ensures none { theory.method_effects instance.now.plan method.now (argument_of argument.now) ≡ []
         → IsOk result }
@@ -126,7 +130,7 @@ pub(crate) fn each_of_method_at<V: Visitor>(
             Some(script) => each_of_script(instance, script, visitor),
             None => Ok(()),
         },
-        _ => each_of_plain_method(object, method.index, visitor),
+        _ => each_of_plain_method(instance, object, method.index, visitor),
     }
 }
 
@@ -137,16 +141,28 @@ pub fn each_of_calls<V: Visitor>(
     method: &MethodRef,
     visitor: &mut V,
 ) -> Result<(), V::Stop>
-    ensures { OnOk result (FoldsTo V.meets visitor.old (calls_effects plan.now method.now) visitor.new) }
+    ensures { OnOk result (FoldsTo (V.meets plan.now) visitor.old (calls_effects plan.now method.now) visitor.new) }
 {
-    plan.known();
-    let instance = plan.instance(&method.name);
+    each_of_calls_at(&plan.instance(&method.name), method, visitor)
+}
+
+/// As `each_of_calls`, of what was looked up at the method's name.
+pub fn each_of_calls_at<V: Visitor>(
+    instance: &Instance<'_>,
+    method: &MethodRef,
+    visitor: &mut V,
+) -> Result<(), V::Stop>
+    requires { method.now.name ≡ instance.now.name }
+    ensures { OnOk result (FoldsTo (V.meets instance.now.plan) visitor.old
+        (calls_effects instance.now.plan method.now) visitor.new) }
+{
+    instance.plan().known();
     let Some(object) = instance.object() else {
         return Ok(());
     };
     match object.part() {
-        Part::ScriptTable(part) => each_of_table(&instance, &part.scripts, visitor),
-        _ => each_of_plain_method(object, method.index, visitor),
+        Part::ScriptTable(part) => each_of_table(instance, &part.scripts, visitor),
+        _ => each_of_plain_method(instance, object, method.index, visitor),
     }
 }
 
@@ -157,7 +173,7 @@ pub fn each_of_monitor<V: Visitor>(
     actions: &[UpDown],
     visitor: &mut V,
 ) -> Result<(), V::Stop>
-    ensures { OnOk result (FoldsTo V.meets visitor.old
+    ensures { OnOk result (FoldsTo (V.meets plan.now) visitor.old
         (scripts_effects plan.now (scripts_named actions.now)) visitor.new) }
 {
     for action in actions {
@@ -174,7 +190,7 @@ pub fn each_of_schedule<V: Visitor>(
     part: &SchedulePart,
     visitor: &mut V,
 ) -> Result<(), V::Stop>
-    ensures { OnOk result (FoldsTo V.meets visitor.old
+    ensures { OnOk result (FoldsTo (V.meets plan.now) visitor.old
         (scripts_effects plan.now (alternatives (scripts_of_part part.now))) visitor.new) }
 {
     each_of_named(plan, &part.executed_script, visitor)?;
@@ -187,7 +203,7 @@ fn each_of_scripts<V: Visitor>(
     scripts: &[ScriptRef],
     visitor: &mut V,
 ) -> Result<(), V::Stop>
-    ensures { OnOk result (FoldsTo V.meets visitor.old
+    ensures { OnOk result (FoldsTo (V.meets plan.now) visitor.old
         (scripts_effects plan.now scripts.now) visitor.new) }
 {
     for script in scripts {
@@ -202,7 +218,7 @@ pub fn each_of_named<V: Visitor>(
     script: &ScriptRef,
     visitor: &mut V,
 ) -> Result<(), V::Stop>
-    ensures { OnOk result (FoldsTo V.meets visitor.old
+    ensures { OnOk result (FoldsTo (V.meets plan.now) visitor.old
         (theory.effects_of_script plan.now script.now) visitor.new) }
 {
     each_of_script(&plan.instance(&script.table), script.script, visitor)
@@ -250,7 +266,7 @@ fn each_of_table<V: Visitor>(
     requires few { AreFew scripts.now }
     requires targets { AreTargets table.now 0
         (flat_map (λ s. map action_of s.actions.items) scripts.now) }
-    ensures { OnOk result (FoldsTo V.meets visitor.old
+    ensures { OnOk result (FoldsTo (V.meets table.now.plan) visitor.old
         (all_scripts table.now.plan (map script_of scripts.now)) visitor.new) }
 {
     let mut first = 0;
@@ -270,7 +286,7 @@ fn each_of_actions<V: Visitor>(
 ) -> Result<(), V::Stop>
     requires targets { AreTargets table.now start (map action_of actions.now) }
     requires few { start ≤ 2048 }
-    ensures ok { OnOk result (FoldsTo V.meets visitor.old
+    ensures ok { OnOk result (FoldsTo (V.meets table.now.plan) visitor.old
         (theory.actions_effects table.now.plan (map action_of actions.now)) visitor.new) }
     ensures none { theory.actions_effects table.now.plan (map action_of actions.now) ≡ [] → IsOk result }
 {
@@ -289,44 +305,45 @@ fn each_of_action<V: Visitor>(
 ) -> Result<(), V::Stop>
     requires { slice_get (references_at table.now.plan table.now.name) place
         ≡ Some (target (action_of action.now)) }
-    ensures ok { OnOk result (FoldsTo V.meets visitor.old
+    ensures ok { OnOk result (FoldsTo (V.meets table.now.plan) visitor.old
         (theory.action_effects table.now.plan (action_of action.now)) visitor.new) }
     ensures none { theory.action_effects table.now.plan (action_of action.now) ≡ [] → IsOk result }
 {
+    let Some(target) = table.referred(place) else {
+        unreachable!();
+    };
     match action {
-        Action::Write { cell, value } => visitor.visit(&Planned::Put(*cell, value)),
-        Action::Invoke { method, .. } => {
-            let Some(target) = table.referred(place) else {
-                unreachable!();
-            };
-            match target.object() {
-                Some(object) => each_of_plain_method(object, method.index, visitor),
-                None => Ok(()),
-            }
-        }
+        Action::Write { cell, value } => visitor.visit(&target, &Planned::Put(*cell, value)),
+        Action::Invoke { method, .. } => match target.object() {
+            Some(object) => each_of_plain_method(&target, object, method.index, visitor),
+            None => Ok(()),
+        },
     }
 }
 
-/// Shows the effect of reset or capture of an object, if it has such a method.
+/// Shows the effect of reset or capture of the object here, if it has such a method.
 fn each_of_plain_method<V: Visitor>(
+    instance: &Instance<'_>,
     object: &Object,
     method: u8,
     visitor: &mut V,
 ) -> Result<(), V::Stop>
-    ensures ok { OnOk result (FoldsTo V.meets visitor.old
+    requires { Some object.now ≡ object_at instance.now.plan instance.now.name }
+    ensures ok { OnOk result (FoldsTo (V.meets instance.now.plan) visitor.old
         (theory.plain_method object.now.name object.now.part method) visitor.new) }
     ensures none { theory.plain_method object.now.name object.now.part method ≡ [] → IsOk result }
 {
     match plain_effect(object, method) {
-        Some(effect) => visitor.visit(&effect),
+        Some(effect) => visitor.visit(instance, &effect),
         None => Ok(()),
     }
 }
 
 /// The effect of reset or capture of an object, or None where it has no such method.
 fn plain_effect(object: &Object, method: u8) -> Option<Planned<'_>>
-    ensures { for_some result (λ effect. planned_of effect ∷ [])
+    ensures meant { for_some result (λ effect. planned_of effect ∷ [])
         ≡ theory.plain_method object.now.name object.now.part method }
+    ensures named { IfSome result (λ effect. named_by (planned_of effect) ≡ object.now.name) }
 {
     let name = object.name();
     match object.part() {

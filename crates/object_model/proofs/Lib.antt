@@ -11,9 +11,10 @@ mod Worths
 mod Places
 mod Room
 mod Referred
+pub mod Numbered
 mod Stores
 mod Aligned
 mod Changed
 mod Kept
 pub mod Inner
-mod Columns
+pub mod Columns

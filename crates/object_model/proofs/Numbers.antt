@@ -267,7 +267,7 @@ all-distinct (o ∷ os) d =
         let named : x.name ≡ o.name = keys-named x o.name o.part (in_any (same_cell x) (own o) x i (same_cell-refl x)) in
         false≢true (sym (unnamed x os (λ m. d.0 (subst (IsIn (names_of os)) named m))) ∙ in_any (same_cell x) (keys (all os)) x j (same_cell-refl x))
 
-in-get : {A : Type 0} (xs : List A) (i : ℕ) (x : A) → slice_get xs i ≡ Some x → IsIn xs x
+pub in-get : {A : Type 0} (xs : List A) (i : ℕ) (x : A) → slice_get xs i ≡ Some x → IsIn xs x
 in-get [] i x h = cc
 in-get (y ∷ xs) zero x h = let same : y ≡ x = cc in inl (sym same)
 in-get (y ∷ xs) (suc i) x h = inr (in-get xs i x h)

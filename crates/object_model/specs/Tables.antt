@@ -53,12 +53,16 @@ AreNumbersOf P xs numbers = AreNumbers P (map (λ x. x.name) xs) numbers
 abbrev pub AreReferences : List LogicalName → List Object → List (List ℕ) → Type 0
 AreReferences names objects numbers = map (map Some) numbers ≡ map (λ o. map (place_in names) (references o.part)) objects
 
--- a sound plan, the names of its objects, what its rights grant, the places of its cells, what its objects refer to, and the name of its
+-- the number of the first clock, counted from 0 in plan order, if the plan has one: own profile
+abbrev pub clock_number : Plan → Option ℕ
+clock_number P = position_from (λ o. class_of o.part == 8) 0 P.objects
+
+-- a sound plan, the names of its objects, what its rights grant, the places of its cells, what its objects refer to, and the number of its
 -- clock: own profile
-pub record AreTables (P : Plan) (names : List LogicalName) (grants : Grants) (places : List Place) (numbers : List (List ℕ)) (clock : Option LogicalName) : Type 0 where
+pub record AreTables (P : Plan) (names : List LogicalName) (grants : Grants) (places : List Place) (numbers : List (List ℕ)) (clock : Option ℕ) : Type 0 where
   pub sound : IsSound P
   pub named : names ≡ map (λ o. o.name) P.objects
   pub granted : AreGrants names P.rights grants
   pub placed : ArePlaces P.objects places
   pub referred : AreReferences names P.objects numbers
-  pub clocked : clock ≡ option_map (λ o. o.name) (clock_object P)
+  pub clocked : clock ≡ clock_number P

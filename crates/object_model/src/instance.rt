@@ -1,5 +1,5 @@
 //! What stands at a logical name of a plan, looked up once. Nothing here takes memory, but for copies of values.
-ghost use Rattle.std.specs.Prelude.{◌≡◌, ℕ, true, option_map, slice_get, IfOk, Some};
+ghost use Rattle.std.specs.Prelude.{◌≡◌, ◌<◌, ℕ, true, length, option_map, slice_get, IfOk, IfSome, Some};
 ghost use Rattle.cosem_data.specs.View.{tree};
 ghost use Rattle.std.specs.List.{position_from};
 ghost use Rattle.cosem_data.specs.Cells.{cell, same_cell};
@@ -7,7 +7,7 @@ ghost use Rattle.cosem_data.specs.Kinds.{kind_of};
 ghost use Rattle.cosem_data.specs.declared.name.LogicalName.{LogicalName as NameValue};
 ghost use Rattle.cosem_class.specs.Judged.{rule_answer};
 ghost use Rattle.meter_theory.specs.Fixed.{fixed_of};
-ghost use Rattle.meter_theory.specs.Plan.{cells, interface_at, is_cell, object_at, rule_of, start_values};
+ghost use Rattle.meter_theory.specs.Plan.{cells, clock_object, interface_at, is_cell, object_at, rule_of, start_values};
 ghost use Rattle.meter_theory.specs.Rights.{has_right, in_view, lists, may_read};
 ghost use Rattle.meter_theory.specs.State.{value};
 ghost use Rattle.meter_theory.specs.Steps.{captures_of};
@@ -150,7 +150,7 @@ impl<'a> Instance<'a> {
     }
 
     /// The numbers of all to which the object here refers, in its order; none where the plan has no object with this name.
-    pub(crate) fn references(&self) -> &'a [u16]
+    pub fn references(&self) -> &'a [u16]
         ensures { AreNumbers self.now.plan (references_at self.now.plan self.now.name) result.now }
     {
         match self.number {
@@ -159,8 +159,8 @@ impl<'a> Instance<'a> {
         }
     }
 
-    /// What a plan has under this number, the first with its name.
-    pub(crate) fn numbered(plan: &'a Plan, number: u16) -> Self
+    /// What a plan has under this number, the first with its name. It takes no search.
+    pub fn numbered(plan: &'a Plan, number: u16) -> Self
         requires { (name : NameValue) × (number_at plan.now.objects name ≡ Some number) }
         ensures { (name : NameValue) → number_at plan.now.objects name ≡ Some number
             → result ≡ record { plan = plan.now; name = name } }
@@ -352,6 +352,32 @@ impl Plan {
             plan: self,
             name: *name,
             number,
+        }
+    }
+
+    /// What the plan has under the number of an object, from 0 in plan order: that object. It takes no search.
+    pub fn instance_of(&self, number: u16) -> Instance<'_>
+        requires { number < length self.now.objects }
+        ensures { IfSome (slice_get self.now.objects number)
+            (λ o. result ≡ record { plan = self.now; name = o.name }) }
+    {
+        self.known();
+        Instance {
+            plan: self,
+            name: self.objects()[usize::from(number)].name(),
+            number: Some(number),
+        }
+    }
+
+    /// The clock, if the plan has one. It takes no search.
+    pub fn clock_instance(&self) -> Option<Instance<'_>>
+        ensures plan { IfSome result (λ clock. clock.plan ≡ self.now) }
+        ensures name { option_map (λ clock. clock.name) result
+            ≡ option_map (λ o. o.name) (clock_object self.now) }
+    {
+        match self.clock_number() {
+            Some(number) => Some(self.instance_of(number)),
+            None => None,
         }
     }
 

@@ -446,11 +446,11 @@ impl Meter {
         ensures { result ≡ present plan.now self.now }
     {
         plan.known();
-        let Some(clock) = plan.clock() else {
+        let Some(clock) = plan.clock_instance() else {
             unreachable!();
         };
-        let cell = clock_time(clock);
-        let Some(place) = place_of(&plan.instance(&clock), &self.objects, &cell) else {
+        let cell = clock_time(clock.name());
+        let Some(place) = place_of(&clock, &self.objects, &cell) else {
             unreachable!();
         };
         self.objects[place].moment()
@@ -474,14 +474,15 @@ impl Meter {
         ensures { self.new ≡ effects plan.now self.old (ticked plan.now self.old) }
     {
         plan.known();
-        let Some(clock) = plan.clock() else {
+        let Some(clock) = plan.clock_instance() else {
             unreachable!();
         };
-        let cell = clock_time(clock);
-        let Some(place) = place_of(&plan.instance(&clock), &self.objects, &cell) else {
+        let name = clock.name();
+        let cell = clock_time(name);
+        let Some(place) = place_of(&clock, &self.objects, &cell) else {
             unreachable!();
         };
-        tick_in(&mut self.objects, place, clock);
+        tick_in(&mut self.objects, place, name);
     }
 
     /// Sets the inner clock; a clock of the plan is left.

@@ -1,14 +1,15 @@
-ghost use Rattle.std.specs.Prelude.{◌≡◌, ◌==◌, ◌<◌, ◌≤◌, ◌+◌, ◌^◌, find, length, option_map, option_and_then, map, IfOk, IfSome, Some, slice_get};
+ghost use Rattle.std.specs.Prelude.{◌≡◌, ◌==◌, ◌<◌, ◌≤◌, ◌+◌, ◌++◌, ◌^◌, length, option_map, option_and_then, map, replicate, IfOk, IfSome, OnOk, Some, slice_get};
 ghost use Rattle.std.specs.List.{position_from};
 ghost use Rattle.std.specs.Str.{bytes_eq};
 ghost use Rattle.cosem_data.specs.Cells.{same_name};
 ghost use Rattle.meter_theory.specs.Plan.{cells, class_of, client_named, clock_object};
 ghost use Rattle.meter_theory.specs.Rights.{is_client};
+ghost use Rattle.meter_theory.specs.declared.limits.TheConstants.{OBJECTS};
 ghost use Rattle.meter_theory.specs.Sound.{IsSound};
 ghost use Rattle.object_model.specs.Grants.{AreMasksOf};
 ghost use Rattle.object_model.specs.PlanView.{plan_of};
 ghost use Rattle.cosem_class.specs.Parts.{references};
-ghost use Rattle.object_model.specs.Tables.{AreNumbers, number_at, place_of};
+ghost use Rattle.object_model.specs.Tables.{AreNumbers, AreNumbersOf, clock_number, number_at, place_of};
 
 use crate::client::Client;
 use crate::grants::Grants;
@@ -62,7 +63,7 @@ pub struct Plan {
     grants: Grants,
     places: Vec<Place>,
     references: References,
-    clock: Option<LogicalName>,
+    clock: Option<u16>,
 }
 
 impl Model for Plan {
@@ -212,8 +213,8 @@ impl Plan {
         self.references.at(object, place)
     }
 
-    /// The numbers of all to which the object with this number refers.
-    pub(crate) fn references(&self, object: u16) -> &[u16]
+    /// The numbers of all to which the object with this number refers, in its order, as [`crate::instance::Instance::referred`] counts them.
+    pub fn references(&self, object: u16) -> &[u16]
         requires { object < length self.now.objects }
         ensures { IfSome (slice_get self.now.objects object)
             (λ o. AreNumbers self.now (references o.part) result.now) }
@@ -246,7 +247,30 @@ impl Plan {
     pub fn clock(&self) -> Option<LogicalName>
         ensures { result ≡ option_map (λ o. o.name) (clock_object self.now) }
     {
+        match self.clock {
+            Some(number) => Some(self.objects[usize::from(number)].name()),
+            None => None,
+        }
+    }
+
+    /// The number of the clock, if the plan has one.
+    pub(crate) fn clock_number(&self) -> Option<u16>
+        ensures { result ≡ clock_number self.now }
+    {
         self.clock
+    }
+
+    /// The number of the object of each cell, in plan order.
+    pub fn owners(&self, alloc: Global) -> Result<Vec<u16>, Memory>
+        ensures { IfOk result (λ owners. AreNumbersOf self.now (cells self.now) owners.items) }
+    {
+        self.known();
+        let objects = self.objects();
+        let mut owners = Vec::with_capacity(alloc, objects.len())?;
+        for (number, object) in objects.iter().enumerate() {
+            push_times(&mut owners, number as u16, object.part().number_of_cells())?;
+        }
+        Ok(owners)
     }
 
     /// The cells, the attributes that can change, in plan order.
@@ -261,13 +285,30 @@ impl Plan {
     }
 }
 
-/// The name of the first clock among the objects.
-fn clock_of(objects: &[Object]) -> Option<LogicalName>
-    ensures { result ≡ option_map (λ o. o.name) (find (λ o. class_of o.part == 8) objects.now) }
+/// Puts a number so many times behind the others.
+fn push_times(numbers: &mut Vec<u16>, number: u16, times: u16) -> Result<(), Memory>
+    ensures { OnOk result (numbers.new.items ≡ numbers.old.items ++ replicate times number) }
 {
-    let clock = objects.iter().find(|object| object.part().class_id()
-        == Clock::INTERFACE.class_id)?;
-    Some(clock.name())
+    for _ in 0..times {
+        numbers.push(number)?;
+    }
+    Ok(())
+}
+
+/// The number of the first clock among the objects, of which there are at most `OBJECTS`.
+fn clock_of(objects: &[Object]) -> Option<u16>
+    requires { length objects.now ≤ OBJECTS }
+    ensures { result ≡ position_from (λ o. class_of o.part == 8) 0 objects.now }
+{
+    let number = place_of_clock(objects)?;
+    Some(number as u16)
+}
+
+/// Where the first clock stands.
+fn place_of_clock(objects: &[Object]) -> Option<usize>
+    ensures { result ≡ position_from (λ o. class_of o.part == 8) 0 objects.now }
+{
+    objects.iter().position(|object| object.part().class_id() == Clock::INTERFACE.class_id)
 }
 
 /// Where the first client with this name stands.

@@ -16,20 +16,20 @@ pub returns-then-not-has_menu : goal.returns-then-not-has_menu
 returns-then-not-has_menu c = λ test marked.
     let a = c.args.table.now in
     gathered-none a _
-    (no-menu-edges (scripts_of_part c.args.part.now) (executed_script c.args.name) (filter test a.cells) (sym c.has_menu.ensures ∙ c.if-not-has_menu.true))
+    (no-menu-edges (scripts_of_part c.args.part.now) (executed_script c.args.instance.now.name) (filter test a.cells) (sym c.has_menu.ensures ∙ c.if-not-has_menu.true))
 
-pub number_of-script-requires : goal.number_of-script-requires
-number_of-script-requires c =
+pub number_of-script-requires-clause-of_plan : goal.number_of-script-requires-clause-of_plan
+number_of-script-requires-clause-of_plan c =
     let part = c.args.part.now in
-    subst (IsIn (cells c.args.plan.now)) (sym c.executed_script.ensures)
-    (own-start c.args.plan.now c.args.name _ (executed_script c.args.name) (script_ref_value part.executed_script) c.requires.part
-    (in_script c.args.name (scripts_of_part part) part.execution_type (tree part.start) (sym c.has_menu.ensures ∙ c.if-not-has_menu.false)))
+    subst (IsIn (cells c.args.instance.now.plan)) (sym (c.executed_script.ensures ∙ ap executed_script c.name.ensures))
+    (own-start c.args.instance.now.plan c.args.instance.now.name _ (executed_script c.args.instance.now.name) (script_ref_value part.executed_script) c.requires.part
+    (in_script c.args.instance.now.name (scripts_of_part part) part.execution_type (tree part.start) (sym c.has_menu.ensures ∙ c.if-not-has_menu.false)))
 
 pub returns : goal.returns
 returns c = λ test marked.
     let a = c.args.table.now in
     on_ok_weaker c.add_all.result
-    (menu-each-added (scripts_of_part c.args.part.now) (executed_script c.args.name) (filter test a.cells) a c.add_all.new.table c.number_of-script.result
+    (menu-each-added (scripts_of_part c.args.part.now) (executed_script c.args.instance.now.name) (filter test a.cells) a c.add_all.new.table c.number_of-script.result
     (sym c.has_menu.ensures ∙ c.if-not-has_menu.false)
-    (ap (λ cs. cell_at cs c.number_of-script.result) c.requires.cells ∙ c.number_of-script.ensures.there ∙ c.executed_script.ensures))
+    (ap (λ cs. cell_at cs c.number_of-script.result) c.requires.cells ∙ c.number_of-script.ensures.there ∙ (c.executed_script.ensures ∙ ap executed_script c.name.ensures)))
     (c.add_all.ensures test marked)

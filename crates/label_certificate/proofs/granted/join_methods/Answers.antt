@@ -9,19 +9,17 @@ use Rattle.label_certificate.proofs.granted.join_methods.Goals as goal
 
 pub loop-place-preserved : goal.loop-place-preserved
 loop-place-preserved c =
-    let P = c.args.plan.now in
+    let P = c.args.instance.now.plan in
     let place = c.loop-place.place in
     let clients = c.callers-clients.result in
-    let asked : (d : ℕ) → has clients d ≡ may_act P d (method_at 0 c.name.result (place + 1)) = λ d.
-    subst (λ i. has clients d ≡ may_act i.plan d (method_at 0 i.name (place + 1))) c.instance-instance.ensures (c.callers-clients.ensures 0 d) in
-    joined-method P (interface_of c.args.object.now.part).class_id place c.args.object.now.name (method_at c.interface-interface.result.class_id c.name-in-loop-place.result (place + 1)) clients
-    c.args.labels.now c.loop-place.labels _ c.name-in-loop-place.ensures refl
-    (λ d. subst (λ n. has clients d ≡ may_act P d (method_at 0 n (place + 1))) (c.name.ensures ∙ sym c.name-in-loop-place.ensures) (asked d))
+    joined-method P (interface_of c.args.object.now.part).class_id place c.args.object.now.name (method_at c.interface-interface.result.class_id c.name.result (place + 1)) clients
+    c.args.labels.now c.loop-place.labels _ c.name.ensures refl
+    (λ d. subst (λ n. has clients d ≡ may_act P d (method_at 0 n (place + 1))) (sym (c.name.ensures ∙ c.requires.named)) (c.callers-clients.ensures 0 d))
     c.loop-place.invariant c.join_method.ensures
 
 pub returns : goal.returns
 returns c =
-    let P = c.args.plan.now in
+    let P = c.args.instance.now.plan in
     let o = c.args.object.now in
     let methods = ap (λ i. i.methods) (c.interface-interface.ensures ∙ ap interface_of c.part.ensures) in
     let whole : c.loop-place.place ≡ (interface_of o.part).methods = omega (arith, c.loop-place-test.false, c.loop-place.auto.place-end, methods) in

@@ -4,10 +4,13 @@ use Rattle.meter_theory.specs.Labels.{has}
 use Rattle.meter_theory.specs.Rights.{may_get, may_set}
 use Rattle.label_certificate.proofs.granted.own_label.Goals as goal
 
+pub numbered-instance-requires : goal.numbered-instance-requires
+numbered-instance-requires c = (c.args.cell.now.name, c.requires)
+
 pub returns-clause-influence : goal.returns-clause-influence
 returns-clause-influence c = λ d.
-    subst (λ i. has c.setters.result d ≡ may_set i.plan d (cell 0 i.name c.args.cell.now.index)) c.instance-instance.ensures (c.setters.ensures 0 d)
+    subst (λ i. has c.setters.result d ≡ may_set i.plan d (cell 0 i.name c.args.cell.now.index)) (c.numbered-instance.ensures _ c.requires) (c.setters.ensures 0 d)
 
 pub returns-clause-learn : goal.returns-clause-learn
 returns-clause-learn c = λ d.
-    subst (λ i. has c.readers.result d ≡ may_get i.plan d (cell 0 i.name c.args.cell.now.index)) c.instance-instance.ensures (c.readers.ensures 0 d)
+    subst (λ i. has c.readers.result d ≡ may_get i.plan d (cell 0 i.name c.args.cell.now.index)) (c.numbered-instance.ensures _ c.requires) (c.readers.ensures 0 d)

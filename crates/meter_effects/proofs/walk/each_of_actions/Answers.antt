@@ -12,7 +12,7 @@ returns-in_err-each_of_action-clause-none g c = λ none.
 
 pub loop-place-preserved : goal.loop-place-preserved
 loop-place-preserved g c =
-    walks_along g.V.Visitor.meets c.args.visitor.now _ c.loop-place.visitor _ c.each_of_action.new.visitor _
+    walks_along (g.V.Visitor.meets c.args.table.now.plan) c.args.visitor.now _ c.loop-place.visitor _ c.each_of_action.new.visitor _
     (flat_map-more (action_effects c.args.table.now.plan) action_of c.args.actions.now c.loop-place.place c.index-actions-place.result c.loop-place-test.true c.index-actions-place.is)
     c.loop-place.invariant c.in_ok-each_of_action.ensures.ok
 

@@ -5,4 +5,4 @@ use Rattle.meter_theory.specs.Steps.{actions_effects}
 use Rattle.meter_effects.proofs.walk.each_of_actions.Given as goal
 
 abbrev pub invariant-loop-place : goal.invariant-loop-place
-invariant-loop-place g l = FoldsTo g.V.Visitor.meets l.fn.visitor (actions_effects l.table.plan (map action_of (take l.place l.actions))) l.visitor
+invariant-loop-place g l = FoldsTo (g.V.Visitor.meets l.table.plan) l.fn.visitor (actions_effects l.table.plan (map action_of (take l.place l.actions))) l.visitor

@@ -12,6 +12,6 @@ returns-in_default-part g c =
     let same = other_method P c.args.method.now (argument_of c.args.argument.now) c.in-Some.object.now (c.in-Some.ensures ∙ ap (object_at P) (sym c.requires))
     (no_table c.part.result.now c.in_default-part.not-ScriptTable c.in-Some.object.now c.part.ensures) in
     record {
-      ok = on_ok_weaker c.each_of_plain_method.result (subst (λ es. FoldsTo g.V.Visitor.meets c.args.visitor.now es c.each_of_plain_method.new.visitor) same) c.each_of_plain_method.ensures.ok;
+      ok = on_ok_weaker c.each_of_plain_method.result (subst (λ es. FoldsTo (g.V.Visitor.meets P) c.args.visitor.now es c.each_of_plain_method.new.visitor) same) c.each_of_plain_method.ensures.ok;
       none = λ none. c.each_of_plain_method.ensures.none (same ∙ none);
     }

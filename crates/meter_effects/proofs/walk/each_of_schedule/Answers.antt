@@ -8,6 +8,6 @@ pub returns : goal.returns
 returns g c =
     let P = c.args.plan.now in
     on_ok_weaker c.each_of_scripts.result
-    (λ walked. walks_on g.V.Visitor.meets c.args.visitor.now (effects_of_script P c.args.part.now.executed_script) c.each_of_named.new.visitor (scripts_effects P c.args.part.now.menu.items) c.each_of_scripts.new.visitor
+    (λ walked. walks_on (g.V.Visitor.meets P) c.args.visitor.now (effects_of_script P c.args.part.now.executed_script) c.each_of_named.new.visitor (scripts_effects P c.args.part.now.menu.items) c.each_of_scripts.new.visitor
     c.in_ok-each_of_named.ensures walked)
     (rw c.deref.ensures.value at c.each_of_scripts.ensures)

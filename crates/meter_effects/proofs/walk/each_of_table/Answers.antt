@@ -26,7 +26,7 @@ loop-script-preserved g c = record {
       let few = c.requires.few.short c.loop-script.script-index c.script-item.result c.loop-script-test.true in
       omega (arith, c.loop-script.invariant.few, c.len-first.ensures, few, ap (λ s. length s.actions.items) c.script-item.is);
   walked =
-      walks_along g.V.Visitor.meets c.args.visitor.now _ c.loop-script.visitor _ c.each_of_actions.new.visitor _
+      walks_along (g.V.Visitor.meets c.args.table.now.plan) c.args.visitor.now _ c.loop-script.visitor _ c.each_of_actions.new.visitor _
       (flat_map-more (λ s. actions_effects c.args.table.now.plan s.actions) script_of c.args.scripts.now c.loop-script.script-index c.script-item.result c.loop-script-test.true c.script-item.is)
       c.loop-script.invariant.walked (rw c.deref.ensures.value at c.in_ok-each_of_actions.ensures.ok);
 }

@@ -10,5 +10,5 @@ abbrev pub invariant-loop-script : goal.invariant-loop-script
 invariant-loop-script g l = record {
   first : l.first ≡ length (flat_map (λ s. map action_of s.actions.items) (take l.script-index l.scripts));
   few : l.first ≤ ACTIONS * l.script-index;
-  walked : FoldsTo g.V.Visitor.meets l.fn.visitor (all_scripts l.table.plan (map script_of (take l.script-index l.scripts))) l.visitor;
+  walked : FoldsTo (g.V.Visitor.meets l.table.plan) l.fn.visitor (all_scripts l.table.plan (map script_of (take l.script-index l.scripts))) l.visitor;
 }

@@ -1,4 +1,4 @@
-use Rattle.std.proofs.Common.{◌∙◌, ap, ap₂, sym, arith, flat_map}
+use Rattle.std.proofs.Common.{Some, ◌∙◌, ap, ap₂, sym, arith, flat_map}
 use Rattle.std.specs.List.{position_from}
 use Rattle.meter_theory.specs.Plan.{clock_time}
 use Rattle.meter_theory.specs.State.{value}
@@ -12,12 +12,12 @@ use Rattle.object_model.proofs.meter.Meter.told.Goals as goal
 
 pub place_of-requires-clause-of_plan : goal.place_of-requires-clause-of_plan
 place_of-requires-clause-of_plan c =
-    objects-of c.args.plan.now c.args.self.now c.self.inside.objects.items c.self.inside.inner_clock c.deref.result.now c.instance.result.plan c.self.view_is c.requires.of_plan.cells
-    c.deref.ensures.value (ap (λ i. i.plan) c.instance.ensures)
+    objects-of c.args.plan.now c.args.self.now c.self.inside.objects.items c.self.inside.inner_clock c.deref.result.now c.in-Some.clock.plan c.self.view_is c.requires.of_plan.cells
+    c.deref.ensures.value c.in-Some.ensures.plan
 
 pub unreachable-requires-in_default-place_of : goal.unreachable-requires-in_default-place_of
 unreachable-requires-in_default-place_of c =
-    let o = clock-named c.args.plan.now c.in-Some.clock (sym c.in-Some.is ∙ c.clock.ensures) in
+    let o = clock-named c.args.plan.now c.name.result (ap Some c.name.ensures ∙ c.in-Some.ensures.name) in
     stored-somewhere c.self.inside.objects.items (clock_time o.0.name)
     (told_there c.args.plan.now c.args.self.now c.self.inside.objects.items c.self.inside.inner_clock c.self.view_is c.requires.of_plan.cells o.0 o.1)
     (ap₂ (λ x ms. position_from (stores x) 0 ms) (ap clock_time (sym o.2) ∙ sym c.clock_time-cell.ensures) (sym c.deref.ensures.value) ∙ sym c.place_of.ensures ∙ c.in_default-place_of.is)
@@ -45,7 +45,7 @@ returns c =
     let s = split ms x c.in-Some-place_of.place c.index.result.now
     (ap (position_from (stores x) 0) (sym c.deref.ensures.value) ∙ sym c.place_of.ensures ∙ c.in-Some-place_of.is) in
     let name = same-name ms x c.in-Some-place_of.place c.index.result.now s c.index.ensures in
-    let o = clock-named c.args.plan.now c.in-Some.clock (sym c.in-Some.is ∙ c.clock.ensures) in
+    let o = clock-named c.args.plan.now c.name.result (ap Some c.name.ensures ∙ c.in-Some.ensures.name) in
     c.moment.ensures
     ∙ ap (λ n. clock_moment (value (stored_pairs c.index.result.now) (clock_time n))) (name ∙ ap (λ z. z.name) c.clock_time-cell.ensures)
     ∙ ap (λ y. clock_moment (value (stored_pairs c.index.result.now) y)) (sym c.clock_time-cell.ensures)
