@@ -11,7 +11,7 @@ ghost use Rattle.flow_edges.specs.Sources.{AreOfPlan, HasPart};
 ghost use Rattle.flow_edges.specs.Table.{cell_at};
 ghost use Rattle.object_model.specs.Tables.{AreNumbersOf, number_at};
 
-use crate::marks::{changed_by_monitor, changed_by_schedule};
+use crate::marks::changed_by;
 use crate::script_changes::ScriptChanges;
 use crate::table::EdgeTable;
 use class_control::parts::{MonitorPart, SchedulePart};
@@ -43,10 +43,10 @@ pub fn edge_table(alloc: Global, plan: &Plan) -> Result<EdgeTable, Memory>
 {
     plan.known();
     let mut table = EdgeTable::new(alloc, plan.cells(alloc)?)?;
-    let mut changes = ScriptChanges::new(alloc, plan);
+    let changes = ScriptChanges::new(alloc, plan)?;
     let objects = plan.objects();
     for (number, object) in objects.iter().enumerate() {
-        add_object(alloc, plan, number as u16, object, &mut changes, &mut table)?;
+        add_object(alloc, plan, number as u16, object, &changes, &mut table)?;
     }
     Ok(table)
 }
@@ -57,14 +57,13 @@ fn add_object(
     plan: &Plan,
     number: u16,
     object: &Object,
-    changes: &mut ScriptChanges<'_>,
+    changes: &ScriptChanges<'_>,
     table: &mut EdgeTable,
 ) -> Result<(), Memory>
     requires cells { table.old.cells ≡ plans.cells plan.now }
-    requires changes { changes.old ≡ plan.now }
+    requires changes { changes.now ≡ plan.now }
     requires object { slice_get plan.now.objects number ≡ Some object.now }
-    ensures changes { changes.new ≡ changes.old }
-    ensures edges { OnOk result (IsGathered table.old table.new
+    ensures { OnOk result (IsGathered table.old table.new
         (theory.edges_in plan.now object.now.name object.now.part)) }
 {
     plan.known();
@@ -258,20 +257,19 @@ fn add_schedule(
     alloc: Global,
     instance: &Instance<'_>,
     part: &SchedulePart,
-    changes: &mut ScriptChanges<'_>,
+    changes: &ScriptChanges<'_>,
     table: &mut EdgeTable,
 ) -> Result<(), Memory>
     requires cells { table.old.cells ≡ plans.cells instance.now.plan }
-    requires changes { changes.old ≡ instance.now.plan }
+    requires changes { changes.now ≡ instance.now.plan }
     requires part { HasPart instance.now.plan instance.now.name (schedule_part_of part.now) }
-    ensures changes { changes.new ≡ changes.old }
-    ensures edges { OnOk result (IsGathered table.old table.new
+    ensures { OnOk result (IsGathered table.old table.new
         (theory.edges_in instance.now.plan instance.now.name (schedule_part_of part.now))) }
 {
     instance.plan().known();
     let times = number_of(instance, &execution_time(instance.name()));
-    let tables = instance.references();
-    let targets = changed_by_schedule(alloc, changes, table.cells().len(), part, tables)?;
+    let scripts = instance.script_places();
+    let targets = changed_by(alloc, changes, table.cells().len(), scripts)?;
     add_all(Cause::Schedule, &[times], &targets, table)?;
     add_menu_to_each(instance, part, &targets, table)?;
     add_clock_to_each(instance, &targets, table)
@@ -283,25 +281,24 @@ fn add_monitor(
     alloc: Global,
     instance: &Instance<'_>,
     part: &MonitorPart,
-    changes: &mut ScriptChanges<'_>,
+    changes: &ScriptChanges<'_>,
     table: &mut EdgeTable,
 ) -> Result<(), Memory>
     requires cells { table.old.cells ≡ plans.cells instance.now.plan }
-    requires changes { changes.old ≡ instance.now.plan }
+    requires changes { changes.now ≡ instance.now.plan }
     requires part { HasPart instance.now.plan instance.now.name (monitor_part_of part.now) }
-    ensures changes { changes.new ≡ changes.old }
-    ensures edges { OnOk result (IsGathered table.old table.new
+    ensures { OnOk result (IsGathered table.old table.new
         (theory.edges_in instance.now.plan instance.now.name (monitor_part_of part.now))) }
 {
     instance.plan().known();
-    let (watched, tables) = instance.references().split_at(1);
-    let monitored = number_under(instance, watched[0], &part.monitored_value);
+    let watched = instance.references()[0];
+    let monitored = number_under(instance, watched, &part.monitored_value);
     let name = instance.name();
     let limits = number_of(instance, &thresholds(name));
     let last = number_of(instance, &seen(name));
     table.add(Cause::Monitored, monitored, last)?;
-    let cells = table.cells().len();
-    let targets = changed_by_monitor(alloc, changes, cells, &part.actions, tables)?;
+    let scripts = instance.script_places();
+    let targets = changed_by(alloc, changes, table.cells().len(), scripts)?;
     add_all(Cause::Monitor, &[monitored, limits, last], &targets, table)
 }
 

@@ -1,10 +1,10 @@
 //! What the rights of a plan ask of the labels of its cells.
 ghost use Rattle.std.specs.Prelude.{◌≡◌, ℕ, ◌∷◌, [], Some, length, IfOk};
+ghost use Rattle.object_model.specs.Grants.{listed};
 ghost use Rattle.object_model.specs.Tables.{AreNumbersOf, number_at};
-ghost use Rattle.cosem_data.specs.Cells.{cell};
 ghost use Rattle.meter_theory.specs.Plan as theory;
 ghost use Rattle.meter_theory.specs.Labels.{has};
-ghost use Rattle.meter_theory.specs.Rights.{may_act, may_get, may_set};
+ghost use Rattle.meter_theory.specs.Rights.{has_right, lists, may_get, may_set};
 ghost use Rattle.label_certificate.specs.Granted.{AreGranted, AreJoined, AreOwn, may_call_for, may_empty, methods_of};
 
 use crate::joining::{join, join_method};
@@ -17,6 +17,7 @@ use object_model::cells::{empties, entries_of};
 use object_model::instance::Instance;
 use object_model::object::Object;
 use object_model::plan::Plan;
+use object_model::right::Access;
 use std::alloc::Global;
 
 /// For each cell of a plan, in plan order, the clients that have a right to change it, and those that may read it (own
@@ -73,35 +74,20 @@ fn own_label(plan: &Plan, object: u16, cell: &CellRef) -> Label
 {
     let instance = Instance::numbered(plan, object);
     Label {
-        influence: setters(&instance, cell.index),
-        learn: readers(&instance, cell.index),
+        influence: clients_with(&instance, Access::Set, cell.index),
+        learn: clients_with(&instance, Access::Get, cell.index),
     }
 }
 
-/// The clients that may set the attribute with this index.
-fn setters(instance: &Instance<'_>, index: u8) -> ClientSet
-    ensures { (class_id c : ℕ)
-        → has result c ≡ may_set instance.now.plan c (cell class_id instance.now.name index) }
+/// The clients with a right that lists this index for this access.
+fn clients_with(instance: &Instance<'_>, access: Access, index: u8) -> ClientSet
+    ensures { (c : ℕ) → has result c
+        ≡ has_right instance.now.plan c instance.now.name (λ r. lists (listed access r) index) }
 {
     instance.plan().known();
     let mut clients = ClientSet::new();
     for client in 0..CLIENTS as u8 {
-        if instance.may_set(client, index) {
-            clients = clients.with(client);
-        }
-    }
-    clients
-}
-
-/// The clients that may read the attribute with this index.
-fn readers(instance: &Instance<'_>, index: u8) -> ClientSet
-    ensures { (class_id c : ℕ)
-        → has result c ≡ may_get instance.now.plan c (cell class_id instance.now.name index) }
-{
-    instance.plan().known();
-    let mut clients = ClientSet::new();
-    for client in 0..CLIENTS as u8 {
-        if instance.may_get(client, index) {
+        if instance.is_granted(access, client, index) {
             clients = clients.with(client);
         }
     }
@@ -129,7 +115,7 @@ fn join_write(plan: &Plan, object: u16, cell: &CellRef, labels: &mut [Label])
         return;
     }
     let instance = Instance::numbered(plan, object);
-    let clients = setters(&instance, cell.index);
+    let clients = clients_with(&instance, Access::Set, cell.index);
     join(&instance, &entries_of(cell.name), clients, labels);
 }
 
@@ -147,22 +133,7 @@ fn join_methods(instance: &Instance<'_>, object: &Object, labels: &mut [Label])
             name: object.name(),
             index: place + 1,
         };
-        let clients = callers(instance, method.index);
+        let clients = clients_with(instance, Access::Act, method.index);
         join_method(instance, &method, clients, labels);
     }
-}
-
-/// The clients that may call the method with this index.
-fn callers(instance: &Instance<'_>, index: u8) -> ClientSet
-    ensures { (class_id c : ℕ) → has result c
-        ≡ may_act instance.now.plan c (record { class_id = class_id; name = instance.now.name; index = index }) }
-{
-    instance.plan().known();
-    let mut clients = ClientSet::new();
-    for client in 0..CLIENTS as u8 {
-        if instance.may_act(client, index) {
-            clients = clients.with(client);
-        }
-    }
-    clients
 }

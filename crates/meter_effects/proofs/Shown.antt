@@ -1,6 +1,5 @@
 -- The cells that an effect changes are those of one object.
-use Rattle.std.proofs.Common.{◌≡◌, ◌∷◌, [], Bool, true, false, cond, ap, refl, inl, inr}
-use Rattle.cosem_data.specs.declared.cell.CellRef.{CellRef}
+use Rattle.std.proofs.Common.{◌≡◌, ◌∷◌, [], Bool, true, false, cond, ap, inl, inr}
 use Rattle.meter_theory.specs.Lists.{IsIn}
 use Rattle.meter_theory.specs.Plan.{buffer, entries_in_use}
 use Rattle.meter_theory.specs.Steps.{Effect, Put, Capture, Clear, changed_by, empties}

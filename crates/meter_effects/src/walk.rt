@@ -277,8 +277,9 @@ fn each_of_table<V: Visitor>(
     Ok(())
 }
 
-/// Shows the effects of actions, in their order, whose targets begin at this place among those to which a table refers.
-fn each_of_actions<V: Visitor>(
+/// Shows the effects of actions, in their order, whose targets begin at this place among those to which a table refers. The only
+/// error is the visitor's.
+pub fn each_of_actions<V: Visitor>(
     table: &Instance<'_>,
     start: usize,
     actions: &[Action],

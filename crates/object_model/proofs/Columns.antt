@@ -25,41 +25,56 @@ use Rattle.object_model.specs.Tables.{AreNumbers, AreReferences, references_at}
 use Rattle.object_model.proofs.ByObject.{position-map}
 use Rattle.object_model.proofs.Positions.{first, first-none}
 
+-- What a table says of each object, a list an object
+
+module _ {A X : Type 0} (value : A → Option X) (listed : Object → List A) where
+  -- its row of one object
+  pub row : (os : List Object) (table : List (List X)) (k : ℕ) (xs : List X) → map (map Some) table ≡ map (λ o. map value (listed o)) os → slice_get table k ≡ Some xs →
+      IfSome (slice_get os k) (λ o. map Some xs ≡ map value (listed o))
+  row os table k xs is there =
+      at (slice_get os k) (ap (option_map (map Some)) (sym there) ∙ sym (slice_get-map (map Some) table k) ∙ ap (λ t. slice_get t k) is ∙ slice_get-map (λ o. map value (listed o)) os k)
+    where
+      at : (o : Option Object) → Some (map Some xs) ≡ option_map (λ o. map value (listed o)) o → IfSome o (λ o. map Some xs ≡ map value (listed o))
+      at None h = cc
+      at (Some o) h = cc
+
+  -- the same of the object that has this number and name
+  pub row-at : (P : Plan) (n : LogicalName) (k : ℕ) (xs : List X) → position_from (λ o. same_name o.name n) 0 P.objects ≡ Some k →
+      IfSome (slice_get P.objects k) (λ o. map Some xs ≡ map value (listed o)) → map Some xs ≡ map value (for_some (object_at P n) listed)
+  row-at P n k xs is h = at (object_at P n) refl
+    where
+      here : object_at P n ≡ slice_get P.objects k
+      here = (first (λ o. same_name o.name n) P.objects k is).found
+
+      at : (o : Option Object) → object_at P n ≡ o → map Some xs ≡ map value (for_some o listed)
+      at (Some o) e = subst (λ z. IfSome z (λ o. map Some xs ≡ map value (listed o))) (sym here ∙ e) h
+      at None e =
+          let within = (first (λ o. same_name o.name n) P.objects k is).within in
+          absurd (lost P.objects k within (sym here ∙ e))
+        where
+          lost : (os : List Object) (k : ℕ) → k < length os → slice_get os k ≡ None → ⊥
+          lost [] k less g = omega arith
+          lost (o ∷ os) zero less g = cc
+          lost (o ∷ os) (suc k) less g = lost os k (omega arith) g
+
+  -- and what has no number has nothing
+  pub row-none : (P : Plan) (n : LogicalName) → position_from (λ o. same_name o.name n) 0 P.objects ≡ None → map Some [] ≡ map value (for_some (object_at P n) listed)
+  row-none P n is = ap (λ f. map value (for_some f listed)) (sym (first-none (λ o. same_name o.name n) P.objects is))
+
 -- what stands in the table of references for one object
 pub numbers-of : (P : Plan) (names : List LogicalName) (numbers : List (List ℕ)) (k : ℕ) (ns : List ℕ) → names ≡ map (λ o. o.name) P.objects → AreReferences names P.objects numbers →
     slice_get numbers k ≡ Some ns → IfSome (slice_get P.objects k) (λ o. AreNumbers P (references o.part) ns)
 numbers-of P names numbers k ns named is there =
-    at (slice_get P.objects k)
-    (ap (option_map (map Some)) (sym there) ∙ sym (slice_get-map (map Some) numbers k) ∙ ap (λ t. slice_get t k) is ∙ slice_get-map (λ o. map (place_in names) (references o.part)) P.objects k)
-  where
-    at : (o : Option Object) → Some (map Some ns) ≡ option_map (λ o. map (place_in names) (references o.part)) o → IfSome o (λ o. AreNumbers P (references o.part) ns)
-    at None h = cc
-    at (Some o) h =
-        let same : map Some ns ≡ map (place_in names) (references o.part) = cc in
-        same ∙ ap (λ all. map (place_in all) (references o.part)) named
+    subst (λ all. IfSome (slice_get P.objects k) (λ o. map Some ns ≡ map (place_in all) (references o.part))) named (row (place_in names) (λ o. references o.part) P.objects numbers k ns is there)
 
 -- the same for the object that has this number and name
 pub numbers-at : (P : Plan) (n : LogicalName) (k : ℕ) (ns : List ℕ) → position_from (λ o. same_name o.name n) 0 P.objects ≡ Some k →
     IfSome (slice_get P.objects k) (λ o. AreNumbers P (references o.part) ns) → AreNumbers P (references_at P n) ns
-numbers-at P n k ns is h = at (object_at P n) refl
-  where
-    here : object_at P n ≡ slice_get P.objects k
-    here = (first (λ o. same_name o.name n) P.objects k is).found
-
-    at : (o : Option Object) → object_at P n ≡ o → AreNumbers P (for_some o (λ o. references o.part)) ns
-    at (Some o) e = subst (λ z. IfSome z (λ o. AreNumbers P (references o.part) ns)) (sym here ∙ e) h
-    at None e =
-        let within = (first (λ o. same_name o.name n) P.objects k is).within in
-        absurd (lost P.objects k within (sym here ∙ e))
-      where
-        lost : (os : List Object) (k : ℕ) → k < length os → slice_get os k ≡ None → ⊥
-        lost [] k less g = omega arith
-        lost (o ∷ os) zero less g = cc
-        lost (o ∷ os) (suc k) less g = lost os k (omega arith) g
+numbers-at P = row-at (place_in (map (λ o. o.name) P.objects)) (λ o. references o.part) P
 
 -- and what has no number refers to nothing
 pub numbers-none : (P : Plan) (n : LogicalName) → position_from (λ o. same_name o.name n) 0 P.objects ≡ None → AreNumbers P (references_at P n) []
-numbers-none P n is = ap (λ f. map (place_in (map (λ o. o.name) P.objects)) (for_some f (λ o. references o.part))) (sym (first-none (λ o. same_name o.name n) P.objects is))
+numbers-none P = row-none (place_in (map (λ o. o.name) P.objects)) (λ o. references o.part) P
 
 -- a profile refers to the cells that it may capture
 pub captures-refer : (P : Plan) (n : LogicalName) (c : Captures) → captures_of (object_at P n) ≡ Some c → references_at P n ≡ map (λ x. x.name) (captured_by c.captured)

@@ -16,6 +16,8 @@ use Rattle.object_model.specs.contracts.index.Index as indexes
 use Rattle.object_model.specs.contracts.grants.Grants as grants
 use Rattle.object_model.specs.contracts.place.Place as places
 use Rattle.object_model.specs.contracts.references.References as references
+use Rattle.object_model.specs.contracts.script_places.ScriptPlace as script_places
+use Rattle.object_model.specs.contracts.script_places.ScriptPlaces as places_of_scripts
 use Rattle.object_model.specs.contracts.plan.Plan as plans
 use Rattle.object_model.specs.contracts.policy.Policy as policies
 use Rattle.object_model.specs.contracts.stored.Cells as held
@@ -55,6 +57,12 @@ place_crosses = search crosses depth 30
 references_crosses : Crosses references.the_row
 references_crosses = search crosses depth 30
 
+script_place_crosses : Crosses script_places.the_row
+script_place_crosses = search crosses depth 30
+
+script_places_crosses : Crosses places_of_scripts.the_row
+script_places_crosses = search (script_place_crosses, crosses) depth 30
+
 pub plan_crosses : Crosses plans.the_row
 plan_crosses = search (
   client_crosses,
@@ -64,9 +72,10 @@ plan_crosses = search (
   grants_crosses,
   place_crosses,
   references_crosses,
+  script_places_crosses,
   name_crosses,
   crosses,
-) depth 30
+) depth 30 fits 4000
 
 pub policy_crosses : Crosses policies.the_row
 policy_crosses = search (cell_crosses, client_set_crosses, crosses) depth 30

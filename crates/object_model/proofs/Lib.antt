@@ -11,6 +11,7 @@ mod Worths
 mod Places
 mod Room
 mod Referred
+pub mod Scripted
 pub mod Numbered
 mod Stores
 mod Aligned

@@ -25,7 +25,7 @@ use Rattle.object_model.specs.Tables.{references_at, AreReferences}
 use Rattle.object_model.proofs.ByObject.{cell-none, position-map}
 use Rattle.object_model.proofs.Positions.{first, first-none, placed}
 
-abbrev IsHeld : Plan → LogicalName → Type 0
+abbrev pub IsHeld : Plan → LogicalName → Type 0
 IsHeld P n = (o : Object) × (object_at P n ≡ Some o)
 
 cell-held : (P : Plan) (x : CellRef) → IsIn (cells P) x → IsHeld P x.name
@@ -35,7 +35,7 @@ cell-held P x i = at (object_at P x.name) refl
     at None is = absurd (false≢true (sym (cell-none P x is) ∙ in_any (same_cell x) (cells P) x i (same_cell-refl x)))
     at (Some o) is = (o, is)
 
-passing-held : (P : Plan) (test : Object → Bool) (n : LogicalName) → some_passes test (object_at P n) ≡ true → IsHeld P n
+pub passing-held : (P : Plan) (test : Object → Bool) (n : LogicalName) → some_passes test (object_at P n) ≡ true → IsHeld P n
 passing-held P test n h = at (object_at P n) refl h
   where
     at : (f : Option Object) → object_at P n ≡ f → some_passes test f ≡ true → IsHeld P n

@@ -1,17 +1,20 @@
 -- What a plan keeps beside its parts, so that nothing is looked for twice.
-use Rattle.std.specs.Prelude.{◌≡◌, ◌==◌, ◌<◌, ℕ, Bool, not, List, length, map, filter, take, flat_map, Option, Some, option_map}
+use Rattle.std.specs.Prelude.{◌≡◌, ◌==◌, ◌<◌, ℕ, Bool, not, List, length, map, filter, take, flat_map, Option, Some, option_map, slice_get}
 use Rattle.std.specs.List.{position_from, slice_index_or}
 use Rattle.cosem_data.specs.Cells.{same_name}
 use Rattle.cosem_data.specs.declared.cell.CellRef.{CellRef}
 use Rattle.cosem_data.specs.declared.name.LogicalName.{LogicalName}
 use Rattle.cosem_class.specs.Parts.{references}
 use Rattle.meter_theory.specs.Lists.{for_some}
-use Rattle.meter_theory.specs.Plan.{Plan, Object, class_of, clock_object, object_at, start_of}
-use Rattle.meter_theory.specs.Sound.{IsSound}
+use Rattle.meter_theory.specs.Plan.{Plan, Object, Script, class_of, object_at, start_of}
+use Rattle.meter_theory.specs.Sound.{IsSound, scripts_run_by}
 use Rattle.meter_theory.specs.State.{keys}
+use Rattle.meter_theory.specs.Steps.{scripts_of}
+use Rattle.meter_theory.specs.declared.refs.ScriptRef.{ScriptRef}
 use Rattle.object_model.specs.Grants.{AreGrants, place_in}
 use Rattle.object_model.specs.declared.grants.Grants.{Grants}
 use Rattle.object_model.specs.declared.place.Place.{Place}
+use Rattle.object_model.specs.declared.script_places.ScriptPlace.{ScriptPlace}
 
 -- the number of the first object with this name, counted from 0, if one has it: own profile
 abbrev pub number_at : List Object → LogicalName → Option ℕ
@@ -53,16 +56,39 @@ AreNumbersOf P xs numbers = AreNumbers P (map (λ x. x.name) xs) numbers
 abbrev pub AreReferences : List LogicalName → List Object → List (List ℕ) → Type 0
 AreReferences names objects numbers = map (map Some) numbers ≡ map (λ o. map (place_in names) (references o.part)) objects
 
+-- the scripts of the object with this number, none where it is no table: IEC 62056-6-2, Script table
+abbrev pub scripts_under : List Object → ℕ → List Script
+scripts_under objects number = for_some (slice_get objects number) (λ o. scripts_of o.part)
+
+-- where a script stands: the number of its table, and its place in it, which the null script hasn't (own profile)
+abbrev pub place_of_script : List Object → ScriptRef → Option ScriptPlace
+place_of_script objects r =
+    option_map (λ number. record { table = number; place = position_from (λ s. s.id == r.script) 0 (scripts_under objects number) }) (number_at objects r.table)
+
+-- where these scripts stand: own profile
+abbrev pub AreScriptPlaces : Plan → List ScriptRef → List ScriptPlace → Type 0
+AreScriptPlaces P scripts places = map Some places ≡ map (place_of_script P.objects) scripts
+
+-- the scripts that the object with this name may have run: own profile
+abbrev pub scripts_run_at : Plan → LogicalName → List ScriptRef
+scripts_run_at P n = for_some (object_at P n) (λ o. scripts_run_by o.part)
+
+-- for each object where the scripts stand that it may have run: own profile
+abbrev pub AreScriptsPlaced : List Object → List (List ScriptPlace) → Type 0
+AreScriptsPlaced objects places = map (map Some) places ≡ map (λ o. map (place_of_script objects) (scripts_run_by o.part)) objects
+
 -- the number of the first clock, counted from 0 in plan order, if the plan has one: own profile
 abbrev pub clock_number : Plan → Option ℕ
 clock_number P = position_from (λ o. class_of o.part == 8) 0 P.objects
 
--- a sound plan, the names of its objects, what its rights grant, the places of its cells, what its objects refer to, and the number of its
--- clock: own profile
-pub record AreTables (P : Plan) (names : List LogicalName) (grants : Grants) (places : List Place) (numbers : List (List ℕ)) (clock : Option ℕ) : Type 0 where
+-- a sound plan, the names of its objects, what its rights grant, the places of its cells, what its objects refer to, where the scripts stand
+-- that these may have run, and the number of its clock: own profile
+pub record AreTables (P : Plan) (names : List LogicalName) (grants : Grants) (places : List Place) (numbers : List (List ℕ)) (scripts : List (List ScriptPlace))
+    (clock : Option ℕ) : Type 0 where
   pub sound : IsSound P
   pub named : names ≡ map (λ o. o.name) P.objects
   pub granted : AreGrants names P.rights grants
   pub placed : ArePlaces P.objects places
   pub referred : AreReferences names P.objects numbers
+  pub scripted : AreScriptsPlaced P.objects scripts
   pub clocked : clock ≡ clock_number P

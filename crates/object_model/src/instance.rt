@@ -14,7 +14,7 @@ ghost use Rattle.meter_theory.specs.Steps.{captures_of};
 ghost use Rattle.class_profile.specs.PartView.{captures_of_part};
 ghost use Rattle.object_model.specs.Grants.{listed};
 ghost use Rattle.object_model.specs.PartView.{part_of, monitored_kind};
-ghost use Rattle.object_model.specs.Tables.{AreNumbers, number_at, place_of, references_at};
+ghost use Rattle.object_model.specs.Tables.{AreNumbers, AreScriptPlaces, number_at, place_of, references_at, scripts_run_at};
 
 use crate::grants::is_granted;
 use crate::object::Object;
@@ -22,6 +22,7 @@ use crate::part::Part;
 use crate::place::Place;
 use crate::plan::{ASSOCIATION, ASSOCIATION_LN, Plan};
 use crate::right::Access;
+use crate::script_places::ScriptPlace;
 use class_profile::profile::ProfilePart;
 use cosem_data::cell::CellRef;
 use cosem_data::data::Data;
@@ -159,6 +160,17 @@ impl<'a> Instance<'a> {
         }
     }
 
+    /// Where the scripts stand that the object here may have run, as [`Plan::script_places`] orders them; none where the plan has no
+    /// object with this name.
+    pub fn script_places(&self) -> &'a [ScriptPlace]
+        ensures { AreScriptPlaces self.now.plan (scripts_run_at self.now.plan self.now.name) result.now }
+    {
+        match self.number {
+            Some(number) => self.plan.script_places(number),
+            None => &[],
+        }
+    }
+
     /// What a plan has under this number, the first with its name. It takes no search.
     pub fn numbered(plan: &'a Plan, number: u16) -> Self
         requires { (name : NameValue) × (number_at plan.now.objects name ≡ Some number) }
@@ -244,8 +256,8 @@ impl<'a> Instance<'a> {
         }
     }
 
-    /// Whether a right of the client lists this index for this access.
-    fn is_granted(&self, access: Access, client: u8, index: u8) -> bool
+    /// Whether a right of the client lists this index for this access; the view has each object on which it has a right, under index 0.
+    pub fn is_granted(&self, access: Access, client: u8, index: u8) -> bool
         ensures { result
             ≡ has_right self.now.plan client self.now.name (λ r. lists (listed access r) index) }
     {

@@ -19,6 +19,7 @@ pub mod plan;
 pub mod policy;
 mod references;
 pub mod right;
+pub mod script_places;
 mod stored;
 pub mod undo;
 

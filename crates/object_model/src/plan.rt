@@ -5,11 +5,11 @@ ghost use Rattle.cosem_data.specs.Cells.{same_name};
 ghost use Rattle.meter_theory.specs.Plan.{cells, class_of, client_named, clock_object};
 ghost use Rattle.meter_theory.specs.Rights.{is_client};
 ghost use Rattle.meter_theory.specs.declared.limits.TheConstants.{OBJECTS};
-ghost use Rattle.meter_theory.specs.Sound.{IsSound};
+ghost use Rattle.meter_theory.specs.Sound.{IsSound, scripts_run_by};
 ghost use Rattle.object_model.specs.Grants.{AreMasksOf};
 ghost use Rattle.object_model.specs.PlanView.{plan_of};
 ghost use Rattle.cosem_class.specs.Parts.{references};
-ghost use Rattle.object_model.specs.Tables.{AreNumbers, AreNumbersOf, clock_number, number_at, place_of};
+ghost use Rattle.object_model.specs.Tables.{AreNumbers, AreNumbersOf, AreScriptPlaces, clock_number, number_at, place_of};
 
 use crate::client::Client;
 use crate::grants::Grants;
@@ -18,6 +18,7 @@ use crate::object::Object;
 use crate::place::{Place, places_of};
 use crate::references::References;
 use crate::right::{Access, Right};
+use crate::script_places::{ScriptPlace, ScriptPlaces};
 use class_control::clock::Clock;
 use cosem_data::cell::CellRef;
 use cosem_data::memory::Memory;
@@ -52,7 +53,7 @@ pub struct PlanParts {
 
 /// The clients and objects of a meter and the rights of its clients: a sound plan, of which the promises about influence and
 /// secrecy hold (own profile). Beside its parts it keeps what is asked often: the names in their order, the rights as masks,
-/// the places of the cells, and what the objects refer to.
+/// the places of the cells, what the objects refer to, and where the scripts stand that these may have run.
 #[derive(Drop)]
 pub struct Plan {
     version: u8,
@@ -63,6 +64,7 @@ pub struct Plan {
     grants: Grants,
     places: Vec<Place>,
     references: References,
+    scripts: ScriptPlaces,
     clock: Option<u16>,
 }
 
@@ -89,7 +91,7 @@ impl Model for Plan {
           objects = p.objects.items;
           rights = p.rights.items;
         })
-        p.index p.grants p.places.items p.references p.clock };
+        p.index p.grants p.places.items p.references p.scripts p.clock };
 }
 
 impl Plan {
@@ -108,6 +110,7 @@ impl Plan {
         let grants = Grants::new(alloc, &index, &rights)?;
         let places = places_of(alloc, &objects)?;
         let references = References::new(alloc, &index, &objects)?;
+        let scripts = ScriptPlaces::new(alloc, &index, &objects)?;
         let clock = clock_of(&objects);
         Ok(Plan {
             version,
@@ -118,6 +121,7 @@ impl Plan {
             grants,
             places,
             references,
+            scripts,
             clock,
         })
     }
@@ -220,6 +224,16 @@ impl Plan {
             (λ o. AreNumbers self.now (references o.part) result.now) }
     {
         self.references.of(object)
+    }
+
+    /// Where the scripts stand that the object with this number may have run: those of a register monitor's actions, that of up
+    /// before that of down, and those that a schedule may run, that at the start before those of its menu (IEC 62056-6-2).
+    pub fn script_places(&self, object: u16) -> &[ScriptPlace]
+        requires { object < length self.now.objects }
+        ensures { IfSome (slice_get self.now.objects object)
+            (λ o. AreScriptPlaces self.now (scripts_run_by o.part) result.now) }
+    {
+        self.scripts.of(object)
     }
 
     /// The objects, in plan order.

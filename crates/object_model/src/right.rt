@@ -4,9 +4,9 @@ ghost use Rattle.object_model.specs.Grants.{listed};
 use cosem_data::name::LogicalName;
 use std::marker::Model;
 
-/// What a right is asked for.
+/// What a right is asked for (IEC 62056-6-2, access rights).
 #[derive(Clone, Copy)]
-pub(crate) enum Access {
+pub enum Access {
     /// That the object is in the client's view, which any right gives.
     View,
     /// A GET of an attribute.

@@ -11,8 +11,7 @@ use Rattle.class_control.specs.declared.parts.SchedulePart.{SchedulePart}
 use Rattle.meter_theory.proofs.Menus.{in_times}
 use Rattle.meter_theory.specs.Menus.{alternatives}
 use Rattle.meter_theory.specs.Sound.{IsSound}
-use Rattle.object_model.specs.Tables.{AreNumbers}
-use Rattle.flow_edges.proofs.References.{refers}
+use Rattle.flow_edges.proofs.References.{places-of}
 use Rattle.flow_edges.specs.Table.{cell_at}
 use Rattle.flow_edges.proofs.Objects.{schedule-added}
 use Rattle.flow_edges.proofs.Sources.{own-start}
@@ -24,12 +23,9 @@ number_of-times-requires-clause-of_plan c =
     subst (IsIn (cells c.args.instance.now.plan)) (sym (c.execution_time.ensures ∙ ap execution_time c.name.ensures))
     (own-start c.args.instance.now.plan c.args.instance.now.name _ (execution_time c.args.instance.now.name) (tree part.start) c.requires.part (in_times c.args.instance.now.name (scripts_of_part part) part.execution_type (tree part.start)))
 
-pub changed_by_schedule-requires-clause-tables : goal.changed_by_schedule-requires-clause-tables
-changed_by_schedule-requires-clause-tables c =
-    let P = c.args.instance.now.plan in
-    let scripts = map (λ r. r.table) (alternatives (scripts_of_part c.args.part.now)) in
-    subst (λ Q. AreNumbers Q scripts c.references-tables.result.now) (sym c.requires.changes)
-    (subst (λ names. AreNumbers P names c.references-tables.result.now) (refers P c.args.instance.now.name _ (subst IsSound c.plan.ensures c.known.ensures.sound) c.requires.part) c.references-tables.ensures)
+pub changed_by-requires-clause-places : goal.changed_by-requires-clause-places
+changed_by-requires-clause-places c =
+    (alternatives (scripts_of_part c.args.part.now), places-of c.args.instance.now.plan c.args.changes.now c.args.instance.now.name _ c.script_places-scripts.result.now (subst IsSound c.plan.ensures c.known.ensures.sound) c.requires.part c.requires.changes c.script_places-scripts.ensures)
 
 -- the marks are those of the plan and of the cells of the table
 marked : (Q P : Plan) (part : SchedulePart) (marks : List Bool) (cs : List CellRef) → Q ≡ P → cs ≡ cells P →
@@ -40,22 +36,22 @@ marked Q P part marks cs same of is =
 pub add_menu_to_each-requires-clause-cells : goal.add_menu_to_each-requires-clause-cells
 add_menu_to_each-requires-clause-cells c =
     let changes = schedule_changes c.args.instance.now.plan (scripts_of_part c.args.part.now) in
-    let marks = marked c.args.changes.now c.args.instance.now.plan c.args.part.now c.in_ok-targets.targets.items c.args.table.now.cells c.requires.changes c.requires.cells c.in_ok-targets.ensures.marks in
+    let marks = marked c.args.changes.now c.args.instance.now.plan c.args.part.now c.in_ok-targets.targets.items c.args.table.now.cells c.requires.changes c.requires.cells (c.in_ok-targets.ensures (alternatives (scripts_of_part c.args.part.now)) (places-of c.args.instance.now.plan c.args.changes.now c.args.instance.now.name _ c.script_places-scripts.result.now (subst IsSound c.plan.ensures c.known.ensures.sound) c.requires.part c.requires.changes c.script_places-scripts.ensures)) in
     (c.in_ok-add_all.ensures (among changes) (c.deref.ensures.value ∙ marks)).cells ∙ c.requires.cells
 
 pub add_clock_to_each-requires-clause-cells : goal.add_clock_to_each-requires-clause-cells
 add_clock_to_each-requires-clause-cells c =
     let changes = schedule_changes c.args.instance.now.plan (scripts_of_part c.args.part.now) in
-    let marks = marked c.args.changes.now c.args.instance.now.plan c.args.part.now c.in_ok-targets.targets.items c.args.table.now.cells c.requires.changes c.requires.cells c.in_ok-targets.ensures.marks in
+    let marks = marked c.args.changes.now c.args.instance.now.plan c.args.part.now c.in_ok-targets.targets.items c.args.table.now.cells c.requires.changes c.requires.cells (c.in_ok-targets.ensures (alternatives (scripts_of_part c.args.part.now)) (places-of c.args.instance.now.plan c.args.changes.now c.args.instance.now.name _ c.script_places-scripts.result.now (subst IsSound c.plan.ensures c.known.ensures.sound) c.requires.part c.requires.changes c.script_places-scripts.ensures)) in
     let first = c.in_ok-add_all.ensures (among changes) (c.deref.ensures.value ∙ marks) in
     (c.in_ok-add_menu_to_each.ensures (among changes) (c.deref-2.ensures.value ∙ marks ∙ ap (map (among changes)) (sym first.cells))).cells ∙ first.cells ∙ c.requires.cells
 
-pub returns-clause-edges : goal.returns-clause-edges
-returns-clause-edges c =
+pub returns : goal.returns
+returns c =
     let part = c.args.part.now in
     let a = c.args.table.now in
     let changes = schedule_changes c.args.instance.now.plan (scripts_of_part part) in
-    let marks = marked c.args.changes.now c.args.instance.now.plan part c.in_ok-targets.targets.items a.cells c.requires.changes c.requires.cells c.in_ok-targets.ensures.marks in
+    let marks = marked c.args.changes.now c.args.instance.now.plan part c.in_ok-targets.targets.items a.cells c.requires.changes c.requires.cells (c.in_ok-targets.ensures (alternatives (scripts_of_part c.args.part.now)) (places-of c.args.instance.now.plan c.args.changes.now c.args.instance.now.name _ c.script_places-scripts.result.now (subst IsSound c.plan.ensures c.known.ensures.sound) c.requires.part c.requires.changes c.script_places-scripts.ensures)) in
     let first = c.in_ok-add_all.ensures (among changes) (c.deref.ensures.value ∙ marks) in
     let second = c.in_ok-add_menu_to_each.ensures (among changes) (c.deref-2.ensures.value ∙ marks ∙ ap (map (among changes)) (sym first.cells)) in
     on_ok_weaker c.add_clock_to_each.result
@@ -85,14 +81,14 @@ as-many Q P part marks given cs same of lent is =
 pub add_all-requires-clause-targets : goal.add_all-requires-clause-targets
 add_all-requires-clause-targets c =
     as-many c.args.changes.now c.args.instance.now.plan c.args.part.now c.in_ok-targets.targets.items c.deref.result.now c.args.table.now.cells
-    c.requires.changes c.requires.cells c.deref.ensures.value c.in_ok-targets.ensures.marks
+    c.requires.changes c.requires.cells c.deref.ensures.value (c.in_ok-targets.ensures (alternatives (scripts_of_part c.args.part.now)) (places-of c.args.instance.now.plan c.args.changes.now c.args.instance.now.name _ c.script_places-scripts.result.now (subst IsSound c.plan.ensures c.known.ensures.sound) c.requires.part c.requires.changes c.script_places-scripts.ensures))
 
 pub add_menu_to_each-requires-clause-targets : goal.add_menu_to_each-requires-clause-targets
 add_menu_to_each-requires-clause-targets c =
     as-many c.args.changes.now c.args.instance.now.plan c.args.part.now c.in_ok-targets.targets.items c.deref-2.result.now c.add_all.new.table.cells
-    c.requires.changes (add_menu_to_each-requires-clause-cells c) c.deref-2.ensures.value c.in_ok-targets.ensures.marks
+    c.requires.changes (add_menu_to_each-requires-clause-cells c) c.deref-2.ensures.value (c.in_ok-targets.ensures (alternatives (scripts_of_part c.args.part.now)) (places-of c.args.instance.now.plan c.args.changes.now c.args.instance.now.name _ c.script_places-scripts.result.now (subst IsSound c.plan.ensures c.known.ensures.sound) c.requires.part c.requires.changes c.script_places-scripts.ensures))
 
 pub add_clock_to_each-requires-clause-targets : goal.add_clock_to_each-requires-clause-targets
 add_clock_to_each-requires-clause-targets c =
     as-many c.args.changes.now c.args.instance.now.plan c.args.part.now c.in_ok-targets.targets.items c.deref-3.result.now c.add_menu_to_each.new.table.cells
-    c.requires.changes (add_clock_to_each-requires-clause-cells c) c.deref-3.ensures.value c.in_ok-targets.ensures.marks
+    c.requires.changes (add_clock_to_each-requires-clause-cells c) c.deref-3.ensures.value (c.in_ok-targets.ensures (alternatives (scripts_of_part c.args.part.now)) (places-of c.args.instance.now.plan c.args.changes.now c.args.instance.now.name _ c.script_places-scripts.result.now (subst IsSound c.plan.ensures c.known.ensures.sound) c.requires.part c.requires.changes c.script_places-scripts.ensures))

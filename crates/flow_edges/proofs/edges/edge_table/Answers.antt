@@ -26,17 +26,13 @@ loop-number-preserved c =
     let f : Object → List Edge = λ o. edges_in c.args.plan.now o.name o.part in
     let os = c.objects-objects.result.now in
     let i = c.loop-number.number in
-    record {
-      changes = c.add_object.ensures.changes ∙ c.loop-number.invariant.changes;
-      edges =
-          gathered-is c.in_ok-table.table c.add_object.new.table _ _ (flat_more f os i c.index-objects-number.result c.loop-number-test.true c.index-objects-number.is)
-          (gathered_join c.in_ok-table.table c.loop-number.table c.add_object.new.table (flat_map f (take i os)) (f c.index-objects-number.result) c.loop-number.invariant.edges c.in_ok-add_object.ensures.edges);
-    }
+    gathered-is c.in_ok-table.table c.add_object.new.table _ _ (flat_more f os i c.index-objects-number.result c.loop-number-test.true c.index-objects-number.is)
+    (gathered_join c.in_ok-table.table c.loop-number.table c.add_object.new.table (flat_map f (take i os)) (f c.index-objects-number.result) c.loop-number.invariant c.in_ok-add_object.ensures)
 
 pub returns : goal.returns
 returns c =
     let f : Object → List Edge = λ o. edges_in c.args.plan.now o.name o.part in
     let os = c.objects-objects.result.now in
     let i = c.loop-number.number in
-    all-gathered c.in_ok-table.table c.loop-number.table c.in_ok-cells.field-0.items (flat_map f (take i os)) c.in_ok-table.ensures c.loop-number.invariant.edges
+    all-gathered c.in_ok-table.table c.loop-number.table c.in_ok-cells.field-0.items (flat_map f (take i os)) c.in_ok-table.ensures c.loop-number.invariant
     ∙ ap₂ (λ cs xs. joined cs (first_of_each [] (flat_map f xs))) c.in_ok-cells.ensures (take_all i os c.loop-number-test.false ∙ c.objects-objects.ensures)

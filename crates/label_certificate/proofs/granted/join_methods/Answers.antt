@@ -1,4 +1,4 @@
-use Rattle.std.proofs.Common.{◌≡◌, ℕ, ◌+◌, ◌∙◌, sym, ap, subst, refl, arith, map}
+use Rattle.std.proofs.Common.{◌≡◌, ◌+◌, ◌∙◌, sym, ap, subst, refl, arith, map}
 use Rattle.std.specs.List.{range_with_len}
 use Rattle.meter_theory.specs.Labels.{has}
 use Rattle.meter_theory.specs.Plan.{interface_of}
@@ -11,10 +11,10 @@ pub loop-place-preserved : goal.loop-place-preserved
 loop-place-preserved c =
     let P = c.args.instance.now.plan in
     let place = c.loop-place.place in
-    let clients = c.callers-clients.result in
+    let clients = c.clients_with-clients.result in
     joined-method P (interface_of c.args.object.now.part).class_id place c.args.object.now.name (method_at c.interface-interface.result.class_id c.name.result (place + 1)) clients
     c.args.labels.now c.loop-place.labels _ c.name.ensures refl
-    (λ d. subst (λ n. has clients d ≡ may_act P d (method_at 0 n (place + 1))) (sym (c.name.ensures ∙ c.requires.named)) (c.callers-clients.ensures 0 d))
+    (λ d. subst (λ n. has clients d ≡ may_act P d (method_at 0 n (place + 1))) (sym (c.name.ensures ∙ c.requires.named)) (c.clients_with-clients.ensures d))
     c.loop-place.invariant c.join_method.ensures
 
 pub returns : goal.returns

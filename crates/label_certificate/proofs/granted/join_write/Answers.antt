@@ -25,8 +25,8 @@ returns c =
     let P = c.args.plan.now in
     let y = c.args.cell.now in
     let joined = c.join.ensures.joined (c.requires.labels ∙ ap (λ i. length (cells i.plan)) (sym (c.numbered-instance.ensures _ c.requires.object))) in
-    joined-same P (by_clients c.setters-clients.result (buffer y.name ∷ entries_in_use y.name ∷ [])) (may_empty P (y ∷ [])) c.args.labels.now c.join.new.labels
-    (empties-both P y c.setters-clients.result (sym c.empties.ensures ∙ c.if-not-empties.false)
-    (λ d. subst (λ i. has c.setters-clients.result d ≡ may_set i.plan d (cell 0 i.name y.index)) (c.numbered-instance.ensures _ c.requires.object) (c.setters-clients.ensures 0 d)))
-    (subst (λ i. AreJoined i.plan (by_clients c.setters-clients.result (buffer y.name ∷ entries_in_use y.name ∷ [])) c.args.labels.now c.join.new.labels) (c.numbered-instance.ensures _ c.requires.object)
-    (subst (λ ys. AreJoined c.numbered-instance.result.plan (by_clients c.setters-clients.result ys) c.args.labels.now c.join.new.labels) c.entries_of.ensures joined))
+    joined-same P (by_clients c.clients_with-clients.result (buffer y.name ∷ entries_in_use y.name ∷ [])) (may_empty P (y ∷ [])) c.args.labels.now c.join.new.labels
+    (empties-both P y c.clients_with-clients.result (sym c.empties.ensures ∙ c.if-not-empties.false)
+    (λ d. subst (λ i. has c.clients_with-clients.result d ≡ may_set i.plan d (cell 0 i.name y.index)) (c.numbered-instance.ensures _ c.requires.object) (c.clients_with-clients.ensures d)))
+    (subst (λ i. AreJoined i.plan (by_clients c.clients_with-clients.result (buffer y.name ∷ entries_in_use y.name ∷ [])) c.args.labels.now c.join.new.labels) (c.numbered-instance.ensures _ c.requires.object)
+    (subst (λ ys. AreJoined c.numbered-instance.result.plan (by_clients c.clients_with-clients.result ys) c.args.labels.now c.join.new.labels) c.entries_of.ensures joined))

@@ -1,4 +1,4 @@
-use Rattle.std.proofs.Common.{◌≡◌, ◌∙◌, ℕ, take, get_or, ap, subst, sym, length, arith, Some}
+use Rattle.std.proofs.Common.{◌≡◌, ◌∙◌, take, get_or, ap, subst, sym, length, arith, Some}
 use Rattle.std.specs.List.{position_from}
 use Rattle.std.proofs.lemmas.List.{take_more, get_or_default}
 use Rattle.cosem_data.specs.Cells.{cell, same_cell}
@@ -8,7 +8,6 @@ use Rattle.object_model.proofs.Positions.{item-in}
 use Rattle.flow_edges.specs.Table.{no_cell}
 use Rattle.flow_edges.proofs.Sources.{are-cells, numbered}
 use Rattle.label_certificate.specs.Granted.{AreJoined, by_clients}
-use Rattle.label_certificate.specs.Joining.{IsLet}
 use Rattle.label_certificate.proofs.Joins.{joined-at, joined-more, joined-nowhere, none-else}
 use Rattle.label_certificate.proofs.joining.join.Goals as goal
 use Rattle.label_certificate.proofs.joining.join.Goals.{in-Some, in_default}

@@ -1,4 +1,4 @@
-use Rattle.std.proofs.Common.{◌≡◌, ◌==◌, ◌∙◌, ap, refl, sym, arith, get_or, Some}
+use Rattle.std.proofs.Common.{◌==◌, ◌∙◌, ap, refl, sym, arith, get_or, Some}
 use Rattle.std.specs.Prelude.{option_map}
 use Rattle.std.proofs.lemmas.Option.{slice_get_read}
 use Rattle.meter_theory.specs.Plan.{class_of, clock_object}

@@ -1,4 +1,4 @@
-use Rattle.std.proofs.Common.{◌≡◌, ◌==◌, ◌∙◌, ap, sym}
+use Rattle.std.proofs.Common.{◌==◌, ◌∙◌, ap, sym}
 use Rattle.std.specs.Prelude.{option_map}
 use Rattle.meter_theory.specs.Plan.{class_of}
 use Rattle.object_model.proofs.Positions.{first, first-none}
