@@ -110,7 +110,7 @@ impl Plan {
         let grants = Grants::new(alloc, &index, &rights)?;
         let places = places_of(alloc, &objects)?;
         let references = References::new(alloc, &index, &objects)?;
-        let scripts = ScriptPlaces::new(alloc, &index, &objects)?;
+        let scripts = ScriptPlaces::new(alloc, &objects, &references)?;
         let clock = clock_of(&objects);
         Ok(Plan {
             version,

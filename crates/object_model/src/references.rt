@@ -1,16 +1,14 @@
 //! The objects to which parts refer, by their numbers: what a part names is looked for once, when its plan is made.
-ghost use Rattle.std.specs.Prelude.{◌≡◌, ◌<◌, ℕ, length, map, option_and_then, slice_get, Some, IfOk};
+ghost use Rattle.std.specs.Prelude.{◌≡◌, ◌<◌, ℕ, length, map, option_and_then, slice_get, Some, IfOk, IfSome};
 ghost use Rattle.cosem_data.specs.declared.name.LogicalName.{LogicalName as NameValue};
 ghost use Rattle.meter_theory.specs.Lists.{IsIn};
 ghost use Rattle.meter_theory.specs.Plan as theory;
 ghost use Rattle.object_model.specs.Grants.{place_in};
-ghost use Rattle.object_model.specs.PartView.{part_of};
 ghost use Rattle.cosem_class.specs.Parts.{references};
 ghost use Rattle.object_model.specs.Tables.{AreReferences};
 
 use crate::index::Index;
 use crate::object::Object;
-use crate::part::Part;
 use cosem_data::memory::Memory;
 use cosem_data::name::LogicalName;
 use std::alloc::Global;
@@ -42,8 +40,10 @@ impl References {
         ensures { IfOk result (λ numbers. AreReferences index.now objects.now numbers) }
     {
         let mut numbers = Vec::with_capacity(alloc, objects.len())?;
+        let mut names = Vec::new(alloc);
         for object in objects {
-            let names = names_in(alloc, object.part())?;
+            names.clear();
+            object.part().push_references(&mut names)?;
             numbers.push(numbers_in(alloc, index, &names)?)?;
         }
         Ok(References { numbers })
@@ -66,28 +66,36 @@ impl References {
     }
 }
 
-/// The numbers of these names.
+/// The numbers of these names. A name that follows itself, as the table of a monitor's scripts does, is looked for once.
 fn numbers_in(alloc: Global, index: &Index, names: &[LogicalName]) -> Result<Vec<u16>, Memory>
     requires { (name : NameValue) → IsIn names.now name
         → (number : ℕ) × (place_in index.now name ≡ Some number) }
     ensures { IfOk result (λ numbers. map Some numbers.items ≡ map (place_in index.now) names.now) }
 {
     let mut numbers = Vec::with_capacity(alloc, names.len())?;
+    let mut before = None;
     for name in names {
-        let (found, _) = index.find(name);
-        let Some(number) = found else {
-            unreachable!();
-        };
+        let number = number_of(index, name, before);
+        before = Some((*name, number));
         numbers.push(number)?;
     }
     Ok(numbers)
 }
 
-/// The names to which a part refers.
-fn names_in(alloc: Global, part: &Part) -> Result<Vec<LogicalName>, Memory>
-    ensures { IfOk result (λ names. names.items ≡ references (part_of part.now)) }
+/// The number of a name that the index has, which is looked for unless it is the name before, whose number is given.
+fn number_of(index: &Index, name: &LogicalName, before: Option<(LogicalName, u16)>) -> u16
+    requires known { (number : ℕ) × (place_in index.now name.now ≡ Some number) }
+    requires before { IfSome before (λ b. place_in index.now b.0 ≡ Some b.1) }
+    ensures { Some result ≡ place_in index.now name.now }
 {
-    let mut names = Vec::new(alloc);
-    part.push_references(&mut names)?;
-    Ok(names)
+    if let Some((same, number)) = before
+        && same == *name
+    {
+        return number;
+    }
+    let (found, _) = index.find(name);
+    let Some(number) = found else {
+        unreachable!();
+    };
+    number
 }

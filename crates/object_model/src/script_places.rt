@@ -2,19 +2,17 @@
 ghost use Rattle.std.specs.Prelude.{◌≡◌, ◌==◌, ◌<◌, ◌≤◌, ◌++◌, ℕ, length, map, slice_get, IfOk, OnOk, Some};
 ghost use Rattle.std.specs.List.{position_from};
 ghost use Rattle.meter_theory.specs.Edges.{scripts_named};
-ghost use Rattle.meter_theory.specs.declared.limits.TheConstants.{SCRIPTS};
-ghost use Rattle.meter_theory.specs.declared.refs.ScriptRef.{ScriptRef as ScriptValue};
+ghost use Rattle.meter_theory.specs.declared.limits.TheConstants.{OBJECTS, SCRIPTS};
 ghost use Rattle.meter_theory.specs.Lists.{IsIn};
 ghost use Rattle.meter_theory.specs.Plan as theory;
 ghost use Rattle.meter_theory.specs.Sound.{scripts_run_by};
 ghost use Rattle.meter_theory.specs.Steps.{scripts_of};
-ghost use Rattle.object_model.specs.Grants.{place_in};
 ghost use Rattle.object_model.specs.PartView.{part_of};
-ghost use Rattle.object_model.specs.Tables.{AreScriptsPlaced, place_of_script};
+ghost use Rattle.object_model.specs.Tables.{AreReferences, AreScriptsPlaced, number_at, place_of_script};
 
-use crate::index::Index;
 use crate::object::Object;
 use crate::part::Part;
+use crate::references::References;
 use class_control::script::Script;
 use cosem_data::memory::Memory;
 use meter_theory::refs::{ScriptRef, UpDown};
@@ -46,22 +44,25 @@ impl Model for ScriptPlaces {
 }
 
 impl ScriptPlaces {
-    /// Those of these objects, whose names the index has.
+    /// Those of these objects, which refer to each other by these numbers.
     pub(crate) fn new(
         alloc: Global,
-        index: &Index,
         objects: &[Object],
+        references: &References,
     ) -> Result<ScriptPlaces, Memory>
-        requires named { index.now ≡ map (λ o. o.name) objects.now }
+        requires bounded { length objects.now ≤ OBJECTS }
         requires few { (o : theory.Object) → IsIn objects.now o → length (scripts_of o.part) ≤ SCRIPTS }
-        requires tables { (o : theory.Object) → IsIn objects.now o → (r : ScriptValue) → IsIn (scripts_run_by o.part) r
-            → (number : ℕ) × (place_in index.now r.table ≡ Some number) }
+        requires referred { AreReferences (map (λ o. o.name) objects.now) objects.now references.now }
         ensures { IfOk result (λ places. AreScriptsPlaced objects.now places) }
     {
         let mut places = Vec::with_capacity(alloc, objects.len())?;
-        for object in objects {
-            let scripts = scripts_in(alloc, object.part())?;
-            places.push(places_in(alloc, index, objects, &scripts)?)?;
+        let mut scripts = Vec::new(alloc);
+        for (number, object) in objects.iter().enumerate() {
+            scripts.clear();
+            push_scripts(object.part(), &mut scripts)?;
+            let numbers = references.of(number as u16);
+            let (_, tables) = numbers.split_at(numbers.len() - scripts.len());
+            places.push(places_in(alloc, objects, &scripts, tables)?)?;
         }
         Ok(ScriptPlaces { places })
     }
@@ -75,37 +76,30 @@ impl ScriptPlaces {
     }
 }
 
-/// Where these scripts stand.
+/// Where these scripts stand, whose tables have these numbers.
 fn places_in(
     alloc: Global,
-    index: &Index,
     objects: &[Object],
     scripts: &[ScriptRef],
+    tables: &[u16],
 ) -> Result<Vec<ScriptPlace>, Memory>
-    requires named { index.now ≡ map (λ o. o.name) objects.now }
     requires few { (o : theory.Object) → IsIn objects.now o → length (scripts_of o.part) ≤ SCRIPTS }
-    requires tables { (r : ScriptValue) → IsIn scripts.now r
-        → (number : ℕ) × (place_in index.now r.table ≡ Some number) }
+    requires tables { map Some tables.now ≡ map (λ r. number_at objects.now r.table) scripts.now }
     ensures { IfOk result (λ places. map Some places.items ≡ map (place_of_script objects.now) scripts.now) }
 {
     let mut places = Vec::with_capacity(alloc, scripts.len())?;
-    for script in scripts {
-        places.push(place_of(index, objects, script))?;
+    for (place, script) in scripts.iter().enumerate() {
+        places.push(place_of(objects, tables[place], script))?;
     }
     Ok(places)
 }
 
-/// Where a script stands.
-fn place_of(index: &Index, objects: &[Object], script: &ScriptRef) -> ScriptPlace
-    requires named { index.now ≡ map (λ o. o.name) objects.now }
+/// Where a script stands, whose table has this number.
+fn place_of(objects: &[Object], table: u16, script: &ScriptRef) -> ScriptPlace
     requires few { (o : theory.Object) → IsIn objects.now o → length (scripts_of o.part) ≤ SCRIPTS }
-    requires table { (number : ℕ) × (place_in index.now script.now.table ≡ Some number) }
+    requires table { number_at objects.now script.now.table ≡ Some table }
     ensures { Some result ≡ place_of_script objects.now script.now }
 {
-    let (found, _) = index.find(&script.table);
-    let Some(table) = found else {
-        unreachable!();
-    };
     let part = objects[usize::from(table)].part();
     ScriptPlace {
         table,
@@ -132,20 +126,19 @@ fn position_of(scripts: &[Script], id: u16) -> Option<usize>
     scripts.iter().position(|script| script.id == id)
 }
 
-/// The scripts that a part may have run.
-fn scripts_in(alloc: Global, part: &Part) -> Result<Vec<ScriptRef>, Memory>
-    ensures { IfOk result (λ scripts. scripts.items ≡ scripts_run_by (part_of part.now)) }
+/// Puts the scripts that a part may have run behind others.
+fn push_scripts(part: &Part, scripts: &mut Vec<ScriptRef>) -> Result<(), Memory>
+    ensures { OnOk result (scripts.new.items ≡ scripts.old.items ++ scripts_run_by (part_of part.now)) }
 {
-    let mut scripts = Vec::new(alloc);
     match part {
-        Part::RegisterMonitor(part) => push_actions(&part.actions, &mut scripts)?,
+        Part::RegisterMonitor(part) => push_actions(&part.actions, scripts),
         Part::SingleActionSchedule(part) => {
             scripts.push(part.executed_script)?;
             scripts.extend_from_slice(&part.menu)?;
+            Ok(())
         }
-        _ => {}
+        _ => Ok(()),
     }
-    Ok(scripts)
 }
 
 /// Puts the scripts of a monitor's actions behind others, that of up before that of down.

@@ -4,7 +4,6 @@ use Rattle.object_model.specs.Grants.{HasRoom, place_in}
 use Rattle.object_model.specs.PlanView.{plan_of}
 use Rattle.object_model.proofs.Referred.{reference-placed}
 use Rattle.object_model.proofs.Room.{has-room}
-use Rattle.object_model.proofs.Scripted.{table-placed}
 use Rattle.object_model.proofs.plan.Plan.new.Goals as goal
 
 pub new-requires-2-clause-room : goal.new-requires-2-clause-room
@@ -16,8 +15,3 @@ pub new-requires-3 : goal.new-requires-3
 new-requires-3 c = λ o i name j.
     subst (λ names. (k : ℕ) × (place_in names name ≡ Some k)) (sym (c.in_ok-index.ensures ∙ c.in_ok-names_of.ensures ∙ ap (map (λ o. o.name)) c.deref.ensures.value))
     (reference-placed (plan_of c.args.parts) c.requires o (subst (λ os. IsIn os o) c.deref-4.ensures.value i) name j)
-
-pub new-requires-4-clause-tables : goal.new-requires-4-clause-tables
-new-requires-4-clause-tables c = λ o i r j.
-    subst (λ names. (k : ℕ) × (place_in names r.table ≡ Some k)) (sym (c.in_ok-index.ensures ∙ c.in_ok-names_of.ensures ∙ ap (map (λ o. o.name)) c.deref.ensures.value))
-    (table-placed (plan_of c.args.parts) c.requires o (subst (λ os. IsIn os o) c.deref-5.ensures.value i) r j)
