@@ -4,3 +4,4 @@
 
 pub mod meters;
 pub mod programs;
+pub mod values;
