@@ -7,22 +7,17 @@ The array holds arrays of structures of mixed kinds, nested up to 16 deep, in A-
 is at most 4 million. The same seed gives the same array. The loop pushes one byte after the other into a vector that has
 the room; reading a value also drops it. Each figure is from the processor time of many passes in one process less that of
 one, the best of several rounds, so that the start and the reading of the input don't count. Runs over twice and four times
-the bytes show how the time of a pass grows; on a machine that does other work, these figures vary from run to run. The program
-that makes the passes is `bench/codec_bench.rattle`: it is proved and built first, beside the crates that it stands on, by the
-toolchain's gate (`rt ci`), which takes some minutes where these crates weren't proved on this machine before.
+the bytes show how the time of a pass grows; on a machine that does other work, these figures vary from run to run. Run
+`rt run -- copy 1 < stdin` in crates/codec_bench first, which builds the program.
 """
 import os
-import pathlib
 import random
-import shutil
 import subprocess
 import sys
 import tempfile
 
-TOP = pathlib.Path(__file__).resolve().parent.parent
-NAME = "codec_bench"
-# The crates that it stands on, each with its line of crates.txt.
-BELOW = {"cosem_data": "", "cosem_axdr": "cosem_data"}
+TOP = os.path.dirname(os.path.dirname(os.path.abspath(__file__)))
+PROGRAM = os.path.join(TOP, "crates", "codec_bench", "out", "codec_bench")
 DEEPEST = 16
 # The tags of the kinds of a fixed width, and how many bytes stand behind each.
 FIXED = [(0, 0), (5, 4), (6, 4), (15, 1), (16, 2), (17, 1), (18, 2), (20, 8), (21, 8), (22, 1)]
@@ -89,31 +84,10 @@ def nested_array(size, seed):
     return headed(ARRAY, len(blocks)) + b"".join(blocks)
 
 
-def built(room):
-    """The program, built in a repository of its own in this folder."""
-    (room / ".git").mkdir()
-    shutil.copy(TOP / "HANDLES", room)
-    lines = [f"{name}: {words}".rstrip() for name, words in (*BELOW.items(), (NAME, " ".join(BELOW)))]
-    (room / "crates.txt").write_text("\n".join(lines) + "\n", encoding="utf-8")
-    for name in BELOW:
-        for part in ("src", "specs", "proofs"):
-            shutil.copytree(TOP / "crates" / name / part, room / "crates" / name / part)
-    folder = room / "crates" / NAME
-    (folder / "src").mkdir(parents=True)
-    shutil.copy(TOP / "bench" / f"{NAME}.rattle", folder / "src" / "main.rt")
-    # (the run that the gate makes of it: no pass over no byte)
-    (folder / "args").write_text("copy\n0\n", encoding="utf-8")
-    (folder / "stdout").write_text("0\n", encoding="utf-8")
-    gate = subprocess.run(["rt", "ci"], cwd=room, stdin=subprocess.DEVNULL, stdout=subprocess.PIPE, stderr=subprocess.STDOUT, text=True, errors="replace")
-    if gate.returncode != 0:
-        sys.exit(f"{gate.stdout}{NAME} isn't built")
-    return folder / "out" / NAME
-
-
-def seconds_of(program, command, times, path, size):
+def seconds_of(command, times, path, size):
     """The processor time of a process that makes so many passes over the file."""
     with open(path, "rb") as value_bytes:
-        child = subprocess.Popen([program, command, str(times)], stdin=value_bytes, stdout=subprocess.PIPE)
+        child = subprocess.Popen([PROGRAM, command, str(times)], stdin=value_bytes, stdout=subprocess.PIPE)
         told = child.stdout.read()
         _, status, usage = os.wait4(child.pid, 0)
         child.returncode = os.waitstatus_to_exitcode(status)
@@ -125,28 +99,28 @@ def seconds_of(program, command, times, path, size):
     return usage.ru_utime + usage.ru_stime
 
 
-def passes_enough(program, command, path, size):
+def passes_enough(command, path, size):
     """How many passes take long enough to be measured."""
     times = 8
-    while seconds_of(program, command, times, path, size) < ENOUGH_SECONDS:
+    while seconds_of(command, times, path, size) < ENOUGH_SECONDS:
         times *= 2
     return times
 
 
-def seconds_of_passes(program, arrays):
+def seconds_of_passes(arrays):
     """The processor time of one pass of each command over each array, given as paths and sizes.
 
     All are measured in turn, round after round, so that what else the machine does meets them alike.
     """
     cases = [(command, path, size) for path, size in arrays for command in COMMANDS]
-    more = {case: passes_enough(program, *case) for case in cases}
+    more = {case: passes_enough(*case) for case in cases}
     one = {case: [] for case in cases}
     many = {case: [] for case in cases}
     for _ in range(ROUNDS):
         for case in cases:
             command, path, size = case
-            one[case].append(seconds_of(program, command, 1, path, size))
-            many[case].append(seconds_of(program, command, 1 + more[case], path, size))
+            one[case].append(seconds_of(command, 1, path, size))
+            many[case].append(seconds_of(command, 1 + more[case], path, size))
     return {case: (min(many[case]) - min(one[case])) / more[case] for case in cases}
 
 
@@ -155,16 +129,13 @@ def main():
     seed = int(sys.argv[2]) if len(sys.argv) > 2 else 1
     arrays = []
     with tempfile.TemporaryDirectory() as folder:
-        room = pathlib.Path(folder, "room")
-        room.mkdir()
-        program = built(room)
         for factor in (1, 2, 4):
             path = os.path.join(folder, str(factor))
             text = nested_array(factor * size, seed)
             with open(path, "wb") as out:
                 out.write(text)
             arrays.append((path, len(text)))
-        seconds = seconds_of_passes(program, arrays)
+        seconds = seconds_of_passes(arrays)
     first = arrays[0]
     for path, length in arrays:
         print(f"{length} bytes, {length / first[1]:.2f} times as many")
