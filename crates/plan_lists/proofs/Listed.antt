@@ -10,21 +10,38 @@ use Rattle.flow_edges.specs.declared.table.Link.{Link}
 use Rattle.flow_edges.specs.Table.{IsLink, AreWithin, edge_at, no_cell}
 use Rattle.value_text.specs.Edges.{cause_word, edge_text}
 use Rattle.plan_lists.specs.declared.edges.Form.{Form}
-use Rattle.plan_lists.specs.Listing.{edges_text, form_line, form_text, link_text, links_text, list_text}
+use Rattle.plan_lists.specs.Listing.{cell_within, edges_text, form_line, form_text, link_text, links_text, list_text}
+
+-- a line put together from its cells as source and as target is the line of its parts
+line-within : (s a b t l c e : List ℕ) → (s ++ (a ++ b)) ++ ((t ++ l) ++ (c ++ e)) ≡ s ++ (a ++ (b ++ (t ++ (l ++ (c ++ e)))))
+line-within s a b t l c e =
+    append_assoc s (a ++ b) ((t ++ l) ++ (c ++ e))
+    ∙ ap (λ (z : List ℕ). s ++ z) (append_assoc a b ((t ++ l) ++ (c ++ e)))
+    ∙ ap (λ (z : List ℕ). s ++ (a ++ (b ++ z))) (append_assoc t l (c ++ e))
+
+-- the texts of cells as sources and as targets of a form
+abbrev pub sources_of : Form → List CellRef → List (List ℕ)
+sources_of form cells = map (cell_within form.start.now form.between.now) cells
+
+abbrev pub targets_of : Form → List CellRef → List (List ℕ)
+targets_of form cells = map (cell_within [] form.label.now) cells
 
 -- the line of an edge between numbers is that of the edge between cells
 link-line : (form : Form) (cells : List CellRef) (l : Link) → IsLink cells l
-    → link_text form (map cell_text cells) l ≡ form_line form (cell_text (edge_at cells l).source) (cell_text (edge_at cells l).target) (cause_word l.cause)
+    → link_text form (sources_of form cells) (targets_of form cells) l ≡ form_line form (cell_text (edge_at cells l).source) (cell_text (edge_at cells l).target) (cause_word l.cause)
 link-line form cells l w =
-    ap₂ (λ (s t : List ℕ). form_line form s t (cause_word l.cause)) (get_or-map cell_text cells l.source no_cell [] w.0) (get_or-map cell_text cells l.target no_cell [] w.1)
+    ap₂ (λ (s t : List ℕ). s ++ (t ++ (cause_word l.cause ++ form.end.now)))
+    (get_or-map (cell_within form.start.now form.between.now) cells l.source no_cell [] w.0)
+    (get_or-map (cell_within [] form.label.now) cells l.target no_cell [] w.1)
+    ∙ line-within form.start.now (cell_text (edge_at cells l).source) form.between.now (cell_text (edge_at cells l).target) form.label.now (cause_word l.cause) form.end.now
 
 -- and so are all lines
 links-lines : (form : Form) (cells : List CellRef) (links : List Link) → AreWithin cells links
-    → links_text form (map cell_text cells) links ≡ flat_map (λ e. form_line form (cell_text e.source) (cell_text e.target) (cause_word e.cause)) (map (edge_at cells) links)
+    → links_text form (sources_of form cells) (targets_of form cells) links ≡ flat_map (λ e. form_line form (cell_text e.source) (cell_text e.target) (cause_word e.cause)) (map (edge_at cells) links)
 links-lines form cells [] w = refl
 links-lines form cells (l ∷ ls) w = ap₂ (λ (a b : List ℕ). a ++ b) (link-line form cells l w.0) (links-lines form cells ls w.1)
 
-pub list-lines : (form : Form) (cells : List CellRef) (links : List Link) → AreWithin cells links → list_text form (map cell_text cells) links ≡ form_text form (map (edge_at cells) links)
+pub list-lines : (form : Form) (cells : List CellRef) (links : List Link) → AreWithin cells links → list_text form (sources_of form cells) (targets_of form cells) links ≡ form_text form (map (edge_at cells) links)
 list-lines form cells links w = ap (λ (t : List ℕ). form.head.now ++ (t ++ form.foot.now)) (links-lines form cells links w)
 
 -- the same lines one by one are the same lines
@@ -57,51 +74,51 @@ plain-text edges =
     (λ e. plain-line (cell_text e.source) (codes " -> ") (cell_text e.target) (codes " ") (cause_word e.cause) (10 ∷ []))
 
 -- the lines of one link more
-line-more : (form : Form) (texts : List (List ℕ)) (links : List Link) (i : ℕ) (d : Link) → i < length links →
-    links_text form texts (take (i + 1) links) ≡ links_text form texts (take i links) ++ link_text form texts (get_or links i d)
-line-more form texts links i d within =
-    ap (links_text form texts) (take_more links i d within)
-    ∙ flat_map-append (link_text form texts) (take i links) (get_or links i d ∷ [])
-    ∙ ap (λ (t : List ℕ). links_text form texts (take i links) ++ t) (append-nil (link_text form texts (get_or links i d)))
+line-more : (form : Form) (sources targets : List (List ℕ)) (links : List Link) (i : ℕ) (d : Link) → i < length links →
+    links_text form sources targets (take (i + 1) links) ≡ links_text form sources targets (take i links) ++ link_text form sources targets (get_or links i d)
+line-more form sources targets links i d within =
+    ap (links_text form sources targets) (take_more links i d within)
+    ∙ flat_map-append (link_text form sources targets) (take i links) (get_or links i d ∷ [])
+    ∙ ap (λ (t : List ℕ). links_text form sources targets (take i links) ++ t) (append-nil (link_text form sources targets (get_or links i d)))
 
 -- what follows the first lines: the other lines, and the foot
-abbrev pub rest_text : Form → List (List ℕ) → List Link → ℕ → List ℕ
-rest_text form texts links i = links_text form texts (drop i links) ++ form.foot.now
+abbrev pub rest_text : Form → (sources targets : List (List ℕ)) → List Link → ℕ → List ℕ
+rest_text form sources targets links i = links_text form sources targets (drop i links) ++ form.foot.now
 
 -- the whole list is its head with the first lines, and what follows
-list-split : (form : Form) (texts : List (List ℕ)) (links : List Link) (i : ℕ) →
-    list_text form texts links ≡ (form.head.now ++ links_text form texts (take i links)) ++ rest_text form texts links i
-list-split form texts links i =
+list-split : (form : Form) (sources targets : List (List ℕ)) (links : List Link) (i : ℕ) →
+    list_text form sources targets links ≡ (form.head.now ++ links_text form sources targets (take i links)) ++ rest_text form sources targets links i
+list-split form sources targets links i =
     ap (λ (t : List ℕ). form.head.now ++ (t ++ form.foot.now))
-    (ap (links_text form texts) (sym (take-append-drop i links)) ∙ flat_map-append (link_text form texts) (take i links) (drop i links))
-    ∙ ap (λ (t : List ℕ). form.head.now ++ t) (append_assoc (links_text form texts (take i links)) (links_text form texts (drop i links)) form.foot.now)
-    ∙ sym (append_assoc form.head.now (links_text form texts (take i links)) (rest_text form texts links i))
+    (ap (links_text form sources targets) (sym (take-append-drop i links)) ∙ flat_map-append (link_text form sources targets) (take i links) (drop i links))
+    ∙ ap (λ (t : List ℕ). form.head.now ++ t) (append_assoc (links_text form sources targets (take i links)) (links_text form sources targets (drop i links)) form.foot.now)
+    ∙ sym (append_assoc form.head.now (links_text form sources targets (take i links)) (rest_text form sources targets links i))
 
 -- what is left behind a front of head and first lines: what waits of them, and what follows
-pub behind-front : (form : Form) (texts : List (List ℕ)) (links : List Link) (i : ℕ) (front waiting : List ℕ) → form.head.now ++ links_text form texts (take i links) ≡ front ++ waiting →
-    list_text form texts links ≡ front ++ (waiting ++ rest_text form texts links i)
-behind-front form texts links i front waiting e =
-    list-split form texts links i
-    ∙ ap (λ (t : List ℕ). t ++ rest_text form texts links i) e
-    ∙ append_assoc front waiting (rest_text form texts links i)
+pub behind-front : (form : Form) (sources targets : List (List ℕ)) (links : List Link) (i : ℕ) (front waiting : List ℕ) → form.head.now ++ links_text form sources targets (take i links) ≡ front ++ waiting →
+    list_text form sources targets links ≡ front ++ (waiting ++ rest_text form sources targets links i)
+behind-front form sources targets links i front waiting e =
+    list-split form sources targets links i
+    ∙ ap (λ (t : List ℕ). t ++ rest_text form sources targets links i) e
+    ∙ append_assoc front waiting (rest_text form sources targets links i)
 
 -- the line of one link more waits behind the others
-pub line-waits : (form : Form) (texts : List (List ℕ)) (links : List Link) (i : ℕ) (d : Link) (front waiting full : List ℕ) → i < length links →
-    form.head.now ++ links_text form texts (take i links) ≡ front ++ waiting → full ≡ waiting ++ link_text form texts (get_or links i d) →
-    form.head.now ++ links_text form texts (take (i + 1) links) ≡ front ++ full
-line-waits form texts links i d front waiting full within e more =
-    ap (λ (t : List ℕ). form.head.now ++ t) (line-more form texts links i d within)
-    ∙ sym (append_assoc form.head.now (links_text form texts (take i links)) (link_text form texts (get_or links i d)))
-    ∙ ap (λ (t : List ℕ). t ++ link_text form texts (get_or links i d)) e
-    ∙ append_assoc front waiting (link_text form texts (get_or links i d))
+pub line-waits : (form : Form) (sources targets : List (List ℕ)) (links : List Link) (i : ℕ) (d : Link) (front waiting full : List ℕ) → i < length links →
+    form.head.now ++ links_text form sources targets (take i links) ≡ front ++ waiting → full ≡ waiting ++ link_text form sources targets (get_or links i d) →
+    form.head.now ++ links_text form sources targets (take (i + 1) links) ≡ front ++ full
+line-waits form sources targets links i d front waiting full within e more =
+    ap (λ (t : List ℕ). form.head.now ++ t) (line-more form sources targets links i d within)
+    ∙ sym (append_assoc form.head.now (links_text form sources targets (take i links)) (link_text form sources targets (get_or links i d)))
+    ∙ ap (λ (t : List ℕ). t ++ link_text form sources targets (get_or links i d)) e
+    ∙ append_assoc front waiting (link_text form sources targets (get_or links i d))
     ∙ ap (λ (t : List ℕ). front ++ t) (sym more)
 
 -- behind the last line the foot is left
-pub foot-left : (form : Form) (texts : List (List ℕ)) (links : List Link) (i : ℕ) (front waiting : List ℕ) → length links ≤ i → form.head.now ++ links_text form texts (take i links) ≡ front ++ waiting →
-    list_text form texts links ≡ front ++ (waiting ++ form.foot.now)
-foot-left form texts links i front waiting end e =
-    sym (append_assoc form.head.now (links_text form texts links) form.foot.now)
-    ∙ ap (λ (t : List ℕ). t ++ form.foot.now) (ap (λ (ls : List Link). form.head.now ++ links_text form texts ls) (sym (take_all i links end)) ∙ e)
+pub foot-left : (form : Form) (sources targets : List (List ℕ)) (links : List Link) (i : ℕ) (front waiting : List ℕ) → length links ≤ i → form.head.now ++ links_text form sources targets (take i links) ≡ front ++ waiting →
+    list_text form sources targets links ≡ front ++ (waiting ++ form.foot.now)
+foot-left form sources targets links i front waiting end e =
+    sym (append_assoc form.head.now (links_text form sources targets links) form.foot.now)
+    ∙ ap (λ (t : List ℕ). t ++ form.foot.now) (ap (λ (ls : List Link). form.head.now ++ links_text form sources targets ls) (sym (take_all i links end)) ∙ e)
     ∙ append_assoc front waiting form.foot.now
 
 -- a front of what waits goes to the front

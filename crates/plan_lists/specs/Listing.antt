@@ -1,6 +1,7 @@
 -- What is printed of edges and of labels, and how such a list is written. All of it is own profile.
 use Rattle.std.specs.Prelude.{◌≡◌, ◌<◌, ℕ, List, [], ◌∷◌, ◌++◌, codes, flat_map, get_or, length, map, Option, Result, Ok, Err, IfSome, slice_get}
 use Rattle.std.specs.Io.KnownBytes.{Appends}
+use Rattle.cosem_data.specs.declared.cell.CellRef.{CellRef}
 use Rattle.meter_theory.specs.Labels.{Labels, AreLeast, Policy}
 use Rattle.meter_theory.specs.Plan.{Plan, cells}
 use Rattle.meter_theory.specs.declared.flow.Edge.{Edge}
@@ -33,17 +34,21 @@ dot_text edges = codes "digraph cells {\n" ++ (flat_map dot_line edges ++ codes 
 abbrev pub form_line : Form → (source target cause : List ℕ) → List ℕ
 form_line form source target cause = form.start.now ++ (source ++ (form.between.now ++ (target ++ (form.label.now ++ (cause ++ form.end.now)))))
 
--- the line of an edge between numbers of cells whose texts are these (own profile)
-abbrev pub link_text : Form → List (List ℕ) → Link → List ℕ
-link_text form texts l = form_line form (get_or texts l.source []) (get_or texts l.target []) (cause_word l.cause)
+-- the text of a cell with what stands before and behind it in a line (own profile)
+abbrev pub cell_within : (before behind : List ℕ) → CellRef → List ℕ
+cell_within before behind cell = before ++ (cell_text cell ++ behind)
+
+-- the line of an edge between numbers of cells, whose texts as sources and as targets are these, with what a form has around them (own profile)
+abbrev pub link_text : Form → (sources targets : List (List ℕ)) → Link → List ℕ
+link_text form sources targets l = get_or sources l.source [] ++ (get_or targets l.target [] ++ (cause_word l.cause ++ form.end.now))
 
 -- those of many, one behind the other (own profile)
-abbrev pub links_text : Form → List (List ℕ) → List Link → List ℕ
-links_text form texts links = flat_map (link_text form texts) links
+abbrev pub links_text : Form → (sources targets : List (List ℕ)) → List Link → List ℕ
+links_text form sources targets links = flat_map (link_text form sources targets) links
 
 -- the whole list, between its head and its foot (own profile)
-abbrev pub list_text : Form → List (List ℕ) → List Link → List ℕ
-list_text form texts links = form.head.now ++ (links_text form texts links ++ form.foot.now)
+abbrev pub list_text : Form → (sources targets : List (List ℕ)) → List Link → List ℕ
+list_text form sources targets links = form.head.now ++ (links_text form sources targets links ++ form.foot.now)
 
 -- the same of edges between cells (own profile)
 abbrev pub form_text : Form → List Edge → List ℕ

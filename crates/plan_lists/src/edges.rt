@@ -1,9 +1,8 @@
 //! The list of a plan's edges.
 ghost use Rattle.std.specs.Prelude.{◌≡◌, ◌++◌, ◌<◌, IfOk, OnOk, length, map};
 ghost use Rattle.meter_theory.specs.Edges.{edges};
-ghost use Rattle.value_text.specs.Texts.{cell_text};
 ghost use Rattle.label_certificate.specs.Least.{AreLinks};
-ghost use Rattle.plan_lists.specs.Listing.{WritesText, dot_text, edges_text, form_text, link_text, list_text};
+ghost use Rattle.plan_lists.specs.Listing.{WritesText, cell_within, dot_text, edges_text, form_text, link_text, list_text};
 
 use crate::fault::ListFault;
 use cosem_data::cell::CellRef;
@@ -29,7 +28,7 @@ struct Form<'a> {
 }
 
 /// Writes the edges of a plan, each in a line of its own: `CELL -> CELL CAUSE` (own profile). In memory are the text of each
-/// cell once, the edges by numbers, and up to 64 KiB of lines that wait and one line more.
+/// cell as a source and as a target, the edges by numbers, and up to 64 KiB of lines that wait and one line more.
 ///
 /// # Errors
 /// Memory was refused or a write failed, and then a beginning of the list was written.
@@ -79,39 +78,50 @@ fn write_list<W: Write>(
         (W.contents writer.old) (W.contents writer.new) result }
 {
     let table = edge_table(alloc, plan)?;
-    let texts = cell_texts(alloc, table.cells())?;
-    write_links(alloc, form, &texts, table.links(), writer)
+    let sources = cell_texts(alloc, table.cells(), form.start, form.between)?;
+    let targets = cell_texts(alloc, table.cells(), "", form.label)?;
+    write_links(alloc, form, &sources, &targets, table.links(), writer)
 }
 
-/// The texts of these cells.
-fn cell_texts(alloc: Global, cells: &[CellRef]) -> Result<Vec<Vec<u8>>, Memory>
-    ensures { IfOk result (λ texts. map (λ text. text.items) texts.items ≡ map cell_text cells.now) }
+/// The texts of these cells, each with what stands before and behind it in a line: so a line is put together from fewer pieces.
+fn cell_texts(
+    alloc: Global,
+    cells: &[CellRef],
+    before: &str,
+    behind: &str,
+) -> Result<Vec<Vec<u8>>, Memory>
+    ensures { IfOk result (λ texts. map (λ text. text.items) texts.items ≡ map (cell_within before.now behind.now) cells.now) }
 {
     let mut texts = Vec::with_capacity(alloc, cells.len())?;
     for cell in cells {
         let mut text = Vec::new(alloc);
+        push_text(before, &mut text)?;
         push_cell(alloc, cell, &mut text)?;
+        push_text(behind, &mut text)?;
         texts.push(text)?;
     }
     Ok(texts)
 }
 
-/// Writes a line for each edge between the cells whose texts are these, between the head and the foot of the form.
+/// Writes a line for each edge between the cells whose texts as sources and as targets are these, between the head and the foot
+/// of the form.
 fn write_links<W: Write>(
     alloc: Global,
     form: &Form<'_>,
-    texts: &[Vec<u8>],
+    sources: &[Vec<u8>],
+    targets: &[Vec<u8>],
     links: &[Link],
     writer: &mut W,
 ) -> Result<(), ListFault>
-    requires { AreLinks (length texts.now) links.now }
-    ensures { WritesText (list_text form.now (map (λ text. text.items) texts.now) links.now)
+    requires sources { AreLinks (length sources.now) links.now }
+    requires targets { AreLinks (length targets.now) links.now }
+    ensures { WritesText (list_text form.now (map (λ text. text.items) sources.now) (map (λ text. text.items) targets.now) links.now)
         (W.contents writer.old) (W.contents writer.new) result }
 {
     let mut waiting = Vec::new(alloc);
     push_text(form.head, &mut waiting)?;
     for link in links {
-        push_link(form, texts, *link, &mut waiting)?;
+        push_link(form, sources, targets, *link, &mut waiting)?;
         write_full(&mut waiting, writer)?;
     }
     push_text(form.foot, &mut waiting)?;
@@ -119,31 +129,29 @@ fn write_links<W: Write>(
     Ok(())
 }
 
-/// Puts a text behind the lines that wait. The error is that memory was refused.
-fn push_text(text: &str, waiting: &mut Vec<u8>) -> Result<(), Memory>
-    ensures { OnOk result (waiting.new.items ≡ waiting.old.items ++ text.now) }
+/// Puts a text behind these bytes. The error is that memory was refused.
+fn push_text(text: &str, bytes: &mut Vec<u8>) -> Result<(), Memory>
+    ensures { OnOk result (bytes.new.items ≡ bytes.old.items ++ text.now) }
 {
-    waiting.extend_from_slice(text.as_bytes())?;
+    bytes.extend_from_slice(text.as_bytes())?;
     Ok(())
 }
 
 /// Puts the line of an edge behind those that wait. The error is that memory was refused; a part of the line may then wait.
 fn push_link(
     form: &Form<'_>,
-    texts: &[Vec<u8>],
+    sources: &[Vec<u8>],
+    targets: &[Vec<u8>],
     link: Link,
     waiting: &mut Vec<u8>,
 ) -> Result<(), Memory>
-    requires source { link.source < length texts.now }
-    requires target { link.target < length texts.now }
-    ensures { OnOk result (waiting.new.items
-        ≡ waiting.old.items ++ link_text form.now (map (λ text. text.items) texts.now) link) }
+    requires source { link.source < length sources.now }
+    requires target { link.target < length targets.now }
+    ensures { OnOk result (waiting.new.items ≡ waiting.old.items
+        ++ link_text form.now (map (λ text. text.items) sources.now) (map (λ text. text.items) targets.now) link) }
 {
-    waiting.extend_from_slice(form.start.as_bytes())?;
-    waiting.extend_from_slice(&texts[link.source])?;
-    waiting.extend_from_slice(form.between.as_bytes())?;
-    waiting.extend_from_slice(&texts[link.target])?;
-    waiting.extend_from_slice(form.label.as_bytes())?;
+    waiting.extend_from_slice(&sources[link.source])?;
+    waiting.extend_from_slice(&targets[link.target])?;
     waiting.extend_from_slice(word_of(link.cause).as_bytes())?;
     waiting.extend_from_slice(form.end.as_bytes())?;
     Ok(())

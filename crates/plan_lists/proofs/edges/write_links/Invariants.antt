@@ -6,5 +6,5 @@ use Rattle.plan_lists.proofs.edges.write_links.Given as goal
 -- of the head and the lines of the links before, a front was written and the others wait
 abbrev pub invariant-loop-link : goal.invariant-loop-link
 invariant-loop-link g l =
-    (front : List ℕ) × (l.form.head.now ++ links_text l.form (map (λ text. text.items) l.texts) (take l.link-index l.links) ≡ front ++ l.waiting.items)
+    (front : List ℕ) × (l.form.head.now ++ links_text l.form (map (λ text. text.items) l.sources) (map (λ text. text.items) l.targets) (take l.link-index l.links) ≡ front ++ l.waiting.items)
     × Appends (g.W.Write.contents l.fn.writer) (g.W.Write.contents l.writer) front

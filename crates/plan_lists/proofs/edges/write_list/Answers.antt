@@ -1,25 +1,33 @@
-use Rattle.std.proofs.Common.{length, map, sym, ap, subst, ◌∙◌}
+use Rattle.std.proofs.Common.{◌≡◌, List, [], length, map, sym, ap, ap₂, subst, ◌∙◌}
 use Rattle.std.proofs.lemmas.List.{length-map}
-use Rattle.value_text.specs.Texts.{cell_text}
 use Rattle.label_certificate.proofs.Closed.{links-within}
-use Rattle.plan_lists.specs.Listing.{WritesText, form_text, list_text}
-use Rattle.plan_lists.proofs.Listed.{list-lines}
+use Rattle.plan_lists.specs.Listing.{WritesText, cell_within, form_text, list_text}
+use Rattle.plan_lists.proofs.Listed.{list-lines, sources_of, targets_of}
 use Rattle.plan_lists.proofs.edges.write_list.Goals as goal
 
-pub write_links-requires : goal.write_links-requires
-write_links-requires g c =
-    let texts = c.in_ok-texts.texts.items in
-    let size = ap length c.deref.ensures.value ∙ sym (length-map texts (λ text. text.items)) ∙ ap length c.in_ok-texts.ensures ∙ length-map c.cells.result.now cell_text ∙ ap length c.cells.ensures in
+pub write_links-requires-clause-sources : goal.write_links-requires-clause-sources
+write_links-requires-clause-sources g c =
+    let form = c.args.form.now in
+    let texts = c.in_ok-sources.sources.items in
+    let size = ap length c.deref.ensures.value ∙ sym (length-map texts (λ text. text.items)) ∙ ap length c.in_ok-sources.ensures ∙ length-map c.cells.result.now (cell_within form.start.now form.between.now) ∙ ap length c.cells.ensures in
     links-within c.in_ok-table.table.cells c.links.result.now (length c.deref.result.now) c.links.ensures.within size
+
+pub write_links-requires-clause-targets : goal.write_links-requires-clause-targets
+write_links-requires-clause-targets g c =
+    let form = c.args.form.now in
+    let texts = c.in_ok-targets.targets.items in
+    let size = ap length c.deref-2.ensures.value ∙ sym (length-map texts (λ text. text.items)) ∙ ap length c.in_ok-targets.ensures ∙ length-map c.cells-2.result.now (cell_within [] form.label.now) ∙ ap length c.cells-2.ensures in
+    links-within c.in_ok-table.table.cells c.links.result.now (length c.deref-2.result.now) c.links.ensures.within size
 
 pub returns : goal.returns
 returns g c =
     let form = c.args.form.now in
     let links = c.links.result.now in
+    let cells = c.in_ok-table.table.cells in
+    let sources = ap (map (λ text. text.items)) c.deref.ensures.value ∙ c.in_ok-sources.ensures ∙ ap (sources_of form) c.cells.ensures in
+    let targets = ap (map (λ text. text.items)) c.deref-2.ensures.value ∙ c.in_ok-targets.ensures ∙ ap (targets_of form) c.cells-2.ensures in
     let same =
-    ap (λ ts. list_text form (map (λ text. text.items) ts) links) c.deref.ensures.value
-    ∙ ap (λ ts. list_text form ts links) c.in_ok-texts.ensures
-    ∙ ap (λ cells. list_text form (map cell_text cells) links) c.cells.ensures
-    ∙ list-lines form c.in_ok-table.table.cells links c.links.ensures.within
+    ap₂ (λ ss ts. list_text form ss ts links) sources targets
+    ∙ list-lines form cells links c.links.ensures.within
     ∙ ap (form_text form) (c.links.ensures.edges ∙ ap (λ t. t.edges) c.in_ok-table.ensures) in
     subst (λ text. WritesText text (g.W.Write.contents c.args.writer.now) (g.W.Write.contents c.write_links.new.writer) c.write_links.result) same c.write_links.ensures
