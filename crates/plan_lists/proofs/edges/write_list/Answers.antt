@@ -1,5 +1,8 @@
-use Rattle.std.proofs.Common.{◌≡◌, List, [], length, map, sym, ap, ap₂, subst, ◌∙◌}
+use Rattle.std.proofs.Common.{[], length, map, refl, sym, ap, ap₂, subst, ◌∙◌}
+use Rattle.std.proofs.KnownBytes.{Appends-nil}
 use Rattle.std.proofs.lemmas.List.{length-map}
+use Rattle.std.proofs.lemmas.Result.{err_from_is_err_and}
+use Rattle.meter_theory.specs.Edges.{edges}
 use Rattle.label_certificate.proofs.Closed.{links-within}
 use Rattle.plan_lists.specs.Listing.{WritesText, cell_within, form_text, list_text}
 use Rattle.plan_lists.proofs.Listed.{list-lines, sources_of, targets_of}
@@ -31,3 +34,15 @@ returns g c =
     ∙ list-lines form cells links c.links.ensures.within
     ∙ ap (form_text form) (c.links.ensures.edges ∙ ap (λ t. t.edges) c.in_ok-table.ensures) in
     subst (λ text. WritesText text (g.W.Write.contents c.args.writer.now) (g.W.Write.contents c.write_links.new.writer) c.write_links.result) same c.write_links.ensures
+
+pub returns-in_err-table : goal.returns-in_err-table
+returns-in_err-table g c =
+    let p = err_from_is_err_and c.from_residual.result c.from_residual.ensures.1 in rw (p.1, p.2) ([], form_text c.args.form.now (edges c.args.plan.now), refl, Appends-nil (g.W.Write.contents c.args.writer.now), tt)
+
+pub returns-in_err-sources : goal.returns-in_err-sources
+returns-in_err-sources g c =
+    let p = err_from_is_err_and c.from_residual-in_err-sources.result c.from_residual-in_err-sources.ensures.1 in rw (p.1, p.2) ([], form_text c.args.form.now (edges c.args.plan.now), refl, Appends-nil (g.W.Write.contents c.args.writer.now), tt)
+
+pub returns-in_err-targets : goal.returns-in_err-targets
+returns-in_err-targets g c =
+    let p = err_from_is_err_and c.from_residual-in_err-targets.result c.from_residual-in_err-targets.ensures.1 in rw (p.1, p.2) ([], form_text c.args.form.now (edges c.args.plan.now), refl, Appends-nil (g.W.Write.contents c.args.writer.now), tt)
