@@ -16,7 +16,7 @@ const PAUSE: u64 = 100;
 
 /// What a line tells of an audit: how many of all texts have a verdict, on how many of these the verdict doesn't accept, and how
 /// many a second that was so far.
-#[derive(Clone, Copy, Debug, PartialEq, Eq)]
+#[derive(Clone, Copy)]
 pub(crate) struct Figures {
     pub all: usize,
     pub done: usize,

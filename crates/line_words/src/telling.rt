@@ -20,7 +20,7 @@ use step_words::steps::push_step;
 use step_words::texts::decode_text;
 
 /// A step line that was answered.
-#[derive(Clone, Copy, Debug)]
+#[derive(Clone, Copy)]
 pub(crate) struct Answered<'a> {
     /// The number of the line, counted from 1.
     pub number: u64,

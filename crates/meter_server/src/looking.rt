@@ -19,7 +19,7 @@ use std::alloc::Global;
 use std::io::Write;
 
 /// The client and the cell that a command line asks for, as it has them.
-#[derive(Clone, Copy, Debug)]
+#[derive(Clone, Copy)]
 pub(crate) struct Question<'a> {
     pub client: &'a str,
     pub cell: &'a str,

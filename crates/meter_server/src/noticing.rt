@@ -16,7 +16,7 @@ use std::io::{Read, Write};
 
 /// Which client looks on, at a meter of which configuration, and whether what it could notice is told. Files are named by their
 /// paths.
-#[derive(Clone, Copy, Debug)]
+#[derive(Clone, Copy)]
 pub(crate) struct Look<'a> {
     pub config: &'a str,
     pub labels: &'a str,

@@ -41,7 +41,7 @@ pub(crate) struct Beside<'a> {
 }
 
 /// What is asked of a report, beside the configuration.
-#[derive(Clone, Copy, Debug)]
+#[derive(Clone, Copy)]
 struct Wanted<'a> {
     /// Its form.
     form: ReportForm,

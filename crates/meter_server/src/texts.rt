@@ -36,7 +36,7 @@ use verdict::Verdict;
 use verdict::judging::{WholeVerdict, accepted, accepted_or_whole};
 
 /// A file by its path, with its text.
-#[derive(Clone, Copy, Debug)]
+#[derive(Clone, Copy)]
 pub(crate) struct Source<'a> {
     pub file: &'a str,
     pub text: &'a str,

@@ -13,7 +13,7 @@ use value_words::numbers::number_in;
 use value_words::stop::{Stop, stop_at};
 
 /// What stands behind the front of a step line.
-#[derive(Clone, Copy, Debug)]
+#[derive(Clone, Copy)]
 pub(crate) enum Head {
     /// The value of an input, behind `in NAME `.
     Input,

@@ -4,7 +4,7 @@ ghost use Rattle.value_words.specs.Stopping.{front, past};
 ghost use Rattle.step_words.specs.Parts as spec;
 
 /// What a run in front of a text is of.
-#[derive(Clone, Copy, Debug)]
+#[derive(Clone, Copy)]
 pub(crate) enum Run {
     /// Decimal digits.
     Digits,
