@@ -9,8 +9,8 @@ of that configuration's text, for a GET of a buffer of 1,000 rows, whole and by 
 and a SET of one session that is served over TCP: each such figure is a run with many lines less one with few. Those of the session are told
 beside an ordinary program's, `bench/plain_meter.rs`, which is the demo's live meter in plain Rust without any proof, gives the same answers and is compiled by
 `rustc -O`; where there is no rustc they are told alone. And those of whole runs of `check`,
-`edges` and `label` for a configuration of 512 objects with some 250,000 edges, of which the `toml` library's own part is told, of `why` and of `compare` beside that of `label`,
-and of `report` beside those of `label` and `edges`; and of an audit of 64 such texts by one worker and by four, beside the library's part and with the page
+`edges` and `label` for a configuration of 512 objects with some 250,000 edges, and for one of as many objects whose text has 2.4 MB, of which the `toml` library's own part
+is told, of `why` and of `compare` beside that of `label`, and of `report` beside those of `label` and `edges`; and of an audit of 64 such texts by one worker and by four, beside the library's part and with the page
 faults of each, as the program is without its launcher. Run `tools/build` first; another program of the same words can be named, to be counted beside it.
 """
 import datetime
@@ -49,6 +49,19 @@ def turns():
     schedules = [f' {{ class = 22, name = "0.0.15.{n}.0.255", script = {{ {script} }}, type = 1, times = ["17000000FFFFFFFFFF"] }}' for n in range(6)]
     objects = ",\n".join(values + [table] + profiles + monitors + schedules)
     return f'version = 2\nclient = [{{ name = "reader", sap = 32 }}]\nobject = [\n{objects}\n]\npolicy = {{ influence = [], learn = [] }}\n'
+
+
+def largest():
+    """The large configuration of `check.py`, in which nine script tables that nothing runs are full of actions that write an octet string."""
+    octets, target = f"0914{'5A' * 20}", "0.0.96.1.0.255"
+    action = f'{{ service = 1, object = "{target}", index = 2, value = "{octets}" }}'
+    script = f"action = [ {', '.join([action] * check.SCRIPT_ACTIONS)} ] }},"
+    objects = [f' {{ class = 1, name = "{target}", value = "{octets}" }},']
+    for table in range(9):
+        scripts = [f"  {{ id = {number}, {script}" for number in range(1, 65)]
+        objects += [f' {{ class = 9, name = "0.0.10.0.{table}.255", script = [', *scripts, " ] },"]
+    begin = "object = [\n"
+    return check.config(502).replace(begin, begin + "\n".join(objects) + "\n", 1)
 
 
 def counted(program, text, lines, words=("run",), rest=()):
@@ -103,6 +116,16 @@ def page_faults(command):
         taken = resource.getrusage(resource.RUSAGE_CHILDREN).ru_minflt - before
         least = taken if least is None else min(least, taken)
     return least
+
+
+def whole_runs(program, folder, name, text, *quiet):
+    """Tells what `check`, `edges` and `label` of a text cost, beside the part of the `toml` library."""
+    labels = os.path.join(folder, "labels")
+    with open(labels, "wb") as out:
+        subprocess.run([program, "label", *quiet, text], stdout=out, check=True)
+    for words in (("check", *quiet, text, labels), ("edges", text), ("label", *quiet, text)):
+        whole, part = library_part(program, words)
+        print(f"{words[0]} of {name}: {whole}, {whole / part:.2f} times the toml library's own")
 
 
 def audited(program, folder, text):
@@ -198,12 +221,9 @@ def main():
         # (a release that takes one right away, so that nobody gains)
         one_right = large[large.index(' { client = "client_0"') :].split("\n", 1)[0] + "\n"
         other = profile.written(folder, "other.toml", large.replace(one_right, "", 1))
-        labels = os.path.join(folder, "large.labels")
-        with open(labels, "wb") as out:
-            subprocess.run([program, "label", text], stdout=out, check=True)
-        for words in (("check", text, labels), ("edges", text), ("label", text)):
-            whole, part = library_part(program, words)
-            print(f"{words[0]} of 512 objects: {whole}, {whole / part:.2f} times the toml library's own")
+        whole_runs(program, folder, "512 objects", text)
+        # (its scripts are warned of, as nothing runs them)
+        whole_runs(program, folder, "512 objects and 2.4 MB of text", profile.written(folder, "largest.toml", largest()), "--quiet")
         audited(program, folder, text)
         label = counted(program, text, nothing, ("label",))
         why = counted(program, text, nothing, ("why",), ("client_5", f"3/{check.name_of(0, 100)}/2"))
