@@ -17,8 +17,8 @@ use Rattle.meter_theory.specs.declared.refs.Interface.{Interface}
 use Rattle.label_certificate.specs.Granted.{methods_of}
 use Rattle.flow_ways.specs.Found.{distance_of, way_of}
 use Rattle.flow_ways.specs.Granting.{call_in, calls_change, executed_changes, first_call, first_script, or_call, shown_request}
-use Rattle.flow_ways.specs.declared.granting.GrantedRequest.{GrantedRequest}
-use Rattle.flow_ways.specs.declared.granting.GrantedRequest.TheVariants.{Execute}
+use Rattle.flow_map.specs.declared.request.GrantedRequest.{GrantedRequest}
+use Rattle.flow_map.specs.declared.request.GrantedRequest.TheVariants.{Execute}
 use Rattle.bare_plans.specs.Bare.{bare, bare_object, bare_part, bare_script}
 use Rattle.bare_plans.proofs.Flow.{cells-same, first-edge, method-changes-same, ways-same, within-same}
 use Rattle.bare_plans.proofs.Scripts.{found-map, found-object, plain-same, script-same}

@@ -11,16 +11,18 @@ use Rattle.meter_theory.specs.Plan.{Client, Clock, Data1, Object, Part, Plan, Pr
 use Rattle.meter_theory.specs.declared.flow.Label.{Label}
 use Rattle.meter_theory.specs.declared.flow.Reach.TheVariants.{Influence, Learn}
 use Rattle.bare_plans.specs.Bare.{bare_client, bare_object, bare_part}
-use Rattle.flow_changes.specs.Changes.{all_kinds, gained, gains}
+use Rattle.flow_changes.specs.Changes.{gained, gains}
+use Rattle.flow_map.specs.Kinds.{all_kinds}
 use Rattle.flow_changes.specs.Differences.{AreReachChanges, IsReachChange, is_changed}
-use Rattle.flow_changes.specs.Facts.{Configuration, Fact, HasCell, HasEdge, HasSap, IsOpen, Numbered, Reaches, among, common_facts, facts, is_reached, own_facts, rights_on}
+use Rattle.flow_changes.specs.Facts.{Fact, HasCell, HasEdge, HasSap, IsOpen, Numbered, Reaches, among, common_facts, facts, is_reached, own_facts, rights_on}
+use Rattle.flow_facts.specs.Map.{Configuration}
 use Rattle.flow_changes.specs.Singles.{pair_of}
 use Rattle.flow_changes.specs.Written.{AreCompared, IsComparison}
 use Rattle.flow_changes.specs.declared.compare.Comparison.{Comparison}
-use Rattle.flow_changes.specs.declared.kind.Change.{Change}
-use Rattle.flow_changes.specs.declared.kind.Change.TheVariants as changes
-use Rattle.flow_changes.specs.declared.kind.Kind.{Kind}
-use Rattle.flow_changes.specs.declared.kind.Kind.TheVariants as kinds
+use Rattle.flow_map.specs.declared.kind.Change.{Change}
+use Rattle.flow_map.specs.declared.kind.Change.TheVariants as changes
+use Rattle.flow_map.specs.declared.kind.Kind.{Kind}
+use Rattle.flow_map.specs.declared.kind.Kind.TheVariants as kinds
 use Rattle.bare_reports.proofs.Alike.{Alike, through}
 use Rattle.bare_reports.proofs.Reached.{least-alike}
 use Rattle.bare_reports.proofs.Seen.{cells-alike, edges-alike, is_some-map, named-alike, policy-alike}

@@ -5,15 +5,15 @@ use Rattle.meter_theory.specs.Labels.{has}
 use Rattle.meter_theory.specs.Lists.{for_some}
 use Rattle.meter_theory.specs.Plan.{Plan}
 use Rattle.flow_edges.specs.Table.{cell_at}
-use Rattle.flow_ways.specs.Access.{highest_for}
-use Rattle.flow_ways.specs.declared.access.Access.{Access}
-use Rattle.flow_ways.specs.declared.access.Access.TheVariants.{Get, Set, Act}
+use Rattle.flow_facts.specs.Access.{highest_for}
+use Rattle.flow_facts.specs.declared.access.Access.{Access}
+use Rattle.flow_facts.specs.declared.access.Access.TheVariants.{Get, Set, Act}
 use Rattle.flow_changes.specs.Facts.{Fact, Reaches, fact_text}
 use Rattle.flow_changes.specs.declared.compare.Comparison.{Comparison}
-use Rattle.flow_changes.specs.declared.kind.Change.{Change}
-use Rattle.flow_changes.specs.declared.kind.Change.TheVariants.{Gained}
-use Rattle.flow_changes.specs.declared.kind.Kind.{Kind}
-use Rattle.flow_changes.specs.declared.kind.Kind.TheVariants.{May}
+use Rattle.flow_map.specs.declared.kind.Change.{Change}
+use Rattle.flow_map.specs.declared.kind.Change.TheVariants.{Gained}
+use Rattle.flow_map.specs.declared.kind.Kind.{Kind}
+use Rattle.flow_map.specs.declared.kind.Kind.TheVariants.{May}
 use Rattle.flow_changes.specs.Shown.{kind_shown}
 use Rattle.flow_page.specs.declared.changes.Changes.{Changes}
 use Rattle.flow_view.specs.Changes.{AreChangesOf, ChangedShown, all_changed, changes_if_any, fact_told, kinds_of, named_way, names_of, way_of_fact}

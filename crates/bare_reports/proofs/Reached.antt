@@ -22,7 +22,7 @@ use Rattle.bare_plans.specs.Bare.{bare, bare_object, bare_part}
 use Rattle.bare_plans.proofs.Flow.{clock-same}
 use Rattle.bare_plans.proofs.Scripts.{refs-same}
 use Rattle.flow_ways.specs.Found.{AreDistancesOf, Distances}
-use Rattle.plan_lists.specs.Listing.{AreLeastOf}
+use Rattle.flow_facts.specs.Map.{AreLeastOf}
 use Rattle.bare_reports.proofs.Alike.{Alike, alike-sym}
 use Rattle.bare_reports.proofs.Seen.{cells-alike, changes-alike}
 

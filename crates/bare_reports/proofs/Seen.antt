@@ -14,7 +14,7 @@ use Rattle.meter_theory.specs.declared.refs.Interface.{Interface}
 use Rattle.bare_plans.specs.Bare.{bare, bare_client, bare_object}
 use Rattle.bare_plans.proofs.Flow.{cells-same, edges-same, method-changes-same, policy-same}
 use Rattle.bare_plans.proofs.Requests.{distance-same, interface-same, request-same, way-same}
-use Rattle.flow_ways.specs.Access.{is_granted}
+use Rattle.flow_facts.specs.Access.{is_granted}
 use Rattle.flow_ways.specs.Found.{distance_of, way_of}
 use Rattle.flow_ways.specs.Granting.{shown_request}
 use Rattle.flow_changes.proofs.Lists.{map-of-map}

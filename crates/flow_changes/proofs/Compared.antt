@@ -7,23 +7,23 @@ use Rattle.meter_theory.specs.Labels.{Policy, has}
 use Rattle.meter_theory.specs.Lists.{IsIn}
 use Rattle.meter_theory.specs.Plan.{Client, Plan}
 use Rattle.cosem_data.specs.declared.clients.ClientSet.{ClientSet}
-use Rattle.flow_changes.specs.Changes.{all_kinds, changes_of_kind, compare_text, first_line, gainers, gains, kind_lines, somebody_gains}
-use Rattle.flow_changes.specs.Facts.{Configuration, Numbered, numbered}
-use Rattle.plan_lists.specs.Listing.{AreLeastOf}
-use Rattle.plan_lists.specs.declared.fault.ListFault.{ListFault}
-use Rattle.plan_lists.specs.declared.fault.ListFault.TheVariants as faults
-use Rattle.flow_changes.specs.Sides.{IsSide, configuration_of}
+use Rattle.flow_changes.specs.Changes.{changes_of_kind, compare_text, first_line, gainers, gains, kind_lines, somebody_gains}
+use Rattle.flow_map.specs.Kinds.{all_kinds}
+use Rattle.flow_changes.specs.Facts.{Numbered, numbered}
+use Rattle.flow_facts.specs.Map.{Configuration}
+use Rattle.flow_facts.specs.Map.{AreLeastOf}
+use Rattle.whole_writes.specs.declared.fault.ListFault.{ListFault}
+use Rattle.whole_writes.specs.declared.fault.ListFault.TheVariants as faults
 use Rattle.cosem_data.specs.declared.memory.Memory.{Memory}
 use Rattle.flow_changes.specs.Shown.{kind_shown}
 use Rattle.flow_changes.specs.declared.compare.Comparison.{Comparison}
 use Rattle.flow_changes.specs.declared.compare.KindFacts.{KindFacts}
 use Rattle.flow_changes.specs.Written.{AreCompared, IsComparison, IsConfiguration, WritesComparison, WritesSides}
-use Rattle.flow_changes.specs.declared.side.Side.{Side}
 use Rattle.flow_changes.proofs.Lists.{filter-agree, flat_map-of-map}
 use Rattle.flow_changes.proofs.Named.{is-more, names-of, some-named}
 
-is-configuration : (s : Side) (P : Plan) (p : Policy) → IsSide s → s.plan.now ≡ P → s.policy.now ≡ p → IsConfiguration P p (configuration_of s)
-is-configuration s P p a e f = record { of_plan = e; of_policy = f; least = subst (λ Q. AreLeastOf Q s.labels) e a.least }
+is-configuration : (C : Configuration) → AreLeastOf C.plan C.labels → IsConfiguration C.plan C.policy C
+is-configuration C least = record { of_plan = refl; of_policy = refl; least = least }
 
 -- a numbered client stands at its number
 numbered-at : (k : ℕ) (clients : List Client) (n : Numbered) → IsIn (enumerate_from k clients) n → (k ≤ n.0) × (slice_get clients (n.0 - k) ≡ Some n.1)
@@ -63,15 +63,9 @@ pub text-is : (C D : Configuration) (first rest : List ℕ) (kinds : List KindFa
 text-is C D first rest kinds e f g =
     ap₂ (λ a b. a ++ b) e (f ∙ ap (flat_map kind_lines) g ∙ flat_map-of-map kind_lines (changes_of_kind C D) all_kinds)
 
--- the comparison of sides is that of their plans and policies
-pub of-sides : (s t : Side) (P Q : Plan) (p q : Policy) → IsSide s → IsSide t → s.plan.now ≡ P → s.policy.now ≡ p → t.plan.now ≡ Q → t.policy.now ≡ q → (before after : Option (List ℕ)) (r : Result Bool ListFault) →
-    WritesSides (configuration_of s) (configuration_of t) before after r → WritesComparison P p Q q before after r
-of-sides s t P Q p q a b e f g h before after (Err faults.Memory) w = w
-of-sides s t P Q p q a b e f g h before after (Err faults.Write) w = (configuration_of s, configuration_of t, is-configuration s P p a e f, is-configuration t Q q b g h, w)
-of-sides s t P Q p q a b e f g h before after (Ok some) w = (configuration_of s, configuration_of t, is-configuration s P p a e f, is-configuration t Q q b g h, w)
-
--- and so is what is told of them beside each other
-pub of-compared : (s t : Side) (P Q : Plan) (p q : Policy) → IsSide s → IsSide t → s.plan.now ≡ P → s.policy.now ≡ p → t.plan.now ≡ Q → t.policy.now ≡ q → (r : Result Comparison Memory) →
-    IfOk r (AreCompared (configuration_of s) (configuration_of t)) → IfOk r (IsComparison P p Q q)
-of-compared s t P Q p q a b e f g h (Ok told) are = (configuration_of s, configuration_of t, is-configuration s P p a e f, is-configuration t Q q b g h, are)
-of-compared s t P Q p q a b e f g h (Err fault) are = tt
+-- the comparison of configurations is that of their plans and policies
+pub of-sides : (C D : Configuration) → AreLeastOf C.plan C.labels → AreLeastOf D.plan D.labels → (before after : Option (List ℕ)) (r : Result Bool ListFault) →
+    WritesSides C D before after r → WritesComparison C.plan C.policy D.plan D.policy before after r
+of-sides C D a b before after (Err faults.Memory) w = w
+of-sides C D a b before after (Err faults.Write) w = (C, D, is-configuration C a, is-configuration D b, w)
+of-sides C D a b before after (Ok some) w = (C, D, is-configuration C a, is-configuration D b, w)

@@ -13,13 +13,15 @@ use Rattle.meter_theory.specs.Edges.{edges, same_edge}
 use Rattle.meter_theory.specs.Labels.{has}
 use Rattle.meter_theory.specs.Plan.{Client, Plan, cells, is_cell}
 use Rattle.meter_theory.specs.declared.flow.Edge.{Edge}
-use Rattle.flow_changes.specs.Changes.{KindShown, all_kinds, changes_of_kind, gained, gains, lacks}
-use Rattle.flow_changes.specs.Facts.{Configuration, Fact, HasCell, HasEdge, Numbered, among, common_facts, facts, numbered, own_facts, same_fact}
+use Rattle.flow_changes.specs.Changes.{KindShown, changes_of_kind, gained, gains, lacks}
+use Rattle.flow_map.specs.Kinds.{all_kinds}
+use Rattle.flow_changes.specs.Facts.{Fact, HasCell, HasEdge, Numbered, among, common_facts, facts, numbered, own_facts, same_fact}
+use Rattle.flow_facts.specs.Map.{Configuration}
 use Rattle.flow_changes.specs.Shown.{kind_shown, shown}
 use Rattle.flow_changes.specs.declared.compare.KindFacts.{KindFacts}
 use Rattle.flow_changes.specs.declared.fact.Fact.{Fact as FactKept}
-use Rattle.flow_changes.specs.declared.kind.Kind.{Kind}
-use Rattle.flow_changes.specs.declared.kind.Kind.TheVariants as kinds
+use Rattle.flow_map.specs.declared.kind.Kind.{Kind}
+use Rattle.flow_map.specs.declared.kind.Kind.TheVariants as kinds
 use Rattle.flow_changes.proofs.Lists.{any-of-filter, filter-agree, filter-flat_map, filter-map, list_any-map, seen-more}
 
 -- facts grow by what a filter leaves where something passes

@@ -16,14 +16,16 @@ use Rattle.meter_theory.specs.Rights.{has_right}
 use Rattle.meter_theory.specs.Sound.{IsSound}
 use Rattle.meter_theory.proofs.Agreement.{object-found}
 use Rattle.meter_theory.proofs.Lists.{any_in, in_any, in_append_left, in_append_right, in_filter, in_flat_map, in_map, none_in}
-use Rattle.flow_changes.specs.Changes.{all_kinds, gains, lacks}
-use Rattle.flow_changes.specs.Facts.{Configuration, Fact, HasSap, Holds, IsOpen, Numbered, Reaches, Views, among, facts, is_granted, is_reached, members_for, numbered, own_facts, reached, rights_on, same_fact, shared_policy, told_of_client}
+use Rattle.flow_changes.specs.Changes.{gains, lacks}
+use Rattle.flow_map.specs.Kinds.{all_kinds}
+use Rattle.flow_changes.specs.Facts.{Fact, HasSap, Holds, IsOpen, Numbered, Reaches, Views, among, facts, is_granted, is_reached, members_for, numbered, own_facts, reached, rights_on, same_fact, shared_policy, told_of_client}
+use Rattle.flow_facts.specs.Map.{Configuration}
 use Rattle.meter_theory.specs.Ways.{set_for}
 use Rattle.flow_changes.specs.Promises.{HasReach, IsNamed, LiesWithin, NamedHolds, NamedLabelling, NamedReaches, NamedSees, NobodyGains, least, policy_of}
-use Rattle.flow_ways.specs.declared.access.Access.{Access}
-use Rattle.flow_ways.specs.declared.access.Access.TheVariants as accesses
-use Rattle.flow_changes.specs.declared.kind.Kind.{Kind}
-use Rattle.flow_changes.specs.declared.kind.Kind.TheVariants as kinds
+use Rattle.flow_facts.specs.declared.access.Access.{Access}
+use Rattle.flow_facts.specs.declared.access.Access.TheVariants as accesses
+use Rattle.flow_map.specs.declared.kind.Kind.{Kind}
+use Rattle.flow_map.specs.declared.kind.Kind.TheVariants as kinds
 use Rattle.meter_theory.specs.declared.flow.Reach.{Reach}
 use Rattle.meter_theory.specs.declared.flow.Reach.TheVariants as reaches
 use Rattle.flow_changes.proofs.OwnFacts.{allowed-facts, client-facts, may-facts, right-facts}

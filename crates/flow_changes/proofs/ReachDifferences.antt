@@ -12,10 +12,10 @@ use Rattle.meter_theory.specs.Plan.{cells, client_named}
 use Rattle.meter_theory.specs.Sound.{IsSound}
 use Rattle.meter_theory.specs.declared.flow.Label.{Label}
 use Rattle.flow_changes.specs.Differences.{AreReachChanges, IsChanged, IsReachChange, is_changed}
-use Rattle.flow_changes.specs.Facts.{Configuration}
+use Rattle.flow_facts.specs.Map.{Configuration}
 use Rattle.flow_changes.specs.Singles.{pair_told}
-use Rattle.flow_changes.specs.declared.kind.Change.{Change}
-use Rattle.flow_changes.specs.declared.kind.Kind.TheVariants.{May}
+use Rattle.flow_map.specs.declared.kind.Change.{Change}
+use Rattle.flow_map.specs.declared.kind.Kind.TheVariants.{May}
 use Rattle.flow_changes.specs.declared.labels.Pair.{Pair}
 
 of-mapped : {A B C : Type 0} (f : A → B) (R : B → C → Type 0) (S : A → C → Type 0) → ((x : A) (y : C) → R (f x) y → S x y) → (xs : List A) (ys : List C) → AllZip R (map f xs) ys → AllZip S xs ys

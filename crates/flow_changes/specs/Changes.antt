@@ -1,15 +1,13 @@
 -- How two configurations differ, and who gains by it. All of it is own profile.
 use Rattle.std.specs.Prelude.{ℕ, Bool, not, List, [], ◌∷◌, ◌++◌, codes, filter, flat_map, map}
 use Rattle.std.specs.List.{join_with_byte, list_any}
-use Rattle.flow_changes.specs.Facts.{Configuration, Fact, Numbered, among, fact_text, facts, numbered, own_facts}
-use Rattle.flow_changes.specs.declared.kind.Change.{Change}
-use Rattle.flow_changes.specs.declared.kind.Change.TheVariants as changes
-use Rattle.flow_changes.specs.declared.kind.Kind.{Kind}
-use Rattle.flow_changes.specs.declared.kind.Kind.TheVariants as kinds
-
--- the kinds of facts, in the order in which they are told
-abbrev pub all_kinds : List Kind
-all_kinds = kinds.May ∷ kinds.Allowed ∷ kinds.Right ∷ kinds.Client ∷ kinds.Cell ∷ kinds.Edge ∷ []
+use Rattle.flow_changes.specs.Facts.{Fact, Numbered, among, fact_text, facts, numbered, own_facts}
+use Rattle.flow_facts.specs.Map.{Configuration}
+use Rattle.flow_map.specs.Kinds.{all_kinds, change_sign, kind_word}
+use Rattle.flow_map.specs.declared.kind.Change.{Change}
+use Rattle.flow_map.specs.declared.kind.Change.TheVariants as changes
+use Rattle.flow_map.specs.declared.kind.Kind.{Kind}
+use Rattle.flow_map.specs.declared.kind.Kind.TheVariants as kinds
 
 -- the one configuration lacks this fact of the other
 abbrev pub lacks : Configuration → Configuration → Kind → Fact → Bool
@@ -45,18 +43,6 @@ abbrev pub somebody_gains : (old new : Configuration) → Bool
 somebody_gains old new = list_any (gains old new) (numbered new.plan)
 
 -- The text
-
-abbrev pub kind_word : Kind → List ℕ
-kind_word kinds.May = codes "may"
-kind_word kinds.Allowed = codes "allowed"
-kind_word kinds.Right = codes "right"
-kind_word kinds.Client = codes "client"
-kind_word kinds.Cell = codes "cell"
-kind_word kinds.Edge = codes "edge"
-
-abbrev pub change_sign : Change → List ℕ
-change_sign changes.Gained = codes "+"
-change_sign changes.Lost = codes "-"
 
 -- a fact that is gained or lost, in a line of its own
 abbrev pub line : Change → Kind → Fact → List ℕ

@@ -17,19 +17,14 @@ use Rattle.meter_theory.specs.declared.flow.Reach.{Reach}
 use Rattle.meter_theory.specs.declared.flow.Reach.TheVariants as reaches
 use Rattle.value_text.specs.Edges.{edge_text}
 use Rattle.value_text.specs.Texts.{cell_text}
-use Rattle.flow_ways.specs.Access as ways
-use Rattle.flow_ways.specs.Access.{access_word, highest_for}
-use Rattle.flow_ways.specs.Why.{reach_word}
-use Rattle.flow_ways.specs.declared.access.Access.{Access}
-use Rattle.flow_ways.specs.declared.access.Access.TheVariants as accesses
-use Rattle.flow_changes.specs.declared.kind.Kind.{Kind}
-use Rattle.flow_changes.specs.declared.kind.Kind.TheVariants as kinds
-
--- a configuration, with the least labels of its plan
-pub record Configuration : Type 0 where
-  pub plan : Plan
-  pub policy : Policy
-  pub labels : Labels
+use Rattle.flow_facts.specs.Access as ways
+use Rattle.flow_facts.specs.Access.{access_word, highest_for}
+use Rattle.flow_map.specs.Reaches.{reach_word}
+use Rattle.flow_facts.specs.declared.access.Access.{Access}
+use Rattle.flow_facts.specs.declared.access.Access.TheVariants as accesses
+use Rattle.flow_facts.specs.Map.{Configuration}
+use Rattle.flow_map.specs.declared.kind.Kind.{Kind}
+use Rattle.flow_map.specs.declared.kind.Kind.TheVariants as kinds
 
 -- What may be told. A client is told by its name, an object by its class and name.
 pub data Fact : Type 0 where

@@ -1,7 +1,6 @@
 pub mod Facts
 pub mod Changes
 pub mod Shown
-pub mod Sides
 pub mod Singles
 pub mod Differences
 pub mod Lacked

@@ -3,15 +3,17 @@ use Rattle.std.specs.Prelude.{◌≡◌, Bool, List, [], ℕ, Option, Some, Resu
 use Rattle.std.specs.Io.KnownBytes.{Appends}
 use Rattle.meter_theory.specs.Labels.{Policy, has}
 use Rattle.meter_theory.specs.Plan.{Client, Plan}
-use Rattle.plan_lists.specs.Listing.{AreLeastOf, WritesText}
-use Rattle.plan_lists.specs.declared.fault.ListFault.{ListFault}
-use Rattle.plan_lists.specs.declared.fault.ListFault.TheVariants as faults
-use Rattle.flow_changes.specs.Changes.{all_kinds, changes_of_kind, compare_text, gains, somebody_gains}
+use Rattle.whole_writes.specs.Written.{WritesText}
+use Rattle.flow_facts.specs.Map.{AreLeastOf}
+use Rattle.whole_writes.specs.declared.fault.ListFault.{ListFault}
+use Rattle.whole_writes.specs.declared.fault.ListFault.TheVariants as faults
+use Rattle.flow_changes.specs.Changes.{changes_of_kind, compare_text, gains, somebody_gains}
+use Rattle.flow_map.specs.Kinds.{all_kinds}
 use Rattle.flow_changes.specs.Differences.{AreReachChanges}
-use Rattle.flow_changes.specs.Facts.{Configuration}
+use Rattle.flow_facts.specs.Map.{Configuration}
 use Rattle.flow_changes.specs.Shown.{kind_shown}
 use Rattle.flow_changes.specs.declared.compare.Comparison.{Comparison}
-use Rattle.flow_changes.specs.declared.kind.Change.TheVariants as changes
+use Rattle.flow_map.specs.declared.kind.Change.TheVariants as changes
 
 -- the configuration of a plan and a policy, with labels that are the plan's least
 pub record IsConfiguration (P : Plan) (policy : Policy) (C : Configuration) : Type 0 where

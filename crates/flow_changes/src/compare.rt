@@ -7,47 +7,43 @@ ghost use Rattle.meter_theory.specs.Plan.{Client as ClientValue};
 ghost use Rattle.flow_changes.specs.Changes as changes;
 ghost use Rattle.flow_changes.specs.Facts.{common_facts, own_facts};
 ghost use Rattle.flow_changes.specs.Shown.{kind_shown, shown};
-ghost use Rattle.flow_changes.specs.Sides.{IsSide, configuration_of};
-ghost use Rattle.flow_changes.specs.Written.{AreCompared, IsComparison, WritesComparison, WritesSides};
+ghost use Rattle.flow_map.specs.Kinds.{all_kinds};
+ghost use Rattle.flow_changes.specs.Written.{AreCompared, WritesComparison, WritesSides};
 
 use crate::cells::push_cells;
 use crate::differences::reach_changes;
 use crate::edges::push_edges;
 use crate::fact::Fact;
-use crate::kind::{Change, KINDS, Kind};
 use crate::owned::push_owned;
-use crate::side::Side;
 use crate::text::{first_line, lines_of, names_of};
 use cosem_data::clients::ClientSet;
 use cosem_data::memory::Memory;
+use flow_facts::map::FlowMap;
+use flow_map::kind::{Change, KINDS, Kind};
 use meter_theory::flow::Label;
-use object_model::plan::Plan;
-use object_model::policy::Policy;
-use plan_lists::fault::ListFault;
 use std::alloc::Global;
 use std::io::Write;
+use whole_writes::fault::ListFault;
 use whole_writes::{WriteFailed, write_whole};
 
-/// Writes how a new configuration differs from an old one (own profile): a line with the names of the clients that gain, and
-/// of each kind of facts a line for each that only the new one has, then one for each that only the old one has. Tells
-/// whether somebody gains. All is made before the first byte is written.
+/// Writes how a new configuration differs from an old one: a line with the names of the clients that gain, and of each kind of
+/// facts a line for each that only the new one has, then one for each that only the old one has. Says whether somebody gains. All
+/// is made before the first byte is written.
 ///
 /// # Errors
 /// Memory was refused, and nothing was written; or a write failed, and a beginning of the text was written.
 pub fn write_comparison<W: Write>(
     alloc: Global,
-    old: &Plan,
-    old_policy: &Policy,
-    new: &Plan,
-    new_policy: &Policy,
+    old: &FlowMap<'_>,
+    new: &FlowMap<'_>,
     writer: &mut W,
 ) -> Result<bool, ListFault>
-    ensures { WritesComparison old.now old_policy.now new.now new_policy.now
+    ensures { WritesComparison old.now.plan old.now.policy new.now.plan new.now.policy
         (W.contents writer.old) (W.contents writer.new) result }
 {
-    let old = Side::new(alloc, old, old_policy)?;
-    let new = Side::new(alloc, new, new_policy)?;
-    write_sides(alloc, &old, &new, writer)
+    old.known();
+    new.known();
+    write_sides(alloc, old, new, writer)
 }
 
 /// The facts of one kind that are gained and lost.
@@ -74,30 +70,13 @@ pub struct Comparison<'a> {
     pub lost: Vec<Label>,
 }
 
-/// How a new configuration differs from an old one (own profile). The only error is want of memory.
+/// How a new configuration differs from an old one. The only error is want of memory.
 pub fn compare<'a>(
     alloc: Global,
-    old: &'a Plan,
-    old_policy: &Policy,
-    new: &'a Plan,
-    new_policy: &Policy,
+    old: &FlowMap<'a>,
+    new: &FlowMap<'a>,
 ) -> Result<Comparison<'a>, Memory>
-    ensures { IfOk result (IsComparison old.now old_policy.now new.now new_policy.now) }
-{
-    let old = Side::new(alloc, old, old_policy)?;
-    let new = Side::new(alloc, new, new_policy)?;
-    compare_sides(alloc, &old, &new)
-}
-
-/// How two sides differ.
-fn compare_sides<'a>(
-    alloc: Global,
-    old: &Side<'a, '_>,
-    new: &Side<'a, '_>,
-) -> Result<Comparison<'a>, Memory>
-    requires old { IsSide old.now }
-    requires new { IsSide new.now }
-    ensures { IfOk result (AreCompared (configuration_of old.now) (configuration_of new.now)) }
+    ensures { IfOk result (AreCompared old.now new.now) }
 {
     let mut kinds = Vec::new(alloc);
     let gainers = push_kinds(alloc, old, new, &mut kinds)?;
@@ -114,18 +93,16 @@ fn compare_sides<'a>(
 /// Writes how two sides differ, and tells whether somebody gains. All is made before the first byte is written.
 fn write_sides<'a, W: Write>(
     alloc: Global,
-    old: &Side<'a, '_>,
-    new: &Side<'a, '_>,
+    old: &FlowMap<'a>,
+    new: &FlowMap<'a>,
     writer: &mut W,
 ) -> Result<bool, ListFault>
-    requires old { IsSide old.now }
-    requires new { IsSide new.now }
-    ensures { WritesSides (configuration_of old.now) (configuration_of new.now)
+    ensures { WritesSides old.now new.now
         (W.contents writer.old) (W.contents writer.new) result }
 {
     let mut kinds = Vec::new(alloc);
     let gaining = push_kinds(alloc, old, new, &mut kinds)?;
-    let names = names_of(alloc, new.plan, gaining)?;
+    let names = names_of(alloc, new.plan(), gaining)?;
     let first = first_line(alloc, &names)?;
     let lines = lines_of(alloc, &kinds)?;
     write_both(&first, lines.as_bytes(), writer)?;
@@ -150,17 +127,15 @@ fn write_both<W: Write>(first: &[u8], second: &[u8], writer: &mut W) -> Result<(
 /// Puts what is gained and lost of each kind behind other kinds, and gives the clients of the new side that gain.
 fn push_kinds<'a>(
     alloc: Global,
-    old: &Side<'a, '_>,
-    new: &Side<'a, '_>,
+    old: &FlowMap<'a>,
+    new: &FlowMap<'a>,
     kinds: &mut Vec<KindFacts<'a>>,
 ) -> Result<ClientSet, Memory>
-    requires old { IsSide old.now }
-    requires new { IsSide new.now }
     ensures kinds { OnOk result (map kind_shown kinds.new.items ≡ map kind_shown kinds.old.items
-        ++ map (changes.changes_of_kind (configuration_of old.now) (configuration_of new.now)) changes.all_kinds) }
+        ++ map (changes.changes_of_kind old.now new.now) all_kinds) }
     ensures clients { IfOk result (λ set. (c : ℕ) (client : ClientValue) →
-        slice_get new.now.plan.now.clients c ≡ Some client →
-        has set c ≡ changes.gains (configuration_of old.now) (configuration_of new.now) (c, client)) }
+        slice_get new.now.plan.clients c ≡ Some client →
+        has set c ≡ changes.gains old.now new.now (c, client)) }
 {
     let mut gaining = ClientSet::new();
     for kind in KINDS {
@@ -178,15 +153,13 @@ fn push_kinds<'a>(
 fn push_facts<'a>(
     alloc: Global,
     kind: Kind,
-    mine: &Side<'a, '_>,
-    theirs: &Side<'a, '_>,
+    mine: &FlowMap<'a>,
+    theirs: &FlowMap<'a>,
     facts: &mut Vec<Fact<'a>>,
 ) -> Result<ClientSet, Memory>
-    requires mine { IsSide mine.now }
-    requires theirs { IsSide theirs.now }
     ensures facts { OnOk result (map shown facts.new.items ≡ map shown facts.old.items
-        ++ changes.gained (configuration_of theirs.now) (configuration_of mine.now) kind) }
-    ensures clients { let C = configuration_of mine.now in let D = configuration_of theirs.now in
+        ++ changes.gained (theirs.now) (mine.now) kind) }
+    ensures clients { let C = mine.now in let D = theirs.now in
         IfOk result (λ set. (c : ℕ) (client : ClientValue) → slice_get C.plan.clients c ≡ Some client →
         has set c ≡ list_any (changes.lacks D C kind) (own_facts C D kind (c, client))) }
 {
@@ -199,19 +172,17 @@ fn push_facts<'a>(
 fn push_common(
     alloc: Global,
     kind: Kind,
-    mine: &Side<'_, '_>,
-    theirs: &Side<'_, '_>,
+    mine: &FlowMap<'_>,
+    theirs: &FlowMap<'_>,
     facts: &mut Vec<Fact<'_>>,
 ) -> Result<(), Memory>
-    requires mine { IsSide mine.now }
-    requires theirs { IsSide theirs.now }
-    ensures { let C = configuration_of mine.now in let D = configuration_of theirs.now in
+    ensures { let C = mine.now in let D = theirs.now in
         OnOk result (map shown facts.new.items ≡ map shown facts.old.items
         ++ filter (changes.lacks D C kind) (common_facts C kind)) }
 {
     match kind {
-        Kind::Cell => push_cells(mine.table.cells(), theirs.plan, facts),
-        Kind::Edge => push_edges(alloc, &mine.table, theirs.plan, &theirs.table, facts),
+        Kind::Cell => push_cells(mine.cells(), theirs.plan(), facts),
+        Kind::Edge => push_edges(alloc, mine.table(), theirs.plan(), theirs.table(), facts),
         _ => Ok(()),
     }
 }

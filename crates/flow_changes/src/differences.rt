@@ -3,15 +3,14 @@ ghost use Rattle.std.specs.Prelude.{◌≡◌, ◌<◌, ℕ, IfOk, IfSome, None,
 ghost use Rattle.meter_theory.specs.Labels.{has};
 ghost use Rattle.meter_theory.specs.Plan as plans;
 ghost use Rattle.flow_changes.specs.Differences as spec;
-ghost use Rattle.flow_changes.specs.Sides.{IsSide, configuration_of};
 
-use crate::kind::{Change, Kind};
 use crate::labels::Pair;
 use crate::owned::pairs_for;
 use crate::reaches::{is_new, is_old};
-use crate::side::Side;
 use cosem_data::clients::ClientSet;
 use cosem_data::memory::Memory;
+use flow_facts::map::FlowMap;
+use flow_map::kind::{Change, Kind};
 use meter_theory::flow::{Label, Reach};
 use meter_theory::limits::CLIENTS;
 use object_model::plan::Plan;
@@ -22,16 +21,15 @@ use std::alloc::Global;
 pub(crate) fn reach_changes(
     alloc: Global,
     change: Change,
-    old: &Side<'_, '_>,
-    new: &Side<'_, '_>,
+    old: &FlowMap<'_>,
+    new: &FlowMap<'_>,
 ) -> Result<Vec<Label>, Memory>
-    requires old { IsSide old.now }
-    requires new { IsSide new.now }
     ensures { IfOk result (λ labels. spec.AreReachChanges change
-        (configuration_of old.now) (configuration_of new.now) labels.items) }
+        old.now new.now labels.items) }
 {
+    new.known();
     let pairs = pairs_for(alloc, Kind::May, new, old)?;
-    let others = namesakes(alloc, new.plan, old.plan)?;
+    let others = namesakes(alloc, new.plan(), old.plan())?;
     let mut labels = Vec::with_capacity(alloc, pairs.len())?;
     for pair in &pairs {
         labels.push(label_changed(change, &others, pair))?;

@@ -1,8 +1,8 @@
 //! What is told of a configuration, fact by fact.
 use cosem_data::cell::CellRef;
 use cosem_data::name::LogicalName;
-use flow_ways::access::Access;
-use flow_ways::why::reach_word;
+use flow_facts::access::Access;
+use flow_map::reach_words::reach_word;
 use meter_theory::flow::{Edge, Reach};
 use std::fmt;
 use value_text::cell::CellText;

@@ -4,10 +4,10 @@ ghost use Rattle.meter_theory.specs.Labels as theory;
 ghost use Rattle.meter_theory.specs.Plan as plans;
 ghost use Rattle.flow_changes.specs.Singles.{pair_of};
 
-use crate::kind::Kind;
 use cosem_data::cell::CellRef;
 use cosem_data::clients::ClientSet;
 use cosem_data::memory::Memory;
+use flow_map::kind::Kind;
 use meter_theory::flow::Label;
 use object_model::plan::Plan;
 use std::alloc::Global;

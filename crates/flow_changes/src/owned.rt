@@ -6,19 +6,18 @@ ghost use Rattle.meter_theory.specs.Plan.{Client as ClientValue};
 ghost use Rattle.flow_changes.specs.Changes.{lacks};
 ghost use Rattle.flow_changes.specs.Facts.{numbered, own_facts};
 ghost use Rattle.flow_changes.specs.Shown.{shown};
-ghost use Rattle.flow_changes.specs.Sides.{IsSide, configuration_of};
 ghost use Rattle.flow_changes.specs.Singles.{ArePairs};
 
 use crate::clients::push_client;
 use crate::fact::Fact;
-use crate::kind::Kind;
 use crate::labels::{Pair, pairs_of};
 use crate::namesakes::Namesakes;
 use crate::reaches::push_reaches;
 use crate::rights::push_rights;
-use crate::side::Side;
 use cosem_data::clients::ClientSet;
 use cosem_data::memory::Memory;
+use flow_facts::map::FlowMap;
+use flow_map::kind::Kind;
 use object_model::client::Client;
 use object_model::plan::Plan;
 use std::alloc::Global;
@@ -28,24 +27,23 @@ use std::alloc::Global;
 pub(crate) fn push_owned<'a>(
     alloc: Global,
     kind: Kind,
-    mine: &Side<'a, '_>,
-    theirs: &Side<'a, '_>,
+    mine: &FlowMap<'a>,
+    theirs: &FlowMap<'a>,
     facts: &mut Vec<Fact<'a>>,
 ) -> Result<ClientSet, Memory>
-    requires mine { IsSide mine.now }
-    requires theirs { IsSide theirs.now }
-    ensures facts { let C = configuration_of mine.now in let D = configuration_of theirs.now in
+    ensures facts { let C = mine.now in let D = theirs.now in
         OnOk result (map shown facts.new.items ≡ map shown facts.old.items
         ++ filter (lacks D C kind) (flat_map (own_facts C D kind) (numbered C.plan))) }
-    ensures clients { let C = configuration_of mine.now in let D = configuration_of theirs.now in
+    ensures clients { let C = mine.now in let D = theirs.now in
         IfOk result (λ set. (c : ℕ) (client : ClientValue) → slice_get C.plan.clients c ≡ Some client →
         has set c ≡ list_any (lacks D C kind) (own_facts C D kind (c, client))) }
 {
-    mine.plan.known();
+    mine.known();
+    let plan = mine.plan();
     let pairs = pairs_for(alloc, kind, mine, theirs)?;
     let mut owners = ClientSet::new();
     let mut place = 0;
-    while let Some(client) = mine.plan.client(place) {
+    while let Some(client) = plan.client(place) {
         let before = facts.len();
         push_own(kind, mine, theirs, &pairs, place, client, facts)?;
         if before < facts.len() {
@@ -60,24 +58,29 @@ pub(crate) fn push_owned<'a>(
 pub(crate) fn pairs_for(
     alloc: Global,
     kind: Kind,
-    mine: &Side<'_, '_>,
-    theirs: &Side<'_, '_>,
+    mine: &FlowMap<'_>,
+    theirs: &FlowMap<'_>,
 ) -> Result<Vec<Pair>, Memory>
-    requires mine { IsSide mine.now }
-    requires theirs { IsSide theirs.now }
     ensures { IfOk result (λ pairs.
-        ArePairs kind (configuration_of mine.now) (configuration_of theirs.now) pairs.items) }
+        ArePairs kind (mine.now) (theirs.now) pairs.items) }
 {
-    let cells = mine.table.cells();
+    let cells = mine.cells();
     match kind {
-        Kind::May => pairs_of(alloc, kind, cells, &mine.may, theirs.plan, &theirs.may),
+        Kind::May => pairs_of(
+            alloc,
+            kind,
+            cells,
+            mine.least(),
+            theirs.plan(),
+            theirs.least(),
+        ),
         Kind::Allowed => pairs_of(
             alloc,
             kind,
             cells,
-            &mine.allowed,
-            theirs.plan,
-            &theirs.allowed,
+            mine.allowed(),
+            theirs.plan(),
+            theirs.allowed(),
         ),
         _ => Ok(Vec::new(alloc)),
     }
@@ -86,33 +89,32 @@ pub(crate) fn pairs_for(
 /// Puts the facts of a kind behind others that are this client's own and that the other side lacks.
 fn push_own<'a>(
     kind: Kind,
-    mine: &Side<'a, '_>,
-    theirs: &Side<'a, '_>,
+    mine: &FlowMap<'a>,
+    theirs: &FlowMap<'a>,
     pairs: &[Pair],
     place: u8,
     client: &'a Client,
     facts: &mut Vec<Fact<'a>>,
 ) -> Result<(), Memory>
-    requires mine { IsSide mine.now }
-    requires theirs { IsSide theirs.now }
-    requires client { slice_get mine.now.plan.now.clients place ≡ Some client.now }
-    requires pairs { ArePairs kind (configuration_of mine.now) (configuration_of theirs.now) pairs.now }
-    ensures { let C = configuration_of mine.now in let D = configuration_of theirs.now in
+    requires client { slice_get mine.now.plan.clients place ≡ Some client.now }
+    requires pairs { ArePairs kind (mine.now) (theirs.now) pairs.now }
+    ensures { let C = mine.now in let D = theirs.now in
         OnOk result (map shown facts.new.items ≡ map shown facts.old.items
         ++ filter (lacks D C kind) (own_facts C D kind (place, client.now))) }
 {
+    theirs.known();
     let who = Namesakes {
         name: client.name_text(),
-        plan: mine.plan,
+        plan: mine.plan(),
         client: place,
-        other_plan: theirs.plan,
-        other: theirs.plan.client_named(client.name()),
+        other_plan: theirs.plan(),
+        other: theirs.plan().client_named(client.name()),
     };
     match kind {
-        Kind::May => push_reaches(&who, mine.table.cells(), pairs, facts),
-        Kind::Allowed => push_reaches(&who, mine.table.cells(), pairs, facts),
+        Kind::May => push_reaches(&who, mine.cells(), pairs, facts),
+        Kind::Allowed => push_reaches(&who, mine.cells(), pairs, facts),
         Kind::Right => push_rights(&who, facts),
-        Kind::Client => push_client(client, client_at(theirs.plan, who.other), facts),
+        Kind::Client => push_client(client, client_at(theirs.plan(), who.other), facts),
         Kind::Cell | Kind::Edge => Ok(()),
     }
 }

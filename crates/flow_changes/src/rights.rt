@@ -11,7 +11,7 @@ use crate::namesakes::Namesakes;
 use cosem_data::cell::CellRef;
 use cosem_data::memory::Memory;
 use cosem_data::name::LogicalName;
-use flow_ways::access::Access;
+use flow_facts::access::Access;
 use object_model::instance::Instance;
 use object_model::object::Object;
 use object_model::plan::Plan;

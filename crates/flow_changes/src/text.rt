@@ -7,9 +7,9 @@ ghost use Rattle.flow_changes.specs.Shown.{kind_shown, shown};
 
 use crate::compare::KindFacts;
 use crate::fact::Fact;
-use crate::kind::{Change, Kind};
 use cosem_data::clients::ClientSet;
 use cosem_data::memory::Memory;
+use flow_map::kind::{Change, Kind};
 use object_model::plan::Plan;
 use std::alloc::Global;
 

@@ -1,7 +1,5 @@
 pub mod Crossing
-pub mod Firsts
 pub mod Within
-pub mod Answering
-pub mod Failing
-pub mod NothingFails
+pub mod ByNumber
+pub mod FirstFails
 pub mod Looked

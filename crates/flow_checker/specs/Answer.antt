@@ -7,11 +7,23 @@ use Rattle.meter_theory.specs.declared.flow.Refusal.{Refusal}
 use Rattle.meter_theory.specs.declared.flow.Refusal.TheVariants as theory
 use Rattle.flow_checker.specs.declared.check.Refused.{Refused}
 use Rattle.flow_checker.specs.declared.check.Refused.TheVariants as told
+use Rattle.flow_checker.specs.declared.failure.Failure.{Failure}
+use Rattle.flow_checker.specs.declared.failure.Failure.TheVariants as failures
 
 -- no refusal where all clauses pass, and else the one that the definition names: own profile
 abbrev pub IsAnswer : Plan → Labelling → Labels → Option Refusal → Type 0
 IsAnswer P policy labels None = AllPass P policy labels
 IsAnswer P policy labels (Some r) = Refuses P policy labels r
+
+-- the refusal that a failure is, where it is the first: own profile
+abbrev pub refusal_of : Failure → Refusal
+refusal_of (failures.NotLabelled x) = theory.NotLabelled x
+refusal_of (failures.InfluencePastPolicy x clients) = theory.PastPolicy x
+refusal_of (failures.LearnPastPolicy x clients) = theory.PastPolicy x
+refusal_of (failures.Changer c x) = theory.Changer c x
+refusal_of (failures.Reader c x) = theory.Reader c x
+refusal_of (failures.InfluenceEscapes e clients) = theory.InfluenceEscapes e
+refusal_of (failures.LearnEscapes e clients) = theory.LearnEscapes e
 
 abbrev pub name_in : Option Client → List ℕ
 name_in None = []

@@ -1,7 +1,5 @@
-pub mod First
-pub mod Numbered
 pub mod Answer
 pub mod Failures
-pub mod FailingRows
+pub mod Clauses
 pub mod Accepted
 pub mod Notices

@@ -10,8 +10,9 @@ ghost use Rattle.flow_checker.specs.Answer.{IsRefusedAs, name_at};
 use crate::refusal::first_refusal;
 use cosem_data::cell::CellRef;
 use cosem_data::memory::Memory;
+use flow_facts::map::FlowMap;
 use label_certificate::labels::Labels;
-use label_certificate::numbered::{policy_labels, source_of};
+use label_certificate::numbered::source_of;
 use meter_effects::promises::{admitted_is_influence_safe, admitted_is_secret};
 use meter_theory::flow::{Edge, Label, Refusal};
 use meter_theory::laws::tests_decide_admission;
@@ -22,7 +23,7 @@ use std::marker::Model;
 use std::sync::Arc;
 
 /// Why labels are refused: the first cell, right or edge of the plan that fails the first clause which any fails, or that
-/// memory was refused (own profile). A client is told by its name.
+/// memory was refused (own profile). A client is given by its name.
 #[derive(Debug, Drop)]
 pub enum Refused {
     /// The cell has no label.
@@ -39,6 +40,17 @@ pub enum Refused {
     LearnEscapes(Edge),
     /// Memory was refused, and nothing is known of the labels.
     Memory,
+}
+
+impl From<Memory> for Refused {
+    ghost use Rattle.std.specs.Prelude.{◌≡◌};
+    ghost use Rattle.flow_checker.specs.declared.check.Refused.TheVariants as variants;
+
+    ghost from_gives = { λ _ refused. refused ≡ variants.Memory };
+
+    fn from(_: Memory) -> Refused {
+        Refused::Memory
+    }
 }
 
 /// A plan and its policy, for which labels were accepted: only [`check`] makes one, and [`Checked::share`] another owner of it
@@ -185,25 +197,28 @@ fn judged(
     ensures refused { IfErr result (λ e. IsRefusedAs plan.now
         (labelling_of_policy plan.now policy.now) labels.now e) }
 {
-    plan.known();
+    let map = FlowMap::new(alloc, plan, policy)?;
+    verdict_on(alloc, &map, labels)?;
+    Ok((policy.try_clone(alloc)?, map.into_allowed()))
+}
+
+/// Whether labels pass the six clauses of admission for the plan and the policy of a map, or else what fails the first clause that
+/// any fails. Where memory is refused nothing is known (own profile).
+pub fn verdict_on(alloc: Global, map: &FlowMap<'_>, labels: &Labels) -> Result<(), Refused>
+    ensures admitted { OnOk result (Admits map.now.plan
+        (labelling_of_policy map.now.plan map.now.policy) labels.now) }
+    ensures refused { IfErr result (λ e. IsRefusedAs map.now.plan
+        (labelling_of_policy map.now.plan map.now.policy) labels.now e) }
+{
+    map.known();
     tests_decide_admission();
-    match first_refusal(alloc, plan, policy, labels) {
-        Ok(None) => kept(alloc, plan, policy).map_err(|_| Refused::Memory),
-        Ok(Some(refusal)) => Err(told(alloc, plan, refusal)),
-        Err(_) => Err(Refused::Memory),
+    match first_refusal(alloc, map, labels)? {
+        None => Ok(()),
+        Some(refusal) => Err(told(alloc, map.plan(), refusal)),
     }
 }
 
-/// Another policy like this one, and for each cell of the plan the label that it gives. The only error is want of memory.
-fn kept(alloc: Global, plan: &Plan, policy: &Policy) -> Result<(Policy, Vec<Label>), Memory>
-    ensures same { IfOk result (λ kept. kept.0 ≡ policy.now) }
-    ensures allowed { IfOk result (λ kept. AreAllowed plan.now policy.now kept.1.items) }
-{
-    let labels = policy_labels(alloc, plan, &plan.cells(alloc)?, policy)?;
-    Ok((policy.try_clone(alloc)?, labels))
-}
-
-/// A refusal as it is told, with the name of its client.
+/// A refusal with the name of its client.
 fn told(alloc: Global, plan: &Plan, refusal: Refusal) -> Refused
     ensures { (policy : theory.Labelling) (labels : theory.Labels) →
         Refuses plan.now policy labels refusal → IsRefusedAs plan.now policy labels result }

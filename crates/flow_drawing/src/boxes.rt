@@ -27,9 +27,9 @@ pub(crate) fn boxes_told(
     ways: &Ways<'_>,
     boxes: &[Vec<usize>],
 ) -> Result<Vec<PictureBox>, Memory>
-    requires { All (spec.IsBox (length (theory.cells ways.now))) (map (λ cells. cells.items) boxes.now) }
+    requires { All (spec.IsBox (length (theory.cells ways.now.plan))) (map (λ cells. cells.items) boxes.now) }
     ensures { IfOk result (λ told. map spec.box_shown told.items
-        ≡ map (spec.box_of ways.now) (map (λ cells. cells.items) boxes.now)) }
+        ≡ map (spec.box_of ways.now.plan) (map (λ cells. cells.items) boxes.now)) }
 {
     let mut told = Vec::with_capacity(alloc, boxes.len())?;
     for cells in boxes {
@@ -40,8 +40,8 @@ pub(crate) fn boxes_told(
 
 /// What is told of a box.
 fn box_told(ways: &Ways<'_>, cells: &[usize]) -> PictureBox
-    requires { spec.IsBox (length (theory.cells ways.now)) cells.now }
-    ensures { spec.box_shown result ≡ spec.box_of ways.now cells.now }
+    requires { spec.IsBox (length (theory.cells ways.now.plan)) cells.now }
+    ensures { spec.box_shown result ≡ spec.box_of ways.now.plan cells.now }
 {
     PictureBox {
         cell: ways.cells()[cells[0]],
@@ -55,8 +55,8 @@ fn box_told(ways: &Ways<'_>, cells: &[usize]) -> PictureBox
 
 /// The clients who have one of the cells of a box.
 fn who(ways: &Ways<'_>, by: By, reach: Reach, cells: &[usize]) -> ClientSet
-    requires { All (λ number. number < length (theory.cells ways.now)) cells.now }
-    ensures { spec.members result ≡ spec.who ways.now by reach cells.now }
+    requires { All (λ number. number < length (theory.cells ways.now.plan)) cells.now }
+    ensures { spec.members result ≡ spec.who ways.now.plan by reach cells.now }
 {
     ways.plan().known();
     let mut clients = ClientSet::new();
@@ -77,9 +77,9 @@ fn with_if(holds: bool, client: u8, clients: ClientSet) -> ClientSet
 
 /// Whether a client has one of the cells of a box.
 fn has_one(ways: &Ways<'_>, by: By, reach: Reach, client: u8, cells: &[usize]) -> bool
-    requires client { client < length ways.now.clients }
-    requires cells { All (λ number. number < length (theory.cells ways.now)) cells.now }
-    ensures { result ≡ list_any (spec.has_cell ways.now by reach client) cells.now }
+    requires client { client < length ways.now.plan.clients }
+    requires cells { All (λ number. number < length (theory.cells ways.now.plan)) cells.now }
+    ensures { result ≡ list_any (spec.has_cell ways.now.plan by reach client) cells.now }
 {
     for cell in cells {
         if has_cell(ways, by, reach, client, *cell) {
@@ -91,9 +91,9 @@ fn has_one(ways: &Ways<'_>, by: By, reach: Reach, client: u8, cells: &[usize]) -
 
 /// Whether a client has a cell, by their numbers.
 fn has_cell(ways: &Ways<'_>, by: By, reach: Reach, client: u8, cell: usize) -> bool
-    requires client { client < length ways.now.clients }
-    requires cell { cell < length (theory.cells ways.now) }
-    ensures { result ≡ spec.has_cell ways.now by reach client cell }
+    requires client { client < length ways.now.plan.clients }
+    requires cell { cell < length (theory.cells ways.now.plan) }
+    ensures { result ≡ spec.has_cell ways.now.plan by reach client cell }
 {
     ways.plan().known();
     is_by(by, ways.distance(reach, cell, client))

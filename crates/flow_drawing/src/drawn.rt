@@ -22,7 +22,7 @@ pub(crate) fn drawn(
     groups: &[Vec<usize>],
 ) -> Result<Vec<Vec<usize>>, Memory>
     ensures { IfOk result (λ boxes. map (λ cells. cells.items) boxes.items
-        ≡ spec.drawn ways.now links.now (map (λ group. group.items) groups.now)) }
+        ≡ spec.drawn ways.now.plan links.now (map (λ group. group.items) groups.now)) }
 {
     let count = ways.cells().len();
     let boxes = boxes_of(alloc, count, links, groups)?;

@@ -13,7 +13,6 @@ use crate::drawn::drawn;
 use alike_items::pushing::push_if;
 use cosem_data::cell::CellRef;
 use cosem_data::memory::Memory;
-use flow_edges::edges::edge_table;
 use flow_edges::table::Link;
 use flow_picture::picture::Picture;
 use flow_ways::ways::Ways;
@@ -26,10 +25,9 @@ use std::alloc::Global;
 /// in the first as an end of edges. Past 48 boxes or 160 arrows the cells stand together by class and attribute instead (own
 /// profile). The only error is want of memory.
 pub fn picture_of(alloc: Global, ways: &Ways<'_>, groups: &[Vec<usize>]) -> Result<Picture, Memory>
-    ensures { IfOk result (λ picture. IsPictureOf ways.now (map (λ group. group.items) groups.now) picture) }
+    ensures { IfOk result (λ picture. IsPictureOf ways.now.plan (map (λ group. group.items) groups.now) picture) }
 {
-    let table = edge_table(alloc, ways.plan())?;
-    let links = table.links();
+    let links = ways.map().links();
     let boxes = drawn(alloc, ways, links, groups)?;
     picture_from(alloc, ways, links, &boxes)
 }
@@ -41,8 +39,8 @@ fn picture_from(
     links: &[Link],
     boxes: &[Vec<usize>],
 ) -> Result<Picture, Memory>
-    requires { All (IsBox (length (theory.cells ways.now))) (map (λ cells. cells.items) boxes.now) }
-    ensures { IfOk result (λ picture. IsDrawn ways.now links.now (map (λ cells. cells.items) boxes.now) picture) }
+    requires { All (IsBox (length (theory.cells ways.now.plan))) (map (λ cells. cells.items) boxes.now) }
+    ensures { IfOk result (λ picture. IsDrawn ways.now.plan links.now (map (λ cells. cells.items) boxes.now) picture) }
 {
     Ok(Picture {
         clients: client_names(alloc, ways.plan())?,

@@ -137,8 +137,8 @@ fn place_of(count: usize, link: Link) -> usize
     link.source * count + link.target
 }
 
-/// The edges that links stand for.
-fn edges_between(alloc: Global, cells: &[CellRef], links: &[Link]) -> Result<Vec<Edge>, Memory>
+/// The edges that links stand for. The only error is want of memory.
+pub fn edges_between(alloc: Global, cells: &[CellRef], links: &[Link]) -> Result<Vec<Edge>, Memory>
     requires { AreWithin cells.now links.now }
     ensures { IfOk result (λ list. list.items ≡ map (edge_at cells.now) links.now) }
 {

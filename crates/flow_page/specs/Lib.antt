@@ -1,10 +1,4 @@
-pub mod Words
-pub mod Lists
 pub mod Ways
-pub mod Clients
-pub mod Marks
+pub mod Tables
 pub mod Matrix
-pub mod Changes
-pub mod Objects
-pub mod Edges
 pub mod Page

@@ -1,132 +1,111 @@
--- The matrix: who reaches what.
-use Rattle.std.specs.Prelude.{ℕ, ◌+◌, ◌==◌, Bool, true, false, nat_lt, List, [], ◌∷◌, codes, flat_map, if◌then◌else◌, is_some, length, slice_get, Option, Some, None, vec_len}
-use Rattle.std.specs.Fmt.{decimal}
-use Rattle.cosem_data.specs.Names.{name_text}
+-- What the matrix says: who reaches what.
+use Rattle.std.specs.Prelude.{ℕ, ◌+◌, ◌==◌, List, [], ◌∷◌, ◌++◌, flat_map, if◌then◌else◌, length, slice_get, Option, Some, None}
 use Rattle.cosem_data.specs.declared.cell.CellRef.{CellRef}
-use Rattle.value_text.specs.Texts.{cell_text, index_text}
-use Rattle.flow_page.specs.Lists.{between, in_turn}
-use Rattle.flow_page.specs.Clients.{client_name}
-use Rattle.flow_page.specs.Marks.{mark_text}
-use Rattle.flow_page.specs.Words.{cell_name}
+use Rattle.flow_map.specs.declared.kind.Change.{Change}
+use Rattle.flow_map.specs.declared.kind.Change.TheVariants.{Gained, Lost}
+use Rattle.flow_map.specs.declared.request.GrantedRequest.TheVariants.{Get, Set, Act, Execute}
+use Rattle.shown_text.specs.Pieces.{Fact, mark, number, name, cell}
+use Rattle.flow_page.specs.Tables.{name_facts}
+use Rattle.flow_page.specs.Ways.{anchor_facts, by_reach, cell_words, line_facts, request_facts}
+use Rattle.flow_page.specs.declared.lines_text.TheConstants.{GET, SET, ACT}
+use Rattle.flow_page.specs.declared.lists.TheConstants.{FIELD, ROW}
+use Rattle.flow_page.specs.declared.marks_text.TheConstants.{GAINED, LOST, NO_WAY, NEITHER, MAY_CHANGE, MAY_LEARN, NOT_ALLOWED, ALARM, BY_EDGES}
+use Rattle.flow_page.specs.declared.matrix.Found.{Found}
+use Rattle.flow_page.specs.declared.matrix.Found.TheVariants.{Right, Edges}
+use Rattle.flow_page.specs.declared.matrix.Mark.{Mark}
 use Rattle.flow_page.specs.declared.matrix.MatrixRow.{MatrixRow}
-use Rattle.flow_page.specs.declared.matrix.Opening.{Opening}
-use Rattle.flow_page.specs.declared.matrix.Opening.TheVariants.{First, Next, Same}
-use Rattle.flow_page.specs.declared.matrix_text.TheConstants.{KEY, CHANGES_KEY, HEADING, NOBODY, SHARED, FILTER, MANY_ROWS, MANY_CLIENTS}
+use Rattle.flow_page.specs.declared.matrix.WayLink.{WayLink}
+use Rattle.flow_page.specs.declared.matrix_text.TheConstants.{NOBODY, SEEN}
 use Rattle.flow_page.specs.declared.page.ClientRow.{ClientRow}
-use Rattle.flow_page.specs.declared.page.Page.{Page}
 
--- A row
+-- Marks: whether, and how, a client reaches a cell
 
--- what stands before a row, by its place among the others: own profile
-abbrev pub opening_text : Opening → List ℕ
-opening_text First = codes "<tbody>\n"
-opening_text Next = codes "</tbody>\n<tbody>\n"
-opening_text Same = []
+-- what is gained or lost against the configuration before
+abbrev pub sign_of : Option Change → List ℕ
+sign_of None = []
+sign_of (Some Gained) = GAINED.now
+sign_of (Some Lost) = LOST.now
 
--- what cells of one class and attribute have in common, `class_id/*/attribute`: own profile
-abbrev pub pattern_text : CellRef → List ℕ
-pattern_text x = in_turn (decimal x.class_id ∷ codes "/*/" ∷ index_text x.index ∷ [])
+-- by what right a cell is reached, or by how many edges
+abbrev pub found_facts : Found → List Fact
+found_facts (Right (Get x)) = mark GET.now ∷ []
+found_facts (Right (Set x)) = mark SET.now ∷ []
+found_facts (Right (Act m)) = mark ACT.now ∷ []
+found_facts (Right (Execute m script)) = mark ACT.now ∷ []
+found_facts (Edges n) = mark BY_EDGES.now ∷ number n ∷ []
 
--- the head of a row of one cell: own profile
-abbrev pub cell_head : CellRef → List ℕ
-cell_head x = in_turn (codes "<code>" ∷ cell_text x ∷ codes "</code> <small>" ∷ cell_name x ∷ codes "</small>" ∷ [])
+-- of a right to a method which it is
+abbrev pub title_facts : Found → List Fact
+title_facts (Right (Get x)) = []
+title_facts (Right (Set x)) = []
+title_facts (Right (Act m)) = request_facts (Act m)
+title_facts (Right (Execute m script)) = request_facts (Execute m script)
+title_facts (Edges n) = []
 
--- the head of a row of several cells, of which this is the first: own profile
-abbrev pub cells_summary : CellRef → List CellRef → List ℕ
-cells_summary x xs = in_turn (
-    codes "<details><summary>" ∷ decimal (length xs) ∷ codes " &times; <code>" ∷ pattern_text x
-    ∷ codes "</code> <small>" ∷ cell_name x ∷ codes ", from " ∷ name_text x.name.0 ∷ codes "</small></summary>"
-    ∷ [])
+-- whether the policy allows it, and of what it allows whether it is influence or learning
+abbrev pub sort_of : Mark → List ℕ
+sort_of m = if m.allowed then by_reach m.reach MAY_CHANGE.now MAY_LEARN.now else NOT_ALLOWED.now
 
--- the same with the list of the cells: own profile
-abbrev pub cells_head : CellRef → List CellRef → List ℕ
-cells_head x xs = in_turn (
-    cells_summary x xs ∷ codes "<ul class=\"list\">"
-    ∷ flat_map (between (codes "<li><code>") cell_text (codes "</code></li>")) xs
-    ∷ codes "</ul></details>"
-    ∷ [])
+-- what is read in a mark by which a client reaches a cell
+abbrev pub word_facts : Mark → Found → List Fact
+word_facts m found = mark (sign_of m.change) ∷ mark (if m.allowed then [] else ALARM.now) ∷ found_facts found
 
--- the head of a row, by its first cell: own profile
-abbrev pub head_from : Option CellRef → List CellRef → List ℕ
-head_from None xs = []
-head_from (Some x) xs = if length xs == 1 then cell_head x else cells_head x xs
+-- the place of a way and its first lines
+abbrev pub link_facts : WayLink → List Fact
+link_facts link = anchor_facts link.anchor ++ flat_map line_facts link.title.items
 
--- the head of a row of these cells: own profile
-abbrev pub head_text : List CellRef → List ℕ
-head_text xs = head_from (slice_get xs 0) xs
+-- the way, if the page shows it, and else the request of a right to a method
+abbrev pub way_facts : Found → Option WayLink → List Fact
+way_facts found None = title_facts found
+way_facts found (Some link) = link_facts link
 
--- a row: its cells, and for each client the mark of influence and that of learning (own profile)
-abbrev pub row_text : MatrixRow → List ℕ
-row_text r = in_turn (
-    opening_text r.opening ∷ codes "<tr><th scope=\"row\">" ∷ head_text r.cells.items ∷ codes "</th>"
-    ∷ flat_map mark_text r.marks.items ∷ codes "</tr>\n"
-    ∷ [])
+-- a mark by which a client reaches a cell
+abbrev pub reached_facts : Mark → Found → List Fact
+reached_facts m found = mark (sort_of m) ∷ way_facts found m.link ++ word_facts m found
 
--- The table
+-- by what a client reaches a cell, or that there is no way, and whether the policy allows one
+abbrev pub inside_facts : Mark → Option Found → List Fact
+inside_facts m None = mark (sign_of m.change) ∷ mark (if m.allowed then NO_WAY.now else NEITHER.now) ∷ []
+inside_facts m (Some found) = reached_facts m found
 
--- how many cells a client may change, and how many it may learn: own profile
-abbrev pub columns_text : ClientRow → List ℕ
-columns_text who = in_turn (
-    codes "<th scope=\"col\">change<br><b>" ∷ decimal (who.influence.by_right + who.influence.by_edges)
-    ∷ codes "</b></th><th scope=\"col\">learn<br><b>" ∷ decimal (who.learn.by_right + who.learn.by_edges)
-    ∷ codes "</b></th>"
-    ∷ [])
+-- a field of the matrix
+abbrev pub mark_facts : Mark → List Fact
+mark_facts m = mark FIELD.now ∷ inside_facts m m.found
 
--- whether cells share rows: own profile
-abbrev pub sharing_text : (rows cells : ℕ) → List ℕ
-sharing_text rows cells = if rows == cells then [] else SHARED.now
+-- Rows
 
--- the form that filters rows, where they are many: own profile
-abbrev pub filter_text : ℕ → List ℕ
-filter_text rows = if nat_lt rows MANY_ROWS then [] else in_turn (FILTER.now ∷ decimal rows ∷ codes " rows</output></form>\n" ∷ [])
+-- a cell of a list
+abbrev pub listed_cell : CellRef → List Fact
+listed_cell x = cell x ∷ []
 
--- what the marks of changes mean, where changes are shown: own profile
-abbrev pub changes_key : Bool → List ℕ
-changes_key true = CHANGES_KEY.now
-changes_key false = []
+-- an attribute by its index, and what a register monitor has seen by a word
+abbrev pub index_fact : ℕ → Fact
+index_fact index = if index == 0 then mark SEEN.now else number index
 
--- what stands before the table: own profile
-abbrev pub front_text : Page → List ℕ
-front_text page = in_turn (
-    HEADING.now ∷ sharing_text (vec_len page.rows) page.cell_count ∷ codes "</p>\n<ul class=\"key\">"
-    ∷ KEY.now ∷ changes_key (is_some page.changes) ∷ codes "</ul>\n"
-    ∷ filter_text (vec_len page.rows)
-    ∷ [])
+-- a cell with the words for it; of several how many they are, what they have in common, the first name, and each of them
+abbrev pub cells_facts : CellRef → List CellRef → List Fact
+cells_facts x xs =
+    if length xs == 1 then cell x ∷ cell_words x else
+    (number (length xs) ∷ number x.class_id ∷ index_fact x.index ∷ cell_words x ++ name x.name ∷ flat_map listed_cell xs)
 
--- the class of a table with many clients: own profile
-abbrev pub many_text : ℕ → List ℕ
-many_text clients = if nat_lt clients MANY_CLIENTS then [] else codes " many"
+-- the cells of a row, by the first of them
+abbrev pub row_cells : Option CellRef → List CellRef → List Fact
+row_cells None xs = []
+row_cells (Some x) xs = cells_facts x xs
 
--- the start of the table: own profile
-abbrev pub table_start : Page → List ℕ
-table_start page = in_turn (
-    codes "<div class=\"scroll\" tabindex=\"0\" role=\"region\" aria-labelledby=\"matrix\"><table class=\"matrix" ∷ many_text (vec_len page.clients)
-    ∷ codes "\">\n<thead><tr><th scope=\"col\" rowspan=\"2\">Cell</th>"
-    ∷ [])
+-- a row: its cells, and for each client the mark of influence and that of learning
+abbrev pub row_facts : MatrixRow → List Fact
+row_facts r = mark ROW.now ∷ row_cells (slice_get r.cells.items 0) r.cells.items ++ flat_map mark_facts r.marks.items
 
--- the head of the table: the clients, and how many cells each of them reaches (own profile)
-abbrev pub table_head : Page → List ℕ
-table_head page = in_turn (
-    table_start page
-    ∷ flat_map (between (codes "<th scope=\"colgroup\" colspan=\"2\">") client_name (codes "</th>")) page.clients.items
-    ∷ codes "</tr>\n<tr>" ∷ flat_map columns_text page.clients.items ∷ codes "</tr></thead>\n"
-    ∷ [])
+-- how many cells a client may change, and how many it may learn
+abbrev pub column_facts : ClientRow → List Fact
+column_facts who = number (who.influence.by_right + who.influence.by_edges) ∷ number (who.learn.by_right + who.learn.by_edges) ∷ []
 
--- the end of the last group of rows, if there are rows: own profile
-abbrev pub rows_end : List MatrixRow → List ℕ
-rows_end [] = []
-rows_end (r ∷ rs) = codes "</tbody>\n"
+-- the clients, and how many cells each of them reaches
+abbrev pub head_facts : List ClientRow → List Fact
+head_facts clients = flat_map name_facts clients ++ flat_map column_facts clients
 
--- the matrix with what stands before it: own profile
-abbrev pub rows_table : Page → List ℕ
-rows_table page = in_turn (
-    front_text page ∷ table_head page ∷ flat_map row_text page.rows.items ∷ rows_end page.rows.items ∷ codes "</table></div>\n" ∷ [])
-
--- the same for these clients, or that there are none: own profile
-abbrev pub table_text : Page → List ClientRow → List ℕ
-table_text page [] = NOBODY.now
-table_text page (who ∷ others) = rows_table page
-
--- the matrix: own profile
-abbrev pub matrix_text : Page → List ℕ
-matrix_text page = table_text page page.clients.items
+-- the matrix, or that there are no clients
+abbrev pub matrix_facts : List ClientRow → List MatrixRow → List Fact
+matrix_facts [] rows = mark NOBODY.now ∷ []
+matrix_facts (who ∷ others) rows = head_facts (who ∷ others) ++ flat_map row_facts rows

@@ -1,109 +1,138 @@
--- Tables of ways.
-use Rattle.std.specs.Prelude.{ℕ, List, [], ◌∷◌, ◌++◌, ◌==◌, codes, flat_map, if◌then◌else◌, Option, Some, None, string_bytes, vec_len}
-use Rattle.std.specs.Fmt.{decimal}
-use Rattle.meter_theory.specs.declared.flow.Edge as flow
+-- What a page says of edges and ways.
+use Rattle.std.specs.Prelude.{ℕ, ◌==◌, Bool, true, false, List, [], ◌∷◌, ◌++◌, flat_map, if◌then◌else◌, length, Option, Some, None, string_bytes}
+use Rattle.cosem_data.specs.declared.cell.CellRef.{CellRef}
+use Rattle.cosem_data.specs.declared.cell.MethodRef.{MethodRef}
+use Rattle.meter_theory.specs.declared.flow.Edge.{Edge as FlowEdge}
 use Rattle.meter_theory.specs.declared.flow.Reach.{Reach}
 use Rattle.meter_theory.specs.declared.flow.Reach.TheVariants.{Influence, Learn}
-use Rattle.shown_text.specs.Html.{html_text}
 use Rattle.value_text.specs.Edges.{cause_word}
-use Rattle.value_text.specs.Texts.{cell_text}
-use Rattle.flow_ways.specs.Why.{request_text}
-use Rattle.flow_page.specs.Lists.{in_turn, region_text, separated}
-use Rattle.flow_page.specs.Words.{cell_name, cells, counted, verb}
+use Rattle.flow_map.specs.ClassWords.{attribute_name, class_name}
+use Rattle.flow_map.specs.declared.request.GrantedRequest.{GrantedRequest}
+use Rattle.flow_map.specs.declared.request.GrantedRequest.TheVariants.{Get, Set, Act, Execute}
+use Rattle.shown_text.specs.Pieces.{Fact, mark, text, number, name, cell}
+use Rattle.flow_page.specs.declared.edges_text.TheConstants.{PRINTED}
+use Rattle.flow_page.specs.declared.lines_text.TheConstants.{GET, SET, ACT}
+use Rattle.flow_page.specs.declared.page.CauseCount.{CauseCount}
+use Rattle.flow_page.specs.declared.page.Page.{Page}
 use Rattle.flow_page.specs.declared.ways.Anchor.{Anchor}
 use Rattle.flow_page.specs.declared.ways.WayGroup.{WayGroup}
 use Rattle.flow_page.specs.declared.ways.WayLine.{WayLine}
 use Rattle.flow_page.specs.declared.ways.WayLine.TheVariants.{Request, Edge, Long}
 use Rattle.flow_page.specs.declared.ways.WayRow.{WayRow}
 use Rattle.flow_page.specs.declared.ways.WayTable.{WayTable}
+use Rattle.flow_page.specs.declared.ways_text.TheConstants.{INFLUENCED, LEARNED, CHANGES, LEARNS, BY_ITSELF, THAT_IT_ALLOWS, AS_IT_ALLOWS}
 
--- the letters i and l (own profile)
-abbrev pub reach_letter : Reach → ℕ
-reach_letter Influence = 105
-reach_letter Learn = 108
+-- a list has something
+abbrev pub has_some : {A : Type 0} → List A → Bool
+has_some [] = false
+has_some (x ∷ xs) = true
 
--- the name of a place: the letter of the reach, the number of the client, and that of the cell (own profile)
-abbrev pub anchor_text : Anchor → List ℕ
-anchor_text a = (reach_letter a.reach ∷ []) ++ (decimal a.client ++ (codes "-" ++ decimal a.cell))
+-- what is said of each thing of a list, or that there is none
+abbrev pub or_none : {A : Type 0} → (none : List ℕ) → (A → List Fact) → List A → List Fact
+or_none none says [] = mark none ∷ []
+or_none none says (x ∷ xs) = flat_map says (x ∷ xs)
 
--- an edge as a line of a way, which may stand in an attribute, `CELL -> CELL CAUSE` with the name of the `>`: own profile
-abbrev pub edge_line : flow.Edge → List ℕ
-edge_line e = cell_text e.source ++ (codes " -&gt; " ++ (cell_text e.target ++ (codes " " ++ cause_word e.cause)))
+-- a number, unless it is 0
+abbrev pub number_if_any : ℕ → List Fact
+number_if_any n = if n == 0 then [] else (number n ∷ [])
 
--- a line of a way, as `why` prints it: own profile
-abbrev pub line_text : WayLine → List ℕ
-line_text (Request client request) = html_text (string_bytes client) ++ (codes " " ++ request_text request)
-line_text (Edge e) = edge_line e
-line_text (Long n client x) =
-    in_turn (decimal n ∷ codes " edges: cosem-flow why CONFIG " ∷ html_text (string_bytes client) ∷ codes " " ∷ cell_text x ∷ [])
+-- Edges
 
--- lines of a way, each in a line of its own: own profile
-abbrev pub way_text : List WayLine → List ℕ
-way_text lines = in_turn (codes "<pre class=\"way\">" ∷ separated (codes "\n") line_text lines ∷ codes "</pre>" ∷ [])
+-- an edge: its source, its target, and the word of its cause
+abbrev pub edge_facts : FlowEdge → List Fact
+edge_facts e = cell e.source ∷ cell e.target ∷ mark (cause_word e.cause) ∷ []
 
--- the edges of a way: own profile
-abbrev pub edges_text : List WayLine → List ℕ
-edges_text [] = codes "<span class=\"free\">by itself</span>"
-edges_text (l ∷ ls) = way_text (l ∷ ls)
+-- how many edges there are of a cause
+abbrev pub cause_facts : CauseCount → List Fact
+cause_facts n = mark (cause_word n.cause) ∷ number n.edges ∷ []
 
--- so many other cells that are alike: own profile
-abbrev pub alike_text : ℕ → List ℕ
-alike_text n = if n == 0 then [] else in_turn (codes " <span class=\"free\">and " ∷ decimal n ∷ codes " alike</span>" ∷ [])
+-- how many edges there are, and each of them; or who prints them
+abbrev pub list_facts : List FlowEdge → List Fact
+list_facts [] = mark PRINTED.now ∷ []
+list_facts (e ∷ es) = number (length (e ∷ es)) ∷ flat_map edge_facts (e ∷ es)
 
--- the cell that a way leads to, and how many are alike: own profile
-abbrev pub cell_text_of : WayRow → List ℕ
-cell_text_of r = in_turn (
-    codes "<td><code>" ∷ cell_text r.cell ∷ codes "</code>" ∷ alike_text r.alike
-    ∷ codes "<br><span class=\"free\">" ∷ cell_name r.cell ∷ codes "</span></td>"
-    ∷ [])
+-- how many edges there are of each cause, and the edges
+abbrev pub edges_facts : Page → List Fact
+edges_facts page = flat_map cause_facts page.causes.items ++ (if page.edge_count == 0 then [] else list_facts page.edges.items)
 
--- what stands in a row behind the field of the right: the cell, and the edges of the way to it (own profile)
-abbrev pub fields_text : WayRow → List ℕ
-fields_text r = in_turn (cell_text_of r ∷ codes "<td>" ∷ edges_text r.edges.items ∷ codes "</td></tr>\n" ∷ [])
+-- Lines
 
--- the start of a row at its place: own profile
-abbrev pub start_text : WayRow → List ℕ
-start_text r = in_turn (codes "<tr id=\"" ∷ anchor_text r.anchor ∷ codes "\">" ∷ [])
+-- the call of a method
+abbrev pub call_facts : MethodRef → List Fact
+call_facts m = mark ACT.now ∷ number m.class_id ∷ name m.name ∷ number m.index ∷ []
 
--- a row behind the first of its right: own profile
-abbrev pub row_text : WayRow → List ℕ
-row_text r = start_text r ++ fields_text r
+-- a request
+abbrev pub request_facts : GrantedRequest → List Fact
+request_facts (Get x) = mark GET.now ∷ cell x ∷ []
+request_facts (Set x) = mark SET.now ∷ cell x ∷ []
+request_facts (Act m) = call_facts m
+request_facts (Execute m script) = call_facts m ++ number script ∷ []
 
--- how many cells a right reaches, where that is told: own profile
-abbrev pub reached_text : Option ℕ → List ℕ
-reached_text None = []
-reached_text (Some n) = codes " " ++ cells n
+-- a line of a way: a client's request, an edge, or how many edges a way has and of whom to what it is
+abbrev pub line_facts : WayLine → List Fact
+line_facts (Request client request) = text (string_bytes client) ∷ request_facts request
+line_facts (Edge e) = edge_facts e
+line_facts (Long n client x) = number n ∷ text (string_bytes client) ∷ cell x ∷ []
 
--- the field of a right, which is as high as all rows of it: own profile
-abbrev pub head_text : WayGroup → List ℕ
-head_text g = in_turn (
-    codes "<th scope=\"rowgroup\" rowspan=\"" ∷ decimal (vec_len g.rows)
-    ∷ codes "\"><div class=\"stay\"><code>" ∷ html_text (string_bytes g.client) ∷ codes " " ∷ request_text g.request
-    ∷ codes "</code><br><span class=\"free\">lets " ∷ html_text (string_bytes g.client) ∷ codes " " ∷ verb g.reach
-    ∷ reached_text g.cells ∷ codes "</span></div></th>"
-    ∷ [])
+-- Tables
 
--- rows of a right, of which the first begins with its field: own profile
-abbrev pub rows_text : WayGroup → List WayRow → List ℕ
-rows_text g [] = []
-rows_text g (r ∷ rs) = in_turn (start_text r ∷ head_text g ∷ fields_text r ∷ flat_map row_text rs ∷ [])
+-- the first for influence, and the second for learning
+abbrev pub by_reach : Reach → (influence learn : List ℕ) → List ℕ
+by_reach Influence influence learn = influence
+by_reach Learn influence learn = learn
 
--- the rows of a right: own profile
-abbrev pub group_text : WayGroup → List ℕ
-group_text g = in_turn (codes "<tbody>\n" ∷ rows_text g g.rows.items ∷ codes "</tbody>\n" ∷ [])
+-- the place of a way: whether it is of influence or of learning, the number of the client, and that of the cell
+abbrev pub anchor_facts : Anchor → List Fact
+anchor_facts a = mark (by_reach a.reach INFLUENCED.now LEARNED.now) ∷ number a.client ∷ number a.cell ∷ []
 
--- so many ways for which a table has no room: own profile
-abbrev pub left_text : ℕ → List ℕ
-left_text n =
-    if n == 0 then [] else
-    in_turn (codes "<p>And " ∷ counted n (codes "way more") (codes "ways more") ∷ codes ": ask <code>cosem-flow why CONFIG CLIENT CELL</code>.</p>\n" ∷ [])
+-- the words for a cell's class and its attribute
+abbrev pub cell_words : CellRef → List Fact
+cell_words x = mark (class_name x.class_id) ∷ mark (attribute_name x.class_id x.index) ∷ []
 
--- a table, under the name of the heading that is its label, and how many ways it has no room for: own profile
-abbrev pub table_text : (heading : List ℕ) → WayTable → List ℕ
-table_text heading t = in_turn (
-    region_text heading
-    ∷ codes "<table><thead><tr><th scope=\"col\">This right</th><th scope=\"col\">reaches this cell</th><th scope=\"col\">by these edges, the fewest there are</th></tr></thead>\n"
-    ∷ flat_map group_text t.groups.items
-    ∷ codes "</table></div>\n"
-    ∷ left_text t.left
-    ∷ [])
+-- the cell to which a way leads, and how many others are alike
+abbrev pub cell_facts : WayRow → List Fact
+cell_facts r = cell r.cell ∷ number_if_any r.alike ++ cell_words r.cell
+
+-- the cell, and the lines of the way to it, or that the right reaches it by itself
+abbrev pub fields_facts : WayRow → List Fact
+fields_facts r = cell_facts r ++ or_none BY_ITSELF.now line_facts r.edges.items
+
+-- a row: its place, the cell, and the way to it
+abbrev pub row_facts : WayRow → List Fact
+row_facts r = anchor_facts r.anchor ++ fields_facts r
+
+-- how many cells a right reaches, where that is known
+abbrev pub reached_facts : Option ℕ → List Fact
+reached_facts None = []
+reached_facts (Some n) = number n ∷ []
+
+-- a right: the client, the request, and what it lets the client do to how many cells
+abbrev pub head_facts : WayGroup → List Fact
+head_facts g =
+    text (string_bytes g.client) ∷ request_facts g.request
+    ++ text (string_bytes g.client) ∷ mark (by_reach g.reach CHANGES.now LEARNS.now) ∷ reached_facts g.cells
+
+-- rows, of which the first has the right after its place
+abbrev pub rows_facts : WayGroup → List WayRow → List Fact
+rows_facts g [] = []
+rows_facts g (r ∷ rs) = anchor_facts r.anchor ++ head_facts g ++ fields_facts r ++ flat_map row_facts rs
+
+-- the rows of a right
+abbrev pub group_facts : WayGroup → List Fact
+group_facts g = rows_facts g g.rows.items
+
+-- the ways by their rights, and for how many there is no room
+abbrev pub table_facts : WayTable → List Fact
+table_facts t = flat_map group_facts t.groups.items ++ number_if_any t.left
+
+-- the ways that the policy does not allow
+abbrev pub refused_facts : Page → List Fact
+refused_facts page = if has_some page.refused.groups.items then table_facts page.refused else []
+
+-- the ways by edges that the policy allows; for how many there is no room, where none is shown; or that there are none
+abbrev pub why_facts : Page → List Fact
+why_facts page =
+    if has_some page.reached.groups.items then
+    mark (if has_some page.refused.groups.items then THAT_IT_ALLOWS.now else []) ∷ table_facts page.reached else
+    if page.reached.left == 0 then mark (if has_some page.refused.groups.items then AS_IT_ALLOWS.now else []) ∷ [] else
+    number_if_any page.reached.left

@@ -1,6 +1,6 @@
 //! What has changed against the configuration before.
 use crate::ways::WayLine;
-use flow_changes::kind::{Change, Kind};
+use flow_map::kind::{Change, Kind};
 
 /// What has changed.
 #[derive(Drop)]

@@ -1,219 +1,179 @@
-//! The text of what has changed (own profile).
-ghost use Rattle.std.specs.Prelude.{◌≡◌, ◌++◌, OnOk, string_bytes};
-ghost use Rattle.flow_page.specs.Changes as spec;
+//! What has changed, as pieces.
+ghost use Rattle.std.specs.Prelude.{◌≡◌, ◌++◌, OnOk};
+ghost use Rattle.shown_text.specs.Pieces.{facts};
+ghost use Rattle.flow_page.specs.Tables as spec;
 
 use crate::changes::{ChangedFact, Changes, KindChanges};
-use crate::lists::{Region, push_separated};
-use crate::ways::WayLine;
-use crate::ways_text::push_way;
+use crate::lines_text::put_way;
+use crate::lists::{Entry, Pieces, fill, put_each};
+use crate::page::Page;
 use cosem_data::memory::Memory;
-use flow_changes::kind::{Change, Kind};
-use shown_text::html::{Escaped, Piece, push_all};
-use std::fmt;
+use flow_map::kind::{Change, Kind};
+use shown_text::pieces::Piece::{Hole, Mark, Number, Place};
 
-/// Whether something is gained or lost, with the class that shows it.
-#[derive(Clone, Copy, Drop)]
-struct Sign(Change);
+const NOBODY: &str = "nobody";
 
-impl fmt::Display for Sign {
-    ghost use Rattle.std.specs.Prelude.{Some};
-    ghost use Rattle.flow_page.specs.Changes.{change_text};
+const GAINED: &str = "<span class=\"plus\">+ new</span>";
 
-    ghost output = { λ sign. Some (change_text sign.0) };
-
-    fn fmt<W: fmt::Write>(&self, f: &mut fmt::Formatter<W>) -> fmt::Result {
-        match self.0 {
-            Change::Gained => f.write_str("<span class=\"plus\">+ new</span>"),
-            Change::Lost => f.write_str("<span class=\"minus\">&minus; gone</span>"),
-        }
-    }
-}
+const LOST: &str = "<span class=\"minus\">&minus; gone</span>";
 
 /// What the facts of a kind are about.
-#[derive(Clone, Copy, Drop)]
-struct Title(Kind);
+const MAY: &str = "Influence and learning";
 
-impl fmt::Display for Title {
-    ghost use Rattle.std.specs.Prelude.{Some};
-    ghost use Rattle.flow_page.specs.Changes.{title_text};
+const ALLOWED: &str = "Policy";
 
-    ghost output = { λ title. Some (title_text title.0) };
+const RIGHT: &str = "Rights";
 
-    fn fmt<W: fmt::Write>(&self, f: &mut fmt::Formatter<W>) -> fmt::Result {
-        match self.0 {
-            Kind::May => f.write_str("Influence and learning"),
-            Kind::Allowed => f.write_str("Policy"),
-            Kind::Right => f.write_str("Rights"),
-            Kind::Client => f.write_str("Clients"),
-            Kind::Cell => f.write_str("Cells"),
-            Kind::Edge => f.write_str("Edges"),
-        }
+const CLIENT: &str = "Clients";
+
+const CELL: &str = "Cells";
+
+const EDGE: &str = "Edges";
+
+const HEAD: &str =
+    "<div class=\"scroll low\" tabindex=\"0\" role=\"region\" aria-labelledby=\"changes\"><table><thead><tr><th scope=\"col\">Of</th><th scope=\"col\">Change</th><th scope=\"col\">What</th><th scope=\"col\">Shortest way now</th></tr></thead>\n";
+
+const MORE: &str =
+    "<tr><th scope=\"rowgroup\">{}</th><td colspan=\"3\">and {} more, printed by <code>cosem-flow compare</code></td></tr>\n";
+
+/// What the facts of a kind are about.
+fn title_of(kind: Kind) -> &'static str
+    ensures { result.now ≡ spec.title_of kind }
+{
+    match kind {
+        Kind::May => MAY,
+        Kind::Allowed => ALLOWED,
+        Kind::Right => RIGHT,
+        Kind::Client => CLIENT,
+        Kind::Cell => CELL,
+        Kind::Edge => EDGE,
     }
 }
 
-/// Puts the lines of the way that has come behind a text, if there is one.
-fn push_new_way(lines: &[WayLine], page: &mut String) -> Result<(), Memory>
-    ensures { OnOk result (string_bytes page.new ≡ string_bytes page.old ++ spec.new_way_text lines.now) }
+/// The sign of what is gained or lost.
+fn sign_of(change: Change) -> &'static str
+    ensures { result.now ≡ spec.change_sign change }
 {
-    if lines.is_empty() {
-        Ok(())
-    } else {
-        push_way(lines, page)
+    match change {
+        Change::Gained => GAINED,
+        Change::Lost => LOST,
     }
 }
 
 impl ChangedFact {
-    /// Puts what stands in its row behind the field of its kind behind a text.
-    fn push_fields(&self, page: &mut String) -> Result<(), Memory>
-        ensures { OnOk result (string_bytes page.new ≡ string_bytes page.old ++ spec.fields_text self.now) }
+    /// Puts what stands in its row after the field of its kind after other pieces.
+    fn put_fields<'a>(&'a self, pieces: &mut Pieces<'a>) -> Result<(), Memory>
+        ensures { OnOk result (facts pieces.new.items ≡ facts pieces.old.items ++ spec.change_facts self.now) }
     {
-        let sign = Sign(self.change);
-        let words = Escaped(&self.words);
-        write!(page, "<td>{sign}</td><td><code>{words}</code></td>")?;
-        write!(page, "<td>")?;
-        push_new_way(&self.way, page)?;
-        write!(page, "</td></tr>\n")?;
-        Ok(())
-    }
-}
-
-/// A row behind the first of its kind.
-impl Piece for ChangedFact {
-    ghost use Rattle.flow_page.specs.Changes.{row_text};
-
-    ghost text = { row_text };
-
-    fn push(&self, page: &mut String) -> Result<(), Memory> {
-        write!(page, "<tr>")?;
-        self.push_fields(page)
-    }
-}
-
-/// So many changes of a kind for which the page has no room.
-#[derive(Clone, Copy, Drop)]
-struct More {
-    kind: Kind,
-    changes: usize,
-}
-
-impl fmt::Display for More {
-    ghost use Rattle.std.specs.Prelude.{Some};
-    ghost use Rattle.flow_page.specs.Changes.{more_text};
-
-    ghost output = { λ more. Some (more_text more.kind more.changes) };
-
-    fn fmt<W: fmt::Write>(&self, f: &mut fmt::Formatter<W>) -> fmt::Result {
-        let More { kind, changes } = *self;
-        let title = Title(kind);
-        match changes {
-            0 => f.write_str(""),
-            _ => write!(
-                f,
-                "<tr><th scope=\"rowgroup\">{title}</th><td colspan=\"3\">and {changes} more, printed by <code>cosem-flow compare</code></td></tr>\n"
-            ),
+        let sign = Mark(sign_of(self.change));
+        let words = Hole(self.words.as_str());
+        fill(
+            pieces,
+            "<td>{}</td><td><code>{}</code></td><td>",
+            &[sign, words],
+        )?;
+        if !self.way.is_empty() {
+            put_way(pieces, &self.way)?;
         }
+        fill(pieces, "</td></tr>\n", &[])
+    }
+}
+
+/// A row after the first of its kind.
+impl Entry for ChangedFact {
+    ghost use Rattle.flow_page.specs.Tables.{change_facts};
+
+    ghost says = { change_facts };
+
+    fn put<'a>(&'a self, pieces: &mut Pieces<'a>) -> Result<(), Memory> {
+        fill(pieces, "<tr>", &[])?;
+        self.put_fields(pieces)
     }
 }
 
 impl KindChanges {
-    /// Puts the field of the kind behind a text.
-    fn push_head(&self, page: &mut String) -> Result<(), Memory>
-        ensures { OnOk result (string_bytes page.new ≡ string_bytes page.old ++ spec.head_text self.now) }
+    /// Puts rows, of which the first begins with the field of the kind, after other pieces.
+    fn put_rows<'a>(&self, pieces: &mut Pieces<'a>, rows: &'a [ChangedFact]) -> Result<(), Memory>
+        ensures { OnOk result (facts pieces.new.items ≡ facts pieces.old.items ++ spec.rows_facts self.now.kind rows.now) }
     {
-        let rows = self.facts.len();
-        let title = Title(self.kind);
-        write!(
-            page,
-            "<th scope=\"rowgroup\" rowspan=\"{rows}\">{title}</th>"
-        )?;
-        Ok(())
-    }
-
-    /// Puts rows, of which the first begins with the field of the kind, behind a text.
-    fn push_rows(&self, facts: &[ChangedFact], page: &mut String) -> Result<(), Memory>
-        ensures { OnOk result (string_bytes page.new ≡ string_bytes page.old ++ spec.rows_text self.now facts.now) }
-    {
-        match facts {
-            [] => Ok(()),
-            [first, rest @ ..] => {
-                write!(page, "<tr>")?;
-                self.push_head(page)?;
-                first.push_fields(page)?;
-                push_all(rest, page)?;
-                Ok(())
-            }
-        }
+        let Some((first, rest)) = rows.split_first() else {
+            return Ok(());
+        };
+        let height = Place(rows.len() as u128);
+        let template = "<tr><th scope=\"rowgroup\" rowspan=\"{}\">{}</th>";
+        fill(pieces, template, &[height, Mark(title_of(self.kind))])?;
+        first.put_fields(pieces)?;
+        put_each(pieces, "", rest)
     }
 }
 
 /// The rows of a kind.
-impl Piece for KindChanges {
-    ghost use Rattle.flow_page.specs.Changes.{kind_text};
+impl Entry for KindChanges {
+    ghost use Rattle.flow_page.specs.Tables.{kind_facts};
 
-    ghost text = { kind_text };
+    ghost says = { kind_facts };
 
-    fn push(&self, page: &mut String) -> Result<(), Memory> {
-        let more = More {
-            kind: self.kind,
-            changes: self.more,
-        };
-        write!(page, "<tbody>\n")?;
-        self.push_rows(&self.facts, page)?;
-        write!(page, "{more}")?;
-        write!(page, "</tbody>\n")?;
-        Ok(())
+    fn put<'a>(&'a self, pieces: &mut Pieces<'a>) -> Result<(), Memory> {
+        fill(pieces, "<tbody>\n", &[])?;
+        self.put_rows(pieces, &self.facts)?;
+        if self.more != 0 {
+            let title = Mark(title_of(self.kind));
+            fill(pieces, MORE, &[title, Number(self.more as u128)])?;
+        }
+        fill(pieces, "</tbody>\n", &[])
     }
 }
 
-/// Puts the names of those who gain behind a text.
-fn push_gainers(names: &[String], page: &mut String) -> Result<(), Memory>
-    ensures { OnOk result (string_bytes page.new ≡ string_bytes page.old ++ spec.gainers_text names.now) }
-{
-    if names.is_empty() {
-        write!(page, "nobody")?;
-        Ok(())
-    } else {
-        push_separated(", ", names, page)
-    }
-}
+/// The name of a client.
+impl Entry for String {
+    ghost use Rattle.flow_page.specs.Tables.{gainer_facts};
 
-/// Puts the table of what has changed behind a text.
-fn push_rows(kinds: &[KindChanges], page: &mut String) -> Result<(), Memory>
-    ensures { OnOk result (string_bytes page.new ≡ string_bytes page.old ++ spec.rows_table kinds.now) }
-{
-    write!(page, "{}", Region("changes"))?;
-    write!(
-        page,
-        "<table><thead><tr><th scope=\"col\">Of</th><th scope=\"col\">Change</th><th scope=\"col\">What</th><th scope=\"col\">Shortest way now</th></tr></thead>\n"
-    )?;
-    push_all(kinds, page)?;
-    write!(page, "</table></div>\n")?;
-    Ok(())
-}
+    ghost says = { gainer_facts };
 
-/// Puts the table of what has changed behind a text, if anything has.
-fn push_table(kinds: &[KindChanges], page: &mut String) -> Result<(), Memory>
-    ensures { OnOk result (string_bytes page.new ≡ string_bytes page.old ++ spec.table_text kinds.now) }
-{
-    if kinds.is_empty() {
-        Ok(())
-    } else {
-        push_rows(kinds, page)
+    fn put<'a>(&'a self, pieces: &mut Pieces<'a>) -> Result<(), Memory> {
+        fill(pieces, "{}", &[Hole(self.as_str())])
     }
 }
 
 impl Changes {
-    /// Puts what has changed behind a text. The only error is want of memory.
-    pub(crate) fn push(&self, page: &mut String) -> Result<(), Memory>
-        ensures { OnOk result (string_bytes page.new ≡ string_bytes page.old ++ spec.changes_text self.now) }
+    /// Puts the names of the clients that gain, or that nobody does, after other pieces.
+    fn put_gainers<'a>(&'a self, pieces: &mut Pieces<'a>) -> Result<(), Memory>
+        ensures { OnOk result (facts pieces.new.items ≡ facts pieces.old.items ++ spec.gainers_facts self.now.gainers.items) }
     {
-        write!(
-            page,
-            "<h2 id=\"changes\">What this configuration changes</h2>\n<p><strong>Gained by "
+        if self.gainers.is_empty() {
+            return fill(pieces, "{}", &[Mark(NOBODY)]);
+        }
+        put_each(pieces, ", ", &self.gainers)
+    }
+
+    /// Puts what has changed after other pieces.
+    fn put<'a>(&'a self, pieces: &mut Pieces<'a>) -> Result<(), Memory>
+        ensures { OnOk result (facts pieces.new.items ≡ facts pieces.old.items ++ spec.changed_facts self.now) }
+    {
+        let heading = "<h2 id=\"changes\">What this configuration changes</h2>\n";
+        fill(pieces, heading, &[])?;
+        fill(pieces, "<p><strong>Gained by ", &[])?;
+        self.put_gainers(pieces)?;
+        fill(
+            pieces,
+            "</strong> against the configuration before.</p>\n",
+            &[],
         )?;
-        push_gainers(&self.gainers, page)?;
-        write!(page, "</strong> against the configuration before.</p>\n")?;
-        push_table(&self.kinds, page)?;
-        Ok(())
+        if self.kinds.is_empty() {
+            return Ok(());
+        }
+        fill(pieces, HEAD, &[])?;
+        put_each(pieces, "", &self.kinds)?;
+        fill(pieces, "</table></div>\n", &[])
+    }
+}
+
+/// Puts what has changed against the configuration before, where one is given, after other pieces.
+pub(crate) fn put_changes<'a>(pieces: &mut Pieces<'a>, page: &'a Page) -> Result<(), Memory>
+    ensures { OnOk result (facts pieces.new.items ≡ facts pieces.old.items ++ spec.changes_facts page.now.changes) }
+{
+    match &page.changes {
+        Some(changes) => changes.put(pieces),
+        None => Ok(()),
     }
 }

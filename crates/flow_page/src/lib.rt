@@ -1,17 +1,18 @@
 //! A page on who may change and who may learn what, and its text in HTML (own profile).
 //!
-//! - [`page::Page`] is what it shows, piece by piece, and [`page_text::page_text`] its text.
-//! - The rooms `.._text` have the text of a part each, [`style`] the style and the script, and [`words`] the names of classes and
-//!   attributes.
+//! - [`page::Page`] is what it shows, and [`page_text::page_text`] its text.
+//! - The rooms `.._text` put a part each together from pieces, by the templates of [`lists`], and [`style`] has the style and the
+//!   script.
 //!
-//! What the text is stands in `specs/`: the whole (`Page`), the marks and the matrix (`Marks`, `Matrix`), tables of ways (`Ways`), what
-//! has changed (`Changes`), clients, objects and edges (`Clients`, `Objects`, `Edges`), lists (`Lists`) and words (`Words`).
+//! What a page says of its value stands in `specs/`, in the order of the page: all of it (`Page`), the matrix (`Matrix`), edges and
+//! ways (`Ways`), and clients, objects and changes (`Tables`). Markup that says nothing is named there by nothing.
 #![tactic(auto)]
 
 pub mod changes;
 mod changes_text;
 mod clients_text;
 mod edges_text;
+mod lines_text;
 mod lists;
 mod marks_text;
 pub mod matrix;
@@ -21,6 +22,6 @@ mod objects_text;
 pub mod page;
 pub mod page_text;
 pub mod style;
+mod verdict_text;
 pub mod ways;
 mod ways_text;
-pub mod words;

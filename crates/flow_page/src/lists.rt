@@ -1,138 +1,65 @@
-//! Lists within a page (own profile).
-ghost use Rattle.std.specs.Prelude.{◌≡◌, ◌++◌, ℕ, List, OnOk, flat_map, string_bytes};
-ghost use Rattle.flow_page.specs.Lists.{between, separated};
+//! Templates and lists within a page.
+ghost use Rattle.std.specs.Prelude.{◌≡◌, ◌++◌, List, OnOk, flat_map};
+ghost use Rattle.shown_text.specs.Pieces.{Fact, facts};
 
-use cosem_data::cell::CellRef;
 use cosem_data::memory::Memory;
-use cosem_data::name::LogicalName;
-use meter_theory::flow::Edge;
-use shown_text::html::Escaped;
-use std::fmt;
-use value_text::cell::CellText;
-use value_text::edge::EdgeText;
+use shown_text::pieces::Piece::Constant;
+use shown_text::pieces::{Piece, put};
 
-/// What stands in a list.
-pub(crate) trait Entry {
-    /// What is shown of it.
-    ghost text: { Self → List ℕ };
+/// The start of a row of a table.
+pub(crate) const ROW: &str = "<tr><th scope=\"row\">";
 
-    /// Puts what is shown of it behind a text. The only error is want of memory, and then a part of it may stand there.
-    fn put(&self, page: &mut String) -> Result<(), Memory>
-        ensures { OnOk result (string_bytes page.new ≡ string_bytes page.old ++ Self.text self.now) };
+/// The start of a field of a row.
+pub(crate) const FIELD: &str = "<td>";
+
+/// The pieces of a part of a page.
+pub(crate) type Pieces<'a> = Vec<Piece<'a>>;
+
+/// Puts a template after other pieces: markup that says nothing, with a value in place of each `{}`.
+pub(crate) fn fill<'a>(
+    pieces: &mut Pieces<'a>,
+    template: &'static str,
+    values: &[Piece<'a>],
+) -> Result<(), Memory>
+    ensures { OnOk result (facts pieces.new.items ≡ facts pieces.old.items ++ facts values.now) }
+{
+    let mut rest = template;
+    for value in values {
+        let (before, after) = rest.split_once("{}").unwrap_or((rest, ""));
+        put(pieces, &[Constant(before), *value])?;
+        rest = after;
+    }
+    put(pieces, &[Constant(rest)])
 }
 
-/// Puts entries behind a text, each between two marks. The only error is want of memory, and then some of them may stand there.
-pub(crate) fn push_between<E: Entry>(
-    before: &str,
-    entries: &[E],
-    after: &str,
-    page: &mut String,
+/// What stands in a list of a page.
+pub(crate) trait Entry {
+    /// What the page says of it.
+    ghost says: { Self → List Fact };
+
+    /// Puts it after other pieces. The only error is want of memory, and then a part of it may stand there.
+    fn put<'a>(&'a self, pieces: &mut Pieces<'a>) -> Result<(), Memory>
+        ensures { OnOk result (facts pieces.new.items ≡ facts pieces.old.items ++ Self.says self.now) };
+}
+
+/// Puts entries after other pieces, with this markup between each two. The only error is want of memory.
+pub(crate) fn put_each<'a, E: Entry>(
+    pieces: &mut Pieces<'a>,
+    separator: &'static str,
+    entries: &'a [E],
 ) -> Result<(), Memory>
-    ensures { OnOk result (string_bytes page.new
-        ≡ string_bytes page.old ++ flat_map (between before.now E.text after.now) entries.now) }
+    ensures { OnOk result (facts pieces.new.items ≡ facts pieces.old.items ++ flat_map E.says entries.now) }
 {
-    for entry in entries {
-        page.push_str(before)?;
-        entry.put(page)?;
-        page.push_str(after)?;
+    for (i, entry) in entries.iter().enumerate() {
+        if i > 0 {
+            put(pieces, &[Constant(separator)])?;
+        }
+        entry.put(pieces)?;
     }
     Ok(())
 }
 
-/// Puts entries behind a text, with a mark between each two. The only error is want of memory, and then some of them may stand
-/// there.
-pub(crate) fn push_separated<E: Entry>(
-    mark: &str,
-    entries: &[E],
-    page: &mut String,
-) -> Result<(), Memory>
-    ensures { OnOk result (string_bytes page.new
-        ≡ string_bytes page.old ++ separated mark.now E.text entries.now) }
-{
-    match entries {
-        [] => Ok(()),
-        [first, rest @ ..] => {
-            first.put(page)?;
-            push_between(mark, rest, "", page)
-        }
-    }
-}
-
-/// A text from outside.
-impl Entry for String {
-    ghost use Rattle.flow_page.specs.Lists.{name_text};
-
-    ghost text = { name_text };
-
-    fn put(&self, page: &mut String) -> Result<(), Memory> {
-        write!(page, "{}", Escaped(self))?;
-        Ok(())
-    }
-}
-
-/// A number in decimal.
-impl Entry for u8 {
-    ghost use Rattle.std.specs.Fmt.{decimal};
-
-    ghost text = { decimal };
-
-    fn put(&self, page: &mut String) -> Result<(), Memory> {
-        write!(page, "{self}")?;
-        Ok(())
-    }
-}
-
-/// A logical name.
-impl Entry for LogicalName {
-    ghost use Rattle.cosem_data.specs.Names.{name_text};
-
-    ghost text = { λ name. name_text name.0 };
-
-    fn put(&self, page: &mut String) -> Result<(), Memory> {
-        write!(page, "{self}")?;
-        Ok(())
-    }
-}
-
-/// A cell.
-impl Entry for CellRef {
-    ghost use Rattle.value_text.specs.Texts.{cell_text};
-
-    ghost text = { cell_text };
-
-    fn put(&self, page: &mut String) -> Result<(), Memory> {
-        write!(page, "{}", CellText(*self))?;
-        Ok(())
-    }
-}
-
-/// An edge, as `edges` prints it: `>` stands for itself between tags (HTML Living Standard, section 13.1.3).
-impl Entry for Edge {
-    ghost use Rattle.value_text.specs.Edges.{edge_text};
-
-    ghost text = { edge_text };
-
-    fn put(&self, page: &mut String) -> Result<(), Memory> {
-        write!(page, "{}", EdgeText(*self))?;
-        Ok(())
-    }
-}
-
-/// The start of a part of a page that scrolls, under the name of the heading that is its label.
-#[derive(Clone, Copy)]
-pub(crate) struct Region<'a>(pub &'a str);
-
-impl fmt::Display for Region<'_> {
-    ghost use Rattle.std.specs.Prelude.{Some};
-    ghost use Rattle.flow_page.specs.Lists.{region_text};
-
-    ghost output = { λ region. Some (region_text region.0.now) };
-
-    fn fmt<W: fmt::Write>(&self, f: &mut fmt::Formatter<W>) -> fmt::Result {
-        let heading = self.0;
-        write!(
-            f,
-            "<div class=\"scroll low\" tabindex=\"0\" role=\"region\" aria-labelledby=\"{heading}\">"
-        )
-    }
+/// The template for one thing or for several.
+pub(crate) fn for_number(number: usize, one: &'static str, several: &'static str) -> &'static str {
+    if number == 1 { one } else { several }
 }

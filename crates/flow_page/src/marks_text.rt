@@ -1,199 +1,144 @@
-//! The text of the marks of the matrix (own profile).
-ghost use Rattle.std.specs.Prelude.{◌≡◌, ◌++◌, OnOk, string_bytes};
-ghost use Rattle.flow_page.specs.Marks as spec;
+//! The marks of the matrix, as pieces.
+ghost use Rattle.std.specs.Prelude.{◌≡◌, ◌++◌, OnOk};
+ghost use Rattle.shown_text.specs.Pieces.{facts};
+ghost use Rattle.flow_page.specs.Matrix as spec;
 
-use crate::lists::push_separated;
-use crate::matrix::{Found, Mark, WayLink};
+use crate::lines_text::{ACT, GET, SET, put_request};
+use crate::lists::{Entry, FIELD, Pieces, fill, put_each};
+use crate::matrix;
+use crate::matrix::{Found, WayLink};
+use crate::ways_text::{by_reach, put_anchor};
 use cosem_data::memory::Memory;
-use flow_changes::kind::Change;
-use flow_ways::granting::GrantedRequest;
-use meter_theory::flow::Reach;
-use shown_text::html::Piece;
-use std::fmt;
+use flow_map::kind::Change;
+use flow_map::request::GrantedRequest;
+use shown_text::pieces::Piece::{Mark, Number};
 
-/// A mark of what is gained or lost.
-#[derive(Clone, Copy, Drop)]
-struct Sign(Option<Change>);
+const GAINED: &str = "+ ";
 
-impl fmt::Display for Sign {
-    ghost use Rattle.std.specs.Prelude.{Some};
-    ghost use Rattle.flow_page.specs.Marks.{sign_text};
+const LOST: &str = "&minus; ";
 
-    ghost output = { λ sign. Some (sign_text sign.0) };
+/// What stands in a mark where there is no way: of what the policy allows, and of what it doesn't.
+const NO_WAY: &str = "&#9675;";
 
-    fn fmt<W: fmt::Write>(&self, f: &mut fmt::Formatter<W>) -> fmt::Result {
-        match self.0 {
-            None => f.write_str(""),
-            Some(Change::Gained) => f.write_str("+ "),
-            Some(Change::Lost) => f.write_str("&minus; "),
-        }
+const NEITHER: &str = "&middot;";
+
+/// The classes of marks.
+const MAY_CHANGE: &str = "m c";
+
+const MAY_LEARN: &str = "m l";
+
+const NOT_ALLOWED: &str = "m x";
+
+/// What is read before a mark that the policy doesn't allow.
+const ALARM: &str = "! ";
+
+const BY_EDGES: &str = "&rarr;";
+
+/// The sign of what is gained or lost.
+fn sign_of(change: Option<Change>) -> &'static str
+    ensures { result.now ≡ spec.sign_of change }
+{
+    match change {
+        None => "",
+        Some(Change::Gained) => GAINED,
+        Some(Change::Lost) => LOST,
     }
 }
 
-/// The word of a right, or how many edges.
-impl fmt::Display for Found {
-    ghost use Rattle.std.specs.Prelude.{Some};
-    ghost use Rattle.flow_page.specs.Marks.{found_text};
-
-    ghost output = { λ found. Some (found_text found) };
-
-    fn fmt<W: fmt::Write>(&self, f: &mut fmt::Formatter<W>) -> fmt::Result {
-        match self {
-            Found::Right(GrantedRequest::Get(_)) => f.write_str("get"),
-            Found::Right(GrantedRequest::Set(_)) => f.write_str("set"),
-            Found::Right(GrantedRequest::Act(_)) => f.write_str("act"),
-            Found::Right(GrantedRequest::Execute(_, _)) => f.write_str("act"),
-            Found::Edges(edges) => write!(f, "&rarr;{edges}"),
-        }
+/// Puts the word of a right, or how many edges, after other pieces.
+fn put_found(pieces: &mut Pieces<'_>, found: Found) -> Result<(), Memory>
+    ensures { OnOk result (facts pieces.new.items ≡ facts pieces.old.items ++ spec.found_facts found) }
+{
+    match found {
+        Found::Right(GrantedRequest::Get(_)) => fill(pieces, "{}", &[Mark(GET)]),
+        Found::Right(GrantedRequest::Set(_)) => fill(pieces, "{}", &[Mark(SET)]),
+        Found::Right(GrantedRequest::Act(_)) => fill(pieces, "{}", &[Mark(ACT)]),
+        Found::Right(GrantedRequest::Execute(_, _)) => fill(pieces, "{}", &[Mark(ACT)]),
+        Found::Edges(edges) => fill(pieces, "{}{}", &[Mark(BY_EDGES), Number(edges as u128)]),
     }
 }
 
-/// The attribute that tells the request of a right to a method, whose word alone doesn't.
-#[derive(Clone, Copy, Drop)]
-struct Title(Found);
-
-impl fmt::Display for Title {
-    ghost use Rattle.std.specs.Prelude.{Some};
-    ghost use Rattle.flow_page.specs.Marks.{title_text};
-
-    ghost output = { λ title. Some (title_text title.0) };
-
-    fn fmt<W: fmt::Write>(&self, f: &mut fmt::Formatter<W>) -> fmt::Result {
-        match self.0 {
-            Found::Right(GrantedRequest::Get(_)) => f.write_str(""),
-            Found::Right(GrantedRequest::Set(_)) => f.write_str(""),
-            Found::Right(request) => write!(f, " title=\"{request}\""),
-            Found::Edges(_) => f.write_str(""),
+/// Puts the attribute with the request of a right to a method, whose word alone doesn't say which, after other pieces.
+fn put_title(pieces: &mut Pieces<'_>, found: Found) -> Result<(), Memory>
+    ensures { OnOk result (facts pieces.new.items ≡ facts pieces.old.items ++ spec.title_facts found) }
+{
+    match found {
+        Found::Right(GrantedRequest::Get(_)) => Ok(()),
+        Found::Right(GrantedRequest::Set(_)) => Ok(()),
+        Found::Right(request) => {
+            fill(pieces, " title=\"", &[])?;
+            put_request(pieces, request)?;
+            fill(pieces, "\"", &[])
         }
+        Found::Edges(_) => Ok(()),
     }
 }
 
-/// The class of a mark.
-#[derive(Clone, Copy, Drop)]
-struct Sort {
-    reach: Reach,
-    allowed: bool,
+/// Puts the place of a way, to which the mark is a link, and its first lines after other pieces.
+fn put_link<'a>(pieces: &mut Pieces<'a>, link: &'a WayLink) -> Result<(), Memory>
+    ensures { OnOk result (facts pieces.new.items ≡ facts pieces.old.items ++ spec.link_facts link.now) }
+{
+    put_anchor(pieces, " href=\"#{}{}-{}\" title=\"", link.anchor)?;
+    put_each(pieces, "&#10;", &link.title)?;
+    fill(pieces, "\"", &[])
 }
 
-impl fmt::Display for Sort {
-    ghost use Rattle.std.specs.Prelude.{Some};
-    ghost use Rattle.flow_page.specs.Marks.{sort_text};
-
-    ghost output = { λ sort. Some (sort_text sort.reach sort.allowed) };
-
-    fn fmt<W: fmt::Write>(&self, f: &mut fmt::Formatter<W>) -> fmt::Result {
-        if !self.allowed {
-            return f.write_str("m x");
-        }
-        match self.reach {
-            Reach::Influence => f.write_str("m c"),
-            Reach::Learn => f.write_str("m l"),
-        }
-    }
-}
-
-/// What is read in a mark by which a client reaches a cell.
-#[derive(Clone, Copy, Drop)]
-struct Word {
-    change: Option<Change>,
-    allowed: bool,
-    found: Found,
-}
-
-impl fmt::Display for Word {
-    ghost use Rattle.std.specs.Prelude.{Some};
-    ghost use Rattle.flow_page.specs.Marks.{word_text};
-
-    ghost output = { λ word. Some (word_text word.change word.allowed word.found) };
-
-    fn fmt<W: fmt::Write>(&self, f: &mut fmt::Formatter<W>) -> fmt::Result {
-        let sign = Sign(self.change);
-        let found = self.found;
+impl matrix::Mark {
+    /// The class of the mark.
+    fn sort(&self) -> &'static str
+        ensures { result.now ≡ spec.sort_of self.now }
+    {
         if self.allowed {
-            write!(f, "{sign}{found}")
+            by_reach(self.reach, MAY_CHANGE, MAY_LEARN)
         } else {
-            write!(f, "{sign}! {found}")
+            NOT_ALLOWED
         }
     }
-}
 
-impl Mark {
-    /// Puts what stands in the mark where there is no way behind a text.
-    fn push_unreached(&self, page: &mut String) -> Result<(), Memory>
-        ensures { OnOk result (string_bytes page.new ≡ string_bytes page.old ++ spec.unreached_text self.now) }
+    /// Puts what is read in the mark, where there is a way, after other pieces.
+    fn put_word(&self, found: Found, pieces: &mut Pieces<'_>) -> Result<(), Memory>
+        ensures { OnOk result (facts pieces.new.items ≡ facts pieces.old.items ++ spec.word_facts self.now found) }
     {
-        let sign = Sign(self.change);
-        if self.allowed {
-            write!(page, "{sign}&#9675;")?;
+        let alarm = if self.allowed { "" } else { ALARM };
+        fill(pieces, "{}{}", &[Mark(sign_of(self.change)), Mark(alarm)])?;
+        put_found(pieces, found)
+    }
+
+    /// Puts what stands in the mark, where there is a way, after other pieces: a link to it, if the page shows it.
+    fn put_reached<'a>(&'a self, found: Found, pieces: &mut Pieces<'a>) -> Result<(), Memory>
+        ensures { OnOk result (facts pieces.new.items ≡ facts pieces.old.items ++ spec.reached_facts self.now found) }
+    {
+        let sort = Mark(self.sort());
+        if let Some(link) = &self.link {
+            fill(pieces, "<a class=\"{}\"", &[sort])?;
+            put_link(pieces, link)?;
+            fill(pieces, ">", &[])?;
+            self.put_word(found, pieces)?;
+            fill(pieces, "</a>", &[])
         } else {
-            write!(page, "{sign}&middot;")?;
-        }
-        Ok(())
-    }
-
-    /// Puts what stands in the mark behind a text, with a link to the way that is told.
-    fn push_link(&self, found: Found, link: &WayLink, page: &mut String) -> Result<(), Memory>
-        ensures { OnOk result (string_bytes page.new
-            ≡ string_bytes page.old ++ spec.link_text self.now found link.now) }
-    {
-        let sort = Sort {
-            reach: self.reach,
-            allowed: self.allowed,
-        };
-        let word = Word {
-            change: self.change,
-            allowed: self.allowed,
-            found,
-        };
-        let anchor = link.anchor;
-        write!(page, "<a class=\"{sort}\" href=\"#{anchor}\" title=\"")?;
-        push_separated("&#10;", &link.title, page)?;
-        write!(page, "\">{word}</a>")?;
-        Ok(())
-    }
-
-    /// Puts what stands in the mark behind a text, where no way is told.
-    fn push_plain(&self, found: Found, page: &mut String) -> Result<(), Memory>
-        ensures { OnOk result (string_bytes page.new ≡ string_bytes page.old ++ spec.plain_text self.now found) }
-    {
-        let sort = Sort {
-            reach: self.reach,
-            allowed: self.allowed,
-        };
-        let title = Title(found);
-        let word = Word {
-            change: self.change,
-            allowed: self.allowed,
-            found,
-        };
-        write!(page, "<b class=\"{sort}\"{title}>{word}</b>")?;
-        Ok(())
-    }
-
-    /// Puts what stands in the mark behind a text.
-    fn push_inside(&self, page: &mut String) -> Result<(), Memory>
-        ensures { OnOk result (string_bytes page.new ≡ string_bytes page.old ++ spec.inside_text self.now) }
-    {
-        let Some(found) = self.found else {
-            return self.push_unreached(page);
-        };
-        match &self.link {
-            Some(link) => self.push_link(found, link, page),
-            None => self.push_plain(found, page),
+            fill(pieces, "<b class=\"{}\"", &[sort])?;
+            put_title(pieces, found)?;
+            fill(pieces, ">", &[])?;
+            self.put_word(found, pieces)?;
+            fill(pieces, "</b>", &[])
         }
     }
 }
 
 /// A field of the matrix.
-impl Piece for Mark {
-    ghost use Rattle.flow_page.specs.Marks.{mark_text};
+impl Entry for matrix::Mark {
+    ghost use Rattle.flow_page.specs.Matrix.{mark_facts};
 
-    ghost text = { mark_text };
+    ghost says = { mark_facts };
 
-    fn push(&self, page: &mut String) -> Result<(), Memory> {
-        write!(page, "<td>")?;
-        self.push_inside(page)?;
-        write!(page, "</td>")?;
-        Ok(())
+    fn put<'a>(&'a self, pieces: &mut Pieces<'a>) -> Result<(), Memory> {
+        fill(pieces, "{}", &[Mark(FIELD)])?;
+        if let Some(found) = self.found {
+            self.put_reached(found, pieces)?;
+        } else {
+            let dot = if self.allowed { NO_WAY } else { NEITHER };
+            fill(pieces, "{}{}", &[Mark(sign_of(self.change)), Mark(dot)])?;
+        }
+        fill(pieces, "</td>", &[])
     }
 }

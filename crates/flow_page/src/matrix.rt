@@ -1,8 +1,8 @@
 //! The matrix of a page: who reaches what.
 use crate::ways::{Anchor, WayLine};
 use cosem_data::cell::CellRef;
-use flow_changes::kind::Change;
-use flow_ways::granting::GrantedRequest;
+use flow_map::kind::Change;
+use flow_map::request::GrantedRequest;
 use meter_theory::flow::Reach;
 
 /// A row of the matrix: a cell, or cells of one class and attribute that have the same marks.
@@ -17,11 +17,11 @@ pub struct MatrixRow {
 }
 
 /// Where a row stands among others: rows of single cells of one object stand together.
-#[derive(Clone, Copy, Debug, PartialEq, Eq, Drop)]
+#[derive(Clone, Copy, Drop)]
 pub enum Opening {
     /// It is the first of all.
     First,
-    /// It begins a group behind another.
+    /// It begins a group after another.
     Next,
     /// It goes on with the group of the row before it.
     Same,
@@ -38,12 +38,12 @@ pub struct Mark {
     pub allowed: bool,
     /// Whether it is gained or lost against the configuration before, or neither.
     pub change: Option<Change>,
-    /// The row of its way, if that is told.
+    /// The row of its way, if the page shows it.
     pub link: Option<WayLink>,
 }
 
 /// By what a client reaches a cell.
-#[derive(Clone, Copy, Debug, PartialEq, Eq, Drop)]
+#[derive(Clone, Copy, Drop)]
 pub enum Found {
     /// By a right, which allows this request.
     Right(GrantedRequest),
@@ -51,7 +51,7 @@ pub enum Found {
     Edges(usize),
 }
 
-/// Where a page tells a way, and the first lines of it.
+/// Where a page shows a way, and the first lines of it.
 #[derive(Drop)]
 pub struct WayLink {
     /// Where.

@@ -1,39 +1,38 @@
-//! The text of the matrix (own profile).
-ghost use Rattle.std.specs.Prelude.{◌≡◌, ◌+◌, ◌++◌, OnOk, flat_map, string_bytes};
+//! The matrix, as pieces.
+ghost use Rattle.std.specs.Prelude.{◌≡◌, ◌+◌, ◌++◌, OnOk, flat_map};
+ghost use Rattle.shown_text.specs.Pieces.{facts};
 ghost use Rattle.flow_page.specs.Matrix as spec;
 
-use crate::lists::push_between;
+use crate::clients_text::put_names;
+use crate::lists::{Entry, Pieces, ROW, fill, put_each};
 use crate::matrix::{MatrixRow, Opening};
 use crate::page::{ClientRow, Counts, Page};
-use crate::words::CellName;
 use cosem_data::cell::CellRef;
 use cosem_data::memory::Memory;
-use shown_text::html::{Piece, push_all};
-use std::fmt;
-use value_text::cell::CellText;
+use flow_map::class_words::{attribute_name, class_name};
+use shown_text::pieces::Piece::{Cell, Constant, Mark, Name, Number, Place};
 
-/// What the marks mean.
-const KEY: &str =
-    r#"<li><b class="m c">set</b><b class="m c">act</b> may change by a right</li><li><i class="c">&rarr;2</i> may change by 2 edges</li><li><b class="m l">get</b> may learn by a right</li><li><i class="l">&rarr;2</i> may learn by 2 edges</li><li><i class="x">! &rarr;2</i> not allowed by the policy</li><li><span class="dot">&#9675;</span> allowed, but no way</li><li><span class="dot">&middot;</span> neither</li>"#;
-
-/// What the marks of changes mean.
-const CHANGES_KEY: &str = "<li>+ gained</li><li>&minus; lost</li>";
-
-/// What the matrix is about.
-const HEADING: &str = r#"<h2 id="matrix">Who reaches what</h2>
-<p>For each cell and client: may it change the cell, and may it learn it, by a right of its own or by way of the meter&#39;s edges."#;
-
-/// What stands in its place where there are no clients.
+/// What stands in place of the matrix where there are no clients.
 const NOBODY: &str = r#"<h2 id="matrix">Who reaches what</h2>
 <p>There are no clients: nobody reaches a cell.</p>
 "#;
 
-/// What is said where cells share rows.
+/// What stands for the attribute of what a register monitor has seen.
+const SEEN: &str = "seen";
+
+/// What the matrix is about, what its marks mean, and what is said where cells share rows and where changes are shown.
+const FRONT: &str = r#"<h2 id="matrix">Who reaches what</h2>
+<p>For each cell and client: may it change the cell, and may it learn it, by a right of its own or by way of the meter&#39;s edges.{}</p>
+<ul class="key"><li><b class="m c">set</b><b class="m c">act</b> may change by a right</li><li><i class="c">&rarr;2</i> may change by 2 edges</li><li><b class="m l">get</b> may learn by a right</li><li><i class="l">&rarr;2</i> may learn by 2 edges</li><li><i class="x">! &rarr;2</i> not allowed by the policy</li><li><span class="dot">&#9675;</span> allowed, but no way</li><li><span class="dot">&middot;</span> neither</li>{}</ul>
+"#;
+
 const SHARED: &str = " Alike cells share a row; its first cell stands for them in the ways.";
+
+const CHANGES_KEY: &str = "<li>+ gained</li><li>&minus; lost</li>";
 
 /// The form by which the script filters rows.
 const FILTER: &str =
-    r#"<form class="find" hidden><label>Rows with <input type="search" name="q" placeholder="1.0.99 or buffer"></label><label><input type="checkbox" name="x"> only with something not allowed</label><output>"#;
+    "<form class=\"find\" hidden><label>Rows with <input type=\"search\" name=\"q\" placeholder=\"1.0.99 or buffer\"></label><label><input type=\"checkbox\" name=\"x\"> only with something not allowed</label><output>{} rows</output></form>\n";
 
 /// From so many rows on there is that form.
 const MANY_ROWS: usize = 21;
@@ -41,102 +40,83 @@ const MANY_ROWS: usize = 21;
 /// From so many clients on the table is printed smaller.
 const MANY_CLIENTS: usize = 10;
 
+const TABLE: &str =
+    "<div class=\"scroll\" tabindex=\"0\" role=\"region\" aria-labelledby=\"matrix\"><table class=\"matrix{}\">\n<thead><tr><th scope=\"col\" rowspan=\"2\">Cell</th>";
+
+const COLUMNS: &str =
+    "<th scope=\"col\">change<br><b>{}</b></th><th scope=\"col\">learn<br><b>{}</b></th>";
+
+const CELLS: &str =
+    "<details><summary>{} &times; <code>{}/*/{}</code> <small>{}, {}, from {}</small></summary><ul class=\"list\"><li><code>";
+
 /// What stands before a row.
-impl fmt::Display for Opening {
-    ghost use Rattle.std.specs.Prelude.{Some};
-    ghost use Rattle.flow_page.specs.Matrix.{opening_text};
-
-    ghost output = { λ opening. Some (opening_text opening) };
-
-    fn fmt<W: fmt::Write>(&self, f: &mut fmt::Formatter<W>) -> fmt::Result {
-        match self {
-            Opening::First => f.write_str("<tbody>\n"),
-            Opening::Next => f.write_str("</tbody>\n<tbody>\n"),
-            Opening::Same => f.write_str(""),
-        }
+fn opening_of(opening: Opening) -> &'static str {
+    match opening {
+        Opening::First => "<tbody>\n",
+        Opening::Next => "</tbody>\n<tbody>\n",
+        Opening::Same => "",
     }
 }
 
-/// What cells of one class and attribute have in common: `class_id/*/attribute`.
-#[derive(Clone, Copy, Drop)]
-struct Pattern(CellRef);
+/// A cell of a list.
+impl Entry for CellRef {
+    ghost use Rattle.flow_page.specs.Matrix.{listed_cell};
 
-impl fmt::Display for Pattern {
-    ghost use Rattle.std.specs.Prelude.{Some};
-    ghost use Rattle.flow_page.specs.Matrix.{pattern_text};
+    ghost says = { listed_cell };
 
-    ghost output = { λ pattern. Some (pattern_text pattern.0) };
-
-    fn fmt<W: fmt::Write>(&self, f: &mut fmt::Formatter<W>) -> fmt::Result {
-        let CellRef {
-            class_id,
-            index,
-            ..
-        } = self.0;
-        if index == 0 {
-            write!(f, "{class_id}/*/seen")
-        } else {
-            write!(f, "{class_id}/*/{index}")
-        }
+    fn put<'a>(&'a self, pieces: &mut Pieces<'a>) -> Result<(), Memory> {
+        fill(pieces, "{}", &[Cell(*self)])
     }
 }
 
-/// Puts the head of a row of one cell behind a text.
-fn push_cell(cell: &CellRef, page: &mut String) -> Result<(), Memory>
-    ensures { OnOk result (string_bytes page.new ≡ string_bytes page.old ++ spec.cell_head cell.now) }
+/// Puts the head of a row of cells, of which this is the first, after other pieces.
+fn put_cells<'a>(
+    pieces: &mut Pieces<'a>,
+    first: &CellRef,
+    cells: &'a [CellRef],
+) -> Result<(), Memory>
+    ensures { OnOk result (facts pieces.new.items ≡ facts pieces.old.items ++ spec.cells_facts first.now cells.now) }
 {
-    let name = CellName(*cell);
-    let cell = CellText(*cell);
-    write!(page, "<code>{cell}</code> <small>{name}</small>")?;
-    Ok(())
-}
-
-/// Puts the head of a row of cells, of which this is the first, behind a text.
-fn push_cells(first: &CellRef, cells: &[CellRef], page: &mut String) -> Result<(), Memory>
-    ensures { OnOk result (string_bytes page.new ≡ string_bytes page.old ++ spec.cells_head first.now cells.now) }
-{
-    let count = cells.len();
-    let pattern = Pattern(*first);
-    let name = CellName(*first);
-    let from = first.name;
-    write!(
-        page,
-        "<details><summary>{count} &times; <code>{pattern}</code> <small>{name}, from {from}</small></summary>"
-    )?;
-    write!(page, "<ul class=\"list\">")?;
-    push_between("<li><code>", cells, "</code></li>", page)?;
-    write!(page, "</ul></details>")?;
-    Ok(())
-}
-
-/// Puts the head of a row of these cells behind a text.
-fn push_head(cells: &[CellRef], page: &mut String) -> Result<(), Memory>
-    ensures { OnOk result (string_bytes page.new ≡ string_bytes page.old ++ spec.head_text cells.now) }
-{
-    let Some(first) = cells.first() else {
-        return Ok(());
-    };
+    let class = Mark(class_name(first.class_id));
+    let attribute = Mark(attribute_name(first.class_id, first.index));
     if cells.len() == 1 {
-        push_cell(first, page)
-    } else {
-        push_cells(first, cells, page)
+        let template = "<code>{}</code> <small>{}, {}</small>";
+        return fill(pieces, template, &[Cell(*first), class, attribute]);
     }
+    let count = Number(cells.len() as u128);
+    let class_id = Number(first.class_id as u128);
+    let index = if first.index == 0 {
+        Mark(SEEN)
+    } else {
+        Number(first.index as u128)
+    };
+    fill(
+        pieces,
+        CELLS,
+        &[count, class_id, index, class, attribute, Name(first.name)],
+    )?;
+    put_each(pieces, "</code></li><li><code>", cells)?;
+    fill(pieces, "</code></li></ul></details>", &[])
 }
 
 /// A row of the matrix.
-impl Piece for MatrixRow {
-    ghost use Rattle.flow_page.specs.Matrix.{row_text};
+impl Entry for MatrixRow {
+    ghost use Rattle.flow_page.specs.Matrix.{row_facts};
 
-    ghost text = { row_text };
+    ghost says = { row_facts };
 
-    fn push(&self, page: &mut String) -> Result<(), Memory> {
-        write!(page, "{}", self.opening)?;
-        write!(page, "<tr><th scope=\"row\">")?;
-        push_head(&self.cells, page)?;
-        write!(page, "</th>")?;
-        push_all(&self.marks, page)?;
-        write!(page, "</tr>\n")?;
-        Ok(())
+    fn put<'a>(&'a self, pieces: &mut Pieces<'a>) -> Result<(), Memory> {
+        fill(
+            pieces,
+            "{}{}",
+            &[Constant(opening_of(self.opening)), Mark(ROW)],
+        )?;
+        if let Some(first) = self.cells.first() {
+            put_cells(pieces, first, &self.cells)?;
+        }
+        fill(pieces, "</th>", &[])?;
+        put_each(pieces, "", &self.marks)?;
+        fill(pieces, "</tr>\n", &[])
     }
 }
 
@@ -149,183 +129,74 @@ impl Counts {
     }
 }
 
-impl ClientRow {
-    /// Puts the heads of the client's two columns behind a text.
-    fn push_columns(&self, page: &mut String) -> Result<(), Memory>
-        ensures { OnOk result (string_bytes page.new ≡ string_bytes page.old ++ spec.columns_text self.now) }
-    {
-        let influence = self.influence.reached();
-        let learn = self.learn.reached();
-        write!(
-            page,
-            "<th scope=\"col\">change<br><b>{influence}</b></th><th scope=\"col\">learn<br><b>{learn}</b></th>"
-        )?;
-        Ok(())
-    }
-}
-
-/// Puts the heads of all clients' columns behind a text.
-fn push_columns(clients: &[ClientRow], page: &mut String) -> Result<(), Memory>
-    ensures { OnOk result (string_bytes page.new
-        ≡ string_bytes page.old ++ flat_map spec.columns_text clients.now) }
+/// Puts the heads of clients' columns, two for each client, after other pieces.
+fn put_columns(pieces: &mut Pieces<'_>, clients: &[ClientRow]) -> Result<(), Memory>
+    ensures { OnOk result (facts pieces.new.items ≡ facts pieces.old.items ++ flat_map spec.column_facts clients.now) }
 {
     for client in clients {
-        client.push_columns(page)?;
+        let changed = Number(client.influence.reached());
+        let learned = Number(client.learn.reached());
+        fill(pieces, COLUMNS, &[changed, learned])?;
     }
     Ok(())
 }
 
-/// Whether cells share rows, in words.
-#[derive(Clone, Copy, Drop)]
-struct Sharing {
-    rows: usize,
-    cells: usize,
-}
-
-impl fmt::Display for Sharing {
-    ghost use Rattle.std.specs.Prelude.{Some};
-    ghost use Rattle.flow_page.specs.Matrix.{sharing_text};
-
-    ghost output = { λ sharing. Some (sharing_text sharing.rows sharing.cells) };
-
-    fn fmt<W: fmt::Write>(&self, f: &mut fmt::Formatter<W>) -> fmt::Result {
-        if self.rows == self.cells {
-            f.write_str("")
-        } else {
-            f.write_str(SHARED)
-        }
-    }
-}
-
-/// The form that filters so many rows, where they are many.
-#[derive(Clone, Copy, Drop)]
-struct Filter(usize);
-
-impl fmt::Display for Filter {
-    ghost use Rattle.std.specs.Prelude.{Some};
-    ghost use Rattle.flow_page.specs.Matrix.{filter_text};
-
-    ghost output = { λ filter. Some (filter_text filter.0) };
-
-    fn fmt<W: fmt::Write>(&self, f: &mut fmt::Formatter<W>) -> fmt::Result {
-        let rows = self.0;
-        if rows < MANY_ROWS {
-            f.write_str("")
-        } else {
-            write!(f, "{FILTER}{rows} rows</output></form>\n")
-        }
-    }
-}
-
-/// What the marks of changes mean, where changes are shown.
-#[derive(Clone, Copy, Drop)]
-struct ChangesKey(bool);
-
-impl fmt::Display for ChangesKey {
-    ghost use Rattle.std.specs.Prelude.{Some};
-    ghost use Rattle.flow_page.specs.Matrix.{changes_key};
-
-    ghost output = { λ key. Some (changes_key key.0) };
-
-    fn fmt<W: fmt::Write>(&self, f: &mut fmt::Formatter<W>) -> fmt::Result {
-        if self.0 {
-            f.write_str(CHANGES_KEY)
-        } else {
-            f.write_str("")
-        }
-    }
-}
-
-/// The class of a table with so many clients.
-#[derive(Clone, Copy, Drop)]
-struct Many(usize);
-
-impl fmt::Display for Many {
-    ghost use Rattle.std.specs.Prelude.{Some};
-    ghost use Rattle.flow_page.specs.Matrix.{many_text};
-
-    ghost output = { λ many. Some (many_text many.0) };
-
-    fn fmt<W: fmt::Write>(&self, f: &mut fmt::Formatter<W>) -> fmt::Result {
-        if self.0 < MANY_CLIENTS {
-            f.write_str("")
-        } else {
-            f.write_str(" many")
-        }
-    }
-}
-
-/// Puts the end of the last group of rows behind a text, if there are rows.
-fn push_rows_end(rows: &[MatrixRow], page: &mut String) -> Result<(), Memory>
-    ensures { OnOk result (string_bytes page.new ≡ string_bytes page.old ++ spec.rows_end rows.now) }
+/// Puts what stands before the table after other pieces.
+fn put_front(pieces: &mut Pieces<'_>, page: &Page) -> Result<(), Memory>
+    ensures { OnOk result (facts pieces.new.items ≡ facts pieces.old.items) }
 {
-    if !rows.is_empty() {
-        write!(page, "</tbody>\n")?;
+    let rows = page.rows.len();
+    let sharing = if rows == page.cell_count { "" } else { SHARED };
+    let key = if page.changes.is_some() {
+        CHANGES_KEY
+    } else {
+        ""
+    };
+    fill(pieces, FRONT, &[Constant(sharing), Constant(key)])?;
+    if rows < MANY_ROWS {
+        return Ok(());
     }
-    Ok(())
+    fill(pieces, FILTER, &[Place(rows as u128)])
 }
 
-impl Page {
-    /// Puts what stands before the table of the matrix behind a text.
-    fn push_matrix_front(&self, page: &mut String) -> Result<(), Memory>
-        ensures { OnOk result (string_bytes page.new ≡ string_bytes page.old ++ spec.front_text self.now) }
-    {
-        let rows = self.rows.len();
-        let sharing = Sharing {
-            rows,
-            cells: self.cell_count,
-        };
-        let changes = ChangesKey(self.changes.is_some());
-        let filter = Filter(rows);
-        write!(
-            page,
-            "{HEADING}{sharing}</p>\n<ul class=\"key\">{KEY}{changes}</ul>\n{filter}"
-        )?;
-        Ok(())
-    }
+/// Puts the head of the table after other pieces.
+fn put_head<'a>(pieces: &mut Pieces<'a>, clients: &'a [ClientRow]) -> Result<(), Memory>
+    ensures { OnOk result (facts pieces.new.items ≡ facts pieces.old.items ++ spec.head_facts clients.now) }
+{
+    let size = if clients.len() < MANY_CLIENTS {
+        ""
+    } else {
+        " many"
+    };
+    fill(pieces, TABLE, &[Constant(size)])?;
+    put_names(
+        pieces,
+        "<th scope=\"colgroup\" colspan=\"2\">{}</th>",
+        clients,
+    )?;
+    fill(pieces, "</tr>\n<tr>", &[])?;
+    put_columns(pieces, clients)?;
+    fill(pieces, "</tr></thead>\n", &[])
+}
 
-    /// Puts the head of the table behind a text.
-    fn push_matrix_head(&self, page: &mut String) -> Result<(), Memory>
-        ensures { OnOk result (string_bytes page.new ≡ string_bytes page.old ++ spec.table_head self.now) }
-    {
-        let many = Many(self.clients.len());
-        write!(
-            page,
-            "<div class=\"scroll\" tabindex=\"0\" role=\"region\" aria-labelledby=\"matrix\"><table class=\"matrix{many}\">\n<thead><tr><th scope=\"col\" rowspan=\"2\">Cell</th>"
-        )?;
-        push_between(
-            "<th scope=\"colgroup\" colspan=\"2\">",
-            &self.clients,
-            "</th>",
-            page,
-        )?;
-        write!(page, "</tr>\n<tr>")?;
-        push_columns(&self.clients, page)?;
-        write!(page, "</tr></thead>\n")?;
-        Ok(())
-    }
+/// Puts the rows, and the end of the table, after other pieces.
+fn put_rows<'a>(pieces: &mut Pieces<'a>, rows: &'a [MatrixRow]) -> Result<(), Memory>
+    ensures { OnOk result (facts pieces.new.items ≡ facts pieces.old.items ++ flat_map spec.row_facts rows.now) }
+{
+    put_each(pieces, "", rows)?;
+    let end = if rows.is_empty() { "" } else { "</tbody>\n" };
+    fill(pieces, "{}</table></div>\n", &[Constant(end)])
+}
 
-    /// Puts the matrix behind a text, or that there are no clients. The only error is want of memory.
-    pub(crate) fn push_matrix(&self, page: &mut String) -> Result<(), Memory>
-        ensures { OnOk result (string_bytes page.new ≡ string_bytes page.old ++ spec.matrix_text self.now) }
-    {
-        if self.clients.is_empty() {
-            write!(page, "{NOBODY}")?;
-            Ok(())
-        } else {
-            self.push_matrix_table(page)
-        }
+/// Puts the matrix, or that there are no clients, after other pieces.
+pub(crate) fn put_matrix<'a>(pieces: &mut Pieces<'a>, page: &'a Page) -> Result<(), Memory>
+    ensures { OnOk result (facts pieces.new.items
+        ≡ facts pieces.old.items ++ spec.matrix_facts page.now.clients.items page.now.rows.items) }
+{
+    if page.clients.is_empty() {
+        return fill(pieces, "{}", &[Mark(NOBODY)]);
     }
-
-    /// Puts the matrix with what stands before it behind a text.
-    fn push_matrix_table(&self, page: &mut String) -> Result<(), Memory>
-        ensures { OnOk result (string_bytes page.new ≡ string_bytes page.old ++ spec.rows_table self.now) }
-    {
-        self.push_matrix_front(page)?;
-        self.push_matrix_head(page)?;
-        push_all(&self.rows, page)?;
-        push_rows_end(&self.rows, page)?;
-        write!(page, "</table></div>\n")?;
-        Ok(())
-    }
+    put_front(pieces, page)?;
+    put_head(pieces, &page.clients)?;
+    put_rows(pieces, &page.rows)
 }

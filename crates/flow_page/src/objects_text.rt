@@ -1,182 +1,154 @@
-//! The text of the objects and the rights on them (own profile).
-ghost use Rattle.std.specs.Prelude.{◌≡◌, ◌++◌, OnOk, string_bytes};
-ghost use Rattle.flow_page.specs.Objects as spec;
+//! The objects and the rights on them, as pieces.
+ghost use Rattle.std.specs.Prelude.{◌≡◌, ◌++◌, OnOk};
+ghost use Rattle.shown_text.specs.Pieces.{facts};
+ghost use Rattle.flow_page.specs.Tables as spec;
 
-use crate::lists::{Region, push_between, push_separated};
+use crate::clients_text::put_names;
+use crate::lines_text::{ACT, GET, SET};
+use crate::lists::{Entry, FIELD, Pieces, ROW, fill, put_each};
 use crate::objects::{Held, ObjectRow};
-use crate::page::{ClientRow, Page};
-use crate::words::class_name;
+use crate::page::Page;
 use cosem_data::memory::Memory;
 use cosem_data::name::LogicalName;
-use shown_text::html::{Piece, push_all};
+use flow_map::class_words::class_name;
+use shown_text::pieces::Piece::{Constant, Mark, Name, Number};
 
-/// Puts a right to these attributes or methods behind a text, if there are any, with a mark between it and the right before.
-fn push_right(mark: &str, word: &str, indexes: &[u8], page: &mut String) -> Result<(), Memory>
-    ensures { OnOk result (string_bytes page.new
-        ≡ string_bytes page.old ++ spec.right_text mark.now word.now indexes.now) }
+const FED: &str = "fed";
+
+const VIEW: &str = "view";
+
+const NO_OBJECTS: &str = "<p>There are no objects.</p>\n";
+
+const HEAD: &str =
+    "<div class=\"scroll low\" tabindex=\"0\" role=\"region\" aria-labelledby=\"objects\"><table><thead><tr><th scope=\"col\">Logical name</th><th scope=\"col\">Class</th><th scope=\"col\">Class name</th><th scope=\"col\">Inputs</th>";
+
+/// An attribute or a method.
+impl Entry for u8 {
+    ghost use Rattle.flow_page.specs.Tables.{index_facts};
+
+    ghost says = { index_facts };
+
+    fn put<'a>(&'a self, pieces: &mut Pieces<'a>) -> Result<(), Memory> {
+        fill(pieces, "{}", &[Number(*self as u128)])
+    }
+}
+
+/// A logical name.
+impl Entry for LogicalName {
+    ghost use Rattle.flow_page.specs.Tables.{object_name};
+
+    ghost says = { object_name };
+
+    fn put<'a>(&'a self, pieces: &mut Pieces<'a>) -> Result<(), Memory> {
+        fill(pieces, "{}", &[Name(*self)])
+    }
+}
+
+/// Puts a right to these attributes or methods, if there are any, after other pieces and this markup.
+fn put_right<'a>(
+    pieces: &mut Pieces<'a>,
+    before: &'static str,
+    right: &'static str,
+    indexes: &'a [u8],
+) -> Result<(), Memory>
+    ensures { OnOk result (facts pieces.new.items ≡ facts pieces.old.items ++ spec.right_facts right.now indexes.now) }
 {
     if indexes.is_empty() {
         return Ok(());
     }
-    write!(page, "{mark}{word} ")?;
-    push_separated(" ", indexes, page)
-}
-
-/// The mark between a right and those before it, if there are any.
-fn mark_behind(any: bool) -> &'static str
-    ensures { result.now ≡ spec.mark_behind any }
-{
-    if any { "; " } else { "" }
+    fill(pieces, "{}{} ", &[Constant(before), Mark(right)])?;
+    put_each(pieces, " ", indexes)
 }
 
 impl Held {
-    /// Whether the client may do nothing with the object but see it.
-    fn is_view(&self) -> bool
-        ensures { result ≡ spec.is_view self.now }
+    /// Puts the rights after other pieces.
+    fn put_rights<'a>(&'a self, pieces: &mut Pieces<'a>) -> Result<(), Memory>
+        ensures { OnOk result (facts pieces.new.items ≡ facts pieces.old.items ++ spec.rights_facts self.now) }
     {
-        self.gets.is_empty() && self.sets.is_empty() && self.acts.is_empty()
+        let after_gets = if self.gets.is_empty() { "" } else { "; " };
+        let after_sets = if self.sets.is_empty() {
+            after_gets
+        } else {
+            "; "
+        };
+        put_right(pieces, "", GET, &self.gets)?;
+        put_right(pieces, after_gets, SET, &self.sets)?;
+        put_right(pieces, after_sets, ACT, &self.acts)
     }
 
-    /// Puts the rights behind a text.
-    fn push_rights(&self, page: &mut String) -> Result<(), Memory>
-        ensures { OnOk result (string_bytes page.new ≡ string_bytes page.old ++ spec.rights_text self.now) }
-    {
-        let gets = !self.gets.is_empty();
-        let sets = !self.sets.is_empty();
-        push_right("", "get", &self.gets, page)?;
-        push_right(mark_behind(gets), "set", &self.sets, page)?;
-        push_right(mark_behind(gets || sets), "act", &self.acts, page)?;
-        Ok(())
-    }
-
-    /// Puts what the client may do behind a text.
-    fn push_held(&self, page: &mut String) -> Result<(), Memory>
-        ensures { OnOk result (string_bytes page.new ≡ string_bytes page.old ++ spec.held_text self.now) }
+    /// Puts what the client may do after other pieces.
+    fn put_held<'a>(&'a self, pieces: &mut Pieces<'a>) -> Result<(), Memory>
+        ensures { OnOk result (facts pieces.new.items ≡ facts pieces.old.items ++ spec.held_facts self.now) }
     {
         if !self.sees {
             return Ok(());
         }
-        if self.is_view() {
-            write!(page, "view")?;
-            return Ok(());
+        if self.gets.is_empty() && self.sets.is_empty() && self.acts.is_empty() {
+            return fill(pieces, "{}", &[Mark(VIEW)]);
         }
-        self.push_rights(page)
+        self.put_rights(pieces)
     }
 }
 
 /// A field of the table.
-impl Piece for Held {
-    ghost use Rattle.flow_page.specs.Objects.{field_text};
+impl Entry for Held {
+    ghost use Rattle.flow_page.specs.Tables.{field_facts};
 
-    ghost text = { field_text };
+    ghost says = { field_facts };
 
-    fn push(&self, page: &mut String) -> Result<(), Memory> {
-        write!(page, "<td>")?;
-        self.push_held(page)?;
-        write!(page, "</td>")?;
-        Ok(())
+    fn put<'a>(&'a self, pieces: &mut Pieces<'a>) -> Result<(), Memory> {
+        fill(pieces, "{}", &[Mark(FIELD)])?;
+        self.put_held(pieces)?;
+        fill(pieces, "</td>", &[])
     }
 }
 
-/// Puts the names of several objects behind a text.
-fn push_several(names: &[LogicalName], page: &mut String) -> Result<(), Memory>
-    ensures { OnOk result (string_bytes page.new ≡ string_bytes page.old ++ spec.several_text names.now) }
-{
-    let count = names.len();
-    write!(page, "<details><summary>{count} objects</summary>")?;
-    write!(page, "<ul class=\"list\">")?;
-    push_between("<li><code>", names, "</code></li>", page)?;
-    write!(page, "</ul></details>")?;
-    Ok(())
-}
-
-/// Puts the names of the objects of a row behind a text.
-fn push_names(names: &[LogicalName], page: &mut String) -> Result<(), Memory>
-    ensures { OnOk result (string_bytes page.new ≡ string_bytes page.old ++ spec.names_text names.now) }
+/// Puts the names of the objects of a row after other pieces.
+fn put_object_names<'a>(pieces: &mut Pieces<'a>, names: &'a [LogicalName]) -> Result<(), Memory>
+    ensures { OnOk result (facts pieces.new.items ≡ facts pieces.old.items ++ spec.names_facts names.now) }
 {
     if names.len() == 1 {
-        push_between("<code>", names, "</code>", page)
-    } else {
-        push_several(names, page)
+        fill(pieces, "<code>", &[])?;
+        put_each(pieces, "", names)?;
+        return fill(pieces, "</code>", &[]);
     }
-}
-
-impl ObjectRow {
-    /// Puts what the objects are behind a text.
-    fn push_class(&self, page: &mut String) -> Result<(), Memory>
-        ensures { OnOk result (string_bytes page.new ≡ string_bytes page.old ++ spec.class_text self.now) }
-    {
-        let class_id = self.class_id;
-        let class = class_name(class_id);
-        if self.is_fed {
-            write!(page, "<td>{class_id}</td><td>{class}</td><td>fed</td>")?;
-        } else {
-            write!(page, "<td>{class_id}</td><td>{class}</td><td></td>")?;
-        }
-        Ok(())
-    }
+    let start = "<details><summary>{} objects</summary><ul class=\"list\"><li><code>";
+    fill(pieces, start, &[Number(names.len() as u128)])?;
+    put_each(pieces, "</code></li><li><code>", names)?;
+    fill(pieces, "</code></li></ul></details>", &[])
 }
 
 /// A row of the table.
-impl Piece for ObjectRow {
-    ghost use Rattle.flow_page.specs.Objects.{row_text};
+impl Entry for ObjectRow {
+    ghost use Rattle.flow_page.specs.Tables.{object_facts};
 
-    ghost text = { row_text };
+    ghost says = { object_facts };
 
-    fn push(&self, page: &mut String) -> Result<(), Memory> {
-        write!(page, "<tr><th scope=\"row\">")?;
-        push_names(&self.names, page)?;
-        write!(page, "</th>")?;
-        self.push_class(page)?;
-        push_all(&self.held, page)?;
-        write!(page, "</tr>\n")?;
-        Ok(())
+    fn put<'a>(&'a self, pieces: &mut Pieces<'a>) -> Result<(), Memory> {
+        fill(pieces, "{}", &[Mark(ROW)])?;
+        put_object_names(pieces, &self.names)?;
+        let class_id = Number(self.class_id as u128);
+        let class = Mark(class_name(self.class_id));
+        let inputs = Mark(if self.is_fed { FED } else { "" });
+        let template = "</th><td>{}</td><td>{}</td><td>{}</td>";
+        fill(pieces, template, &[class_id, class, inputs])?;
+        put_each(pieces, "", &self.held)?;
+        fill(pieces, "</tr>\n", &[])
     }
 }
 
-/// Puts the head of the table of objects behind a text.
-fn push_head(clients: &[ClientRow], page: &mut String) -> Result<(), Memory>
-    ensures { OnOk result (string_bytes page.new ≡ string_bytes page.old ++ spec.table_head clients.now) }
+/// Puts the objects and the rights on them, or that there are none, after other pieces.
+pub(crate) fn put_objects<'a>(pieces: &mut Pieces<'a>, page: &'a Page) -> Result<(), Memory>
+    ensures { OnOk result (facts pieces.new.items
+        ≡ facts pieces.old.items ++ spec.objects_facts page.now.clients.items page.now.objects.items) }
 {
-    write!(page, "{}", Region("objects"))?;
-    write!(
-        page,
-        "<table><thead><tr><th scope=\"col\">Logical name</th><th scope=\"col\">Class</th><th scope=\"col\">Class name</th><th scope=\"col\">Inputs</th>"
-    )?;
-    push_between("<th scope=\"col\">", clients, "</th>", page)?;
-    write!(page, "</tr></thead>\n<tbody>\n")?;
-    Ok(())
-}
-
-/// Puts the table of objects behind a text.
-fn push_rows(clients: &[ClientRow], rows: &[ObjectRow], page: &mut String) -> Result<(), Memory>
-    ensures { OnOk result (string_bytes page.new ≡ string_bytes page.old ++ spec.rows_table clients.now rows.now) }
-{
-    push_head(clients, page)?;
-    push_all(rows, page)?;
-    write!(page, "</tbody></table></div>\n")?;
-    Ok(())
-}
-
-/// Puts the table of objects behind a text, or that there are none.
-fn push_table(clients: &[ClientRow], rows: &[ObjectRow], page: &mut String) -> Result<(), Memory>
-    ensures { OnOk result (string_bytes page.new ≡ string_bytes page.old ++ spec.table_text clients.now rows.now) }
-{
-    if rows.is_empty() {
-        write!(page, "<p>There are no objects.</p>\n")?;
-        Ok(())
-    } else {
-        push_rows(clients, rows, page)
+    fill(pieces, "<h2 id=\"objects\">Objects and rights</h2>\n", &[])?;
+    if page.objects.is_empty() {
+        return fill(pieces, "{}", &[Mark(NO_OBJECTS)]);
     }
-}
-
-impl Page {
-    /// Puts the objects and the rights on them behind a text. The only error is want of memory.
-    pub(crate) fn push_objects(&self, page: &mut String) -> Result<(), Memory>
-        ensures { OnOk result (string_bytes page.new ≡ string_bytes page.old ++ spec.objects_text self.now) }
-    {
-        write!(page, "<h2 id=\"objects\">Objects and rights</h2>\n")?;
-        push_table(&self.clients, &self.objects, page)?;
-        Ok(())
-    }
+    fill(pieces, HEAD, &[])?;
+    put_names(pieces, "<th scope=\"col\">{}</th>", &page.clients)?;
+    fill(pieces, "</tr></thead>\n<tbody>\n", &[])?;
+    put_each(pieces, "", &page.objects)?;
+    fill(pieces, "</tbody></table></div>\n", &[])
 }

@@ -1,6 +1,6 @@
 //! Tables of ways.
 use cosem_data::cell::CellRef;
-use flow_ways::granting::GrantedRequest;
+use flow_map::request::GrantedRequest;
 use meter_theory::flow::{Edge, Reach};
 
 /// A table of ways, those of one right together.
@@ -21,7 +21,7 @@ pub struct WayGroup {
     pub client: String,
     /// The request that the right allows.
     pub request: GrantedRequest,
-    /// How many cells they lead to, where the table has all of them and that is told.
+    /// How many cells they lead to, where the table has all of them and the page shows that.
     pub cells: Option<usize>,
     /// The ways, of which there is at least one.
     pub rows: Vec<WayRow>,
@@ -41,7 +41,7 @@ pub struct WayRow {
 }
 
 /// The place of a way on a page, by the numbers of its client and its cell.
-#[derive(Clone, Copy, Debug, PartialEq, Eq, Drop)]
+#[derive(Clone, Copy, Drop)]
 pub struct Anchor {
     /// Whether it is a way of influence or of learning.
     pub reach: Reach,

@@ -1,262 +1,246 @@
-//! The text of tables of ways (own profile).
-ghost use Rattle.std.specs.Prelude.{◌≡◌, ◌++◌, OnOk, string_bytes};
+//! Tables of ways, as pieces.
+ghost use Rattle.std.specs.Prelude.{◌≡◌, ◌++◌, OnOk};
+ghost use Rattle.shown_text.specs.Pieces.{facts};
 ghost use Rattle.flow_page.specs.Ways as spec;
 
-use crate::lists::{Entry, Region, push_separated};
-use crate::ways::{Anchor, WayGroup, WayLine, WayRow, WayTable};
-use crate::words::{CellName, Counted, cells, verb};
+use crate::lines_text::{put_request, put_way};
+use crate::lists::{Entry, Pieces, fill, for_number, put_each};
+use crate::page::Page;
+use crate::ways::{Anchor, WayGroup, WayRow, WayTable};
 use cosem_data::memory::Memory;
-use meter_theory::flow::{Edge, Reach};
-use shown_text::html::{Escaped, Piece, push_all};
-use std::fmt;
-use value_text::cell::CellText;
-use value_text::edge::word_of;
+use flow_map::class_words::{attribute_name, class_name};
+use meter_theory::flow::Reach;
+use shown_text::pieces::Piece::{Cell, Constant, Hole, Mark, Number, Place};
 
-/// The name of a place: the letter of the reach, the number of the client, and that of the cell.
-impl fmt::Display for Anchor {
-    ghost use Rattle.std.specs.Prelude.{Some};
-    ghost use Rattle.flow_page.specs.Ways.{anchor_text};
+/// The letters of places, by the reach.
+const INFLUENCED: &str = "i";
 
-    ghost output = { λ anchor. Some (anchor_text anchor) };
+const LEARNED: &str = "l";
 
-    fn fmt<W: fmt::Write>(&self, f: &mut fmt::Formatter<W>) -> fmt::Result {
-        let letter = reach_letter(self.reach);
-        let Anchor { client, cell, .. } = *self;
-        write!(f, "{letter}{client}-{cell}")
-    }
-}
+/// What a client does that reaches a cell.
+const CHANGES: &str = "change";
 
-/// The letter of a reach.
-fn reach_letter(reach: Reach) -> char
-    ensures { result ≡ spec.reach_letter reach }
+const LEARNS: &str = "learn";
+
+const BY_ITSELF: &str = "<span class=\"free\">by itself</span>";
+
+/// What is said of ways and of cells reached, where others stand among those that the policy doesn't allow.
+const THAT_IT_ALLOWS: &str = " that the policy allows";
+
+const AS_IT_ALLOWS: &str = " as the policy allows";
+
+/// What ways by edges are.
+const WAYS: &str =
+    "<h2 id=\"why\">Why: ways by edges{}</h2>\n<p>The shortest way of each client that reaches a cell without a right to it. A client changes by setting or acting at the front of its edges, and learns by getting at their end.</p>\n";
+
+/// What is said where there are none.
+const NO_WAYS: &str =
+    "<h2 id=\"why\">Why: ways by edges</h2>\n<p>Whoever reaches a cell{} has a right to it.</p>\n";
+
+/// What is said where there is no room for a way, and for several.
+const LEFT_ONE: &str =
+    "<p>And {} way more: ask <code>cosem-flow why CONFIG CLIENT CELL</code>.</p>\n";
+
+const LEFT: &str = "<p>And {} ways more: ask <code>cosem-flow why CONFIG CLIENT CELL</code>.</p>\n";
+
+const HEAD: &str =
+    "<div class=\"scroll low\" tabindex=\"0\" role=\"region\" aria-labelledby=\"{}\"><table><thead><tr><th scope=\"col\">This right</th><th scope=\"col\">reaches this cell</th><th scope=\"col\">by these edges, the fewest there are</th></tr></thead>\n";
+
+/// The markup of influence or that of learning.
+pub(crate) fn by_reach(reach: Reach, influence: &'static str, learn: &'static str) -> &'static str
+    ensures { result.now ≡ spec.by_reach reach influence.now learn.now }
 {
     match reach {
-        Reach::Influence => 'i',
-        Reach::Learn => 'l',
+        Reach::Influence => influence,
+        Reach::Learn => learn,
     }
 }
 
-/// An edge as a line of a way, which may stand in an attribute: `CELL -> CELL CAUSE` with the name of the `>`.
-#[derive(Clone, Copy, Drop)]
-struct EdgeLine(Edge);
-
-impl fmt::Display for EdgeLine {
-    ghost use Rattle.std.specs.Prelude.{Some};
-    ghost use Rattle.flow_page.specs.Ways.{edge_line};
-
-    ghost output = { λ edge. Some (edge_line edge.0) };
-
-    fn fmt<W: fmt::Write>(&self, f: &mut fmt::Formatter<W>) -> fmt::Result {
-        let source = CellText(self.0.source);
-        let target = CellText(self.0.target);
-        let cause = word_of(self.0.cause);
-        write!(f, "{source} -&gt; {target} {cause}")
-    }
-}
-
-/// A line of a way, as `why` prints it.
-impl Entry for WayLine {
-    ghost use Rattle.flow_page.specs.Ways.{line_text};
-
-    ghost text = { line_text };
-
-    fn put(&self, page: &mut String) -> Result<(), Memory> {
-        match self {
-            WayLine::Request { client, request } => {
-                write!(page, "{} {request}", Escaped(client))?;
-            }
-            WayLine::Edge(edge) => write!(page, "{}", EdgeLine(*edge))?,
-            WayLine::Long {
-                edges,
-                client,
-                cell,
-            } => {
-                let client = Escaped(client);
-                let cell = CellText(*cell);
-                write!(page, "{edges} edges: cosem-flow why CONFIG {client} {cell}")?;
-            }
-        }
-        Ok(())
-    }
-}
-
-/// Puts the lines of a way behind a text. The only error is want of memory.
-pub(crate) fn push_way(lines: &[WayLine], page: &mut String) -> Result<(), Memory>
-    ensures { OnOk result (string_bytes page.new ≡ string_bytes page.old ++ spec.way_text lines.now) }
+/// Puts the name of a place after other pieces, by a template for the letter of the reach, the number of the client, and that of
+/// the cell.
+pub(crate) fn put_anchor(
+    pieces: &mut Pieces<'_>,
+    template: &'static str,
+    anchor: Anchor,
+) -> Result<(), Memory>
+    ensures { OnOk result (facts pieces.new.items ≡ facts pieces.old.items ++ spec.anchor_facts anchor) }
 {
-    write!(page, "<pre class=\"way\">")?;
-    push_separated("\n", lines, page)?;
-    write!(page, "</pre>")?;
-    Ok(())
-}
-
-/// Puts the edges of a way behind a text.
-fn push_edges(edges: &[WayLine], page: &mut String) -> Result<(), Memory>
-    ensures { OnOk result (string_bytes page.new ≡ string_bytes page.old ++ spec.edges_text edges.now) }
-{
-    if edges.is_empty() {
-        write!(page, "<span class=\"free\">by itself</span>")?;
-        Ok(())
-    } else {
-        push_way(edges, page)
-    }
-}
-
-/// So many other cells that are alike.
-#[derive(Clone, Copy, Drop)]
-struct Alike(usize);
-
-impl fmt::Display for Alike {
-    ghost use Rattle.std.specs.Prelude.{Some};
-    ghost use Rattle.flow_page.specs.Ways.{alike_text};
-
-    ghost output = { λ alike. Some (alike_text alike.0) };
-
-    fn fmt<W: fmt::Write>(&self, f: &mut fmt::Formatter<W>) -> fmt::Result {
-        match self.0 {
-            0 => f.write_str(""),
-            cells => write!(f, " <span class=\"free\">and {cells} alike</span>"),
-        }
-    }
+    let letter = Mark(by_reach(anchor.reach, INFLUENCED, LEARNED));
+    let client = Number(anchor.client as u128);
+    fill(
+        pieces,
+        template,
+        &[letter, client, Number(anchor.cell as u128)],
+    )
 }
 
 impl WayRow {
-    /// Puts what stands in its row behind the right's own field behind a text.
-    fn push_fields(&self, page: &mut String) -> Result<(), Memory>
-        ensures { OnOk result (string_bytes page.new ≡ string_bytes page.old ++ spec.fields_text self.now) }
+    /// Puts the start of its row after other pieces.
+    fn put_start(&self, pieces: &mut Pieces<'_>) -> Result<(), Memory>
+        ensures { OnOk result (facts pieces.new.items ≡ facts pieces.old.items ++ spec.anchor_facts self.now.anchor) }
     {
-        let cell = CellText(self.cell);
-        let name = CellName(self.cell);
-        let alike = Alike(self.alike);
-        write!(
-            page,
-            "<td><code>{cell}</code>{alike}<br><span class=\"free\">{name}</span></td>"
-        )?;
-        write!(page, "<td>")?;
-        push_edges(&self.edges, page)?;
-        write!(page, "</td></tr>\n")?;
-        Ok(())
+        put_anchor(pieces, "<tr id=\"{}{}-{}\">", self.anchor)
     }
-}
 
-/// A row behind the first of its right.
-impl Piece for WayRow {
-    ghost use Rattle.flow_page.specs.Ways.{row_text};
-
-    ghost text = { row_text };
-
-    fn push(&self, page: &mut String) -> Result<(), Memory> {
-        write!(page, "<tr id=\"{}\">", self.anchor)?;
-        self.push_fields(page)
-    }
-}
-
-/// How many cells a right reaches, where that is told.
-#[derive(Clone, Copy, Drop)]
-struct Reached(Option<usize>);
-
-impl fmt::Display for Reached {
-    ghost use Rattle.std.specs.Prelude.{Some};
-    ghost use Rattle.flow_page.specs.Ways.{reached_text};
-
-    ghost output = { λ reached. Some (reached_text reached.0) };
-
-    fn fmt<W: fmt::Write>(&self, f: &mut fmt::Formatter<W>) -> fmt::Result {
-        match self.0 {
-            None => f.write_str(""),
-            Some(number) => write!(f, " {}", cells(number)),
+    /// Puts the cell, and how many are alike, after other pieces.
+    fn put_cell(&self, pieces: &mut Pieces<'_>) -> Result<(), Memory>
+        ensures { OnOk result (facts pieces.new.items ≡ facts pieces.old.items ++ spec.cell_facts self.now) }
+    {
+        fill(pieces, "<td><code>{}</code>", &[Cell(self.cell)])?;
+        if self.alike != 0 {
+            let alike = " <span class=\"free\">and {} alike</span>";
+            fill(pieces, alike, &[Number(self.alike as u128)])?;
         }
+        let class = Mark(class_name(self.cell.class_id));
+        let attribute = Mark(attribute_name(self.cell.class_id, self.cell.index));
+        fill(
+            pieces,
+            "<br><span class=\"free\">{}, {}</span></td>",
+            &[class, attribute],
+        )
+    }
+
+    /// Puts what stands in its row after the field of the right after other pieces.
+    fn put_fields<'a>(&'a self, pieces: &mut Pieces<'a>) -> Result<(), Memory>
+        ensures { OnOk result (facts pieces.new.items ≡ facts pieces.old.items ++ spec.fields_facts self.now) }
+    {
+        self.put_cell(pieces)?;
+        fill(pieces, "<td>", &[])?;
+        if self.edges.is_empty() {
+            fill(pieces, "{}", &[Mark(BY_ITSELF)])?;
+        } else {
+            put_way(pieces, &self.edges)?;
+        }
+        fill(pieces, "</td></tr>\n", &[])
+    }
+}
+
+/// A row after the first of its right.
+impl Entry for WayRow {
+    ghost use Rattle.flow_page.specs.Ways.{row_facts};
+
+    ghost says = { row_facts };
+
+    fn put<'a>(&'a self, pieces: &mut Pieces<'a>) -> Result<(), Memory> {
+        self.put_start(pieces)?;
+        self.put_fields(pieces)
     }
 }
 
 impl WayGroup {
-    /// Puts the field of the right behind a text.
-    fn push_head(&self, page: &mut String) -> Result<(), Memory>
-        ensures { OnOk result (string_bytes page.new ≡ string_bytes page.old ++ spec.head_text self.now) }
+    /// Puts the field of the right after other pieces.
+    fn put_head<'a>(&'a self, pieces: &mut Pieces<'a>) -> Result<(), Memory>
+        ensures { OnOk result (facts pieces.new.items ≡ facts pieces.old.items ++ spec.head_facts self.now) }
     {
-        let rows = self.rows.len();
-        let client = Escaped(&self.client);
-        let request = self.request;
-        let verb = verb(self.reach);
-        let reached = Reached(self.cells);
-        write!(
-            page,
-            "<th scope=\"rowgroup\" rowspan=\"{rows}\"><div class=\"stay\"><code>{client} {request}</code><br><span class=\"free\">lets {client} {verb}{reached}</span></div></th>"
+        let client = Hole(self.client.as_str());
+        let verb = Mark(by_reach(self.reach, CHANGES, LEARNS));
+        fill(
+            pieces,
+            "<th scope=\"rowgroup\" rowspan=\"{}\"><div class=\"stay\"><code>{} ",
+            &[Place(self.rows.len() as u128), client],
         )?;
-        Ok(())
+        put_request(pieces, self.request)?;
+        fill(
+            pieces,
+            "</code><br><span class=\"free\">lets {} {}",
+            &[client, verb],
+        )?;
+        if let Some(cells) = self.cells {
+            let reached = for_number(cells, " {} cell", " {} cells");
+            fill(pieces, reached, &[Number(cells as u128)])?;
+        }
+        fill(pieces, "</span></div></th>", &[])
     }
 
-    /// Puts rows, of which the first begins with the field of the right, behind a text.
-    fn push_rows(&self, rows: &[WayRow], page: &mut String) -> Result<(), Memory>
-        ensures { OnOk result (string_bytes page.new ≡ string_bytes page.old ++ spec.rows_text self.now rows.now) }
+    /// Puts rows, of which the first begins with the field of the right, after other pieces.
+    fn put_rows<'a>(&'a self, pieces: &mut Pieces<'a>, rows: &'a [WayRow]) -> Result<(), Memory>
+        ensures { OnOk result (facts pieces.new.items ≡ facts pieces.old.items ++ spec.rows_facts self.now rows.now) }
     {
-        match rows {
-            [] => Ok(()),
-            [first, rest @ ..] => {
-                write!(page, "<tr id=\"{}\">", first.anchor)?;
-                self.push_head(page)?;
-                first.push_fields(page)?;
-                push_all(rest, page)?;
-                Ok(())
-            }
-        }
+        let Some((first, rest)) = rows.split_first() else {
+            return Ok(());
+        };
+        first.put_start(pieces)?;
+        self.put_head(pieces)?;
+        first.put_fields(pieces)?;
+        put_each(pieces, "", rest)
     }
 }
 
 /// The rows of a right.
-impl Piece for WayGroup {
-    ghost use Rattle.flow_page.specs.Ways.{group_text};
+impl Entry for WayGroup {
+    ghost use Rattle.flow_page.specs.Ways.{group_facts};
 
-    ghost text = { group_text };
+    ghost says = { group_facts };
 
-    fn push(&self, page: &mut String) -> Result<(), Memory> {
-        write!(page, "<tbody>\n")?;
-        self.push_rows(&self.rows, page)?;
-        write!(page, "</tbody>\n")?;
-        Ok(())
+    fn put<'a>(&'a self, pieces: &mut Pieces<'a>) -> Result<(), Memory> {
+        fill(pieces, "<tbody>\n", &[])?;
+        self.put_rows(pieces, &self.rows)?;
+        fill(pieces, "</tbody>\n", &[])
     }
 }
 
-/// So many ways for which a table has no room.
-#[derive(Clone, Copy, Drop)]
-pub(crate) struct Left(pub usize);
-
-impl fmt::Display for Left {
-    ghost use Rattle.std.specs.Prelude.{Some};
-    ghost use Rattle.flow_page.specs.Ways.{left_text};
-
-    ghost output = { λ left. Some (left_text left.0) };
-
-    fn fmt<W: fmt::Write>(&self, f: &mut fmt::Formatter<W>) -> fmt::Result {
-        let ways = Counted {
-            number: self.0,
-            one: "way more",
-            many: "ways more",
-        };
-        match self.0 {
-            0 => f.write_str(""),
-            _ => write!(
-                f,
-                "<p>And {ways}: ask <code>cosem-flow why CONFIG CLIENT CELL</code>.</p>\n"
-            ),
-        }
+/// Puts for how many ways there is no room after other pieces.
+fn put_left(pieces: &mut Pieces<'_>, ways: usize) -> Result<(), Memory>
+    ensures { OnOk result (facts pieces.new.items ≡ facts pieces.old.items ++ spec.number_if_any ways) }
+{
+    if ways == 0 {
+        return Ok(());
     }
+    fill(
+        pieces,
+        for_number(ways, LEFT_ONE, LEFT),
+        &[Number(ways as u128)],
+    )
 }
 
-impl WayTable {
-    /// Puts the table, under the name of the heading that is its label, behind a text, and how many ways it has no room for. The
-    /// only error is want of memory.
-    pub(crate) fn push(&self, heading: &str, page: &mut String) -> Result<(), Memory>
-        ensures { OnOk result (string_bytes page.new ≡ string_bytes page.old ++ spec.table_text heading.now self.now) }
+/// Puts a table of ways, under the name of the heading that is its label, after other pieces.
+fn put_table<'a>(
+    pieces: &mut Pieces<'a>,
+    heading: &'static str,
+    table: &'a WayTable,
+) -> Result<(), Memory>
+    ensures { OnOk result (facts pieces.new.items ≡ facts pieces.old.items ++ spec.table_facts table.now) }
+{
+    fill(pieces, HEAD, &[Constant(heading)])?;
+    put_each(pieces, "", &table.groups)?;
+    fill(pieces, "</table></div>\n", &[])?;
+    put_left(pieces, table.left)
+}
+
+/// Puts the ways that the policy doesn't allow, if the page has any, after other pieces.
+pub(crate) fn put_refused<'a>(pieces: &mut Pieces<'a>, page: &'a Page) -> Result<(), Memory>
+    ensures { OnOk result (facts pieces.new.items ≡ facts pieces.old.items ++ spec.refused_facts page.now) }
+{
+    if !page.has_refused() {
+        return Ok(());
+    }
+    let heading = "<h2 id=\"not-allowed\">What the policy does not allow</h2>\n";
+    fill(pieces, heading, &[])?;
+    put_table(pieces, "not-allowed", &page.refused)
+}
+
+/// Puts the ways by edges that the policy allows, or that there are none, after other pieces.
+pub(crate) fn put_why<'a>(pieces: &mut Pieces<'a>, page: &'a Page) -> Result<(), Memory>
+    ensures { OnOk result (facts pieces.new.items ≡ facts pieces.old.items ++ spec.why_facts page.now) }
+{
+    let has_others = page.has_refused();
+    if !page.reached.groups.is_empty() {
+        let whose = if has_others { THAT_IT_ALLOWS } else { "" };
+        fill(pieces, WAYS, &[Mark(whose)])?;
+        return put_table(pieces, "why", &page.reached);
+    }
+    if page.reached.left != 0 {
+        return put_left(pieces, page.reached.left);
+    }
+    let whose = if has_others { AS_IT_ALLOWS } else { "" };
+    fill(pieces, NO_WAYS, &[Mark(whose)])
+}
+
+impl Page {
+    /// Whether the page has ways that the policy doesn't allow.
+    pub(crate) fn has_refused(&self) -> bool
+        ensures { result ≡ spec.has_some self.now.refused.groups.items }
     {
-        write!(page, "{}", Region(heading))?;
-        write!(
-            page,
-            "<table><thead><tr><th scope=\"col\">This right</th><th scope=\"col\">reaches this cell</th><th scope=\"col\">by these edges, the fewest there are</th></tr></thead>\n"
-        )?;
-        push_all(&self.groups, page)?;
-        write!(page, "</table></div>\n")?;
-        write!(page, "{}", Left(self.left))?;
-        Ok(())
+        !self.refused.groups.is_empty()
     }
 }

@@ -1,15 +1,15 @@
--- The words that stand in a box, and lists of texts that are put one behind the other.
-use Rattle.std.proofs.Common.{◌≡◌, ◌∙◌, ◌<◌, ◌≤◌, ◌+◌, ℕ, List, [], ◌∷◌, ◌++◌, codes, if◌then◌else◌, flat_map, get_or, length, map, true, false, option_map, option_to_list, String, Global, string_bytes, slice_get, refl, sym, ap, ap₂, arith, append-nil, append_assoc}
+-- Clients of sets, and what texts say one after the other.
+use Rattle.std.proofs.Common.{◌≡◌, ◌∙◌, ◌<◌, ◌≤◌, ◌+◌, ℕ, List, [], ◌∷◌, ◌++◌, if◌then◌else◌, flat_map, get_or, length, map, true, false, option_map, option_to_list, OnOk, Ok, Err, Result, String, Global, string_bytes, slice_get, refl, sym, ap, ap₂, arith, append-nil, append_assoc}
 use Rattle.std.specs.List.{join_by, range_with_len}
 use Rattle.std.proofs.lemmas.Grind.{flat_map-append}
 use Rattle.std.proofs.lemmas.List.{map-id}
 use Rattle.std.proofs.lemmas.List.FromFn.{map-range_with_len_more}
-use Rattle.std.proofs.lemmas.Bool.Decides.{nat_tests}
 use Rattle.std.proofs.lemmas.Option.{slice_get_past, slice_get_read}
 use Rattle.cosem_data.specs.Clients.{has_client}
 use Rattle.cosem_data.specs.declared.clients.ClientSet.{ClientSet}
-use Rattle.flow_picture.specs.BoxText.{name_if_in, who_words}
-use Rattle.flow_picture.specs.Counted.{counted}
+use Rattle.cosem_data.specs.declared.memory.Memory.{Memory}
+use Rattle.shown_text.specs.Pieces.{Fact, told, piece_text, rendered}
+use Rattle.flow_picture.specs.Svg.{Says, name_if_in}
 
 -- pieces of the items of a list are pieces of the texts of these items
 flat-of-map : {X : Type 0} (f : X → List ℕ) (g : List ℕ → List ℕ) (xs : List X) → flat_map (λ x. g (f x)) xs ≡ flat_map g (map f xs)
@@ -21,23 +21,17 @@ pub join-of-map : {X : Type 0} (f : X → List ℕ) (between : List ℕ) (xs : L
 join-of-map f between [] = refl
 join-of-map f between (x ∷ xs) = ap (λ rest. f x ++ rest) (flat-of-map f (λ y. between ++ y) xs)
 
--- names that aren't too long stand there
-pub words-names : (names : List (List ℕ)) (all : List ℕ) → all ≡ join_by (λ name. name) (codes ", ") names → length all ≤ 26 → all ≡ who_words names
-unfolding who_words
-words-names names all e h = grind (arith, nat_tests)
-
--- names that are too long are counted
-pub words-counted : (names : List (List ℕ)) (all : List ℕ) → all ≡ join_by (λ name. name) (codes ", ") names → 26 < length all → counted (length names) (codes "client") ≡ who_words names
-unfolding who_words
-words-counted names all e h = grind (arith, nat_tests)
-
 -- pieces for one number more
-pub number-more : {B : Type 0} (f : ℕ → List B) (k : ℕ) → flat_map f (range_with_len 0 (k + 1)) ≡ flat_map f (range_with_len 0 k) ++ f k
-number-more f k =
+pub number_more : {B : Type 0} (f : ℕ → List B) (k : ℕ) → flat_map f (range_with_len 0 (k + 1)) ≡ flat_map f (range_with_len 0 k) ++ f k
+number_more f k =
     let at : 0 + k ≡ k = omega arith in
     ap (flat_map f) (sym (map-id (range_with_len 0 (k + 1))) ∙ map-range_with_len_more (λ j. j) 0 k k at ∙ ap (λ ks. ks ++ k ∷ []) (map-id (range_with_len 0 k)))
     ∙ flat_map-append f (range_with_len 0 k) (k ∷ [])
     ∙ ap (λ rest. flat_map f (range_with_len 0 k) ++ rest) (append-nil (f k))
+
+-- and the same after others
+pub after_more : {B : Type 0} (old : List B) (f : ℕ → List B) (k : ℕ) → (old ++ flat_map f (range_with_len 0 k)) ++ f k ≡ old ++ flat_map f (range_with_len 0 (k + 1))
+after_more old f k = append_assoc old (flat_map f (range_with_len 0 k)) (f k) ∙ ap (λ rest. old ++ rest) (sym (number_more f k))
 
 -- a set has no name of a client that there isn't
 pub name-past : (clients : List (String Global)) (set : ClientSet) (client : ℕ) → length clients ≤ client → [] ≡ name_if_in clients set client
@@ -54,6 +48,16 @@ name-there clients set client name has inside is =
     let there = slice_get_read clients (length clients) client name refl inside is in
     sym (ap₂ (λ test found. if test then option_to_list (option_map string_bytes found) else []) (sym has) there)
 
--- a text that goes on by the pieces for the numbers from 0 goes on by those for one number more
-pub one-more : (f : ℕ → List ℕ) (k : ℕ) (old before after : List ℕ) → before ≡ old ++ flat_map f (range_with_len 0 k) → after ≡ before ++ f k → after ≡ old ++ flat_map f (range_with_len 0 (k + 1))
-one-more f k old before after e h = h ∙ ap (λ t. t ++ f k) e ∙ append_assoc old (flat_map f (range_with_len 0 k)) (f k) ∙ ap (λ t. old ++ t) (sym (number-more f k))
+-- a text that goes on by what one and another say goes on by what both say
+pub says-both : (a b : List Fact) (x y z : List ℕ) → Says a x y → Says b y z → Says (a ++ b) x z
+says-both a b x y z first second = record {
+  pieces = first.pieces ++ second.pieces;
+  they_say = flat_map-append told first.pieces second.pieces ∙ ap₂ (λ p q. p ++ q) first.they_say second.they_say;
+  goes_on = second.goes_on ∙ ap (λ t. t ++ rendered second.pieces) first.goes_on ∙ append_assoc x (rendered first.pieces) (rendered second.pieces)
+      ∙ ap (λ t. x ++ t) (sym (flat_map-append piece_text first.pieces second.pieces));
+}
+
+-- also where the other is a call that may fail
+pub says-then : (a b : List Fact) (x y z : List ℕ) (r : Result (Unit {0}) Memory) → Says a x y → OnOk r (Says b y z) → OnOk r (Says (a ++ b) x z)
+says-then a b x y z (Ok done) first second = says-both a b x y z first second
+says-then a b x y z (Err fault) first second = tt

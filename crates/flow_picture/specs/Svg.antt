@@ -1,129 +1,139 @@
--- The text of a picture, as SVG in HTML. Texts are lists of bytes.
-use Rattle.std.specs.Prelude.{◌≡◌, ℕ, ◌==◌, ◌+◌, List, [], ◌∷◌, ◌++◌, codes, flat_map, length, nat_le, if◌then◌else◌, String, string_bytes}
-use Rattle.std.specs.Fmt.{decimal}
+-- What a picture says, and which texts are pictures. Facts are those of the pieces that a text is put together of; where boxes and
+-- arrows stand is none. Texts are lists of bytes. All of it is own profile.
+use Rattle.std.specs.Prelude.{◌≡◌, ℕ, Bool, ◌==◌, ◌+◌, ◌||◌, List, [], ◌∷◌, ◌++◌, flat_map, length, map, nat_le, not, if◌then◌else◌, Option, Some, None, option_map, option_to_list, slice_get, String, string_bytes}
 use Rattle.std.specs.Global.{Global}
-use Rattle.std.specs.List.{list_any}
-use Rattle.shown_text.specs.Html.{html_text}
+use Rattle.std.specs.List.{join_by, list_any, range_with_len}
+use Rattle.cosem_data.specs.Clients.{has_client}
 use Rattle.cosem_data.specs.declared.cell.CellRef.{CellRef}
+use Rattle.cosem_data.specs.declared.clients.ClientSet.{ClientSet}
 use Rattle.meter_theory.specs.Edges.{same_cause}
 use Rattle.meter_theory.specs.declared.flow.Cause.{Cause}
 use Rattle.meter_theory.specs.declared.flow.Cause.TheVariants.{Monitored, Monitor, Captured, Menu, Period, Schedule, Clock}
+use Rattle.meter_theory.specs.declared.limits.TheConstants as limits
+use Rattle.shown_text.specs.Pieces.{Fact, mark, text, number, cell, facts, rendered}
+use Rattle.shown_text.specs.declared.pieces.Piece.{Piece}
 use Rattle.value_text.specs.Edges.{cause_word}
-use Rattle.value_text.specs.Texts.{cell_text}
-use Rattle.flow_picture.specs.Arrows.{arrow_text}
-use Rattle.flow_picture.specs.Boxes.{box_text}
-use Rattle.flow_picture.specs.declared.layout.ArrowLine.{ArrowLine}
-use Rattle.flow_picture.specs.declared.layout.BoxPlace.{BoxPlace}
-use Rattle.flow_picture.specs.declared.layout.Layout.{Layout}
+use Rattle.flow_map.specs.ClassWords.{attribute_name, class_name}
+use Rattle.flow_picture.specs.declared.arrows.TheConstants as arrow
+use Rattle.flow_picture.specs.declared.box_text.TheConstants as words
+use Rattle.flow_picture.specs.declared.boxes.TheConstants as box
+use Rattle.flow_picture.specs.declared.svg.TheConstants as page
 use Rattle.flow_picture.specs.declared.picture.Arrow.{Arrow}
 use Rattle.flow_picture.specs.declared.picture.Picture.{Picture}
 use Rattle.flow_picture.specs.declared.picture.PictureBox.{PictureBox}
 
--- The legend
+-- the clients of a set, each after what it may do
+abbrev pub class_of : (doing : List ℕ) → ClientSet → ℕ → List Fact
+class_of doing set client = if has_client set client then mark doing ∷ number client ∷ [] else []
 
--- the entry for a cause, if an arrow has it (own profile)
-unfoldable pub cause_text : List Arrow → Cause → List ℕ
-cause_text arrows cause =
-    if list_any (λ arrow. same_cause arrow.cause cause) arrows then
-    codes "<li><svg class=\"key-line\" width=\"44\" height=\"8\" aria-hidden=\"true\"><path class=\"" ++ (cause_word cause
-    ++ (codes "\" d=\"M0 4H44\"/></svg> " ++ (cause_word cause ++ codes "</li>")))
-    else []
+abbrev pub classes_of : (doing : List ℕ) → ClientSet → List Fact
+classes_of doing set = flat_map (class_of doing set) (range_with_len 0 limits.CLIENTS)
 
--- the causes in their order (own profile)
-abbrev pub causes : List Cause
-causes = Monitored ∷ Monitor ∷ Captured ∷ Menu ∷ Period ∷ Schedule ∷ Clock ∷ []
+-- the names of the clients of a set, in the order of the clients
+abbrev pub name_if_in : List (String Global) → ClientSet → ℕ → List (List ℕ)
+name_if_in clients set client = if has_client set client then option_to_list (option_map string_bytes (slice_get clients client)) else []
 
--- those of all causes that an arrow has (own profile)
-unfoldable pub causes_text : List Arrow → List ℕ
-causes_text arrows = flat_map (cause_text arrows) causes
+abbrev pub names_in : List (String Global) → ClientSet → List (List ℕ)
+names_in clients set = flat_map (name_if_in clients set) (range_with_len 0 limits.CLIENTS)
 
--- what a picture shows, and the causes of its arrows (own profile)
-unfoldable pub legend_text : List Arrow → List ℕ
-legend_text arrows =
-    codes "<p>From each cell to those that its value may reach or decide. Choose a client to see what it may change and learn.</p>\n<ul class=\"key\">"
-    ++ (causes_text arrows ++ codes "</ul>\n")
+-- names are short that are at most 26 letters, with what stands between them
+abbrev pub are_short : List (List ℕ) → Bool
+are_short names = nat_le (length (join_by (λ name. name) words.BETWEEN.now names)) words.LETTERS
 
--- The choice of a client
+-- who may do something, if anybody may: their names as texts from outside where these are short, and else how many clients they are
+abbrev pub who_facts : (doing : List ℕ) → (names : List (List ℕ)) → List Fact
+who_facts doing names = mark doing ∷ (if are_short names then map text names else number (length names) ∷ [])
 
--- a client with its number; its name comes from outside, and is shown without markup (own profile)
-unfoldable pub client_text : ℕ → (name : List ℕ) → List ℕ
-client_text number name =
-    codes "<label class=\"pick\"><input type=\"radio\" name=\"client\" class=\"p" ++ (decimal number ++ (codes "\"> " ++ (html_text name ++ codes "</label>\n")))
+abbrev pub who_if_any : (doing : List ℕ) → (names : List (List ℕ)) → List Fact
+who_if_any doing [] = []
+who_if_any doing (name ∷ names) = who_facts doing (name ∷ names)
 
--- clients from this number on (own profile)
-abbrev pub clients_text : ℕ → List (String Global) → List ℕ
-clients_text number [] = []
-clients_text number (name ∷ names) = client_text number (string_bytes name) ++ clients_text (number + 1) names
+-- which cells a box has: its cell, or how many there are, and their class and attribute, where the inner one has a word
+abbrev pub name_facts : PictureBox → List Fact
+name_facts shown =
+    if shown.cells == 1 then cell shown.cell ∷ [] else
+    number shown.cells ∷ number shown.cell.class_id ∷ (if shown.cell.index == 0 then mark words.SEEN.now else number shown.cell.index) ∷ []
 
--- no client, or one of them (own profile)
-unfoldable pub choice_text : List (String Global) → List ℕ
-choice_text clients =
-    codes "<fieldset class=\"radio\"><legend class=\"free\">Show for</legend><label class=\"pick\"><input type=\"radio\" name=\"client\" checked> no client</label>\n"
-    ++ clients_text 0 clients
+-- the names of the class and the attribute of its cells
+abbrev pub kind_facts : PictureBox → List Fact
+kind_facts shown = mark (class_name shown.cell.class_id) ∷ mark (attribute_name shown.cell.class_id shown.cell.index) ∷ []
 
--- The drawing
+-- the words in it: its cells and what they are, who has a right to change and who has one to read them
+abbrev pub words_facts : List (String Global) → PictureBox → List Fact
+words_facts clients shown =
+    name_facts shown ++ (kind_facts shown
+    ++ (who_if_any box.CHANGERS.now (names_in clients shown.changers) ++ who_if_any box.READERS.now (names_in clients shown.readers)))
 
--- arrows, each with its line (own profile)
-abbrev pub arrows_text : List PictureBox → List Arrow → List ArrowLine → List ℕ
-arrows_text boxes [] lines = []
-arrows_text boxes (arrow ∷ arrows) [] = []
-arrows_text boxes (arrow ∷ arrows) (line ∷ lines) = arrow_text boxes arrow line ++ arrows_text boxes arrows lines
+-- what a client that is chosen may do: to one cell, or to some of more
+abbrev pub chosen_facts : (cells : ℕ) → List Fact
+chosen_facts cells =
+    if cells == 1 then mark box.MAY_CHANGE.now ∷ mark box.MAY_LEARN.now ∷ [] else
+    mark box.MAY_CHANGE_SOME.now ∷ mark box.MAY_LEARN_SOME.now ∷ []
 
--- boxes, each at its place (own profile)
-abbrev pub boxes_text : List (String Global) → List PictureBox → List BoxPlace → List ℕ
-boxes_text clients [] places = []
-boxes_text clients (shown ∷ boxes) [] = []
-boxes_text clients (shown ∷ boxes) (place ∷ places) = box_text clients shown place ++ boxes_text clients boxes places
+-- a box: who may influence and who may learn it, its words, and what a client that is chosen may do
+abbrev pub box_facts : List (String Global) → PictureBox → List Fact
+box_facts clients shown =
+    mark box.BOX.now ∷ (classes_of box.INFLUENCES.now shown.influence ++ (classes_of box.LEARNS.now shown.learn
+    ++ (words_facts clients shown ++ chosen_facts shown.cells)))
 
--- how it begins (own profile)
-unfoldable pub size_text : (width height : ℕ) → List ℕ
-size_text width height =
-    codes "\n<div class=\"picture\" tabindex=\"0\" role=\"region\" aria-labelledby=\"picture\"><svg role=\"img\" aria-label=\"Flow between cells; the list of edges says the same\""
-    ++ (codes " width=\"" ++ (decimal width ++ (codes "\" height=\"" ++ (decimal height
-    ++ (codes "\" viewBox=\"0 0 " ++ (decimal width ++ (codes " " ++ (decimal height ++ codes "\">\n"))))))))
+-- what is said of a box at an end of an arrow: nothing where there is no box
+abbrev pub of_end : (PictureBox → List Fact) → Option PictureBox → List Fact
+of_end says None = []
+of_end says (Some shown) = says shown
 
--- the arrows of a picture, and its boxes (own profile)
-unfoldable pub lines_text : Picture → Layout → List ℕ
-lines_text picture layout = arrows_text picture.boxes.items picture.arrows.items layout.lines.items
+-- who lights an arrow: who may influence its source, and who may learn its target
+abbrev pub lit_facts : (source target : Option PictureBox) → List Fact
+lit_facts source target =
+    of_end (λ shown. classes_of box.INFLUENCES.now shown.influence) source ++ of_end (λ shown. classes_of box.LEARNS.now shown.learn) target
 
-unfoldable pub places_text : Picture → Layout → List ℕ
-places_text picture layout = boxes_text picture.clients.items picture.boxes.items layout.boxes.items
+-- its title: the cells of its source and of its target, its cause, and how many edges it stands for, where that isn't one
+abbrev pub title_facts : (source target : Option PictureBox) → Arrow → List Fact
+title_facts source target shown =
+    of_end name_facts source ++ (mark arrow.LEADS_TO.now ∷ (of_end name_facts target
+    ++ (mark (cause_word shown.cause) ∷ (if shown.edges == 1 then [] else number shown.edges ∷ []))))
 
--- arrows, and boxes over them (own profile)
-unfoldable pub drawing_text : Picture → Layout → List ℕ
-drawing_text picture layout =
-    size_text layout.width layout.height ++ (lines_text picture layout ++ (places_text picture layout ++ codes "</svg></div></fieldset>\n"))
+-- an arrow between these boxes: who lights it, its cause, by which its line is drawn, and its title
+abbrev pub arrow_facts : List PictureBox → Arrow → List Fact
+arrow_facts boxes shown =
+    mark arrow.ARROW.now ∷ (lit_facts (slice_get boxes shown.source) (slice_get boxes shown.target)
+    ++ (mark (cause_word shown.cause) ∷ title_facts (slice_get boxes shown.source) (slice_get boxes shown.target) shown))
 
--- Cells without edges
+-- a cause in the legend, if an arrow has it: the line of its arrows, and its word
+abbrev pub cause_facts : List Arrow → Cause → List Fact
+cause_facts arrows cause =
+    if list_any (λ shown. same_cause shown.cause cause) arrows then mark (cause_word cause) ∷ mark (cause_word cause) ∷ [] else []
 
--- a cell behind another (own profile)
-abbrev pub other_text : CellRef → List ℕ
-other_text x = codes ", <code>" ++ (cell_text x ++ codes "</code>")
+-- clients to choose from this number on, each with its number and its name, which is a text from outside
+abbrev pub clients_facts : ℕ → List (String Global) → List Fact
+clients_facts n [] = []
+clients_facts n (name ∷ names) = mark page.CLIENT.now ∷ number n ∷ text (string_bytes name) ∷ clients_facts (n + 1) names
 
--- cells, one behind another (own profile)
-unfoldable pub named_text : CellRef → List CellRef → List ℕ
-named_text x xs = codes "<p>Without edges: <code>" ++ (cell_text x ++ (codes "</code>" ++ (flat_map other_text xs ++ codes ".</p>\n")))
+-- the legend, with the causes that an arrow has, and the choice of no client or one
+abbrev pub head_facts : Picture → List Fact
+head_facts picture =
+    mark page.LEGEND.now ∷ (flat_map (cause_facts picture.arrows.items) (Monitored ∷ Monitor ∷ Captured ∷ Menu ∷ Period ∷ Schedule ∷ Clock ∷ [])
+    ++ (mark page.CHOICE.now ∷ clients_facts 0 picture.clients.items))
 
--- they are named where there are at most 40 (own profile)
-abbrev pub alone_text : List CellRef → List ℕ
-alone_text [] = []
-alone_text (x ∷ xs) = if nat_le (length (x ∷ xs)) 40 then named_text x xs else []
+-- the cells without edges, where there are some and at most 40
+abbrev pub alone_facts : List CellRef → List Fact
+alone_facts cells = if length cells == 0 || not (nat_le (length cells) page.MOST_ALONE) then [] else mark page.ALONE.now ∷ map cell cells
 
--- The whole
+-- a picture: its legend and the choice of a client, each arrow once and each box once, in their order, and the cells without edges
+abbrev pub drawn_facts : Picture → List Fact
+drawn_facts picture =
+    head_facts picture ++ (flat_map (arrow_facts picture.boxes.items) picture.arrows.items
+    ++ (flat_map (box_facts picture.clients.items) picture.boxes.items ++ alone_facts picture.alone.items))
 
--- a picture whose boxes and arrows stand so (own profile)
-unfoldable pub drawn_text : Picture → Layout → List ℕ
-drawn_text picture layout =
-    legend_text picture.arrows.items ++ (choice_text picture.clients.items ++ (drawing_text picture layout ++ alone_text picture.alone.items))
+-- one without arrows says only that there are none
+abbrev pub picture_facts : Picture → List Fact
+picture_facts picture = if length picture.arrows.items == 0 then mark page.NO_EDGES.now ∷ [] else drawn_facts picture
 
--- a picture without arrows isn't drawn (own profile)
-abbrev pub picture_text : Picture → Layout → List ℕ
-picture_text picture layout =
-    if length picture.arrows.items == 0 then codes "<p>There are no edges: each value stays in its cell.</p>\n" else drawn_text picture layout
+-- a text that goes on by pieces that say this and nothing else
+pub record Says (said : List Fact) (old new : List ℕ) : Type 0 where
+  pub pieces : List Piece
+  pub they_say : facts pieces ≡ said
+  pub goes_on : new ≡ old ++ rendered pieces
 
--- the text of a picture in which each box stands once and each arrow is drawn once, wherever (own profile)
-pub record IsPicture (picture : Picture) (text : List ℕ) : Type 0 where
-  pub layout : Layout
-  pub boxes_stand : length layout.boxes.items ≡ length picture.boxes.items
-  pub arrows_are_drawn : length layout.lines.items ≡ length picture.arrows.items
-  pub text_is : text ≡ picture_text picture layout
+-- the text of a picture: pieces that say what it says and nothing else
+abbrev pub IsPicture : Picture → (shown : List ℕ) → Type 0
+IsPicture picture shown = Says (picture_facts picture) [] shown

@@ -1,58 +1,40 @@
-//! The text of arrows.
-ghost use Rattle.std.specs.Prelude.{◌≡◌, ◌++◌, OnOk, option_map, slice_get, string_bytes};
-ghost use Rattle.flow_picture.specs.Arrows as spec;
+//! The pieces of arrows.
+ghost use Rattle.std.specs.Prelude.{◌≡◌, ◌++◌, OnOk, slice_get};
+ghost use Rattle.shown_text.specs.Pieces.{facts};
+ghost use Rattle.flow_picture.specs.Svg as spec;
 
-use crate::box_text::BoxName;
-use crate::layout::{ArrowLine, Curve, Pass, Point};
+use crate::box_text::put_name;
+use crate::boxes::{INFLUENCES, LEARNS, put_classes};
+use crate::layout::{ArrowLine, Curve, Point};
 use crate::picture::{Arrow, PictureBox};
-use cosem_data::clients::ClientSet;
+use crate::placed::put_placed;
 use cosem_data::memory::Memory;
-use meter_theory::limits::CLIENTS;
-use shown_text::html::{Piece, push_all};
-use std::fmt;
+use shown_text::pieces::Piece::{self, Constant, Mark, Number};
+use shown_text::pieces::put;
 use value_text::edge::word_of;
 
-/// Puts the text of an arrow between these boxes behind a text: who lights it, its line and its title. The error is that memory
-/// was refused, and then a part of it may stand there.
-pub(crate) fn push_arrow(
+/// Begins an arrow.
+const ARROW: &str = "<g class=\"a";
+/// Stands between the source and the target of an arrow.
+const LEADS_TO: &str = " -&gt; ";
+
+/// Puts an arrow between these boxes: who lights it, its line and its title.
+pub(crate) fn put_arrow(
+    pieces: &mut Vec<Piece<'_>>,
     boxes: &[PictureBox],
     arrow: &Arrow,
     line: &ArrowLine,
-    text: &mut String,
 ) -> Result<(), Memory>
-    ensures { OnOk result (string_bytes text.new
-        ≡ string_bytes text.old ++ spec.arrow_text boxes.now arrow.now line.now) }
+    ensures { OnOk result (facts pieces.new.items ≡ facts pieces.old.items ++ spec.arrow_facts boxes.now arrow.now) }
 {
-    text.push_str("<g class=\"a")?;
-    push_ends(boxes, arrow, text)?;
-    text.push_str("\">")?;
-    push_path(arrow, line, text)?;
-    push_title(boxes, arrow, text)?;
-    text.push_str("</g>\n")?;
-    Ok(())
-}
-
-/// Puts the classes of who lights an arrow behind a text: who may influence its source, and who may learn its target.
-fn push_ends(boxes: &[PictureBox], arrow: &Arrow, text: &mut String) -> Result<(), Memory>
-    ensures { OnOk result (string_bytes text.new
-        ≡ string_bytes text.old ++ spec.arrow_classes boxes.now arrow.now) }
-{
-    push_set(" i", influence_of(box_at(boxes, arrow.source)), text)?;
-    push_set(" l", learn_of(box_at(boxes, arrow.target)), text)
-}
-
-/// Who may influence a box, if there is one.
-fn influence_of(shown: Option<PictureBox>) -> Option<ClientSet>
-    ensures { result ≡ option_map (λ source. source.influence) shown }
-{
-    shown.map(|source| source.influence)
-}
-
-/// Who may learn a box, if there is one.
-fn learn_of(shown: Option<PictureBox>) -> Option<ClientSet>
-    ensures { result ≡ option_map (λ target. target.learn) shown }
-{
-    shown.map(|target| target.learn)
+    let source = box_at(boxes, arrow.source);
+    let target = box_at(boxes, arrow.target);
+    let cause = Mark(word_of(arrow.cause));
+    put(pieces, &[Mark(ARROW)])?;
+    put_lights(pieces, source, target)?;
+    put(pieces, &[Constant("\"><path class=\""), cause])?;
+    put_line(pieces, line)?;
+    put_title(pieces, source, target, arrow)
 }
 
 /// The box with this number, if there is one.
@@ -62,135 +44,75 @@ fn box_at(boxes: &[PictureBox], number: usize) -> Option<PictureBox>
     boxes.get(number).copied()
 }
 
-/// Puts the classes of the clients of a set behind a text, if there is one.
-fn push_set(mark: &str, set: Option<ClientSet>, text: &mut String) -> Result<(), Memory>
-    ensures { OnOk result (string_bytes text.new ≡ string_bytes text.old ++ spec.set_classes mark.now set) }
+/// Puts who lights an arrow: who may influence its source, and who may learn its target.
+fn put_lights(
+    pieces: &mut Vec<Piece<'_>>,
+    source: Option<PictureBox>,
+    target: Option<PictureBox>,
+) -> Result<(), Memory>
+    ensures { OnOk result (facts pieces.new.items ≡ facts pieces.old.items ++ spec.lit_facts source target) }
 {
-    match set {
-        Some(set) => push_classes(mark, set, text),
-        None => Ok(()),
+    if let Some(source) = source {
+        put_classes(pieces, INFLUENCES, source.influence)?;
     }
-}
-
-/// Puts the classes of the clients of a set behind a text, each a mark and the client's number. The error is that memory was
-/// refused, and then some may stand there.
-#[tactic(auto, unfolding(crate::specs::Arrows::client_classes))]
-pub(crate) fn push_classes(mark: &str, set: ClientSet, text: &mut String) -> Result<(), Memory>
-    ensures { OnOk result (string_bytes text.new ≡ string_bytes text.old ++ spec.client_classes mark.now set) }
-{
-    for client in 0..CLIENTS as u8 {
-        push_class(mark, set, client, text)?;
+    if let Some(target) = target {
+        put_classes(pieces, LEARNS, target.learn)?;
     }
     Ok(())
 }
 
-/// Puts the class of a client behind a text, if the set has it.
-fn push_class(mark: &str, set: ClientSet, client: u8, text: &mut String) -> Result<(), Memory>
-    ensures { OnOk result (string_bytes text.new ≡ string_bytes text.old ++ spec.client_class mark.now set client) }
+/// Puts the line of an arrow and its head.
+fn put_line(pieces: &mut Vec<Piece<'_>>, line: &ArrowLine) -> Result<(), Memory>
+    ensures { OnOk result (facts pieces.new.items ≡ facts pieces.old.items) }
 {
-    if set.has(client) {
-        write!(text, "{mark}{client}")?;
+    put_point(pieces, "\" d=\"M", line.start)?;
+    for pass in &line.passes {
+        put_curve(pieces, pass.curve)?;
+        put_placed(pieces, &[("H", pass.right)], "")?;
     }
-    Ok(())
+    put_curve(pieces, line.last)?;
+    put_point(pieces, "\"/><path class=\"h\" d=\"M", line.tip)?;
+    put(pieces, &[Constant("l-8 -4v8z\"/>")])
 }
 
-/// Puts the path of an arrow and its head behind a text.
-fn push_path(arrow: &Arrow, line: &ArrowLine, text: &mut String) -> Result<(), Memory>
-    ensures { OnOk result (string_bytes text.new ≡ string_bytes text.old ++ spec.arrow_path arrow.now line.now) }
+/// Puts a curve from where a line is.
+fn put_curve(pieces: &mut Vec<Piece<'_>>, curve: Curve) -> Result<(), Memory>
+    ensures { OnOk result (facts pieces.new.items ≡ facts pieces.old.items) }
 {
-    let cause = word_of(arrow.cause);
-    let tip = line.tip;
-    write!(text, "<path class=\"{cause}\" d=\"M{}", line.start)?;
-    push_all(&line.passes, text)?;
-    write!(
-        text,
-        "{}\"/><path class=\"h\" d=\"M{tip}l-8 -4v8z\"/>",
-        line.last
-    )?;
-    Ok(())
+    put_point(pieces, "C", curve.leaving)?;
+    put_point(pieces, " ", curve.arriving)?;
+    put_point(pieces, " ", curve.end)
 }
 
-/// Puts the title of an arrow behind a text: which edges it stands for.
-fn push_title(boxes: &[PictureBox], arrow: &Arrow, text: &mut String) -> Result<(), Memory>
-    ensures { OnOk result (string_bytes text.new ≡ string_bytes text.old ++ spec.arrow_title boxes.now arrow.now) }
+/// Puts a point after this markup.
+fn put_point(pieces: &mut Vec<Piece<'_>>, before: &'static str, at: Point) -> Result<(), Memory>
+    ensures { OnOk result (facts pieces.new.items ≡ facts pieces.old.items) }
 {
-    let source = NameAt(box_at(boxes, arrow.source));
-    let target = NameAt(box_at(boxes, arrow.target));
-    let cause = word_of(arrow.cause);
-    let edges = EdgeCount(arrow.edges);
-    write!(
-        text,
-        "<title>{source} -&gt; {target} {cause}{edges}</title>"
-    )?;
-    Ok(())
+    put_placed(pieces, &[(before, at.x), (" ", at.y)], "")
 }
 
-/// The name of a box as it is printed, if there is one.
-#[derive(Drop)]
-struct NameAt(Option<PictureBox>);
-
-impl fmt::Display for NameAt {
-    ghost use Rattle.std.specs.Prelude.{Some};
-    ghost use Rattle.flow_picture.specs.Arrows.{name_of};
-
-    ghost output = { λ name. Some (name_of name.0) };
-
-    fn fmt<W: fmt::Write>(&self, f: &mut fmt::Formatter<W>) -> fmt::Result {
-        match self.0 {
-            Some(shown) => write!(f, "{}", BoxName(shown)),
-            None => Ok(()),
-        }
+/// Puts the title of an arrow, which says what edges it stands for, and ends the arrow.
+fn put_title(
+    pieces: &mut Vec<Piece<'_>>,
+    source: Option<PictureBox>,
+    target: Option<PictureBox>,
+    arrow: &Arrow,
+) -> Result<(), Memory>
+    ensures { OnOk result (facts pieces.new.items
+        ≡ facts pieces.old.items ++ spec.title_facts source target arrow.now) }
+{
+    put(pieces, &[Constant("<title>")])?;
+    if let Some(source) = source {
+        put_name(pieces, &source)?;
     }
-}
-
-/// How many edges an arrow stands for, as it is printed behind its cause: nothing for one.
-#[derive(Drop)]
-struct EdgeCount(usize);
-
-impl fmt::Display for EdgeCount {
-    ghost use Rattle.std.specs.Prelude.{Some};
-    ghost use Rattle.flow_picture.specs.Arrows.{edge_count};
-
-    ghost output = { λ edges. Some (edge_count edges.0) };
-
-    fn fmt<W: fmt::Write>(&self, f: &mut fmt::Formatter<W>) -> fmt::Result {
-        match self.0 {
-            1 => Ok(()),
-            edges => write!(f, ", {edges} edges"),
-        }
+    put(pieces, &[Mark(LEADS_TO)])?;
+    if let Some(target) = target {
+        put_name(pieces, &target)?;
     }
-}
-
-impl Piece for Pass {
-    ghost use Rattle.flow_picture.specs.Arrows.{pass_text};
-
-    ghost text = { pass_text };
-
-    fn push(&self, page: &mut String) -> Result<(), Memory> {
-        let right = self.right;
-        write!(page, "{}H{right}", self.curve)?;
-        Ok(())
+    put(pieces, &[Constant(" "), Mark(word_of(arrow.cause))])?;
+    if arrow.edges != 1 {
+        let edges = Number(arrow.edges as u128);
+        put(pieces, &[Constant(", "), edges, Constant(" edges")])?;
     }
-}
-
-impl fmt::Display for Curve {
-    ghost use Rattle.std.specs.Prelude.{Some};
-    ghost use Rattle.flow_picture.specs.Arrows.{curve_text};
-
-    ghost output = { λ curve. Some (curve_text curve) };
-
-    fn fmt<W: fmt::Write>(&self, f: &mut fmt::Formatter<W>) -> fmt::Result {
-        write!(f, "C{} {} {}", self.leaving, self.arriving, self.end)
-    }
-}
-
-impl fmt::Display for Point {
-    ghost use Rattle.std.specs.Prelude.{Some};
-    ghost use Rattle.flow_picture.specs.Arrows.{point_text};
-
-    ghost output = { λ point. Some (point_text point) };
-
-    fn fmt<W: fmt::Write>(&self, f: &mut fmt::Formatter<W>) -> fmt::Result {
-        write!(f, "{} {}", self.x, self.y)
-    }
+    put(pieces, &[Constant("</title></g>\n")])
 }

@@ -1,239 +1,196 @@
-//! The text of boxes.
-ghost use Rattle.std.specs.Prelude.{◌≡◌, ◌++◌, OnOk, map, string_bytes};
-ghost use Rattle.flow_picture.specs.Boxes as spec;
+//! The pieces of boxes.
+ghost use Rattle.std.specs.Prelude.{◌≡◌, ◌++◌, OnOk, map};
+ghost use Rattle.shown_text.specs.Pieces.{facts};
+ghost use Rattle.flow_picture.specs.Svg as spec;
 
-use crate::arrows::push_classes;
-use crate::box_text::{BoxKind, BoxName, names_in, who_words};
-use crate::layout::BoxPlace;
+use crate::box_text::{names_in, put_kind, put_name, put_who};
+use crate::layout::{BoxPlace, Point};
 use crate::picture::PictureBox;
+use crate::placed::put_placed;
+use cosem_data::clients::ClientSet;
 use cosem_data::memory::Memory;
-use shown_text::html::Escaped;
+use meter_theory::limits::CLIENTS;
+use shown_text::pieces::Piece::{self, Constant, Mark, Number};
+use shown_text::pieces::put;
 use std::alloc::Global;
 
-/// Puts the text of a box, whose place this is, behind a text: who may influence and learn it, its words, and over it what a
-/// client that is chosen may do. The error is that memory was refused, and then a part of it may stand there.
-#[tactic(auto, unfolding(crate::specs::Boxes::box_text))]
-pub(crate) fn push_box(
+/// Begins a box.
+const BOX: &str = "<g class=\"n";
+/// Begins the class of a client that may influence something, before its number.
+pub(crate) const INFLUENCES: &str = " i";
+/// Begins the class of a client that may learn something, before its number.
+pub(crate) const LEARNS: &str = " l";
+/// Begins the line of those who may change a cell by a right.
+pub(crate) const CHANGERS: &str = "set, act: ";
+/// Begins the line of those who may read a cell by a right.
+pub(crate) const READERS: &str = "get: ";
+/// What a client that is chosen may do to the cell of a box.
+const MAY_CHANGE: &str = "may change";
+
+const MAY_LEARN: &str = "may learn";
+/// What it may do to some of the cells of a box that has more.
+const MAY_CHANGE_SOME: &str = "may change some";
+
+const MAY_LEARN_SOME: &str = "may learn some";
+
+/// Puts a box at its place: who may influence and learn it, its frame and its words, and over it what a client that is chosen
+/// may do.
+pub(crate) fn put_box<'a>(
     alloc: Global,
-    clients: &[String],
+    pieces: &mut Vec<Piece<'a>>,
+    clients: &'a [String],
     shown: &PictureBox,
     place: &BoxPlace,
-    text: &mut String,
 ) -> Result<(), Memory>
-    ensures { OnOk result (string_bytes text.new
-        ≡ string_bytes text.old ++ spec.box_text clients.now shown.now place.now) }
+    ensures { OnOk result (facts pieces.new.items ≡ facts pieces.old.items ++ spec.box_facts clients.now shown.now) }
 {
-    text.push_str("<g class=\"n")?;
-    push_box_classes(shown, text)?;
-    text.push_str("\">")?;
-    push_body(alloc, clients, shown, place, text)?;
-    text.push_str("</g>\n")?;
+    put(pieces, &[Mark(BOX)])?;
+    put_classes(pieces, INFLUENCES, shown.influence)?;
+    put_classes(pieces, LEARNS, shown.learn)?;
+    put_frame(pieces, place)?;
+    put_words(alloc, pieces, clients, shown, place)?;
+    put_chosen(pieces, shown.cells, place)
+}
+
+/// Puts the classes of the clients of a set, each after what they may do.
+#[tactic(auto, using(crate::proofs::Words::after_more))]
+pub(crate) fn put_classes(
+    pieces: &mut Vec<Piece<'_>>,
+    doing: &'static str,
+    set: ClientSet,
+) -> Result<(), Memory>
+    ensures { OnOk result (facts pieces.new.items ≡ facts pieces.old.items ++ spec.classes_of doing.now set) }
+{
+    for client in 0..CLIENTS as u8 {
+        put_class(pieces, doing, set, client)?;
+    }
     Ok(())
 }
 
-/// Puts what is drawn of a box behind a text: its frame, its words, and what a client that is chosen may do.
-#[tactic(auto, unfolding(crate::specs::Boxes::body_text))]
-fn push_body(
+/// Puts the class of a client after what it may do, if the set has it.
+fn put_class(
+    pieces: &mut Vec<Piece<'_>>,
+    doing: &'static str,
+    set: ClientSet,
+    client: u8,
+) -> Result<(), Memory>
+    ensures { OnOk result (facts pieces.new.items ≡ facts pieces.old.items ++ spec.class_of doing.now set client) }
+{
+    if !set.has(client) {
+        return Ok(());
+    }
+    let client = Number(u128::from(client));
+    put(pieces, &[Mark(doing), client])
+}
+
+/// Puts the frame of a box: its outline, and a bar on its left and one on its right.
+fn put_frame(pieces: &mut Vec<Piece<'_>>, place: &BoxPlace) -> Result<(), Memory>
+    ensures { OnOk result (facts pieces.new.items ≡ facts pieces.old.items) }
+{
+    let (left, top) = (i64::from(place.left), i64::from(place.top));
+    let (width, height) = (i64::from(place.width), i64::from(place.height));
+    let frame = [
+        ("\"><rect class=\"box\" x=\"", left),
+        ("\" y=\"", top),
+        ("\" width=\"", width),
+        ("\" height=\"", height),
+        ("\" rx=\"4\"/><rect class=\"bar bi\" x=\"", left),
+        ("\" y=\"", top),
+        ("\" width=\"6\" height=\"", height),
+        ("\"/><rect class=\"bar bl\" x=\"", left + width - 6),
+        ("\" y=\"", top),
+        ("\" width=\"6\" height=\"", height),
+    ];
+    put_placed(pieces, &frame, "\"/>")
+}
+
+/// Puts the words of a box, each line below the one before.
+fn put_words<'a>(
     alloc: Global,
-    clients: &[String],
+    pieces: &mut Vec<Piece<'a>>,
+    clients: &'a [String],
     shown: &PictureBox,
     place: &BoxPlace,
-    text: &mut String,
 ) -> Result<(), Memory>
-    ensures { OnOk result (string_bytes text.new
-        ≡ string_bytes text.old ++ spec.body_text clients.now shown.now place.now) }
+    ensures { OnOk result (facts pieces.new.items ≡ facts pieces.old.items ++ spec.words_facts clients.now shown.now) }
 {
-    push_frame(place, text)?;
-    push_words(alloc, clients, shown, place, text)?;
-    push_chosen(shown.cells, place, text)
-}
-
-/// Puts the classes of who may influence a box and who may learn it behind a text.
-#[tactic(auto, unfolding(crate::specs::Boxes::box_classes))]
-fn push_box_classes(shown: &PictureBox, text: &mut String) -> Result<(), Memory>
-    ensures { OnOk result (string_bytes text.new ≡ string_bytes text.old ++ spec.box_classes shown.now) }
-{
-    push_classes(" i", shown.influence, text)?;
-    push_classes(" l", shown.learn, text)
-}
-
-/// Puts the frame of a box behind a text: its outline, and a bar on its left and one on its right.
-#[tactic(auto, unfolding(crate::specs::Boxes::frame_text))]
-fn push_frame(place: &BoxPlace, text: &mut String) -> Result<(), Memory>
-    ensures { OnOk result (string_bytes text.new ≡ string_bytes text.old ++ spec.frame_text place.now) }
-{
-    let left = u64::from(place.left);
-    let right = left + u64::from(place.width);
-    push_outline(place, text)?;
-    push_bar("bi", left, place, text)?;
-    push_bar("bl", right.saturating_sub(6), place, text)
-}
-
-/// Puts the outline of a box behind a text.
-#[tactic(auto, unfolding(crate::specs::Boxes::outline_text))]
-fn push_outline(place: &BoxPlace, text: &mut String) -> Result<(), Memory>
-    ensures { OnOk result (string_bytes text.new ≡ string_bytes text.old ++ spec.outline_text place.now) }
-{
-    let BoxPlace {
-        left,
-        top,
-        width,
-        height,
-    } = *place;
-    write!(
-        text,
-        "<rect class=\"box\" x=\"{left}\" y=\"{top}\" width=\"{width}\" height=\"{height}\" rx=\"4\"/>"
-    )?;
-    Ok(())
-}
-
-/// Puts a bar of a box behind a text.
-#[tactic(auto, unfolding(crate::specs::Boxes::bar_text))]
-fn push_bar(mark: &str, left: u64, place: &BoxPlace, text: &mut String) -> Result<(), Memory>
-    ensures { OnOk result (string_bytes text.new ≡ string_bytes text.old ++ spec.bar_text mark.now left place.now) }
-{
-    let top = place.top;
-    let height = place.height;
-    write!(
-        text,
-        "<rect class=\"bar {mark}\" x=\"{left}\" y=\"{top}\" width=\"6\" height=\"{height}\"/>"
-    )?;
-    Ok(())
-}
-
-/// Puts the words of a box behind a text, each line below the one before.
-#[tactic(auto, unfolding(crate::specs::Boxes::words_text))]
-fn push_words(
-    alloc: Global,
-    clients: &[String],
-    shown: &PictureBox,
-    place: &BoxPlace,
-    text: &mut String,
-) -> Result<(), Memory>
-    ensures { OnOk result (string_bytes text.new
-        ≡ string_bytes text.old ++ spec.words_text clients.now shown.now place.now) }
-{
-    let name = format!(in alloc; "{}", BoxName(*shown))?;
-    let kind = format!(in alloc; "{}", BoxKind(*shown))?;
-    push_line("b", place, 0, name.as_str(), text)?;
-    push_line("q", place, 1, kind.as_str(), text)?;
+    begin_line(pieces, "<text class=\"b\" x=\"", line_at(place, 0))?;
+    put_name(pieces, shown)?;
+    begin_line(pieces, "</text><text class=\"q\" x=\"", line_at(place, 1))?;
+    put_kind(pieces, shown)?;
+    put(pieces, &[Constant("</text>")])?;
     let changers = names_in(alloc, clients, shown.changers)?;
     let readers = names_in(alloc, clients, shown.readers)?;
-    push_who(alloc, "ti", place, 2, "set, act: ", &changers, text)?;
-    let line = line_behind(&changers);
-    push_who(alloc, "tl", place, line, "get: ", &readers, text)
+    let below = if changers.is_empty() { 2 } else { 3 };
+    let (change, read) = ("<text class=\"ti\" x=\"", "<text class=\"tl\" x=\"");
+    put_line(
+        alloc,
+        pieces,
+        change,
+        line_at(place, 2),
+        CHANGERS,
+        &changers,
+    )?;
+    put_line(
+        alloc,
+        pieces,
+        read,
+        line_at(place, below),
+        READERS,
+        &readers,
+    )
 }
 
-/// The number of the line behind the one that says who may change a cell, which isn't there where nobody may.
-fn line_behind(changers: &[&str]) -> u8
-    ensures { result ≡ spec.line_behind (map (λ name. name.now) changers.now) }
-{
-    match changers {
-        [] => 2,
-        [..] => 3,
-    }
-}
-
-/// Puts a line that says who may do something behind a text, if anybody may.
-#[tactic(auto, unfolding(crate::specs::Boxes::who_text))]
-fn push_who(
+/// Puts a line at this place that says who may do something, if anybody may.
+fn put_line<'a>(
     alloc: Global,
-    mark: &str,
-    place: &BoxPlace,
-    line: u8,
-    doing: &str,
-    names: &[&str],
-    text: &mut String,
+    pieces: &mut Vec<Piece<'a>>,
+    begin: &'static str,
+    at: Point,
+    doing: &'static str,
+    names: &[&'a str],
 ) -> Result<(), Memory>
-    ensures { OnOk result (string_bytes text.new ≡ string_bytes text.old
-        ++ spec.who_text mark.now place.now line doing.now (map (λ name. name.now) names.now)) }
+    ensures { OnOk result (facts pieces.new.items
+        ≡ facts pieces.old.items ++ spec.who_if_any doing.now (map (λ name. name.now) names.now)) }
 {
     if names.is_empty() {
         return Ok(());
     }
-    let who = who_words(alloc, names)?;
-    let words = format!(in alloc; "{doing}{}", Escaped(who.as_str()))?;
-    push_line(mark, place, line, words.as_str(), text)
+    begin_line(pieces, begin, at)?;
+    put_who(alloc, pieces, doing, names)?;
+    put(pieces, &[Constant("</text>")])
 }
 
-/// Puts a line of the words of a box behind a text.
-#[tactic(auto, unfolding(crate::specs::Boxes::line_text))]
-fn push_line(
-    mark: &str,
-    place: &BoxPlace,
-    line: u8,
-    words: &str,
-    text: &mut String,
-) -> Result<(), Memory>
-    ensures { OnOk result (string_bytes text.new
-        ≡ string_bytes text.old ++ spec.line_text mark.now place.now line words.now) }
+/// Begins a line of the words of a box at this place.
+fn begin_line(pieces: &mut Vec<Piece<'_>>, begin: &'static str, at: Point) -> Result<(), Memory>
+    ensures { OnOk result (facts pieces.new.items ≡ facts pieces.old.items) }
 {
-    let left = u64::from(place.left) + 11;
-    let base = u64::from(place.top) + 17 + 15 * u64::from(line);
-    write!(
-        text,
-        "<text class=\"{mark}\" x=\"{left}\" y=\"{base}\">{words}</text>"
-    )?;
-    Ok(())
+    put_placed(pieces, &[(begin, at.x), ("\" y=\"", at.y)], "\">")
 }
 
-/// Puts what a client that is chosen may do behind a text, over the box.
-#[tactic(auto, unfolding(crate::specs::Boxes::chosen_text))]
-fn push_chosen(cells: usize, place: &BoxPlace, text: &mut String) -> Result<(), Memory>
-    ensures { OnOk result (string_bytes text.new ≡ string_bytes text.old ++ spec.chosen_text cells place.now) }
-{
-    let left = u64::from(place.left);
-    let right = left + u64::from(place.width);
-    let base = u64::from(place.top).saturating_sub(4);
-    push_over("ti ci", left, base, "", change_words(cells), text)?;
-    push_over(
-        "tl cl",
-        right,
-        base,
-        " text-anchor=\"end\"",
-        learn_words(cells),
-        text,
-    )
-}
-
-/// Puts words over a box behind a text.
-#[tactic(auto, unfolding(crate::specs::Boxes::over_text))]
-fn push_over(
-    mark: &str,
-    x: u64,
-    y: u64,
-    anchor: &str,
-    words: &str,
-    text: &mut String,
-) -> Result<(), Memory>
-    ensures { OnOk result (string_bytes text.new
-        ≡ string_bytes text.old ++ spec.over_text mark.now x y anchor.now words.now) }
-{
-    write!(
-        text,
-        "<text class=\"won {mark}\" x=\"{x}\" y=\"{y}\"{anchor}>{words}</text>"
-    )?;
-    Ok(())
-}
-
-/// That a client may change the cell of a box, or some of its cells.
-fn change_words(cells: usize) -> &'static str
-    ensures { result.now ≡ spec.change_words cells }
-{
-    if cells == 1 {
-        "may change"
-    } else {
-        "may change some"
+/// Where a line of the words of a box begins, counted from 0.
+fn line_at(place: &BoxPlace, line: u8) -> Point {
+    Point {
+        x: i64::from(place.left) + 11,
+        y: i64::from(place.top) + 17 + 15 * i64::from(line),
     }
 }
 
-/// That a client may learn the cell of a box, or some of its cells.
-fn learn_words(cells: usize) -> &'static str
-    ensures { result.now ≡ spec.learn_words cells }
+/// Puts what a client that is chosen may do, over the box, and ends the box.
+fn put_chosen(pieces: &mut Vec<Piece<'_>>, cells: usize, place: &BoxPlace) -> Result<(), Memory>
+    ensures { OnOk result (facts pieces.new.items ≡ facts pieces.old.items ++ spec.chosen_facts cells) }
 {
-    if cells == 1 {
-        "may learn"
+    let (change, learn) = if cells == 1 {
+        (MAY_CHANGE, MAY_LEARN)
     } else {
-        "may learn some"
-    }
+        (MAY_CHANGE_SOME, MAY_LEARN_SOME)
+    };
+    let left = ("<text class=\"won ti ci\" x=\"", i64::from(place.left));
+    let right = i64::from(place.left) + i64::from(place.width);
+    let right = ("</text><text class=\"won tl cl\" x=\"", right);
+    let over = ("\" y=\"", i64::from(place.top) - 4);
+    put_placed(pieces, &[left, over], "\">")?;
+    put(pieces, &[Mark(change)])?;
+    put_placed(pieces, &[right, over], "\" text-anchor=\"end\">")?;
+    put(pieces, &[Mark(learn), Constant("</text></g>\n")])
 }

@@ -23,7 +23,7 @@ struct Node {
 }
 
 /// The column of each of so many boxes: one more than the largest of those that arrows into it come from, where an arrow that closes
-/// a circle doesn't count. A box without arrows into it stands just before the first that it leads to (own profile). The error is
+/// a circle doesn't count. A box without arrows into it stands just before the first that it leads to. The error is
 /// that memory was refused.
 pub(crate) fn columns(alloc: Global, count: usize, links: &[Ends]) -> Result<Vec<usize>, Memory> {
     let mut nodes = nodes(alloc, count, links)?;
@@ -76,7 +76,7 @@ fn open_circle(nodes: &[Node], ready: &mut Vec<usize>) -> Result<(), Memory> {
     Ok(())
 }
 
-/// Visits a box: those that it leads to stand behind it, and are ready where they wait for no other.
+/// Visits a box: those that it leads to stand after it, and are ready where they wait for no other.
 fn visit(
     number: usize,
     links: &[Ends],

@@ -43,7 +43,7 @@ pub struct BoxPlace {
 pub struct ArrowLine {
     /// Where it begins.
     pub start: Point,
-    /// Its curves but the last, each with the straight line behind it.
+    /// Its curves but the last, each with the straight line after it.
     pub passes: Vec<Pass>,
     /// Its last curve.
     pub last: Curve,
@@ -51,7 +51,7 @@ pub struct ArrowLine {
     pub tip: Point,
 }
 
-/// A curve, and the straight line behind it.
+/// A curve, and the straight line after it.
 #[derive(Clone, Copy, Drop)]
 pub struct Pass {
     /// The curve.

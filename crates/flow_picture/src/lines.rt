@@ -39,7 +39,7 @@ pub(crate) fn lines(
     Ok(lines)
 }
 
-/// The line of an arrow behind earlier ones, to which it is added.
+/// The line of an arrow after earlier ones, to which it is added.
 fn line(
     alloc: Global,
     ends: Option<Ends>,

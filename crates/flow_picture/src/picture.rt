@@ -34,7 +34,7 @@ pub struct PictureBox {
 }
 
 /// All edges of one cause that lead from cells of one box to those of another, or of the same. One from or to a number that no box
-/// has is told without a name there, and has no line.
+/// has is shown without a name there, and has no line.
 #[derive(Clone, Copy, Drop)]
 pub struct Arrow {
     /// The number of the box that they lead from.

@@ -278,7 +278,7 @@ impl Grid {
         at
     }
 
-    /// Tells the spots behind those of a column where these stand.
+    /// Lets the spots after those of a column know where these stand.
     fn pass_on(&mut self, column: usize) {
         for step in &self.steps {
             pass_middle(column, *step, &mut self.spots);

@@ -1,8 +1,10 @@
 //! How large boxes are.
-use crate::box_text::{BoxKind, BoxName, names_in, who_words};
+use crate::box_text::{names_in, put_kind, put_name, put_who};
+use crate::boxes::{CHANGERS, READERS};
 use crate::picture::PictureBox;
 use cosem_data::clients::ClientSet;
 use cosem_data::memory::Memory;
+use shown_text::pieces::{Piece, render};
 use std::alloc::Global;
 
 /// So many letters wide is a box with one cell at least, so that what a client may do fits over it.
@@ -19,8 +21,8 @@ pub(crate) struct Size {
     pub height: u32,
 }
 
-/// How large a box is with its words: 7 pixels for each letter of its longest line, and 15 for each line (own profile). The error is
-/// that memory was refused.
+/// How large a box is with its words: 7 pixels for each letter of its longest line, and 15 for each line. The error is that memory
+/// was refused.
 pub(crate) fn box_size(
     alloc: Global,
     clients: &[String],
@@ -31,13 +33,15 @@ pub(crate) fn box_size(
     } else {
         LETTERS_FOR_SOME
     };
-    let name = format!(in alloc; "{}", BoxName(*shown))?;
-    let kind = format!(in alloc; "{}", BoxKind(*shown))?;
-    let changers = who_letters(alloc, clients, shown.changers, "set, act: ")?;
-    let readers = who_letters(alloc, clients, shown.readers, "get: ")?;
+    let mut name = Vec::new(alloc);
+    put_name(&mut name, shown)?;
+    let mut kind = Vec::new(alloc);
+    put_kind(&mut kind, shown)?;
+    let changers = who_letters(alloc, clients, shown.changers, CHANGERS)?;
+    let readers = who_letters(alloc, clients, shown.readers, READERS)?;
     let letters = least
-        .max(name.len())
-        .max(kind.len())
+        .max(letters(alloc, &name)?)
+        .max(letters(alloc, &kind)?)
         .max(changers)
         .max(readers);
     let lines = 2 + u32::from(changers != 0) + u32::from(readers != 0);
@@ -52,14 +56,27 @@ fn who_letters(
     alloc: Global,
     clients: &[String],
     set: ClientSet,
-    doing: &str,
+    doing: &'static str,
 ) -> Result<usize, Memory> {
     let names = names_in(alloc, clients, set)?;
     if names.is_empty() {
         return Ok(0);
     }
-    let who = who_words(alloc, &names)?;
-    Ok(doing.len().saturating_add(who.len()))
+    let mut who = Vec::new(alloc);
+    put_who(alloc, &mut who, doing, &names)?;
+    letters(alloc, &who)
+}
+
+/// How many letters pieces have for who reads them, who sees texts from outside without what escapes them.
+fn letters(alloc: Global, pieces: &[Piece<'_>]) -> Result<usize, Memory> {
+    let mut line = String::new(alloc);
+    for piece in pieces {
+        match piece {
+            Piece::Hole(text) => line.push_str(text)?,
+            _ => render(&[*piece], &mut line)?,
+        }
+    }
+    Ok(line.len())
 }
 
 /// A number of letters as a number of pixels can be: at most the largest there is.

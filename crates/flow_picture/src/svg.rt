@@ -1,75 +1,89 @@
 //! The text of a picture.
-ghost use Rattle.std.specs.Prelude.{◌≡◌, ◌++◌, ◌==◌, IfOk, OnOk, flat_map, string_bytes};
+ghost use Rattle.std.specs.Prelude.{◌≡◌, ◌++◌, ◌∷◌, [], IfOk, OnOk, flat_map, length, map, string_bytes};
 ghost use Rattle.std.specs.List.{list_any};
 ghost use Rattle.meter_theory.specs.Edges.{same_cause};
+ghost use Rattle.shown_text.specs.Pieces.{cell, facts, mark};
 ghost use Rattle.flow_picture.specs.Svg as spec;
-ghost use Rattle.flow_picture.specs.Svg.{IsPicture};
+ghost use Rattle.flow_picture.specs.Svg.{IsPicture, Says, arrow_facts, box_facts};
 
-use crate::arrows::push_arrow;
-use crate::boxes::push_box;
+use crate::arrows::put_arrow;
+use crate::boxes::put_box;
 use crate::layout::{ArrowLine, BoxPlace, Layout, lay_out};
-use crate::picture::{Arrow, Picture, PictureBox};
+use crate::picture::{Arrow, Picture};
+use crate::placed::put_placed;
 use cosem_data::cell::CellRef;
 use cosem_data::memory::Memory;
 use meter_theory::flow::Cause;
-use shown_text::html::Escaped;
+use shown_text::pieces::Piece::{self, Cell, Constant, Hole, Mark, Number};
+use shown_text::pieces::{put, render};
 use std::alloc::Global;
-use value_text::cell::CellText;
 use value_text::edge::word_of;
 
 /// So many cells without edges are named at most.
-const ALONE: usize = 40;
+const MOST_ALONE: usize = 40;
 
-/// The text of a picture: its legend, the choice of a client, the drawing, and the cells without edges (own profile). Each box and
-/// each arrow is drawn once, in its order. The only error is want of memory.
+/// What is shown of a picture without arrows.
+const NO_EDGES: &str = "<p>There are no edges: each value stays in its cell.</p>\n";
+/// Begins the legend.
+const LEGEND: &str = "<p>From each cell to those that its value may reach or decide. \
+    Choose a client to see what it may change and learn.</p>\n<ul class=\"key\">";
+/// Begins a cause of the legend.
+const KEY: &str =
+    "<li><svg class=\"key-line\" width=\"44\" height=\"8\" aria-hidden=\"true\"><path class=\"";
+/// Begins the choice of a client, with that of none.
+const CHOICE: &str = "<fieldset class=\"radio\"><legend class=\"free\">Show for</legend>\
+    <label class=\"pick\"><input type=\"radio\" name=\"client\" checked> no client</label>\n";
+/// Begins the choice of one client.
+const CLIENT: &str = "<label class=\"pick\"><input type=\"radio\" name=\"client\" class=\"p";
+/// Begins the drawing.
+const DRAWING: &str = "\n<div class=\"picture\" tabindex=\"0\" role=\"region\" \
+    aria-labelledby=\"picture\"><svg role=\"img\" \
+    aria-label=\"Flow between cells; the list of edges says the same\" width=\"";
+/// Begins the cells without edges.
+const ALONE: &str = "<p>Without edges: ";
+
+/// The text of a picture: its legend, the choice of a client, the drawing, and the cells without edges. Each box and each arrow is
+/// drawn once, in its order. The only error is want of memory.
 pub fn picture_text(alloc: Global, picture: &Picture) -> Result<String, Memory>
     ensures { IfOk result (λ text. IsPicture picture.now (string_bytes text)) }
 {
-    let layout = lay_out(alloc, picture)?;
-    if picture.arrows.is_empty() {
-        return Ok(String::from_str(
-            alloc,
-            "<p>There are no edges: each value stays in its cell.</p>\n",
-        )?);
-    }
     let mut text = String::new(alloc);
-    push_drawn(alloc, picture, &layout, &mut text)?;
+    if picture.arrows.is_empty() {
+        push_no_edges(alloc, &mut text)?;
+    } else {
+        push_drawn(alloc, picture, &mut text)?;
+    }
     Ok(text)
 }
 
-/// Puts the text of a picture whose boxes and arrows stand so behind a text.
-#[tactic(auto, unfolding(crate::specs::Svg::drawn_text))]
-fn push_drawn(
+/// Prints that there are no edges.
+fn push_no_edges(alloc: Global, text: &mut String) -> Result<(), Memory>
+    ensures { OnOk result (Says (mark NO_EDGES.now ∷ []) (string_bytes text.old) (string_bytes text.new)) }
+{
+    let mut pieces = Vec::new(alloc);
+    put(&mut pieces, &[Mark(NO_EDGES)])?;
+    render(&pieces, text)
+}
+
+/// Prints a picture that has arrows.
+fn push_drawn(alloc: Global, picture: &Picture, text: &mut String) -> Result<(), Memory>
+    ensures { OnOk result (Says (spec.drawn_facts picture.now) (string_bytes text.old) (string_bytes text.new)) }
+{
+    let layout = lay_out(alloc, picture)?;
+    push_head(alloc, picture, &layout, text)?;
+    push_arrows(alloc, picture, &layout.lines, text)?;
+    push_boxes(alloc, picture, &layout.boxes, text)?;
+    push_alone(alloc, picture, text)
+}
+
+/// Prints the legend and the choice of a client, and begins the drawing.
+fn push_head(
     alloc: Global,
     picture: &Picture,
     layout: &Layout,
     text: &mut String,
 ) -> Result<(), Memory>
-    ensures { OnOk result (string_bytes text.new ≡ string_bytes text.old ++ spec.drawn_text picture.now layout.now) }
-{
-    push_legend(&picture.arrows, text)?;
-    push_choice(&picture.clients, text)?;
-    push_drawing(alloc, picture, layout, text)?;
-    push_alone(&picture.alone, text)
-}
-
-/// Puts what a picture shows and the legend of its arrows behind a text.
-#[tactic(auto, unfolding(crate::specs::Svg::legend_text))]
-fn push_legend(arrows: &[Arrow], text: &mut String) -> Result<(), Memory>
-    ensures { OnOk result (string_bytes text.new ≡ string_bytes text.old ++ spec.legend_text arrows.now) }
-{
-    text.push_str(
-        "<p>From each cell to those that its value may reach or decide. Choose a client to see what it may change and learn.</p>\n<ul class=\"key\">",
-    )?;
-    push_causes(arrows, text)?;
-    text.push_str("</ul>\n")?;
-    Ok(())
-}
-
-/// Puts the entries of all causes that an arrow has behind a text.
-#[tactic(auto, unfolding(crate::specs::Svg::causes_text))]
-fn push_causes(arrows: &[Arrow], text: &mut String) -> Result<(), Memory>
-    ensures { OnOk result (string_bytes text.new ≡ string_bytes text.old ++ spec.causes_text arrows.now) }
+    ensures { OnOk result (Says (spec.head_facts picture.now) (string_bytes text.old) (string_bytes text.new)) }
 {
     let causes = [
         Cause::Monitored,
@@ -80,33 +94,90 @@ fn push_causes(arrows: &[Arrow], text: &mut String) -> Result<(), Memory>
         Cause::Schedule,
         Cause::Clock,
     ];
-    push_each(&causes, arrows, text)
+    let mut pieces = Vec::new(alloc);
+    put(&mut pieces, &[Mark(LEGEND)])?;
+    put_causes(&mut pieces, &causes, &picture.arrows)?;
+    put(&mut pieces, &[Constant("</ul>\n"), Mark(CHOICE)])?;
+    put_clients(&mut pieces, &picture.clients)?;
+    let (width, height) = (i64::from(layout.width), i64::from(layout.height));
+    let size = [(DRAWING, width), ("\" height=\"", height)];
+    put_placed(&mut pieces, &size, "\" viewBox=\"")?;
+    put_placed(&mut pieces, &[("0 0 ", width), (" ", height)], "\">\n")?;
+    render(&pieces, text)
 }
 
-/// Puts an entry for each of these causes that an arrow has behind a text.
-fn push_each(causes: &[Cause], arrows: &[Arrow], text: &mut String) -> Result<(), Memory>
-    ensures { OnOk result (string_bytes text.new
-        ≡ string_bytes text.old ++ flat_map (spec.cause_text arrows.now) causes.now) }
+/// Prints the arrows of a picture, each with its line.
+fn push_arrows(
+    alloc: Global,
+    picture: &Picture,
+    lines: &[ArrowLine],
+    text: &mut String,
+) -> Result<(), Memory>
+    requires { length lines.now ≡ length picture.now.arrows.items }
+    ensures { OnOk result (Says (flat_map (arrow_facts picture.now.boxes.items) picture.now.arrows.items)
+        (string_bytes text.old) (string_bytes text.new)) }
+{
+    let mut pieces = Vec::new(alloc);
+    for (number, arrow) in picture.arrows.iter().enumerate() {
+        put_arrow(&mut pieces, &picture.boxes, arrow, &lines[number])?;
+    }
+    render(&pieces, text)
+}
+
+/// Prints the boxes of a picture, each at its place, and ends the drawing.
+fn push_boxes(
+    alloc: Global,
+    picture: &Picture,
+    places: &[BoxPlace],
+    text: &mut String,
+) -> Result<(), Memory>
+    requires { length places.now ≡ length picture.now.boxes.items }
+    ensures { OnOk result (Says (flat_map (box_facts picture.now.clients.items) picture.now.boxes.items)
+        (string_bytes text.old) (string_bytes text.new)) }
+{
+    let mut pieces = Vec::new(alloc);
+    for (number, shown) in picture.boxes.iter().enumerate() {
+        put_box(alloc, &mut pieces, &picture.clients, shown, &places[number])?;
+    }
+    put(&mut pieces, &[Constant("</svg></div></fieldset>\n")])?;
+    render(&pieces, text)
+}
+
+/// Prints the cells without edges, if there are some and not too many.
+fn push_alone(alloc: Global, picture: &Picture, text: &mut String) -> Result<(), Memory>
+    ensures { OnOk result (Says (spec.alone_facts picture.now.alone.items) (string_bytes text.old) (string_bytes text.new)) }
+{
+    let mut pieces = Vec::new(alloc);
+    if !picture.alone.is_empty() && picture.alone.len() <= MOST_ALONE {
+        put(&mut pieces, &[Mark(ALONE)])?;
+        put_cells(&mut pieces, &picture.alone)?;
+        put(&mut pieces, &[Constant(".</p>\n")])?;
+    }
+    render(&pieces, text)
+}
+
+/// Puts those of these causes that an arrow has.
+fn put_causes(pieces: &mut Vec<Piece<'_>>, causes: &[Cause], arrows: &[Arrow]) -> Result<(), Memory>
+    ensures { OnOk result (facts pieces.new.items
+        ≡ facts pieces.old.items ++ flat_map (spec.cause_facts arrows.now) causes.now) }
 {
     for cause in causes {
-        push_cause(*cause, arrows, text)?;
+        put_cause(pieces, *cause, arrows)?;
     }
     Ok(())
 }
 
-/// Puts the entry for a cause behind a text, if an arrow has it.
-#[tactic(auto, unfolding(crate::specs::Svg::cause_text))]
-fn push_cause(cause: Cause, arrows: &[Arrow], text: &mut String) -> Result<(), Memory>
-    ensures { OnOk result (string_bytes text.new ≡ string_bytes text.old ++ spec.cause_text arrows.now cause) }
+/// Puts a cause, if an arrow has it.
+fn put_cause(pieces: &mut Vec<Piece<'_>>, cause: Cause, arrows: &[Arrow]) -> Result<(), Memory>
+    ensures { OnOk result (facts pieces.new.items ≡ facts pieces.old.items ++ spec.cause_facts arrows.now cause) }
 {
-    if has_cause(arrows, cause) {
-        let word = word_of(cause);
-        write!(
-            text,
-            "<li><svg class=\"key-line\" width=\"44\" height=\"8\" aria-hidden=\"true\"><path class=\"{word}\" d=\"M0 4H44\"/></svg> {word}</li>"
-        )?;
+    if !has_cause(arrows, cause) {
+        return Ok(());
     }
-    Ok(())
+    let word = Mark(word_of(cause));
+    put(pieces, &[Constant(KEY), word])?;
+    put(pieces, &[Constant("\" d=\"M0 4H44\"/></svg> "), word])?;
+    put(pieces, &[Constant("</li>")])
 }
 
 /// Whether an arrow has this cause.
@@ -116,148 +187,26 @@ fn has_cause(arrows: &[Arrow], cause: Cause) -> bool
     arrows.iter().any(|arrow| arrow.cause == cause)
 }
 
-/// Puts the choice of a client behind a text.
-#[tactic(auto, unfolding(crate::specs::Svg::choice_text))]
-fn push_choice(clients: &[String], text: &mut String) -> Result<(), Memory>
-    ensures { OnOk result (string_bytes text.new ≡ string_bytes text.old ++ spec.choice_text clients.now) }
+/// Puts the choice of each client, by its number.
+fn put_clients<'a>(pieces: &mut Vec<Piece<'a>>, clients: &'a [String]) -> Result<(), Memory>
+    ensures { OnOk result (facts pieces.new.items ≡ facts pieces.old.items ++ spec.clients_facts 0 clients.now) }
 {
-    text.push_str(
-        "<fieldset class=\"radio\"><legend class=\"free\">Show for</legend><label class=\"pick\"><input type=\"radio\" name=\"client\" checked> no client</label>\n",
-    )?;
     for (number, name) in clients.iter().enumerate() {
-        push_client(number, name.as_str(), text)?;
+        let (number, name) = (Number(number as u128), Hole(name.as_str()));
+        put(pieces, &[Mark(CLIENT), number, Constant("\"> ")])?;
+        put(pieces, &[name, Constant("</label>\n")])?;
     }
     Ok(())
 }
 
-/// Puts the choice of the client with this number and this name behind a text.
-#[tactic(auto, unfolding(crate::specs::Svg::client_text))]
-fn push_client(number: usize, name: &str, text: &mut String) -> Result<(), Memory>
-    ensures { OnOk result (string_bytes text.new ≡ string_bytes text.old ++ spec.client_text number name.now) }
+/// Puts cells, with commas between them.
+fn put_cells(pieces: &mut Vec<Piece<'_>>, cells: &[CellRef]) -> Result<(), Memory>
+    ensures { OnOk result (facts pieces.new.items ≡ facts pieces.old.items ++ map cell cells.now) }
 {
-    let name = Escaped(name);
-    write!(
-        text,
-        "<label class=\"pick\"><input type=\"radio\" name=\"client\" class=\"p{number}\"> {name}</label>\n"
-    )?;
-    Ok(())
-}
-
-/// Puts the drawing behind a text: arrows, and boxes over them.
-#[tactic(auto, unfolding(crate::specs::Svg::drawing_text))]
-fn push_drawing(
-    alloc: Global,
-    picture: &Picture,
-    layout: &Layout,
-    text: &mut String,
-) -> Result<(), Memory>
-    ensures { OnOk result (string_bytes text.new
-        ≡ string_bytes text.old ++ spec.drawing_text picture.now layout.now) }
-{
-    push_size(layout.width, layout.height, text)?;
-    push_lines(picture, layout, text)?;
-    push_places(alloc, picture, layout, text)?;
-    text.push_str("</svg></div></fieldset>\n")?;
-    Ok(())
-}
-
-/// Puts the beginning of a drawing of this size behind a text.
-#[tactic(auto, unfolding(crate::specs::Svg::size_text))]
-fn push_size(width: u32, height: u32, text: &mut String) -> Result<(), Memory>
-    ensures { OnOk result (string_bytes text.new ≡ string_bytes text.old ++ spec.size_text width height) }
-{
-    text.push_str(
-        "\n<div class=\"picture\" tabindex=\"0\" role=\"region\" aria-labelledby=\"picture\"><svg role=\"img\" aria-label=\"Flow between cells; the list of edges says the same\"",
-    )?;
-    write!(
-        text,
-        " width=\"{width}\" height=\"{height}\" viewBox=\"0 0 {width} {height}\">\n"
-    )?;
-    Ok(())
-}
-
-/// Puts the arrows of a picture behind a text.
-#[tactic(auto, unfolding(crate::specs::Svg::lines_text))]
-fn push_lines(picture: &Picture, layout: &Layout, text: &mut String) -> Result<(), Memory>
-    ensures { OnOk result (string_bytes text.new ≡ string_bytes text.old ++ spec.lines_text picture.now layout.now) }
-{
-    push_arrows(&picture.boxes, &picture.arrows, &layout.lines, text)
-}
-
-/// Puts the boxes of a picture behind a text.
-#[tactic(auto, unfolding(crate::specs::Svg::places_text))]
-fn push_places(
-    alloc: Global,
-    picture: &Picture,
-    layout: &Layout,
-    text: &mut String,
-) -> Result<(), Memory>
-    ensures { OnOk result (string_bytes text.new ≡ string_bytes text.old ++ spec.places_text picture.now layout.now) }
-{
-    push_boxes(alloc, &picture.clients, &picture.boxes, &layout.boxes, text)
-}
-
-/// Puts arrows between these boxes behind a text, each with its line.
-fn push_arrows(
-    boxes: &[PictureBox],
-    arrows: &[Arrow],
-    lines: &[ArrowLine],
-    text: &mut String,
-) -> Result<(), Memory>
-    ensures { OnOk result (string_bytes text.new
-        ≡ string_bytes text.old ++ spec.arrows_text boxes.now arrows.now lines.now) }
-{
-    for (arrow, line) in arrows.iter().zip(lines) {
-        push_arrow(boxes, arrow, line, text)?;
-    }
-    Ok(())
-}
-
-/// Puts boxes behind a text, each at its place.
-fn push_boxes(
-    alloc: Global,
-    clients: &[String],
-    boxes: &[PictureBox],
-    places: &[BoxPlace],
-    text: &mut String,
-) -> Result<(), Memory>
-    ensures { OnOk result (string_bytes text.new
-        ≡ string_bytes text.old ++ spec.boxes_text clients.now boxes.now places.now) }
-{
-    for (shown, place) in boxes.iter().zip(places) {
-        push_box(alloc, clients, shown, place, text)?;
-    }
-    Ok(())
-}
-
-/// Puts the cells without edges behind a text, if there are some and not too many.
-fn push_alone(alone: &[CellRef], text: &mut String) -> Result<(), Memory>
-    ensures { OnOk result (string_bytes text.new ≡ string_bytes text.old ++ spec.alone_text alone.now) }
-{
-    match alone.split_first() {
-        Some((first, others)) if alone.len() <= ALONE => push_named(first, others, text),
-        _ => Ok(()),
-    }
-}
-
-/// Puts cells without edges behind a text.
-#[tactic(auto, unfolding(crate::specs::Svg::named_text))]
-fn push_named(first: &CellRef, others: &[CellRef], text: &mut String) -> Result<(), Memory>
-    ensures { OnOk result (string_bytes text.new ≡ string_bytes text.old ++ spec.named_text first.now others.now) }
-{
-    let first = CellText(*first);
-    write!(text, "<p>Without edges: <code>{first}</code>")?;
-    push_others(others, text)?;
-    text.push_str(".</p>\n")?;
-    Ok(())
-}
-
-/// Puts cells behind one that stands there.
-fn push_others(cells: &[CellRef], text: &mut String) -> Result<(), Memory>
-    ensures { OnOk result (string_bytes text.new ≡ string_bytes text.old ++ flat_map spec.other_text cells.now) }
-{
-    for cell in cells {
-        write!(text, ", <code>{}</code>", CellText(*cell))?;
+    for (number, cell) in cells.iter().enumerate() {
+        let before = if number == 0 { "<code>" } else { ", <code>" };
+        let cell = Cell(*cell);
+        put(pieces, &[Constant(before), cell, Constant("</code>")])?;
     }
     Ok(())
 }

@@ -9,10 +9,10 @@ use Rattle.meter_theory.specs.declared.flow.Reach.TheVariants.{Influence, Learn}
 use Rattle.value_text.specs.Texts.{cell_text}
 use Rattle.serde_json.specs.Data.{string}
 use Rattle.serde_json.specs.Written.{has_float}
-use Rattle.flow_ways.specs.Access.{highest_for}
+use Rattle.flow_facts.specs.Access.{highest_for}
 use Rattle.flow_ways.specs.Found.{Distances}
-use Rattle.flow_ways.specs.declared.access.Access.{Access}
-use Rattle.flow_ways.specs.declared.access.Access.TheVariants.{Get, Set, Act}
+use Rattle.flow_facts.specs.declared.access.Access.{Access}
+use Rattle.flow_facts.specs.declared.access.Access.TheVariants.{Get, Set, Act}
 use Rattle.flow_report.specs.Json as spec
 use Rattle.flow_report.specs.Rights.{Head, Rights}
 use Rattle.flow_report.proofs.Values.{NoFloatMembers, no-float-array, no-float-object, no-floats-flat, no-floats-if, no-floats-map, no-floats-members}

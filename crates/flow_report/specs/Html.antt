@@ -8,12 +8,12 @@ use Rattle.meter_theory.specs.Plan.{Plan}
 use Rattle.flow_changes.specs.Written.{IsComparison}
 use Rattle.flow_changes.specs.declared.compare.Comparison.{Comparison}
 use Rattle.flow_drawing.specs.Picture.{IsPictureOf}
-use Rattle.flow_page.specs.Page.{page_text}
+use Rattle.flow_facts.specs.Map.{Configuration}
+use Rattle.flow_page.specs.Page.{IsPageText}
 use Rattle.flow_page.specs.declared.matrix.MatrixRow.{MatrixRow}
 use Rattle.flow_page.specs.declared.page.Page.{Page}
 use Rattle.flow_picture.specs.Svg.{IsPicture}
 use Rattle.flow_picture.specs.declared.picture.Picture.{Picture}
-use Rattle.flow_report.specs.declared.html_form.Before.{Before}
 use Rattle.flow_view.specs.Page.{IsPageOf}
 use Rattle.flow_view.specs.declared.page.Heading.{Heading}
 
@@ -31,8 +31,8 @@ abbrev pub numbers_of : Plan → List MatrixRow → List (List ℕ)
 numbers_of P rows = map (λ row. numbers_in P row.cells.items) rows
 
 -- a plan and a policy
-abbrev pub configuration_of : Before → Plan × Policy
-configuration_of before = (before.plan.now, before.policy.now)
+abbrev pub configuration_of : Configuration → Plan × Policy
+configuration_of C = (C.plan, C.policy)
 
 -- what a page shows of a plan and a policy under this heading, compared with those before where these are given
 abbrev pub IsPageAgainst : Plan → Policy → (before : Option (Plan × Policy)) → Heading → Page → Type 0
@@ -48,4 +48,4 @@ pub record IsHtml (P : Plan) (Q : Policy) (before : Option (Plan × Policy)) (he
   pub picture_is : IsPictureOf P (numbers_of P page.rows.items) picture
   pub drawn : List ℕ
   pub drawn_is : IsPicture picture drawn
-  pub text_is : text ≡ page_text page drawn
+  pub text_is : IsPageText page drawn text

@@ -17,11 +17,11 @@ use Rattle.serde_json.specs.Data.{Data, Members, array, no_members, number, obje
 use Rattle.serde_json.specs.View.{items_of}
 use Rattle.serde_json.specs.Written.{compact_text}
 use Rattle.value_text.specs.Texts.{cell_text}
-use Rattle.flow_ways.specs.Access.{access_word, highest_for}
+use Rattle.flow_facts.specs.Access.{access_word, highest_for}
 use Rattle.flow_ways.specs.Found.{AreDistancesOf, Distances}
-use Rattle.flow_ways.specs.Why.{reach_word}
-use Rattle.flow_ways.specs.declared.access.Access.{Access}
-use Rattle.flow_ways.specs.declared.access.Access.TheVariants.{Get, Set, Act}
+use Rattle.flow_map.specs.Reaches.{reach_word}
+use Rattle.flow_facts.specs.declared.access.Access.{Access}
+use Rattle.flow_facts.specs.declared.access.Access.TheVariants.{Get, Set, Act}
 use Rattle.flow_report.specs.Csv.{client_names}
 use Rattle.flow_report.specs.Rights.{Head, Rights, heads_of, rights_of}
 

@@ -11,12 +11,10 @@ ghost use Rattle.flow_report.specs.Csv.{AreWritten, IsBetween, IsCsv, client_nam
 use cosem_data::cell::CellRef;
 use cosem_data::memory::Memory;
 use csv::{Writer, WriterBuilder};
+use flow_map::reach_words::reach_word;
 use flow_ways::ways::Ways;
-use flow_ways::why::reach_word;
 use label_certificate::label_sets::set_for;
-use label_certificate::numbered::policy_labels;
 use meter_theory::flow::{Label, Reach};
-use object_model::policy::Policy;
 use std::alloc::Global;
 use std::io::Write;
 use value_text::cell::push_cell;
@@ -27,12 +25,12 @@ use value_text::cell::push_cell;
 ///
 /// # Errors
 /// Memory was refused.
-pub fn csv_text(alloc: Global, ways: &Ways<'_>, policy: &Policy) -> Result<Vec<u8>, Memory>
-    ensures { IfOk result (λ text. IsCsv ways.now policy.now text.items) }
+pub fn csv_text(alloc: Global, ways: &Ways<'_>) -> Result<Vec<u8>, Memory>
+    ensures { IfOk result (λ text. IsCsv ways.now.plan ways.now.policy text.items) }
 {
     ways.plan().known();
     let mut writer = WriterBuilder::new().from_writer(Vec::new(alloc));
-    write_rows(alloc, ways, policy, &mut writer)?;
+    write_rows(alloc, ways, &mut writer)?;
     match writer.into_inner() {
         Ok(text) => Ok(text),
         Err(_) => Err(Memory),
@@ -43,33 +41,31 @@ pub fn csv_text(alloc: Global, ways: &Ways<'_>, policy: &Policy) -> Result<Vec<u
 fn write_rows<W: Write + Drop>(
     alloc: Global,
     ways: &Ways<'_>,
-    policy: &Policy,
     writer: &mut Writer<W>,
 ) -> Result<(), Memory>
     requires { IsBetween writer.old }
     ensures { OnOk result (AreWritten W.contents writer.old writer.new (spec.header
-        ∷ flat_map (spec.cell_rows (client_names ways.now) (distance_of ways.now) (labelling_of_policy ways.now policy.now))
-        (theory.cells ways.now))) }
+        ∷ flat_map (spec.cell_rows (client_names ways.now.plan) (distance_of ways.now.plan) (labelling_of_policy ways.now.plan ways.now.policy))
+        (theory.cells ways.now.plan))) }
 {
     write_fields(
         b"cell", b"client", b"kind", b"may", b"edges", b"allowed", writer,
     )?;
-    write_cells(alloc, ways, policy, writer)
+    write_cells(alloc, ways, writer)
 }
 
 /// Writes the records of each cell.
 fn write_cells<W: Write + Drop>(
     alloc: Global,
     ways: &Ways<'_>,
-    policy: &Policy,
     writer: &mut Writer<W>,
 ) -> Result<(), Memory>
     requires { IsBetween writer.old }
     ensures { OnOk result (AreWritten W.contents writer.old writer.new
-        (flat_map (spec.cell_rows (client_names ways.now) (distance_of ways.now) (labelling_of_policy ways.now policy.now))
-        (theory.cells ways.now))) }
+        (flat_map (spec.cell_rows (client_names ways.now.plan) (distance_of ways.now.plan) (labelling_of_policy ways.now.plan ways.now.policy))
+        (theory.cells ways.now.plan))) }
 {
-    let labels = policy_labels(alloc, ways.plan(), ways.cells(), policy)?;
+    let labels = ways.map().allowed();
     for number in 0..labels.len() {
         write_cell(alloc, ways, number, labels[number], writer)?;
     }
@@ -84,11 +80,11 @@ fn write_cell<W: Write + Drop>(
     label: Label,
     writer: &mut Writer<W>,
 ) -> Result<(), Memory>
-    requires cell { number < length (theory.cells ways.now) }
+    requires cell { number < length (theory.cells ways.now.plan) }
     requires between { IsBetween writer.old }
     ensures { OnOk result (AreWritten W.contents writer.old writer.new
-        (spec.first_rows (client_names ways.now) (distance_of ways.now) (cell_at (theory.cells ways.now) number) label
-        (length (client_names ways.now)))) }
+        (spec.first_rows (client_names ways.now.plan) (distance_of ways.now.plan) (cell_at (theory.cells ways.now.plan) number) label
+        (length (client_names ways.now.plan)))) }
 {
     let cell = cell_bytes(alloc, &ways.cells()[number])?;
     for client in 0..ways.plan().client_count() {
@@ -116,12 +112,12 @@ fn write_client<W: Write + Drop>(
     cell: &[u8],
     writer: &mut Writer<W>,
 ) -> Result<(), Memory>
-    requires cell { number < length (theory.cells ways.now) }
-    requires client { client < length ways.now.clients }
-    requires text { cell.now ≡ cell_text (cell_at (theory.cells ways.now) number) }
+    requires cell { number < length (theory.cells ways.now.plan) }
+    requires client { client < length ways.now.plan.clients }
+    requires text { cell.now ≡ cell_text (cell_at (theory.cells ways.now.plan) number) }
     requires between { IsBetween writer.old }
     ensures { OnOk result (AreWritten W.contents writer.old writer.new
-        (spec.client_rows (client_names ways.now) (distance_of ways.now) (cell_at (theory.cells ways.now) number) label client)) }
+        (spec.client_rows (client_names ways.now.plan) (distance_of ways.now.plan) (cell_at (theory.cells ways.now.plan) number) label client)) }
 {
     write_reach(
         alloc,
@@ -156,12 +152,12 @@ fn write_reach<W: Write + Drop>(
     cell: &[u8],
     writer: &mut Writer<W>,
 ) -> Result<(), Memory>
-    requires cell { number < length (theory.cells ways.now) }
-    requires client { client < length ways.now.clients }
-    requires text { cell.now ≡ cell_text (cell_at (theory.cells ways.now) number) }
+    requires cell { number < length (theory.cells ways.now.plan) }
+    requires client { client < length ways.now.plan.clients }
+    requires text { cell.now ≡ cell_text (cell_at (theory.cells ways.now.plan) number) }
     requires between { IsBetween writer.old }
     ensures { OnOk result (AreWritten W.contents writer.old writer.new
-        (spec.row (client_names ways.now) (distance_of ways.now) (cell_at (theory.cells ways.now) number) label client reach ∷ [])) }
+        (spec.row (client_names ways.now.plan) (distance_of ways.now.plan) (cell_at (theory.cells ways.now.plan) number) label client reach ∷ [])) }
 {
     let plan = ways.plan();
     plan.known();

@@ -7,6 +7,7 @@ use cosem_data::cell::CellRef;
 use cosem_data::memory::Memory;
 use flow_changes::compare::compare;
 use flow_drawing::picture::picture_of;
+use flow_facts::map::FlowMap;
 use flow_page::matrix::MatrixRow;
 use flow_page::page::Page;
 use flow_page::page_text::page_text;
@@ -14,17 +15,7 @@ use flow_picture::svg::picture_text;
 use flow_view::page::{Heading, page_of};
 use flow_ways::ways::Ways;
 use object_model::plan::Plan;
-use object_model::policy::Policy;
 use std::alloc::Global;
-
-/// A plan and the policy of its configuration, with which another is compared.
-#[derive(Clone, Copy)]
-pub struct Before<'a> {
-    /// The plan.
-    pub plan: &'a Plan,
-    /// The policy.
-    pub policy: &'a Policy,
-}
 
 /// The report of a plan's ways and a policy as a page for a browser, under this heading, and with what has changed where a
 /// configuration before is given: whole in itself, the same bytes for the same configurations (own profile).
@@ -34,13 +25,12 @@ pub struct Before<'a> {
 pub fn html_text(
     alloc: Global,
     ways: &Ways<'_>,
-    policy: &Policy,
-    before: Option<Before<'_>>,
+    before: Option<&FlowMap<'_>>,
     heading: Heading,
 ) -> Result<String, Memory>
-    ensures { IfOk result (λ text. IsHtml ways.now policy.now (option_map configuration_of before.entry) heading (string_bytes text)) }
+    ensures { IfOk result (λ text. IsHtml ways.now.plan ways.now.policy (option_map (λ map. configuration_of map.now) before.entry) heading (string_bytes text)) }
 {
-    let page = page_against(alloc, ways, policy, before, heading)?;
+    let page = page_against(alloc, ways, before, heading)?;
     let groups = groups_of(alloc, ways.plan(), &page.rows)?;
     let picture = picture_of(alloc, ways, &groups)?;
     let drawn = picture_text(alloc, &picture)?;
@@ -51,18 +41,19 @@ pub fn html_text(
 fn page_against(
     alloc: Global,
     ways: &Ways<'_>,
-    policy: &Policy,
-    before: Option<Before<'_>>,
+    before: Option<&FlowMap<'_>>,
     heading: Heading,
 ) -> Result<Page, Memory>
-    ensures { IfOk result (IsPageAgainst ways.now policy.now (option_map configuration_of before.entry) heading) }
+    ensures { IfOk result (IsPageAgainst ways.now.plan ways.now.policy (option_map (λ map. configuration_of map.now) before.entry) heading) }
 {
     match before {
         Some(before) => {
-            let told = compare(alloc, before.plan, before.policy, ways.plan(), policy)?;
-            page_of(alloc, ways, policy, heading, Some(&told))
+            let told = compare(alloc, before, ways.map())?;
+            before.known();
+            ways.map().known();
+            page_of(alloc, ways, heading, Some(&told))
         }
-        None => page_of(alloc, ways, policy, heading, None),
+        None => page_of(alloc, ways, heading, None),
     }
 }
 

@@ -14,23 +14,21 @@ use crate::json_values::{client_name, push_text, push_value, put_member, put_tex
 use cosem_data::cell::CellRef;
 use cosem_data::clients::ClientSet;
 use cosem_data::memory::Memory;
+use flow_map::reach_words::reach_word;
 use flow_ways::ways::Ways;
-use flow_ways::why::reach_word;
 use label_certificate::label_sets::set_for;
-use label_certificate::numbered::policy_labels;
 use meter_theory::flow::{Label, Reach};
 use object_model::plan::Plan;
-use object_model::policy::Policy;
 use serde_json::{Map, Value};
 use std::alloc::Global;
 use value_text::cell::CellText;
 
 /// The cells with who may reach them and who is allowed to. The error is that memory was refused.
-pub(crate) fn cells_value(alloc: Global, ways: &Ways<'_>, policy: &Policy) -> Result<Value, Memory>
-    ensures { IfOk result (λ value. view value ≡ spec.cells_data (client_names ways.now) (distance_of ways.now)
-        (labelling_of_policy ways.now policy.now) (theory.cells ways.now)) }
+pub(crate) fn cells_value(alloc: Global, ways: &Ways<'_>) -> Result<Value, Memory>
+    ensures { IfOk result (λ value. view value ≡ spec.cells_data (client_names ways.now.plan) (distance_of ways.now.plan)
+        (labelling_of_policy ways.now.plan ways.now.policy) (theory.cells ways.now.plan)) }
 {
-    let labels = policy_labels(alloc, ways.plan(), ways.cells(), policy)?;
+    let labels = ways.map().allowed();
     let mut list = Vec::new(alloc);
     for number in 0..labels.len() {
         push_cell(alloc, ways, number, labels[number], &mut list)?;
@@ -46,9 +44,9 @@ fn push_cell(
     label: Label,
     list: &mut Vec<Value>,
 ) -> Result<(), Memory>
-    requires { number < length (theory.cells ways.now) }
+    requires { number < length (theory.cells ways.now.plan) }
     ensures { OnOk result (map view list.new.items ≡ map view list.old.items
-        ++ spec.cell_data (client_names ways.now) (distance_of ways.now) (cell_at (theory.cells ways.now) number) label ∷ []) }
+        ++ spec.cell_data (client_names ways.now.plan) (distance_of ways.now.plan) (cell_at (theory.cells ways.now.plan) number) label ∷ []) }
 {
     let value = cell_value(alloc, ways, number, label)?;
     push_value(value, list)
@@ -56,9 +54,9 @@ fn push_cell(
 
 /// The cell with this number, which has this label.
 fn cell_value(alloc: Global, ways: &Ways<'_>, number: usize, label: Label) -> Result<Value, Memory>
-    requires { number < length (theory.cells ways.now) }
+    requires { number < length (theory.cells ways.now.plan) }
     ensures { IfOk result (λ value. view value
-        ≡ spec.cell_data (client_names ways.now) (distance_of ways.now) (cell_at (theory.cells ways.now) number) label) }
+        ≡ spec.cell_data (client_names ways.now.plan) (distance_of ways.now.plan) (cell_at (theory.cells ways.now.plan) number) label) }
 {
     let mut members = Map::new(alloc);
     put_cell(alloc, &ways.cells()[number], &mut members)?;
@@ -86,9 +84,9 @@ fn put_reach(
     reach: Reach,
     members: &mut Map<String, Value>,
 ) -> Result<(), Memory>
-    requires { number < length (theory.cells ways.now) }
+    requires { number < length (theory.cells ways.now.plan) }
     ensures { OnOk result (members_view members.new.entries ≡ spec.put_all (members_view members.old.entries)
-        (spec.reach_member (client_names ways.now) (distance_of ways.now) (cell_at (theory.cells ways.now) number) label reach ∷ [])) }
+        (spec.reach_member (client_names ways.now.plan) (distance_of ways.now.plan) (cell_at (theory.cells ways.now.plan) number) label reach ∷ [])) }
 {
     let value = reach_value(alloc, ways, number, set_for(reach, label), reach)?;
     put_member(alloc, reach_word(reach), value, members)
@@ -102,9 +100,9 @@ fn reach_value(
     set: ClientSet,
     reach: Reach,
 ) -> Result<Value, Memory>
-    requires { number < length (theory.cells ways.now) }
-    ensures { IfOk result (λ value. view value ≡ spec.reach_data (client_names ways.now) set
-        (λ c. distance_of ways.now reach c (cell_at (theory.cells ways.now) number))) }
+    requires { number < length (theory.cells ways.now.plan) }
+    ensures { IfOk result (λ value. view value ≡ spec.reach_data (client_names ways.now.plan) set
+        (λ c. distance_of ways.now.plan reach c (cell_at (theory.cells ways.now.plan) number))) }
 {
     let mut members = Map::new(alloc);
     let allowed = allowed_value(alloc, ways.plan(), set)?;
@@ -145,9 +143,9 @@ fn push_allowed(
 
 /// How many edges the shortest ways have of each client that may reach the cell with this number.
 fn may_value(alloc: Global, ways: &Ways<'_>, number: usize, reach: Reach) -> Result<Value, Memory>
-    requires { number < length (theory.cells ways.now) }
-    ensures { IfOk result (λ value. view value ≡ spec.may (client_names ways.now)
-        (λ c. distance_of ways.now reach c (cell_at (theory.cells ways.now) number))) }
+    requires { number < length (theory.cells ways.now.plan) }
+    ensures { IfOk result (λ value. view value ≡ spec.may (client_names ways.now.plan)
+        (λ c. distance_of ways.now.plan reach c (cell_at (theory.cells ways.now.plan) number))) }
 {
     let mut members = Map::new(alloc);
     for client in 0..ways.plan().client_count() {
@@ -165,10 +163,10 @@ fn put_may(
     client: u8,
     members: &mut Map<String, Value>,
 ) -> Result<(), Memory>
-    requires cell { number < length (theory.cells ways.now) }
-    requires client { client < length ways.now.clients }
+    requires cell { number < length (theory.cells ways.now.plan) }
+    requires client { client < length ways.now.plan.clients }
     ensures { OnOk result (members_view members.new.entries ≡ spec.put_all (members_view members.old.entries)
-        (spec.may_client (client_names ways.now) (λ c. distance_of ways.now reach c (cell_at (theory.cells ways.now) number)) client)) }
+        (spec.may_client (client_names ways.now.plan) (λ c. distance_of ways.now.plan reach c (cell_at (theory.cells ways.now.plan) number)) client)) }
 {
     let plan = ways.plan();
     plan.known();

@@ -17,7 +17,6 @@ use crate::json_values::{put_member, put_text};
 use cosem_data::memory::Memory;
 use flow_ways::ways::Ways;
 use object_model::plan::Plan;
-use object_model::policy::Policy;
 use serde_json::{Map, Value};
 use std::alloc::Global;
 
@@ -27,16 +26,11 @@ use std::alloc::Global;
 ///
 /// # Errors
 /// Memory was refused.
-pub fn json_text(
-    alloc: Global,
-    ways: &Ways<'_>,
-    policy: &Policy,
-    verdict: &str,
-) -> Result<Vec<u8>, Memory>
-    ensures { IfOk result (λ text. IsJson ways.now policy.now verdict.now text.items) }
+pub fn json_text(alloc: Global, ways: &Ways<'_>, verdict: &str) -> Result<Vec<u8>, Memory>
+    ensures { IfOk result (λ text. IsJson ways.now.plan ways.now.policy verdict.now text.items) }
 {
     ways.plan().known();
-    let report = report_value(alloc, ways, policy, verdict)?;
+    let report = report_value(alloc, ways, verdict)?;
     line_of(alloc, &report)
 }
 
@@ -51,16 +45,11 @@ fn line_of(alloc: Global, value: &Value) -> Result<Vec<u8>, Memory>
 }
 
 /// The report as a value.
-fn report_value(
-    alloc: Global,
-    ways: &Ways<'_>,
-    policy: &Policy,
-    verdict: &str,
-) -> Result<Value, Memory>
-    ensures { IfOk result (λ value. view value ≡ spec.report_of ways.now policy.now verdict.now (distance_of ways.now)) }
+fn report_value(alloc: Global, ways: &Ways<'_>, verdict: &str) -> Result<Value, Memory>
+    ensures { IfOk result (λ value. view value ≡ spec.report_of ways.now.plan ways.now.policy verdict.now (distance_of ways.now.plan)) }
 {
     let mut members = Map::new(alloc);
-    put_cells(alloc, ways, policy, &mut members)?;
+    put_cells(alloc, ways, &mut members)?;
     put_clients(alloc, ways.plan(), &mut members)?;
     put_objects(alloc, ways.plan(), &mut members)?;
     put_rights(alloc, ways.plan(), &mut members)?;
@@ -70,17 +59,12 @@ fn report_value(
 }
 
 /// Puts the cells at their key.
-fn put_cells(
-    alloc: Global,
-    ways: &Ways<'_>,
-    policy: &Policy,
-    members: &mut Map<String, Value>,
-) -> Result<(), Memory>
+fn put_cells(alloc: Global, ways: &Ways<'_>, members: &mut Map<String, Value>) -> Result<(), Memory>
     ensures { OnOk result (members_view members.new.entries ≡ with_member (codes "cells")
-        (spec.cells_data (client_names ways.now) (distance_of ways.now) (labelling_of_policy ways.now policy.now) (theory.cells ways.now))
+        (spec.cells_data (client_names ways.now.plan) (distance_of ways.now.plan) (labelling_of_policy ways.now.plan ways.now.policy) (theory.cells ways.now.plan))
         (members_view members.old.entries)) }
 {
-    let value = cells_value(alloc, ways, policy)?;
+    let value = cells_value(alloc, ways)?;
     put_member(alloc, "cells", value, members)
 }
 

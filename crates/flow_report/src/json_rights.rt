@@ -9,7 +9,7 @@ ghost use Rattle.flow_report.specs.Rights.{head_of, heads_of, rights_of};
 
 use crate::json_values::{client_name, push_text, push_value, put_member, put_text};
 use cosem_data::memory::Memory;
-use flow_ways::access::Access;
+use flow_facts::access::Access;
 use object_model::instance::Instance;
 use object_model::object::Object;
 use object_model::plan::Plan;

@@ -10,7 +10,7 @@ use Rattle.meter_theory.proofs.Ways.{distance-first, shown-way}
 use Rattle.flow_ways.specs.Granting.{shown_request}
 use Rattle.flow_ways.specs.Why.{way_end}
 use Rattle.flow_ways.specs.Found.{distance_of}
-use Rattle.flow_ways.specs.declared.granting.GrantedRequest.{GrantedRequest}
+use Rattle.flow_map.specs.declared.request.GrantedRequest.{GrantedRequest}
 use Rattle.flow_ways.proofs.Granted.{shown-there}
 use Rattle.flow_ways.proofs.Told.{way-granted}
 use Rattle.flow_ways.proofs.Distance.{are-distances}

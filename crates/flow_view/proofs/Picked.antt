@@ -7,7 +7,7 @@ use Rattle.std.proofs.lemmas.List.Elements.{All-append, All-cons, All-nil, All-t
 use Rattle.meter_theory.specs.declared.flow.Reach.{Reach}
 use Rattle.meter_theory.specs.declared.flow.Reach.TheVariants.{Influence, Learn}
 use Rattle.alike_items.proofs.Ranges.{range-below}
-use Rattle.flow_ways.specs.declared.granting.GrantedRequest.{GrantedRequest}
+use Rattle.flow_map.specs.declared.request.GrantedRequest.{GrantedRequest}
 use Rattle.flow_view.specs.Marks.{Told}
 use Rattle.flow_view.specs.Tables.{ArePicks, IsPick, client_picks, pick_of, picks, reach_picks, row_picks}
 use Rattle.flow_view.specs.declared.picks.Pick.{Pick}

@@ -13,10 +13,10 @@ use Rattle.flow_changes.specs.Changes.{KindShown}
 use Rattle.flow_changes.specs.Facts.{Fact, Reaches, fact_text}
 use Rattle.flow_changes.specs.Shown.{kind_shown, shown}
 use Rattle.flow_changes.specs.declared.compare.Comparison.{Comparison}
-use Rattle.flow_changes.specs.declared.kind.Change.{Change}
-use Rattle.flow_changes.specs.declared.kind.Change.TheVariants.{Gained, Lost}
-use Rattle.flow_changes.specs.declared.kind.Kind.{Kind}
-use Rattle.flow_changes.specs.declared.kind.Kind.TheVariants.{May}
+use Rattle.flow_map.specs.declared.kind.Change.{Change}
+use Rattle.flow_map.specs.declared.kind.Change.TheVariants.{Gained, Lost}
+use Rattle.flow_map.specs.declared.kind.Kind.{Kind}
+use Rattle.flow_map.specs.declared.kind.Kind.TheVariants.{May}
 use Rattle.flow_page.specs.declared.changes.ChangedFact.{ChangedFact}
 use Rattle.flow_page.specs.declared.changes.Changes.{Changes}
 use Rattle.flow_page.specs.declared.changes.KindChanges.{KindChanges}

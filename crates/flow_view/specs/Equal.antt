@@ -11,10 +11,10 @@ use Rattle.cosem_data.specs.Cells.{same_cell, same_method}
 use Rattle.cosem_data.specs.Equal.{same_cell-Decides, same_method-Decides}
 use Rattle.meter_theory.specs.declared.flow.Reach.{Reach}
 use Rattle.meter_theory.specs.declared.flow.Reach.TheVariants.{Influence, Learn}
-use Rattle.flow_ways.specs.declared.granting.GrantedRequest.{GrantedRequest}
-use Rattle.flow_ways.specs.declared.granting.GrantedRequest.TheVariants as request
-use Rattle.flow_changes.specs.declared.kind.Change.{Change}
-use Rattle.flow_changes.specs.declared.kind.Change.TheVariants.{Gained, Lost}
+use Rattle.flow_map.specs.declared.request.GrantedRequest.{GrantedRequest}
+use Rattle.flow_map.specs.declared.request.GrantedRequest.TheVariants as request
+use Rattle.flow_map.specs.declared.kind.Change.{Change}
+use Rattle.flow_map.specs.declared.kind.Change.TheVariants.{Gained, Lost}
 use Rattle.flow_view.specs.Keys.{ObjectFacts, RowFacts, object_facts, row_facts}
 use Rattle.flow_view.specs.declared.keys.MarkKey.{MarkKey}
 use Rattle.flow_view.specs.declared.keys.ObjectKey.{ObjectKey}

@@ -1,6 +1,6 @@
 -- What rows have alike that are shown as one.
 use Rattle.std.specs.Prelude.{ℕ, Bool, List, Option, Some, None}
-use Rattle.flow_ways.specs.declared.granting.GrantedRequest.TheVariants as request
+use Rattle.flow_map.specs.declared.request.GrantedRequest.TheVariants as request
 use Rattle.flow_page.specs.declared.matrix.Found.{Found}
 use Rattle.flow_page.specs.declared.matrix.Found.TheVariants as found
 use Rattle.flow_view.specs.declared.keys.MarkKey.{MarkKey}

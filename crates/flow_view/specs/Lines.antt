@@ -9,7 +9,7 @@ use Rattle.meter_theory.specs.declared.flow.Reach.TheVariants.{Influence, Learn}
 use Rattle.flow_ways.specs.Found.{way_of}
 use Rattle.flow_ways.specs.Granting.{shown_request}
 use Rattle.flow_ways.specs.Why.{way_end}
-use Rattle.flow_ways.specs.declared.granting.GrantedRequest.{GrantedRequest}
+use Rattle.flow_map.specs.declared.request.GrantedRequest.{GrantedRequest}
 use Rattle.flow_page.specs.declared.ways.WayLine.{WayLine}
 use Rattle.flow_page.specs.declared.ways.WayLine.TheVariants as line
 use Rattle.flow_view.specs.Clients.{client_at}

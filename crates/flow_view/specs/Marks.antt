@@ -10,9 +10,9 @@ use Rattle.flow_edges.specs.Table.{cell_at}
 use Rattle.flow_ways.specs.Found.{distance_of, way_of}
 use Rattle.flow_ways.specs.Granting.{shown_request}
 use Rattle.flow_ways.specs.Why.{way_end}
-use Rattle.flow_ways.specs.declared.granting.GrantedRequest.{GrantedRequest}
-use Rattle.flow_changes.specs.declared.kind.Change.{Change}
-use Rattle.flow_changes.specs.declared.kind.Change.TheVariants.{Gained, Lost}
+use Rattle.flow_map.specs.declared.request.GrantedRequest.{GrantedRequest}
+use Rattle.flow_map.specs.declared.kind.Change.{Change}
+use Rattle.flow_map.specs.declared.kind.Change.TheVariants.{Gained, Lost}
 use Rattle.flow_page.specs.declared.matrix.Found.{Found}
 use Rattle.flow_page.specs.declared.matrix.Found.TheVariants.{Right, Edges}
 use Rattle.flow_view.specs.declared.facts.Facts.{Facts}
@@ -27,7 +27,7 @@ pub record Told : Type 0 where
   pub lost : List Label
 
 abbrev pub told : Facts → Told
-told facts = record { plan = facts.ways.now; allowed = facts.allowed.now; gained = facts.gained.now; lost = facts.lost.now }
+told facts = record { plan = facts.ways.now.plan; allowed = facts.allowed.now; gained = facts.gained.now; lost = facts.lost.now }
 
 -- a client has this reach by the label at a place, if there is one: own profile
 abbrev pub has_by : Reach → ℕ → Option Label → Bool

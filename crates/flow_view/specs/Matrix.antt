@@ -7,7 +7,7 @@ use Rattle.meter_theory.specs.Plan.{Plan, cells}
 use Rattle.meter_theory.specs.declared.flow.Reach.{Reach}
 use Rattle.meter_theory.specs.declared.flow.Reach.TheVariants.{Influence, Learn}
 use Rattle.flow_edges.specs.Table.{cell_at}
-use Rattle.flow_changes.specs.declared.kind.Change.{Change}
+use Rattle.flow_map.specs.declared.kind.Change.{Change}
 use Rattle.flow_page.specs.declared.matrix.Found.{Found}
 use Rattle.flow_page.specs.declared.matrix.Mark.{Mark}
 use Rattle.flow_page.specs.declared.matrix.MatrixRow.{MatrixRow}

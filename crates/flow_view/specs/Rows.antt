@@ -7,7 +7,7 @@ use Rattle.meter_theory.specs.declared.flow.Reach.{Reach}
 use Rattle.meter_theory.specs.declared.flow.Reach.TheVariants.{Influence, Learn}
 use Rattle.alike_items.specs.Grouping.{AreGrouped}
 use Rattle.flow_edges.specs.Table.{cell_at}
-use Rattle.flow_ways.specs.declared.granting.GrantedRequest.{GrantedRequest}
+use Rattle.flow_map.specs.declared.request.GrantedRequest.{GrantedRequest}
 use Rattle.flow_view.specs.Keys.{RowFacts, word_of}
 use Rattle.flow_view.specs.Marks.{Told, request_of, standing_of}
 use Rattle.flow_view.specs.declared.keys.MarkKey.{MarkKey}

@@ -9,8 +9,8 @@ use Rattle.meter_theory.specs.declared.flow.Reach.TheVariants.{Influence, Learn}
 use Rattle.alike_items.specs.Grouping.{AreGrouped}
 use Rattle.flow_edges.specs.Table.{cell_at, no_cell}
 use Rattle.flow_ways.specs.Found.{distance_of}
-use Rattle.flow_ways.specs.declared.granting.GrantedRequest.{GrantedRequest}
-use Rattle.flow_ways.specs.declared.granting.GrantedRequest.TheVariants.{Get}
+use Rattle.flow_map.specs.declared.request.GrantedRequest.{GrantedRequest}
+use Rattle.flow_map.specs.declared.request.GrantedRequest.TheVariants.{Get}
 use Rattle.flow_page.specs.declared.ways.Anchor.{Anchor}
 use Rattle.flow_page.specs.declared.ways.WayGroup.{WayGroup}
 use Rattle.flow_page.specs.declared.ways.WayRow.{WayRow}

@@ -13,7 +13,7 @@ use cosem_data::clients::ClientSet;
 use cosem_data::memory::Memory;
 use flow_changes::compare::{Comparison, KindFacts};
 use flow_changes::fact::Fact;
-use flow_changes::kind::{Change, Kind};
+use flow_map::kind::{Change, Kind};
 use flow_page::changes::{ChangedFact, Changes, KindChanges};
 use flow_page::ways::WayLine;
 use flow_ways::ways::Ways;
@@ -38,7 +38,7 @@ pub(crate) fn changes_of(
     ways: &Ways<'_>,
     comparison: &Comparison<'_>,
 ) -> Result<Changes, Memory>
-    ensures { IfOk result (AreChanges ways.now comparison.now) }
+    ensures { IfOk result (AreChanges ways.now.plan comparison.now) }
 {
     let gainers = names_of(alloc, ways.plan(), comparison.gainers)?;
     let kinds = kinds_of(alloc, ways, &comparison.kinds)?;
@@ -79,7 +79,7 @@ fn kinds_of(
     ways: &Ways<'_>,
     kinds: &[KindFacts<'_>],
 ) -> Result<Vec<KindChanges>, Memory>
-    ensures { IfOk result (λ list. map spec.kind_told list.items ≡ spec.kinds_of ways.now (map kind_shown kinds.now)) }
+    ensures { IfOk result (λ list. map spec.kind_told list.items ≡ spec.kinds_of ways.now.plan (map kind_shown kinds.now)) }
 {
     let mut list = Vec::new(alloc);
     for facts in kinds {
@@ -96,7 +96,7 @@ fn push_kind(
     list: &mut Vec<KindChanges>,
 ) -> Result<(), Memory>
     ensures { OnOk result (map spec.kind_told list.new.items
-        ≡ map spec.kind_told list.old.items ++ spec.kind_part ways.now (kind_shown facts.now)) }
+        ≡ map spec.kind_told list.old.items ++ spec.kind_part ways.now.plan (kind_shown facts.now)) }
 {
     let changed = all_changed(alloc, facts)?;
     if !changed.is_empty() {
@@ -142,7 +142,7 @@ fn kind_changes(
     kind: Kind,
     changed: Vec<Changed<'_>>,
 ) -> Result<KindChanges, Memory>
-    ensures { IfOk result (λ changes. spec.kind_told changes ≡ spec.kind_changes ways.now kind (map spec.changed_shown changed.entry.items)) }
+    ensures { IfOk result (λ changes. spec.kind_told changes ≡ spec.kind_changes ways.now.plan kind (map spec.changed_shown changed.entry.items)) }
 {
     let more = changed.len().saturating_sub(CHANGES);
     let mut first = changed;
@@ -160,7 +160,7 @@ fn facts_told(
     ways: &Ways<'_>,
     changed: &[Changed<'_>],
 ) -> Result<Vec<ChangedFact>, Memory>
-    ensures { IfOk result (λ facts. map spec.fact_shown facts.items ≡ map (spec.fact_told ways.now) (map spec.changed_shown changed.now)) }
+    ensures { IfOk result (λ facts. map spec.fact_shown facts.items ≡ map (spec.fact_told ways.now.plan) (map spec.changed_shown changed.now)) }
 {
     let mut facts = Vec::with_capacity(alloc, changed.len())?;
     for fact in changed {
@@ -171,7 +171,7 @@ fn facts_told(
 
 /// What is told of a changed fact.
 fn fact_told(alloc: Global, ways: &Ways<'_>, changed: &Changed<'_>) -> Result<ChangedFact, Memory>
-    ensures { IfOk result (λ fact. spec.fact_shown fact ≡ spec.fact_told ways.now (spec.changed_shown changed.now)) }
+    ensures { IfOk result (λ fact. spec.fact_shown fact ≡ spec.fact_told ways.now.plan (spec.changed_shown changed.now)) }
 {
     let fact = changed.fact;
     Ok(ChangedFact {
@@ -183,7 +183,7 @@ fn fact_told(alloc: Global, ways: &Ways<'_>, changed: &Changed<'_>) -> Result<Ch
 
 /// The lines of the way by which a client now reaches a cell, if the changed fact is that.
 fn new_way(alloc: Global, ways: &Ways<'_>, changed: &Changed<'_>) -> Result<Vec<WayLine>, Memory>
-    ensures { IfOk result (λ lines. map line_shown lines.items ≡ spec.new_way ways.now (spec.changed_shown changed.now)) }
+    ensures { IfOk result (λ lines. map line_shown lines.items ≡ spec.new_way ways.now.plan (spec.changed_shown changed.now)) }
 {
     match (changed.kind, changed.change, changed.fact) {
         (
@@ -207,7 +207,7 @@ fn named_way(
     name: &str,
     cell: &CellRef,
 ) -> Result<Vec<WayLine>, Memory>
-    ensures { IfOk result (λ lines. map line_shown lines.items ≡ spec.named_way ways.now reach name.now cell.now) }
+    ensures { IfOk result (λ lines. map line_shown lines.items ≡ spec.named_way ways.now.plan reach name.now cell.now) }
 {
     match ways.plan().client_named(name.as_bytes()) {
         Some(client) => way_to(alloc, ways, reach, client, cell),
@@ -223,8 +223,8 @@ fn way_to(
     client: u8,
     cell: &CellRef,
 ) -> Result<Vec<WayLine>, Memory>
-    requires { client < length ways.now.clients }
-    ensures { IfOk result (λ lines. map line_shown lines.items ≡ spec.way_to ways.now reach client cell.now) }
+    requires { client < length ways.now.plan.clients }
+    ensures { IfOk result (λ lines. map line_shown lines.items ≡ spec.way_to ways.now.plan reach client cell.now) }
 {
     match ways.plan().cell_number(cell) {
         Some(number) => whole_way_of(alloc, ways, reach, client, usize::from(number)),

@@ -31,7 +31,7 @@ pub(crate) enum Kind {
 /// What is told of each client. The only error is want of memory.
 pub(crate) fn client_rows(alloc: Global, facts: &Facts<'_>) -> Result<Vec<ClientRow>, Memory>
     ensures { IfOk result (λ rows. map spec.client_shown rows.items
-        ≡ map (spec.client_row (told facts.now)) (range_with_len 0 (length facts.now.ways.now.clients))) }
+        ≡ map (spec.client_row (told facts.now)) (range_with_len 0 (length facts.now.ways.now.plan.clients))) }
 {
     let mut rows = Vec::new(alloc);
     for client in 0..facts.ways.plan().client_count() {
@@ -42,7 +42,7 @@ pub(crate) fn client_rows(alloc: Global, facts: &Facts<'_>) -> Result<Vec<Client
 
 /// What is told of a client.
 fn client_row(alloc: Global, facts: &Facts<'_>, client: u8) -> Result<ClientRow, Memory>
-    requires { client < length facts.now.ways.now.clients }
+    requires { client < length facts.now.ways.now.plan.clients }
     ensures { IfOk result (λ row. spec.client_shown row ≡ spec.client_row (told facts.now) client) }
 {
     let plan = facts.ways.plan();
@@ -71,7 +71,7 @@ fn objects_in_view(plan: &Plan, client: u8) -> usize
 
 /// How many cells a client reaches, or could.
 fn counts_of(facts: &Facts<'_>, reach: Reach, client: u8) -> Counts
-    requires { client < length facts.now.ways.now.clients }
+    requires { client < length facts.now.ways.now.plan.clients }
     ensures { result ≡ spec.counts_of (told facts.now) reach client }
 {
     Counts {
@@ -84,7 +84,7 @@ fn counts_of(facts: &Facts<'_>, reach: Reach, client: u8) -> Counts
 
 /// How many cells of this kind there are, for influence and for learning, over all clients.
 pub(crate) fn total_of(facts: &Facts<'_>, kind: Kind) -> usize
-    ensures { result ≡ total_of (told facts.now) kind (length facts.now.ways.now.clients) }
+    ensures { result ≡ total_of (told facts.now) kind (length facts.now.ways.now.plan.clients) }
 {
     facts.ways.plan().known();
     let mut total = 0;
@@ -96,7 +96,7 @@ pub(crate) fn total_of(facts: &Facts<'_>, kind: Kind) -> usize
 
 /// How many there are of a client.
 fn client_total(facts: &Facts<'_>, kind: Kind, client: u8) -> usize
-    requires { client < length facts.now.ways.now.clients }
+    requires { client < length facts.now.ways.now.plan.clients }
     ensures is { result ≡ client_total (told facts.now) kind client }
     ensures few { result ≤ 4096 }
 {
@@ -107,8 +107,8 @@ fn client_total(facts: &Facts<'_>, kind: Kind, client: u8) -> usize
 
 /// How many cells are of this kind.
 fn count(facts: &Facts<'_>, kind: Kind, reach: Reach, client: u8) -> usize
-    requires { client < length facts.now.ways.now.clients }
-    ensures is { result ≡ spec.count_of (told facts.now) kind reach client (length (theory.cells facts.now.ways.now)) }
+    requires { client < length facts.now.ways.now.plan.clients }
+    ensures is { result ≡ spec.count_of (told facts.now) kind reach client (length (theory.cells facts.now.ways.now.plan)) }
     ensures few { result ≤ 2048 }
 {
     facts.ways.plan().known();
@@ -123,8 +123,8 @@ fn count(facts: &Facts<'_>, kind: Kind, reach: Reach, client: u8) -> usize
 
 /// Whether a cell is of this kind.
 fn counts_at(facts: &Facts<'_>, kind: Kind, reach: Reach, client: u8, cell: usize) -> bool
-    requires cell { cell < length (theory.cells facts.now.ways.now) }
-    requires client { client < length facts.now.ways.now.clients }
+    requires cell { cell < length (theory.cells facts.now.ways.now.plan) }
+    requires client { client < length facts.now.ways.now.plan.clients }
     ensures { result ≡ spec.counts_at (told facts.now) kind reach client cell }
 {
     let distance = distance(facts.ways, reach, client, cell);

@@ -3,8 +3,8 @@ ghost use Rattle.std.specs.Prelude.{◌≡◌};
 ghost use Rattle.flow_view.specs.Equal as spec;
 
 use crate::keys::{MarkKey, ObjectKey, RowKey, WayKey, Word};
-use flow_changes::kind::Change;
-use flow_ways::granting::GrantedRequest;
+use flow_map::kind::Change;
+use flow_map::request::GrantedRequest;
 use meter_theory::flow::Reach;
 
 /// Whether two words are the same.

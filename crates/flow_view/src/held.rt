@@ -5,8 +5,8 @@ ghost use Rattle.flow_view.specs.Objects as spec;
 
 use alike_items::pushing::push_if;
 use cosem_data::memory::Memory;
+use flow_facts::access::Access;
 use flow_page::objects::Held;
-use flow_ways::access::Access;
 use object_model::object::Object;
 use object_model::plan::Plan;
 use std::alloc::Global;

@@ -5,9 +5,9 @@ ghost use Rattle.flow_view.specs.Keys.{object_facts, row_facts, word_of};
 
 use alike_items::grouping::grouped;
 use cosem_data::memory::Memory;
-use flow_changes::kind::Change;
+use flow_map::kind::Change;
+use flow_map::request::GrantedRequest;
 use flow_page::matrix::Found;
-use flow_ways::granting::GrantedRequest;
 use meter_theory::flow::Reach;
 use std::alloc::Global;
 

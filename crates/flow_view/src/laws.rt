@@ -8,7 +8,7 @@ ghost use Rattle.meter_theory.specs.Sound.{IsSound};
 ghost use Rattle.meter_theory.specs.declared.flow.Reach.{Reach};
 ghost use Rattle.alike_items.specs.Grouping.{IsInOne};
 ghost use Rattle.flow_ways.specs.Found.{distance_of};
-ghost use Rattle.flow_ways.specs.declared.granting.GrantedRequest.{GrantedRequest};
+ghost use Rattle.flow_map.specs.declared.request.GrantedRequest.{GrantedRequest};
 ghost use Rattle.flow_page.specs.declared.matrix.Found.{Found as FoundValue};
 ghost use Rattle.flow_view.specs.Marks.{Told, found_of, request_of};
 ghost use Rattle.flow_view.specs.Rows.{AreRows, row_key};

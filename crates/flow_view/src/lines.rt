@@ -10,8 +10,9 @@ use crate::limits::{LONG, TIP};
 use crate::marks::way;
 use cosem_data::cell::CellRef;
 use cosem_data::memory::Memory;
+use flow_map::request::GrantedRequest;
 use flow_page::ways::WayLine;
-use flow_ways::granting::{GrantedRequest, shown_request};
+use flow_ways::granting::shown_request;
 use flow_ways::ways::Ways;
 use flow_ways::why::way_end;
 use meter_theory::flow::{Edge, Reach};
@@ -27,10 +28,10 @@ pub(crate) fn lines_of(
     client: u8,
     cell: usize,
 ) -> Result<Vec<WayLine>, Memory>
-    requires cell { cell < length (theory.cells ways.now) }
-    requires client { client < length ways.now.clients }
+    requires cell { cell < length (theory.cells ways.now.plan) }
+    requires client { client < length ways.now.plan.clients }
     ensures { IfOk result (λ lines. map line_shown lines.items
-        ≡ spec.lines_of ways.now reach client (cell_at (theory.cells ways.now) cell)) }
+        ≡ spec.lines_of ways.now.plan reach client (cell_at (theory.cells ways.now.plan) cell)) }
 {
     let name = client_name(ways.plan(), client);
     let place = ways.cells()[cell];
@@ -48,10 +49,10 @@ pub(crate) fn title_of(
     client: u8,
     cell: usize,
 ) -> Result<Vec<WayLine>, Memory>
-    requires cell { cell < length (theory.cells ways.now) }
-    requires client { client < length ways.now.clients }
+    requires cell { cell < length (theory.cells ways.now.plan) }
+    requires client { client < length ways.now.plan.clients }
     ensures { IfOk result (λ lines. map line_shown lines.items
-        ≡ spec.title_of ways.now reach client (cell_at (theory.cells ways.now) cell)) }
+        ≡ spec.title_of ways.now.plan reach client (cell_at (theory.cells ways.now.plan) cell)) }
 {
     let mut lines = whole_way_of(alloc, ways, reach, client, cell)?;
     lines.truncate(TIP);
@@ -66,10 +67,10 @@ pub(crate) fn whole_way_of(
     client: u8,
     cell: usize,
 ) -> Result<Vec<WayLine>, Memory>
-    requires cell { cell < length (theory.cells ways.now) }
-    requires client { client < length ways.now.clients }
+    requires cell { cell < length (theory.cells ways.now.plan) }
+    requires client { client < length ways.now.plan.clients }
     ensures { IfOk result (λ lines. map line_shown lines.items
-        ≡ spec.whole_way_of ways.now reach client (cell_at (theory.cells ways.now) cell)) }
+        ≡ spec.whole_way_of ways.now.plan reach client (cell_at (theory.cells ways.now.plan) cell)) }
 {
     match way(alloc, ways, reach, client, cell)? {
         Some(edges) => whole_lines_of(alloc, ways, reach, client, cell, edges),
@@ -86,10 +87,10 @@ fn whole_lines_of(
     cell: usize,
     edges: Vec<Edge>,
 ) -> Result<Vec<WayLine>, Memory>
-    requires cell { cell < length (theory.cells ways.now) }
-    requires client { client < length ways.now.clients }
+    requires cell { cell < length (theory.cells ways.now.plan) }
+    requires client { client < length ways.now.plan.clients }
     ensures { IfOk result (λ lines. map line_shown lines.items
-        ≡ spec.whole_lines_of ways.now reach client (cell_at (theory.cells ways.now) cell) edges.items) }
+        ≡ spec.whole_lines_of ways.now.plan reach client (cell_at (theory.cells ways.now.plan) cell) edges.items) }
 {
     let name = client_name(ways.plan(), client);
     let place = ways.cells()[cell];

@@ -8,9 +8,10 @@ ghost use Rattle.flow_view.specs.Marks.{told};
 
 use crate::facts::Facts;
 use cosem_data::memory::Memory;
-use flow_changes::kind::Change;
+use flow_map::kind::Change;
+use flow_map::request::GrantedRequest;
 use flow_page::matrix::Found;
-use flow_ways::granting::{GrantedRequest, shown_request};
+use flow_ways::granting::shown_request;
 use flow_ways::ways::Ways;
 use flow_ways::why::way_end;
 use label_certificate::label_sets::set_for;
@@ -19,9 +20,9 @@ use std::alloc::Global;
 
 /// How many edges the shortest ways of a client to a cell have, by their numbers, if there are ways.
 pub(crate) fn distance(ways: &Ways<'_>, reach: Reach, client: u8, cell: usize) -> Option<usize>
-    requires cell { cell < length (theory.cells ways.now) }
-    requires client { client < length ways.now.clients }
-    ensures { result ≡ distance_of ways.now reach client (cell_at (theory.cells ways.now) cell) }
+    requires cell { cell < length (theory.cells ways.now.plan) }
+    requires client { client < length ways.now.plan.clients }
+    ensures { result ≡ distance_of ways.now.plan reach client (cell_at (theory.cells ways.now.plan) cell) }
 {
     ways.plan().known();
     ways.distance(reach, cell, client)
@@ -35,10 +36,10 @@ pub(crate) fn way(
     client: u8,
     cell: usize,
 ) -> Result<Option<Vec<Edge>>, Memory>
-    requires cell { cell < length (theory.cells ways.now) }
-    requires client { client < length ways.now.clients }
+    requires cell { cell < length (theory.cells ways.now.plan) }
+    requires client { client < length ways.now.plan.clients }
     ensures { IfOk result (λ way. option_map (λ edges. edges.items) way
-        ≡ way_of ways.now reach client (cell_at (theory.cells ways.now) cell)) }
+        ≡ way_of ways.now.plan reach client (cell_at (theory.cells ways.now.plan) cell)) }
 {
     ways.plan().known();
     ways.shown(alloc, reach, cell, client)
@@ -52,9 +53,9 @@ pub(crate) fn request(
     client: u8,
     cell: usize,
 ) -> Result<Option<GrantedRequest>, Memory>
-    requires cell { cell < length (theory.cells ways.now) }
-    requires client { client < length ways.now.clients }
-    ensures { IfOk result (λ request. request ≡ spec.request_of ways.now reach client (cell_at (theory.cells ways.now) cell)) }
+    requires cell { cell < length (theory.cells ways.now.plan) }
+    requires client { client < length ways.now.plan.clients }
+    ensures { IfOk result (λ request. request ≡ spec.request_of ways.now.plan reach client (cell_at (theory.cells ways.now.plan) cell)) }
 {
     match way(alloc, ways, reach, client, cell)? {
         None => Ok(None),
@@ -78,8 +79,8 @@ pub(crate) struct Standing {
 
 /// What is told of this reach of a client and a cell, by their numbers.
 pub(crate) fn standing_of(facts: &Facts<'_>, reach: Reach, client: u8, cell: usize) -> Standing
-    requires cell { cell < length (theory.cells facts.now.ways.now) }
-    requires client { client < length facts.now.ways.now.clients }
+    requires cell { cell < length (theory.cells facts.now.ways.now.plan) }
+    requires client { client < length facts.now.ways.now.plan.clients }
     ensures { result ≡ spec.standing_of (told facts.now) reach client cell }
 {
     let gained = has_at(facts.gained, reach, client, cell);
@@ -93,9 +94,9 @@ pub(crate) fn standing_of(facts: &Facts<'_>, reach: Reach, client: u8, cell: usi
 
 /// By what a client reaches a cell, if it does.
 fn found(ways: &Ways<'_>, reach: Reach, client: u8, cell: usize) -> Option<Found>
-    requires cell { cell < length (theory.cells ways.now) }
-    requires client { client < length ways.now.clients }
-    ensures { result ≡ spec.found_of ways.now reach client (cell_at (theory.cells ways.now) cell) }
+    requires cell { cell < length (theory.cells ways.now.plan) }
+    requires client { client < length ways.now.plan.clients }
+    ensures { result ≡ spec.found_of ways.now.plan reach client (cell_at (theory.cells ways.now.plan) cell) }
 {
     match distance(ways, reach, client, cell) {
         None => None,

@@ -29,7 +29,7 @@ pub(crate) fn matrix_rows(
     linked: &[Pick],
     rows: &[Vec<usize>],
 ) -> Result<Vec<MatrixRow>, Memory>
-    requires { AreRowsOf (length (theory.cells facts.now.ways.now)) (numbers_of rows.now) }
+    requires { AreRowsOf (length (theory.cells facts.now.ways.now.plan)) (numbers_of rows.now) }
     ensures { IfOk result (λ list. map spec.row_shown list.items
         ≡ map (spec.matrix_row (told facts.now) linked.now (numbers_of rows.now)) (range_with_len 0 (length (numbers_of rows.now)))) }
 {
@@ -48,7 +48,7 @@ fn matrix_row(
     rows: &[Vec<usize>],
     row: usize,
 ) -> Result<MatrixRow, Memory>
-    requires rows { AreRowsOf (length (theory.cells facts.now.ways.now)) (numbers_of rows.now) }
+    requires rows { AreRowsOf (length (theory.cells facts.now.ways.now.plan)) (numbers_of rows.now) }
     requires row { row < length rows.now }
     ensures { IfOk result (λ list. spec.row_shown list
         ≡ spec.matrix_row (told facts.now) linked.now (numbers_of rows.now) row) }
@@ -64,8 +64,8 @@ fn matrix_row(
 
 /// The cells with these numbers.
 fn cells_of(alloc: Global, ways: &Ways<'_>, row: &[usize]) -> Result<Vec<CellRef>, Memory>
-    requires { All (λ number. number < length (theory.cells ways.now)) row.now }
-    ensures { IfOk result (λ cells. cells.items ≡ map (cell_at (theory.cells ways.now)) row.now) }
+    requires { All (λ number. number < length (theory.cells ways.now.plan)) row.now }
+    ensures { IfOk result (λ cells. cells.items ≡ map (cell_at (theory.cells ways.now.plan)) row.now) }
 {
     let mut cells = Vec::with_capacity(alloc, row.len())?;
     for number in row {
@@ -76,9 +76,9 @@ fn cells_of(alloc: Global, ways: &Ways<'_>, row: &[usize]) -> Result<Vec<CellRef
 
 /// Where a row stands among the others.
 fn opening_of(ways: &Ways<'_>, rows: &[Vec<usize>], row: usize) -> Opening
-    requires rows { AreRowsOf (length (theory.cells ways.now)) (numbers_of rows.now) }
+    requires rows { AreRowsOf (length (theory.cells ways.now.plan)) (numbers_of rows.now) }
     requires row { row < length rows.now }
-    ensures { result ≡ spec.opening_of ways.now (numbers_of rows.now) row }
+    ensures { result ≡ spec.opening_of ways.now.plan (numbers_of rows.now) row }
 {
     if row == 0 {
         return Opening::First;
@@ -100,11 +100,11 @@ fn marks_of(
     rows: &[Vec<usize>],
     row: usize,
 ) -> Result<Vec<Mark>, Memory>
-    requires rows { AreRowsOf (length (theory.cells facts.now.ways.now)) (numbers_of rows.now) }
+    requires rows { AreRowsOf (length (theory.cells facts.now.ways.now.plan)) (numbers_of rows.now) }
     requires row { row < length rows.now }
     ensures { IfOk result (λ marks. map spec.mark_shown marks.items
         ≡ flat_map (spec.client_marks (told facts.now) linked.now (numbers_of rows.now) row)
-        (range_with_len 0 (length facts.now.ways.now.clients))) }
+        (range_with_len 0 (length facts.now.ways.now.plan.clients))) }
 {
     let mut marks = Vec::new(alloc);
     for client in 0..facts.ways.plan().client_count() {
@@ -123,9 +123,9 @@ fn push_client(
     client: u8,
     marks: &mut Vec<Mark>,
 ) -> Result<(), Memory>
-    requires rows { AreRowsOf (length (theory.cells facts.now.ways.now)) (numbers_of rows.now) }
+    requires rows { AreRowsOf (length (theory.cells facts.now.ways.now.plan)) (numbers_of rows.now) }
     requires row { row < length rows.now }
-    requires client { client < length facts.now.ways.now.clients }
+    requires client { client < length facts.now.ways.now.plan.clients }
     ensures { OnOk result (map spec.mark_shown marks.new.items ≡ map spec.mark_shown marks.old.items
         ++ spec.client_marks (told facts.now) linked.now (numbers_of rows.now) row client) }
 {
@@ -144,9 +144,9 @@ fn mark_of(
     client: u8,
     row: usize,
 ) -> Result<Mark, Memory>
-    requires rows { AreRowsOf (length (theory.cells facts.now.ways.now)) (numbers_of rows.now) }
+    requires rows { AreRowsOf (length (theory.cells facts.now.ways.now.plan)) (numbers_of rows.now) }
     requires row { row < length rows.now }
-    requires client { client < length facts.now.ways.now.clients }
+    requires client { client < length facts.now.ways.now.plan.clients }
     ensures { IfOk result (λ mark. spec.mark_shown mark
         ≡ spec.mark_of (told facts.now) linked.now (numbers_of rows.now) reach client row) }
 {
@@ -172,10 +172,10 @@ fn link_if(
     client: u8,
     cell: usize,
 ) -> Result<Option<WayLink>, Memory>
-    requires cell { cell < length (theory.cells ways.now) }
-    requires client { client < length ways.now.clients }
+    requires cell { cell < length (theory.cells ways.now.plan) }
+    requires client { client < length ways.now.plan.clients }
     ensures { IfOk result (λ link. option_map spec.link_shown link
-        ≡ cond is_linked (Some (spec.link_of ways.now reach client cell)) None) }
+        ≡ cond is_linked (Some (spec.link_of ways.now.plan reach client cell)) None) }
 {
     if !is_linked {
         return Ok(None);

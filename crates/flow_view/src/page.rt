@@ -15,15 +15,13 @@ use crate::objects::{object_numbers, object_rows};
 use crate::parts::{MatrixParts, matrix_parts};
 use cosem_data::memory::Memory;
 use flow_changes::compare::Comparison;
-use flow_edges::edges::edges;
+use flow_facts::map::FlowMap;
 use flow_page::changes::Changes;
 use flow_page::objects::ObjectRow;
 use flow_page::page::{CauseCount, ClientRow, Page};
 use flow_ways::ways::Ways;
-use label_certificate::numbered::policy_labels;
 use meter_theory::flow::{Edge, Label};
 use object_model::plan::Plan;
-use object_model::policy::Policy;
 use std::alloc::Global;
 
 /// What a page says at its head (own profile).
@@ -47,17 +45,15 @@ pub struct Heading {
 pub fn page_of(
     alloc: Global,
     ways: &Ways<'_>,
-    policy: &Policy,
     heading: Heading,
     comparison: Option<&Comparison<'_>>,
 ) -> Result<Page, Memory>
     ensures { IfOk result (λ page.
-        IsPageOf ways.now policy.now (option_map (λ told. told.now) comparison.entry) heading page) }
+        IsPageOf ways.now.plan ways.now.policy (option_map (λ told. told.now) comparison.entry) heading page) }
 {
-    let allowed = policy_labels(alloc, ways.plan(), ways.cells(), policy)?;
     let facts = Facts {
         ways,
-        allowed: &allowed,
+        allowed: ways.map().allowed(),
         gained: gained_by(comparison),
         lost: lost_by(comparison),
     };
@@ -91,7 +87,7 @@ fn changes_by(
     ways: &Ways<'_>,
     comparison: Option<&Comparison<'_>>,
 ) -> Result<Option<Changes>, Memory>
-    ensures { IfOk result (AreChangesOf ways.now (option_map (λ told. told.now) comparison.entry)) }
+    ensures { IfOk result (AreChangesOf ways.now.plan (option_map (λ told. told.now) comparison.entry)) }
 {
     match comparison {
         Some(comparison) => Ok(Some(changes_of(alloc, ways, comparison)?)),
@@ -112,7 +108,7 @@ fn page_from(
     let clients = client_rows(alloc, facts)?;
     let matrix = matrix_parts(alloc, facts)?;
     let objects = objects_of(alloc, facts.ways.plan())?;
-    let edges = edges_of(alloc, facts.ways.plan())?;
+    let edges = edges_of(alloc, facts.ways.map())?;
     Ok(page_with(facts, heading, clients, matrix, changes, objects, edges))
 }
 
@@ -127,10 +123,10 @@ fn page_with(
     edges: EdgeParts,
 ) -> Page
     requires clients { map client_shown clients.items
-        ≡ map (client_row (told facts.now)) (range_with_len 0 (length facts.now.ways.now.clients)) }
+        ≡ map (client_row (told facts.now)) (range_with_len 0 (length facts.now.ways.now.plan.clients)) }
     requires matrix { AreMatrix (told facts.now) matrix.rows.items matrix.refused matrix.reached }
-    requires objects { AreObjects facts.now.ways.now objects.items }
-    requires edges { AreEdges facts.now.ways.now edges.count edges.causes.items edges.listed.items }
+    requires objects { AreObjects facts.now.ways.now.plan objects.items }
+    requires edges { AreEdges facts.now.ways.now.plan edges.count edges.causes.items edges.listed.items }
     ensures page { IsPage (told facts.now) heading result }
     ensures changes { result.changes ≡ changes }
 {
@@ -177,10 +173,10 @@ struct EdgeParts {
 }
 
 /// What is told of the edges of a plan.
-fn edges_of(alloc: Global, plan: &Plan) -> Result<EdgeParts, Memory>
-    ensures { IfOk result (λ parts. AreEdges plan.now parts.count parts.causes.items parts.listed.items) }
+fn edges_of(alloc: Global, map: &FlowMap<'_>) -> Result<EdgeParts, Memory>
+    ensures { IfOk result (λ parts. AreEdges map.now.plan parts.count parts.causes.items parts.listed.items) }
 {
-    let all = edges(alloc, plan)?;
+    let all = map.edges(alloc)?;
     let count = all.len();
     let causes = cause_counts(alloc, &all)?;
     let listed = listed_edges(alloc, all)?;

@@ -49,7 +49,7 @@ pub(crate) fn matrix_parts(alloc: Global, facts: &Facts<'_>) -> Result<MatrixPar
 
 /// The matrix with these rows, and the tables of ways to their first cells.
 fn parts_of(alloc: Global, facts: &Facts<'_>, rows: &[Vec<usize>]) -> Result<MatrixParts, Memory>
-    requires { AreRowsOf (length (theory.cells facts.now.ways.now)) (numbers_of rows.now) }
+    requires { AreRowsOf (length (theory.cells facts.now.ways.now.plan)) (numbers_of rows.now) }
     ensures { IfOk result (λ parts. AreParts (told facts.now) (numbers_of rows.now) parts.rows.items parts.refused parts.reached) }
 {
     let chosen = chosen_ways(alloc, facts, rows)?;
@@ -63,7 +63,7 @@ fn parts_with(
     rows: &[Vec<usize>],
     chosen: &Chosen,
 ) -> Result<MatrixParts, Memory>
-    requires rows { AreRowsOf (length (theory.cells facts.now.ways.now)) (numbers_of rows.now) }
+    requires rows { AreRowsOf (length (theory.cells facts.now.ways.now.plan)) (numbers_of rows.now) }
     requires chosen { AreChosen (told facts.now) (numbers_of rows.now) chosen.now }
     ensures { IfOk result (λ parts. AreParts (told facts.now) (numbers_of rows.now) parts.rows.items parts.refused parts.reached) }
 {
@@ -80,7 +80,7 @@ fn parts_with(
 /// The ways to first cells of rows that tables tell: of the refused the first 2,000, and of those that are reached as many as are
 /// left of 2,000 without all that are refused (own profile).
 fn chosen_ways(alloc: Global, facts: &Facts<'_>, rows: &[Vec<usize>]) -> Result<Chosen, Memory>
-    requires { AreRowsOf (length (theory.cells facts.now.ways.now)) (numbers_of rows.now) }
+    requires { AreRowsOf (length (theory.cells facts.now.ways.now.plan)) (numbers_of rows.now) }
     ensures { IfOk result (λ chosen. AreChosen (told facts.now) (numbers_of rows.now) chosen) }
 {
     let refused = picks(alloc, facts, Sort::Refused, rows)?;

@@ -13,7 +13,7 @@ use crate::marks::{distance, has_at, request};
 use crate::rows::first_cell;
 use alike_items::pushing::push_some;
 use cosem_data::memory::Memory;
-use flow_ways::granting::GrantedRequest;
+use flow_map::request::GrantedRequest;
 use meter_theory::flow::Reach;
 use std::alloc::Global;
 
@@ -47,7 +47,7 @@ pub(crate) fn picks(
     sort: Sort,
     rows: &[Vec<usize>],
 ) -> Result<Vec<Pick>, Memory>
-    requires { AreRowsOf (length (theory.cells facts.now.ways.now)) (numbers_of rows.now) }
+    requires { AreRowsOf (length (theory.cells facts.now.ways.now.plan)) (numbers_of rows.now) }
     ensures { IfOk result (λ list. list.items ≡ spec.picks (told facts.now) sort (numbers_of rows.now)) }
 {
     let mut list = Vec::new(alloc);
@@ -66,8 +66,8 @@ fn push_client(
     client: u8,
     list: &mut Vec<Pick>,
 ) -> Result<(), Memory>
-    requires rows { AreRowsOf (length (theory.cells facts.now.ways.now)) (numbers_of rows.now) }
-    requires client { client < length facts.now.ways.now.clients }
+    requires rows { AreRowsOf (length (theory.cells facts.now.ways.now.plan)) (numbers_of rows.now) }
+    requires client { client < length facts.now.ways.now.plan.clients }
     ensures { OnOk result (list.new.items ≡ list.old.items
         ++ spec.client_picks (told facts.now) sort (numbers_of rows.now) client) }
 {
@@ -87,8 +87,8 @@ fn reach_picks(
     reach: Reach,
     client: u8,
 ) -> Result<Vec<Pick>, Memory>
-    requires rows { AreRowsOf (length (theory.cells facts.now.ways.now)) (numbers_of rows.now) }
-    requires client { client < length facts.now.ways.now.clients }
+    requires rows { AreRowsOf (length (theory.cells facts.now.ways.now.plan)) (numbers_of rows.now) }
+    requires client { client < length facts.now.ways.now.plan.clients }
     ensures { IfOk result (λ list. list.items
         ≡ spec.reach_picks (told facts.now) sort (numbers_of rows.now) reach client) }
 {
@@ -110,8 +110,8 @@ fn pick_at(
     client: u8,
     row: usize,
 ) -> Result<Option<Pick>, Memory>
-    requires rows { AreRowsOf (length (theory.cells facts.now.ways.now)) (numbers_of rows.now) }
-    requires client { client < length facts.now.ways.now.clients }
+    requires rows { AreRowsOf (length (theory.cells facts.now.ways.now.plan)) (numbers_of rows.now) }
+    requires client { client < length facts.now.ways.now.plan.clients }
     requires row { row < length rows.now }
     ensures { IfOk result (λ pick. pick
         ≡ spec.pick_at (told facts.now) sort (numbers_of rows.now) reach client row) }

@@ -14,7 +14,7 @@ use crate::keys::{MarkKey, RowKey, row_groups, word_of};
 use crate::limits::ROWS;
 use crate::marks::{request, standing_of};
 use cosem_data::memory::Memory;
-use flow_ways::granting::GrantedRequest;
+use flow_map::request::GrantedRequest;
 use flow_ways::ways::Ways;
 use meter_theory::flow::Reach;
 use std::alloc::Global;
@@ -55,7 +55,7 @@ fn single(alloc: Global, number: usize) -> Result<Vec<usize>, Memory>
 /// What each cell has alike with others of its row.
 fn row_keys(alloc: Global, facts: &Facts<'_>) -> Result<Vec<RowKey>, Memory>
     ensures { IfOk result (λ keys. map row_facts keys.items
-        ≡ map (spec.row_key (told facts.now)) (range_with_len 0 (length (theory.cells facts.now.ways.now)))) }
+        ≡ map (spec.row_key (told facts.now)) (range_with_len 0 (length (theory.cells facts.now.ways.now.plan)))) }
 {
     let count = facts.ways.cells().len();
     let mut keys = Vec::with_capacity(alloc, count)?;
@@ -67,7 +67,7 @@ fn row_keys(alloc: Global, facts: &Facts<'_>) -> Result<Vec<RowKey>, Memory>
 
 /// What a cell has alike with others of its row.
 fn row_key(alloc: Global, facts: &Facts<'_>, cell: usize) -> Result<RowKey, Memory>
-    requires { cell < length (theory.cells facts.now.ways.now) }
+    requires { cell < length (theory.cells facts.now.ways.now.plan) }
     ensures { IfOk result (λ key. row_facts key ≡ spec.row_key (told facts.now) cell) }
 {
     let marks = mark_keys(alloc, facts, cell)?;
@@ -81,9 +81,9 @@ fn row_key(alloc: Global, facts: &Facts<'_>, cell: usize) -> Result<RowKey, Memo
 
 /// What the marks of a cell have alike with those of others.
 fn mark_keys(alloc: Global, facts: &Facts<'_>, cell: usize) -> Result<Vec<MarkKey>, Memory>
-    requires { cell < length (theory.cells facts.now.ways.now) }
+    requires { cell < length (theory.cells facts.now.ways.now.plan) }
     ensures { IfOk result (λ keys. keys.items
-        ≡ flat_map (spec.client_keys (told facts.now) cell) (range_with_len 0 (length facts.now.ways.now.clients))) }
+        ≡ flat_map (spec.client_keys (told facts.now) cell) (range_with_len 0 (length facts.now.ways.now.plan.clients))) }
 {
     let mut keys = Vec::new(alloc);
     for client in 0..facts.ways.plan().client_count() {
@@ -100,8 +100,8 @@ fn push_client(
     cell: usize,
     keys: &mut Vec<MarkKey>,
 ) -> Result<(), Memory>
-    requires cell { cell < length (theory.cells facts.now.ways.now) }
-    requires client { client < length facts.now.ways.now.clients }
+    requires cell { cell < length (theory.cells facts.now.ways.now.plan) }
+    requires client { client < length facts.now.ways.now.plan.clients }
     ensures { OnOk result (keys.new.items ≡ keys.old.items ++ spec.client_keys (told facts.now) cell client) }
 {
     keys.push(mark_key(alloc, facts, Reach::Influence, client, cell)?)?;
@@ -117,8 +117,8 @@ fn mark_key(
     client: u8,
     cell: usize,
 ) -> Result<MarkKey, Memory>
-    requires cell { cell < length (theory.cells facts.now.ways.now) }
-    requires client { client < length facts.now.ways.now.clients }
+    requires cell { cell < length (theory.cells facts.now.ways.now.plan) }
+    requires client { client < length facts.now.ways.now.plan.clients }
     ensures { IfOk result (λ key. key ≡ spec.mark_key (told facts.now) reach client cell) }
 {
     let standing = standing_of(facts, reach, client, cell);
@@ -140,10 +140,10 @@ fn refused(
     client: u8,
     cell: usize,
 ) -> Result<Option<GrantedRequest>, Memory>
-    requires cell { cell < length (theory.cells facts.now.ways.now) }
-    requires client { client < length facts.now.ways.now.clients }
+    requires cell { cell < length (theory.cells facts.now.ways.now.plan) }
+    requires client { client < length facts.now.ways.now.plan.clients }
     ensures { IfOk result (λ request. request
-        ≡ cond allowed None (request_of facts.now.ways.now reach client (cell_at (theory.cells facts.now.ways.now) cell))) }
+        ≡ cond allowed None (request_of facts.now.ways.now.plan reach client (cell_at (theory.cells facts.now.ways.now.plan) cell))) }
 {
     if allowed {
         return Ok(None);
@@ -153,10 +153,10 @@ fn refused(
 
 /// The number of the first cell of a row.
 pub(crate) fn first_cell(ways: &Ways<'_>, rows: &[Vec<usize>], row: usize) -> usize
-    requires rows { spec.AreRowsOf (length (theory.cells ways.now)) (numbers_of rows.now) }
+    requires rows { spec.AreRowsOf (length (theory.cells ways.now.plan)) (numbers_of rows.now) }
     requires row { row < length rows.now }
     ensures is { result ≡ first_of (numbers_of rows.now) row }
-    ensures within { result < length (theory.cells ways.now) }
+    ensures within { result < length (theory.cells ways.now.plan) }
 {
     rows[row][0]
 }

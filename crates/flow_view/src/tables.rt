@@ -26,10 +26,10 @@ pub(crate) fn way_table(
     told: &FirstPicks,
     counted: bool,
 ) -> Result<WayTable, Memory>
-    requires rows { AreRowsOf (length (theory.cells ways.now)) (numbers_of rows.now) }
-    requires picks { ArePicks (length ways.now.clients) (length rows.now) told.now.picks.items }
+    requires rows { AreRowsOf (length (theory.cells ways.now.plan)) (numbers_of rows.now) }
+    requires picks { ArePicks (length ways.now.plan.clients) (length rows.now) told.now.picks.items }
     requires few { length told.now.picks.items ≤ WAYS }
-    ensures { IfOk result (λ table. IsTable ways.now (numbers_of rows.now) told.now.picks.items told.now.left counted table) }
+    ensures { IfOk result (λ table. IsTable ways.now.plan (numbers_of rows.now) told.now.picks.items told.now.left counted table) }
 {
     let keys = way_keys(alloc, &told.picks)?;
     let numbers = way_groups(alloc, &keys)?;
@@ -64,12 +64,12 @@ fn group_rows(
     counted: bool,
     numbers: &[Vec<usize>],
 ) -> Result<Vec<WayGroup>, Memory>
-    requires rows { AreRowsOf (length (theory.cells ways.now)) (numbers_of rows.now) }
-    requires picks { ArePicks (length ways.now.clients) (length rows.now) told.now }
+    requires rows { AreRowsOf (length (theory.cells ways.now.plan)) (numbers_of rows.now) }
+    requires picks { ArePicks (length ways.now.plan.clients) (length rows.now) told.now }
     requires few { length told.now ≤ WAYS }
     requires numbers { AreRowsOf (length told.now) (numbers_of numbers.now) }
     ensures { IfOk result (λ groups. map spec.group_shown groups.items
-        ≡ map (spec.group_of ways.now (numbers_of rows.now) told.now counted) (numbers_of numbers.now)) }
+        ≡ map (spec.group_of ways.now.plan (numbers_of rows.now) told.now counted) (numbers_of numbers.now)) }
 {
     let mut groups = Vec::with_capacity(alloc, numbers.len())?;
     for group in numbers {
@@ -87,12 +87,12 @@ fn group_of(
     counted: bool,
     numbers: &[usize],
 ) -> Result<WayGroup, Memory>
-    requires rows { AreRowsOf (length (theory.cells ways.now)) (numbers_of rows.now) }
-    requires picks { ArePicks (length ways.now.clients) (length rows.now) told.now }
+    requires rows { AreRowsOf (length (theory.cells ways.now.plan)) (numbers_of rows.now) }
+    requires picks { ArePicks (length ways.now.plan.clients) (length rows.now) told.now }
     requires few { length told.now ≤ WAYS }
     requires numbers { IsRow (length told.now) numbers.now }
     ensures { IfOk result (λ group. spec.group_shown group
-        ≡ spec.group_of ways.now (numbers_of rows.now) told.now counted numbers.now) }
+        ≡ spec.group_of ways.now.plan (numbers_of rows.now) told.now counted numbers.now) }
 {
     let first = told[numbers[0]];
     let client = String::from_str(alloc, client_name(ways.plan(), first.client))?;
@@ -115,8 +115,8 @@ fn cells_if(
     counted: bool,
     numbers: &[usize],
 ) -> Option<usize>
-    requires rows { AreRowsOf (length (theory.cells ways.now)) (numbers_of rows.now) }
-    requires picks { ArePicks (length ways.now.clients) (length rows.now) told.now }
+    requires rows { AreRowsOf (length (theory.cells ways.now.plan)) (numbers_of rows.now) }
+    requires picks { ArePicks (length ways.now.plan.clients) (length rows.now) told.now }
     requires few { length told.now ≤ WAYS }
     requires numbers { IsRow (length told.now) numbers.now }
     ensures { result ≡ cond counted (Some (spec.cells_reached (numbers_of rows.now) told.now numbers.now)) None }
@@ -130,8 +130,8 @@ fn cells_if(
 
 /// To how many cells the ways with these numbers lead.
 fn cells_reached(ways: &Ways<'_>, rows: &[Vec<usize>], told: &[Pick], numbers: &[usize]) -> usize
-    requires rows { AreRowsOf (length (theory.cells ways.now)) (numbers_of rows.now) }
-    requires picks { ArePicks (length ways.now.clients) (length rows.now) told.now }
+    requires rows { AreRowsOf (length (theory.cells ways.now.plan)) (numbers_of rows.now) }
+    requires picks { ArePicks (length ways.now.plan.clients) (length rows.now) told.now }
     requires few { length told.now ≤ WAYS }
     requires numbers { IsRow (length told.now) numbers.now }
     ensures { result ≡ spec.cells_reached (numbers_of rows.now) told.now numbers.now }
@@ -145,8 +145,8 @@ fn cells_reached(ways: &Ways<'_>, rows: &[Vec<usize>], told: &[Pick], numbers: &
 
 /// To how many cells the way with this number leads.
 fn size_of(ways: &Ways<'_>, rows: &[Vec<usize>], told: &[Pick], number: usize) -> usize
-    requires rows { AreRowsOf (length (theory.cells ways.now)) (numbers_of rows.now) }
-    requires picks { ArePicks (length ways.now.clients) (length rows.now) told.now }
+    requires rows { AreRowsOf (length (theory.cells ways.now.plan)) (numbers_of rows.now) }
+    requires picks { ArePicks (length ways.now.plan.clients) (length rows.now) told.now }
     requires number { number < length told.now }
     ensures is { result ≡ spec.size_of (numbers_of rows.now) told.now number }
     ensures few { result ≤ 2048 }
@@ -163,11 +163,11 @@ fn way_rows(
     told: &[Pick],
     numbers: &[usize],
 ) -> Result<Vec<WayRow>, Memory>
-    requires rows { AreRowsOf (length (theory.cells ways.now)) (numbers_of rows.now) }
-    requires picks { ArePicks (length ways.now.clients) (length rows.now) told.now }
+    requires rows { AreRowsOf (length (theory.cells ways.now.plan)) (numbers_of rows.now) }
+    requires picks { ArePicks (length ways.now.plan.clients) (length rows.now) told.now }
     requires numbers { All (λ number. number < length told.now) numbers.now }
     ensures { IfOk result (λ list. map spec.way_shown list.items
-        ≡ map (λ number. spec.way_row ways.now (numbers_of rows.now) (spec.pick_numbered told.now number)) numbers.now) }
+        ≡ map (λ number. spec.way_row ways.now.plan (numbers_of rows.now) (spec.pick_numbered told.now number)) numbers.now) }
 {
     let mut list = Vec::with_capacity(alloc, numbers.len())?;
     for number in numbers {
@@ -183,10 +183,10 @@ fn way_row(
     rows: &[Vec<usize>],
     pick: Pick,
 ) -> Result<WayRow, Memory>
-    requires rows { AreRowsOf (length (theory.cells ways.now)) (numbers_of rows.now) }
-    requires client { pick.client < length ways.now.clients }
+    requires rows { AreRowsOf (length (theory.cells ways.now.plan)) (numbers_of rows.now) }
+    requires client { pick.client < length ways.now.plan.clients }
     requires row { pick.row < length rows.now }
-    ensures { IfOk result (λ told. spec.way_shown told ≡ spec.way_row ways.now (numbers_of rows.now) pick) }
+    ensures { IfOk result (λ told. spec.way_shown told ≡ spec.way_row ways.now.plan (numbers_of rows.now) pick) }
 {
     let cell = first_cell(ways, rows, pick.row);
     let edges = lines_of(alloc, ways, pick.reach, pick.client, cell)?;

@@ -19,8 +19,8 @@ use Rattle.meter_theory.proofs.Lists.{found, from_flat_map, in_any, in_flat_map,
 use Rattle.label_certificate.specs.Granted.{methods_of}
 use Rattle.label_certificate.proofs.Joins.{calls-found}
 use Rattle.flow_ways.specs.Granting.{Allows, call_in, calls_change, executed_changes, first_call, first_set, or_call, shown_request}
-use Rattle.flow_ways.specs.declared.granting.GrantedRequest.{GrantedRequest}
-use Rattle.flow_ways.specs.declared.granting.GrantedRequest.TheVariants.{Get, Set, Act, Execute}
+use Rattle.flow_map.specs.declared.request.GrantedRequest.{GrantedRequest}
+use Rattle.flow_map.specs.declared.request.GrantedRequest.TheVariants.{Get, Set, Act, Execute}
 use Rattle.flow_ways.proofs.Found.{some-found}
 
 module _ (P : Plan) (sound : IsSound P) (x : CellRef) where

@@ -11,8 +11,8 @@ use Rattle.meter_theory.specs.Steps.{Effect, changed, changed_by, changed_by_wri
 use Rattle.meter_theory.specs.declared.flow.Reach.{Reach}
 use Rattle.meter_theory.specs.declared.flow.Reach.TheVariants.{Influence, Learn}
 use Rattle.label_certificate.specs.Granted.{methods_of}
-use Rattle.flow_ways.specs.declared.granting.GrantedRequest.{GrantedRequest}
-use Rattle.flow_ways.specs.declared.granting.GrantedRequest.TheVariants.{Get, Set, Act, Execute}
+use Rattle.flow_map.specs.declared.request.GrantedRequest.{GrantedRequest}
+use Rattle.flow_map.specs.declared.request.GrantedRequest.TheVariants.{Get, Set, Act, Execute}
 use Rattle.flow_ways.specs.declared.granting.Seeking.{Seeking}
 
 -- the first cell in plan order that the client may set and whose write changes the cell: own profile

@@ -2,21 +2,17 @@
 use Rattle.std.specs.Prelude.{◌≡◌, ℕ, Bool, ◌&&◌, List, length, Option, Some, None}
 use Rattle.cosem_data.specs.Cells.{same_cell}
 use Rattle.cosem_data.specs.declared.cell.CellRef.{CellRef}
-use Rattle.meter_theory.specs.Edges.{edges}
-use Rattle.meter_theory.specs.Plan.{Plan, cells}
+use Rattle.meter_theory.specs.Plan.{Plan}
 use Rattle.meter_theory.specs.Ways.{IsDistance, far_end, is_within, near_end, shown_way}
 use Rattle.meter_theory.specs.declared.flow.Edge.{Edge}
 use Rattle.meter_theory.specs.declared.flow.Reach.{Reach}
 use Rattle.meter_theory.specs.declared.flow.Reach.TheVariants.{Influence, Learn}
-use Rattle.flow_edges.specs.Table.{CellEdges}
 use Rattle.flow_edges.specs.declared.table.Link.{Link}
 use Rattle.flow_ways.specs.Arriving.{AreEdgesTo}
 use Rattle.flow_ways.specs.Distances.{AreDistances}
 
--- the edges of the plan, the distances of its cells, and edges by the cells that they lead to: own profile
-pub record AreWaysOf (P : Plan) (table : CellEdges) (influence learn : List (Option ℕ)) (influence_links learn_links : List (List Link)) : Type 0 where
-  pub cells_are : table.cells ≡ cells P
-  pub edges_are : table.edges ≡ edges P
+-- the distances of its cells, and edges by the cells that they lead to: own profile
+pub record AreWaysOf (P : Plan) (influence learn : List (Option ℕ)) (influence_links learn_links : List (List Link)) : Type 0 where
   pub influence_are : AreDistances P Influence influence
   pub learn_are : AreDistances P Learn learn
   pub influence_links_are : AreEdgesTo P Influence influence_links

@@ -5,4 +5,3 @@ pub mod Found
 pub mod Kept
 pub mod Granting
 pub mod Why
-pub mod Access

@@ -13,21 +13,12 @@ use Rattle.meter_theory.specs.declared.flow.Reach.{Reach}
 use Rattle.meter_theory.specs.declared.flow.Reach.TheVariants.{Influence, Learn}
 use Rattle.value_text.specs.Edges.{edge_text}
 use Rattle.value_text.specs.Texts.{cell_text}
+use Rattle.flow_map.specs.Reaches.{reach_word}
+use Rattle.flow_map.specs.Requests.{request_text}
 use Rattle.flow_ways.specs.Granting.{shown_request}
 use Rattle.flow_ways.specs.Kept.{IsShown}
-use Rattle.flow_ways.specs.declared.granting.GrantedRequest.{GrantedRequest}
-use Rattle.flow_ways.specs.declared.granting.GrantedRequest.TheVariants.{Get, Set, Act, Execute}
-
--- a method as `class_id/logical name/method` (own profile)
-abbrev pub method_text : MethodRef → List ℕ
-method_text m = join_with_byte 47 (decimal m.class_id ∷ name_text m.name.0 ∷ decimal m.index ∷ [])
-
--- a request in the words of steps, without a value (own profile)
-abbrev pub request_text : GrantedRequest → List ℕ
-request_text (Get x) = codes "get " ++ cell_text x
-request_text (Set x) = codes "set " ++ cell_text x
-request_text (Act m) = codes "act " ++ method_text m
-request_text (Execute m script) = codes "act " ++ (method_text m ++ (codes " long-unsigned " ++ decimal script))
+use Rattle.flow_map.specs.declared.request.GrantedRequest.{GrantedRequest}
+use Rattle.flow_map.specs.declared.request.GrantedRequest.TheVariants.{Get, Set, Act, Execute}
 
 -- the cell at the other end of a way, which a right grants: own profile
 abbrev pub way_end : Reach → CellRef → List Edge → CellRef
@@ -51,10 +42,6 @@ way_lines P reach c client x es = in_order reach (right_lines client (shown_requ
 -- a line of its own, two spaces in: own profile
 abbrev pub indented : List ℕ → List ℕ
 indented line = codes "  " ++ (line ++ 10 ∷ [])
-
-abbrev pub reach_word : Reach → List ℕ
-reach_word Influence = codes "influence"
-reach_word Learn = codes "learn"
 
 -- how far the shortest ways lead: own profile
 abbrev pub finding : Option ℕ → List ℕ

@@ -1,17 +1,16 @@
 //! How far the cells of a plan are from its clients.
 ghost use Rattle.std.specs.Prelude.{◌≡◌, ◌≤◌, ◌*◌, ◌+◌, ℕ, None, get_or, length, IfOk, OnOk};
-ghost use Rattle.meter_theory.specs.Edges.{edges};
 ghost use Rattle.meter_theory.specs.Plan as theory;
-ghost use Rattle.label_certificate.specs.Granted.{AreGranted};
 ghost use Rattle.flow_ways.specs.Distances.{AreDistances, AreNoted, IsCellNoted};
 ghost use Rattle.flow_ways.specs.Rounds.{AreLinksOf, AreReached};
 
 use crate::rounds::next_round;
 use cosem_data::clients::ClientSet;
 use cosem_data::memory::Memory;
-use flow_edges::table::{EdgeTable, Link};
+use flow_edges::table::Link;
+use flow_facts::map::FlowMap;
 use label_certificate::label_sets::sets_for;
-use meter_theory::flow::{Label, Reach};
+use meter_theory::flow::Reach;
 use meter_theory::limits::CLIENTS;
 use object_model::plan::Plan;
 use std::alloc::Global;
@@ -20,21 +19,15 @@ use std::alloc::Global;
 /// have, if there are ways.
 pub(crate) fn distances(
     alloc: Global,
-    plan: &Plan,
-    table: &EdgeTable,
-    granted: &[Label],
+    map: &FlowMap<'_>,
     reach: Reach,
 ) -> Result<Vec<Option<usize>>, Memory>
-    requires cells { table.now.cells ≡ theory.cells plan.now }
-    requires edges { table.now.edges ≡ edges plan.now }
-    requires granted { AreGranted plan.now granted.now }
-    ensures { IfOk result (λ numbers. AreDistances plan.now reach numbers.items) }
+    ensures { IfOk result (λ numbers. AreDistances map.now.plan reach numbers.items) }
 {
-    plan.known();
-    table.known();
-    let sets = sets_for(alloc, reach, granted)?;
+    map.known();
+    let sets = sets_for(alloc, reach, map.granted())?;
     let mut numbers = vec![in alloc; None; sets.len() * CLIENTS]?;
-    number_rounds(alloc, plan, table.links(), reach, sets, &mut numbers)?;
+    number_rounds(alloc, map.plan(), map.links(), reach, sets, &mut numbers)?;
     Ok(numbers)
 }
 

@@ -11,6 +11,7 @@ ghost use Rattle.flow_ways.specs.Granting as spec;
 use class_control::script::Script;
 use cosem_data::cell::{CellRef, MethodRef};
 use cosem_data::data::Data;
+use flow_map::request::GrantedRequest;
 use meter_effects::walk::{Planned, Visitor, each_of_calls, each_of_method};
 use meter_theory::flow::Reach;
 use object_model::argument::Argument;
@@ -23,19 +24,6 @@ use std::convert::Infallible;
 
 /// How many cells an object has at most beside one.
 const OTHERS: usize = 3;
-
-/// A request that a right allows, by which a client influences or learns a cell (IEC 62056-5-3, GET, SET, ACTION).
-#[derive(Clone, Copy, Debug, PartialEq, Eq, Drop)]
-pub enum GrantedRequest {
-    /// A GET of the cell.
-    Get(CellRef),
-    /// A SET of a cell whose write changes it.
-    Set(CellRef),
-    /// An ACTION that calls a method which changes it.
-    Act(MethodRef),
-    /// An ACTION that executes the script of a table with this number, which changes it (IEC 62056-6-2, Script table, execute).
-    Execute(MethodRef, u16),
-}
 
 /// The request that is shown of those that rights allow and that influence or learn a cell: a SET before an ACTION, each the first
 /// in plan order, and of an execute the first script of the table that changes the cell (own profile). None where no right

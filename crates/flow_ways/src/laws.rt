@@ -9,7 +9,7 @@ ghost use Rattle.meter_theory.specs.declared.flow.Reach.{Reach};
 ghost use Rattle.flow_ways.specs.Found.{AreDistancesOf, distance_of};
 ghost use Rattle.flow_ways.specs.Granting.{Allows, shown_request};
 ghost use Rattle.flow_ways.specs.Why.{way_end};
-ghost use Rattle.flow_ways.specs.declared.granting.GrantedRequest.{GrantedRequest};
+ghost use Rattle.flow_map.specs.declared.request.GrantedRequest.{GrantedRequest};
 
 /// The first rounds within which clients have cells are their distances.
 pub fn first_rounds_are_distances()

@@ -14,23 +14,21 @@ use crate::arriving::arriving;
 use crate::distances::distances;
 use cosem_data::cell::CellRef;
 use cosem_data::memory::Memory;
-use flow_edges::edges::edge_table;
 use flow_edges::ends::{far_of, near_of};
-use flow_edges::table::{EdgeTable, Link, edge_between};
-use label_certificate::granted::granted_labels;
+use flow_edges::table::{Link, edge_between};
+use flow_facts::map::FlowMap;
 use meter_theory::flow::{Edge, Reach};
 use meter_theory::limits::CLIENTS;
 use object_model::plan::Plan;
 use std::alloc::Global;
 use std::marker::Model;
 
-/// The ways of a plan's clients to its cells: how many edges the shortest have, cell by cell and client by client, and the edges
-/// of the plan; for who asks for many ways these also by the cells that they lead to. Cells go by their numbers in plan order,
-/// clients by their places. Contracts see the plan.
+/// The ways of a configuration's clients to its cells: how many edges the shortest have, cell by cell and client by client; for who
+/// asks for many ways the edges also by the cells that they lead to. Cells go by their numbers in plan order, clients by their
+/// places. Contracts see the configuration.
 #[derive(Drop)]
 pub struct Ways<'a> {
-    plan: &'a Plan,
-    table: EdgeTable,
+    known: &'a FlowMap<'a>,
     influence: Vec<Option<usize>>,
     learn: Vec<Option<usize>>,
     influence_links: Vec<Vec<Link>>,
@@ -38,47 +36,42 @@ pub struct Ways<'a> {
 }
 
 impl<'a> Model for Ways<'a> {
+    ghost use Rattle.std.specs.Coded.{codes};
     ghost use Rattle.std.specs.Prelude.{map};
-    ghost use Rattle.meter_theory.specs.Plan as theory;
     ghost use Rattle.meter_theory.specs.PlanCode.{plan_code};
-    ghost use Rattle.flow_ways.specs.Rounds.{AreLinksOf};
+    ghost use Rattle.flow_facts.specs.Map.{Configuration};
     ghost use Rattle.flow_ways.specs.Kept.{AreWaysOf};
 
-    ghost Value = { theory.Plan };
+    ghost Value = { Configuration };
 
-    ghost coded = { plan_code };
+    ghost coded = { Prim.hlevel (codes, plan_code) };
 
-    ghost view = { λ w. w.plan.now };
+    ghost view = { λ w. w.known.now };
 
-    ghost invariant = { λ w. AreWaysOf w.plan.now w.table w.influence.items w.learn.items
+    ghost invariant = { λ w. AreWaysOf w.known.now.plan w.influence.items w.learn.items
         (map (λ list. list.items) w.influence_links.items) (map (λ list. list.items) w.learn_links.items) };
 }
 
 impl<'a> Ways<'a> {
-    /// The ways of a plan (own profile). The only error is want of memory.
-    pub fn new(alloc: Global, plan: &'a Plan) -> Result<Self, Memory>
-        ensures { IfOk result (λ ways. ways ≡ plan.now) }
+    /// The ways of a configuration. The only error is want of memory.
+    pub fn new(alloc: Global, map: &'a FlowMap<'a>) -> Result<Self, Memory>
+        ensures { IfOk result (λ ways. ways ≡ map.now) }
     {
-        let table = edge_table(alloc, plan)?;
-        let granted = granted_labels(alloc, plan)?;
-        let influence = distances(alloc, plan, &table, &granted, Reach::Influence)?;
-        let learn = distances(alloc, plan, &table, &granted, Reach::Learn)?;
         Ok(Ways {
-            plan,
-            table,
-            influence,
-            learn,
+            known: map,
+            influence: distances(alloc, map, Reach::Influence)?,
+            learn: distances(alloc, map, Reach::Learn)?,
             influence_links: Vec::new(alloc),
             learn_links: Vec::new(alloc),
         })
     }
 
-    /// The ways of a plan, for who asks for many: none looks at more edges than lead to its cells (own profile). The only error is
-    /// want of memory.
-    pub fn of_many(alloc: Global, plan: &'a Plan) -> Result<Self, Memory>
-        ensures { IfOk result (λ ways. ways ≡ plan.now) }
+    /// The ways of a configuration, for who asks for many: none looks at more edges than lead to its cells. The only error is want
+    /// of memory.
+    pub fn of_many(alloc: Global, map: &'a FlowMap<'a>) -> Result<Self, Memory>
+        ensures { IfOk result (λ ways. ways ≡ map.now) }
     {
-        let ways = Ways::new(alloc, plan)?;
+        let ways = Ways::new(alloc, map)?;
         let influence_links = ways.arriving(alloc, Reach::Influence)?;
         let learn_links = ways.arriving(alloc, Reach::Learn)?;
         Ok(Ways {
@@ -90,40 +83,47 @@ impl<'a> Ways<'a> {
 
     /// For each cell the links that lead to it.
     fn arriving(&self, alloc: Global, reach: Reach) -> Result<Vec<Vec<Link>>, Memory>
-        ensures { IfOk result (λ lists. AreEdgesTo self.now reach
+        ensures { IfOk result (λ lists. AreEdgesTo self.now.plan reach
             (map (λ list. list.items) lists.items)) }
     {
         self.known();
         arriving(alloc, reach, self.cells().len(), self.links())
     }
 
-    /// The plan.
-    pub fn plan(&self) -> &'a Plan
+    /// What is known of the configuration.
+    pub fn map(&self) -> &'a FlowMap<'a>
         ensures { result.now ≡ self.now }
     {
-        self.plan
+        self.known
+    }
+
+    /// The plan.
+    pub fn plan(&self) -> &'a Plan
+        ensures { result.now ≡ self.now.plan }
+    {
+        self.known.plan()
     }
 
     /// What the type keeps, for callers: its plan is sound.
     fn known(&self)
-        ensures sound { IsSound self.now }
+        ensures sound { IsSound self.now.plan }
     {
-        self.plan.known();
+        self.known.known();
     }
 
     /// The cells of the plan, in plan order.
     pub fn cells(&self) -> &[CellRef]
-        ensures { result.now ≡ theory.cells self.now }
+        ensures { result.now ≡ theory.cells self.now.plan }
     {
-        self.table.cells()
+        self.known.cells()
     }
 
     /// How many edges the shortest ways of a client to a cell have, or None where there is no way.
     pub fn distance(&self, reach: Reach, cell: usize, client: u8) -> Option<usize>
-        requires cell { cell < length (theory.cells self.now) }
+        requires cell { cell < length (theory.cells self.now.plan) }
         requires client { client < CLIENTS }
-        ensures distance { IsDistance self.now reach client (cell_at (theory.cells self.now) cell) result }
-        ensures found { result ≡ distance_of self.now reach client (cell_at (theory.cells self.now) cell) }
+        ensures distance { IsDistance self.now.plan reach client (cell_at (theory.cells self.now.plan) cell) result }
+        ensures found { result ≡ distance_of self.now.plan reach client (cell_at (theory.cells self.now.plan) cell) }
     {
         self.known();
         let numbers = self.distances(reach);
@@ -139,12 +139,12 @@ impl<'a> Ways<'a> {
         cell: usize,
         client: u8,
     ) -> Result<Option<Vec<Edge>>, Memory>
-        requires cell { cell < length (theory.cells self.now) }
+        requires cell { cell < length (theory.cells self.now.plan) }
         requires client { client < CLIENTS }
-        ensures shown { IfOk result (λ shown. IsShown self.now reach client
-            (cell_at (theory.cells self.now) cell) (option_map (λ edges. edges.items) shown)) }
+        ensures shown { IfOk result (λ shown. IsShown self.now.plan reach client
+            (cell_at (theory.cells self.now.plan) cell) (option_map (λ edges. edges.items) shown)) }
         ensures found { IfOk result (λ shown. option_map (λ edges. edges.items) shown
-            ≡ way_of self.now reach client (cell_at (theory.cells self.now) cell)) }
+            ≡ way_of self.now.plan reach client (cell_at (theory.cells self.now.plan) cell)) }
     {
         self.known();
         match self.distance(reach, cell, client) {
@@ -162,11 +162,11 @@ impl<'a> Ways<'a> {
         client: u8,
         distance: usize,
     ) -> Result<Vec<Edge>, Memory>
-        requires cell { cell < length (theory.cells self.now) }
+        requires cell { cell < length (theory.cells self.now.plan) }
         requires client { client < CLIENTS }
-        requires distance { IsDistance self.now reach client (cell_at (theory.cells self.now) cell) (Some distance) }
+        requires distance { IsDistance self.now.plan reach client (cell_at (theory.cells self.now.plan) cell) (Some distance) }
         ensures { IfOk result (λ edges. edges.items
-            ≡ shown_way self.now reach client distance (cell_at (theory.cells self.now) cell)) }
+            ≡ shown_way self.now.plan reach client distance (cell_at (theory.cells self.now.plan) cell)) }
     {
         self.known();
         let mut edges = Vec::with_capacity(alloc, distance)?;
@@ -181,12 +181,12 @@ impl<'a> Ways<'a> {
 
     /// The first edge to a cell from one that is nearer by an edge, by the numbers of their cells.
     fn first_link(&self, reach: Reach, client: u8, rounds: usize, cell: usize) -> Link
-        requires cell { cell < length (theory.cells self.now) }
+        requires cell { cell < length (theory.cells self.now.plan) }
         requires client { client < CLIENTS }
-        requires distance { IsDistance self.now reach client (cell_at (theory.cells self.now) cell) (Some (rounds + 1)) }
-        ensures first { first_edge self.now reach client rounds (cell_at (theory.cells self.now) cell)
-            ≡ Some (edge_at (theory.cells self.now) result) }
-        ensures link { IsLink (theory.cells self.now) result }
+        requires distance { IsDistance self.now.plan reach client (cell_at (theory.cells self.now.plan) cell) (Some (rounds + 1)) }
+        ensures first { first_edge self.now.plan reach client rounds (cell_at (theory.cells self.now.plan) cell)
+            ≡ Some (edge_at (theory.cells self.now.plan) result) }
+        ensures link { IsLink (theory.cells self.now.plan) result }
     {
         self.known();
         for link in self.links_to(reach, cell) {
@@ -199,11 +199,11 @@ impl<'a> Ways<'a> {
 
     /// Whether an edge leads to a cell from one within so many rounds.
     fn leads(&self, reach: Reach, client: u8, rounds: usize, cell: usize, link: Link) -> bool
-        requires cell { cell < length (theory.cells self.now) }
+        requires cell { cell < length (theory.cells self.now.plan) }
         requires client { client < CLIENTS }
-        requires link { IsLink (theory.cells self.now) link }
-        ensures { result ≡ leads_within self.now reach client rounds
-            (cell_at (theory.cells self.now) cell) (edge_at (theory.cells self.now) link) }
+        requires link { IsLink (theory.cells self.now.plan) link }
+        ensures { result ≡ leads_within self.now.plan reach client rounds
+            (cell_at (theory.cells self.now.plan) cell) (edge_at (theory.cells self.now.plan) link) }
     {
         self.known();
         far_of(reach, link) == cell && self.is_within(reach, client, rounds, near_of(reach, link))
@@ -211,9 +211,9 @@ impl<'a> Ways<'a> {
 
     /// Whether a cell is within so many rounds: its distance is no more.
     fn is_within(&self, reach: Reach, client: u8, rounds: usize, cell: usize) -> bool
-        requires cell { cell < length (theory.cells self.now) }
+        requires cell { cell < length (theory.cells self.now.plan) }
         requires client { client < CLIENTS }
-        ensures { result ≡ is_within self.now reach client rounds (cell_at (theory.cells self.now) cell) }
+        ensures { result ≡ is_within self.now.plan reach client rounds (cell_at (theory.cells self.now.plan) cell) }
     {
         self.known();
         match self.distance(reach, cell, client) {
@@ -224,8 +224,8 @@ impl<'a> Ways<'a> {
 
     /// Edges of the plan among which are all that lead to a cell, in their order.
     fn links_to(&self, reach: Reach, cell: usize) -> &[Link]
-        ensures found { FindsAllTo self.now reach (cell_at (theory.cells self.now) cell) result.now }
-        ensures within { AreWithin (theory.cells self.now) result.now }
+        ensures found { FindsAllTo self.now.plan reach (cell_at (theory.cells self.now.plan) cell) result.now }
+        ensures within { AreWithin (theory.cells self.now.plan) result.now }
     {
         match self.lists_for(reach).get(cell) {
             Some(list) => list,
@@ -235,7 +235,7 @@ impl<'a> Ways<'a> {
 
     /// For each cell, if for any, the links that lead to it.
     fn lists_for(&self, reach: Reach) -> &[Vec<Link>]
-        ensures { AreEdgesTo self.now reach (map (λ list. list.items) result.now) }
+        ensures { AreEdgesTo self.now.plan reach (map (λ list. list.items) result.now) }
     {
         match reach {
             Reach::Influence => &self.influence_links,
@@ -245,14 +245,14 @@ impl<'a> Ways<'a> {
 
     /// The edges of the plan, between the numbers of its cells.
     fn links(&self) -> &[Link]
-        ensures { AreLinksOf self.now result.now }
+        ensures { AreLinksOf self.now.plan result.now }
     {
-        self.table.links()
+        self.known.links()
     }
 
     /// The distances of this reach.
     fn distances(&self, reach: Reach) -> &[Option<usize>]
-        ensures { AreDistances self.now reach result.now }
+        ensures { AreDistances self.now.plan reach result.now }
     {
         match reach {
             Reach::Influence => &self.influence,

@@ -6,48 +6,40 @@ ghost use Rattle.flow_edges.specs.Table.{cell_at};
 ghost use Rattle.flow_ways.specs.Why as spec;
 ghost use Rattle.flow_ways.specs.Why.{IsBlockPut, IsWhy};
 
-use crate::granting::{GrantedRequest, shown_request};
+use crate::granting::shown_request;
 use crate::ways::Ways;
-use cosem_data::cell::{CellRef, MethodRef};
+use cosem_data::cell::CellRef;
 use cosem_data::memory::Memory;
 use flow_edges::ends::near_end;
-use label_certificate::label_sets::set_for;
-use label_certificate::numbered::source_of;
+use flow_map::reach_words::reach_word;
+use flow_map::request::GrantedRequest;
 use meter_theory::flow::{Edge, Reach};
 use meter_theory::limits::CLIENTS;
-use object_model::plan::Plan;
-use object_model::policy::Policy;
 use std::alloc::Global;
 use std::fmt;
-use value_text::cell::CellText;
 use value_text::edge::EdgeText;
+
+/// What is asked of a client and a cell.
+#[derive(Clone, Copy)]
+struct Asked<'a> {
+    reach: Reach,
+    client: u8,
+    name: &'a str,
+    cell: CellRef,
+}
 
 /// What is told of a client and a cell, by their numbers: for each reach a line with how far the shortest ways lead and whether
 /// the policy allows it, and behind it the lines of the way that is shown, in the order in which things happen (own profile). The
 /// only error is want of memory.
-pub fn why_text(
-    alloc: Global,
-    ways: &Ways<'_>,
-    policy: &Policy,
-    client: u8,
-    cell: usize,
-) -> Result<Vec<u8>, Memory>
-    requires cell { cell < length (theory.cells ways.now) }
-    requires client { client < length ways.now.clients }
-    ensures { IfOk result (λ text. IfSome (slice_get ways.now.clients client) (λ who.
-        IsWhy ways.now policy.now client who.name (cell_at (theory.cells ways.now) cell) text.items)) }
+pub fn why_text(alloc: Global, ways: &Ways<'_>, client: u8, cell: usize) -> Result<Vec<u8>, Memory>
+    requires cell { cell < length (theory.cells ways.now.plan) }
+    requires client { client < length ways.now.plan.clients }
+    ensures { IfOk result (λ text. IfSome (slice_get ways.now.plan.clients client) (λ who.
+        IsWhy ways.now.plan ways.now.policy client who.name (cell_at (theory.cells ways.now.plan) cell) text.items)) }
 {
     let mut text = Vec::new(alloc);
-    push_block(
-        alloc,
-        ways,
-        policy,
-        Reach::Influence,
-        client,
-        cell,
-        &mut text,
-    )?;
-    push_block(alloc, ways, policy, Reach::Learn, client, cell, &mut text)?;
+    push_block(alloc, ways, Reach::Influence, client, cell, &mut text)?;
+    push_block(alloc, ways, Reach::Learn, client, cell, &mut text)?;
     Ok(text)
 }
 
@@ -55,16 +47,15 @@ pub fn why_text(
 fn push_block(
     alloc: Global,
     ways: &Ways<'_>,
-    policy: &Policy,
     reach: Reach,
     client: u8,
     cell: usize,
     text: &mut Vec<u8>,
 ) -> Result<(), Memory>
-    requires cell { cell < length (theory.cells ways.now) }
-    requires client { client < length ways.now.clients }
-    ensures { OnOk result (IfSome (slice_get ways.now.clients client) (λ who.
-        IsBlockPut ways.now policy.now reach client who.name (cell_at (theory.cells ways.now) cell)
+    requires cell { cell < length (theory.cells ways.now.plan) }
+    requires client { client < length ways.now.plan.clients }
+    ensures { OnOk result (IfSome (slice_get ways.now.plan.clients client) (λ who.
+        IsBlockPut ways.now.plan ways.now.policy reach client who.name (cell_at (theory.cells ways.now.plan) cell)
         text.old.items text.new.items)) }
 {
     let plan = ways.plan();
@@ -72,21 +63,22 @@ fn push_block(
     let Some(who) = plan.client(client) else {
         unreachable!();
     };
-    let place = ways.cells()[cell];
     let shown = ways.shown(alloc, reach, cell, client)?;
-    let allowed = set_for(reach, policy.label(&source_of(plan, &place))).has(client);
-    push_head(alloc, reach, &shown, allowed, text)?;
+    push_head(
+        alloc,
+        reach,
+        &shown,
+        ways.map().allows(reach, cell, client),
+        text,
+    )?;
+    let asked = Asked {
+        reach,
+        client,
+        name: who.name_text(),
+        cell: ways.cells()[cell],
+    };
     match shown {
-        Some(edges) => push_way(
-            alloc,
-            ways,
-            reach,
-            client,
-            who.name_text(),
-            &place,
-            edges,
-            text,
-        ),
+        Some(edges) => push_way(alloc, ways, &asked, edges, text),
         None => Ok(()),
     }
 }
@@ -110,21 +102,24 @@ fn push_head(
     Ok(())
 }
 
-/// Puts the lines of a way behind a text, in the order in which things happen.
+/// Puts the lines of a way after a text, in the order in which things happen.
 fn push_way(
     alloc: Global,
     ways: &Ways<'_>,
-    reach: Reach,
-    client: u8,
-    name: &str,
-    cell: &CellRef,
+    asked: &Asked<'_>,
     edges: Vec<Edge>,
     text: &mut Vec<u8>,
 ) -> Result<(), Memory>
-    ensures { OnOk result (text.new.items ≡ text.old.items
-        ++ flat_map spec.indented (spec.way_lines ways.now reach client name.now cell.now edges.items)) }
+    ensures { OnOk result (text.new.items ≡ text.old.items ++ flat_map spec.indented
+        (spec.way_lines ways.now.plan asked.now.reach asked.now.client asked.now.name.now asked.now.cell edges.items)) }
 {
-    let end = way_end(reach, cell, &edges);
+    let Asked {
+        reach,
+        client,
+        name,
+        cell,
+    } = *asked;
+    let end = way_end(reach, &cell, &edges);
     let request = shown_request(ways.plan(), ways.cells(), reach, client, &end);
     match reach {
         Reach::Influence => {
@@ -189,16 +184,6 @@ fn push_edge(alloc: Global, edge: &Edge, text: &mut Vec<u8>) -> Result<(), Memor
     Ok(())
 }
 
-/// The word of a reach (own profile).
-pub fn reach_word(reach: Reach) -> &'static str
-    ensures { result.now ≡ spec.reach_word reach }
-{
-    match reach {
-        Reach::Influence => "influence",
-        Reach::Learn => "learn",
-    }
-}
-
 /// How far the shortest ways lead, as it is printed: None where there is no way.
 #[derive(Drop)]
 struct Finding(Option<usize>);
@@ -216,43 +201,5 @@ impl fmt::Display for Finding {
             Some(1) => f.write_str("by 1 edge"),
             Some(edges) => write!(f, "by {edges} edges"),
         }
-    }
-}
-
-impl fmt::Display for GrantedRequest {
-    ghost use Rattle.std.specs.Prelude.{Some};
-    ghost use Rattle.flow_ways.specs.Why.{request_text};
-
-    ghost output = { λ request. Some (request_text request) };
-
-    fn fmt<W: fmt::Write>(&self, f: &mut fmt::Formatter<W>) -> fmt::Result {
-        match self {
-            GrantedRequest::Get(cell) => write!(f, "get {}", CellText(*cell)),
-            GrantedRequest::Set(cell) => write!(f, "set {}", CellText(*cell)),
-            GrantedRequest::Act(method) => write!(f, "act {}", MethodText(*method)),
-            GrantedRequest::Execute(method, script) => {
-                write!(f, "act {} long-unsigned {script}", MethodText(*method))
-            }
-        }
-    }
-}
-
-/// A method as it is printed: `class_id/logical name/method`.
-#[derive(Drop)]
-struct MethodText(MethodRef);
-
-impl fmt::Display for MethodText {
-    ghost use Rattle.std.specs.Prelude.{Some};
-    ghost use Rattle.flow_ways.specs.Why.{method_text};
-
-    ghost output = { λ method. Some (method_text method.0) };
-
-    fn fmt<W: fmt::Write>(&self, f: &mut fmt::Formatter<W>) -> fmt::Result {
-        let MethodRef {
-            class_id,
-            name,
-            index,
-        } = self.0;
-        write!(f, "{class_id}/{name}/{index}")
     }
 }

@@ -29,11 +29,7 @@ pub fn granted_labels(alloc: Global, plan: &Plan) -> Result<Vec<Label>, Memory>
 }
 
 /// The same, where the cells of the plan are at hand.
-pub(crate) fn granted_to_cells(
-    alloc: Global,
-    plan: &Plan,
-    cells: &[CellRef],
-) -> Result<Vec<Label>, Memory>
+pub fn granted_to_cells(alloc: Global, plan: &Plan, cells: &[CellRef]) -> Result<Vec<Label>, Memory>
     requires { cells.now ≡ theory.cells plan.now }
     ensures { IfOk result (λ labels. AreGranted plan.now labels.items) }
 {

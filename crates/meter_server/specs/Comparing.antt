@@ -9,7 +9,7 @@ use Rattle.config_text.specs.declared.fault.ConfigFault.{ConfigFault}
 use Rattle.flow_changes.specs.Written.{WritesComparison}
 use Rattle.meter_theory.specs.Labels.{Policy}
 use Rattle.meter_theory.specs.Plan.{Plan}
-use Rattle.plan_lists.specs.declared.fault.ListFault.{ListFault}
+use Rattle.whole_writes.specs.declared.fault.ListFault.{ListFault}
 use Rattle.text_files.specs.Files.{MayRead}
 use Rattle.verdict.specs.declared.Verdict.TheVariants.{Config}
 use Rattle.meter_server.specs.Files.{IsFile, IsUnread}

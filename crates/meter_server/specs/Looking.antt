@@ -11,8 +11,8 @@ use Rattle.shown_text.specs.Printable.{printable}
 use Rattle.meter_theory.specs.Labels.{Policy}
 use Rattle.meter_theory.specs.Plan.{Plan, cells, client_named}
 use Rattle.plan_lists.specs.Listing.{WritesWhy}
-use Rattle.plan_lists.specs.declared.fault.ListFault.{ListFault}
-use Rattle.plan_lists.specs.declared.fault.ListFault.TheVariants as lists
+use Rattle.whole_writes.specs.declared.fault.ListFault.{ListFault}
+use Rattle.whole_writes.specs.declared.fault.ListFault.TheVariants as lists
 use Rattle.value_text.specs.Texts.{cell_text}
 use Rattle.meter_server.specs.Noticing.{TellsStranger}
 use Rattle.meter_server.specs.Outcomes.{listed}

@@ -28,9 +28,9 @@ use Rattle.line_server.specs.declared.fault.LineFault.TheVariants as lines
 use Rattle.frame_server.specs.declared.fault.ServeFault.TheVariants as frames
 use Rattle.step_stores.specs.Faults as stores
 use Rattle.step_stores.specs.declared.fault.StoreFault.{StoreFault}
-use Rattle.plan_lists.specs.Listing as lists
-use Rattle.plan_lists.specs.declared.fault.ListFault.{ListFault}
-use Rattle.plan_lists.specs.declared.fault.ListFault.TheVariants as lists_fault
+use Rattle.whole_writes.specs.Written as lists
+use Rattle.whole_writes.specs.declared.fault.ListFault.{ListFault}
+use Rattle.whole_writes.specs.declared.fault.ListFault.TheVariants as lists_fault
 use Rattle.step_words.specs.Translating as translations
 use Rattle.step_words.specs.declared.translating.TranslationFault.{TranslationFault}
 use Rattle.step_words.specs.declared.translating.TranslationFault.TheVariants as texts

@@ -30,9 +30,10 @@ use Rattle.meter_server.specs.Remarks.{IsTold, Told, TellsBoth, told_of, whole}
 use Rattle.meter_server.specs.declared.outcome.Outcome.{Outcome}
 use Rattle.meter_server.specs.declared.outcome.Outcome.TheVariants.{Done, Judged, JudgedWhole, Words, Fault, Broken, Unwritten}
 use Rattle.meter_server.specs.declared.texts.Source.{Source}
-use Rattle.plan_lists.specs.Listing.{WritesText, dot_text, edges_text}
-use Rattle.plan_lists.specs.declared.fault.ListFault.{ListFault}
-use Rattle.plan_lists.specs.declared.fault.ListFault.TheVariants as lists
+use Rattle.whole_writes.specs.Written.{WritesText}
+use Rattle.plan_lists.specs.Listing.{dot_text, edges_text}
+use Rattle.whole_writes.specs.declared.fault.ListFault.{ListFault}
+use Rattle.whole_writes.specs.declared.fault.ListFault.TheVariants as lists
 use Rattle.verdict.specs.Judging.{IsVerdictOn, IsWholeVerdictOn}
 use Rattle.verdict.specs.declared.Verdict.{Verdict}
 use Rattle.verdict.specs.declared.Verdict.TheVariants.{Accepted, Config, Labels, Refused}

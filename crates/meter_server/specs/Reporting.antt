@@ -18,10 +18,10 @@ use Rattle.label_certificate.specs.LabelText.{labels_of_text}
 use Rattle.label_certificate.specs.declared.fault.LabelFault.{LabelFault}
 use Rattle.meter_theory.specs.Labels.{Admits, Labels, Policy, labelling_of_policy}
 use Rattle.meter_theory.specs.Plan.{Plan}
-use Rattle.plan_lists.specs.Listing as lists
-use Rattle.plan_lists.specs.Listing.{WritesText}
-use Rattle.plan_lists.specs.declared.fault.ListFault.{ListFault}
-use Rattle.plan_lists.specs.declared.fault.ListFault.TheVariants as faults
+use Rattle.flow_facts.specs.Map.{AreLeastOf}
+use Rattle.whole_writes.specs.Written.{WritesText}
+use Rattle.whole_writes.specs.declared.fault.ListFault.{ListFault}
+use Rattle.whole_writes.specs.declared.fault.ListFault.TheVariants as faults
 use Rattle.text_files.specs.Files.{MayRead}
 use Rattle.verdict.specs.Judging.{is_accepted}
 use Rattle.verdict.specs.Lines.{verdict_line}
@@ -87,10 +87,6 @@ ReportsOn form path given against P Q labels before after outcome =
     ((verdict : Verdict) × IsVerdictOf P Q labels verdict × (result : Result (Unit {0}) ListFault) × WritesReport form path given against P Q verdict before after result × (outcome ≡ listed result))
     ⊎ (IsUnwrittenForMemory outcome × (after ≡ before))
 
--- the least labels of a plan, one for each of its cells
-abbrev pub AreLeastOf : Plan → Labels → Type 0
-AreLeastOf P labels = lists.AreLeastOf P labels
-
 -- the labels in the file with this path
 abbrev pub AreLabelsIn : MayRead → Plan → List ℕ → Labels → Type 0
 AreLabelsIn reads P path labels = (source : Source) × IsFile reads path source × (labels_of_text P source.text.now ≡ Ok labels)
@@ -101,15 +97,26 @@ FailsLabelsIn reads config P path outcome =
     IsUnread reads path outcome
     ⊎ ((source : Source) × IsFile reads path source × (fault : LabelFault) × label_faults.Fails fault (labels_of_text P source.text.now) × IsJudged config source (verdicts.Labels fault) outcome)
 
--- the labels that are judged: those in a file, where its path is given, and else the least ones
-abbrev pub AreLabelsOf : MayRead → Plan → Option (List ℕ) → Labels → Type 0
-AreLabelsOf reads P None labels = AreLeastOf P labels
-AreLabelsOf reads P (Some path) labels = AreLabelsIn reads P path labels
+-- the labels that are given: those in a file, where its path is
+abbrev pub AreLabelsOf : MayRead → Plan → Option (List ℕ) → (given : Option Labels) → Type 0
+AreLabelsOf reads P None given = given ≡ None
+AreLabelsOf reads P (Some path) given = (labels : Labels) × AreLabelsIn reads P path labels × (given ≡ Some labels)
 
--- they aren't there, and a command tells why
+-- they can't be read, and a command tells that
 abbrev pub FailsLabels : MayRead → Source → Plan → Option (List ℕ) → Outcome → Type 0
-FailsLabels reads config P None outcome = IsUnwrittenForMemory outcome
+FailsLabels reads config P None outcome = ⊥
 FailsLabels reads config P (Some path) outcome = FailsLabelsIn reads config P path outcome
+
+-- the labels that are judged: those that are given, or else the least ones
+abbrev pub AreJudged : Plan → (given : Option Labels) → Labels → Type 0
+AreJudged P None labels = AreLeastOf P labels
+AreJudged P (Some given) labels = labels ≡ given
+
+-- a report is written with the verdict on these; or there was no memory for what is known of the configurations
+abbrev pub ReportsSubject : ReportForm → (path : List ℕ) → Against → Plan → Policy → (given : Option Labels) → (before after : Option (List ℕ)) → Outcome → Type 0
+ReportsSubject form path against P Q given before after outcome =
+    ((labels : Labels) × AreJudged P given labels × ReportsOn form path (is_some given) against P Q labels before after outcome)
+    ⊎ (IsUnwrittenForMemory outcome × (after ≡ before))
 
 -- with what a report is compared: the configuration in a file, where its path is given
 abbrev pub IsAgainst : MayRead → Option (List ℕ) → Against → Type 0
@@ -121,11 +128,11 @@ abbrev pub FailsAgainst : MayRead → Option (List ℕ) → Outcome → Type 0
 FailsAgainst reads None outcome = ⊥
 FailsAgainst reads (Some path) outcome = FailsSide reads sides.Old path outcome
 
--- how the report on a plan and its policy is written with the verdict on labels, compared with the configuration in a file where its path is given
-abbrev pub ReportsAgainst : MayRead → ReportForm → (old : Option (List ℕ)) → (path : List ℕ) → (given : Bool) → (before after : Option (List ℕ)) → Plan → Policy → Labels → Outcome → Type 0
-ReportsAgainst reads form old path given before after P Q labels outcome =
+-- how the report on a plan and its policy is written with these labels, compared with the configuration in a file where its path is given
+abbrev pub ReportsAgainst : MayRead → ReportForm → (old : Option (List ℕ)) → (path : List ℕ) → (before after : Option (List ℕ)) → Plan → Policy → (given : Option Labels) → Outcome → Type 0
+ReportsAgainst reads form old path before after P Q given outcome =
     (FailsAgainst reads old outcome × (after ≡ before))
-    ⊎ ((against : Against) × IsAgainst reads old against × ReportsOn form path given against P Q labels before after outcome)
+    ⊎ ((against : Against) × IsAgainst reads old against × ReportsSubject form path against P Q given before after outcome)
 
 -- the paths of the files beside the configuration that a report is on: those of labels and of an old configuration, where they are given
 pub record Paths : Type 0 where
@@ -139,8 +146,8 @@ paths_of beside = record { labels = option_map (λ path. path.now) beside.labels
 abbrev pub ReportsPlan : MayRead → ReportForm → Paths → (before after : Option (List ℕ)) → Source → Plan → Policy → Outcome → Type 0
 ReportsPlan reads form paths before after config P Q outcome =
     (FailsLabels reads config P paths.labels outcome × (after ≡ before))
-    ⊎ ((labels : Labels) × AreLabelsOf reads P paths.labels labels
-    × ReportsAgainst reads form paths.old config.file.now (is_some paths.labels) before after P Q labels outcome)
+    ⊎ ((given : Option Labels) × AreLabelsOf reads P paths.labels given
+    × ReportsAgainst reads form paths.old config.file.now before after P Q given outcome)
 
 -- how the report on the configuration in a file is written: its fault is told and explained, or the report on its plan and policy is written
 abbrev pub ReportsSource : MayRead → ReportForm → Paths → (before after : Option (List ℕ)) → Source → Outcome → Type 0

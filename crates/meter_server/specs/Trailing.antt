@@ -2,7 +2,7 @@
 use Rattle.std.specs.Prelude.{◌≡◌, ◌⊎◌, Bool, cond, List, [], ℕ, Option, None, Some, option_map, string_bytes, codes}
 use Rattle.std.specs.Io.KnownBytes.{Appends}
 use Rattle.meter_server.specs.Files.{ByFile}
-use Rattle.plan_lists.specs.declared.fault.ListFault.TheVariants as lists
+use Rattle.whole_writes.specs.declared.fault.ListFault.TheVariants as lists
 use Rattle.meter_server.specs.declared.outcome.Outcome.{Outcome}
 use Rattle.meter_server.specs.declared.outcome.Outcome.TheVariants.{Done, Stranger, Unstored, Unwritten}
 use Rattle.step_stores.specs.declared.fault.StoreFault.TheVariants.{Trail}

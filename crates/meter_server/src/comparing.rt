@@ -10,12 +10,14 @@ use crate::texts::Source;
 use config_reader::read_config;
 use config_text::fault::ConfigFault;
 use flow_changes::compare::write_comparison;
+use flow_facts::map::FlowMap;
 use object_model::plan::Plan;
 use object_model::policy::Policy;
 use std::alloc::Global;
 use std::io::Write;
 use text_files::TextFiles;
 use verdict::Verdict;
+use whole_writes::fault::ListFault;
 
 /// Writes how the configuration in a new file differs from that in an old one on the output, and says how that ended.
 pub(crate) fn compare_files<F: TextFiles, O: Write>(
@@ -48,10 +50,27 @@ fn compare_with<F: TextFiles, O: Write>(
 {
     match made_of(alloc, files, Side::New, new) {
         Ok((plan, policy)) => {
-            compared(write_comparison(alloc, old, old_policy, &plan, &policy, output))
+            compared(write_between(alloc, old, old_policy, &plan, &policy, output))
         }
         Err(outcome) => outcome,
     }
+}
+
+/// Writes how a plan and its policy differ from others, and says whether somebody gains.
+fn write_between<O: Write>(
+    alloc: Global,
+    old: &Plan,
+    old_policy: &Policy,
+    new: &Plan,
+    new_policy: &Policy,
+    output: &mut O,
+) -> Result<bool, ListFault>
+    ensures { WritesComparison old.now old_policy.now new.now new_policy.now
+        (O.contents output.old) (O.contents output.new) result }
+{
+    let old = FlowMap::new(alloc, old, old_policy)?;
+    let new = FlowMap::new(alloc, new, new_policy)?;
+    write_comparison(alloc, &old, &new, output)
 }
 
 /// The plan and the policy of the configuration in a file, or how a command ends that needs them.

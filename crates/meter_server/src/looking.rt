@@ -10,13 +10,14 @@ use crate::outcome::{Outcome, listed};
 use crate::texts::{Source, faulty};
 use config_reader::read_config;
 use cosem_data::memory::Memory;
+use flow_facts::map::FlowMap;
 use object_model::plan::Plan;
 use object_model::policy::Policy;
-use plan_lists::fault::ListFault;
 use plan_lists::why::{cell_printed, write_why};
 use shown_text::printable::printable_text;
 use std::alloc::Global;
 use std::io::Write;
+use whole_writes::fault::ListFault;
 
 /// The client and the cell that a command line asks for, as it has them.
 #[derive(Clone, Copy)]
@@ -73,8 +74,26 @@ fn tell_ways_to<O: Write>(
     ensures { TellsWaysTo plan.now policy.now client cell.now
         (O.contents output.old) (O.contents output.new) result }
 {
-    match cell_printed(alloc, plan, cell) {
-        Ok(Some(number)) => listed(write_why(alloc, plan, policy, client, number, output)),
+    match FlowMap::new(alloc, plan, policy) {
+        Ok(map) => tell_ways_on(alloc, &map, client, cell, output),
+        Err(_) => Outcome::Unwritten(ListFault::Memory),
+    }
+}
+
+/// The same of what is known of a configuration.
+fn tell_ways_on<O: Write>(
+    alloc: Global,
+    map: &FlowMap<'_>,
+    client: u8,
+    cell: &str,
+    output: &mut O,
+) -> Outcome
+    requires { client < length map.now.plan.clients }
+    ensures { TellsWaysTo map.now.plan map.now.policy client cell.now
+        (O.contents output.old) (O.contents output.new) result }
+{
+    match cell_printed(alloc, map, cell) {
+        Ok(Some(number)) => listed(write_why(alloc, map, client, number, output)),
         Ok(None) => strange_cell(alloc, cell),
         Err(Memory) => Outcome::Unwritten(ListFault::Memory),
     }

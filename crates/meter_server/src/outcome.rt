@@ -16,13 +16,13 @@ use line_server::fault::LineFault;
 use live_server::bind_fault::BindFault;
 use live_server::fault::ServerFault;
 use meter_live::board::Closed;
-use plan_lists::fault::ListFault;
 use shown_text::printable::printable_text;
 use std::alloc::Global;
 use step_stores::fault::StoreFault;
 use step_words::translating::TranslationFault;
 use text_files::FileFault;
 use verdict::{Verdict, verdict_text};
+use whole_writes::fault::ListFault;
 
 /// What is told where a new configuration gives clients what the old one doesn't.
 const GIVES_MORE: &str =

@@ -2,7 +2,7 @@
 ghost use Rattle.std.specs.Prelude.{◌≡◌, ◌⊎◌, IfOk, map, string_bytes, true};
 ghost use Rattle.command_words.specs.Commands.{command_of};
 ghost use Rattle.meter_server.specs.Answering.{Does, Runs, TellsError, is_quiet};
-ghost use Rattle.plan_lists.specs.Listing.{WritesText};
+ghost use Rattle.whole_writes.specs.Written.{WritesText};
 ghost use Rattle.meter_server.specs.Outcomes.{output_of};
 ghost use Rattle.meter_server.specs.Program.{AreMistaken, AskForHelp, TellsVerdict};
 
@@ -12,7 +12,6 @@ use crate::output::Output;
 use command_words::{WordsFault, read_words};
 use cosem_data::memory::Memory;
 use line_sources::file::Opens;
-use plan_lists::fault::ListFault;
 use std::alloc::Global;
 use std::io::{Read, Write};
 use std::net::{Net, TcpListener, TcpStream};
@@ -23,6 +22,7 @@ use step_keeping::keeper::Keeps;
 use step_keeping::recalling::Recalls;
 use step_stores::stores::Stores;
 use text_files::TextFiles;
+use whole_writes::fault::ListFault;
 use whole_writes::{WriteFailed, write_whole};
 
 /// Does what the words of a command line ask for, the program's name first, and answers the exit status: `demo` and `run CONFIG`

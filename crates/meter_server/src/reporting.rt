@@ -1,8 +1,8 @@
 //! Reports on who may change and who may learn what (own profile).
-ghost use Rattle.std.specs.Prelude.{◌≡◌, IfOk, MatchResult, Some, option_map};
+ghost use Rattle.std.specs.Prelude.{◌≡◌, IfOk, MatchResult, Some, is_some, option_map};
 ghost use Rattle.flow_report.specs.Html.{configuration_of};
 ghost use Rattle.meter_server.specs.Reporting as spec;
-ghost use Rattle.meter_server.specs.Reporting.{AreLabelsOf, FailsLabels, IsHeading, IsReport, IsWithoutEnd, ReportsAgainst, ReportsFile, ReportsOn, ReportsPlan, WritesReport};
+ghost use Rattle.meter_server.specs.Reporting.{AreLabelsOf, FailsLabels, IsHeading, IsReport, IsWithoutEnd, ReportsAgainst, ReportsFile, ReportsOn, ReportsPlan, ReportsSubject, WritesReport};
 ghost use Rattle.command_words.specs.declared.command.ReportForm.TheVariants as forms;
 
 use crate::comparing::made_of;
@@ -12,23 +12,23 @@ use crate::texts::{Source, faulty, judged};
 use command_words::ReportForm;
 use config_reader::read_config;
 use cosem_data::memory::Memory;
-use flow_checker::check::{Refused, check};
+use flow_checker::check::{Refused, verdict_on};
+use flow_facts::map::FlowMap;
 use flow_report::csv_form::csv_text;
-use flow_report::html_form::{Before, html_text};
+use flow_report::html_form::html_text;
 use flow_report::json_form::json_text;
 use flow_view::page::Heading;
 use flow_ways::ways::Ways;
 use label_certificate::labels::Labels;
-use label_certificate::least::make_labels;
 use label_certificate::reading::read_labels;
 use object_model::plan::Plan;
 use object_model::policy::Policy;
-use plan_lists::fault::ListFault;
 use std::alloc::Global;
 use std::io::Write;
 use std::path::Path;
 use text_files::TextFiles;
 use verdict::{Verdict, verdict_text};
+use whole_writes::fault::ListFault;
 use whole_writes::write_whole;
 
 /// The files beside the configuration that a report is on, where they are given.
@@ -40,15 +40,28 @@ pub(crate) struct Beside<'a> {
     pub(crate) old: Option<&'a str>,
 }
 
-/// What is asked of a report, beside the configuration.
+/// What is asked of a report.
 #[derive(Clone, Copy)]
-struct Wanted<'a> {
-    /// Its form.
+struct Asked<'a> {
+    /// The configuration in a file.
+    config: Source<'a>,
+    /// The files beside it.
+    beside: Beside<'a>,
+    /// The form of the report.
     form: ReportForm,
-    /// The path of the configuration's file.
-    path: &'a str,
-    /// Whether labels are given.
-    given_labels: bool,
+}
+
+/// What a report is on.
+#[derive(Drop)]
+struct Subject<'a> {
+    /// What is asked of it.
+    asked: Asked<'a>,
+    /// The plan of the configuration.
+    plan: &'a Plan,
+    /// Its policy.
+    policy: &'a Policy,
+    /// The labels that are judged, where they are given.
+    labels: Option<Labels>,
 }
 
 /// Writes the report on the configuration in a file, with the verdict on the labels in another or on the least ones, and with what has
@@ -65,7 +78,14 @@ pub(crate) fn report_file<F: TextFiles, O: Write>(
         (O.contents output.old) (O.contents output.new) result }
 {
     match text_of_file(alloc, files, config) {
-        Ok(text) => report_source(alloc, files, source_of(config, &text), beside, form, output),
+        Ok(text) => {
+            let asked = Asked {
+                config: source_of(config, &text),
+                beside,
+                form,
+            };
+            report_source(alloc, files, asked, output)
+        }
         Err(outcome) => outcome,
     }
 }
@@ -74,76 +94,58 @@ pub(crate) fn report_file<F: TextFiles, O: Write>(
 fn report_source<F: TextFiles, O: Write>(
     alloc: Global,
     files: &F,
-    config: Source<'_>,
-    beside: Beside<'_>,
-    form: ReportForm,
+    asked: Asked<'_>,
     output: &mut O,
 ) -> Outcome
-    ensures { spec.ReportsSource (F.may_read files.now) form (spec.paths_of beside.entry)
-        (O.contents output.old) (O.contents output.new) config.entry result }
+    ensures { spec.ReportsSource (F.may_read files.now) asked.entry.form (spec.paths_of asked.entry.beside)
+        (O.contents output.old) (O.contents output.new) asked.entry.config result }
 {
-    match read_config(alloc, config.text) {
-        Ok((plan, policy)) => report_plan(
-            alloc, files, config, plan, &policy, beside, form, output,
-        ),
-        Err(fault) => faulty(alloc, config, fault),
+    match read_config(alloc, asked.config.text) {
+        Ok((plan, policy)) => report_plan(alloc, files, asked, &plan, &policy, output),
+        Err(fault) => faulty(alloc, asked.config, fault),
     }
 }
 
-/// Writes the report on a plan and its policy, which a configuration has.
+/// Writes the report on a plan and its policy, which a configuration has: all files are read first.
 fn report_plan<F: TextFiles, O: Write>(
     alloc: Global,
     files: &F,
-    config: Source<'_>,
-    plan: Plan,
+    asked: Asked<'_>,
+    plan: &Plan,
     policy: &Policy,
-    beside: Beside<'_>,
-    form: ReportForm,
     output: &mut O,
 ) -> Outcome
-    ensures { ReportsPlan (F.may_read files.now) form (spec.paths_of beside.entry)
-        (O.contents output.old) (O.contents output.new) config.entry plan policy.now result }
+    ensures { ReportsPlan (F.may_read files.now) asked.entry.form (spec.paths_of asked.entry.beside)
+        (O.contents output.old) (O.contents output.new) asked.entry.config plan.now policy.now result }
 {
-    match labels_for(alloc, files, config, &plan, beside.labels) {
-        Ok(found) => {
-            let wanted = Wanted {
-                form,
-                path: config.file,
-                given_labels: beside.labels.is_some(),
+    match labels_given(alloc, files, asked, plan) {
+        Ok(labels) => {
+            let subject = Subject {
+                asked,
+                plan,
+                policy,
+                labels,
             };
-            report_against(
-                alloc, files, beside.old, plan, policy, &found, wanted, output,
-            )
+            report_against(alloc, files, &subject, output)
         }
         Err(outcome) => outcome,
     }
 }
 
-/// The labels that are judged: those in a file, or the least ones; or how a command ends that hasn't them.
-fn labels_for<F: TextFiles>(
+/// The labels in a file where its path is given, or how a command ends that can't read them.
+fn labels_given<F: TextFiles>(
     alloc: Global,
     files: &F,
-    config: Source<'_>,
+    asked: Asked<'_>,
     plan: &Plan,
-    labels: Option<&str>,
-) -> Result<Labels, Outcome>
+) -> Result<Option<Labels>, Outcome>
     ensures { MatchResult result
-        (AreLabelsOf (F.may_read files.now) plan.now (option_map (λ path. path.now) labels.entry))
-        (FailsLabels (F.may_read files.now) config.entry plan.now (option_map (λ path. path.now) labels.entry)) }
+        (AreLabelsOf (F.may_read files.now) plan.now (option_map (λ path. path.now) asked.entry.beside.labels))
+        (FailsLabels (F.may_read files.now) asked.entry.config plan.now (option_map (λ path. path.now) asked.entry.beside.labels)) }
 {
-    match labels {
-        Some(path) => labels_in(alloc, files, config, plan, path),
-        None => least_labels(alloc, plan),
-    }
-}
-
-/// The least labels of a plan, or how a command ends that had no memory for them.
-fn least_labels(alloc: Global, plan: &Plan) -> Result<Labels, Outcome>
-    ensures { MatchResult result (spec.AreLeastOf plan.now) spec.IsUnwrittenForMemory }
-{
-    match make_labels(alloc, plan) {
-        Ok(labels) => Ok(labels),
-        Err(_) => Err(Outcome::Unwritten(ListFault::Memory)),
+    match asked.beside.labels {
+        Some(path) => Ok(Some(labels_in(alloc, files, asked.config, plan, path)?)),
+        None => Ok(None),
     }
 }
 
@@ -167,105 +169,140 @@ fn labels_in<F: TextFiles>(
     }
 }
 
-/// Writes the report on a plan and its policy, with the verdict on labels, and with what has changed against the configuration in a
-/// file where that is given.
+/// Writes the report, with what has changed against the configuration in a file where that is given.
 fn report_against<F: TextFiles, O: Write>(
     alloc: Global,
     files: &F,
-    old: Option<&str>,
-    plan: Plan,
-    policy: &Policy,
-    labels: &Labels,
-    wanted: Wanted<'_>,
+    subject: &Subject<'_>,
     output: &mut O,
 ) -> Outcome
-    ensures { ReportsAgainst (F.may_read files.now) wanted.entry.form (option_map (λ path. path.now) old.entry) wanted.entry.path.now
-        wanted.entry.given_labels (O.contents output.old) (O.contents output.new) plan policy.now labels.now result }
+    ensures { let asked = subject.now.asked in
+        ReportsAgainst (F.may_read files.now) asked.form (option_map (λ path. path.now) asked.beside.old) asked.config.file.now
+        (O.contents output.old) (O.contents output.new) subject.now.plan.now subject.now.policy.now subject.now.labels result }
 {
-    match old {
-        None => report_on(alloc, plan, policy, labels, None, wanted, output),
-        Some(path) => report_after(alloc, files, path, plan, policy, labels, wanted, output),
+    match subject.asked.beside.old {
+        None => report_beside(alloc, subject, None, output),
+        Some(path) => report_after(alloc, files, subject, path, output),
     }
 }
 
-/// Writes the report on a plan and its policy, with the verdict on labels and with what has changed against the configuration in a file.
+/// Writes the report with what has changed against the configuration in a file.
 fn report_after<F: TextFiles, O: Write>(
     alloc: Global,
     files: &F,
-    old: &str,
-    plan: Plan,
-    policy: &Policy,
-    labels: &Labels,
-    wanted: Wanted<'_>,
+    subject: &Subject<'_>,
+    path: &str,
     output: &mut O,
 ) -> Outcome
-    ensures { ReportsAgainst (F.may_read files.now) wanted.entry.form (Some old.now) wanted.entry.path.now
-        wanted.entry.given_labels (O.contents output.old) (O.contents output.new) plan policy.now labels.now result }
+    ensures { let asked = subject.now.asked in
+        ReportsAgainst (F.may_read files.now) asked.form (Some path.now) asked.config.file.now
+        (O.contents output.old) (O.contents output.new) subject.now.plan.now subject.now.policy.now subject.now.labels result }
 {
-    match made_of(alloc, files, Side::Old, old) {
-        Ok((before, before_policy)) => {
-            let before = Before {
-                plan: &before,
-                policy: &before_policy,
-            };
-            report_on(alloc, plan, policy, labels, Some(before), wanted, output)
-        }
+    match made_of(alloc, files, Side::Old, path) {
+        Ok((plan, policy)) => report_beside(alloc, subject, Some((&plan, &policy)), output),
         Err(outcome) => outcome,
     }
 }
 
-/// Writes the report on a plan and its policy, with the verdict on labels, compared with what was before where that is given.
-fn report_on<O: Write>(
+/// Writes the report, compared with an old configuration where there is one.
+fn report_beside<O: Write>(
     alloc: Global,
-    plan: Plan,
-    policy: &Policy,
-    labels: &Labels,
-    before: Option<Before<'_>>,
-    wanted: Wanted<'_>,
+    subject: &Subject<'_>,
+    old: Option<(&Plan, &Policy)>,
     output: &mut O,
 ) -> Outcome
-    ensures { ReportsOn wanted.entry.form wanted.entry.path.now wanted.entry.given_labels (option_map configuration_of before.entry)
-        plan policy.now labels.now (O.contents output.old) (O.contents output.new) result }
+    ensures { ReportsSubject subject.now.asked.form subject.now.asked.config.file.now
+        (option_map (λ made. (made.0.now, made.1.now)) old.entry) subject.now.plan.now subject.now.policy.now subject.now.labels
+        (O.contents output.old) (O.contents output.new) result }
 {
-    match check(alloc, plan, policy, labels) {
-        Ok(checked) => listed(write_report(
+    match FlowMap::new(alloc, subject.plan, subject.policy) {
+        Ok(map) => report_compared(alloc, subject, &map, old, output),
+        Err(_) => Outcome::Unwritten(ListFault::Memory),
+    }
+}
+
+/// Writes the report on what is known of a configuration, compared with an old one where there is one.
+fn report_compared<O: Write>(
+    alloc: Global,
+    subject: &Subject<'_>,
+    map: &FlowMap<'_>,
+    old: Option<(&Plan, &Policy)>,
+    output: &mut O,
+) -> Outcome
+    ensures { ReportsSubject subject.now.asked.form subject.now.asked.config.file.now
+        (option_map (λ made. (made.0.now, made.1.now)) old.entry) map.now.plan map.now.policy subject.now.labels
+        (O.contents output.old) (O.contents output.new) result }
+{
+    match old {
+        None => report_map(alloc, subject, map, None, output),
+        Some(made) => match FlowMap::new(alloc, made.0, made.1) {
+            Ok(before) => report_map(alloc, subject, map, Some(&before), output),
+            Err(_) => Outcome::Unwritten(ListFault::Memory),
+        },
+    }
+}
+
+/// Writes the report on what is known of a configuration: with the verdict on the labels that are given, or else on the least ones.
+fn report_map<O: Write>(
+    alloc: Global,
+    subject: &Subject<'_>,
+    map: &FlowMap<'_>,
+    before: Option<&FlowMap<'_>>,
+    output: &mut O,
+) -> Outcome
+    ensures { ReportsSubject subject.now.asked.form subject.now.asked.config.file.now
+        (option_map (λ map. configuration_of map.now) before.entry) map.now.plan map.now.policy subject.now.labels
+        (O.contents output.old) (O.contents output.new) result }
+{
+    map.known();
+    match &subject.labels {
+        Some(labels) => report_on(alloc, subject, map, labels, before, output),
+        None => report_on(alloc, subject, map, map.labels(), before, output),
+    }
+}
+
+/// Writes the report with the verdict on labels, compared with what was before where that is given.
+fn report_on<O: Write>(
+    alloc: Global,
+    subject: &Subject<'_>,
+    map: &FlowMap<'_>,
+    labels: &Labels,
+    before: Option<&FlowMap<'_>>,
+    output: &mut O,
+) -> Outcome
+    ensures { ReportsOn subject.now.asked.form subject.now.asked.config.file.now (is_some subject.now.labels)
+        (option_map (λ map. configuration_of map.now) before.entry)
+        map.now.plan map.now.policy labels.now (O.contents output.old) (O.contents output.new) result }
+{
+    match verdict_on(alloc, map, labels) {
+        Ok(()) => listed(write_report(alloc, subject, map, before, &Verdict::Accepted, output)),
+        Err(Refused::Memory) => Outcome::Unwritten(ListFault::Memory),
+        Err(refused) => listed(write_report(
             alloc,
-            checked.plan(),
-            policy,
-            before,
-            &Verdict::Accepted,
-            wanted,
-            output,
-        )),
-        Err((Refused::Memory, _plan)) => Outcome::Unwritten(ListFault::Memory),
-        Err((refused, plan)) => listed(write_report(
-            alloc,
-            &plan,
-            policy,
+            subject,
+            map,
             before,
             &Verdict::Refused(refused),
-            wanted,
             output,
         )),
     }
 }
 
-/// Writes the report on a plan and its policy, with a verdict.
+/// Writes the report with a verdict.
 fn write_report<O: Write>(
     alloc: Global,
-    plan: &Plan,
-    policy: &Policy,
-    before: Option<Before<'_>>,
+    subject: &Subject<'_>,
+    map: &FlowMap<'_>,
+    before: Option<&FlowMap<'_>>,
     verdict: &Verdict,
-    wanted: Wanted<'_>,
     output: &mut O,
 ) -> Result<(), ListFault>
-    ensures { WritesReport wanted.entry.form wanted.entry.path.now wanted.entry.given_labels (option_map configuration_of before.entry)
-        plan.now policy.now verdict.now
+    ensures { WritesReport subject.now.asked.form subject.now.asked.config.file.now (is_some subject.now.labels)
+        (option_map (λ map. configuration_of map.now) before.entry) map.now.plan map.now.policy verdict.now
         (O.contents output.old) (O.contents output.new) result }
 {
-    let ways = Ways::of_many(alloc, plan)?;
-    let text = report_text(alloc, &ways, policy, before, verdict, wanted)?;
+    let ways = Ways::of_many(alloc, map)?;
+    let text = report_text(alloc, subject, &ways, before, verdict)?;
     write_whole(output, &text)?;
     Ok(())
 }
@@ -273,36 +310,39 @@ fn write_report<O: Write>(
 /// The text of a report. The only error is want of memory.
 fn report_text(
     alloc: Global,
+    subject: &Subject<'_>,
     ways: &Ways<'_>,
-    policy: &Policy,
-    before: Option<Before<'_>>,
+    before: Option<&FlowMap<'_>>,
     verdict: &Verdict,
-    wanted: Wanted<'_>,
 ) -> Result<Vec<u8>, Memory>
-    ensures { IfOk result (λ text. IsReport wanted.entry.form wanted.entry.path.now wanted.entry.given_labels
-        (option_map configuration_of before.entry) ways.now policy.now verdict.now text.items) }
+    ensures { IfOk result (λ text. IsReport subject.now.asked.form subject.now.asked.config.file.now (is_some subject.now.labels)
+        (option_map (λ map. configuration_of map.now) before.entry) ways.now.plan ways.now.policy verdict.now text.items) }
 {
-    match wanted.form {
-        ReportForm::Html => html_of(alloc, ways, policy, before, verdict, wanted),
-        ReportForm::Csv => csv_text(alloc, ways, policy),
-        ReportForm::Json => json_of(alloc, ways, policy, verdict),
+    match subject.asked.form {
+        ReportForm::Html => html_of(alloc, subject, ways, before, verdict),
+        ReportForm::Csv => csv_text(alloc, ways),
+        ReportForm::Json => json_of(alloc, ways, verdict),
     }
 }
 
 /// The report as a page. The only error is want of memory.
 fn html_of(
     alloc: Global,
+    subject: &Subject<'_>,
     ways: &Ways<'_>,
-    policy: &Policy,
-    before: Option<Before<'_>>,
+    before: Option<&FlowMap<'_>>,
     verdict: &Verdict,
-    wanted: Wanted<'_>,
 ) -> Result<Vec<u8>, Memory>
-    ensures { IfOk result (λ text. IsReport forms.Html wanted.entry.path.now wanted.entry.given_labels
-        (option_map configuration_of before.entry) ways.now policy.now verdict.now text.items) }
+    ensures { IfOk result (λ text. IsReport forms.Html subject.now.asked.config.file.now (is_some subject.now.labels)
+        (option_map (λ map. configuration_of map.now) before.entry) ways.now.plan ways.now.policy verdict.now text.items) }
 {
-    let heading = heading_of(alloc, verdict, wanted.path, wanted.given_labels)?;
-    let text = html_text(alloc, ways, policy, before, heading)?;
+    let heading = heading_of(
+        alloc,
+        verdict,
+        subject.asked.config.file,
+        subject.labels.is_some(),
+    )?;
+    let text = html_text(alloc, ways, before, heading)?;
     Ok(text.into_bytes())
 }
 
@@ -335,16 +375,11 @@ fn name_of(path: &str) -> &str
 }
 
 /// The report as JSON. The only error is want of memory.
-fn json_of(
-    alloc: Global,
-    ways: &Ways<'_>,
-    policy: &Policy,
-    verdict: &Verdict,
-) -> Result<Vec<u8>, Memory>
-    ensures { IfOk result (λ text. spec.IsJsonReport ways.now policy.now verdict.now text.items) }
+fn json_of(alloc: Global, ways: &Ways<'_>, verdict: &Verdict) -> Result<Vec<u8>, Memory>
+    ensures { IfOk result (λ text. spec.IsJsonReport ways.now.plan ways.now.policy verdict.now text.items) }
 {
     let line = verdict_text(alloc, verdict)?;
-    json_text(alloc, ways, policy, without_end(line.as_str()))
+    json_text(alloc, ways, without_end(line.as_str()))
 }
 
 /// A line without the newline at its end.

@@ -3,7 +3,8 @@
 ghost use Rattle.std.specs.Prelude.{◌≡◌, IfErr, IfOk, Some, option_map, string_bytes};
 ghost use Rattle.config_reader.specs.ConfigOf.{config_of};
 ghost use Rattle.line_server.specs.Running.{RunsLines};
-ghost use Rattle.plan_lists.specs.Listing.{WritesText};
+ghost use Rattle.whole_writes.specs.Written.{WritesText};
+ghost use Rattle.plan_lists.specs.Listing.{WritesLeast};
 ghost use Rattle.verdict.specs.Judging.{IsVerdictOn};
 ghost use Rattle.verdict.specs.declared.Verdict.TheVariants.{Accepted};
 ghost use Rattle.meter_server.specs.Program.{AnswersFrames, AnswersText, AnswersTrail, ExplainsVerdict, IsFaulty, IsJudged, IsJudgedWhole, ListsEdges, RefusesOn, edges_in};
@@ -20,6 +21,7 @@ use config_text::fault::ConfigFault;
 use explanations::labels::explain_labels;
 use explanations::refusal::explain_refusal;
 use flow_checker::check::Checked;
+use flow_facts::map::FlowMap;
 use frame_server::alone::serve_alone;
 use line_server::fault::LineFault;
 use line_server::running::run_lines;
@@ -27,13 +29,13 @@ use line_words::watching::{Watched, run_watched};
 use object_model::plan::Plan;
 use object_model::policy::Policy;
 use plan_lists::edges::{write_dot, write_edges};
-use plan_lists::fault::ListFault;
 use plan_lists::labels::write_least_labels;
 use std::alloc::Global;
 use std::io::{Read, Write};
 use trail_lines::running::run_trail;
 use verdict::Verdict;
 use verdict::judging::{WholeVerdict, accepted, accepted_or_whole};
+use whole_writes::fault::ListFault;
 
 /// A file by its path, with its text.
 #[derive(Clone, Copy)]
@@ -146,7 +148,7 @@ pub(crate) fn list_edges<O: Write>(
         (config_of config.entry.text.now) (O.contents output.old) (O.contents output.new) result }
 {
     match read_config(alloc, config.text) {
-        Ok((plan, _policy)) => listed(write_in_form(alloc, &plan, form, output)),
+        Ok((plan, policy)) => listed(write_in_form(alloc, &plan, &policy, form, output)),
         Err(fault) => faulty(alloc, config, fault),
     }
 }
@@ -155,14 +157,28 @@ pub(crate) fn list_edges<O: Write>(
 fn write_in_form<O: Write>(
     alloc: Global,
     plan: &Plan,
+    policy: &Policy,
     form: EdgesForm,
     output: &mut O,
 ) -> Result<(), ListFault>
     ensures { WritesText (edges_in form plan.now) (O.contents output.old) (O.contents output.new) result }
 {
+    let map = FlowMap::new(alloc, plan, policy)?;
+    write_edges_in(alloc, &map, form, output)
+}
+
+/// Writes the edges that are known of a configuration in a form.
+fn write_edges_in<O: Write>(
+    alloc: Global,
+    map: &FlowMap<'_>,
+    form: EdgesForm,
+    output: &mut O,
+) -> Result<(), ListFault>
+    ensures { WritesText (edges_in form map.now.plan) (O.contents output.old) (O.contents output.new) result }
+{
     match form {
-        EdgesForm::Text => write_edges(alloc, plan, output),
-        EdgesForm::Dot => write_dot(alloc, plan, output),
+        EdgesForm::Text => write_edges(alloc, map, output),
+        EdgesForm::Dot => write_dot(alloc, map, output),
     }
 }
 
@@ -195,7 +211,7 @@ fn list_labels_of<'x, O: Write>(
     ensures { ListsLabelsOf warned config.entry
         plan.now policy.now (O.contents output.old) (O.contents output.new) result }
 {
-    match write_least_labels(alloc, plan, output) {
+    match write_least(alloc, plan, policy, output) {
         Ok(()) => {
             let of = Warning {
                 config,
@@ -207,6 +223,19 @@ fn list_labels_of<'x, O: Write>(
         }
         Err(fault) => Outcome::Unwritten(fault),
     }
+}
+
+/// Writes the least labels of a plan.
+fn write_least<O: Write>(
+    alloc: Global,
+    plan: &Plan,
+    policy: &Policy,
+    output: &mut O,
+) -> Result<(), ListFault>
+    ensures { WritesLeast plan.now (O.contents output.old) (O.contents output.new) result }
+{
+    let map = FlowMap::new(alloc, plan, policy)?;
+    write_least_labels(alloc, &map, output)
 }
 
 /// What explains a verdict on the configuration in a file and the labels in another; nothing where they are accepted (own profile).

@@ -4,7 +4,6 @@ ghost use Rattle.meter_server.specs.Trailing.{IsNoMoment, IsWanted, PrintsText, 
 
 use crate::files::text_of_file;
 use crate::outcome::Outcome;
-use plan_lists::fault::ListFault;
 use std::alloc::Global;
 use std::io::Write;
 use step_stores::fault::StoreFault;
@@ -15,6 +14,7 @@ use trail_words::form::TrailForm;
 use trail_words::wanted::Wanted;
 use trail_words::writing::write_trail;
 use utc_moment::moment::UtcMoment;
+use whole_writes::fault::ListFault;
 
 /// What the words of a command line want to see of a trail, and how.
 #[derive(Clone, Copy)]

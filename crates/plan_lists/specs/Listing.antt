@@ -1,19 +1,21 @@
 -- What is printed of edges and of labels, and how such a list is written. All of it is own profile.
-use Rattle.std.specs.Prelude.{◌≡◌, ◌<◌, ℕ, List, [], ◌∷◌, ◌++◌, codes, flat_map, get_or, length, map, Option, Result, Ok, Err, IfSome, slice_get}
+use Rattle.std.specs.Prelude.{ℕ, List, [], ◌∷◌, ◌++◌, codes, flat_map, get_or, Option, Result, Err, IfSome, slice_get}
 use Rattle.std.specs.Io.KnownBytes.{Appends}
 use Rattle.cosem_data.specs.declared.cell.CellRef.{CellRef}
-use Rattle.meter_theory.specs.Labels.{Labels, AreLeast, Policy}
+use Rattle.meter_theory.specs.Labels.{Labels, Policy}
 use Rattle.meter_theory.specs.Plan.{Plan, cells}
 use Rattle.meter_theory.specs.declared.flow.Edge.{Edge}
 use Rattle.value_text.specs.Texts.{cell_text}
 use Rattle.value_text.specs.Edges.{cause_word, edge_text}
 use Rattle.flow_edges.specs.Table.{cell_at}
+use Rattle.flow_facts.specs.Map.{AreLeastOf}
 use Rattle.flow_edges.specs.declared.table.Link.{Link}
 use Rattle.flow_ways.specs.Why.{IsWhy}
 use Rattle.label_certificate.specs.LabelText.{text_of_labels}
 use Rattle.plan_lists.specs.declared.edges.Form.{Form}
-use Rattle.plan_lists.specs.declared.fault.ListFault.{ListFault}
-use Rattle.plan_lists.specs.declared.fault.ListFault.TheVariants as faults
+use Rattle.whole_writes.specs.Written.{WritesText}
+use Rattle.whole_writes.specs.declared.fault.ListFault.{ListFault}
+use Rattle.whole_writes.specs.declared.fault.ListFault.TheVariants as faults
 
 -- Edges
 
@@ -54,29 +56,7 @@ list_text form sources targets links = form.head.now ++ (links_text form sources
 abbrev pub form_text : Form → List Edge → List ℕ
 form_text form edges = form.head.now ++ (flat_map (λ e. form_line form (cell_text e.source) (cell_text e.target) (cause_word e.cause)) edges ++ form.foot.now)
 
--- Labels
-
--- the least labels of a plan, a line for each of its cells (own profile)
-pub record AreLeastOf (P : Plan) (labels : Labels) : Type 0 where
-  pub least : AreLeast P labels
-  pub cells_are : map (λ entry. entry.0) labels ≡ cells P
-
 -- A list that is written
-
--- what told a fault (own profile)
-abbrev pub fault_words : ListFault → List ℕ
-fault_words faults.Write = codes "the output can't be written"
-fault_words faults.Memory = codes "out of memory"
-
--- what a fault leaves of a text: of a write that failed, something (own profile)
-abbrev pub Leaves : ListFault → List ℕ → Type 0
-Leaves faults.Write left = 0 < length left
-Leaves faults.Memory left = Unit {0}
-
--- a text was written, or a beginning of it, behind which a fault stopped it (own profile)
-abbrev pub WritesText : List ℕ → (before after : Option (List ℕ)) → Result (Unit {0}) ListFault → Type 0
-WritesText text before after (Ok u) = Appends before after text
-WritesText text before after (Err fault) = (front : List ℕ) × (left : List ℕ) × (text ≡ front ++ left) × Appends before after front × Leaves fault left
 
 -- the least labels of a plan were written, or a beginning of their text; they are made before the first byte is written (own profile)
 abbrev pub WritesLeast : Plan → (before after : Option (List ℕ)) → Result (Unit {0}) ListFault → Type 0

@@ -2,18 +2,18 @@
 ghost use Rattle.std.specs.Prelude.{◌≡◌, ◌++◌, ◌<◌, IfOk, OnOk, length, map};
 ghost use Rattle.meter_theory.specs.Edges.{edges};
 ghost use Rattle.label_certificate.specs.Least.{AreLinks};
-ghost use Rattle.plan_lists.specs.Listing.{WritesText, cell_within, dot_text, edges_text, form_text, link_text, list_text};
+ghost use Rattle.whole_writes.specs.Written.{WritesText};
+ghost use Rattle.plan_lists.specs.Listing.{cell_within, dot_text, edges_text, form_text, link_text, list_text};
 
-use crate::fault::ListFault;
 use cosem_data::cell::CellRef;
 use cosem_data::memory::Memory;
-use flow_edges::edges::edge_table;
 use flow_edges::table::Link;
-use object_model::plan::Plan;
+use flow_facts::map::FlowMap;
 use std::alloc::Global;
 use std::io::Write;
 use value_text::cell::push_cell;
 use value_text::edge::word_of;
+use whole_writes::fault::ListFault;
 use whole_writes::{write_full, write_waiting};
 
 /// A form in which edges are listed: what stands around all of them, and in each line around its two cells and its cause.
@@ -32,8 +32,12 @@ struct Form<'a> {
 ///
 /// # Errors
 /// Memory was refused or a write failed, and then a beginning of the list was written.
-pub fn write_edges<W: Write>(alloc: Global, plan: &Plan, writer: &mut W) -> Result<(), ListFault>
-    ensures { WritesText (edges_text (edges plan.now))
+pub fn write_edges<W: Write>(
+    alloc: Global,
+    map: &FlowMap<'_>,
+    writer: &mut W,
+) -> Result<(), ListFault>
+    ensures { WritesText (edges_text (edges map.now.plan))
         (W.contents writer.old) (W.contents writer.new) result }
 {
     let form = Form {
@@ -44,7 +48,7 @@ pub fn write_edges<W: Write>(alloc: Global, plan: &Plan, writer: &mut W) -> Resu
         end: "\n",
         foot: "",
     };
-    write_list(alloc, plan, &form, writer)
+    write_list(alloc, map, &form, writer)
 }
 
 /// Writes the edges of a plan as a graph that Graphviz reads, each in a line of its own (own profile): a node for each cell that an
@@ -52,8 +56,12 @@ pub fn write_edges<W: Write>(alloc: Global, plan: &Plan, writer: &mut W) -> Resu
 ///
 /// # Errors
 /// Memory was refused or a write failed, and then a beginning of the graph was written.
-pub fn write_dot<W: Write>(alloc: Global, plan: &Plan, writer: &mut W) -> Result<(), ListFault>
-    ensures { WritesText (dot_text (edges plan.now))
+pub fn write_dot<W: Write>(
+    alloc: Global,
+    map: &FlowMap<'_>,
+    writer: &mut W,
+) -> Result<(), ListFault>
+    ensures { WritesText (dot_text (edges map.now.plan))
         (W.contents writer.old) (W.contents writer.new) result }
 {
     let form = Form {
@@ -64,23 +72,22 @@ pub fn write_dot<W: Write>(alloc: Global, plan: &Plan, writer: &mut W) -> Result
         end: "\"];\n",
         foot: "}\n",
     };
-    write_list(alloc, plan, &form, writer)
+    write_list(alloc, map, &form, writer)
 }
 
 /// Writes the edges of a plan in a form.
 fn write_list<W: Write>(
     alloc: Global,
-    plan: &Plan,
+    map: &FlowMap<'_>,
     form: &Form<'_>,
     writer: &mut W,
 ) -> Result<(), ListFault>
-    ensures { WritesText (form_text form.now (edges plan.now))
+    ensures { WritesText (form_text form.now (edges map.now.plan))
         (W.contents writer.old) (W.contents writer.new) result }
 {
-    let table = edge_table(alloc, plan)?;
-    let sources = cell_texts(alloc, table.cells(), form.start, form.between)?;
-    let targets = cell_texts(alloc, table.cells(), "", form.label)?;
-    write_links(alloc, form, &sources, &targets, table.links(), writer)
+    let sources = cell_texts(alloc, map.cells(), form.start, form.between)?;
+    let targets = cell_texts(alloc, map.cells(), "", form.label)?;
+    write_links(alloc, form, &sources, &targets, map.links(), writer)
 }
 
 /// The texts of these cells, each with what stands before and behind it in a line: so a line is put together from fewer pieces.

@@ -1,12 +1,11 @@
 //! The list of a plan's least labels.
 ghost use Rattle.plan_lists.specs.Listing.{WritesLeast};
 
-use crate::fault::ListFault;
-use label_certificate::least::make_labels;
+use flow_facts::map::FlowMap;
 use label_certificate::writing::write_labels;
-use object_model::plan::Plan;
 use std::alloc::Global;
 use std::io::Write;
+use whole_writes::fault::ListFault;
 use whole_writes::write_whole;
 
 /// Writes the least labels of a plan, a line for each of its cells in plan order (own profile), in the form in which labels
@@ -16,13 +15,13 @@ use whole_writes::write_whole;
 /// Memory was refused, and nothing was written; or a write failed, and a beginning of the list was written.
 pub fn write_least_labels<W: Write>(
     alloc: Global,
-    plan: &Plan,
+    map: &FlowMap<'_>,
     writer: &mut W,
 ) -> Result<(), ListFault>
-    ensures { WritesLeast plan.now (W.contents writer.old) (W.contents writer.new) result }
+    ensures { WritesLeast map.now.plan (W.contents writer.old) (W.contents writer.new) result }
 {
-    let labels = make_labels(alloc, plan)?;
-    let text = write_labels(alloc, plan, &labels)?;
+    map.known();
+    let text = write_labels(alloc, map.plan(), map.labels())?;
     write_whole(writer, &text)?;
     Ok(())
 }

@@ -6,6 +6,5 @@
 #![tactic(auto)]
 
 pub mod edges;
-pub mod fault;
 pub mod labels;
 pub mod why;

@@ -6,16 +6,15 @@ ghost use Rattle.meter_theory.specs.Plan as plans;
 ghost use Rattle.value_text.specs.Texts.{cell_text};
 ghost use Rattle.plan_lists.specs.Listing.{WritesWhy};
 
-use crate::fault::ListFault;
 use cosem_data::cell::CellRef;
 use cosem_data::memory::Memory;
+use flow_facts::map::FlowMap;
 use flow_ways::ways::Ways;
 use flow_ways::why::why_text;
-use object_model::plan::Plan;
-use object_model::policy::Policy;
 use std::alloc::Global;
 use std::io::Write;
 use value_text::cell::push_cell;
+use whole_writes::fault::ListFault;
 use whole_writes::write_whole;
 
 /// Writes what is told of a client and a cell of a plan, by their numbers: for influence and for learn how far the shortest ways lead
@@ -25,29 +24,27 @@ use whole_writes::write_whole;
 /// Memory was refused, and nothing was written; or a write failed, and a beginning was written.
 pub fn write_why<W: Write>(
     alloc: Global,
-    plan: &Plan,
-    policy: &Policy,
+    map: &FlowMap<'_>,
     client: u8,
     cell: usize,
     writer: &mut W,
 ) -> Result<(), ListFault>
-    requires client { client < length plan.now.clients }
-    requires cell { cell < length (plans.cells plan.now) }
-    ensures { WritesWhy plan.now policy.now client cell (W.contents writer.old) (W.contents writer.new) result }
+    requires client { client < length map.now.plan.clients }
+    requires cell { cell < length (plans.cells map.now.plan) }
+    ensures { WritesWhy map.now.plan map.now.policy client cell (W.contents writer.old) (W.contents writer.new) result }
 {
-    let ways = Ways::new(alloc, plan)?;
-    let text = why_text(alloc, &ways, policy, client, cell)?;
+    let ways = Ways::new(alloc, map)?;
+    let text = why_text(alloc, &ways, client, cell)?;
     write_whole(writer, &text)?;
     Ok(())
 }
 
 /// The number of the cell that is printed so, in plan order, or None where no cell of the plan is. The only error is want of memory.
-pub fn cell_printed(alloc: Global, plan: &Plan, text: &str) -> Result<Option<usize>, Memory>
+pub fn cell_printed(alloc: Global, map: &FlowMap<'_>, text: &str) -> Result<Option<usize>, Memory>
     ensures { IfOk result (λ found. found
-        ≡ position_from (λ x. bytes_eq (cell_text x) text.now) 0 (plans.cells plan.now)) }
+        ≡ position_from (λ x. bytes_eq (cell_text x) text.now) 0 (plans.cells map.now.plan)) }
 {
-    let cells = plan.cells(alloc)?;
-    for (number, cell) in cells.iter().enumerate() {
+    for (number, cell) in map.cells().iter().enumerate() {
         if is_printed(alloc, cell, text)? {
             return Ok(Some(number));
         }

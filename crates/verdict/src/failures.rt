@@ -16,6 +16,7 @@ use cosem_data::clients::ClientSet;
 use cosem_data::memory::Memory;
 use flow_checker::failure::Failure;
 use flow_checker::failures::all_failures;
+use flow_facts::map::FlowMap;
 use label_certificate::labels::Labels;
 use meter_theory::flow::Edge;
 use object_model::plan::Plan;
@@ -35,7 +36,8 @@ pub fn failures_told(
     ensures { IfOk result (λ text. string_bytes text ≡ failure_lines plan.now
         (failures plan.now (labelling_of_policy plan.now policy.now) labels.now)) }
 {
-    let failures = all_failures(alloc, plan, policy, labels)?;
+    let map = FlowMap::new(alloc, plan, policy)?;
+    let failures = all_failures(alloc, &map, labels)?;
     lines_of(alloc, plan, &failures)
 }
 

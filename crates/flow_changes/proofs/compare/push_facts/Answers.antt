@@ -2,14 +2,13 @@ use Rattle.std.proofs.Common.{◌++◌, ◌∙◌, ap, append_assoc, filter, fla
 use Rattle.flow_changes.specs.Changes.{lacks}
 use Rattle.flow_changes.specs.Facts.{common_facts, numbered, own_facts}
 use Rattle.flow_changes.specs.Shown.{shown}
-use Rattle.flow_changes.specs.Sides.{configuration_of}
 use Rattle.flow_changes.proofs.Gains.{gained-facts}
 use Rattle.flow_changes.proofs.compare.push_facts.Goals as goal
 
 pub returns-clause-facts : goal.returns-clause-facts
 returns-clause-facts c =
-    let C = configuration_of c.args.mine.now in
-    let D = configuration_of c.args.theirs.now in
+    let C = c.args.mine.now in
+    let D = c.args.theirs.now in
     let kind = c.args.kind in
     let before = map shown c.args.facts.now.items in
     let own = filter (lacks D C kind) (flat_map (own_facts C D kind) (numbered C.plan)) in

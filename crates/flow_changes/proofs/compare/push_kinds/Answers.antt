@@ -1,17 +1,17 @@
 use Rattle.std.proofs.Common.{◌++◌, ◌∙◌, ap, ap₂, get_or, map, refl}
 use Rattle.std.specs.Prelude.{◌||◌}
 use Rattle.std.proofs.lemmas.List.{take_all}
-use Rattle.flow_changes.specs.Changes.{all_kinds, gained}
+use Rattle.flow_changes.specs.Changes.{gained}
+use Rattle.flow_map.specs.Kinds.{all_kinds}
 use Rattle.flow_changes.specs.Shown.{kind_shown, shown}
-use Rattle.flow_changes.specs.Sides.{configuration_of}
-use Rattle.flow_changes.specs.declared.kind.Kind.TheVariants as kinds
+use Rattle.flow_map.specs.declared.kind.Kind.TheVariants as kinds
 use Rattle.flow_changes.proofs.Gains.{gains-all, gains-more, gains_by, kind-more}
 use Rattle.flow_changes.proofs.compare.push_kinds.Goals as goal
 
 pub loop-kind-preserved : goal.loop-kind-preserved
 loop-kind-preserved c =
-    let C = configuration_of c.args.old.now in
-    let D = configuration_of c.args.new.now in
+    let C = c.args.old.now in
+    let D = c.args.new.now in
     let i = c.loop-kind.kind-index in
     let kind = get_or all_kinds i kinds.May in (
       kind-more C D all_kinds i kinds.May (map kind_shown c.args.kinds.now.items) c.loop-kind.kinds.items c.push.new.self.items _ c.loop-kind-test.true c.loop-kind.invariant.0
@@ -25,6 +25,6 @@ loop-kind-preserved c =
 
 pub returns-clause-clients : goal.returns-clause-clients
 returns-clause-clients c = λ k client there.
-    let C = configuration_of c.args.old.now in
-    let D = configuration_of c.args.new.now in
+    let C = c.args.old.now in
+    let D = c.args.new.now in
     c.loop-kind.invariant.1 k client there ∙ ap (λ ks. gains_by C D ks (k, client)) (take_all c.loop-kind.kind-index all_kinds c.loop-kind-test.false) ∙ gains-all C D (k, client)

@@ -1,9 +1,9 @@
-use Rattle.std.proofs.Common.{◌∙◌, ◌++◌, ◌∷◌, [], ap, subst, sym, take}
+use Rattle.std.proofs.Common.{◌∙◌, ◌++◌, ◌∷◌, [], ap, ap₂, map, subst, sym, take}
 use Rattle.std.specs.List.{AllZip}
 use Rattle.std.proofs.lemmas.List.{take_all, take_more}
 use Rattle.std.proofs.lemmas.Slice.Zip.{all_zipped_more}
+use Rattle.meter_theory.specs.Plan.{client_named}
 use Rattle.flow_changes.specs.Differences.{IsChanged}
-use Rattle.flow_changes.specs.Sides.{configuration_of}
 use Rattle.flow_changes.proofs.ReachDifferences.{all-changes}
 use Rattle.flow_changes.proofs.differences.reach_changes.Goals as goal
 
@@ -21,6 +21,6 @@ pub returns : goal.returns
 returns c =
     let pairs = c.deref-pair-items.result.now in
     let R = IsChanged c.args.change c.in_ok-others.others.items in
-    all-changes c.args.change (configuration_of c.args.old.now) (configuration_of c.args.new.now) c.requires.new.sound pairs c.in_ok-others.others.items c.loop-pair.labels.items
-    (c.deref-pair-items.ensures.value ∙ c.in_ok-pairs.ensures) c.in_ok-others.ensures
+    all-changes c.args.change (c.args.old.now) (c.args.new.now) c.known.ensures.sound pairs c.in_ok-others.others.items c.loop-pair.labels.items
+    (c.deref-pair-items.ensures.value ∙ c.in_ok-pairs.ensures) (c.in_ok-others.ensures ∙ ap₂ (λ P Q. map (λ client. client_named Q client.name) P.clients) c.plan.ensures c.plan-2.ensures)
     (subst (λ ps. AllZip R ps c.loop-pair.labels.items) (take_all c.loop-pair.pair-index pairs c.loop-pair-test.false) c.loop-pair.invariant)

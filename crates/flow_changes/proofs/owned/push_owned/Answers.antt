@@ -5,7 +5,6 @@ use Rattle.std.proofs.lemmas.Option.{slice_get_within}
 use Rattle.flow_changes.specs.Changes.{lacks}
 use Rattle.flow_changes.specs.Facts.{Numbered, numbered, own_facts}
 use Rattle.flow_changes.specs.Shown.{shown}
-use Rattle.flow_changes.specs.Sides.{configuration_of}
 use Rattle.flow_changes.proofs.Gains.{AreOwners, all-own, all-told, grows, lacked_of, no-owners, owner-in, owner-out}
 use Rattle.flow_changes.proofs.Named.{client-end, client-more}
 use Rattle.flow_changes.proofs.owned.push_owned.Goals as goal
@@ -13,13 +12,13 @@ use Rattle.flow_changes.proofs.owned.push_owned.Goals.{then-before-len, else-bef
 
 pub loop-client-preserved : goal.loop-client-preserved
 loop-client-preserved c =
-    let C = configuration_of c.args.mine.now in
-    let D = configuration_of c.args.theirs.now in
+    let C = c.args.mine.now in
+    let D = c.args.theirs.now in
     let place = c.loop-client.place in
     let client = c.in-Some.client.now in
     let p : Numbered → Bool = λ n. list_any (lacks D C c.args.kind) (own_facts C D c.args.kind n) in
     let f = lacked_of C D c.args.kind in
-    let there : slice_get C.plan.clients place ≡ Some client = sym c.client.ensures ∙ ap (option_map (λ x. x.now)) c.in-Some.is in
+    let there : slice_get C.plan.clients place ≡ Some client = sym (ap (λ P. slice_get P.clients c.loop-client.place) c.plan-plan.ensures) ∙ sym c.client.ensures ∙ ap (option_map (λ x. x.now)) c.in-Some.is in
     let before = map shown c.loop-client.facts.items in
     let after = map shown c.push_own.new.facts.items in
     let grown = grows (lacks D C c.args.kind) (own_facts C D c.args.kind (place, client)) c.loop-client.facts c.push_own.new.facts c.in_ok-push_own.ensures in (
@@ -36,35 +35,35 @@ loop-client-preserved c =
 
 pub returns-clause-facts : goal.returns-clause-facts
 returns-clause-facts c =
-    let C = configuration_of c.args.mine.now in
-    let D = configuration_of c.args.theirs.now in
+    let C = c.args.mine.now in
+    let D = c.args.theirs.now in
     let place = c.loop-client.place in
     let f = lacked_of C D c.args.kind in
     let before = map shown c.args.facts.now.items in
-    let none : slice_get C.plan.clients place ≡ None = sym c.client.ensures ∙ ap (option_map (λ x. x.now)) c.in_default.is in
+    let none : slice_get C.plan.clients place ≡ None = sym (ap (λ P. slice_get P.clients c.loop-client.place) c.plan-plan.ensures) ∙ sym c.client.ensures ∙ ap (option_map (λ x. x.now)) c.in_default.is in
     client-end C.plan f place (map shown c.loop-client.facts.items) (before ++ flat_map f (numbered C.plan)) none c.loop-client.invariant.0 ∙ ap (λ t. before ++ t) (all-own C D c.args.kind)
 
 pub returns-clause-clients : goal.returns-clause-clients
 returns-clause-clients c =
-    let C = configuration_of c.args.mine.now in
-    let D = configuration_of c.args.theirs.now in
+    let C = c.args.mine.now in
+    let D = c.args.theirs.now in
     let place = c.loop-client.place in
     let p : Numbered → Bool = λ n. list_any (lacks D C c.args.kind) (own_facts C D c.args.kind n) in
-    let none : slice_get C.plan.clients place ≡ None = sym c.client.ensures ∙ ap (option_map (λ x. x.now)) c.in_default.is in
+    let none : slice_get C.plan.clients place ≡ None = sym (ap (λ P. slice_get P.clients c.loop-client.place) c.plan-plan.ensures) ∙ sym c.client.ensures ∙ ap (option_map (λ x. x.now)) c.in_default.is in
     all-told C.plan p place c.loop-client.owners c.loop-client.invariant.1 none
 
 pub loop-client-init : goal.loop-client-init
 loop-client-init c =
-    let C = configuration_of c.args.mine.now in
-    let D = configuration_of c.args.theirs.now in
+    let C = c.args.mine.now in
+    let D = c.args.theirs.now in
     (refl, no-owners C.plan (λ n. list_any (lacks D C c.args.kind) (own_facts C D c.args.kind n)) c.new-owners.result c.new-owners.ensures)
 
 pub loop-client-smaller : goal.loop-client-smaller
 loop-client-smaller c =
-    let there : slice_get c.args.mine.now.plan.now.clients c.loop-client.place ≡ Some c.in-Some.client.now = sym c.client.ensures ∙ ap (option_map (λ x. x.now)) c.in-Some.is in
-    omega (arith, slice_get_within c.args.mine.now.plan.now.clients c.loop-client.place c.in-Some.client.now there)
+    let there : slice_get c.args.mine.now.plan.clients c.loop-client.place ≡ Some c.in-Some.client.now = sym (ap (λ P. slice_get P.clients c.loop-client.place) c.plan-plan.ensures) ∙ sym c.client.ensures ∙ ap (option_map (λ x. x.now)) c.in-Some.is in
+    omega (arith, slice_get_within c.args.mine.now.plan.clients c.loop-client.place c.in-Some.client.now there)
 
 pub overflow_add-place : goal.overflow_add-place
 overflow_add-place c =
-    let there : slice_get c.args.mine.now.plan.now.clients c.loop-client.place ≡ Some c.in-Some.client.now = sym c.client.ensures ∙ ap (option_map (λ x. x.now)) c.in-Some.is in
-    omega (arith, slice_get_within c.args.mine.now.plan.now.clients c.loop-client.place c.in-Some.client.now there, c.requires.mine.sound.few_clients)
+    let there : slice_get c.args.mine.now.plan.clients c.loop-client.place ≡ Some c.in-Some.client.now = sym (ap (λ P. slice_get P.clients c.loop-client.place) c.plan-plan.ensures) ∙ sym c.client.ensures ∙ ap (option_map (λ x. x.now)) c.in-Some.is in
+    omega (arith, slice_get_within c.args.mine.now.plan.clients c.loop-client.place c.in-Some.client.now there, c.known.ensures.sound.few_clients)

@@ -6,5 +6,5 @@ use Rattle.flow_drawing.proofs.boxes.boxes_told.Goals as goal
 
 pub box_told-requires : goal.box_told-requires
 box_told-requires c =
-    let count = length (cells c.args.ways.now) in
+    let count = length (cells c.args.ways.now.plan) in
     subst (IsBox count) (sym c.deref.ensures.value) (box-there count c.args.boxes.now c.loop-cells.cells-index c.cells-item.result c.requires c.loop-cells-test.true c.cells-item.is)

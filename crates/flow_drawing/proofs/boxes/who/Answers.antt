@@ -8,7 +8,7 @@ use Rattle.flow_drawing.proofs.boxes.who.Goals as goal
 
 pub returns : goal.returns
 returns c =
-    let P = c.args.ways.now in
+    let P = c.args.ways.now.plan in
     let sound = subst IsSound c.plan.ensures c.known.ensures.sound in
     members-so-far (λ k. list_any (has_cell P c.args.by c.args.reach k) c.args.cells.now) c.loop-client.client (length P.clients) c.loop-client.clients sound.few_clients
     (omega (arith, c.loop-client-test.false, c.loop-client.auto.client-end, c.client_count-client-end.ensures, ap (λ (Q : Plan). length Q.clients) c.plan-2.ensures)) c.loop-client.invariant

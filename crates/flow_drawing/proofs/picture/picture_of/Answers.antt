@@ -7,6 +7,6 @@ use Rattle.flow_drawing.proofs.picture.picture_of.Goals as goal
 
 pub picture_from-requires : goal.picture_from-requires
 picture_from-requires c =
-    let P = c.args.ways.now in
+    let P = c.args.ways.now.plan in
     let is = ap (map (λ cells. cells.items)) c.deref.ensures.value ∙ c.in_ok-boxes.ensures in
     subst (All (IsBox (length (cells P)))) (sym is) (drawn-are P c.links-links.result.now (map (λ group. group.items) c.args.groups.now))

@@ -1,6 +1,6 @@
 use Rattle.std.proofs.Common.{◌≡◌, flat_map, map}
 use Rattle.std.specs.List.{range_with_len}
-use Rattle.flow_picture.specs.BoxText.{name_if_in}
+use Rattle.flow_picture.specs.Svg.{name_if_in}
 use Rattle.flow_picture.proofs.box_text.names_in.Given as goal
 
 -- the names of the clients before

@@ -1,10 +1,8 @@
-use Rattle.std.proofs.Common.{◌≡◌, ◌++◌, string_bytes}
-use Rattle.std.specs.Iterator.Adapters.{zip_first, zip_second}
-use Rattle.std.specs.Slice.Iter.{iter_rest}
-use Rattle.flow_picture.specs.Svg.{arrows_text}
+use Rattle.std.proofs.Common.{◌≡◌, flat_map, take}
+use Rattle.shown_text.specs.Pieces.{facts}
+use Rattle.flow_picture.specs.Svg.{arrow_facts}
 use Rattle.flow_picture.proofs.svg.push_arrows.Given as goal
 
--- the arrows so far, and those of the rest
-abbrev pub invariant-loop-arrow : goal.invariant-loop-arrow
-invariant-loop-arrow l =
-    string_bytes l.text ++ arrows_text l.boxes (iter_rest (zip_first l.arrow-iterator)) (iter_rest (zip_second l.arrow-iterator)) ≡ string_bytes l.initial.text ++ arrows_text l.boxes l.arrows l.lines
+-- the arrows before
+abbrev pub invariant-loop-number : goal.invariant-loop-number
+invariant-loop-number l = facts l.pieces.items ≡ flat_map (arrow_facts l.picture.boxes.items) (take l.number l.picture.arrows.items)

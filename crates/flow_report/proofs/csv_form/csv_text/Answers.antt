@@ -6,7 +6,7 @@ use Rattle.flow_report.proofs.csv_form.csv_text.Goals as goal
 
 pub returns-in-Ok : goal.returns-in-Ok
 returns-in-Ok c =
-    let P = c.args.ways.now in
+    let P = c.args.ways.now.plan in
     let from = c.from_writer-writer.ensures in
     let written = c.in_ok-write_rows.ensures.text in
     let text = rw (from.wtr, c.new-2.ensures.items, from.empty) at written in

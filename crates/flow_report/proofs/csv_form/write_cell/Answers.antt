@@ -8,7 +8,7 @@ use Rattle.flow_report.proofs.csv_form.write_cell.Goals as goal
 
 pub loop-client-preserved : goal.loop-client-preserved
 loop-client-preserved g c =
-    let P = c.args.ways.now in
+    let P = c.args.ways.now.plan in
     let contents = g.W.Write.contents in
     let rows = client_rows (client_names P) (distance_of P) (cell_at (cells P) c.args.number) c.args.label in
     let before = first_rows (client_names P) (distance_of P) (cell_at (cells P) c.args.number) c.args.label c.loop-client.client in

@@ -9,4 +9,4 @@ use Rattle.flow_report.proofs.csv_form.write_cells.Given as goal
 abbrev pub invariant-loop-number : goal.invariant-loop-number
 invariant-loop-number g l =
     AreWritten g.W.Write.contents l.fn.writer l.writer
-    (flat_map (cell_rows (client_names l.ways) (distance_of l.ways) (labelling_of_policy l.ways l.policy)) (take l.number (cells l.ways)))
+    (flat_map (cell_rows (client_names l.ways.plan) (distance_of l.ways.plan) (labelling_of_policy l.ways.plan l.ways.policy)) (take l.number (cells l.ways.plan)))

@@ -7,7 +7,7 @@ use Rattle.flow_report.proofs.csv_form.write_reach.Goals as goal
 
 pub returns : goal.returns
 returns g c =
-    let P = c.args.ways.now in
+    let P = c.args.ways.now.plan in
     let who = sym (ap (λ p. slice_get p.clients c.args.client) c.plan-plan.ensures) ∙ sym c.client.ensures ∙ ap (option_map (λ w. w.now)) c.in-Some.is in
     let same = same-fields c.args.reach c.requires.text (c.name_text.ensures ∙ sym (name-there P.clients c.args.client c.in-Some.who.now who))
     c.distance-distance.ensures.found

@@ -6,6 +6,7 @@ use Rattle.meter_theory.specs.Labels.{labelling_of_policy}
 use Rattle.meter_theory.specs.Plan.{cells}
 use Rattle.flow_edges.specs.Table.{cell_at, no_cell}
 use Rattle.cosem_data.specs.declared.cell.CellRef.{CellRef}
+use Rattle.flow_facts.specs.Map.{Configuration}
 use Rattle.flow_ways.specs.Found.{distance_of}
 use Rattle.flow_report.specs.Csv.{client_names}
 use Rattle.flow_report.specs.Json.{array_of, cell_data}
@@ -14,16 +15,16 @@ use Rattle.flow_report.proofs.json_cells.cells_value.Goals as goal
 
 pub loop-number-preserved : goal.loop-number-preserved
 loop-number-preserved c =
-    let P = c.args.ways.now in
-    let labels = labelling_of_policy P c.args.policy.now in
+    let P = c.args.ways.now.plan in
+    let labels = labelling_of_policy P c.args.ways.now.policy in
     let value = cell_data (client_names P) (distance_of P) in
     let f = λ (y : CellRef). value y (labels y) in
     let k = c.loop-number.number in
     let x = cell_at (cells P) k in
-    let same = c.in_ok-labels.ensures ∙ ap (λ p. map (labelling_of_policy p c.args.policy.now) (cells p)) c.plan.ensures in
-    let within : k < length (cells P) = omega (arith, c.loop-number-test.true, c.len-number-end.ensures, ap length same, length-map (cells P) labels) in
-    let label : c.index.result.now ≡ labels x =
-    c.index.ensures ∙ ap (λ ls. get_or ls k c.index.result.now) same ∙ get_or-map labels (cells P) k no_cell c.index.result.now within in
+    let same = c.allowed-labels.ensures ∙ ap (λ (C : Configuration). map (labelling_of_policy C.plan C.policy) (cells C.plan)) c.map.ensures in
+    let within : k < length (cells P) = omega (arith, c.loop-number-test.true, ap length same, length-map (cells P) labels) in
+    let label : c.index-labels-number.result ≡ labels x =
+    c.index-labels-number.is ∙ ap (λ ls. get_or ls k c.index-labels-number.result) same ∙ get_or-map labels (cells P) k no_cell c.index-labels-number.result within in
     c.in_ok-push_cell.ensures
     ∙ ap (λ l. map view c.loop-number.list.items ++ value x l ∷ []) label
     ∙ ap (λ t. t ++ f x ∷ []) c.loop-number.invariant
@@ -31,9 +32,9 @@ loop-number-preserved c =
 
 pub returns : goal.returns
 returns c =
-    let P = c.args.ways.now in
-    let labels = labelling_of_policy P c.args.policy.now in
+    let P = c.args.ways.now.plan in
+    let labels = labelling_of_policy P c.args.ways.now.policy in
     let f = λ (x : CellRef). cell_data (client_names P) (distance_of P) x (labels x) in
-    let same = c.in_ok-labels.ensures ∙ ap (λ p. map (labelling_of_policy p c.args.policy.now) (cells p)) c.plan.ensures in
-    let many : length (cells P) ≤ c.loop-number.number = omega (arith, c.loop-number-test.false, c.len-number-end.ensures, ap length same, length-map (cells P) labels) in
+    let same = c.allowed-labels.ensures ∙ ap (λ (C : Configuration). map (labelling_of_policy C.plan C.policy) (cells C.plan)) c.map.ensures in
+    let many : length (cells P) ≤ c.loop-number.number = omega (arith, c.loop-number-test.false, ap length same, length-map (cells P) labels) in
     view-Array c.loop-number.list ∙ ap array_of (c.loop-number.invariant ∙ ap (map f) (take_all c.loop-number.number (cells P) many))

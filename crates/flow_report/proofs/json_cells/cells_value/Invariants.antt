@@ -11,4 +11,4 @@ use Rattle.flow_report.proofs.json_cells.cells_value.Given as goal
 abbrev pub invariant-loop-number : goal.invariant-loop-number
 invariant-loop-number l =
     map view l.list.items
-    ≡ map (λ x. cell_data (client_names l.ways) (distance_of l.ways) x (labelling_of_policy l.ways l.policy x)) (take l.number (cells l.ways))
+    ≡ map (λ x. cell_data (client_names l.ways.plan) (distance_of l.ways.plan) x (labelling_of_policy l.ways.plan l.ways.policy x)) (take l.number (cells l.ways.plan))

@@ -14,7 +14,7 @@ use Rattle.flow_report.proofs.json_cells.may_value.Goals as goal
 
 pub loop-client-preserved : goal.loop-client-preserved
 loop-client-preserved c =
-    let P = c.args.ways.now in
+    let P = c.args.ways.now.plan in
     let f = may_client (client_names P) (λ who. distance_of P c.args.reach who (cell_at (cells P) c.args.number)) in
     let k = c.loop-client.client in
     c.in_ok-put_may.ensures
@@ -24,7 +24,7 @@ loop-client-preserved c =
 
 pub returns : goal.returns
 returns c =
-    let P = c.args.ways.now in
+    let P = c.args.ways.now.plan in
     let f = may_client (client_names P) (λ who. distance_of P c.args.reach who (cell_at (cells P) c.args.number)) in
     let end : c.loop-client.client ≡ c.client_count-client-end.result = omega (arith, c.loop-client-test.false, c.loop-client.auto.client-end) in
     let all = end ∙ c.client_count-client-end.ensures ∙ ap (λ p. length p.clients) c.plan.ensures ∙ sym (length-map P.clients (λ who. who.name)) in

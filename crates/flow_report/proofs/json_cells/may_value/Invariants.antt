@@ -13,4 +13,4 @@ use Rattle.flow_report.proofs.json_cells.may_value.Given as goal
 abbrev pub invariant-loop-client : goal.invariant-loop-client
 invariant-loop-client l =
     members_view l.members.entries
-    ≡ put_all no_members (flat_map (may_client (client_names l.ways) (λ c. distance_of l.ways l.reach c (cell_at (cells l.ways) l.number))) (range_with_len 0 l.client))
+    ≡ put_all no_members (flat_map (may_client (client_names l.ways.plan) (λ c. distance_of l.ways.plan l.reach c (cell_at (cells l.ways.plan) l.number))) (range_with_len 0 l.client))

@@ -8,7 +8,7 @@ use Rattle.flow_report.proofs.json_cells.put_may.Goals as goal
 
 pub returns-in-Some : goal.returns-in-Some
 returns-in-Some c =
-    let P = c.args.ways.now in
+    let P = c.args.ways.now.plan in
     let old = members_view c.args.members.now.entries in
     let name = client_at (client_names P) c.args.client in
     let found = sym c.distance.ensures.found ∙ c.in-Some.is in
@@ -22,7 +22,7 @@ returns-in-Some c =
 
 pub returns-in-None : goal.returns-in-None
 returns-in-None c =
-    let P = c.args.ways.now in
+    let P = c.args.ways.now.plan in
     let old = members_view c.args.members.now.entries in
     let name = client_at (client_names P) c.args.client in
     let found = sym c.distance.ensures.found ∙ c.in-None.is in

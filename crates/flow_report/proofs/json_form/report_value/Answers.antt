@@ -12,8 +12,8 @@ use Rattle.flow_report.proofs.json_form.report_value.Goals as goal
 
 pub returns : goal.returns
 returns c =
-    let P = c.args.ways.now in
-    let found_cells = spec.cells_data (client_names P) (distance_of P) (labelling_of_policy P c.args.policy.now) (cells P) in
+    let P = c.args.ways.now.plan in
+    let found_cells = spec.cells_data (client_names P) (distance_of P) (labelling_of_policy P c.args.ways.now.policy) (cells P) in
     let clients = λ (p : Plan). spec.array_of (map string (client_names p)) in
     let objects = λ (p : Plan). spec.array_of (map (λ (o : Head). string (spec.head_text o)) (heads_of p)) in
     let rights = λ (p : Plan). spec.rights_data (client_names p) (rights_of p) (heads_of p) in

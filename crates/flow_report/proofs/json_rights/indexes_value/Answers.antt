@@ -3,7 +3,7 @@ use Rattle.std.specs.List.{range_with_len}
 use Rattle.serde_json.specs.View.{view}
 use Rattle.serde_json.proofs.Views.{view-Array}
 use Rattle.meter_theory.specs.Plan.{interface_of}
-use Rattle.flow_ways.specs.Access.{highest_for}
+use Rattle.flow_facts.specs.Access.{highest_for}
 use Rattle.flow_report.specs.Json.{array_of, index_if}
 use Rattle.flow_report.specs.Rights.{rights_of}
 use Rattle.flow_report.proofs.Records.{number-more}

@@ -4,4 +4,4 @@ use Rattle.flow_view.proofs.changes.facts_told.Given as goal
 
 -- the facts before are told
 abbrev pub invariant-loop-fact : goal.invariant-loop-fact
-invariant-loop-fact l = map fact_shown l.facts.items ≡ map (fact_told l.ways) (map changed_shown (take l.fact-index l.changed))
+invariant-loop-fact l = map fact_shown l.facts.items ≡ map (fact_told l.ways.plan) (map changed_shown (take l.fact-index l.changed))

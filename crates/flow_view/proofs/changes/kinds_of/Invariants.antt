@@ -5,4 +5,4 @@ use Rattle.flow_view.proofs.changes.kinds_of.Given as goal
 
 -- what has changed of the kinds before is there
 abbrev pub invariant-loop-facts : goal.invariant-loop-facts
-invariant-loop-facts l = map kind_told l.list.items ≡ kinds_of l.ways (map kind_shown (take l.facts-index l.kinds))
+invariant-loop-facts l = map kind_told l.list.items ≡ kinds_of l.ways.plan (map kind_shown (take l.facts-index l.kinds))

@@ -22,7 +22,7 @@ loop-cell-preserved c =
 
 pub returns-clause-few : goal.returns-clause-few
 returns-clause-few c =
-    let P = c.args.facts.now.ways.now in
+    let P = c.args.facts.now.ways.now.plan in
     let few = count-few (counts_at (told c.args.facts.now) c.args.kind c.args.reach c.args.client) c.loop-cell.cell in
     let small = cells-few P (subst IsSound c.plan.ensures c.known.ensures.sound) in
     omega (arith, few, small, c.loop-cell.invariant, c.loop-cell.auto.cell-end, ap length c.cells-cell-end.ensures)

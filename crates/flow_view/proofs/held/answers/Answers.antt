@@ -1,7 +1,7 @@
 use Rattle.std.proofs.Common.{◌+◌, ◌∷◌, [], ◌++◌, ap, ◌∙◌}
 use Rattle.alike_items.proofs.Ranges.{map-next}
 use Rattle.object_model.specs.InstanceView.{AtName}
-use Rattle.flow_ways.specs.Access.{is_granted}
+use Rattle.flow_facts.specs.Access.{is_granted}
 use Rattle.flow_view.proofs.held.answers.Goals as goal
 
 pub loop-place-preserved : goal.loop-place-preserved

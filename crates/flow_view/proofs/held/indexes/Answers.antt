@@ -1,7 +1,7 @@
 use Rattle.std.proofs.Common.{◌+◌, ◌∷◌, [], ◌++◌, cond, ap, ◌∙◌}
 use Rattle.alike_items.proofs.Ranges.{flat-next}
 use Rattle.object_model.specs.InstanceView.{AtName}
-use Rattle.flow_ways.specs.Access.{is_granted}
+use Rattle.flow_facts.specs.Access.{is_granted}
 use Rattle.flow_view.specs.Objects.{index_if}
 use Rattle.flow_view.proofs.held.indexes.Goals as goal
 

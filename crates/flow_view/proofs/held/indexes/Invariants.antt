@@ -1,6 +1,6 @@
 use Rattle.std.proofs.Common.{◌≡◌, flat_map}
 use Rattle.std.specs.List.{range_with_len}
-use Rattle.flow_ways.specs.Access.{is_granted}
+use Rattle.flow_facts.specs.Access.{is_granted}
 use Rattle.flow_view.specs.Objects as spec
 use Rattle.flow_view.proofs.held.indexes.Given as goal
 

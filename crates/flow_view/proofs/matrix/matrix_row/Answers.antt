@@ -6,6 +6,6 @@ use Rattle.flow_view.proofs.matrix.matrix_row.Goals as goal
 
 pub cells_of-requires : goal.cells_of-requires
 cells_of-requires c =
-    let count = length (cells c.args.facts.now.ways.now) in
+    let count = length (cells c.args.facts.now.ways.now.plan) in
     let row = row-there count c.args.rows.now c.args.row c.index-rows-row.result c.requires.rows c.requires.row c.index-rows-row.is in
     (subst (IsRow count) (sym c.deref.ensures.value) row).within

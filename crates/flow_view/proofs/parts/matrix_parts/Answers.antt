@@ -7,6 +7,6 @@ use Rattle.flow_view.proofs.parts.matrix_parts.Goals as goal
 
 pub parts_of-requires : goal.parts_of-requires
 parts_of-requires c =
-    let P = c.args.facts.now.ways.now in
+    let P = c.args.facts.now.ways.now.plan in
     subst (λ list. AreRowsOf (length (cells P)) (map (λ row. row.items) list)) (sym c.deref.ensures.value)
     (matrix-rows (told c.args.facts.now) (map (λ row. row.items) c.in_ok-rows.rows.items) c.in_ok-rows.ensures)

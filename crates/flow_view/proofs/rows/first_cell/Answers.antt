@@ -6,12 +6,12 @@ use Rattle.flow_view.proofs.rows.first_cell.Goals as goal
 
 pub index-requires : goal.index-requires
 index-requires c =
-    let is = row-there (length (cells c.args.ways.now)) c.args.rows.now c.args.row c.index-rows-row.result c.requires.rows c.requires.row c.index-rows-row.is in
+    let is = row-there (length (cells c.args.ways.now.plan)) c.args.rows.now c.args.row c.index-rows-row.result c.requires.rows c.requires.row c.index-rows-row.is in
     omega (arith, is.some, c.index-rows-row.result.ok.0)
 
 pub returns-clause-within : goal.returns-clause-within
 returns-clause-within c =
-    let count = length (cells c.args.ways.now) in
+    let count = length (cells c.args.ways.now.plan) in
     let v = c.index-rows-row.result in
     let is = row-there count c.args.rows.now c.args.row v c.requires.rows c.requires.row c.index-rows-row.is in
     let some : 0 < length v.items = omega (arith, is.some) in

@@ -1,9 +1,13 @@
-use Rattle.std.proofs.Common.{arith, sym, ◌∙◌}
-use Rattle.std.specs.Str.{bytes_eq}
-use Rattle.meter_theory.specs.Plan.{cells}
-use Rattle.object_model.proofs.Puts.{position-within}
-use Rattle.value_text.specs.Texts.{cell_text}
+use Rattle.std.proofs.Common.{◌<◌, length, subst, sym}
+use Rattle.meter_theory.specs.Plan.{Plan}
+use Rattle.meter_server.proofs.Mapped.{ways-of}
 use Rattle.meter_server.proofs.looking.tell_ways_to.Goals as goal
 
-pub write_why-requires-clause-cell : goal.write_why-requires-clause-cell
-write_why-requires-clause-cell g c = omega (arith, position-within (λ x. bytes_eq (cell_text x) c.args.cell.now) 0 (cells c.args.plan.now) c.in-Ok-Some.number (sym c.in-Ok-Some.field-0-is ∙ c.in-Ok-Some.ensures))
+pub tell_ways_on-requires : goal.tell_ways_on-requires
+tell_ways_on-requires g c = subst (λ (P : Plan). c.args.client < length P.clients) (sym c.in-Ok.ensures.plan) c.requires
+
+pub returns-in-Ok : goal.returns-in-Ok
+returns-in-Ok g c =
+    let map = c.in-Ok.map in
+    ways-of c.args.plan.now map.plan c.args.policy.now map.policy c.args.client c.args.cell.now (g.O.Write.contents c.args.output.now) (g.O.Write.contents c.tell_ways_on.new.output) c.tell_ways_on.result
+    c.in-Ok.ensures.plan c.in-Ok.ensures.policy c.tell_ways_on.ensures

@@ -1,6 +1,12 @@
 use Rattle.std.proofs.Common.{ap, option_map, subst, sym}
 use Rattle.flow_report.specs.Html.{IsHtml, configuration_of}
+use Rattle.meter_server.specs.Reporting.{IsHeading}
 use Rattle.meter_server.proofs.reporting.html_of.Goals as goal
 
 pub returns : goal.returns
-returns c = (c.in_ok-heading.heading, c.in_ok-heading.ensures, subst (IsHtml c.args.ways.now c.args.policy.now (option_map configuration_of c.args.before) c.in_ok-heading.heading) (sym (ap (λ v. v.items) c.into_bytes.ensures.value)) c.in_ok-text.ensures)
+returns c =
+    let heading = c.in_ok-heading.heading in (
+      heading,
+      subst (λ given. IsHeading c.args.subject.now.asked.config.file.now given c.args.verdict.now heading) c.is_some.ensures c.in_ok-heading.ensures,
+      subst (IsHtml c.args.ways.now.plan c.args.ways.now.policy (option_map (λ map. configuration_of map.now) c.args.before) heading) (sym (ap (λ v. v.items) c.into_bytes.ensures.value)) c.in_ok-text.ensures,
+    )

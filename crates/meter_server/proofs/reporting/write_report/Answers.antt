@@ -1,5 +1,6 @@
-use Rattle.std.proofs.Common.{◌∙◌, option_map, sym, subst}
+use Rattle.std.proofs.Common.{◌∙◌, is_some, option_map, sym, subst}
 use Rattle.std.proofs.lemmas.Result.{err_from_is_err_and}
+use Rattle.flow_facts.specs.Map.{Configuration}
 use Rattle.flow_report.specs.Html.{configuration_of}
 use Rattle.meter_server.specs.Reporting.{IsReport}
 use Rattle.meter_server.proofs.reporting.write_report.Goals as goal
@@ -9,5 +10,6 @@ returns-in_err-write_whole g c =
     let p = err_from_is_err_and c.from_residual-in_err-write_whole.result c.from_residual-in_err-write_whole.ensures.1 in
     let cut = c.in_err-write_whole.ensures.err in
     let text = c.in_ok-text.text.items in
-    let report = subst (λ P. IsReport c.args.wanted.form c.args.wanted.path.now c.args.wanted.given_labels (option_map configuration_of c.args.before) P c.args.policy.now c.args.verdict.now text) c.in_ok-ways.ensures c.in_ok-text.ensures in
+    let subject = c.args.subject.now in
+    let report = subst (λ (C : Configuration). IsReport subject.asked.form subject.asked.config.file.now (is_some subject.labels) (option_map (λ map. configuration_of map.now) c.args.before) C.plan C.policy c.args.verdict.now text) c.in_ok-ways.ensures c.in_ok-text.ensures in
     rw (p.1, p.2) (text, report, (cut.0, cut.1, sym c.deref.ensures.value ∙ cut.2, cut.3, cut.4))

@@ -8,11 +8,11 @@ use Rattle.plan_lists.proofs.why.cell_printed.Goals as goal
 
 pub returns-then-branch : goal.returns-then-branch
 returns-then-branch c =
-    subst (λ xs. Some c.loop-number.number ≡ position_from (λ x. bytes_eq (cell_text x) c.args.text.now) 0 xs) (c.deref-cell-items.ensures.value ∙ c.in_ok-cells.ensures)
-    (is-first (λ x. bytes_eq (cell_text x) c.args.text.now) c.deref-cell-items.result.now c.loop-number.number no_cell c.loop-number-test.true c.loop-number.invariant
+    subst (λ xs. Some c.loop-number.number ≡ position_from (λ x. bytes_eq (cell_text x) c.args.text.now) 0 xs) c.cells-cell-items.ensures
+    (is-first (λ x. bytes_eq (cell_text x) c.args.text.now) c.cells-cell-items.result.now c.loop-number.number no_cell c.loop-number-test.true c.loop-number.invariant
     (sym c.in_ok-is_printed.ensures ∙ c.if-branch.true))
 
 pub returns : goal.returns
 returns c =
-    subst (λ xs. None ≡ position_from (λ x. bytes_eq (cell_text x) c.args.text.now) 0 xs) (c.deref-cell-items.ensures.value ∙ c.in_ok-cells.ensures)
-    (is-nowhere (λ x. bytes_eq (cell_text x) c.args.text.now) c.deref-cell-items.result.now no_cell (λ j less. c.loop-number.invariant j (omega (arith, less, c.loop-number-test.false))))
+    subst (λ xs. None ≡ position_from (λ x. bytes_eq (cell_text x) c.args.text.now) 0 xs) c.cells-cell-items.ensures
+    (is-nowhere (λ x. bytes_eq (cell_text x) c.args.text.now) c.cells-cell-items.result.now no_cell (λ j less. c.loop-number.invariant j (omega (arith, less, c.loop-number-test.false))))

@@ -11,7 +11,7 @@ use Rattle.flow_ways.proofs.Reached.{links-of-sets}
 use Rattle.flow_ways.proofs.ways.Ways.arriving.Goals as goal
 
 pub arriving-requires : goal.arriving-requires
-arriving-requires c = links-of-sets c.args.self.now (length c.cells.result.now) c.links.result.now (ap length c.cells.ensures) c.links.ensures
+arriving-requires c = links-of-sets c.args.self.now.plan (length c.cells.result.now) c.links.result.now (ap length c.cells.ensures) c.links.ensures
 
 to-edges : (P : Plan) → IsSound P → (reach : Reach) (n : ℕ) (links : List Link) → n ≡ length (cells P) → AreLinksOf P links → (r : Result (Vec (Vec Link Global) Global) Memory)
     → IfOk r (λ lists. AreArriving reach n links (map (λ list. list.items) lists.items)) → IfOk r (λ lists. AreEdgesTo P reach (map (λ list. list.items) lists.items))
@@ -20,4 +20,4 @@ to-edges P sound reach n links is of (Err fault) are = tt
 
 pub returns : goal.returns
 returns c =
-    to-edges c.args.self.now c.known.ensures.sound c.args.reach (length c.cells.result.now) c.links.result.now (ap length c.cells.ensures) c.links.ensures c.arriving.result c.arriving.ensures
+    to-edges c.args.self.now.plan c.known.ensures.sound c.args.reach (length c.cells.result.now) c.links.result.now (ap length c.cells.ensures) c.links.ensures c.arriving.result c.arriving.ensures

@@ -8,7 +8,7 @@ use Rattle.flow_ways.proofs.ways.Ways.distance.Goals as goal
 
 pub returns-clause-found : goal.returns-clause-found
 returns-clause-found c =
-    let P = c.args.self.now in
+    let P = c.args.self.now.plan in
     let numbers = c.distances-numbers.result.now in
     ap (λ n. get_or numbers (c.args.cell * 16 + n) None) c.from.ensures
     ∙ sym (found-distance P c.known.ensures.sound c.args.reach c.args.client (cell_at (cells P) c.args.cell) (item_at (cells P) c.args.cell c.requires.cell)

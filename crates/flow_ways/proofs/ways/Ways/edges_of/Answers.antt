@@ -6,7 +6,7 @@ use Rattle.flow_ways.proofs.ways.Ways.edges_of.Goals as goal
 
 pub loop-behind-preserved : goal.loop-behind-preserved
 loop-behind-preserved c =
-    let P = c.args.self.now in
+    let P = c.args.self.now.plan in
     let so_far = c.loop-behind.invariant in
     let pushed =
     ◌∙◌ {A = List Edge} c.in_ok-push.ensures.items

@@ -16,11 +16,11 @@ next n = omega arith
 pub leads-requires-clause-link : goal.leads-requires-clause-link
 leads-requires-clause-link c =
     let links = c.links_to-link-items.result.now in
-    link_in (cells c.args.self.now) links _ c.links_to-link-items.ensures.within (in-at links c.loop-link.link-index no_link c.loop-link-test.true)
+    link_in (cells c.args.self.now.plan) links _ c.links_to-link-items.ensures.within (in-at links c.loop-link.link-index no_link c.loop-link-test.true)
 
 pub returns-then-leads-clause-first : goal.returns-then-leads-clause-first
 returns-then-leads-clause-first c =
-    let P = c.args.self.now in
+    let P = c.args.self.now.plan in
     let links = c.links_to-link-items.result.now in
     let leads = leads_within P c.args.reach c.args.client c.args.rounds (cell_at (cells P) c.args.cell) in
     sym (c.links_to-link-items.ensures.found leads (λ e h. first-passes _ _ h))
@@ -29,11 +29,11 @@ returns-then-leads-clause-first c =
 pub returns-then-leads-clause-link : goal.returns-then-leads-clause-link
 returns-then-leads-clause-link c =
     let links = c.links_to-link-items.result.now in
-    link_in (cells c.args.self.now) links _ c.links_to-link-items.ensures.within (in-at links c.loop-link.link-index no_link c.loop-link-test.true)
+    link_in (cells c.args.self.now.plan) links _ c.links_to-link-items.ensures.within (in-at links c.loop-link.link-index no_link c.loop-link-test.true)
 
 pub unreachable-requires : goal.unreachable-requires
 unreachable-requires c =
-    let P = c.args.self.now in
+    let P = c.args.self.now.plan in
     let links = c.links_to-link-items.result.now in
     let leads = leads_within P c.args.reach c.args.client c.args.rounds (cell_at (cells P) c.args.cell) in
     some-edge P c.known.ensures.sound c.args.reach c.args.client c.args.rounds (cell_at (cells P) c.args.cell)

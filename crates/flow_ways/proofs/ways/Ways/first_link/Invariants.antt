@@ -7,4 +7,4 @@ use Rattle.flow_ways.proofs.ways.Ways.first_link.Given as goal
 
 abbrev pub invariant-loop-link : goal.invariant-loop-link
 invariant-loop-link l =
-    (j : ℕ) → j < l.link-index → leads_within l.self l.reach l.client l.rounds (cell_at (cells l.self) l.cell) (edge_at (cells l.self) (get_or l.link-items j no_link)) ≡ false
+    (j : ℕ) → j < l.link-index → leads_within l.self.plan l.reach l.client l.rounds (cell_at (cells l.self.plan) l.cell) (edge_at (cells l.self.plan) (get_or l.link-items j no_link)) ≡ false

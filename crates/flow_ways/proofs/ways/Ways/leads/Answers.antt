@@ -10,7 +10,7 @@ use Rattle.flow_ways.proofs.ways.Ways.leads.Goals as goal
 
 pub returns-then-far_of-cell : goal.returns-then-far_of-cell
 returns-then-far_of-cell c =
-    let P = c.args.self.now in
+    let P = c.args.self.now.plan in
     let sound = c.known.ensures.sound in
     let here : eqb (far_of c.args.reach c.args.link) c.args.cell ≡ true = eq-eqb (far_of c.args.reach c.args.link) c.args.cell (sym c.far_of.ensures ∙ c.if-far_of-cell.true) in
     ap (λ t. t && c.is_within.result) (sym here)
@@ -19,7 +19,7 @@ returns-then-far_of-cell c =
 
 pub returns-else-far_of-cell : goal.returns-else-far_of-cell
 returns-else-far_of-cell c =
-    let P = c.args.self.now in
+    let P = c.args.self.now.plan in
     let sound = c.known.ensures.sound in
     let within = is_within P c.args.reach c.args.client c.args.rounds (cell_at (cells P) (near_of c.args.reach c.args.link)) in
     let elsewhere : eqb (far_of c.args.reach c.args.link) c.args.cell ≡ false = ne_eqb (far_of c.args.reach c.args.link) c.args.cell (λ e. c.if-far_of-cell.false (c.far_of.ensures ∙ e)) in

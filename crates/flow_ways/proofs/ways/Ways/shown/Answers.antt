@@ -8,7 +8,7 @@ use Rattle.flow_ways.proofs.ways.Ways.shown.Goals as goal
 
 pub returns-in_ok-edges_of-in-Some-clause-shown : goal.returns-in_ok-edges_of-in-Some-clause-shown
 returns-in_ok-edges_of-in-Some-clause-shown c =
-    let P = c.args.self.now in
+    let P = c.args.self.now.plan in
     let x = cell_at (cells P) c.args.cell in
     let d = c.in-Some.distance in
     let is : IsDistance P c.args.reach c.args.client x (Some d) = subst (IsDistance P c.args.reach c.args.client x) c.in-Some.is c.distance.ensures.distance in
@@ -21,12 +21,12 @@ returns-in_ok-edges_of-in-Some-clause-shown c =
 
 pub returns-in_ok-edges_of-in-Some-clause-found : goal.returns-in_ok-edges_of-in-Some-clause-found
 returns-in_ok-edges_of-in-Some-clause-found c =
-    let P = c.args.self.now in
+    let P = c.args.self.now.plan in
     let x = cell_at (cells P) c.args.cell in
     ap Some c.in_ok-edges_of-in-Some.ensures ∙ ap (option_map (λ d. shown_way P c.args.reach c.args.client d x)) (sym c.in-Some.is ∙ c.distance.ensures.found)
 
 pub returns-in-None-clause-found : goal.returns-in-None-clause-found
 returns-in-None-clause-found c =
-    let P = c.args.self.now in
+    let P = c.args.self.now.plan in
     let x = cell_at (cells P) c.args.cell in
     ap (option_map (λ d. shown_way P c.args.reach c.args.client d x)) (sym c.in-None.is ∙ c.distance.ensures.found)

@@ -1,7 +1,0 @@
-use Rattle.std.proofs.Common.{◌≡◌, ◌++◌, flat_map}
-use Rattle.std.specs.List.{range_with_len}
-use Rattle.flow_checker.specs.FailingRows.{failures_at}
-use Rattle.flow_checker.proofs.rows.push_clause.Given as goal
-
-abbrev pub invariant-loop-number : goal.invariant-loop-number
-invariant-loop-number l = l.failures.items ≡ l.initial.failures.items ++ flat_map (failures_at l.rows l.clause) (range_with_len 0 l.number)

@@ -1,0 +1,4 @@
+pub mod ClassWords
+pub mod Kinds
+pub mod Reaches
+pub mod Requests

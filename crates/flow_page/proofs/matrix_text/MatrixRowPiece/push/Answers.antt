@@ -1,5 +1,0 @@
-use Rattle.std.proofs.Common.{append_assoc}
-use Rattle.flow_page.proofs.matrix_text.MatrixRowPiece.push.Goals as goal
-
-pub returns : goal.returns
-returns c = rw (c.in_ok-write-4.ensures.bytes, c.in_ok-push_all.ensures, c.deref-2.ensures.value, c.in_ok-write-3.ensures.bytes, c.in_ok-push_head.ensures, c.deref.ensures.value, c.in_ok-write-2.ensures.bytes, c.in_ok-write.ensures.bytes, append_assoc, append_assoc, append_assoc, append_assoc, append_assoc)

@@ -1,5 +1,0 @@
-use Rattle.std.proofs.Common.{append_assoc}
-use Rattle.flow_page.proofs.page.Page.push_contents.Goals as goal
-
-pub returns : goal.returns
-returns c = rw (c.in_ok-write-2.ensures.bytes, c.in_ok-write.ensures.bytes, c.tells_refused.ensures, c.is_some.ensures, append_assoc)

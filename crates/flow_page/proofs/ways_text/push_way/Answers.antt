@@ -1,5 +1,0 @@
-use Rattle.std.proofs.Common.{append_assoc}
-use Rattle.flow_page.proofs.ways_text.push_way.Goals as goal
-
-pub returns : goal.returns
-returns c = rw (c.in_ok-write-2.ensures.bytes, c.in_ok-push_separated.ensures, c.in_ok-write.ensures.bytes, append_assoc, append_assoc)
