@@ -1,8 +1,5 @@
-//! Texts in HTML, and pages that are put together by pieces (own profile).
-ghost use Rattle.std.specs.Prelude.{◌≡◌, ◌++◌, ℕ, List, OnOk, flat_map, string_bytes};
-
+//! Texts in HTML (own profile).
 use crate::printable::hex_digit;
-use cosem_data::memory::Memory;
 use std::fmt;
 
 /// A text from outside as HTML shows it, between tags or in an attribute between quotation marks: characters of markup by their
@@ -51,25 +48,4 @@ impl fmt::Display for EscapedByte {
             ),
         }
     }
-}
-
-/// A piece of a page.
-pub trait Piece {
-    /// Its text.
-    ghost text: { Self → List ℕ };
-
-    /// Puts it behind a text. The only error is want of memory, and then a part of it may stand there.
-    fn push(&self, page: &mut String) -> Result<(), Memory>
-        ensures { OnOk result (string_bytes page.new ≡ string_bytes page.old ++ Self.text self.now) };
-}
-
-/// Puts pieces behind a text, one behind the other. The only error is want of memory, and then some of them may stand there.
-pub fn push_all<P: Piece>(pieces: &[P], page: &mut String) -> Result<(), Memory>
-    ensures { OnOk result (string_bytes page.new
-        ≡ string_bytes page.old ++ flat_map P.text pieces.now) }
-{
-    for piece in pieces {
-        piece.push(page)?;
-    }
-    Ok(())
 }
