@@ -10,8 +10,8 @@ use Rattle.cosem_data.specs.declared.clients.ClientSet.{ClientSet}
 use Rattle.flow_changes.specs.Changes.{changes_of_kind, compare_text, first_line, gainers, gains, kind_lines, somebody_gains}
 use Rattle.flow_map.specs.Kinds.{all_kinds}
 use Rattle.flow_changes.specs.Facts.{Numbered, numbered}
-use Rattle.flow_facts.specs.Map.{Configuration}
-use Rattle.flow_facts.specs.Map.{AreLeastOf}
+use Rattle.flow_map.specs.Map.{Configuration}
+use Rattle.flow_map.specs.Map.{AreLeastOf}
 use Rattle.whole_writes.specs.declared.fault.ListFault.{ListFault}
 use Rattle.whole_writes.specs.declared.fault.ListFault.TheVariants as faults
 use Rattle.cosem_data.specs.declared.memory.Memory.{Memory}

@@ -16,7 +16,7 @@ use Rattle.meter_theory.specs.declared.flow.Edge.{Edge}
 use Rattle.flow_changes.specs.Changes.{KindShown, changes_of_kind, gained, gains, lacks}
 use Rattle.flow_map.specs.Kinds.{all_kinds}
 use Rattle.flow_changes.specs.Facts.{Fact, HasCell, HasEdge, Numbered, among, common_facts, facts, numbered, own_facts, same_fact}
-use Rattle.flow_facts.specs.Map.{Configuration}
+use Rattle.flow_map.specs.Map.{Configuration}
 use Rattle.flow_changes.specs.Shown.{kind_shown, shown}
 use Rattle.flow_changes.specs.declared.compare.KindFacts.{KindFacts}
 use Rattle.flow_changes.specs.declared.fact.Fact.{Fact as FactKept}

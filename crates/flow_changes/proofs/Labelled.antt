@@ -10,7 +10,7 @@ use Rattle.meter_theory.specs.Lists.{IsIn}
 use Rattle.meter_theory.specs.Plan.{Plan, cells, is_cell}
 use Rattle.meter_theory.specs.declared.flow.Label.{Label}
 use Rattle.meter_theory.proofs.Lists.{any_in, in_any}
-use Rattle.object_model.proofs.Positions.{in-at}
+use Rattle.flow_map.proofs.Places.{in-at}
 use Rattle.flow_edges.specs.Table.{cell_at, no_cell}
 
 -- Labels of another plan

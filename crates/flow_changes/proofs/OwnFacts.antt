@@ -19,11 +19,11 @@ use Rattle.meter_theory.specs.declared.flow.Reach.{Reach}
 use Rattle.meter_theory.specs.declared.flow.Reach.TheVariants as reaches
 use Rattle.meter_theory.proofs.ClientSets.{nobody_in}
 use Rattle.meter_theory.proofs.Lists.{in_any}
-use Rattle.flow_facts.specs.declared.access.Access.{Access}
-use Rattle.flow_facts.specs.declared.access.Access.TheVariants as accesses
+use Rattle.flow_map.specs.declared.access.Access.{Access}
+use Rattle.flow_map.specs.declared.access.Access.TheVariants as accesses
 use Rattle.flow_changes.specs.Changes.{lacks}
 use Rattle.flow_changes.specs.Facts.{Fact, HasSap, Holds, IsOpen, Numbered, Reaches, Views, facts, is_granted, is_reached, members_for, numbered, own_facts, reached, rights_on, same_fact, shared_policy, told_of_client}
-use Rattle.flow_facts.specs.Map.{Configuration}
+use Rattle.flow_map.specs.Map.{Configuration}
 use Rattle.flow_changes.specs.Singles.{access_facts, is_at, is_held, is_new_reach, is_new_right, is_open, is_other_in, open_facts, pair_of, pair_told, reach_facts, reached_facts, right_facts, sap_facts, sees, view_facts}
 use Rattle.flow_map.specs.declared.kind.Kind.{Kind}
 use Rattle.flow_map.specs.declared.kind.Kind.TheVariants as kinds

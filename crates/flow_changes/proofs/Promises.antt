@@ -19,11 +19,11 @@ use Rattle.meter_theory.proofs.Lists.{any_in, in_any, in_append_left, in_append_
 use Rattle.flow_changes.specs.Changes.{gains, lacks}
 use Rattle.flow_map.specs.Kinds.{all_kinds}
 use Rattle.flow_changes.specs.Facts.{Fact, HasSap, Holds, IsOpen, Numbered, Reaches, Views, among, facts, is_granted, is_reached, members_for, numbered, own_facts, reached, rights_on, same_fact, shared_policy, told_of_client}
-use Rattle.flow_facts.specs.Map.{Configuration}
+use Rattle.flow_map.specs.Map.{Configuration}
 use Rattle.meter_theory.specs.Ways.{set_for}
 use Rattle.flow_changes.specs.Promises.{HasReach, IsNamed, LiesWithin, NamedHolds, NamedLabelling, NamedReaches, NamedSees, NobodyGains, least, policy_of}
-use Rattle.flow_facts.specs.declared.access.Access.{Access}
-use Rattle.flow_facts.specs.declared.access.Access.TheVariants as accesses
+use Rattle.flow_map.specs.declared.access.Access.{Access}
+use Rattle.flow_map.specs.declared.access.Access.TheVariants as accesses
 use Rattle.flow_map.specs.declared.kind.Kind.{Kind}
 use Rattle.flow_map.specs.declared.kind.Kind.TheVariants as kinds
 use Rattle.meter_theory.specs.declared.flow.Reach.{Reach}

@@ -12,7 +12,7 @@ use Rattle.meter_theory.specs.Plan.{cells, client_named}
 use Rattle.meter_theory.specs.Sound.{IsSound}
 use Rattle.meter_theory.specs.declared.flow.Label.{Label}
 use Rattle.flow_changes.specs.Differences.{AreReachChanges, IsChanged, IsReachChange, is_changed}
-use Rattle.flow_facts.specs.Map.{Configuration}
+use Rattle.flow_map.specs.Map.{Configuration}
 use Rattle.flow_changes.specs.Singles.{pair_told}
 use Rattle.flow_map.specs.declared.kind.Change.{Change}
 use Rattle.flow_map.specs.declared.kind.Kind.TheVariants.{May}

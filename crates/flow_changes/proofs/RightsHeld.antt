@@ -9,9 +9,9 @@ use Rattle.cosem_data.specs.declared.cell.CellRef.{CellRef}
 use Rattle.cosem_data.specs.declared.name.LogicalName.{LogicalName}
 use Rattle.meter_theory.specs.Lists.{some_passes}
 use Rattle.meter_theory.specs.Plan.{Plan, class_of, object_at}
-use Rattle.object_model.specs.InstanceView.{AtName}
-use Rattle.flow_facts.specs.Access as ways
-use Rattle.flow_facts.specs.declared.access.Access.{Access}
+use Rattle.flow_map.specs.Outline.{AtName}
+use Rattle.flow_map.specs.Access as ways
+use Rattle.flow_map.specs.declared.access.Access.{Access}
 use Rattle.flow_changes.specs.Singles.{is_held}
 
 -- a right of the client where an object of the class stands

@@ -14,10 +14,10 @@ use Rattle.meter_theory.specs.Plan.{Object, Part, Plan, Right, Data1, Register, 
 use Rattle.meter_theory.specs.Rights.{has_right, lists}
 use Rattle.meter_theory.specs.Sound.{IsSound, are_indexes, highest_method}
 use Rattle.meter_theory.proofs.Lists.{any_in, in_any, in_map, in_range}
-use Rattle.flow_facts.specs.Access.{highest_for, listed_for}
+use Rattle.flow_map.specs.Access.{highest_for, listed_for}
 use Rattle.flow_changes.specs.Facts.{Holds, Numbered, Views, is_granted, members_for, rights_on, same_access, same_fact}
-use Rattle.flow_facts.specs.declared.access.Access.{Access}
-use Rattle.flow_facts.specs.declared.access.Access.TheVariants as accesses
+use Rattle.flow_map.specs.declared.access.Access.{Access}
+use Rattle.flow_map.specs.declared.access.Access.TheVariants as accesses
 use Rattle.flow_changes.proofs.Lists.{list_any-agree, list_any-and, list_any-filter, list_any-flat_map, list_any-map}
 use Rattle.flow_changes.proofs.Once.{any-once, objects-once}
 use Rattle.flow_changes.proofs.Told.{any-cell}

@@ -13,7 +13,7 @@ use Rattle.meter_theory.specs.Lists.{some_passes}
 use Rattle.meter_theory.specs.Plan.{Client, Plan, cells, is_cell}
 use Rattle.meter_theory.specs.Sound.{IsSound}
 use Rattle.flow_changes.specs.Facts.{Fact, HasSap, IsOpen, Numbered, Reaches, among, facts, is_reached, numbered, own_facts, reached, same_fact, same_reach, told_of_client}
-use Rattle.flow_facts.specs.Map.{Configuration}
+use Rattle.flow_map.specs.Map.{Configuration}
 use Rattle.flow_map.specs.declared.kind.Kind.{Kind}
 use Rattle.meter_theory.specs.declared.flow.Reach.{Reach}
 use Rattle.meter_theory.specs.declared.flow.Reach.TheVariants as reaches

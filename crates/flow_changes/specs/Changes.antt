@@ -2,7 +2,7 @@
 use Rattle.std.specs.Prelude.{ℕ, Bool, not, List, [], ◌∷◌, ◌++◌, codes, filter, flat_map, map}
 use Rattle.std.specs.List.{join_with_byte, list_any}
 use Rattle.flow_changes.specs.Facts.{Fact, Numbered, among, fact_text, facts, numbered, own_facts}
-use Rattle.flow_facts.specs.Map.{Configuration}
+use Rattle.flow_map.specs.Map.{Configuration}
 use Rattle.flow_map.specs.Kinds.{all_kinds, change_sign, kind_word}
 use Rattle.flow_map.specs.declared.kind.Change.{Change}
 use Rattle.flow_map.specs.declared.kind.Change.TheVariants as changes

@@ -8,7 +8,7 @@ use Rattle.meter_theory.specs.Ways.{set_for}
 use Rattle.meter_theory.specs.declared.flow.Label.{Label}
 use Rattle.meter_theory.specs.declared.flow.Reach.{Reach}
 use Rattle.meter_theory.specs.declared.limits.TheConstants.{CLIENTS}
-use Rattle.flow_facts.specs.Map.{Configuration}
+use Rattle.flow_map.specs.Map.{Configuration}
 use Rattle.flow_changes.specs.Singles.{is_new_reach, is_old_reach, pair_told}
 use Rattle.flow_map.specs.declared.kind.Change.{Change}
 use Rattle.flow_map.specs.declared.kind.Change.TheVariants as changes

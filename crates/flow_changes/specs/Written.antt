@@ -4,13 +4,13 @@ use Rattle.std.specs.Io.KnownBytes.{Appends}
 use Rattle.meter_theory.specs.Labels.{Policy, has}
 use Rattle.meter_theory.specs.Plan.{Client, Plan}
 use Rattle.whole_writes.specs.Written.{WritesText}
-use Rattle.flow_facts.specs.Map.{AreLeastOf}
+use Rattle.flow_map.specs.Map.{AreLeastOf}
 use Rattle.whole_writes.specs.declared.fault.ListFault.{ListFault}
 use Rattle.whole_writes.specs.declared.fault.ListFault.TheVariants as faults
 use Rattle.flow_changes.specs.Changes.{changes_of_kind, compare_text, gains, somebody_gains}
 use Rattle.flow_map.specs.Kinds.{all_kinds}
 use Rattle.flow_changes.specs.Differences.{AreReachChanges}
-use Rattle.flow_facts.specs.Map.{Configuration}
+use Rattle.flow_map.specs.Map.{Configuration}
 use Rattle.flow_changes.specs.Shown.{kind_shown}
 use Rattle.flow_changes.specs.declared.compare.Comparison.{Comparison}
 use Rattle.flow_map.specs.declared.kind.Change.TheVariants as changes

@@ -7,12 +7,12 @@ ghost use Rattle.flow_changes.specs.Shown.{shown};
 use crate::fact::Fact;
 use cosem_data::cell::CellRef;
 use cosem_data::memory::Memory;
-use object_model::plan::Plan;
+use flow_map::outline::Outline;
 
 /// Puts a fact behind others for each of these cells that a plan lacks.
 pub(crate) fn push_cells(
     cells: &[CellRef],
-    other_plan: &Plan,
+    other_plan: &Outline<'_>,
     facts: &mut Vec<Fact<'_>>,
 ) -> Result<(), Memory>
     ensures { OnOk result (map shown facts.new.items ≡ map shown facts.old.items

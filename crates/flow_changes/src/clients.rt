@@ -5,13 +5,13 @@ ghost use Rattle.flow_changes.specs.Singles as singles;
 
 use crate::fact::Fact;
 use cosem_data::memory::Memory;
-use object_model::client::Client;
+use flow_map::outline::ClientOutline;
 
 /// Puts facts behind others: the service access point of a client, unless the other, if it is one, has it too; and that it
 /// needs no password, unless the other needs none either.
 pub(crate) fn push_client<'a>(
-    client: &'a Client,
-    other: Option<&Client>,
+    client: &'a ClientOutline<'a>,
+    other: Option<&ClientOutline<'_>>,
     facts: &mut Vec<Fact<'a>>,
 ) -> Result<(), Memory>
     ensures { let there = option_map (λ client. client.now) other.entry in
@@ -24,8 +24,8 @@ pub(crate) fn push_client<'a>(
 
 /// Puts the service access point of a client behind facts, unless the other has it too.
 fn push_sap<'a>(
-    client: &'a Client,
-    other: Option<&Client>,
+    client: &'a ClientOutline<'a>,
+    other: Option<&ClientOutline<'_>>,
     facts: &mut Vec<Fact<'a>>,
 ) -> Result<(), Memory>
     ensures { OnOk result (map shown facts.new.items ≡ map shown facts.old.items
@@ -41,14 +41,14 @@ fn push_sap<'a>(
 
 /// Puts behind facts that a client needs no password, unless the other needs none either.
 fn push_open<'a>(
-    client: &'a Client,
-    other: Option<&Client>,
+    client: &'a ClientOutline<'a>,
+    other: Option<&ClientOutline<'_>>,
     facts: &mut Vec<Fact<'a>>,
 ) -> Result<(), Memory>
     ensures { OnOk result (map shown facts.new.items ≡ map shown facts.old.items
         ++ singles.open_facts client.now (option_map (λ client. client.now) other.entry)) }
 {
-    if client.password().is_none() && !is_open(other) {
+    if !client.needs_password() && !is_open(other) {
         let client = client.name_text();
         facts.push(Fact::IsOpen { client })?;
     }
@@ -56,7 +56,7 @@ fn push_open<'a>(
 }
 
 /// Whether the client, if it is one, has this service access point.
-fn is_at(sap: u8, client: Option<&Client>) -> bool
+fn is_at(sap: u8, client: Option<&ClientOutline<'_>>) -> bool
     ensures { result ≡ singles.is_at sap (option_map (λ client. client.now) client.entry) }
 {
     match client {
@@ -66,11 +66,11 @@ fn is_at(sap: u8, client: Option<&Client>) -> bool
 }
 
 /// Whether the client, if it is one, needs no password.
-fn is_open(client: Option<&Client>) -> bool
+fn is_open(client: Option<&ClientOutline<'_>>) -> bool
     ensures { result ≡ singles.is_open (option_map (λ client. client.now) client.entry) }
 {
     match client {
-        Some(client) => client.password().is_none(),
+        Some(client) => !client.needs_password(),
         None => false,
     }
 }

@@ -18,7 +18,7 @@ use crate::owned::push_owned;
 use crate::text::{first_line, lines_of, names_of};
 use cosem_data::clients::ClientSet;
 use cosem_data::memory::Memory;
-use flow_facts::map::FlowMap;
+use flow_map::map::FlowMap;
 use flow_map::kind::{Change, KINDS, Kind};
 use meter_theory::flow::Label;
 use std::alloc::Global;
@@ -73,8 +73,8 @@ pub struct Comparison<'a> {
 /// How a new configuration differs from an old one. The only error is want of memory.
 pub fn compare<'a>(
     alloc: Global,
-    old: &FlowMap<'a>,
-    new: &FlowMap<'a>,
+    old: &'a FlowMap<'a>,
+    new: &'a FlowMap<'a>,
 ) -> Result<Comparison<'a>, Memory>
     ensures { IfOk result (AreCompared old.now new.now) }
 {
@@ -93,8 +93,8 @@ pub fn compare<'a>(
 /// Writes how two sides differ, and tells whether somebody gains. All is made before the first byte is written.
 fn write_sides<'a, W: Write>(
     alloc: Global,
-    old: &FlowMap<'a>,
-    new: &FlowMap<'a>,
+    old: &'a FlowMap<'a>,
+    new: &'a FlowMap<'a>,
     writer: &mut W,
 ) -> Result<bool, ListFault>
     ensures { WritesSides old.now new.now
@@ -127,8 +127,8 @@ fn write_both<W: Write>(first: &[u8], second: &[u8], writer: &mut W) -> Result<(
 /// Puts what is gained and lost of each kind behind other kinds, and gives the clients of the new side that gain.
 fn push_kinds<'a>(
     alloc: Global,
-    old: &FlowMap<'a>,
-    new: &FlowMap<'a>,
+    old: &'a FlowMap<'a>,
+    new: &'a FlowMap<'a>,
     kinds: &mut Vec<KindFacts<'a>>,
 ) -> Result<ClientSet, Memory>
     ensures kinds { OnOk result (map kind_shown kinds.new.items ≡ map kind_shown kinds.old.items
@@ -153,8 +153,8 @@ fn push_kinds<'a>(
 fn push_facts<'a>(
     alloc: Global,
     kind: Kind,
-    mine: &FlowMap<'a>,
-    theirs: &FlowMap<'a>,
+    mine: &'a FlowMap<'a>,
+    theirs: &'a FlowMap<'a>,
     facts: &mut Vec<Fact<'a>>,
 ) -> Result<ClientSet, Memory>
     ensures facts { OnOk result (map shown facts.new.items ≡ map shown facts.old.items

@@ -9,11 +9,11 @@ use crate::owned::pairs_for;
 use crate::reaches::{is_new, is_old};
 use cosem_data::clients::ClientSet;
 use cosem_data::memory::Memory;
-use flow_facts::map::FlowMap;
+use flow_map::map::FlowMap;
 use flow_map::kind::{Change, Kind};
+use flow_map::outline::Outline;
 use meter_theory::flow::{Label, Reach};
 use meter_theory::limits::CLIENTS;
-use object_model::plan::Plan;
 use std::alloc::Global;
 
 /// For each cell of the new side the clients that may influence and learn it, of which those of the old side with their names may not; or
@@ -38,7 +38,7 @@ pub(crate) fn reach_changes(
 }
 
 /// For each client of a plan the place of the one with its name in another plan, if there is one.
-fn namesakes(alloc: Global, plan: &Plan, other: &Plan) -> Result<Vec<Option<u8>>, Memory>
+fn namesakes(alloc: Global, plan: &Outline<'_>, other: &Outline<'_>) -> Result<Vec<Option<u8>>, Memory>
     ensures { IfOk result (λ others. others.items
         ≡ map (λ client. plans.client_named other.now client.name) plan.now.clients) }
 {
@@ -51,7 +51,7 @@ fn namesakes(alloc: Global, plan: &Plan, other: &Plan) -> Result<Vec<Option<u8>>
 }
 
 /// The place in another plan of the client with the name of the one at this place.
-fn namesake(plan: &Plan, client: u8, other: &Plan) -> Option<u8>
+fn namesake(plan: &Outline<'_>, client: u8, other: &Outline<'_>) -> Option<u8>
     ensures { IfSome (slice_get plan.now.clients client) (λ who. result ≡ plans.client_named other.now who.name) }
 {
     match plan.client(client) {

@@ -14,14 +14,14 @@ use crate::fact::Fact;
 use cosem_data::cell::CellRef;
 use cosem_data::memory::Memory;
 use flow_edges::table::{EdgeTable, Link, edge_between};
-use object_model::plan::Plan;
+use flow_map::outline::Outline;
 use std::alloc::Global;
 
 /// Puts a fact behind others for each edge of a table that another plan lacks, whose edges are those of the other table.
 pub(crate) fn push_edges(
     alloc: Global,
     table: &EdgeTable,
-    other_plan: &Plan,
+    other_plan: &Outline<'_>,
     other: &EdgeTable,
     facts: &mut Vec<Fact<'_>>,
 ) -> Result<(), Memory>
@@ -37,7 +37,7 @@ pub(crate) fn push_edges(
 }
 
 /// The number that each of these cells has in a plan, or None where it is no cell of it.
-fn numbers_in(alloc: Global, plan: &Plan, cells: &[CellRef]) -> Result<Vec<Option<u16>>, Memory>
+fn numbers_in(alloc: Global, plan: &Outline<'_>, cells: &[CellRef]) -> Result<Vec<Option<u16>>, Memory>
     ensures { IfOk result (λ numbers. numbers.items ≡ map (cell_place plan.now) cells.now) }
 {
     let mut numbers = Vec::with_capacity(alloc, cells.len())?;

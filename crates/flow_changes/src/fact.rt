@@ -1,7 +1,7 @@
 //! What is told of a configuration, fact by fact.
 use cosem_data::cell::CellRef;
 use cosem_data::name::LogicalName;
-use flow_facts::access::Access;
+use flow_map::access::Access;
 use flow_map::reach_words::reach_word;
 use meter_theory::flow::{Edge, Reach};
 use std::fmt;

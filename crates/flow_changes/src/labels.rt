@@ -8,8 +8,8 @@ use cosem_data::cell::CellRef;
 use cosem_data::clients::ClientSet;
 use cosem_data::memory::Memory;
 use flow_map::kind::Kind;
+use flow_map::outline::Outline;
 use meter_theory::flow::Label;
-use object_model::plan::Plan;
 use std::alloc::Global;
 
 /// What two configurations say of a cell.
@@ -25,7 +25,7 @@ pub(crate) fn pairs_of(
     kind: Kind,
     cells: &[CellRef],
     mine: &[Label],
-    other: &Plan,
+    other: &Outline<'_>,
     theirs: &[Label],
 ) -> Result<Vec<Pair>, Memory>
     requires mine { length mine.now ≡ length cells.now }
@@ -44,7 +44,7 @@ pub(crate) fn pairs_of(
 }
 
 /// The label of a cell in a plan with these labels, if it is a cell of it.
-fn label_there(plan: &Plan, labels: &[Label], cell: &CellRef) -> Option<Label>
+fn label_there(plan: &Outline<'_>, labels: &[Label], cell: &CellRef) -> Option<Label>
     requires { length labels.now ≡ length (plans.cells plan.now) }
     ensures { (Q : theory.Labelling) → labels.now ≡ map Q (plans.cells plan.now) →
         result ≡ cond (plans.is_cell plan.now cell.now) (Some (Q cell.now)) None }

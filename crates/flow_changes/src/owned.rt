@@ -16,10 +16,9 @@ use crate::reaches::push_reaches;
 use crate::rights::push_rights;
 use cosem_data::clients::ClientSet;
 use cosem_data::memory::Memory;
-use flow_facts::map::FlowMap;
+use flow_map::map::FlowMap;
 use flow_map::kind::Kind;
-use object_model::client::Client;
-use object_model::plan::Plan;
+use flow_map::outline::{ClientOutline, Outline};
 use std::alloc::Global;
 
 /// Puts the facts of a kind behind others that are a client's own and that the other side lacks, client by client, and gives
@@ -27,8 +26,8 @@ use std::alloc::Global;
 pub(crate) fn push_owned<'a>(
     alloc: Global,
     kind: Kind,
-    mine: &FlowMap<'a>,
-    theirs: &FlowMap<'a>,
+    mine: &'a FlowMap<'a>,
+    theirs: &'a FlowMap<'a>,
     facts: &mut Vec<Fact<'a>>,
 ) -> Result<ClientSet, Memory>
     ensures facts { let C = mine.now in let D = theirs.now in
@@ -89,11 +88,11 @@ pub(crate) fn pairs_for(
 /// Puts the facts of a kind behind others that are this client's own and that the other side lacks.
 fn push_own<'a>(
     kind: Kind,
-    mine: &FlowMap<'a>,
-    theirs: &FlowMap<'a>,
+    mine: &'a FlowMap<'a>,
+    theirs: &'a FlowMap<'a>,
     pairs: &[Pair],
     place: u8,
-    client: &'a Client,
+    client: &'a ClientOutline<'a>,
     facts: &mut Vec<Fact<'a>>,
 ) -> Result<(), Memory>
     requires client { slice_get mine.now.plan.clients place ≡ Some client.now }
@@ -120,7 +119,7 @@ fn push_own<'a>(
 }
 
 /// The client at a place, if it is one.
-fn client_at(plan: &Plan, place: Option<u8>) -> Option<&Client>
+fn client_at<'a>(plan: &'a Outline<'a>, place: Option<u8>) -> Option<&'a ClientOutline<'a>>
     ensures { option_map (λ client. client.now) result
         ≡ option_and_then (slice_get plan.now.clients) place }
 {

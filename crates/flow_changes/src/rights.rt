@@ -11,10 +11,8 @@ use crate::namesakes::Namesakes;
 use cosem_data::cell::CellRef;
 use cosem_data::memory::Memory;
 use cosem_data::name::LogicalName;
-use flow_facts::access::Access;
-use object_model::instance::Instance;
-use object_model::object::Object;
-use object_model::plan::Plan;
+use flow_map::access::Access;
+use flow_map::outline::{ObjectOutline, Outline, RightsAt};
 
 /// Puts a fact behind others for each right of a client that the other, if it is one, lacks, object by object.
 pub(crate) fn push_rights<'a>(who: &Namesakes<'a>, facts: &mut Vec<Fact<'a>>) -> Result<(), Memory>
@@ -31,13 +29,13 @@ pub(crate) fn push_rights<'a>(who: &Namesakes<'a>, facts: &mut Vec<Fact<'a>>) ->
 /// The same of one object.
 fn push_rights_on<'a>(
     who: &Namesakes<'a>,
-    object: &Object,
+    object: &ObjectOutline<'_>,
     facts: &mut Vec<Fact<'a>>,
 ) -> Result<(), Memory>
     ensures { OnOk result (map shown facts.new.items ≡ map shown facts.old.items
         ++ singles.right_facts who.now.name.now who.now.plan.now who.now.client who.now.other_plan.now who.now.other object.now) }
 {
-    let instance = who.plan.instance(&object.name());
+    let instance = who.plan.rights_at(&object.name());
     push_view(who, &instance, object, facts)?;
     push_access(Access::Get, who, &instance, object, facts)?;
     push_access(Access::Set, who, &instance, object, facts)?;
@@ -47,8 +45,8 @@ fn push_rights_on<'a>(
 /// Puts behind facts that an object is in the view of a client, where it is and isn't in that of the other.
 fn push_view<'a>(
     who: &Namesakes<'a>,
-    instance: &Instance<'_>,
-    object: &Object,
+    instance: &RightsAt<'_>,
+    object: &ObjectOutline<'_>,
     facts: &mut Vec<Fact<'a>>,
 ) -> Result<(), Memory>
     requires { object.now.name ≡ instance.now.name }
@@ -56,7 +54,7 @@ fn push_view<'a>(
         ++ singles.view_facts who.now.name.now instance.now.plan who.now.client who.now.other_plan.now who.now.other object.now) }
 {
     let name = object.name();
-    let class_id = object.part().class_id();
+    let class_id = object.class_id();
     if instance.has_right(who.client) && !has_view(who.other_plan, who.other, class_id, &name) {
         facts.push(Fact::Views {
             client: who.name,
@@ -72,8 +70,8 @@ fn push_view<'a>(
 fn push_access<'a>(
     access: Access,
     who: &Namesakes<'a>,
-    instance: &Instance<'_>,
-    object: &Object,
+    instance: &RightsAt<'_>,
+    object: &ObjectOutline<'_>,
     facts: &mut Vec<Fact<'a>>,
 ) -> Result<(), Memory>
     requires { object.now.name ≡ instance.now.name }
@@ -81,8 +79,8 @@ fn push_access<'a>(
         ++ singles.access_facts who.now.name.now access instance.now.plan who.now.client who.now.other_plan.now who.now.other object.now) }
 {
     let name = object.name();
-    let class_id = object.part().class_id();
-    let highest = access.highest(&object.part().interface());
+    let class_id = object.class_id();
+    let highest = access.highest(&object.interface());
     let mut index = 0;
     while index < highest {
         index += 1;
@@ -100,7 +98,7 @@ fn push_access<'a>(
 fn push_member<'a>(
     access: Access,
     who: &Namesakes<'a>,
-    instance: &Instance<'_>,
+    instance: &RightsAt<'_>,
     member: &CellRef,
     facts: &mut Vec<Fact<'a>>,
 ) -> Result<(), Memory>
@@ -123,45 +121,34 @@ fn push_member<'a>(
 fn is_new_right(
     access: Access,
     who: &Namesakes<'_>,
-    instance: &Instance<'_>,
+    instance: &RightsAt<'_>,
     member: &CellRef,
 ) -> bool
     requires { member.now.name ≡ instance.now.name }
     ensures { result ≡ singles.is_new_right access instance.now.plan who.now.client who.now.other_plan.now who.now.other member.now }
 {
-    access.is_granted(instance, who.client, member.index)
+    instance.is_granted(access, who.client, member.index)
         && !is_held(who.other_plan, who.other, access, member)
 }
 
 /// Whether a client, if it is one, has an object of this class and name in its view by a right.
-fn has_view(plan: &Plan, client: Option<u8>, class_id: u16, name: &LogicalName) -> bool
+fn has_view(plan: &Outline<'_>, client: Option<u8>, class_id: u16, name: &LogicalName) -> bool
     ensures { result ≡ singles.sees plan.now client class_id name.now }
 {
     let Some(client) = client else {
         return false;
     };
-    let instance = plan.instance(name);
-    is_of_class(&instance, class_id) && instance.has_right(client)
+    let instance = plan.rights_at(name);
+    instance.is_of_class(class_id) && instance.has_right(client)
 }
 
 /// Whether a right of a client, if it is one, allows an access to the attribute or method of an object of this class.
-fn is_held(plan: &Plan, client: Option<u8>, access: Access, member: &CellRef) -> bool
+fn is_held(plan: &Outline<'_>, client: Option<u8>, access: Access, member: &CellRef) -> bool
     ensures { result ≡ singles.is_held plan.now client access member.now }
 {
     let Some(client) = client else {
         return false;
     };
-    let instance = plan.instance(&member.name);
-    is_of_class(&instance, member.class_id) && access.is_granted(&instance, client, member.index)
-}
-
-/// Whether an object of this class stands here.
-fn is_of_class(instance: &Instance<'_>, class_id: u16) -> bool
-    ensures { result ≡ some_passes (λ o. class_of o.part == class_id)
-        (object_at instance.now.plan instance.now.name) }
-{
-    match instance.object() {
-        Some(object) => object.part().class_id() == class_id,
-        None => false,
-    }
+    let instance = plan.rights_at(&member.name);
+    instance.is_of_class(member.class_id) && instance.is_granted(access, client, member.index)
 }

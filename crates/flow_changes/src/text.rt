@@ -10,11 +10,11 @@ use crate::fact::Fact;
 use cosem_data::clients::ClientSet;
 use cosem_data::memory::Memory;
 use flow_map::kind::{Change, Kind};
-use object_model::plan::Plan;
+use flow_map::outline::Outline;
 use std::alloc::Global;
 
 /// The names of the clients in a set, each behind a comma.
-pub(crate) fn names_of(alloc: Global, plan: &Plan, set: ClientSet) -> Result<Vec<u8>, Memory>
+pub(crate) fn names_of(alloc: Global, plan: &Outline<'_>, set: ClientSet) -> Result<Vec<u8>, Memory>
     ensures { IfOk result (λ names. names.items ≡ flat_map (λ c. 44 ∷ c.1.name)
         (filter (λ c. has set c.0) (numbered plan.now))) }
 {

@@ -14,10 +14,9 @@ use cosem_data::clients::ClientSet;
 use cosem_data::memory::Memory;
 use flow_edges::ends::{far_of, near_of};
 use flow_edges::table::edge_between;
-use flow_facts::map::FlowMap;
+use flow_map::map::FlowMap;
 use label_certificate::label_sets::set_for;
 use label_certificate::labels::Labels;
-use label_certificate::numbered::labels_by_number;
 use meter_theory::flow::{Edge, Label, Reach};
 use std::alloc::Global;
 
@@ -40,7 +39,7 @@ impl<'a> Case<'a> {
         ensures labels { IfOk result (λ case. case.labels.now ≡ labels.now) }
         ensures found { IfOk result IsFound }
     {
-        let found = labels_by_number(alloc, map.plan(), map.cells().len(), labels.entries())?;
+        let found = map.numbered(alloc, labels)?;
         Ok(Case { map, labels, found })
     }
 

@@ -10,7 +10,8 @@ ghost use Rattle.flow_checker.specs.Answer.{IsRefusedAs, name_at};
 use crate::refusal::first_refusal;
 use cosem_data::cell::CellRef;
 use cosem_data::memory::Memory;
-use flow_facts::map::FlowMap;
+use flow_map::map::FlowMap;
+use flow_map::outline::Outline;
 use label_certificate::labels::Labels;
 use label_certificate::numbered::source_of;
 use meter_effects::promises::{admitted_is_influence_safe, admitted_is_secret};
@@ -219,7 +220,7 @@ pub fn verdict_on(alloc: Global, map: &FlowMap<'_>, labels: &Labels) -> Result<(
 }
 
 /// A refusal with the name of its client.
-fn told(alloc: Global, plan: &Plan, refusal: Refusal) -> Refused
+fn told(alloc: Global, plan: &Outline<'_>, refusal: Refusal) -> Refused
     ensures { (policy : theory.Labelling) (labels : theory.Labels) →
         Refuses plan.now policy labels refusal → IsRefusedAs plan.now policy labels result }
 {
@@ -240,7 +241,7 @@ fn told(alloc: Global, plan: &Plan, refusal: Refusal) -> Refused
 }
 
 /// The name of the client at a place. The only error is want of memory.
-fn name_of(alloc: Global, plan: &Plan, client: u8) -> Result<String, Memory>
+fn name_of(alloc: Global, plan: &Outline<'_>, client: u8) -> Result<String, Memory>
     ensures { IfOk result (λ name. string_bytes name ≡ name_at plan.now client) }
 {
     match plan.client(client) {

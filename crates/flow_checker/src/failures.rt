@@ -6,7 +6,7 @@ ghost use Rattle.flow_checker.specs.Failures.{failures};
 use crate::case::Case;
 use crate::failure::Failure;
 use cosem_data::memory::Memory;
-use flow_facts::map::FlowMap;
+use flow_map::map::FlowMap;
 use label_certificate::labels::Labels;
 use meter_theory::laws::tests_decide_admission;
 use std::alloc::Global;

@@ -7,7 +7,7 @@ ghost use Rattle.flow_checker.specs.Answer.{IsAnswer};
 use crate::case::Case;
 use crate::failure::Failure;
 use cosem_data::memory::Memory;
-use flow_facts::map::FlowMap;
+use flow_map::map::FlowMap;
 use label_certificate::labels::Labels;
 use meter_theory::flow::Refusal;
 use std::alloc::Global;

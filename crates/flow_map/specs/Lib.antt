@@ -2,3 +2,8 @@ pub mod ClassWords
 pub mod Kinds
 pub mod Reaches
 pub mod Requests
+pub mod Access
+pub mod Map
+pub mod Grouping
+pub mod Outline
+pub mod Granting

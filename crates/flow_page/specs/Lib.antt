@@ -2,3 +2,14 @@ pub mod Ways
 pub mod Tables
 pub mod Matrix
 pub mod Page
+pub mod Keys
+pub mod Equal
+pub mod Marks
+pub mod Rows
+pub mod Clients
+pub mod Objects
+pub mod Lines
+pub mod WayTables
+pub mod Marked
+pub mod Changes
+pub mod Shown

@@ -1,11 +1,12 @@
 //! A page on who may change and who may learn what, and its text in HTML (own profile).
 //!
-//! - [`page::Page`] is what it shows, and [`page_text::page_text`] its text.
+//! - [`page::Page`] is what it shows, [`page_text::page_text`] its text, and [`view`] makes it of what is known of a configuration.
 //! - The rooms `.._text` put a part each together from pieces, by the templates of [`lists`], and [`style`] has the style and the
 //!   script.
 //!
 //! What a page says of its value stands in `specs/`, in the order of the page: all of it (`Page`), the matrix (`Matrix`), edges and
-//! ways (`Ways`), and clients, objects and changes (`Tables`). Markup that says nothing is named there by nothing.
+//! ways (`Ways`), and clients, objects and changes (`Tables`). Markup that says nothing is named there by nothing. What the value should be
+//! is told in [`view`].
 #![tactic(auto)]
 
 pub mod changes;
@@ -23,5 +24,6 @@ pub mod page;
 pub mod page_text;
 pub mod style;
 mod verdict_text;
+pub mod view;
 pub mod ways;
 mod ways_text;

@@ -1,1 +1,5 @@
 pub mod Svg
+pub mod Boxes
+pub mod Arrows
+pub mod Drawn
+pub mod Picture

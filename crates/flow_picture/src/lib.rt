@@ -1,6 +1,7 @@
 //! A picture of how values flow between cells, as SVG: boxes of cells, arrows between them, and where they stand (own profile).
 //!
 //! - [`picture::Picture`] is what it shows, [`layout::Layout`] where it stands, and [`svg::picture_text`] its text.
+//! - [`drawing`] makes it of what is known of a configuration.
 //! - The text is put together of pieces: [`svg`] puts the legend, the choice of a client and the cells without edges, and `arrows`,
 //!   `boxes` and `box_text` put the drawing, of which `placed` puts the places.
 //!
@@ -12,6 +13,7 @@ mod arrows;
 mod box_text;
 mod boxes;
 mod columns;
+pub mod drawing;
 pub mod layout;
 mod lines;
 pub mod picture;

@@ -7,7 +7,7 @@ use Rattle.meter_theory.specs.Sound.{IsSound}
 use Rattle.meter_theory.specs.Ways.{IsDistance, is_within}
 use Rattle.meter_theory.specs.declared.flow.Reach.{Reach}
 use Rattle.meter_theory.proofs.Ways.{few-edges, has-distance}
-use Rattle.flow_ways.proofs.Found.{found-number, no-number}
+use Rattle.flow_map.proofs.Found.{found-number, no-number}
 use Rattle.flow_ways.proofs.Shown.{distance-within}
 use Rattle.flow_ways.specs.Found.{AreDistancesOf, distance_of}
 

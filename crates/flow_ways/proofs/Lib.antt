@@ -3,10 +3,9 @@ pub mod Noting
 pub mod Numbered
 pub mod Passed
 mod LedTo
-pub mod Found
-pub mod Seeking
-pub mod Nearby
-pub mod Granted
 pub mod Shown
 pub mod Told
 pub mod Distance
+mod BareFlow
+mod BareRequests
+mod BareScripts

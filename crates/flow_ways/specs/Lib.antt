@@ -3,5 +3,5 @@ pub mod Arriving
 pub mod Distances
 pub mod Found
 pub mod Kept
-pub mod Granting
 pub mod Why
+pub mod Bare

@@ -15,7 +15,7 @@ use Rattle.value_text.specs.Edges.{edge_text}
 use Rattle.value_text.specs.Texts.{cell_text}
 use Rattle.flow_map.specs.Reaches.{reach_word}
 use Rattle.flow_map.specs.Requests.{request_text}
-use Rattle.flow_ways.specs.Granting.{shown_request}
+use Rattle.flow_map.specs.Granting.{shown_request}
 use Rattle.flow_ways.specs.Kept.{IsShown}
 use Rattle.flow_map.specs.declared.request.GrantedRequest.{GrantedRequest}
 use Rattle.flow_map.specs.declared.request.GrantedRequest.TheVariants.{Get, Set, Act, Execute}

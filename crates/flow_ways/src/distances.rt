@@ -8,11 +8,11 @@ use crate::rounds::next_round;
 use cosem_data::clients::ClientSet;
 use cosem_data::memory::Memory;
 use flow_edges::table::Link;
-use flow_facts::map::FlowMap;
+use flow_map::map::FlowMap;
+use flow_map::outline::Outline;
 use label_certificate::label_sets::sets_for;
 use meter_theory::flow::Reach;
 use meter_theory::limits::CLIENTS;
-use object_model::plan::Plan;
 use std::alloc::Global;
 
 /// For each cell of the plan, and for each of as many clients as a meter has at most, how many edges the shortest ways to it
@@ -34,7 +34,7 @@ pub(crate) fn distances(
 /// Numbers what rights grant, and what each round adds.
 fn number_rounds(
     alloc: Global,
-    plan: &Plan,
+    plan: &Outline<'_>,
     links: &[Link],
     reach: Reach,
     granted: Vec<ClientSet>,

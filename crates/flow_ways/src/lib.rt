@@ -2,13 +2,11 @@
 //! shown (own profile).
 //!
 //! The definitions stand in `specs/` of `meter_theory` (`Ways`) and here: sets of clients, round by round (`Rounds`), distances
-//! as numbers (`Distances`) and as a function (`Found`), what is kept of a plan (`Kept`), the request that is shown (`Granting`), and
-//! what is told of a client and a cell (`Why`). The theorems are the functions of [`laws`].
+//! as numbers (`Distances`) and as a function (`Found`), what is kept of a plan (`Kept`), and what is told of a client and a cell (`Why`). The theorems are the functions of [`laws`].
 #![tactic(auto)]
 
 mod arriving;
 mod distances;
-pub mod granting;
 pub mod laws;
 mod rounds;
 pub mod ways;

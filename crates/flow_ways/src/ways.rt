@@ -16,10 +16,10 @@ use cosem_data::cell::CellRef;
 use cosem_data::memory::Memory;
 use flow_edges::ends::{far_of, near_of};
 use flow_edges::table::{Link, edge_between};
-use flow_facts::map::FlowMap;
+use flow_map::map::FlowMap;
+use flow_map::outline::Outline;
 use meter_theory::flow::{Edge, Reach};
 use meter_theory::limits::CLIENTS;
-use object_model::plan::Plan;
 use std::alloc::Global;
 use std::marker::Model;
 
@@ -39,7 +39,7 @@ impl<'a> Model for Ways<'a> {
     ghost use Rattle.std.specs.Coded.{codes};
     ghost use Rattle.std.specs.Prelude.{map};
     ghost use Rattle.meter_theory.specs.PlanCode.{plan_code};
-    ghost use Rattle.flow_facts.specs.Map.{Configuration};
+    ghost use Rattle.flow_map.specs.Map.{Configuration};
     ghost use Rattle.flow_ways.specs.Kept.{AreWaysOf};
 
     ghost Value = { Configuration };
@@ -98,7 +98,7 @@ impl<'a> Ways<'a> {
     }
 
     /// The plan.
-    pub fn plan(&self) -> &'a Plan
+    pub fn plan(&self) -> &'a Outline<'a>
         ensures { result.now ≡ self.now.plan }
     {
         self.known.plan()

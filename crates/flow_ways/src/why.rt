@@ -6,7 +6,6 @@ ghost use Rattle.flow_edges.specs.Table.{cell_at};
 ghost use Rattle.flow_ways.specs.Why as spec;
 ghost use Rattle.flow_ways.specs.Why.{IsBlockPut, IsWhy};
 
-use crate::granting::shown_request;
 use crate::ways::Ways;
 use cosem_data::cell::CellRef;
 use cosem_data::memory::Memory;
@@ -120,7 +119,7 @@ fn push_way(
         cell,
     } = *asked;
     let end = way_end(reach, &cell, &edges);
-    let request = shown_request(ways.plan(), ways.cells(), reach, client, &end);
+    let request = ways.map().request(reach, client, &end);
     match reach {
         Reach::Influence => {
             let mut edges = edges;

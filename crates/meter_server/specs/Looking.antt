@@ -10,7 +10,7 @@ use Rattle.config_text.specs.declared.fault.ConfigFault.{ConfigFault as FaultTol
 use Rattle.shown_text.specs.Printable.{printable}
 use Rattle.meter_theory.specs.Labels.{Policy}
 use Rattle.meter_theory.specs.Plan.{Plan, cells, client_named}
-use Rattle.plan_lists.specs.Listing.{WritesWhy}
+use Rattle.flow_forms.specs.Listing.{WritesWhy}
 use Rattle.whole_writes.specs.declared.fault.ListFault.{ListFault}
 use Rattle.whole_writes.specs.declared.fault.ListFault.TheVariants as lists
 use Rattle.value_text.specs.Texts.{cell_text}

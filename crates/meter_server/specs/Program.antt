@@ -31,7 +31,7 @@ use Rattle.meter_server.specs.declared.outcome.Outcome.{Outcome}
 use Rattle.meter_server.specs.declared.outcome.Outcome.TheVariants.{Done, Judged, JudgedWhole, Words, Fault, Broken, Unwritten}
 use Rattle.meter_server.specs.declared.texts.Source.{Source}
 use Rattle.whole_writes.specs.Written.{WritesText}
-use Rattle.plan_lists.specs.Listing.{dot_text, edges_text}
+use Rattle.flow_forms.specs.Listing.{dot_text, edges_text}
 use Rattle.whole_writes.specs.declared.fault.ListFault.{ListFault}
 use Rattle.whole_writes.specs.declared.fault.ListFault.TheVariants as lists
 use Rattle.verdict.specs.Judging.{IsVerdictOn, IsWholeVerdictOn}

@@ -9,16 +9,16 @@ use Rattle.config_rules.specs.Faultless.{IsPolicyOf}
 use Rattle.config_rules.specs.PlanOf.{plan_of}
 use Rattle.config_text.specs.Parts.{ConfigText}
 use Rattle.flow_checker.specs.Answer.{IsRefusedAs}
-use Rattle.flow_report.specs.Csv.{IsCsv}
-use Rattle.flow_report.specs.Html.{IsHtml}
-use Rattle.flow_report.specs.Json.{IsJson}
-use Rattle.flow_view.specs.declared.page.Heading.{Heading}
+use Rattle.flow_forms.specs.Csv.{IsCsv}
+use Rattle.flow_forms.specs.Html.{IsHtml}
+use Rattle.flow_forms.specs.Json.{IsJson}
+use Rattle.flow_page.specs.declared.view.page.Heading.{Heading}
 use Rattle.label_certificate.specs.Faults as label_faults
 use Rattle.label_certificate.specs.LabelText.{labels_of_text}
 use Rattle.label_certificate.specs.declared.fault.LabelFault.{LabelFault}
 use Rattle.meter_theory.specs.Labels.{Admits, Labels, Policy, labelling_of_policy}
 use Rattle.meter_theory.specs.Plan.{Plan}
-use Rattle.flow_facts.specs.Map.{AreLeastOf}
+use Rattle.flow_map.specs.Map.{AreLeastOf}
 use Rattle.whole_writes.specs.Written.{WritesText}
 use Rattle.whole_writes.specs.declared.fault.ListFault.{ListFault}
 use Rattle.whole_writes.specs.declared.fault.ListFault.TheVariants as faults

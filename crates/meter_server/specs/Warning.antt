@@ -15,7 +15,7 @@ use Rattle.label_certificate.specs.declared.fault.LabelCode.{LabelCode}
 use Rattle.label_certificate.specs.LabelText.{labels_of_text}
 use Rattle.meter_theory.specs.Labels.{AreLeast, Labels, Policy, labelling_of, labelling_of_policy}
 use Rattle.meter_theory.specs.Plan.{Plan, cells}
-use Rattle.plan_lists.specs.Listing.{WritesLeast}
+use Rattle.flow_forms.specs.Listing.{WritesLeast}
 use Rattle.verdict.specs.Judging.{IsVerdictOn}
 use Rattle.verdict.specs.declared.Verdict.TheVariants.{Accepted}
 use Rattle.meter_server.specs.Program.{IsFaulty, RefusesOn}

@@ -10,7 +10,7 @@ use crate::texts::Source;
 use config_reader::read_config;
 use config_text::fault::ConfigFault;
 use flow_changes::compare::write_comparison;
-use flow_facts::map::FlowMap;
+use flow_map::map::FlowMap;
 use object_model::plan::Plan;
 use object_model::policy::Policy;
 use std::alloc::Global;

@@ -1,6 +1,6 @@
 //! Reports on who may change and who may learn what (own profile).
 ghost use Rattle.std.specs.Prelude.{◌≡◌, IfOk, MatchResult, Some, is_some, option_map};
-ghost use Rattle.flow_report.specs.Html.{configuration_of};
+ghost use Rattle.flow_forms.specs.Html.{configuration_of};
 ghost use Rattle.meter_server.specs.Reporting as spec;
 ghost use Rattle.meter_server.specs.Reporting.{AreLabelsOf, FailsLabels, IsHeading, IsReport, IsWithoutEnd, ReportsAgainst, ReportsFile, ReportsOn, ReportsPlan, ReportsSubject, WritesReport};
 ghost use Rattle.command_words.specs.declared.command.ReportForm.TheVariants as forms;
@@ -13,11 +13,11 @@ use command_words::ReportForm;
 use config_reader::read_config;
 use cosem_data::memory::Memory;
 use flow_checker::check::{Refused, verdict_on};
-use flow_facts::map::FlowMap;
-use flow_report::csv_form::csv_text;
-use flow_report::html_form::html_text;
-use flow_report::json_form::json_text;
-use flow_view::page::Heading;
+use flow_map::map::FlowMap;
+use flow_forms::csv_form::csv_text;
+use flow_forms::html_form::html_text;
+use flow_forms::json_form::json_text;
+use flow_page::view::page::Heading;
 use flow_ways::ways::Ways;
 use label_certificate::labels::Labels;
 use label_certificate::reading::read_labels;

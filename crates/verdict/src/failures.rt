@@ -16,7 +16,7 @@ use cosem_data::clients::ClientSet;
 use cosem_data::memory::Memory;
 use flow_checker::failure::Failure;
 use flow_checker::failures::all_failures;
-use flow_facts::map::FlowMap;
+use flow_map::map::FlowMap;
 use label_certificate::labels::Labels;
 use meter_theory::flow::Edge;
 use object_model::plan::Plan;

@@ -1,6 +1,6 @@
 use Rattle.std.proofs.Common.{◌∙◌, Bool, ap, arith, get_or, map, not, sym}
 use Rattle.meter_theory.specs.declared.flow.Cause.TheVariants.{Monitored}
-use Rattle.object_model.proofs.Positions.{in-at}
+use Rattle.flow_map.proofs.Places.{in-at}
 use Rattle.flow_edges.specs.Table.{edge_at}
 use Rattle.flow_edges.specs.declared.table.Link.{Link}
 use Rattle.flow_changes.specs.Facts.{Fact, HasEdge}

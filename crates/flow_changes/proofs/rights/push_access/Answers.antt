@@ -2,8 +2,8 @@ use Rattle.std.proofs.Common.{◌≡◌, ◌∙◌, ◌++◌, ◌-◌, ℕ, List
 use Rattle.std.specs.List.{range_with_len}
 use Rattle.cosem_data.specs.Cells.{cell}
 use Rattle.cosem_data.specs.declared.name.LogicalName.{LogicalName}
-use Rattle.meter_theory.specs.Plan.{class_of, interface_of}
-use Rattle.flow_facts.specs.Access.{highest_for}
+use Rattle.meter_theory.specs.Plan.{class_of}
+use Rattle.flow_map.specs.Access.{highest_for}
 use Rattle.flow_changes.specs.Facts.{Fact, Holds}
 use Rattle.flow_changes.specs.Shown.{shown}
 use Rattle.flow_changes.specs.Singles.{is_new_right}
@@ -17,9 +17,9 @@ loop-index-init c =
     let members : ℕ → LogicalName → ℕ → List Fact = λ k name h.
     map (Holds who.name.now c.args.access) (filter (is_new_right c.args.access c.args.instance.now.plan who.client who.other_plan.now who.other) (map (cell k name) (range_with_len 1 h))) in
     let all : c.highest-highest.result - 0 ≡ c.highest-highest.result = omega arith in
-    let high = all ∙ c.highest-highest.ensures ∙ ap (highest_for c.args.access) (c.interface.ensures ∙ ap interface_of c.part-2.ensures) in (
+    let high = all ∙ c.highest-highest.ensures ∙ ap (highest_for c.args.access) c.interface.ensures in (
       ap (λ t. map shown c.args.facts.now.items ++ t)
-          (ap (λ k. members k c.name-name.result (c.highest-highest.result - 0)) (c.class_id-class_id.ensures ∙ ap class_of c.part.ensures)
+          (ap (λ k. members k c.name-name.result (c.highest-highest.result - 0)) c.class_id-class_id.ensures
           ∙ ap (λ name. members (class_of o.part) name (c.highest-highest.result - 0)) c.name-name.ensures
           ∙ ap (members (class_of o.part) o.name) high),
       omega arith,

@@ -1,4 +1,4 @@
-use Rattle.flow_ways.proofs.Granted.{shown-there}
+use Rattle.flow_map.proofs.Granted.{shown-there}
 use Rattle.flow_ways.proofs.Told.{way-granted}
 use Rattle.flow_ways.proofs.laws.shown_requests_are_allowed.Goals as goal
 

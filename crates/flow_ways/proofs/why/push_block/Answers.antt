@@ -4,7 +4,7 @@ use Rattle.std.proofs.lemmas.Result.{on_ok_weaker}
 use Rattle.meter_theory.specs.Labels.{has, labelling_of_policy}
 use Rattle.meter_theory.specs.Plan.{cells}
 use Rattle.meter_theory.specs.Ways.{set_for}
-use Rattle.flow_facts.specs.Map.{Configuration}
+use Rattle.flow_map.specs.Map.{Configuration}
 use Rattle.flow_edges.specs.Table.{cell_at}
 use Rattle.flow_ways.specs.Kept.{IsShown}
 use Rattle.flow_ways.specs.Why.{IsBlockPut, indented, way_lines}

@@ -1,5 +1,5 @@
 use Rattle.std.proofs.Common.{ap, option_map, subst, sym}
-use Rattle.flow_report.specs.Html.{IsHtml, configuration_of}
+use Rattle.flow_forms.specs.Html.{IsHtml, configuration_of}
 use Rattle.meter_server.specs.Reporting.{IsHeading}
 use Rattle.meter_server.proofs.reporting.html_of.Goals as goal
 

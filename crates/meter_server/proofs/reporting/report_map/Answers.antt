@@ -1,5 +1,5 @@
 use Rattle.std.proofs.Common.{inl, refl, subst, sym}
-use Rattle.flow_facts.specs.Map.{AreLeastOf}
+use Rattle.flow_map.specs.Map.{AreLeastOf}
 use Rattle.meter_server.specs.Reporting.{AreJudged}
 use Rattle.meter_server.proofs.reporting.report_map.Goals as goal
 

@@ -1,7 +1,7 @@
 use Rattle.std.proofs.Common.{◌∙◌, is_some, option_map, sym, subst}
 use Rattle.std.proofs.lemmas.Result.{err_from_is_err_and}
-use Rattle.flow_facts.specs.Map.{Configuration}
-use Rattle.flow_report.specs.Html.{configuration_of}
+use Rattle.flow_map.specs.Map.{Configuration}
+use Rattle.flow_forms.specs.Html.{configuration_of}
 use Rattle.meter_server.specs.Reporting.{IsReport}
 use Rattle.meter_server.proofs.reporting.write_report.Goals as goal
 

@@ -1,6 +1,6 @@
 use Rattle.std.proofs.Common.{subst}
 use Rattle.meter_theory.specs.Plan.{Plan}
-use Rattle.plan_lists.specs.Listing.{WritesLeast}
+use Rattle.flow_forms.specs.Listing.{WritesLeast}
 use Rattle.meter_server.proofs.texts.write_least.Goals as goal
 
 pub returns : goal.returns

@@ -3,7 +3,7 @@ use Rattle.meter_theory.specs.Plan.{cells}
 use Rattle.meter_theory.specs.Ways.{IsDistance}
 use Rattle.flow_edges.specs.Table.{cell_at, edge_at}
 use Rattle.label_certificate.proofs.Closed.{link_in}
-use Rattle.object_model.proofs.Positions.{in-at}
+use Rattle.flow_map.proofs.Places.{in-at}
 use Rattle.flow_ways.specs.Kept.{leads_within}
 use Rattle.flow_ways.proofs.LedTo.{first-passes}
 use Rattle.flow_ways.proofs.Passed.{no_link}

@@ -1,3 +1,0 @@
-pub mod Scripts
-pub mod Flow
-pub mod Requests

@@ -1,7 +1,0 @@
-use Rattle.std.proofs.Common.{◌≡◌, map}
-use Rattle.std.specs.List.{range_with_len}
-use Rattle.flow_drawing.specs.Arrows.{place_of}
-use Rattle.flow_drawing.proofs.arrows.places_of.Given as goal
-
-abbrev pub invariant-loop-number : goal.invariant-loop-number
-invariant-loop-number l = l.places.items ≡ map (place_of (map (λ cells. cells.items) l.boxes)) (range_with_len 0 l.number)

@@ -1,6 +1,0 @@
-use Rattle.std.proofs.Common.{◌≡◌, take}
-use Rattle.flow_drawing.specs.Drawn as spec
-use Rattle.flow_drawing.proofs.drawn.known_of.Given as goal
-
-abbrev pub invariant-loop-number : goal.invariant-loop-number
-invariant-loop-number l = l.cells.items ≡ spec.known_of l.count (take l.number-index l.group)

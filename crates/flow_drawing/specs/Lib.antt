@@ -1,4 +1,0 @@
-pub mod Boxes
-pub mod Arrows
-pub mod Drawn
-pub mod Picture

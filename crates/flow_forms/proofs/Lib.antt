@@ -1,0 +1,4 @@
+pub mod Records
+pub mod Values
+pub mod NoFloats
+pub mod Listed

@@ -1,0 +1,10 @@
+pub mod Lists
+pub mod Ranges
+pub mod Firsts
+pub mod Grouped
+pub mod Once
+pub mod Found
+pub mod Nearby
+pub mod Seeking
+pub mod Granted
+pub mod Places

@@ -1,0 +1,176 @@
+//! Which ways tables tell.
+ghost use Rattle.std.specs.Prelude.{◌≡◌, ◌<◌, ◌-◌, ◌++◌, IfOk, OnOk, length, take};
+ghost use Rattle.std.specs.List.{list_any};
+ghost use Rattle.meter_theory.specs.Plan as theory;
+ghost use Rattle.flow_map.specs.Grouping.{numbers_of};
+ghost use Rattle.flow_page.specs.Marks.{told};
+ghost use Rattle.flow_page.specs.Rows.{AreRowsOf};
+ghost use Rattle.flow_page.specs.WayTables as spec;
+
+use crate::view::equal::same_reach;
+use crate::view::facts::Facts;
+use crate::view::marks::{distance, has_at, request};
+use crate::view::rows::first_cell;
+use flow_map::pushing::push_some;
+use cosem_data::memory::Memory;
+use flow_map::request::GrantedRequest;
+use meter_theory::flow::Reach;
+use std::alloc::Global;
+
+/// A way that is told: that of a client to the first cell of a row (own profile).
+#[derive(Clone, Copy, Drop)]
+pub(crate) struct Pick {
+    /// Whether it is a way of influence or of learning.
+    pub reach: Reach,
+    /// The number of the client.
+    pub client: u8,
+    /// The number of the row.
+    pub row: usize,
+    /// The request at its other end.
+    pub request: GrantedRequest,
+}
+
+/// Which ways a table tells (own profile).
+#[derive(Clone, Copy)]
+pub(crate) enum Sort {
+    /// Those that the policy doesn't allow.
+    Refused,
+    /// Those by edges that it allows.
+    Reached,
+}
+
+/// All ways of a sort to first cells of rows: client by client, influence before learning, and row by row. The only error is want
+/// of memory.
+pub(crate) fn picks(
+    alloc: Global,
+    facts: &Facts<'_>,
+    sort: Sort,
+    rows: &[Vec<usize>],
+) -> Result<Vec<Pick>, Memory>
+    requires { AreRowsOf (length (theory.cells facts.now.ways.now.plan)) (numbers_of rows.now) }
+    ensures { IfOk result (λ list. list.items ≡ spec.picks (told facts.now) sort (numbers_of rows.now)) }
+{
+    let mut list = Vec::new(alloc);
+    for client in 0..facts.ways.plan().client_count() {
+        push_client(alloc, facts, sort, rows, client, &mut list)?;
+    }
+    Ok(list)
+}
+
+/// Puts those of a client behind others.
+fn push_client(
+    alloc: Global,
+    facts: &Facts<'_>,
+    sort: Sort,
+    rows: &[Vec<usize>],
+    client: u8,
+    list: &mut Vec<Pick>,
+) -> Result<(), Memory>
+    requires rows { AreRowsOf (length (theory.cells facts.now.ways.now.plan)) (numbers_of rows.now) }
+    requires client { client < length facts.now.ways.now.plan.clients }
+    ensures { OnOk result (list.new.items ≡ list.old.items
+        ++ spec.client_picks (told facts.now) sort (numbers_of rows.now) client) }
+{
+    let influence = reach_picks(alloc, facts, sort, rows, Reach::Influence, client)?;
+    let learn = reach_picks(alloc, facts, sort, rows, Reach::Learn, client)?;
+    list.extend_from_slice(&influence)?;
+    list.extend_from_slice(&learn)?;
+    Ok(())
+}
+
+/// Those of a reach of a client.
+fn reach_picks(
+    alloc: Global,
+    facts: &Facts<'_>,
+    sort: Sort,
+    rows: &[Vec<usize>],
+    reach: Reach,
+    client: u8,
+) -> Result<Vec<Pick>, Memory>
+    requires rows { AreRowsOf (length (theory.cells facts.now.ways.now.plan)) (numbers_of rows.now) }
+    requires client { client < length facts.now.ways.now.plan.clients }
+    ensures { IfOk result (λ list. list.items
+        ≡ spec.reach_picks (told facts.now) sort (numbers_of rows.now) reach client) }
+{
+    let mut list = Vec::new(alloc);
+    for row in 0..rows.len() {
+        let pick = pick_at(alloc, facts, sort, rows, reach, client, row)?;
+        push_some(pick, &mut list)?;
+    }
+    Ok(list)
+}
+
+/// The way of a client to the first cell of a row, if it is of this sort.
+fn pick_at(
+    alloc: Global,
+    facts: &Facts<'_>,
+    sort: Sort,
+    rows: &[Vec<usize>],
+    reach: Reach,
+    client: u8,
+    row: usize,
+) -> Result<Option<Pick>, Memory>
+    requires rows { AreRowsOf (length (theory.cells facts.now.ways.now.plan)) (numbers_of rows.now) }
+    requires client { client < length facts.now.ways.now.plan.clients }
+    requires row { row < length rows.now }
+    ensures { IfOk result (λ pick. pick
+        ≡ spec.pick_at (told facts.now) sort (numbers_of rows.now) reach client row) }
+{
+    let cell = first_cell(facts.ways, rows, row);
+    let distance = distance(facts.ways, reach, client, cell);
+    let allowed = has_at(facts.allowed, reach, client, cell);
+    if !is_of(sort, distance, allowed) {
+        return Ok(None);
+    }
+    match request(alloc, facts.ways, reach, client, cell)? {
+        None => Ok(None),
+        Some(request) => Ok(Some(Pick {
+            reach,
+            client,
+            row,
+            request,
+        })),
+    }
+}
+
+/// Whether a way of this length, which the policy allows or not, is of this sort.
+fn is_of(sort: Sort, distance: Option<usize>, allowed: bool) -> bool
+    ensures { result ≡ spec.is_of sort distance allowed }
+{
+    match (sort, distance) {
+        (Sort::Refused, Some(_)) => !allowed,
+        (Sort::Refused, None) => false,
+        (Sort::Reached, Some(0)) => false,
+        (Sort::Reached, Some(_)) => allowed,
+        (Sort::Reached, None) => false,
+    }
+}
+
+/// Whether the way of a client to a row is one of those.
+pub(crate) fn is_told(list: &[Pick], reach: Reach, client: u8, row: usize) -> bool
+    ensures { result ≡ list_any (spec.is_pick reach client row) list.now }
+{
+    list.iter().any(|pick| same_reach(pick.reach, reach)
+        && pick.client == client
+        && pick.row == row)
+}
+
+/// Those of a list that a table tells, and how many are left.
+#[derive(Drop)]
+pub(crate) struct FirstPicks {
+    /// The first.
+    pub picks: Vec<Pick>,
+    /// How many more there are.
+    pub left: usize,
+}
+
+/// As many of these as there is room for, the first of them.
+pub(crate) fn first_picks(list: Vec<Pick>, room: usize) -> FirstPicks
+    ensures picks { result.picks.items ≡ take room list.items }
+    ensures left { result.left ≡ length list.items - room }
+{
+    let mut picks = list;
+    let left = picks.len().saturating_sub(room);
+    picks.truncate(room);
+    FirstPicks { picks, left }
+}

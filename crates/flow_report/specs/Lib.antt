@@ -1,4 +1,0 @@
-pub mod Csv
-pub mod Html
-pub mod Json
-pub mod Rights

@@ -1,8 +1,0 @@
-use Rattle.flow_view.proofs.Ends.{has-request, is-found}
-use Rattle.flow_view.proofs.laws.ways_end_at_requests.Goals as goal
-
-pub returns-clause-found : goal.returns-clause-found
-returns-clause-found c = is-found
-
-pub returns-clause-request : goal.returns-clause-request
-returns-clause-request c = has-request

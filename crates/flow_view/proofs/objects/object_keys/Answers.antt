@@ -1,8 +1,0 @@
-use Rattle.alike_items.proofs.Ranges.{viewed-next}
-use Rattle.flow_view.specs.Keys.{object_facts}
-use Rattle.flow_view.specs.Objects.{object_key}
-use Rattle.flow_view.proofs.objects.object_keys.Goals as goal
-
-pub loop-number-preserved : goal.loop-number-preserved
-loop-number-preserved c =
-    viewed-next object_facts (object_key c.args.plan.now) c.loop-number.number _ _ c.in_ok-object_key.field-0 c.loop-number.invariant c.in_ok-object_key.ensures c.in_ok-push.ensures.items

@@ -1,8 +1,0 @@
-use Rattle.std.proofs.Common.{map}
-use Rattle.alike_items.proofs.Ranges.{flat-next}
-use Rattle.flow_view.specs.Marks.{told}
-use Rattle.flow_view.specs.Tables as spec
-use Rattle.flow_view.proofs.picks.picks.Goals as goal
-
-pub loop-client-preserved : goal.loop-client-preserved
-loop-client-preserved c = flat-next (spec.client_picks (told c.args.facts.now) c.args.sort (map (λ row. row.items) c.args.rows.now)) c.loop-client.client _ _ c.loop-client.invariant c.in_ok-push_client.ensures

@@ -1,8 +1,0 @@
-use Rattle.std.proofs.Common.{◌≡◌, flat_map, map}
-use Rattle.std.specs.List.{range_with_len}
-use Rattle.flow_view.specs.Marks.{told}
-use Rattle.flow_view.specs.Tables as spec
-use Rattle.flow_view.proofs.picks.picks.Given as goal
-
-abbrev pub invariant-loop-client : goal.invariant-loop-client
-invariant-loop-client l = l.list.items ≡ flat_map (spec.client_picks (told l.facts) l.sort (map (λ row. row.items) l.rows)) (range_with_len 0 l.client)

@@ -1,7 +1,0 @@
-use Rattle.alike_items.proofs.Ranges.{flat-next}
-use Rattle.flow_view.specs.Marks.{told}
-use Rattle.flow_view.specs.Rows.{client_keys}
-use Rattle.flow_view.proofs.rows.mark_keys.Goals as goal
-
-pub loop-client-preserved : goal.loop-client-preserved
-loop-client-preserved c = flat-next (client_keys (told c.args.facts.now) c.args.cell) c.loop-client.client _ _ c.loop-client.invariant c.in_ok-push_client.ensures

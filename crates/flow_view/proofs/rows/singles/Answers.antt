@@ -1,7 +1,0 @@
-use Rattle.std.proofs.Common.{◌∷◌, []}
-use Rattle.alike_items.proofs.Ranges.{viewed-next}
-use Rattle.flow_view.proofs.rows.singles.Goals as goal
-
-pub loop-number-preserved : goal.loop-number-preserved
-loop-number-preserved c =
-    viewed-next (λ row. row.items) (λ i. i ∷ []) c.loop-number.number _ _ c.in_ok-single.field-0 c.loop-number.invariant c.in_ok-single.ensures c.in_ok-push.ensures.items

@@ -1,6 +1,0 @@
-use Rattle.std.proofs.Common.{◌≡◌, map}
-use Rattle.flow_view.specs.Rows as spec
-use Rattle.flow_view.proofs.rows.singles.Given as goal
-
-abbrev pub invariant-loop-number : goal.invariant-loop-number
-invariant-loop-number l = map (λ row. row.items) l.rows.items ≡ spec.singles l.number

@@ -1,8 +1,0 @@
-use Rattle.std.proofs.Common.{◌≡◌, map, take}
-use Rattle.flow_view.specs.Tables as spec
-use Rattle.flow_view.proofs.tables.way_rows.Given as goal
-
-abbrev pub invariant-loop-number : goal.invariant-loop-number
-invariant-loop-number l =
-    map spec.way_shown l.list.items
-    ≡ map (λ number. spec.way_row l.ways.plan (map (λ row. row.items) l.rows) (spec.pick_numbered l.told number)) (take l.number-index l.numbers)
