@@ -1,5 +1,5 @@
 -- Records that are written one behind another.
-use Rattle.std.proofs.Common.{◌≡◌, ◌<◌, ◌+◌, ℕ, Bool, List, [], ◌∷◌, ◌++◌, flat_map, get_or, length, map, take, Option, Some, refl, sym, ap, subst, ◌∙◌, append-nil, arith}
+use Rattle.std.proofs.Common.{◌≡◌, ◌<◌, ◌+◌, ℕ, List, [], ◌∷◌, ◌++◌, flat_map, get_or, length, map, take, Option, Some, refl, sym, ap, subst, ◌∙◌, append-nil, arith}
 use Rattle.std.specs.Io.KnownBytes.{Appends}
 use Rattle.std.specs.List.{range_with_len}
 use Rattle.std.specs.Prelude.{slice_get}
@@ -12,8 +12,7 @@ use Rattle.csv.proofs.WriteFacts.{appends-none}
 use Rattle.csv.specs.Writing.{default_writer, row_text, text_written}
 use Rattle.csv.specs.declared.writer.Writer.{Writer}
 use Rattle.meter_theory.specs.Plan.{Client}
-use Rattle.meter_theory.specs.declared.flow.Reach.{Reach}
-use Rattle.flow_forms.specs.Csv.{AreWritten, IsBetween, fields, rows_text}
+use Rattle.flow_forms.specs.Csv.{AreWritten, IsBetween, rows_text}
 
 module _ {W : Type 0} (contents : W → Option (List ℕ)) where
   -- none at first
@@ -53,12 +52,3 @@ client-more f k =
 -- the name of a client at a place
 pub name-there : (clients : List Client) (c : ℕ) (who : Client) → slice_get clients c ≡ Some who → get_or (map (λ w. w.name) clients) c [] ≡ who.name
 name-there clients c who is = get_or-map (λ w. w.name) clients c who [] (slice_get_within clients c who is) ∙ ap (λ w. w.name) (get_or_from_slice_get clients c who who is)
-
--- records with the same fields
-pub same-fields : {cell cell' client client' : List ℕ} (reach : Reach) {distance distance' : Option ℕ} {allowed allowed' : Bool} → cell ≡ cell' → client ≡ client' → distance ≡ distance' → allowed ≡ allowed' →
-    fields cell client reach distance allowed ≡ fields cell' client' reach distance' allowed'
-same-fields {cell} {cell'} {client} {client'} reach {distance} {distance'} {allowed} {allowed'} a b c d =
-    ap (λ t. fields t client reach distance allowed) a
-    ∙ ap (λ t. fields cell' t reach distance allowed) b
-    ∙ ap (λ t. fields cell' client' reach t allowed) c
-    ∙ ap (λ t. fields cell' client' reach distance' t) d

@@ -1,6 +1,6 @@
 -- The report as a page for a browser. All of it is own profile. It is a function of what a page shows of a plan (`IsPageOf`) and of the edges between
 -- the rows of its matrix, so that no password and no value can be in it.
-use Rattle.std.specs.Prelude.{◌≡◌, ℕ, List, [], ◌∷◌, None, Option, Some, flat_map, map}
+use Rattle.std.specs.Prelude.{ℕ, List, [], ◌∷◌, None, Option, Some, flat_map, map}
 use Rattle.cosem_data.specs.declared.cell.CellRef.{CellRef}
 use Rattle.label_certificate.specs.LabelText.{cell_place}
 use Rattle.meter_theory.specs.Labels.{Policy}

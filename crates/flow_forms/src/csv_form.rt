@@ -48,9 +48,8 @@ fn write_rows<W: Write + Drop>(
         ∷ flat_map (spec.cell_rows (client_names ways.now.plan) (distance_of ways.now.plan) (labelling_of_policy ways.now.plan ways.now.policy))
         (theory.cells ways.now.plan))) }
 {
-    write_fields(
-        b"cell", b"client", b"kind", b"may", b"edges", b"allowed", writer,
-    )?;
+    let header = record_of(b"cell", b"client", b"kind", b"may", b"edges", b"allowed");
+    write_fields(&header, writer)?;
     write_cells(alloc, ways, writer)
 }
 
@@ -86,9 +85,14 @@ fn write_cell<W: Write + Drop>(
         (spec.first_rows (client_names ways.now.plan) (distance_of ways.now.plan) (cell_at (theory.cells ways.now.plan) number) label
         (length (client_names ways.now.plan)))) }
 {
-    let cell = cell_bytes(alloc, &ways.cells()[number])?;
+    let text = cell_bytes(alloc, &ways.cells()[number])?;
+    let cell = CellRecords {
+        number,
+        label,
+        text: &text,
+    };
     for client in 0..ways.plan().client_count() {
-        write_client(alloc, ways, number, label, client, &cell, writer)?;
+        write_client(alloc, ways, &cell, client, writer)?;
     }
     Ok(())
 }
@@ -102,105 +106,70 @@ fn cell_bytes(alloc: Global, cell: &CellRef) -> Result<Vec<u8>, Memory>
     Ok(text)
 }
 
-/// Writes the two records of a cell, with this text, and a client.
+/// A cell of which records are written.
+#[derive(Clone, Copy, Drop)]
+struct CellRecords<'a> {
+    /// Its number.
+    number: usize,
+    /// Whom the policy allows it.
+    label: Label,
+    /// Its text.
+    text: &'a [u8],
+}
+
+/// Writes the two records of a cell and a client.
 fn write_client<W: Write + Drop>(
     alloc: Global,
     ways: &Ways<'_>,
-    number: usize,
-    label: Label,
+    cell: &CellRecords<'_>,
     client: u8,
-    cell: &[u8],
     writer: &mut Writer<W>,
 ) -> Result<(), Memory>
-    requires cell { number < length (theory.cells ways.now.plan) }
+    requires cell { cell.now.number < length (theory.cells ways.now.plan) }
     requires client { client < length ways.now.plan.clients }
-    requires text { cell.now ≡ cell_text (cell_at (theory.cells ways.now.plan) number) }
+    requires text { cell.now.text.now ≡ cell_text (cell_at (theory.cells ways.now.plan) cell.now.number) }
     requires between { IsBetween writer.old }
     ensures { OnOk result (AreWritten W.contents writer.old writer.new
-        (spec.client_rows (client_names ways.now.plan) (distance_of ways.now.plan) (cell_at (theory.cells ways.now.plan) number) label client)) }
+        (spec.client_rows (client_names ways.now.plan) (distance_of ways.now.plan)
+        (cell_at (theory.cells ways.now.plan) cell.now.number) cell.now.label client)) }
 {
-    write_reach(
-        alloc,
-        ways,
-        number,
-        label,
-        client,
-        Reach::Influence,
-        cell,
-        writer,
-    )?;
-    write_reach(
-        alloc,
-        ways,
-        number,
-        label,
-        client,
-        Reach::Learn,
-        cell,
-        writer,
-    )
+    write_reach(alloc, ways, cell, client, Reach::Influence, writer)?;
+    write_reach(alloc, ways, cell, client, Reach::Learn, writer)
 }
 
-/// Writes the record of a cell, with this text, a client and a reach.
+/// Writes the record of a cell, a client and a reach.
 fn write_reach<W: Write + Drop>(
     alloc: Global,
     ways: &Ways<'_>,
-    number: usize,
-    label: Label,
+    cell: &CellRecords<'_>,
     client: u8,
     reach: Reach,
-    cell: &[u8],
     writer: &mut Writer<W>,
 ) -> Result<(), Memory>
-    requires cell { number < length (theory.cells ways.now.plan) }
+    requires cell { cell.now.number < length (theory.cells ways.now.plan) }
     requires client { client < length ways.now.plan.clients }
-    requires text { cell.now ≡ cell_text (cell_at (theory.cells ways.now.plan) number) }
+    requires text { cell.now.text.now ≡ cell_text (cell_at (theory.cells ways.now.plan) cell.now.number) }
     requires between { IsBetween writer.old }
     ensures { OnOk result (AreWritten W.contents writer.old writer.new
-        (spec.row (client_names ways.now.plan) (distance_of ways.now.plan) (cell_at (theory.cells ways.now.plan) number) label client reach ∷ [])) }
+        (spec.row (client_names ways.now.plan) (distance_of ways.now.plan)
+        (cell_at (theory.cells ways.now.plan) cell.now.number) cell.now.label client reach ∷ [])) }
 {
     let plan = ways.plan();
     plan.known();
     let Some(who) = plan.client(client) else {
         unreachable!();
     };
-    let distance = ways.distance(reach, number, client);
-    let allowed = set_for(reach, label).has(client);
-    write_row(
-        alloc,
-        cell,
-        who.name_text(),
-        reach,
-        distance,
-        allowed,
-        writer,
-    )
-}
-
-/// Writes a record with these facts.
-fn write_row<W: Write + Drop>(
-    alloc: Global,
-    cell: &[u8],
-    client: &str,
-    reach: Reach,
-    distance: Option<usize>,
-    allowed: bool,
-    writer: &mut Writer<W>,
-) -> Result<(), Memory>
-    requires { IsBetween writer.old }
-    ensures { OnOk result (AreWritten W.contents writer.old writer.new
-        (spec.fields cell.now client.now reach distance allowed ∷ [])) }
-{
+    let distance = ways.distance(reach, cell.number, client);
     let edges = edges_text(alloc, distance)?;
-    write_fields(
-        cell,
-        client.as_bytes(),
+    let record = record_of(
+        cell.text,
+        who.name(),
         reach_word(reach).as_bytes(),
         yes_or_no(distance.is_some()).as_bytes(),
         edges.as_bytes(),
-        yes_or_no(allowed).as_bytes(),
-        writer,
-    )
+        yes_or_no(set_for(reach, cell.label).has(client)).as_bytes(),
+    );
+    write_fields(&record, writer)
 }
 
 /// How many edges, in decimal, and nothing where there is no way.
@@ -220,22 +189,27 @@ fn yes_or_no(holds: bool) -> &'static str
     if holds { "yes" } else { "no" }
 }
 
-/// Writes a record of these fields. The error is that the write was refused.
-fn write_fields<'a, W: Write + Drop>(
+/// The fields of a record.
+fn record_of<'a>(
     cell: &'a [u8],
     client: &'a [u8],
     kind: &'a [u8],
     may: &'a [u8],
     edges: &'a [u8],
     allowed: &'a [u8],
-    writer: &mut Writer<W>,
-) -> Result<(), Memory>
-    requires { IsBetween writer.old }
-    ensures { OnOk result (AreWritten W.contents writer.old writer.new
-        ((cell.now ∷ client.now ∷ kind.now ∷ may.now ∷ edges.now ∷ allowed.now ∷ []) ∷ [])) }
+) -> [&'a [u8]; 6]
+    ensures { map (λ field. field.now) result
+        ≡ cell.now ∷ client.now ∷ kind.now ∷ may.now ∷ edges.now ∷ allowed.now ∷ [] }
 {
-    let fields: [&'a [u8]; 6] = [cell, client, kind, may, edges, allowed];
-    match writer.write_fields(&fields) {
+    [cell, client, kind, may, edges, allowed]
+}
+
+/// Writes a record of these fields. The error is that the write was refused.
+fn write_fields<W: Write + Drop>(fields: &[&[u8]], writer: &mut Writer<W>) -> Result<(), Memory>
+    requires { IsBetween writer.old }
+    ensures { OnOk result (AreWritten W.contents writer.old writer.new (map (λ field. field.now) fields.now ∷ [])) }
+{
+    match writer.write_fields(fields) {
         Ok(()) => Ok(()),
         Err(_) => Err(Memory),
     }

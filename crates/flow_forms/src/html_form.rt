@@ -6,14 +6,14 @@ ghost use Rattle.flow_forms.specs.Html.{IsHtml, IsPageAgainst, configuration_of,
 use cosem_data::cell::CellRef;
 use cosem_data::memory::Memory;
 use flow_changes::compare::compare;
-use flow_map::outline::Outline;
-use flow_picture::drawing::picture::picture_of;
 use flow_map::map::FlowMap;
+use flow_map::outline::Outline;
 use flow_page::matrix::MatrixRow;
 use flow_page::page::Page;
 use flow_page::page_text::page_text;
-use flow_picture::svg::picture_text;
 use flow_page::view::page::{Heading, page_of};
+use flow_picture::drawing::picture::picture_of;
+use flow_picture::svg::picture_text;
 use flow_ways::ways::Ways;
 use std::alloc::Global;
 
@@ -58,7 +58,11 @@ fn page_against(
 }
 
 /// The numbers of the cells of each row.
-fn groups_of(alloc: Global, plan: &Outline<'_>, rows: &[MatrixRow]) -> Result<Vec<Vec<usize>>, Memory>
+fn groups_of(
+    alloc: Global,
+    plan: &Outline<'_>,
+    rows: &[MatrixRow],
+) -> Result<Vec<Vec<usize>>, Memory>
     ensures { IfOk result (λ groups. map (λ group. group.items) groups.items ≡ numbers_of plan.now rows.now) }
 {
     let mut groups = Vec::with_capacity(alloc, rows.len())?;

@@ -69,7 +69,11 @@ fn put_cells(alloc: Global, ways: &Ways<'_>, members: &mut Map<String, Value>) -
 }
 
 /// Puts the names of the clients at their key.
-fn put_clients(alloc: Global, plan: &Outline<'_>, members: &mut Map<String, Value>) -> Result<(), Memory>
+fn put_clients(
+    alloc: Global,
+    plan: &Outline<'_>,
+    members: &mut Map<String, Value>,
+) -> Result<(), Memory>
     ensures { OnOk result (members_view members.new.entries ≡ with_member (codes "clients")
         (spec.array_of (map string_data (client_names plan.now))) (members_view members.old.entries)) }
 {
@@ -78,7 +82,11 @@ fn put_clients(alloc: Global, plan: &Outline<'_>, members: &mut Map<String, Valu
 }
 
 /// Puts the objects at their key.
-fn put_objects(alloc: Global, plan: &Outline<'_>, members: &mut Map<String, Value>) -> Result<(), Memory>
+fn put_objects(
+    alloc: Global,
+    plan: &Outline<'_>,
+    members: &mut Map<String, Value>,
+) -> Result<(), Memory>
     ensures { OnOk result (members_view members.new.entries ≡ with_member (codes "objects")
         (spec.array_of (map (λ o. string_data (spec.head_text o)) (heads_of plan.now))) (members_view members.old.entries)) }
 {
@@ -87,7 +95,11 @@ fn put_objects(alloc: Global, plan: &Outline<'_>, members: &mut Map<String, Valu
 }
 
 /// Puts the rights at their key.
-fn put_rights(alloc: Global, plan: &Outline<'_>, members: &mut Map<String, Value>) -> Result<(), Memory>
+fn put_rights(
+    alloc: Global,
+    plan: &Outline<'_>,
+    members: &mut Map<String, Value>,
+) -> Result<(), Memory>
     ensures { OnOk result (members_view members.new.entries ≡ with_member (codes "rights")
         (spec.rights_data (client_names plan.now) (rights_of plan.now) (heads_of plan.now)) (members_view members.old.entries)) }
 {

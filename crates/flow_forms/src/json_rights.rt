@@ -38,7 +38,11 @@ pub(crate) fn objects_value(alloc: Global, plan: &Outline<'_>) -> Result<Value, 
 }
 
 /// Puts the class and the name of an object behind others.
-fn push_object(alloc: Global, object: &ObjectOutline<'_>, list: &mut Vec<Value>) -> Result<(), Memory>
+fn push_object(
+    alloc: Global,
+    object: &ObjectOutline<'_>,
+    list: &mut Vec<Value>,
+) -> Result<(), Memory>
     ensures { OnOk result (map view list.new.items ≡ map view list.old.items ++ string_data (spec.head_text (head_of object.now)) ∷ []) }
 {
     let text = object_text(alloc, object)?;
@@ -66,7 +70,12 @@ pub(crate) fn rights_value(alloc: Global, plan: &Outline<'_>) -> Result<Value, M
 }
 
 /// Puts the rights of a client on each object that it sees behind others.
-fn push_rights(alloc: Global, plan: &Outline<'_>, client: u8, list: &mut Vec<Value>) -> Result<(), Memory>
+fn push_rights(
+    alloc: Global,
+    plan: &Outline<'_>,
+    client: u8,
+    list: &mut Vec<Value>,
+) -> Result<(), Memory>
     requires { client < length plan.now.clients }
     ensures { OnOk result (map view list.new.items ≡ map view list.old.items
         ++ flat_map (spec.right_if (client_names plan.now) (rights_of plan.now) client) (heads_of plan.now)) }
@@ -99,7 +108,12 @@ fn push_right(
 }
 
 /// The rights of a client on an object.
-fn right_value(alloc: Global, plan: &Outline<'_>, client: u8, object: &ObjectOutline<'_>) -> Result<Value, Memory>
+fn right_value(
+    alloc: Global,
+    plan: &Outline<'_>,
+    client: u8,
+    object: &ObjectOutline<'_>,
+) -> Result<Value, Memory>
     requires { client < length plan.now.clients }
     ensures { IfOk result (λ value. view value
         ≡ spec.right_data (client_names plan.now) (rights_of plan.now) client (head_of object.now)) }

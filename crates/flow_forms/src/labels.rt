@@ -19,6 +19,7 @@ pub fn write_least_labels<W: Write>(
 ) -> Result<(), ListFault>
     ensures { WritesLeast map.now.plan (W.contents writer.old) (W.contents writer.new) result }
 {
+    map.known();
     let text = map.labels_text(alloc)?;
     write_whole(writer, &text)?;
     Ok(())

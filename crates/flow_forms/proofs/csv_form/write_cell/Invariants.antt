@@ -7,4 +7,4 @@ use Rattle.flow_forms.proofs.csv_form.write_cell.Given as goal
 -- the records of the clients before
 abbrev pub invariant-loop-client : goal.invariant-loop-client
 invariant-loop-client g l =
-    AreWritten g.W.Write.contents l.fn.writer l.writer (first_rows (client_names l.ways.plan) (distance_of l.ways.plan) (cell_at (cells l.ways.plan) l.number) l.label l.client)
+    AreWritten g.W.Write.contents l.fn.writer l.writer (first_rows (client_names l.ways.plan) (distance_of l.ways.plan) (cell_at (cells l.ways.plan) l.number) l.fn.label l.client)

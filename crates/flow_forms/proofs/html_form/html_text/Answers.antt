@@ -1,4 +1,4 @@
-use Rattle.std.proofs.Common.{◌≡◌, ◌∙◌, ℕ, List, IfOk, Ok, Err, Option, Result, String, Global, ap, ap₂, map, option_map, string_bytes, subst, sym}
+use Rattle.std.proofs.Common.{◌∙◌, ℕ, List, IfOk, Ok, Err, Option, Result, String, Global, ap, ap₂, map, option_map, string_bytes, subst, sym}
 use Rattle.cosem_data.specs.declared.memory.Memory.{Memory}
 use Rattle.meter_theory.specs.Labels.{Policy}
 use Rattle.meter_theory.specs.Plan.{Plan}

@@ -3,7 +3,7 @@ use Rattle.cosem_data.specs.declared.memory.Memory.{Memory}
 use Rattle.meter_theory.specs.Labels.{Policy}
 use Rattle.meter_theory.specs.Plan.{Plan}
 use Rattle.flow_map.specs.Map.{AreLeastOf, Configuration}
-use Rattle.flow_changes.specs.Written.{AreCompared, IsComparison, IsConfiguration}
+use Rattle.flow_changes.specs.Written.{AreCompared, IsComparison}
 use Rattle.flow_changes.specs.declared.compare.Comparison.{Comparison}
 use Rattle.flow_page.specs.declared.page.Page.{Page}
 use Rattle.flow_forms.specs.Html.{IsPageAgainst, configuration_of}
