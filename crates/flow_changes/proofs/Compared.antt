@@ -1,11 +1,11 @@
 -- Who gains, from a set of clients and from its names.
-use Rattle.std.specs.Prelude.{IfOk, ◌≡◌, ℕ, suc, ◌+◌, ◌-◌, ◌≤◌, ◌==◌, Bool, not, List, [], ◌∷◌, ◌++◌, Option, Some, Result, Ok, Err, filter, flat_map, length, map, slice_get}
+use Rattle.std.specs.Prelude.{◌≡◌, ℕ, suc, ◌+◌, ◌-◌, ◌≤◌, ◌==◌, Bool, not, List, [], ◌∷◌, ◌++◌, Option, Some, Result, Ok, Err, filter, flat_map, length, map, slice_get}
 use Rattle.std.specs.List.{enumerate_from}
 use Rattle.std.proofs.Common.{refl, sym, ap, ap₂, subst, ◌∙◌, inl, inr, arith}
 use Rattle.std.proofs.lemmas.Bool.{ne_eqb}
-use Rattle.meter_theory.specs.Labels.{Policy, has}
+use Rattle.meter_theory.specs.Labels.{has}
 use Rattle.meter_theory.specs.Lists.{IsIn}
-use Rattle.meter_theory.specs.Plan.{Client, Plan}
+use Rattle.meter_theory.specs.Plan.{Client}
 use Rattle.cosem_data.specs.declared.clients.ClientSet.{ClientSet}
 use Rattle.flow_changes.specs.Changes.{changes_of_kind, compare_text, first_line, gainers, gains, kind_lines, somebody_gains}
 use Rattle.flow_map.specs.Kinds.{all_kinds}
@@ -14,11 +14,9 @@ use Rattle.flow_map.specs.Map.{Configuration}
 use Rattle.flow_map.specs.Map.{AreLeastOf}
 use Rattle.whole_writes.specs.declared.fault.ListFault.{ListFault}
 use Rattle.whole_writes.specs.declared.fault.ListFault.TheVariants as faults
-use Rattle.cosem_data.specs.declared.memory.Memory.{Memory}
 use Rattle.flow_changes.specs.Shown.{kind_shown}
-use Rattle.flow_changes.specs.declared.compare.Comparison.{Comparison}
 use Rattle.flow_changes.specs.declared.compare.KindFacts.{KindFacts}
-use Rattle.flow_changes.specs.Written.{AreCompared, IsComparison, IsConfiguration, WritesComparison, WritesSides}
+use Rattle.flow_changes.specs.Written.{IsConfiguration, WritesComparison, WritesSides}
 use Rattle.flow_changes.proofs.Lists.{filter-agree, flat_map-of-map}
 use Rattle.flow_changes.proofs.Named.{is-more, names-of, some-named}
 

@@ -7,7 +7,6 @@ use Rattle.flow_map.specs.Kinds.{all_kinds, change_sign, kind_word}
 use Rattle.flow_map.specs.declared.kind.Change.{Change}
 use Rattle.flow_map.specs.declared.kind.Change.TheVariants as changes
 use Rattle.flow_map.specs.declared.kind.Kind.{Kind}
-use Rattle.flow_map.specs.declared.kind.Kind.TheVariants as kinds
 
 -- the one configuration lacks this fact of the other
 abbrev pub lacks : Configuration → Configuration → Kind → Fact → Bool

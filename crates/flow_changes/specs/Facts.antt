@@ -8,7 +8,7 @@ use Rattle.cosem_data.specs.Names.{name_text}
 use Rattle.cosem_data.specs.declared.cell.CellRef.{CellRef}
 use Rattle.cosem_data.specs.declared.name.LogicalName.{LogicalName}
 use Rattle.meter_theory.specs.Edges.{edges, same_edge}
-use Rattle.meter_theory.specs.Labels.{Labels, Labelling, Policy, has, labelling_of, labelling_of_policy, nobody}
+use Rattle.meter_theory.specs.Labels.{Labelling, has, labelling_of, labelling_of_policy, nobody}
 use Rattle.meter_theory.specs.Plan.{Client, Object, Plan, cells, class_of, interface_of, is_cell}
 use Rattle.meter_theory.specs.Rights.{has_right}
 use Rattle.meter_theory.specs.Ways.{set_for}

@@ -9,8 +9,8 @@ use crate::owned::pairs_for;
 use crate::reaches::{is_new, is_old};
 use cosem_data::clients::ClientSet;
 use cosem_data::memory::Memory;
-use flow_map::map::FlowMap;
 use flow_map::kind::{Change, Kind};
+use flow_map::map::FlowMap;
 use flow_map::outline::Outline;
 use meter_theory::flow::{Label, Reach};
 use meter_theory::limits::CLIENTS;
@@ -38,7 +38,11 @@ pub(crate) fn reach_changes(
 }
 
 /// For each client of a plan the place of the one with its name in another plan, if there is one.
-fn namesakes(alloc: Global, plan: &Outline<'_>, other: &Outline<'_>) -> Result<Vec<Option<u8>>, Memory>
+fn namesakes(
+    alloc: Global,
+    plan: &Outline<'_>,
+    other: &Outline<'_>,
+) -> Result<Vec<Option<u8>>, Memory>
     ensures { IfOk result (λ others. others.items
         ≡ map (λ client. plans.client_named other.now client.name) plan.now.clients) }
 {

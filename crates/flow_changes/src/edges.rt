@@ -37,7 +37,11 @@ pub(crate) fn push_edges(
 }
 
 /// The number that each of these cells has in a plan, or None where it is no cell of it.
-fn numbers_in(alloc: Global, plan: &Outline<'_>, cells: &[CellRef]) -> Result<Vec<Option<u16>>, Memory>
+fn numbers_in(
+    alloc: Global,
+    plan: &Outline<'_>,
+    cells: &[CellRef],
+) -> Result<Vec<Option<u16>>, Memory>
     ensures { IfOk result (λ numbers. numbers.items ≡ map (cell_place plan.now) cells.now) }
 {
     let mut numbers = Vec::with_capacity(alloc, cells.len())?;

@@ -16,8 +16,8 @@ use crate::reaches::push_reaches;
 use crate::rights::push_rights;
 use cosem_data::clients::ClientSet;
 use cosem_data::memory::Memory;
-use flow_map::map::FlowMap;
 use flow_map::kind::Kind;
+use flow_map::map::FlowMap;
 use flow_map::outline::{ClientOutline, Outline};
 use std::alloc::Global;
 
@@ -40,11 +40,17 @@ pub(crate) fn push_owned<'a>(
     mine.known();
     let plan = mine.plan();
     let pairs = pairs_for(alloc, kind, mine, theirs)?;
+    let sides = Sides {
+        kind,
+        mine,
+        theirs,
+        pairs: &pairs,
+    };
     let mut owners = ClientSet::new();
     let mut place = 0;
     while let Some(client) = plan.client(place) {
         let before = facts.len();
-        push_own(kind, mine, theirs, &pairs, place, client, facts)?;
+        push_own(&sides, place, client, facts)?;
         if before < facts.len() {
             owners = owners.with(place);
         }
@@ -85,22 +91,34 @@ pub(crate) fn pairs_for(
     }
 }
 
-/// Puts the facts of a kind behind others that are this client's own and that the other side lacks.
-fn push_own<'a>(
+/// A kind of facts, the side that has them, the side that may lack them, and what both say of each cell.
+#[derive(Clone, Copy, Drop)]
+struct Sides<'a, 'b> {
     kind: Kind,
     mine: &'a FlowMap<'a>,
     theirs: &'a FlowMap<'a>,
-    pairs: &[Pair],
+    pairs: &'b [Pair],
+}
+
+/// Puts the facts of a kind behind others that are this client's own and that the other side lacks.
+fn push_own<'a>(
+    sides: &Sides<'a, '_>,
     place: u8,
     client: &'a ClientOutline<'a>,
     facts: &mut Vec<Fact<'a>>,
 ) -> Result<(), Memory>
-    requires client { slice_get mine.now.plan.clients place ≡ Some client.now }
-    requires pairs { ArePairs kind (mine.now) (theirs.now) pairs.now }
-    ensures { let C = mine.now in let D = theirs.now in
+    requires client { slice_get sides.now.mine.now.plan.clients place ≡ Some client.now }
+    requires pairs { ArePairs sides.now.kind sides.now.mine.now sides.now.theirs.now sides.now.pairs.now }
+    ensures { let C = sides.now.mine.now in let D = sides.now.theirs.now in let kind = sides.now.kind in
         OnOk result (map shown facts.new.items ≡ map shown facts.old.items
         ++ filter (lacks D C kind) (own_facts C D kind (place, client.now))) }
 {
+    let Sides {
+        kind,
+        mine,
+        theirs,
+        pairs,
+    } = *sides;
     theirs.known();
     let who = Namesakes {
         name: client.name_text(),

@@ -13,3 +13,4 @@ pub mod WayTables
 pub mod Marked
 pub mod Changes
 pub mod Shown
+pub mod InTable

@@ -24,4 +24,5 @@ pub mod page;
 mod parts;
 mod picks;
 mod rows;
+mod table;
 mod tables;

@@ -6,16 +6,16 @@ ghost use Rattle.flow_page.specs.Changes as spec;
 ghost use Rattle.flow_page.specs.Changes.{AreChanges};
 ghost use Rattle.flow_page.specs.Lines.{line_shown};
 
+use crate::changes::{ChangedFact, Changes, KindChanges};
 use crate::view::limits::CHANGES;
 use crate::view::lines::{client_name, whole_way_of};
+use crate::ways::WayLine;
 use cosem_data::cell::CellRef;
 use cosem_data::clients::ClientSet;
 use cosem_data::memory::Memory;
 use flow_changes::compare::{Comparison, KindFacts};
 use flow_changes::fact::Fact;
 use flow_map::kind::{Change, Kind};
-use crate::changes::{ChangedFact, Changes, KindChanges};
-use crate::ways::WayLine;
 use flow_map::outline::Outline;
 use flow_ways::ways::Ways;
 use meter_theory::flow::Reach;

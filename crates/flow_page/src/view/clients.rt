@@ -7,10 +7,10 @@ ghost use Rattle.flow_page.specs.Clients as spec;
 ghost use Rattle.flow_page.specs.Marks.{told};
 ghost use Rattle.flow_page.specs.Shown.{client_total, total_of};
 
+use crate::page::{ClientRow, Counts};
 use crate::view::facts::Facts;
 use crate::view::marks::{distance, has_at};
 use cosem_data::memory::Memory;
-use crate::page::{ClientRow, Counts};
 use flow_map::outline::Outline;
 use meter_theory::flow::Reach;
 use std::alloc::Global;

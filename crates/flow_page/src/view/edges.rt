@@ -3,9 +3,9 @@ ghost use Rattle.std.specs.Prelude.{◌≡◌, ◌∷◌, ◌++◌, [], IfOk, On
 ghost use Rattle.meter_theory.specs.Edges as theory;
 ghost use Rattle.flow_page.specs.Objects as spec;
 
+use crate::page::CauseCount;
 use crate::view::limits::EDGES;
 use cosem_data::memory::Memory;
-use crate::page::CauseCount;
 use meter_theory::flow::{Cause, Edge};
 use std::alloc::Global;
 

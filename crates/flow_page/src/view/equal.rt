@@ -2,51 +2,8 @@
 ghost use Rattle.std.specs.Prelude.{◌≡◌};
 ghost use Rattle.flow_page.specs.Equal as spec;
 
-use crate::view::keys::{MarkKey, ObjectKey, RowKey, WayKey, Word};
-use flow_map::kind::Change;
+use crate::view::keys::{MarkKey, ObjectKey, RowKey, WayKey};
 use flow_map::request::GrantedRequest;
-use meter_theory::flow::Reach;
-
-/// Whether two words are the same.
-fn same_word(word: Word, other: Word) -> bool
-    ensures { result ≡ spec.same_word word other }
-{
-    match (word, other) {
-        (Word::Nothing, Word::Nothing) => true,
-        (Word::Get, Word::Get) => true,
-        (Word::Set, Word::Set) => true,
-        (Word::Act, Word::Act) => true,
-        (Word::Edges(edges), Word::Edges(others)) => edges == others,
-        _ => false,
-    }
-}
-
-/// Whether two changes are the same, if there are any.
-fn same_change(change: Option<Change>, other: Option<Change>) -> bool
-    ensures { result ≡ spec.same_change change other }
-{
-    match (change, other) {
-        (None, None) => true,
-        (Some(Change::Gained), Some(Change::Gained)) => true,
-        (Some(Change::Lost), Some(Change::Lost)) => true,
-        _ => false,
-    }
-}
-
-/// Whether two requests are the same.
-fn same_request(request: GrantedRequest, other: GrantedRequest) -> bool
-    ensures { result ≡ spec.same_request request other }
-{
-    match (request, other) {
-        (GrantedRequest::Get(cell), GrantedRequest::Get(other)) => cell == other,
-        (GrantedRequest::Set(cell), GrantedRequest::Set(other)) => cell == other,
-        (GrantedRequest::Act(method), GrantedRequest::Act(other)) => method == other,
-        (GrantedRequest::Execute(method, script), GrantedRequest::Execute(other, id)) => {
-            method == other && script == id
-        }
-        _ => false,
-    }
-}
 
 /// Whether two requests are the same, if there are any.
 fn same_refused(request: Option<GrantedRequest>, other: Option<GrantedRequest>) -> bool
@@ -54,18 +11,7 @@ fn same_refused(request: Option<GrantedRequest>, other: Option<GrantedRequest>) 
 {
     match (request, other) {
         (None, None) => true,
-        (Some(request), Some(other)) => same_request(request, other),
-        _ => false,
-    }
-}
-
-/// Whether both are influence, or both learning.
-pub(crate) fn same_reach(reach: Reach, other: Reach) -> bool
-    ensures { result ≡ spec.same_reach reach other }
-{
-    match (reach, other) {
-        (Reach::Influence, Reach::Influence) => true,
-        (Reach::Learn, Reach::Learn) => true,
+        (Some(request), Some(other)) => request == other,
         _ => false,
     }
 }
@@ -79,9 +25,9 @@ impl PartialEq for MarkKey {
     ghost laws = { partial_equiv_from_equiv same_mark_equiv };
 
     fn eq(&self, other: &MarkKey) -> bool {
-        same_word(self.word, other.word)
+        self.word == other.word
             && self.allowed == other.allowed
-            && same_change(self.change, other.change)
+            && self.change == other.change
             && same_refused(self.refused, other.refused)
     }
 }
@@ -125,8 +71,6 @@ impl PartialEq for WayKey {
     ghost laws = { partial_equiv_from_equiv same_way_equiv };
 
     fn eq(&self, other: &WayKey) -> bool {
-        same_request(self.request, other.request)
-            && self.client == other.client
-            && same_reach(self.reach, other.reach)
+        self.request == other.request && self.client == other.client && self.reach == other.reach
     }
 }

@@ -3,11 +3,11 @@ ghost use Rattle.std.specs.Prelude.{◌≡◌, ◌++◌, IfOk, OnOk, flat_map, l
 ghost use Rattle.std.specs.List.{range_with_len};
 ghost use Rattle.flow_page.specs.Objects as spec;
 
-use flow_map::outline::{ObjectOutline, Outline};
-use flow_map::pushing::push_if;
+use crate::objects::Held;
 use cosem_data::memory::Memory;
 use flow_map::access::Access;
-use crate::objects::Held;
+use flow_map::outline::{ObjectOutline, Outline};
+use flow_map::pushing::push_if;
 use std::alloc::Global;
 
 /// What each client may do with an object. The only error is want of memory.
@@ -27,7 +27,12 @@ pub(crate) fn held_by_clients(
 }
 
 /// What a client may do with an object.
-fn held_by(alloc: Global, plan: &Outline<'_>, object: &ObjectOutline<'_>, client: u8) -> Result<Held, Memory>
+fn held_by(
+    alloc: Global,
+    plan: &Outline<'_>,
+    object: &ObjectOutline<'_>,
+    client: u8,
+) -> Result<Held, Memory>
     ensures { IfOk result (λ held. spec.held_shown held ≡ spec.held_of plan.now object.now client) }
 {
     let gets = indexes(alloc, plan, object, client, Access::Get)?;

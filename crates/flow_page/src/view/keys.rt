@@ -3,16 +3,16 @@ ghost use Rattle.std.specs.Prelude.{◌≡◌, IfOk, map};
 ghost use Rattle.flow_map.specs.Grouping.{AreGrouped, numbers_of};
 ghost use Rattle.flow_page.specs.Keys.{object_facts, row_facts, word_of};
 
-use flow_map::grouping::grouped;
+use crate::matrix::Found;
 use cosem_data::memory::Memory;
+use flow_map::grouping::grouped;
 use flow_map::kind::Change;
 use flow_map::request::GrantedRequest;
-use crate::matrix::Found;
 use meter_theory::flow::Reach;
 use std::alloc::Global;
 
 /// The word by which a mark tells how a client reaches a cell (own profile).
-#[derive(Clone, Copy, Drop)]
+#[derive(Clone, Copy, PartialEq, Eq, Drop)]
 pub(crate) enum Word {
     /// It doesn't.
     Nothing,

@@ -8,11 +8,11 @@ ghost use Rattle.flow_page.specs.Lines.{line_shown};
 
 use crate::view::limits::{LONG, TIP};
 use crate::view::marks::way;
+use crate::ways::WayLine;
 use cosem_data::cell::CellRef;
 use cosem_data::memory::Memory;
 use flow_map::outline::Outline;
 use flow_map::request::GrantedRequest;
-use crate::ways::WayLine;
 use flow_ways::ways::Ways;
 use flow_ways::why::way_end;
 use meter_theory::flow::{Edge, Reach};

@@ -6,11 +6,11 @@ ghost use Rattle.flow_ways.specs.Found.{distance_of, way_of};
 ghost use Rattle.flow_page.specs.Marks as spec;
 ghost use Rattle.flow_page.specs.Marks.{told};
 
+use crate::matrix::Found;
 use crate::view::facts::Facts;
 use cosem_data::memory::Memory;
 use flow_map::kind::Change;
 use flow_map::request::GrantedRequest;
-use crate::matrix::Found;
 use flow_ways::ways::Ways;
 use flow_ways::why::way_end;
 use label_certificate::label_sets::set_for;

@@ -2,21 +2,18 @@
 ghost use Rattle.std.specs.Prelude.{◌≡◌, ◌<◌, ◌++◌, IfOk, OnOk, cond, flat_map, length, map, option_map, Some, None};
 ghost use Rattle.std.specs.List.{All, range_with_len};
 ghost use Rattle.meter_theory.specs.Plan as theory;
-ghost use Rattle.flow_map.specs.Grouping.{numbers_of};
 ghost use Rattle.flow_edges.specs.Table.{cell_at};
-ghost use Rattle.flow_page.specs.Marks.{told};
+ghost use Rattle.flow_page.specs.InTable.{rows_in, told_in};
 ghost use Rattle.flow_page.specs.Marked as spec;
-ghost use Rattle.flow_page.specs.Rows.{AreRowsOf};
 
-use crate::view::facts::Facts;
+use crate::matrix::{Mark, MatrixRow, Opening, WayLink};
 use crate::view::lines::title_of;
 use crate::view::marks::standing_of;
 use crate::view::picks::{Pick, is_told};
-use crate::view::rows::{first_cell, row_size};
+use crate::view::table::Table;
+use crate::ways::Anchor;
 use cosem_data::cell::CellRef;
 use cosem_data::memory::Memory;
-use crate::matrix::{Mark, MatrixRow, Opening, WayLink};
-use crate::ways::Anchor;
 use flow_ways::ways::Ways;
 use meter_theory::flow::Reach;
 use std::alloc::Global;
@@ -25,17 +22,15 @@ use std::alloc::Global;
 /// The only error is want of memory.
 pub(crate) fn matrix_rows(
     alloc: Global,
-    facts: &Facts<'_>,
+    table: &Table<'_>,
     linked: &[Pick],
-    rows: &[Vec<usize>],
 ) -> Result<Vec<MatrixRow>, Memory>
-    requires { AreRowsOf (length (theory.cells facts.now.ways.now.plan)) (numbers_of rows.now) }
     ensures { IfOk result (λ list. map spec.row_shown list.items
-        ≡ map (spec.matrix_row (told facts.now) linked.now (numbers_of rows.now)) (range_with_len 0 (length (numbers_of rows.now)))) }
+        ≡ map (spec.matrix_row (told_in table.now) linked.now (rows_in table.now)) (range_with_len 0 (length (rows_in table.now)))) }
 {
-    let mut list = Vec::with_capacity(alloc, rows.len())?;
-    for row in 0..rows.len() {
-        list.push(matrix_row(alloc, facts, linked, rows, row)?)?;
+    let mut list = Vec::with_capacity(alloc, table.rows.len())?;
+    for row in 0..table.rows.len() {
+        list.push(matrix_row(alloc, table, linked, row)?)?;
     }
     Ok(list)
 }
@@ -43,20 +38,18 @@ pub(crate) fn matrix_rows(
 /// A row of the matrix.
 fn matrix_row(
     alloc: Global,
-    facts: &Facts<'_>,
+    table: &Table<'_>,
     linked: &[Pick],
-    rows: &[Vec<usize>],
     row: usize,
 ) -> Result<MatrixRow, Memory>
-    requires rows { AreRowsOf (length (theory.cells facts.now.ways.now.plan)) (numbers_of rows.now) }
-    requires row { row < length rows.now }
+    requires row { row < length table.now.rows.now }
     ensures { IfOk result (λ list. spec.row_shown list
-        ≡ spec.matrix_row (told facts.now) linked.now (numbers_of rows.now) row) }
+        ≡ spec.matrix_row (told_in table.now) linked.now (rows_in table.now) row) }
 {
-    let cells = cells_of(alloc, facts.ways, &rows[row])?;
-    let marks = marks_of(alloc, facts, linked, rows, row)?;
+    let cells = cells_of(alloc, table.facts.ways, &table.rows[row])?;
+    let marks = marks_of(alloc, table, linked, row)?;
     Ok(MatrixRow {
-        opening: opening_of(facts.ways, rows, row),
+        opening: opening_of(table, row),
         cells,
         marks,
     })
@@ -75,17 +68,17 @@ fn cells_of(alloc: Global, ways: &Ways<'_>, row: &[usize]) -> Result<Vec<CellRef
 }
 
 /// Where a row stands among the others.
-fn opening_of(ways: &Ways<'_>, rows: &[Vec<usize>], row: usize) -> Opening
-    requires rows { AreRowsOf (length (theory.cells ways.now.plan)) (numbers_of rows.now) }
-    requires row { row < length rows.now }
-    ensures { result ≡ spec.opening_of ways.now.plan (numbers_of rows.now) row }
+fn opening_of(table: &Table<'_>, row: usize) -> Opening
+    requires row { row < length table.now.rows.now }
+    ensures { result ≡ spec.opening_of table.now.facts.now.ways.now.plan (rows_in table.now) row }
 {
     if row == 0 {
         return Opening::First;
     }
-    let cell = ways.cells()[first_cell(ways, rows, row)];
-    let before = ways.cells()[first_cell(ways, rows, row - 1)];
-    if row_size(rows, row) == 1 && before.name == cell.name {
+    let cells = table.facts.ways.cells();
+    let cell = cells[table.first_cell(row)];
+    let before = cells[table.first_cell(row - 1)];
+    if table.row_size(row) == 1 && before.name == cell.name {
         Opening::Same
     } else {
         Opening::Next
@@ -95,20 +88,18 @@ fn opening_of(ways: &Ways<'_>, rows: &[Vec<usize>], row: usize) -> Opening
 /// The marks of a row.
 fn marks_of(
     alloc: Global,
-    facts: &Facts<'_>,
+    table: &Table<'_>,
     linked: &[Pick],
-    rows: &[Vec<usize>],
     row: usize,
 ) -> Result<Vec<Mark>, Memory>
-    requires rows { AreRowsOf (length (theory.cells facts.now.ways.now.plan)) (numbers_of rows.now) }
-    requires row { row < length rows.now }
+    requires row { row < length table.now.rows.now }
     ensures { IfOk result (λ marks. map spec.mark_shown marks.items
-        ≡ flat_map (spec.client_marks (told facts.now) linked.now (numbers_of rows.now) row)
-        (range_with_len 0 (length facts.now.ways.now.plan.clients))) }
+        ≡ flat_map (spec.client_marks (told_in table.now) linked.now (rows_in table.now) row)
+        (range_with_len 0 (length table.now.facts.now.ways.now.plan.clients))) }
 {
     let mut marks = Vec::new(alloc);
-    for client in 0..facts.ways.plan().client_count() {
-        push_client(alloc, facts, linked, rows, row, client, &mut marks)?;
+    for client in 0..table.facts.ways.plan().client_count() {
+        push_client(alloc, table, linked, row, client, &mut marks)?;
     }
     Ok(marks)
 }
@@ -116,44 +107,40 @@ fn marks_of(
 /// Puts the two marks of a client behind those of others.
 fn push_client(
     alloc: Global,
-    facts: &Facts<'_>,
+    table: &Table<'_>,
     linked: &[Pick],
-    rows: &[Vec<usize>],
     row: usize,
     client: u8,
     marks: &mut Vec<Mark>,
 ) -> Result<(), Memory>
-    requires rows { AreRowsOf (length (theory.cells facts.now.ways.now.plan)) (numbers_of rows.now) }
-    requires row { row < length rows.now }
-    requires client { client < length facts.now.ways.now.plan.clients }
+    requires row { row < length table.now.rows.now }
+    requires client { client < length table.now.facts.now.ways.now.plan.clients }
     ensures { OnOk result (map spec.mark_shown marks.new.items ≡ map spec.mark_shown marks.old.items
-        ++ spec.client_marks (told facts.now) linked.now (numbers_of rows.now) row client) }
+        ++ spec.client_marks (told_in table.now) linked.now (rows_in table.now) row client) }
 {
-    marks.push(mark_of(alloc, facts, linked, rows, Reach::Influence, client, row)?)?;
-    marks.push(mark_of(alloc, facts, linked, rows, Reach::Learn, client, row)?)?;
+    marks.push(mark_of(alloc, table, linked, Reach::Influence, client, row)?)?;
+    marks.push(mark_of(alloc, table, linked, Reach::Learn, client, row)?)?;
     Ok(())
 }
 
 /// The mark of a client and a row.
 fn mark_of(
     alloc: Global,
-    facts: &Facts<'_>,
+    table: &Table<'_>,
     linked: &[Pick],
-    rows: &[Vec<usize>],
     reach: Reach,
     client: u8,
     row: usize,
 ) -> Result<Mark, Memory>
-    requires rows { AreRowsOf (length (theory.cells facts.now.ways.now.plan)) (numbers_of rows.now) }
-    requires row { row < length rows.now }
-    requires client { client < length facts.now.ways.now.plan.clients }
+    requires row { row < length table.now.rows.now }
+    requires client { client < length table.now.facts.now.ways.now.plan.clients }
     ensures { IfOk result (λ mark. spec.mark_shown mark
-        ≡ spec.mark_of (told facts.now) linked.now (numbers_of rows.now) reach client row) }
+        ≡ spec.mark_of (told_in table.now) linked.now (rows_in table.now) reach client row) }
 {
-    let cell = first_cell(facts.ways, rows, row);
-    let standing = standing_of(facts, reach, client, cell);
+    let cell = table.first_cell(row);
+    let standing = standing_of(table.facts, reach, client, cell);
     let is_linked = is_told(linked, reach, client, row);
-    let link = link_if(alloc, facts.ways, is_linked, reach, client, cell)?;
+    let link = link_if(alloc, table.facts.ways, is_linked, reach, client, cell)?;
     Ok(Mark {
         reach,
         found: standing.found,

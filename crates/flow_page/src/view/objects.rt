@@ -6,13 +6,13 @@ ghost use Rattle.flow_page.specs.Keys.{object_facts};
 ghost use Rattle.flow_page.specs.Objects as spec;
 ghost use Rattle.flow_page.specs.Rows.{AreRowsOf, IsRow};
 
+use crate::objects::ObjectRow;
 use crate::view::held::{answers_to_clients, held_by_clients};
 use crate::view::keys::{ObjectKey, object_groups};
 use crate::view::limits::ROWS;
 use crate::view::rows::singles;
 use cosem_data::memory::Memory;
 use cosem_data::name::LogicalName;
-use crate::objects::ObjectRow;
 use flow_map::outline::Outline;
 use std::alloc::Global;
 

@@ -7,6 +7,9 @@ ghost use Rattle.flow_page.specs.Marks.{told};
 ghost use Rattle.flow_page.specs.Shown as spec;
 ghost use Rattle.flow_page.specs.Shown.{AreEdges, AreMatrix, AreObjects, IsPage, IsPageOf};
 
+use crate::changes::Changes;
+use crate::objects::ObjectRow;
+use crate::page::{CauseCount, ClientRow, Page};
 use crate::view::changes::changes_of;
 use crate::view::clients::{Kind, client_rows, total_of};
 use crate::view::edges::{cause_counts, listed_edges};
@@ -16,9 +19,6 @@ use crate::view::parts::{MatrixParts, matrix_parts};
 use cosem_data::memory::Memory;
 use flow_changes::compare::Comparison;
 use flow_map::map::FlowMap;
-use crate::changes::Changes;
-use crate::objects::ObjectRow;
-use crate::page::{CauseCount, ClientRow, Page};
 use flow_map::outline::Outline;
 use flow_ways::ways::Ways;
 use meter_theory::flow::{Edge, Label};
@@ -109,27 +109,49 @@ fn page_from(
     let matrix = matrix_parts(alloc, facts)?;
     let objects = objects_of(alloc, facts.ways.plan())?;
     let edges = edges_of(alloc, facts.ways.map())?;
-    Ok(page_with(facts, heading, clients, matrix, changes, objects, edges))
+    let parts = PageParts {
+        clients,
+        matrix,
+        objects,
+        edges,
+    };
+    Ok(page_with(facts, heading, parts, changes))
+}
+
+/// The parts of a page.
+#[derive(Drop)]
+struct PageParts {
+    /// What is told of each client.
+    clients: Vec<ClientRow>,
+    /// The matrix and both tables of ways.
+    matrix: MatrixParts,
+    /// The objects, in rows.
+    objects: Vec<ObjectRow>,
+    /// What is told of the edges.
+    edges: EdgeParts,
 }
 
 /// The page that has these parts.
 fn page_with(
     facts: &Facts<'_>,
     heading: Heading,
-    clients: Vec<ClientRow>,
-    matrix: MatrixParts,
+    parts: PageParts,
     changes: Option<Changes>,
-    objects: Vec<ObjectRow>,
-    edges: EdgeParts,
 ) -> Page
-    requires clients { map client_shown clients.items
+    requires clients { map client_shown parts.clients.items
         ≡ map (client_row (told facts.now)) (range_with_len 0 (length facts.now.ways.now.plan.clients)) }
-    requires matrix { AreMatrix (told facts.now) matrix.rows.items matrix.refused matrix.reached }
-    requires objects { AreObjects facts.now.ways.now.plan objects.items }
-    requires edges { AreEdges facts.now.ways.now.plan edges.count edges.causes.items edges.listed.items }
+    requires matrix { AreMatrix (told facts.now) parts.matrix.rows.items parts.matrix.refused parts.matrix.reached }
+    requires objects { AreObjects facts.now.ways.now.plan parts.objects.items }
+    requires edges { AreEdges facts.now.ways.now.plan parts.edges.count parts.edges.causes.items parts.edges.listed.items }
     ensures page { IsPage (told facts.now) heading result }
     ensures changes { result.changes ≡ changes }
 {
+    let PageParts {
+        clients,
+        matrix,
+        objects,
+        edges,
+    } = parts;
     Page {
         name: heading.name,
         verdict: heading.verdict,

@@ -2,19 +2,21 @@
 ghost use Rattle.std.specs.Prelude.{◌≡◌, ◌++◌, IfOk, length};
 ghost use Rattle.meter_theory.specs.Plan as theory;
 ghost use Rattle.flow_map.specs.Grouping.{numbers_of};
+ghost use Rattle.flow_page.specs.InTable.{rows_in, told_in};
 ghost use Rattle.flow_page.specs.Marks.{told};
 ghost use Rattle.flow_page.specs.Shown.{AreChosen, AreMatrix, AreParts};
 ghost use Rattle.flow_page.specs.Rows.{AreRowsOf};
 
+use crate::matrix::MatrixRow;
 use crate::view::facts::Facts;
 use crate::view::limits::WAYS;
 use crate::view::matrix::matrix_rows;
 use crate::view::picks::{FirstPicks, Pick, Sort, first_picks, picks};
 use crate::view::rows::row_numbers;
+use crate::view::table::Table;
 use crate::view::tables::way_table;
-use cosem_data::memory::Memory;
-use crate::matrix::MatrixRow;
 use crate::ways::WayTable;
+use cosem_data::memory::Memory;
 use std::alloc::Global;
 
 /// The matrix and both tables of ways.
@@ -52,26 +54,21 @@ fn parts_of(alloc: Global, facts: &Facts<'_>, rows: &[Vec<usize>]) -> Result<Mat
     requires { AreRowsOf (length (theory.cells facts.now.ways.now.plan)) (numbers_of rows.now) }
     ensures { IfOk result (λ parts. AreParts (told facts.now) (numbers_of rows.now) parts.rows.items parts.refused parts.reached) }
 {
-    let chosen = chosen_ways(alloc, facts, rows)?;
-    parts_with(alloc, facts, rows, &chosen)
+    let table = Table { facts, rows };
+    let chosen = chosen_ways(alloc, &table)?;
+    parts_with(alloc, &table, &chosen)
 }
 
 /// The matrix with these rows, and the tables that tell these ways.
-fn parts_with(
-    alloc: Global,
-    facts: &Facts<'_>,
-    rows: &[Vec<usize>],
-    chosen: &Chosen,
-) -> Result<MatrixParts, Memory>
-    requires rows { AreRowsOf (length (theory.cells facts.now.ways.now.plan)) (numbers_of rows.now) }
-    requires chosen { AreChosen (told facts.now) (numbers_of rows.now) chosen.now }
-    ensures { IfOk result (λ parts. AreParts (told facts.now) (numbers_of rows.now) parts.rows.items parts.refused parts.reached) }
+fn parts_with(alloc: Global, table: &Table<'_>, chosen: &Chosen) -> Result<MatrixParts, Memory>
+    requires chosen { AreChosen (told_in table.now) (rows_in table.now) chosen.now }
+    ensures { IfOk result (λ parts. AreParts (told_in table.now) (rows_in table.now) parts.rows.items parts.refused parts.reached) }
 {
     let counted = chosen.refused.left == 0;
-    let refused = way_table(alloc, facts.ways, rows, &chosen.refused, counted)?;
-    let reached = way_table(alloc, facts.ways, rows, &chosen.reached, false)?;
+    let refused = way_table(alloc, table, &chosen.refused, counted)?;
+    let reached = way_table(alloc, table, &chosen.reached, false)?;
     Ok(MatrixParts {
-        rows: matrix_rows(alloc, facts, &chosen.linked, rows)?,
+        rows: matrix_rows(alloc, table, &chosen.linked)?,
         refused,
         reached,
     })
@@ -79,12 +76,11 @@ fn parts_with(
 
 /// The ways to first cells of rows that tables tell: of the refused the first 2,000, and of those that are reached as many as are
 /// left of 2,000 without all that are refused (own profile).
-fn chosen_ways(alloc: Global, facts: &Facts<'_>, rows: &[Vec<usize>]) -> Result<Chosen, Memory>
-    requires { AreRowsOf (length (theory.cells facts.now.ways.now.plan)) (numbers_of rows.now) }
-    ensures { IfOk result (λ chosen. AreChosen (told facts.now) (numbers_of rows.now) chosen) }
+fn chosen_ways(alloc: Global, table: &Table<'_>) -> Result<Chosen, Memory>
+    ensures { IfOk result (λ chosen. AreChosen (told_in table.now) (rows_in table.now) chosen) }
 {
-    let refused = picks(alloc, facts, Sort::Refused, rows)?;
-    let reached = picks(alloc, facts, Sort::Reached, rows)?;
+    let refused = picks(alloc, table, Sort::Refused)?;
+    let reached = picks(alloc, table, Sort::Reached)?;
     let room = WAYS.saturating_sub(refused.len());
     let refused = first_picks(refused, WAYS);
     let reached = first_picks(reached, room);

@@ -2,17 +2,13 @@
 ghost use Rattle.std.specs.Prelude.{◌≡◌, ◌<◌, ◌-◌, ◌++◌, IfOk, OnOk, length, take};
 ghost use Rattle.std.specs.List.{list_any};
 ghost use Rattle.meter_theory.specs.Plan as theory;
-ghost use Rattle.flow_map.specs.Grouping.{numbers_of};
-ghost use Rattle.flow_page.specs.Marks.{told};
-ghost use Rattle.flow_page.specs.Rows.{AreRowsOf};
+ghost use Rattle.flow_page.specs.InTable.{rows_in, told_in};
 ghost use Rattle.flow_page.specs.WayTables as spec;
 
-use crate::view::equal::same_reach;
-use crate::view::facts::Facts;
 use crate::view::marks::{distance, has_at, request};
-use crate::view::rows::first_cell;
-use flow_map::pushing::push_some;
+use crate::view::table::Table;
 use cosem_data::memory::Memory;
+use flow_map::pushing::push_some;
 use flow_map::request::GrantedRequest;
 use meter_theory::flow::Reach;
 use std::alloc::Global;
@@ -41,18 +37,12 @@ pub(crate) enum Sort {
 
 /// All ways of a sort to first cells of rows: client by client, influence before learning, and row by row. The only error is want
 /// of memory.
-pub(crate) fn picks(
-    alloc: Global,
-    facts: &Facts<'_>,
-    sort: Sort,
-    rows: &[Vec<usize>],
-) -> Result<Vec<Pick>, Memory>
-    requires { AreRowsOf (length (theory.cells facts.now.ways.now.plan)) (numbers_of rows.now) }
-    ensures { IfOk result (λ list. list.items ≡ spec.picks (told facts.now) sort (numbers_of rows.now)) }
+pub(crate) fn picks(alloc: Global, table: &Table<'_>, sort: Sort) -> Result<Vec<Pick>, Memory>
+    ensures { IfOk result (λ list. list.items ≡ spec.picks (told_in table.now) sort (rows_in table.now)) }
 {
     let mut list = Vec::new(alloc);
-    for client in 0..facts.ways.plan().client_count() {
-        push_client(alloc, facts, sort, rows, client, &mut list)?;
+    for client in 0..table.facts.ways.plan().client_count() {
+        push_client(alloc, table, sort, client, &mut list)?;
     }
     Ok(list)
 }
@@ -60,19 +50,17 @@ pub(crate) fn picks(
 /// Puts those of a client behind others.
 fn push_client(
     alloc: Global,
-    facts: &Facts<'_>,
+    table: &Table<'_>,
     sort: Sort,
-    rows: &[Vec<usize>],
     client: u8,
     list: &mut Vec<Pick>,
 ) -> Result<(), Memory>
-    requires rows { AreRowsOf (length (theory.cells facts.now.ways.now.plan)) (numbers_of rows.now) }
-    requires client { client < length facts.now.ways.now.plan.clients }
+    requires client { client < length table.now.facts.now.ways.now.plan.clients }
     ensures { OnOk result (list.new.items ≡ list.old.items
-        ++ spec.client_picks (told facts.now) sort (numbers_of rows.now) client) }
+        ++ spec.client_picks (told_in table.now) sort (rows_in table.now) client) }
 {
-    let influence = reach_picks(alloc, facts, sort, rows, Reach::Influence, client)?;
-    let learn = reach_picks(alloc, facts, sort, rows, Reach::Learn, client)?;
+    let influence = reach_picks(alloc, table, sort, Reach::Influence, client)?;
+    let learn = reach_picks(alloc, table, sort, Reach::Learn, client)?;
     list.extend_from_slice(&influence)?;
     list.extend_from_slice(&learn)?;
     Ok(())
@@ -81,20 +69,18 @@ fn push_client(
 /// Those of a reach of a client.
 fn reach_picks(
     alloc: Global,
-    facts: &Facts<'_>,
+    table: &Table<'_>,
     sort: Sort,
-    rows: &[Vec<usize>],
     reach: Reach,
     client: u8,
 ) -> Result<Vec<Pick>, Memory>
-    requires rows { AreRowsOf (length (theory.cells facts.now.ways.now.plan)) (numbers_of rows.now) }
-    requires client { client < length facts.now.ways.now.plan.clients }
+    requires client { client < length table.now.facts.now.ways.now.plan.clients }
     ensures { IfOk result (λ list. list.items
-        ≡ spec.reach_picks (told facts.now) sort (numbers_of rows.now) reach client) }
+        ≡ spec.reach_picks (told_in table.now) sort (rows_in table.now) reach client) }
 {
     let mut list = Vec::new(alloc);
-    for row in 0..rows.len() {
-        let pick = pick_at(alloc, facts, sort, rows, reach, client, row)?;
+    for row in 0..table.rows.len() {
+        let pick = pick_at(alloc, table, sort, reach, client, row)?;
         push_some(pick, &mut list)?;
     }
     Ok(list)
@@ -103,26 +89,24 @@ fn reach_picks(
 /// The way of a client to the first cell of a row, if it is of this sort.
 fn pick_at(
     alloc: Global,
-    facts: &Facts<'_>,
+    table: &Table<'_>,
     sort: Sort,
-    rows: &[Vec<usize>],
     reach: Reach,
     client: u8,
     row: usize,
 ) -> Result<Option<Pick>, Memory>
-    requires rows { AreRowsOf (length (theory.cells facts.now.ways.now.plan)) (numbers_of rows.now) }
-    requires client { client < length facts.now.ways.now.plan.clients }
-    requires row { row < length rows.now }
+    requires client { client < length table.now.facts.now.ways.now.plan.clients }
+    requires row { row < length table.now.rows.now }
     ensures { IfOk result (λ pick. pick
-        ≡ spec.pick_at (told facts.now) sort (numbers_of rows.now) reach client row) }
+        ≡ spec.pick_at (told_in table.now) sort (rows_in table.now) reach client row) }
 {
-    let cell = first_cell(facts.ways, rows, row);
-    let distance = distance(facts.ways, reach, client, cell);
-    let allowed = has_at(facts.allowed, reach, client, cell);
+    let cell = table.first_cell(row);
+    let distance = distance(table.facts.ways, reach, client, cell);
+    let allowed = has_at(table.facts.allowed, reach, client, cell);
     if !is_of(sort, distance, allowed) {
         return Ok(None);
     }
-    match request(alloc, facts.ways, reach, client, cell)? {
+    match request(alloc, table.facts.ways, reach, client, cell)? {
         None => Ok(None),
         Some(request) => Ok(Some(Pick {
             reach,
@@ -150,9 +134,7 @@ fn is_of(sort: Sort, distance: Option<usize>, allowed: bool) -> bool
 pub(crate) fn is_told(list: &[Pick], reach: Reach, client: u8, row: usize) -> bool
     ensures { result ≡ list_any (spec.is_pick reach client row) list.now }
 {
-    list.iter().any(|pick| same_reach(pick.reach, reach)
-        && pick.client == client
-        && pick.row == row)
+    list.iter().any(|pick| pick.reach == reach && pick.client == client && pick.row == row)
 }
 
 /// Those of a list that a table tells, and how many are left.

@@ -7,7 +7,6 @@ ghost use Rattle.flow_edges.specs.Table.{cell_at};
 ghost use Rattle.flow_page.specs.Keys.{row_facts};
 ghost use Rattle.flow_page.specs.Marks.{request_of, told};
 ghost use Rattle.flow_page.specs.Rows as spec;
-ghost use Rattle.flow_page.specs.WayTables.{first_of, row_at};
 
 use crate::view::facts::Facts;
 use crate::view::keys::{MarkKey, RowKey, row_groups, word_of};
@@ -15,7 +14,6 @@ use crate::view::limits::ROWS;
 use crate::view::marks::{request, standing_of};
 use cosem_data::memory::Memory;
 use flow_map::request::GrantedRequest;
-use flow_ways::ways::Ways;
 use meter_theory::flow::Reach;
 use std::alloc::Global;
 
@@ -149,22 +147,4 @@ fn refused(
         return Ok(None);
     }
     request(alloc, facts.ways, reach, client, cell)
-}
-
-/// The number of the first cell of a row.
-pub(crate) fn first_cell(ways: &Ways<'_>, rows: &[Vec<usize>], row: usize) -> usize
-    requires rows { spec.AreRowsOf (length (theory.cells ways.now.plan)) (numbers_of rows.now) }
-    requires row { row < length rows.now }
-    ensures is { result ≡ first_of (numbers_of rows.now) row }
-    ensures within { result < length (theory.cells ways.now.plan) }
-{
-    rows[row][0]
-}
-
-/// How many cells a row has.
-pub(crate) fn row_size(rows: &[Vec<usize>], row: usize) -> usize
-    requires { row < length rows.now }
-    ensures { result ≡ length (row_at (numbers_of rows.now) row) }
-{
-    rows[row].len()
 }

@@ -4,6 +4,7 @@ ghost use Rattle.std.specs.List.{All};
 ghost use Rattle.meter_theory.specs.Plan as theory;
 ghost use Rattle.flow_map.specs.Grouping.{numbers_of};
 ghost use Rattle.flow_page.specs.Rows.{AreRowsOf, IsRow};
+ghost use Rattle.flow_page.specs.InTable.{rows_in};
 ghost use Rattle.flow_page.specs.WayTables as spec;
 ghost use Rattle.flow_page.specs.WayTables.{IsTable, ArePicks};
 
@@ -11,29 +12,26 @@ use crate::view::keys::{WayKey, way_groups};
 use crate::view::limits::WAYS;
 use crate::view::lines::{client_name, lines_of};
 use crate::view::picks::{FirstPicks, Pick};
-use crate::view::rows::{first_cell, row_size};
-use cosem_data::memory::Memory;
+use crate::view::table::Table;
 use crate::ways::{Anchor, WayGroup, WayRow, WayTable};
-use flow_ways::ways::Ways;
+use cosem_data::memory::Memory;
 use std::alloc::Global;
 
 /// The table of these ways, those of one request, client and reach together; to how many cells those of a group lead, if that is
 /// counted. The only error is want of memory.
 pub(crate) fn way_table(
     alloc: Global,
-    ways: &Ways<'_>,
-    rows: &[Vec<usize>],
+    table: &Table<'_>,
     told: &FirstPicks,
     counted: bool,
 ) -> Result<WayTable, Memory>
-    requires rows { AreRowsOf (length (theory.cells ways.now.plan)) (numbers_of rows.now) }
-    requires picks { ArePicks (length ways.now.plan.clients) (length rows.now) told.now.picks.items }
+    requires picks { ArePicks (length table.now.facts.now.ways.now.plan.clients) (length table.now.rows.now) told.now.picks.items }
     requires few { length told.now.picks.items ≤ WAYS }
-    ensures { IfOk result (λ table. IsTable ways.now.plan (numbers_of rows.now) told.now.picks.items told.now.left counted table) }
+    ensures { IfOk result (λ made. IsTable table.now.facts.now.ways.now.plan (rows_in table.now) told.now.picks.items told.now.left counted made) }
 {
     let keys = way_keys(alloc, &told.picks)?;
     let numbers = way_groups(alloc, &keys)?;
-    let groups = group_rows(alloc, ways, rows, &told.picks, counted, &numbers)?;
+    let groups = group_rows(alloc, table, &told.picks, counted, &numbers)?;
     Ok(WayTable {
         groups,
         left: told.left,
@@ -58,22 +56,20 @@ fn way_keys(alloc: Global, told: &[Pick]) -> Result<Vec<WayKey>, Memory>
 /// The groups of ways with these numbers.
 fn group_rows(
     alloc: Global,
-    ways: &Ways<'_>,
-    rows: &[Vec<usize>],
+    table: &Table<'_>,
     told: &[Pick],
     counted: bool,
     numbers: &[Vec<usize>],
 ) -> Result<Vec<WayGroup>, Memory>
-    requires rows { AreRowsOf (length (theory.cells ways.now.plan)) (numbers_of rows.now) }
-    requires picks { ArePicks (length ways.now.plan.clients) (length rows.now) told.now }
+    requires picks { ArePicks (length table.now.facts.now.ways.now.plan.clients) (length table.now.rows.now) told.now }
     requires few { length told.now ≤ WAYS }
     requires numbers { AreRowsOf (length told.now) (numbers_of numbers.now) }
     ensures { IfOk result (λ groups. map spec.group_shown groups.items
-        ≡ map (spec.group_of ways.now.plan (numbers_of rows.now) told.now counted) (numbers_of numbers.now)) }
+        ≡ map (spec.group_of table.now.facts.now.ways.now.plan (rows_in table.now) told.now counted) (numbers_of numbers.now)) }
 {
     let mut groups = Vec::with_capacity(alloc, numbers.len())?;
     for group in numbers {
-        groups.push(group_of(alloc, ways, rows, told, counted, group)?)?;
+        groups.push(group_of(alloc, table, told, counted, group)?)?;
     }
     Ok(groups)
 }
@@ -81,23 +77,21 @@ fn group_rows(
 /// The group of the ways with these numbers.
 fn group_of(
     alloc: Global,
-    ways: &Ways<'_>,
-    rows: &[Vec<usize>],
+    table: &Table<'_>,
     told: &[Pick],
     counted: bool,
     numbers: &[usize],
 ) -> Result<WayGroup, Memory>
-    requires rows { AreRowsOf (length (theory.cells ways.now.plan)) (numbers_of rows.now) }
-    requires picks { ArePicks (length ways.now.plan.clients) (length rows.now) told.now }
+    requires picks { ArePicks (length table.now.facts.now.ways.now.plan.clients) (length table.now.rows.now) told.now }
     requires few { length told.now ≤ WAYS }
     requires numbers { IsRow (length told.now) numbers.now }
     ensures { IfOk result (λ group. spec.group_shown group
-        ≡ spec.group_of ways.now.plan (numbers_of rows.now) told.now counted numbers.now) }
+        ≡ spec.group_of table.now.facts.now.ways.now.plan (rows_in table.now) told.now counted numbers.now) }
 {
     let first = told[numbers[0]];
-    let client = String::from_str(alloc, client_name(ways.plan(), first.client))?;
-    let cells = cells_if(ways, rows, told, counted, numbers);
-    let rows = way_rows(alloc, ways, rows, told, numbers)?;
+    let client = String::from_str(alloc, client_name(table.facts.ways.plan(), first.client))?;
+    let cells = cells_if(table, told, counted, numbers);
+    let rows = way_rows(alloc, table, told, numbers)?;
     Ok(WayGroup {
         reach: first.reach,
         client,
@@ -108,96 +102,79 @@ fn group_of(
 }
 
 /// To how many cells the ways with these numbers lead, if that is counted.
-fn cells_if(
-    ways: &Ways<'_>,
-    rows: &[Vec<usize>],
-    told: &[Pick],
-    counted: bool,
-    numbers: &[usize],
-) -> Option<usize>
-    requires rows { AreRowsOf (length (theory.cells ways.now.plan)) (numbers_of rows.now) }
-    requires picks { ArePicks (length ways.now.plan.clients) (length rows.now) told.now }
+fn cells_if(table: &Table<'_>, told: &[Pick], counted: bool, numbers: &[usize]) -> Option<usize>
+    requires picks { ArePicks (length table.now.facts.now.ways.now.plan.clients) (length table.now.rows.now) told.now }
     requires few { length told.now ≤ WAYS }
     requires numbers { IsRow (length told.now) numbers.now }
-    ensures { result ≡ cond counted (Some (spec.cells_reached (numbers_of rows.now) told.now numbers.now)) None }
+    ensures { result ≡ cond counted (Some (spec.cells_reached (rows_in table.now) told.now numbers.now)) None }
 {
     if counted {
-        Some(cells_reached(ways, rows, told, numbers))
+        Some(cells_reached(table, told, numbers))
     } else {
         None
     }
 }
 
 /// To how many cells the ways with these numbers lead.
-fn cells_reached(ways: &Ways<'_>, rows: &[Vec<usize>], told: &[Pick], numbers: &[usize]) -> usize
-    requires rows { AreRowsOf (length (theory.cells ways.now.plan)) (numbers_of rows.now) }
-    requires picks { ArePicks (length ways.now.plan.clients) (length rows.now) told.now }
+fn cells_reached(table: &Table<'_>, told: &[Pick], numbers: &[usize]) -> usize
+    requires picks { ArePicks (length table.now.facts.now.ways.now.plan.clients) (length table.now.rows.now) told.now }
     requires few { length told.now ≤ WAYS }
     requires numbers { IsRow (length told.now) numbers.now }
-    ensures { result ≡ spec.cells_reached (numbers_of rows.now) told.now numbers.now }
+    ensures { result ≡ spec.cells_reached (rows_in table.now) told.now numbers.now }
 {
     let mut cells = 0;
     for number in numbers {
-        cells += size_of(ways, rows, told, *number);
+        cells += size_of(table, told, *number);
     }
     cells
 }
 
 /// To how many cells the way with this number leads.
-fn size_of(ways: &Ways<'_>, rows: &[Vec<usize>], told: &[Pick], number: usize) -> usize
-    requires rows { AreRowsOf (length (theory.cells ways.now.plan)) (numbers_of rows.now) }
-    requires picks { ArePicks (length ways.now.plan.clients) (length rows.now) told.now }
+fn size_of(table: &Table<'_>, told: &[Pick], number: usize) -> usize
+    requires picks { ArePicks (length table.now.facts.now.ways.now.plan.clients) (length table.now.rows.now) told.now }
     requires number { number < length told.now }
-    ensures is { result ≡ spec.size_of (numbers_of rows.now) told.now number }
+    ensures is { result ≡ spec.size_of (rows_in table.now) told.now number }
     ensures few { result ≤ 2048 }
 {
-    ways.plan().known();
-    row_size(rows, told[number].row)
+    table.facts.ways.plan().known();
+    table.row_size(told[number].row)
 }
 
 /// The ways with these numbers.
 fn way_rows(
     alloc: Global,
-    ways: &Ways<'_>,
-    rows: &[Vec<usize>],
+    table: &Table<'_>,
     told: &[Pick],
     numbers: &[usize],
 ) -> Result<Vec<WayRow>, Memory>
-    requires rows { AreRowsOf (length (theory.cells ways.now.plan)) (numbers_of rows.now) }
-    requires picks { ArePicks (length ways.now.plan.clients) (length rows.now) told.now }
+    requires picks { ArePicks (length table.now.facts.now.ways.now.plan.clients) (length table.now.rows.now) told.now }
     requires numbers { All (λ number. number < length told.now) numbers.now }
     ensures { IfOk result (λ list. map spec.way_shown list.items
-        ≡ map (λ number. spec.way_row ways.now.plan (numbers_of rows.now) (spec.pick_numbered told.now number)) numbers.now) }
+        ≡ map (λ number. spec.way_row table.now.facts.now.ways.now.plan (rows_in table.now) (spec.pick_numbered told.now number)) numbers.now) }
 {
     let mut list = Vec::with_capacity(alloc, numbers.len())?;
     for number in numbers {
-        list.push(way_row(alloc, ways, rows, told[*number])?)?;
+        list.push(way_row(alloc, table, told[*number])?)?;
     }
     Ok(list)
 }
 
 /// A way, without its request.
-fn way_row(
-    alloc: Global,
-    ways: &Ways<'_>,
-    rows: &[Vec<usize>],
-    pick: Pick,
-) -> Result<WayRow, Memory>
-    requires rows { AreRowsOf (length (theory.cells ways.now.plan)) (numbers_of rows.now) }
-    requires client { pick.client < length ways.now.plan.clients }
-    requires row { pick.row < length rows.now }
-    ensures { IfOk result (λ told. spec.way_shown told ≡ spec.way_row ways.now.plan (numbers_of rows.now) pick) }
+fn way_row(alloc: Global, table: &Table<'_>, pick: Pick) -> Result<WayRow, Memory>
+    requires client { pick.client < length table.now.facts.now.ways.now.plan.clients }
+    requires row { pick.row < length table.now.rows.now }
+    ensures { IfOk result (λ told. spec.way_shown told ≡ spec.way_row table.now.facts.now.ways.now.plan (rows_in table.now) pick) }
 {
-    let cell = first_cell(ways, rows, pick.row);
-    let edges = lines_of(alloc, ways, pick.reach, pick.client, cell)?;
+    let cell = table.first_cell(pick.row);
+    let edges = lines_of(alloc, table.facts.ways, pick.reach, pick.client, cell)?;
     Ok(WayRow {
         anchor: Anchor {
             reach: pick.reach,
             client: pick.client,
             cell,
         },
-        cell: ways.cells()[cell],
-        alike: row_size(rows, pick.row).saturating_sub(1),
+        cell: table.facts.ways.cells()[cell],
+        alike: table.row_size(pick.row).saturating_sub(1),
         edges,
     })
 }

@@ -5,10 +5,10 @@ ghost use Rattle.flow_map.specs.Grouping.{firsts};
 ghost use Rattle.flow_picture.specs.Arrows as spec;
 ghost use Rattle.flow_picture.specs.Boxes.{IsBox};
 
-use flow_map::pushing::{push_if, push_some};
+use crate::picture::Arrow;
 use cosem_data::memory::Memory;
 use flow_edges::table::Link;
-use crate::picture::Arrow;
+use flow_map::pushing::{push_if, push_some};
 use meter_theory::flow::Cause;
 use std::alloc::Global;
 

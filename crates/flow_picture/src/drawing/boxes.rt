@@ -5,9 +5,9 @@ ghost use Rattle.meter_theory.specs.Labels.{has};
 ghost use Rattle.meter_theory.specs.Plan as theory;
 ghost use Rattle.flow_picture.specs.Boxes as spec;
 
+use crate::picture::PictureBox;
 use cosem_data::clients::ClientSet;
 use cosem_data::memory::Memory;
-use crate::picture::PictureBox;
 use flow_ways::ways::Ways;
 use meter_theory::flow::Reach;
 use std::alloc::Global;

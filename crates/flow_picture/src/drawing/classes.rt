@@ -5,9 +5,9 @@ ghost use Rattle.flow_map.specs.Grouping as alike;
 ghost use Rattle.flow_map.specs.Grouping.{same_at};
 ghost use Rattle.flow_picture.specs.Drawn as spec;
 
-use flow_map::grouping::grouped;
 use cosem_data::cell::CellRef;
 use cosem_data::memory::Memory;
+use flow_map::grouping::grouped;
 use std::alloc::Global;
 
 /// What the cells of a box have alike where they stand together by class and attribute (own profile).

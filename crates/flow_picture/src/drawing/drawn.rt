@@ -7,9 +7,9 @@ ghost use Rattle.flow_picture.specs.Drawn as spec;
 use crate::drawing::arrows::{all_between, first_between};
 use crate::drawing::classes::by_class;
 use crate::drawing::limits::{ARROWS, BOXES};
-use flow_map::pushing::push_if;
 use cosem_data::memory::Memory;
 use flow_edges::table::Link;
+use flow_map::pushing::push_if;
 use flow_ways::ways::Ways;
 use std::alloc::Global;
 

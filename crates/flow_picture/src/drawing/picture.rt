@@ -10,12 +10,12 @@ ghost use Rattle.flow_picture.specs.Picture.{IsDrawn, IsPictureOf, client_at};
 use crate::drawing::arrows::{arrows_of, place_of};
 use crate::drawing::boxes::boxes_told;
 use crate::drawing::drawn::drawn;
-use flow_map::outline::Outline;
-use flow_map::pushing::push_if;
+use crate::picture::Picture;
 use cosem_data::cell::CellRef;
 use cosem_data::memory::Memory;
 use flow_edges::table::Link;
-use crate::picture::Picture;
+use flow_map::outline::Outline;
+use flow_map::pushing::push_if;
 use flow_ways::ways::Ways;
 use std::alloc::Global;
 

@@ -13,13 +13,13 @@ use Rattle.flow_changes.proofs.owned.push_own.Goals as goal
 
 pub returns-in-May : goal.returns-in-May
 returns-in-May c =
-    let C = c.args.mine.now in
-    let D = c.args.theirs.now in
+    let C = c.args.sides.now.mine.now in
+    let D = c.args.sides.now.theirs.now in
     let n : Numbered = (c.args.place, c.args.client.now) in
     let before = map shown c.args.facts.now.items in
     let other = c.client_named.ensures ∙ ap (λ P. client_named P c.name.result.now) c.plan-3.ensures ∙ other-is D.plan c.name.result.now ∙ ap (λ m. option_map (λ o. o.0) (found m 0 D.plan.clients)) c.name.ensures in
     let ours = c.cells.ensures in
-    let pairs = subst (λ k. ArePairs k C D c.args.pairs.now) c.in-May.is c.requires.pairs ∙ ap (map (pair_told kinds.May C D)) (sym ours) in
+    let pairs = subst (λ k. ArePairs k C D c.args.sides.now.pairs.now) c.in-May.is c.requires.pairs ∙ ap (map (pair_told kinds.May C D)) (sym ours) in
     subst (λ k. OnOk c.push_reaches.result (map shown c.push_reaches.new.facts.items ≡ before ++ filter (lacks D C k) (own_facts C D k n))) (sym c.in-May.is)
     (subst (λ t. OnOk c.push_reaches.result (map shown c.push_reaches.new.facts.items ≡ before ++ t))
     (ap₂ (λ (m : List _) o. reached_facts m c.args.place o (pair_told kinds.May C D) c.cells.result.now) c.name_text.ensures other
@@ -29,13 +29,13 @@ returns-in-May c =
 
 pub returns-in-Allowed : goal.returns-in-Allowed
 returns-in-Allowed c =
-    let C = c.args.mine.now in
-    let D = c.args.theirs.now in
+    let C = c.args.sides.now.mine.now in
+    let D = c.args.sides.now.theirs.now in
     let n : Numbered = (c.args.place, c.args.client.now) in
     let before = map shown c.args.facts.now.items in
     let other = c.client_named.ensures ∙ ap (λ P. client_named P c.name.result.now) c.plan-3.ensures ∙ other-is D.plan c.name.result.now ∙ ap (λ m. option_map (λ o. o.0) (found m 0 D.plan.clients)) c.name.ensures in
     let ours = c.cells-in-Allowed.ensures in
-    let pairs = subst (λ k. ArePairs k C D c.args.pairs.now) c.in-Allowed.is c.requires.pairs ∙ ap (map (pair_told kinds.Allowed C D)) (sym ours) in
+    let pairs = subst (λ k. ArePairs k C D c.args.sides.now.pairs.now) c.in-Allowed.is c.requires.pairs ∙ ap (map (pair_told kinds.Allowed C D)) (sym ours) in
     subst (λ k. OnOk c.push_reaches-in-Allowed.result (map shown c.push_reaches-in-Allowed.new.facts.items ≡ before ++ filter (lacks D C k) (own_facts C D k n))) (sym c.in-Allowed.is)
     (subst (λ t. OnOk c.push_reaches-in-Allowed.result (map shown c.push_reaches-in-Allowed.new.facts.items ≡ before ++ t))
     (ap₂ (λ (m : List _) o. reached_facts m c.args.place o (pair_told kinds.Allowed C D) c.cells-in-Allowed.result.now) c.name_text.ensures other
@@ -45,8 +45,8 @@ returns-in-Allowed c =
 
 pub returns-in-Right : goal.returns-in-Right
 returns-in-Right c =
-    let C = c.args.mine.now in
-    let D = c.args.theirs.now in
+    let C = c.args.sides.now.mine.now in
+    let D = c.args.sides.now.theirs.now in
     let n : Numbered = (c.args.place, c.args.client.now) in
     let before = map shown c.args.facts.now.items in
     let other = c.client_named.ensures ∙ ap (λ P. client_named P c.name.result.now) c.plan-3.ensures ∙ other-is D.plan c.name.result.now ∙ ap (λ m. option_map (λ o. o.0) (found m 0 D.plan.clients)) c.name.ensures in
@@ -59,8 +59,8 @@ returns-in-Right c =
 
 pub returns-in-Client : goal.returns-in-Client
 returns-in-Client c =
-    let C = c.args.mine.now in
-    let D = c.args.theirs.now in
+    let C = c.args.sides.now.mine.now in
+    let D = c.args.sides.now.theirs.now in
     let n : Numbered = (c.args.place, c.args.client.now) in
     let before = map shown c.args.facts.now.items in
     let other = c.client_named.ensures ∙ ap (λ P. client_named P c.name.result.now) c.plan-3.ensures ∙ other-is D.plan c.name.result.now ∙ ap (λ m. option_map (λ o. o.0) (found m 0 D.plan.clients)) c.name.ensures in

@@ -6,4 +6,4 @@ use Rattle.flow_page.proofs.view.matrix.marks_of.Given as goal
 
 abbrev pub invariant-loop-client : goal.invariant-loop-client
 invariant-loop-client l =
-    map spec.mark_shown l.marks.items ≡ flat_map (spec.client_marks (told l.facts) l.linked (map (λ row. row.items) l.rows) l.row) (range_with_len 0 l.client)
+    map spec.mark_shown l.marks.items ≡ flat_map (spec.client_marks (told l.table.facts.now) l.linked (map (λ row. row.items) l.table.rows.now) l.row) (range_with_len 0 l.client)

@@ -5,4 +5,4 @@ use Rattle.flow_page.specs.Marked as spec
 use Rattle.flow_page.proofs.view.matrix.matrix_rows.Given as goal
 
 abbrev pub invariant-loop-row : goal.invariant-loop-row
-invariant-loop-row l = map spec.row_shown l.list.items ≡ map (spec.matrix_row (told l.facts) l.linked (map (λ row. row.items) l.rows)) (range_with_len 0 l.row)
+invariant-loop-row l = map spec.row_shown l.list.items ≡ map (spec.matrix_row (told l.table.facts.now) l.linked (map (λ row. row.items) l.table.rows.now)) (range_with_len 0 l.row)

@@ -5,4 +5,4 @@ use Rattle.flow_page.specs.WayTables as spec
 use Rattle.flow_page.proofs.view.picks.picks.Goals as goal
 
 pub loop-client-preserved : goal.loop-client-preserved
-loop-client-preserved c = flat-next (spec.client_picks (told c.args.facts.now) c.args.sort (map (λ row. row.items) c.args.rows.now)) c.loop-client.client _ _ c.loop-client.invariant c.in_ok-push_client.ensures
+loop-client-preserved c = flat-next (spec.client_picks (told c.args.table.now.facts.now) c.args.sort (map (λ row. row.items) c.args.table.now.rows.now)) c.loop-client.client _ _ c.loop-client.invariant c.in_ok-push_client.ensures

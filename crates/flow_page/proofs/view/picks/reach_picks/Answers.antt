@@ -7,5 +7,5 @@ use Rattle.flow_page.proofs.view.picks.reach_picks.Goals as goal
 
 pub loop-row-preserved : goal.loop-row-preserved
 loop-row-preserved c =
-    flat-next (spec.row_picks (told c.args.facts.now) c.args.sort (map (λ row. row.items) c.args.rows.now) c.args.reach c.args.client) c.loop-row.row _ _ c.loop-row.invariant
+    flat-next (spec.row_picks (told c.args.table.now.facts.now) c.args.sort (map (λ row. row.items) c.args.table.now.rows.now) c.args.reach c.args.client) c.loop-row.row _ _ c.loop-row.invariant
     (c.in_ok-push_some.ensures ∙ ap (λ pick. c.loop-row.list.items ++ option_to_list pick) c.in_ok-pick.ensures)

@@ -5,4 +5,4 @@ use Rattle.flow_page.specs.WayTables as spec
 use Rattle.flow_page.proofs.view.picks.reach_picks.Given as goal
 
 abbrev pub invariant-loop-row : goal.invariant-loop-row
-invariant-loop-row l = l.list.items ≡ flat_map (spec.row_picks (told l.facts) l.sort (map (λ row. row.items) l.rows) l.reach l.client) (range_with_len 0 l.row)
+invariant-loop-row l = l.list.items ≡ flat_map (spec.row_picks (told l.table.facts.now) l.sort (map (λ row. row.items) l.table.rows.now) l.reach l.client) (range_with_len 0 l.row)

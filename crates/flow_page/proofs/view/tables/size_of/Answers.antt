@@ -5,5 +5,5 @@ use Rattle.flow_page.proofs.view.tables.size_of.Goals as goal
 
 pub returns-clause-few : goal.returns-clause-few
 returns-clause-few c =
-    few-cells c.args.ways.now.plan (subst IsSound c.plan.ensures c.known.ensures.sound) c.args.rows.now _ c.row_size.result c.requires.rows
+    few-cells c.args.table.now.facts.now.ways.now.plan (subst IsSound c.plan.ensures c.known.ensures.sound) c.args.table.now.rows.now _ c.row_size.result c.args.table.now.are_rows
     (c.requires.picks c.args.number _ c.requires.number).row_within c.row_size.ensures
