@@ -1,11 +1,10 @@
 //! What a configuration without fault is warned of (own profile).
-ghost use Rattle.std.specs.Prelude.{◌≡◌, IfOk, length, map, option_map, string_bytes};
+ghost use Rattle.std.specs.Prelude.{◌≡◌, IfOk, length, string_bytes};
 ghost use Rattle.config_warnings.specs.Widths.{wider_cells};
 ghost use Rattle.explanations.specs.Warnings.{width_line};
 ghost use Rattle.explanations.specs.declared.warnings.Whose.TheVariants as whose;
 ghost use Rattle.label_certificate.specs.LabelText.{labels_of_text};
 ghost use Rattle.meter_theory.specs.Labels.{labelling_of_policy};
-ghost use Rattle.meter_theory.specs.Plan.{cells};
 ghost use Rattle.meter_server.specs.Remarks.{told_of};
 ghost use Rattle.meter_server.specs.Warning as spec;
 ghost use Rattle.meter_server.specs.Warning.{IsBehind, TellsSlips, TellsWidths, Warns};
@@ -18,9 +17,8 @@ use config_warnings::finding::warnings;
 use config_warnings::widths::{wider_by_labels, wider_by_policy};
 use cosem_data::memory::Memory;
 use explanations::warnings::{Whose, explain_warnings, explain_width};
+use flow_map::map::FlowMap;
 use label_certificate::fault::LabelFault;
-use label_certificate::labels::Labels;
-use label_certificate::least::make_labels;
 use label_certificate::reading::read_labels;
 use object_model::plan::Plan;
 use object_model::policy::Policy;
@@ -64,68 +62,64 @@ fn slip_lines(alloc: Global, config: Source<'_>, plan: &Plan) -> Result<String, 
 fn width_lines(alloc: Global, of: Warning<'_>) -> Result<String, Memory>
     ensures { IfOk result (λ lines. TellsWidths of.entry.config of.entry.labels of.entry.plan.now of.entry.policy.now (string_bytes lines)) }
 {
-    let least = make_labels(alloc, of.plan)?;
-    let mut lines = policy_line(alloc, of.config.file, of.plan, of.policy, &least)?;
-    let given = given_line(alloc, of.plan, &least, of.labels)?;
+    let map = FlowMap::new(alloc, of.plan, of.policy)?;
+    let mut lines = policy_line(alloc, of.config.file, &map)?;
+    let given = given_line(alloc, of.plan, &map, of.labels)?;
     lines.push_str(&given)?;
     Ok(lines)
 }
 
 /// What is told of the width of a policy.
-fn policy_line(
-    alloc: Global,
-    file: &str,
-    plan: &Plan,
-    policy: &Policy,
-    least: &Labels,
-) -> Result<String, Memory>
-    requires { map (λ entry. entry.0) least.now ≡ cells plan.now }
-    ensures { IfOk result (λ line. string_bytes line
-        ≡ width_line file.now whose.Policy (wider_cells (labelling_of_policy plan.now policy.now) least.now) (length least.now)) }
+fn policy_line(alloc: Global, file: &str, map: &FlowMap<'_>) -> Result<String, Memory>
+    ensures { let C = map.now in IfOk result (λ line. string_bytes line
+        ≡ width_line file.now whose.Policy (wider_cells (labelling_of_policy C.plan C.policy) C.labels) (length C.labels)) }
 {
-    let wider = wider_by_policy(alloc, plan, policy, least)?;
-    explain_width(alloc, file, Whose::Policy, wider, least.entries().len())
+    explain_width(
+        alloc,
+        file,
+        Whose::Policy,
+        wider_by_policy(map),
+        map.labels().entries().len(),
+    )
 }
 
 /// What is told of the width of the labels in a file, where one is given and they are read.
 fn given_line(
     alloc: Global,
     plan: &Plan,
-    least: &Labels,
+    map: &FlowMap<'_>,
     labels: Option<Source<'_>>,
 ) -> Result<String, Memory>
-    requires { map (λ entry. entry.0) least.now ≡ cells plan.now }
-    ensures { IfOk result (λ line. string_bytes line ≡ spec.width_of_given plan.now least.now labels.entry) }
+    ensures { IfOk result (λ line. string_bytes line ≡ spec.width_of_given plan.now map.now.labels labels.entry) }
 {
     let Some(source) = labels else {
         return Ok(String::new(alloc));
     };
-    labels_line(alloc, plan, least, source)
+    labels_line(alloc, plan, map, source)
 }
 
 /// What is told of the width of the labels in a file, where they are read.
 fn labels_line(
     alloc: Global,
     plan: &Plan,
-    least: &Labels,
+    map: &FlowMap<'_>,
     source: Source<'_>,
 ) -> Result<String, Memory>
-    requires { map (λ entry. entry.0) least.now ≡ cells plan.now }
     ensures { IfOk result (λ line. string_bytes line
-        ≡ spec.width_of_read source.entry.file.now least.now (labels_of_text plan.now source.entry.text.now)) }
+        ≡ spec.width_of_read source.entry.file.now map.now.labels (labels_of_text plan.now source.entry.text.now)) }
 {
     let labels = match read_labels(alloc, plan, source.text) {
         Ok(labels) => labels,
         Err(LabelFault::Memory) => return Err(Memory),
         Err(_) => return Ok(String::new(alloc)),
     };
-    let wider = wider_by_labels(alloc, plan, &labels, least)?;
+    let wider = wider_by_labels(alloc, map, &labels)?;
     explain_width(
         alloc,
         source.file,
         Whose::Labels,
         wider,
-        least.entries().len(),
+        map.labels().entries().len(),
     )
 }
 
