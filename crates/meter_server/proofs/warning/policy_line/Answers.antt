@@ -9,9 +9,9 @@ use Rattle.meter_server.proofs.warning.policy_line.Goals as goal
 pub returns : goal.returns
 returns c =
     let file = c.args.file.now in
-    let wider = wider_cells (labelling_of_policy c.args.plan.now c.args.policy.now) c.args.least.now in
+    let wider = wider_cells (labelling_of_policy c.args.map.now.plan c.args.map.now.policy) c.args.map.now.labels in
     IfOk-weaker c.explain_width.result _ _
     (λ line is. is
-    ∙ (ap (λ (n : ℕ). width_line file whose.Policy n (length c.entries.result.now)) c.in_ok-wider.ensures
-    ∙ ap (λ (ls : Labels). width_line file whose.Policy wider (length ls)) c.entries.ensures))
+    ∙ (ap (λ (n : ℕ). width_line file whose.Policy n (length c.entries.result.now)) c.wider_by_policy.ensures
+    ∙ ap (λ (ls : Labels). width_line file whose.Policy wider (length ls)) (c.entries.ensures ∙ c.labels.ensures)))
     c.explain_width.ensures
