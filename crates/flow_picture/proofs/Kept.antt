@@ -10,7 +10,7 @@ use Rattle.std.proofs.lemmas.List.FromFn.{get_or-map-range_with_len, length-map-
 use Rattle.std.proofs.lemmas.Option.{slice_get_past, unwrap_or-slice_get}
 use Rattle.flow_picture.specs.Arrows.{ArePlaces, between_of, between_places, has_number, place_of}
 use Rattle.flow_picture.specs.Boxes.{IsBox}
-use Rattle.flow_picture.specs.Drawn.{are_few, boxes_of, by_class, drawn, has_end, known_of}
+use Rattle.flow_picture.specs.Drawn.{AreEnds, are_few, boxes_of, by_class, drawn, has_end, has_mark, known_of, marked_boxes}
 
 -- where a test first passes in a list of views
 pub position-map : {X Y : Type 0} (f : X → Y) (test : Y → Bool) (i : ℕ) (xs : List X) → position_from test i (map f xs) ≡ position_from (λ x. test (f x)) i xs
@@ -30,6 +30,19 @@ any-some test (x ∷ xs) h = omega arith
 
 known-within : (count : ℕ) (group : List ℕ) → All (λ i. i < count) (known_of count group)
 known-within count group j d less = ltb-true _ _ (filter_passes (λ i. nat_lt i count) group j d less)
+
+-- the boxes of which a cell is marked are those of which one is an end of an edge
+has-same : (links : List Link) (ends : List Bool) → AreEnds links ends → (box : List ℕ) → All (λ i. i < length ends) box → has_mark ends box ≡ has_end links box
+has-same links ends are [] low = refl
+has-same links ends are (i ∷ box) low = ap₂ (λ a b. a || b) (are.each i (low 0 0 (omega arith))) (has-same links ends are box (λ k d less. low (suc k) d (omega (arith, less))))
+
+same-boxes : (links : List Link) (ends : List Bool) → AreEnds links ends → (given : List (List ℕ)) → marked_boxes ends given ≡ boxes_of (length ends) links given
+same-boxes links ends are [] = refl
+same-boxes links ends are (group ∷ given) =
+    ap₂ (λ has rest. cond has (known_of (length ends) group ∷ rest) rest) (has-same links ends are (known_of (length ends) group) (known-within (length ends) group)) (same-boxes links ends are given)
+
+pub marked-are : (count : ℕ) (links : List Link) (ends : List Bool) (given : List (List ℕ)) → length ends ≡ count → AreEnds links ends → marked_boxes ends given ≡ boxes_of count links given
+marked-are count links ends given long are = subst (λ n. marked_boxes ends given ≡ boxes_of n links given) long (same-boxes links ends are given)
 
 -- the boxes of groups are boxes of cells
 pub boxes-are : (count : ℕ) (links : List Link) (given : List (List ℕ)) → All (IsBox count) (boxes_of count links given)

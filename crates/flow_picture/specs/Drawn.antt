@@ -1,5 +1,5 @@
 -- Which cells stand in boxes.
-use Rattle.std.specs.Prelude.{ℕ, Bool, ◌==◌, ◌&&◌, ◌||◌, cond, nat_le, nat_lt, List, length, map}
+use Rattle.std.specs.Prelude.{◌≡◌, ◌<◌, ℕ, Bool, false, ◌==◌, ◌&&◌, ◌||◌, cond, nat_le, nat_lt, List, get_or, length, map}
 use Rattle.std.specs.List.{filter, list_any, range_with_len}
 use Rattle.cosem_data.specs.declared.cell.CellRef.{CellRef}
 use Rattle.meter_theory.specs.Plan.{Plan, cells}
@@ -23,6 +23,17 @@ known_of count group = filter (λ i. nat_lt i count) group
 -- a box for each group of which a cell is an end of an edge: own profile
 abbrev pub boxes_of : ℕ → List Link → List (List ℕ) → List (List ℕ)
 boxes_of count links given = filter (has_end links) (map (known_of count) given)
+
+-- for each cell it is marked whether it is an end of an edge
+pub record AreEnds (links : List Link) (ends : List Bool) : Type 0 where
+  pub each : (i : ℕ) → i < length ends → get_or ends i false ≡ is_end links i
+
+abbrev pub has_mark : (ends : List Bool) → List ℕ → Bool
+has_mark ends box = list_any (λ i. get_or ends i false) box
+
+-- the boxes of the groups of which a cell is marked
+abbrev pub marked_boxes : (ends : List Bool) → List (List ℕ) → List (List ℕ)
+marked_boxes ends given = filter (has_mark ends) (map (known_of (length ends)) given)
 
 -- so many boxes and arrows can be drawn: own profile
 abbrev pub are_few : List Link → List (List ℕ) → Bool
