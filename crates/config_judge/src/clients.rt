@@ -7,13 +7,12 @@ ghost use Rattle.config_text.specs.Fault.{fault_where};
 ghost use Rattle.config_text.specs.Refusals.{Finds};
 ghost use Rattle.config_text.specs.declared.fault.Code.TheVariants.{ClientTwice};
 ghost use Rattle.config_rules.specs.Passes as spec;
-ghost use Rattle.config_rules.specs.Walks as walks;
 
 use crate::directory::Directory;
-use crate::walk::{Judge, JudgeNew, JudgeText, both_sets, each, each_new};
+use crate::walk::{both_sets, each, each_new};
 use config_text::fault::Code;
 use config_text::noting::note_if;
-use config_text::parts::{ClientParts, ConfigParts, LabelParts, RightParts};
+use config_text::parts::{ClientParts, ConfigParts, SetsParts};
 use config_text::place::Place;
 use config_text::refusal::{PlacedFault, Refusal, refuse};
 use cosem_data::memory::Memory;
@@ -35,74 +34,19 @@ fn known_client(
     note_if(faults, Code::ClientUnknown, at, key, !known)
 }
 
-/// The clients of a set.
-#[derive(Drop)]
-struct KnownClient<'d, 'c> {
-    directory: &'d Directory<'c>,
-}
-
-impl<'d, 'c> JudgeText for KnownClient<'d, 'c> {
-    ghost use Rattle.config_rules.specs.Passes.{known_client};
-
-    ghost judges = { λ all. known_client all.directory.now.config.now };
-
-    fn judge(
-        &self,
-        faults: &mut Vec<PlacedFault>,
-        at: &Place<'_>,
-        text: &str,
-    ) -> Result<(), Memory> {
-        known_client(faults, self.directory, at, "", text)
-    }
-}
-
-/// The client of a right.
-#[derive(Drop)]
-struct RightClient<'d, 'c> {
-    directory: &'d Directory<'c>,
-}
-
-impl<'d, 'c> Judge for RightClient<'d, 'c> {
-    ghost use Rattle.std.specs.Prelude.{◌++◌, codes};
-    ghost use Rattle.config_rules.specs.Passes.{known_client};
-
-    type Part = RightParts;
-
-    ghost judges = { λ all at r. known_client all.directory.now.config.now
-        (at ++ codes ".client") r.client };
-
-    fn judge(
-        &self,
-        faults: &mut Vec<PlacedFault>,
-        at: &Place<'_>,
-        right: &RightParts,
-    ) -> Result<(), Memory> {
-        known_client(faults, self.directory, at, ".client", right.client.as_str())
-    }
-}
-
-/// The clients of a label.
-#[derive(Drop)]
-struct LabelClients<'d, 'c> {
-    directory: &'d Directory<'c>,
-}
-
-impl<'d, 'c> Judge for LabelClients<'d, 'c> {
-    ghost use Rattle.config_rules.specs.Passes.{both_sets, known_client};
-
-    type Part = LabelParts;
-
-    ghost judges = { λ all at l. both_sets (known_client all.directory.now.config.now) at l.sets };
-
-    fn judge(
-        &self,
-        faults: &mut Vec<PlacedFault>,
-        at: &Place<'_>,
-        label: &LabelParts,
-    ) -> Result<(), Memory> {
-        let directory = self.directory;
-        both_sets(faults, &KnownClient { directory }, at, &label.sets)
-    }
+/// Notes the clients of sets that aren't there.
+fn known_sets(
+    faults: &mut Vec<PlacedFault>,
+    directory: &Directory<'_>,
+    at: &Place<'_>,
+    sets: &SetsParts,
+) -> Result<(), Memory>
+    ensures { OnOk result (faults.new.items ≡ faults.old.items
+        ++ spec.both_sets (spec.known_client directory.now.config.now) at.now sets.now) }
+{
+    both_sets(faults, at, sets, |faults, at, name| {
+        known_client(faults, directory, at, "", name)
+    })
 }
 
 /// Judges whether each client that is named is there.
@@ -115,28 +59,23 @@ pub(crate) fn known_clients(alloc: Global, directory: &Directory<'_>) -> Result<
 {
     let config = directory.config;
     let mut faults = Vec::new(alloc);
-    let rights = config.rights.as_slice();
-    let right_place = Place::top(alloc, "right");
     each(
         &mut faults,
-        &RightClient { directory },
-        &right_place,
-        rights,
+        &Place::top(alloc, "right"),
+        &config.rights,
+        |faults, at, right| { known_client(faults, directory, at, ".client", &right.client) },
     )?;
-    let policy_place = Place::top(alloc, "policy");
-    both_sets(
+    known_sets(
         &mut faults,
-        &KnownClient { directory },
-        &policy_place,
+        directory,
+        &Place::top(alloc, "policy"),
         &config.policy,
     )?;
-    let labels = config.labels.as_slice();
-    let label_place = Place::top(alloc, "label");
     each(
         &mut faults,
-        &LabelClients { directory },
-        &label_place,
-        labels,
+        &Place::top(alloc, "label"),
+        &config.labels,
+        |faults, at, label| { known_sets(faults, directory, at, &label.sets) },
     )?;
     refuse(faults)
 }
@@ -146,6 +85,13 @@ fn has_name(clients: &[ClientParts], name: &str) -> bool
     ensures { result ≡ list_any (λ e. bytes_eq e.name name.now) clients.now }
 {
     clients.iter().any(|client| client.name.as_str() == name)
+}
+
+/// Whether one of the clients has the service access point.
+fn has_sap(clients: &[ClientParts], sap: u8) -> bool
+    ensures { result ≡ list_any (λ e. e.sap == sap) clients.now }
+{
+    clients.iter().any(|client| client.sap == sap)
 }
 
 /// Notes that an earlier client has the name, where one has.
@@ -163,13 +109,6 @@ fn new_name(
     note_if(faults, Code::ClientTwice, at, ".name", taken)
 }
 
-/// Whether one of the clients has the service access point.
-fn has_sap(clients: &[ClientParts], sap: u8) -> bool
-    ensures { result ≡ list_any (λ e. e.sap == sap) clients.now }
-{
-    clients.iter().any(|client| client.sap == sap)
-}
-
 /// Notes that an earlier client has the service access point, where one has.
 fn new_sap(
     faults: &mut Vec<PlacedFault>,
@@ -185,28 +124,19 @@ fn new_sap(
     note_if(faults, Code::ClientTwice, at, ".sap", taken)
 }
 
-/// The name and the service access point of a client, beside those before it.
-#[derive(Drop)]
-struct NewClient;
-
-impl JudgeNew for NewClient {
-    ghost use Rattle.config_rules.specs.Passes.{new_client};
-
-    type Part = ClientParts;
-
-    ghost judges = { λ _. new_client };
-
-    #[tactic(auto, unfolding(config_rules::specs::Passes::new_client))]
-    fn judge(
-        &self,
-        faults: &mut Vec<PlacedFault>,
-        earlier: &[ClientParts],
-        at: &Place<'_>,
-        client: &ClientParts,
-    ) -> Result<(), Memory> {
-        new_name(faults, earlier, at, client)?;
-        new_sap(faults, earlier, at, client)
-    }
+/// Notes that an earlier client has the name, and that one has the service access point, where one has.
+#[tactic(auto, unfolding(config_rules::specs::Passes::new_client))]
+fn new_client(
+    faults: &mut Vec<PlacedFault>,
+    earlier: &[ClientParts],
+    at: &Place<'_>,
+    client: &ClientParts,
+) -> Result<(), Memory>
+    ensures { OnOk result (faults.new.items ≡ faults.old.items
+        ++ spec.new_client earlier.now at.now client.now) }
+{
+    new_name(faults, earlier, at, client)?;
+    new_sap(faults, earlier, at, client)
 }
 
 /// Judges whether each client's name and service access point are new.
@@ -217,13 +147,12 @@ impl JudgeNew for NewClient {
 pub(crate) fn new_clients(alloc: Global, config: &ConfigParts) -> Result<(), Refusal>
     ensures { Finds result (spec.new_clients config.now) }
 {
-    let client_place = Place::top(alloc, "client");
     let mut faults = Vec::new(alloc);
     each_new(
         &mut faults,
-        &NewClient,
-        &client_place,
-        config.clients.as_slice(),
+        &Place::top(alloc, "client"),
+        &config.clients,
+        new_client,
     )?;
     refuse(faults)
 }

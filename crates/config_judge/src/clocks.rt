@@ -1,16 +1,15 @@
 //! C21: a second clock.
-ghost use Rattle.std.specs.Prelude.{◌≡◌};
+ghost use Rattle.std.specs.Prelude.{◌≡◌, ◌&&◌};
 ghost use Rattle.std.specs.List.{list_any};
 ghost use Rattle.config_text.specs.Refusals.{Finds};
 ghost use Rattle.config_rules.specs.Passes as passes;
 
-use crate::walk::{JudgeNew, each_new};
+use crate::walk::each_new;
 use config_text::fault::Code;
 use config_text::noting::note_if;
 use config_text::parts::{ConfigParts, ObjectParts};
 use config_text::place::Place;
-use config_text::refusal::{PlacedFault, Refusal, refuse};
-use cosem_data::memory::Memory;
+use config_text::refusal::{Refusal, refuse};
 use meter_theory::classes::{Class, is_of_class};
 use std::alloc::Global;
 
@@ -26,44 +25,35 @@ fn has_clock(objects: &[ObjectParts]) -> bool
     objects.iter().any(|object| is_clock(object))
 }
 
-/// A clock, beside the objects before it.
-#[derive(Drop)]
-struct NewClock;
-
-impl JudgeNew for NewClock {
-    ghost use Rattle.config_rules.specs.Passes.{new_clock};
-
-    type Part = ObjectParts;
-
-    ghost judges = { λ _. new_clock };
-
-    fn judge(
-        &self,
-        faults: &mut Vec<PlacedFault>,
-        earlier: &[ObjectParts],
-        at: &Place<'_>,
-        object: &ObjectParts,
-    ) -> Result<(), Memory> {
-        let second = is_clock(object) && has_clock(earlier);
-        note_if(faults, Code::SecondClock, at, ".class", second)
-    }
+/// Whether an object is a clock, and one of those before it too.
+fn is_second(earlier: &[ObjectParts], object: &ObjectParts) -> bool
+    ensures { result ≡ (passes.is_clock object.now && list_any passes.is_clock earlier.now) }
+{
+    is_clock(object) && has_clock(earlier)
 }
 
 /// Judges whether there is one clock at most.
 ///
 /// # Errors
-/// C21 at each clock behind the first.
+/// C21 at each clock after the first.
 #[tactic(auto, unfolding(config_rules::specs::Passes::new_clocks))]
 pub(crate) fn new_clocks(alloc: Global, config: &ConfigParts) -> Result<(), Refusal>
     ensures { Finds result (passes.new_clocks config.now) }
 {
-    let object_place = Place::top(alloc, "object");
     let mut faults = Vec::new(alloc);
     each_new(
         &mut faults,
-        &NewClock,
-        &object_place,
-        config.objects.as_slice(),
+        &Place::top(alloc, "object"),
+        &config.objects,
+        |faults, earlier, at, object| {
+            note_if(
+                faults,
+                Code::SecondClock,
+                at,
+                ".class",
+                is_second(earlier, object),
+            )
+        },
     )?;
     refuse(faults)
 }

@@ -1,64 +1,36 @@
 //! C17: labels on what is no cell, and second ones for a cell.
 ghost use Rattle.std.specs.Prelude.{◌≡◌, ◌||◌, not};
 ghost use Rattle.std.specs.List.{list_any};
+ghost use Rattle.meter_theory.specs.Classes.{is_cell};
 ghost use Rattle.config_text.specs.Refusals.{Finds};
-ghost use Rattle.meter_theory.specs.Classes as classes;
-ghost use Rattle.config_rules.specs.Names as names;
+ghost use Rattle.config_rules.specs.Names.{passes_or_chosen};
 ghost use Rattle.config_rules.specs.Passes as passes;
 
 use crate::directory::Directory;
 use crate::menus::same_target;
-use crate::walk::{JudgeNew, each_new};
+use crate::walk::each_new;
 use config_text::fault::Code;
 use config_text::noting::note_if;
 use config_text::parts::{LabelParts, TargetParts};
 use config_text::place::Place;
-use config_text::refusal::{PlacedFault, Refusal, refuse};
-use cosem_data::memory::Memory;
+use config_text::refusal::{Refusal, refuse};
 use std::alloc::Global;
 
 /// Whether one of the labels is of this target.
 fn has_label(labels: &[LabelParts], target: &TargetParts) -> bool
     ensures { result ≡ list_any (λ e. passes.same_target e.target target.now) labels.now }
 {
-    labels
-        .iter()
-        .any(|label| same_target(&label.target, target))
+    labels.iter().any(|e| same_target(&e.target, target))
 }
 
 /// Whether the target of a label is no cell, or one of the labels before is of it.
 fn is_wrong(directory: &Directory<'_>, earlier: &[LabelParts], label: &LabelParts) -> bool
-    ensures { result ≡ (not (names.passes_or_chosen directory.now.config.now
-        classes.is_cell label.now.target.object label.now.target.index)
+    ensures { result ≡ (not (passes_or_chosen directory.now.config.now is_cell label.now.target.object label.now.target.index)
         || list_any (λ e. passes.same_target e.target label.now.target) earlier.now) }
 {
-    let cell = directory.is_cell(label.target.object.as_str(), label.target.index);
-    !cell || has_label(earlier, &label.target)
-}
-
-/// The target of a label.
-#[derive(Drop)]
-struct NewLabel<'d, 'c> {
-    directory: &'d Directory<'c>,
-}
-
-impl<'d, 'c> JudgeNew for NewLabel<'d, 'c> {
-    ghost use Rattle.config_rules.specs.Passes.{new_label};
-
-    type Part = LabelParts;
-
-    ghost judges = { λ all. new_label all.directory.now.config.now };
-
-    fn judge(
-        &self,
-        faults: &mut Vec<PlacedFault>,
-        earlier: &[LabelParts],
-        at: &Place<'_>,
-        label: &LabelParts,
-    ) -> Result<(), Memory> {
-        let wrong = is_wrong(self.directory, earlier, label);
-        note_if(faults, Code::Label, at, ".index", wrong)
-    }
+    let target = &label.target;
+    let cell = directory.is_cell(&target.object, target.index);
+    !cell || has_label(earlier, target)
 }
 
 /// Judges the targets of the labels.
@@ -70,13 +42,20 @@ pub(crate) fn new_labels(alloc: Global, directory: &Directory<'_>) -> Result<(),
     ensures { Finds result (passes.new_labels directory.now.config.now) }
 {
     let config = directory.config;
-    let labels = config.labels.as_slice();
     let mut faults = Vec::new(alloc);
     each_new(
         &mut faults,
-        &NewLabel { directory },
         &Place::top(alloc, "label"),
-        labels,
+        &config.labels,
+        |faults, earlier, at, label| {
+            note_if(
+                faults,
+                Code::Label,
+                at,
+                ".index",
+                is_wrong(directory, earlier, label),
+            )
+        },
     )?;
     refuse(faults)
 }

@@ -1,5 +1,5 @@
 //! C16: more than a limit allows.
-ghost use Rattle.std.specs.Prelude.{◌≡◌, ◌++◌, ◌||◌, OnOk, [], IfOk, Some, codes, length, nat_lt, not};
+ghost use Rattle.std.specs.Prelude.{◌≡◌, ◌++◌, ◌||◌, OnOk, [], IfOk, Some, codes, nat_lt};
 ghost use Rattle.std.specs.Option.{unwrap_or};
 ghost use Rattle.meter_theory.specs.Value.{is_within_limits};
 ghost use Rattle.config_text.specs.BodyView.{body_text};
@@ -10,19 +10,15 @@ ghost use Rattle.config_rules.specs.Passes as passes;
 ghost use Rattle.config_rules.specs.PlanOf.{thresholds_value, times_value};
 ghost use Rattle.value_text.specs.Texts.{value_in};
 ghost use Rattle.config_rules.specs.Walks as walks;
-ghost use Rattle.config_judge.specs.Limits as spec;
 ghost use Rattle.config_judge.specs.Menus.{menu_of};
 
 use crate::arrays::{times_of, values_of};
 use crate::menus::menu_in;
-use crate::walk::{Judge, each, each_below};
+use crate::walk::each;
 use config_text::fault::Code;
 use config_text::hex_value::{HexBytes, HexValue};
 use config_text::noting::note_if;
-use config_text::parts::{
-    ActionParts, AlternativeParts, BodyParts, CaptureParts, ConfigParts, ObjectParts, ScriptParts,
-    ScriptRefParts, UpDownParts,
-};
+use config_text::parts::{AlternativeParts, BodyParts, CaptureParts, ConfigParts, ScriptParts};
 use config_text::place::Place;
 use config_text::refusal::{PlacedFault, Refusal, refuse};
 use cosem_class::judge::keeps_limits;
@@ -71,85 +67,25 @@ fn small_value(
     note_if(faults, Code::Limit, at, key, !is_small(hex))
 }
 
-/// The value of an action, where it has one.
-fn small_parameter(
+/// Notes the sizes of a script that are past a limit.
+#[tactic(auto, unfolding(config_rules::specs::Passes::script_limits))]
+fn script_limits(
     faults: &mut Vec<PlacedFault>,
     at: &Place<'_>,
-    value: &Option<HexValue>,
+    script: &ScriptParts,
 ) -> Result<(), Memory>
-    ensures { OnOk result (faults.new.items ≡ faults.old.items
-        ++ passes.small_value (at.now ++ codes ".value") value.now) }
+    ensures { OnOk result (faults.new.items ≡ faults.old.items ++ passes.script_limits at.now script.now) }
 {
-    match value {
-        Some(hex) => small_value(faults, at, ".value", hex),
-        None => Ok(()),
-    }
-}
-
-/// The values of actions.
-#[derive(Drop)]
-struct SmallAction;
-
-impl Judge for SmallAction {
-    ghost use Rattle.std.specs.Prelude.{◌++◌, codes};
-    ghost use Rattle.config_rules.specs.Passes.{small_value};
-
-    type Part = ActionParts;
-
-    ghost judges = { λ _ at a. small_value (at ++ codes ".value") a.value };
-
-    fn judge(
-        &self,
-        faults: &mut Vec<PlacedFault>,
-        at: &Place<'_>,
-        action: &ActionParts,
-    ) -> Result<(), Memory> {
-        small_parameter(faults, at, &action.value)
-    }
-}
-
-/// The sizes of scripts.
-#[derive(Drop)]
-struct ScriptLimits;
-
-impl Judge for ScriptLimits {
-    ghost use Rattle.config_rules.specs.Passes.{script_limits};
-
-    type Part = ScriptParts;
-
-    ghost judges = { λ _. script_limits };
-
-    #[tactic(auto, unfolding(config_rules::specs::Passes::script_limits))]
-    fn judge(
-        &self,
-        faults: &mut Vec<PlacedFault>,
-        at: &Place<'_>,
-        script: &ScriptParts,
-    ) -> Result<(), Memory> {
-        at_most(faults, at, ".action", ACTIONS, script.actions.len())?;
-        each_below(
-            faults,
-            &SmallAction,
-            at,
-            ".action",
-            script.actions.as_slice(),
-        )
-    }
-}
-
-/// The sizes of a register's value and default.
-fn register_limits(
-    faults: &mut Vec<PlacedFault>,
-    at: &Place<'_>,
-    value: &HexValue,
-    default: &HexValue,
-) -> Result<(), Memory>
-    ensures { OnOk result (faults.new.items ≡ faults.old.items
-        ++ (passes.small_value (at.now ++ codes ".value") (Some value.now)
-        ++ passes.small_value (at.now ++ codes ".default") (Some default.now))) }
-{
-    small_value(faults, at, ".value", value)?;
-    small_value(faults, at, ".default", default)
+    at_most(faults, at, ".action", ACTIONS, script.actions.len())?;
+    each(
+        faults,
+        &at.below(".action"),
+        &script.actions,
+        |faults, at, action| match &action.value {
+            Some(hex) => small_value(faults, at, ".value", hex),
+            None => Ok(()),
+        },
+    )
 }
 
 /// The number of alternatives of a menu, if it is there.
@@ -171,69 +107,6 @@ fn menu_size<T: Drop>(
     }
 }
 
-/// The number of attributes of an alternative.
-#[derive(Drop)]
-struct FewCaptures;
-
-impl Judge for FewCaptures {
-    ghost use Rattle.meter_theory.specs.declared.limits.TheConstants.{CAPTURE_OBJECTS};
-    ghost use Rattle.config_rules.specs.Passes.{at_most};
-
-    type Part = AlternativeParts;
-
-    ghost judges = { λ _. at_most CAPTURE_OBJECTS };
-
-    fn judge(
-        &self,
-        faults: &mut Vec<PlacedFault>,
-        at: &Place<'_>,
-        alternative: &AlternativeParts,
-    ) -> Result<(), Memory> {
-        at_most(faults, at, "", CAPTURE_OBJECTS, alternative.captures.len())
-    }
-}
-
-/// The numbers of captures, of entries, of alternatives, and of the attributes that each of these captures.
-fn profile_limits(
-    faults: &mut Vec<PlacedFault>,
-    at: &Place<'_>,
-    captures: &[CaptureParts],
-    entries: u64,
-    menu: &Option<Vec<AlternativeParts>>,
-) -> Result<(), Memory>
-    ensures { OnOk result (faults.new.items ≡ faults.old.items
-        ++ (passes.at_most CAPTURE_OBJECTS (at.now ++ codes ".capture") captures.now
-        ++ fault_where Limit (at.now ++ codes ".entries") (nat_lt PROFILE_ENTRIES entries)
-        ++ passes.menu_size (at.now ++ codes ".capture_menu") (menu_of menu.now)
-        ++ walks.each (passes.at_most CAPTURE_OBJECTS) (at.now ++ codes ".capture_menu")
-        (unwrap_or (menu_of menu.now) []))) }
-{
-    at_most(faults, at, ".capture", CAPTURE_OBJECTS, captures.len())?;
-    note_if(
-        faults,
-        Code::Limit,
-        at,
-        ".entries",
-        PROFILE_ENTRIES < entries,
-    )?;
-    menu_size(faults, at, ".capture_menu", menu)?;
-    each_below(faults, &FewCaptures, at, ".capture_menu", menu_in(menu))
-}
-
-/// The sizes of a script table.
-fn script_table_limits(
-    faults: &mut Vec<PlacedFault>,
-    at: &Place<'_>,
-    scripts: &[ScriptParts],
-) -> Result<(), Memory>
-    ensures { OnOk result (faults.new.items ≡ faults.old.items
-        ++ (passes.at_most SCRIPTS (at.now ++ codes ".script") scripts.now
-        ++ walks.each passes.script_limits (at.now ++ codes ".script") scripts.now)) }
-{
-    at_most(faults, at, ".script", SCRIPTS, scripts.len())?;
-    each_below(faults, &ScriptLimits, at, ".script", scripts)
-}
-
 /// Whether thresholds are within the limits as one array.
 fn are_small_thresholds(alloc: Global, texts: &[HexValue]) -> Result<bool, Memory>
     ensures { IfOk result (λ small. small ≡ is_within_limits (thresholds_value texts.now)) }
@@ -250,65 +123,60 @@ fn are_small_times(alloc: Global, texts: &[HexBytes]) -> Result<bool, Memory>
     Ok(keeps_limits(&array))
 }
 
-/// The number and the size of thresholds.
-fn threshold_limits(
+/// Notes that an alternative has more attributes than a limit allows, where it has.
+fn few_captures(
     faults: &mut Vec<PlacedFault>,
     at: &Place<'_>,
-    texts: &[HexValue],
+    alternative: &AlternativeParts,
 ) -> Result<(), Memory>
     ensures { OnOk result (faults.new.items ≡ faults.old.items
-        ++ spec.threshold_limits at.now texts.now) }
+        ++ passes.at_most CAPTURE_OBJECTS at.now alternative.now) }
 {
-    let small = are_small_thresholds(at.alloc(), texts)?;
-    let many = THRESHOLDS < texts.len();
-    note_if(faults, Code::Limit, at, ".thresholds", many || !small)
+    at_most(faults, at, "", CAPTURE_OBJECTS, alternative.captures.len())
 }
 
-/// The sizes of a register monitor.
-fn monitor_limits(
+/// Notes the alternatives of a menu that have more attributes than a limit allows.
+fn few_in_menu(
     faults: &mut Vec<PlacedFault>,
     at: &Place<'_>,
-    thresholds: &[HexValue],
-    actions: &[UpDownParts],
+    menu: &Option<Vec<AlternativeParts>>,
 ) -> Result<(), Memory>
     ensures { OnOk result (faults.new.items ≡ faults.old.items
-        ++ (spec.threshold_limits at.now thresholds.now
-        ++ passes.at_most THRESHOLDS (at.now ++ codes ".action") actions.now)) }
+        ++ walks.each (passes.at_most CAPTURE_OBJECTS) (at.now ++ codes ".capture_menu")
+        (unwrap_or (menu_of menu.now) [])) }
 {
-    threshold_limits(faults, at, thresholds)?;
-    at_most(faults, at, ".action", THRESHOLDS, actions.len())
+    each(
+        faults,
+        &at.below(".capture_menu"),
+        menu_in(menu),
+        few_captures,
+    )
 }
 
-/// The number and the size of times.
-fn time_limits(
+/// Notes the sizes in a profile that are past a limit: of captures, of entries, of alternatives, and of what each of these
+/// captures.
+fn profile_limits(
     faults: &mut Vec<PlacedFault>,
     at: &Place<'_>,
-    texts: &[HexBytes],
+    captures: &[CaptureParts],
+    entries: u64,
+    menu: &Option<Vec<AlternativeParts>>,
 ) -> Result<(), Memory>
     ensures { OnOk result (faults.new.items ≡ faults.old.items
-        ++ spec.time_limits at.now texts.now) }
+        ++ (passes.at_most CAPTURE_OBJECTS (at.now ++ codes ".capture") captures.now
+        ++ fault_where Limit (at.now ++ codes ".entries") (nat_lt PROFILE_ENTRIES entries)
+        ++ passes.menu_size (at.now ++ codes ".capture_menu") (menu_of menu.now)
+        ++ walks.each (passes.at_most CAPTURE_OBJECTS) (at.now ++ codes ".capture_menu")
+        (unwrap_or (menu_of menu.now) []))) }
 {
-    let small = are_small_times(at.alloc(), texts)?;
-    let many = EXECUTION_TIMES < texts.len();
-    note_if(faults, Code::Limit, at, ".times", many || !small)
+    at_most(faults, at, ".capture", CAPTURE_OBJECTS, captures.len())?;
+    let many = PROFILE_ENTRIES < entries;
+    note_if(faults, Code::Limit, at, ".entries", many)?;
+    menu_size(faults, at, ".capture_menu", menu)?;
+    few_in_menu(faults, at, menu)
 }
 
-/// The sizes of a schedule.
-fn schedule_limits(
-    faults: &mut Vec<PlacedFault>,
-    at: &Place<'_>,
-    times: &[HexBytes],
-    menu: &Option<Vec<ScriptRefParts>>,
-) -> Result<(), Memory>
-    ensures { OnOk result (faults.new.items ≡ faults.old.items
-        ++ (spec.time_limits at.now times.now
-        ++ passes.menu_size (at.now ++ codes ".script_menu") (menu_of menu.now))) }
-{
-    time_limits(faults, at, times)?;
-    menu_size(faults, at, ".script_menu", menu)
-}
-
-/// The sizes in an object's body.
+/// Notes the sizes in an object's body that are past a limit.
 #[tactic(auto, unfolding(config_rules::specs::Passes::limits_in))]
 fn limits_in(faults: &mut Vec<PlacedFault>, at: &Place<'_>, body: &BodyParts) -> Result<(), Memory>
     ensures { OnOk result (faults.new.items ≡ faults.old.items
@@ -316,46 +184,37 @@ fn limits_in(faults: &mut Vec<PlacedFault>, at: &Place<'_>, body: &BodyParts) ->
 {
     match body {
         BodyParts::Data { value } => small_value(faults, at, ".value", value),
-        BodyParts::Register { value, default, .. } => register_limits(faults, at, value, default),
+        BodyParts::Register { value, default, .. } => {
+            small_value(faults, at, ".value", value)?;
+            small_value(faults, at, ".default", default)
+        }
         BodyParts::ProfileGeneric {
             capture,
             entries,
             menu,
             ..
-        } => profile_limits(faults, at, capture.as_slice(), *entries, menu),
+        } => { profile_limits(faults, at, capture, *entries, menu) }
         BodyParts::ScriptTable { scripts } => {
-            script_table_limits(faults, at, scripts.as_slice())
+            at_most(faults, at, ".script", SCRIPTS, scripts.len())?;
+            each(faults, &at.below(".script"), scripts, script_limits)
         }
         BodyParts::RegisterMonitor {
             thresholds,
             actions,
             ..
-        } => monitor_limits(faults, at, thresholds.as_slice(), actions.as_slice()),
+        } => {
+            let small = are_small_thresholds(at.alloc(), thresholds)?;
+            let many = THRESHOLDS < thresholds.len();
+            note_if(faults, Code::Limit, at, ".thresholds", many || !small)?;
+            at_most(faults, at, ".action", THRESHOLDS, actions.len())
+        }
         BodyParts::SingleActionSchedule { times, menu, .. } => {
-            schedule_limits(faults, at, times.as_slice(), menu)
+            let small = are_small_times(at.alloc(), times)?;
+            let many = EXECUTION_TIMES < times.len();
+            note_if(faults, Code::Limit, at, ".times", many || !small)?;
+            menu_size(faults, at, ".script_menu", menu)
         }
         BodyParts::Clock { .. } | BodyParts::Unknown => Ok(()),
-    }
-}
-
-/// The sizes of an object.
-#[derive(Drop)]
-struct ObjectLimits;
-
-impl Judge for ObjectLimits {
-    ghost use Rattle.config_rules.specs.Passes.{limits_in};
-
-    type Part = ObjectParts;
-
-    ghost judges = { λ _ at o. limits_in at o.body };
-
-    fn judge(
-        &self,
-        faults: &mut Vec<PlacedFault>,
-        at: &Place<'_>,
-        object: &ObjectParts,
-    ) -> Result<(), Memory> {
-        limits_in(faults, at, &object.body)
     }
 }
 
@@ -369,27 +228,14 @@ pub(crate) fn within_limits(alloc: Global, config: &ConfigParts) -> Result<(), R
     ensures { Finds result (passes.within_limits config.now) }
 {
     let mut faults = Vec::new(alloc);
-    let client_place = Place::top(alloc, "client");
-    at_most(
-        &mut faults,
-        &client_place,
-        "",
-        CLIENTS,
-        config.clients.len(),
-    )?;
-    let object_place = Place::top(alloc, "object");
-    at_most(
-        &mut faults,
-        &object_place,
-        "",
-        OBJECTS,
-        config.objects.len(),
-    )?;
+    let top = Place::top(alloc, "");
+    at_most(&mut faults, &top, "client", CLIENTS, config.clients.len())?;
+    at_most(&mut faults, &top, "object", OBJECTS, config.objects.len())?;
     each(
         &mut faults,
-        &ObjectLimits,
-        &object_place,
-        config.objects.as_slice(),
+        &top.below("object"),
+        &config.objects,
+        |faults, at, object| { limits_in(faults, at, &object.body) },
     )?;
     refuse(faults)
 }

@@ -8,7 +8,7 @@ ghost use Rattle.config_rules.specs.Passes as spec;
 ghost use Rattle.config_rules.specs.Walks.{element_place};
 
 use crate::directory::Directory;
-use crate::walk::{Judge, each};
+use crate::walk::judge_objects;
 use config_text::fault::Code;
 use config_text::noting::note_if;
 use config_text::parts::{ConfigParts, ObjectParts};
@@ -68,34 +68,6 @@ pub(crate) fn new_objects(alloc: Global, directory: &Directory<'_>) -> Result<()
     refuse(faults)
 }
 
-/// The class of an object of a configuration of this version.
-#[derive(Drop)]
-struct KnownClass {
-    version: u8,
-}
-
-impl Judge for KnownClass {
-    ghost use Rattle.std.specs.Prelude.{◌++◌, codes, not};
-    ghost use Rattle.config_text.specs.Fault.{fault_where};
-    ghost use Rattle.config_text.specs.declared.fault.Code.TheVariants.{ClassUnknown};
-    ghost use Rattle.meter_theory.specs.Classes.{is_known};
-
-    type Part = ObjectParts;
-
-    ghost judges = { λ all at o. fault_where ClassUnknown
-        (at ++ codes ".class") (not (is_known all.version o.class)) };
-
-    fn judge(
-        &self,
-        faults: &mut Vec<PlacedFault>,
-        at: &Place<'_>,
-        object: &ObjectParts,
-    ) -> Result<(), Memory> {
-        let known = is_known(self.version, object.class_id);
-        note_if(faults, Code::ClassUnknown, at, ".class", !known)
-    }
-}
-
 /// Judges whether each object's class is known in the configuration's version.
 ///
 /// # Errors
@@ -104,14 +76,8 @@ impl Judge for KnownClass {
 pub(crate) fn known_classes(alloc: Global, config: &ConfigParts) -> Result<(), Refusal>
     ensures { Finds result (spec.known_classes config.now) }
 {
-    let object_place = Place::top(alloc, "object");
-    let version = config.version;
-    let mut faults = Vec::new(alloc);
-    each(
-        &mut faults,
-        &KnownClass { version },
-        &object_place,
-        config.objects.as_slice(),
-    )?;
-    refuse(faults)
+    judge_objects(alloc, config, |faults, at, object| {
+        let known = is_known(config.version, object.class_id);
+        note_if(faults, Code::ClassUnknown, at, ".class", !known)
+    })
 }

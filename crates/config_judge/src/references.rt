@@ -8,13 +8,11 @@ ghost use Rattle.config_rules.specs.Names.{object_named, scripts_in};
 ghost use Rattle.config_rules.specs.Passes as spec;
 
 use crate::directory::Directory;
-use crate::reference_walk::{JudgeReferences, references};
-use crate::walk::{Judge, each};
+use crate::reference_walk::references;
+use crate::walk::each;
 use config_text::fault::Code;
 use config_text::noting::{note, note_if};
-use config_text::parts::{
-    BodyParts, LabelParts, ObjectParts, RightParts, ScriptParts, ScriptRefParts, TargetParts,
-};
+use config_text::parts::{BodyParts, ScriptParts, ScriptRefParts};
 use config_text::place::Place;
 use config_text::refusal::{PlacedFault, Refusal, refuse};
 use cosem_data::memory::Memory;
@@ -92,111 +90,6 @@ fn known_script(
     note_if(faults, Code::Reference, at, ".script", !known)
 }
 
-/// What an object refers to.
-#[derive(Drop)]
-struct KnownReference<'d, 'c> {
-    directory: &'d Directory<'c>,
-}
-
-impl<'d, 'c> JudgeReferences for KnownReference<'d, 'c> {
-    ghost use Rattle.config_rules.specs.Passes.{known_object, known_script};
-
-    ghost targets = { λ all at t. known_object all.directory.now.config.now at t.object };
-
-    ghost scripts = { λ all. known_script all.directory.now.config.now };
-
-    fn judge_target(
-        &self,
-        faults: &mut Vec<PlacedFault>,
-        at: &Place<'_>,
-        target: &TargetParts,
-    ) -> Result<(), Memory> {
-        known_object(faults, self.directory, at, target.object.as_str())
-    }
-
-    fn judge_script(
-        &self,
-        faults: &mut Vec<PlacedFault>,
-        at: &Place<'_>,
-        script: &ScriptRefParts,
-    ) -> Result<(), Memory> {
-        known_script(faults, self.directory, at, script)
-    }
-}
-
-/// The references of an object.
-#[derive(Drop)]
-struct ObjectReferences<'d, 'c> {
-    directory: &'d Directory<'c>,
-}
-
-impl<'d, 'c> Judge for ObjectReferences<'d, 'c> {
-    ghost use Rattle.config_rules.specs.Passes.{known_object, known_script};
-    ghost use Rattle.config_rules.specs.Walks.{references};
-
-    type Part = ObjectParts;
-
-    ghost judges = { λ all at o.
-        references (λ at t. known_object all.directory.now.config.now at t.object)
-        (known_script all.directory.now.config.now) at o.body };
-
-    fn judge(
-        &self,
-        faults: &mut Vec<PlacedFault>,
-        at: &Place<'_>,
-        object: &ObjectParts,
-    ) -> Result<(), Memory> {
-        let directory = self.directory;
-        references(faults, &KnownReference { directory }, at, &object.body)
-    }
-}
-
-/// The object of a right.
-#[derive(Drop)]
-struct RightObject<'d, 'c> {
-    directory: &'d Directory<'c>,
-}
-
-impl<'d, 'c> Judge for RightObject<'d, 'c> {
-    ghost use Rattle.config_rules.specs.Passes.{known_object};
-
-    type Part = RightParts;
-
-    ghost judges = { λ all at r. known_object all.directory.now.config.now at r.object };
-
-    fn judge(
-        &self,
-        faults: &mut Vec<PlacedFault>,
-        at: &Place<'_>,
-        right: &RightParts,
-    ) -> Result<(), Memory> {
-        known_object(faults, self.directory, at, right.object.as_str())
-    }
-}
-
-/// The object of a label.
-#[derive(Drop)]
-struct LabelObject<'d, 'c> {
-    directory: &'d Directory<'c>,
-}
-
-impl<'d, 'c> Judge for LabelObject<'d, 'c> {
-    ghost use Rattle.config_rules.specs.Passes.{known_object};
-
-    type Part = LabelParts;
-
-    ghost judges = { λ all at l. known_object all.directory.now.config.now at l.target.object };
-
-    fn judge(
-        &self,
-        faults: &mut Vec<PlacedFault>,
-        at: &Place<'_>,
-        label: &LabelParts,
-    ) -> Result<(), Memory> {
-        known_object(faults, self.directory, at, label.target.object.as_str())
-    }
-}
-
 /// Judges whether all that is referred to is there: objects, script tables, and their scripts.
 ///
 /// # Errors
@@ -207,29 +100,31 @@ pub(crate) fn known_references(alloc: Global, directory: &Directory<'_>) -> Resu
 {
     let config = directory.config;
     let mut faults = Vec::new(alloc);
-    let objects = config.objects.as_slice();
-    let object_place = Place::top(alloc, "object");
     each(
         &mut faults,
-        &ObjectReferences { directory },
-        &object_place,
-        objects,
+        &Place::top(alloc, "object"),
+        &config.objects,
+        |faults, at, object| {
+            references(
+                faults,
+                at,
+                &object.body,
+                |faults, at, target| known_object(faults, directory, at, &target.object),
+                |faults, at, script| known_script(faults, directory, at, script),
+            )
+        },
     )?;
-    let rights = config.rights.as_slice();
-    let right_place = Place::top(alloc, "right");
     each(
         &mut faults,
-        &RightObject { directory },
-        &right_place,
-        rights,
+        &Place::top(alloc, "right"),
+        &config.rights,
+        |faults, at, right| { known_object(faults, directory, at, &right.object) },
     )?;
-    let labels = config.labels.as_slice();
-    let label_place = Place::top(alloc, "label");
     each(
         &mut faults,
-        &LabelObject { directory },
-        &label_place,
-        labels,
+        &Place::top(alloc, "label"),
+        &config.labels,
+        |faults, at, label| { known_object(faults, directory, at, &label.target.object) },
     )?;
     refuse(faults)
 }

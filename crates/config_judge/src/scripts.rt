@@ -1,73 +1,47 @@
 //! C14 and C15: scripts with identifier 0 or that of an earlier one, and actions that execute a script table.
-ghost use Rattle.std.specs.Prelude.{◌≡◌};
-ghost use Rattle.config_text.specs.BodyView.{body_text};
+ghost use Rattle.std.specs.Prelude.{◌≡◌, ◌++◌, OnOk, codes};
 ghost use Rattle.config_text.specs.Refusals.{Finds};
 ghost use Rattle.config_rules.specs.Passes as passes;
+ghost use Rattle.config_rules.specs.Walks as walks;
 
 use crate::directory::Directory;
 use crate::reference_walk::each_action;
 use crate::references::{has_id, scripts_in};
-use crate::walk::{Judge, JudgeNew, each, each_new};
+use crate::walk::{each_new, judge_objects};
 use config_text::fault::Code;
 use config_text::noting::note_if;
-use config_text::parts::{ActionParts, BodyParts, ConfigParts, ObjectParts, ScriptParts};
+use config_text::parts::{ActionParts, ConfigParts, ScriptParts};
 use config_text::place::Place;
-use config_text::refusal::{PlacedFault, Refusal, refuse};
+use config_text::refusal::{PlacedFault, Refusal};
 use config_text::service::Service;
 use cosem_data::memory::Memory;
 use meter_theory::classes::{Class, is_of_class};
 use std::alloc::Global;
 
-/// The identifier of a script.
-#[derive(Drop)]
-struct NewScript;
-
-impl JudgeNew for NewScript {
-    ghost use Rattle.config_rules.specs.Passes.{new_script};
-
-    type Part = ScriptParts;
-
-    ghost judges = { λ _. new_script };
-
-    fn judge(
-        &self,
-        faults: &mut Vec<PlacedFault>,
-        earlier: &[ScriptParts],
-        at: &Place<'_>,
-        script: &ScriptParts,
-    ) -> Result<(), Memory> {
-        let taken = script.id == 0 || has_id(earlier, u64::from(script.id));
-        note_if(faults, Code::ScriptId, at, ".id", taken)
-    }
+/// Notes that a script's identifier is 0 or that of an earlier one, where it is.
+fn new_script(
+    faults: &mut Vec<PlacedFault>,
+    earlier: &[ScriptParts],
+    at: &Place<'_>,
+    script: &ScriptParts,
+) -> Result<(), Memory>
+    ensures { OnOk result (faults.new.items ≡ faults.old.items
+        ++ passes.new_script earlier.now at.now script.now) }
+{
+    let taken = script.id == 0 || has_id(earlier, u64::from(script.id));
+    note_if(faults, Code::ScriptId, at, ".id", taken)
 }
 
-/// The identifiers of an object's scripts.
-#[derive(Drop)]
-struct NewScripts;
-
-impl Judge for NewScripts {
-    ghost use Rattle.std.specs.Prelude.{◌++◌, codes};
-    ghost use Rattle.config_rules.specs.Names.{scripts_in};
-    ghost use Rattle.config_rules.specs.Passes.{new_script};
-    ghost use Rattle.config_rules.specs.Walks as walks;
-
-    type Part = ObjectParts;
-
-    ghost judges = { λ _ at o. walks.each_new new_script (at ++ codes ".script") (scripts_in o.body) };
-
-    fn judge(
-        &self,
-        faults: &mut Vec<PlacedFault>,
-        at: &Place<'_>,
-        object: &ObjectParts,
-    ) -> Result<(), Memory> {
-        each_new(
-            faults,
-            &NewScript,
-            &at.below(".script"),
-            scripts_in(&object.body),
-        )
-    }
+/// Notes the identifiers of scripts that aren't new.
+fn new_scripts_in(
+    faults: &mut Vec<PlacedFault>,
+    at: &Place<'_>,
+    scripts: &[ScriptParts],
+) -> Result<(), Memory>
+    ensures { OnOk result (faults.new.items ≡ faults.old.items
+        ++ walks.each_new passes.new_script (at.now ++ codes ".script") scripts.now) }
+{
+    each_new(faults, &at.below(".script"), scripts, new_script)
 }
 
 /// Judges the identifiers of scripts.
@@ -78,15 +52,9 @@ impl Judge for NewScripts {
 pub(crate) fn new_scripts(alloc: Global, config: &ConfigParts) -> Result<(), Refusal>
     ensures { Finds result (passes.new_scripts config.now) }
 {
-    let object_place = Place::top(alloc, "object");
-    let mut faults = Vec::new(alloc);
-    each(
-        &mut faults,
-        &NewScripts,
-        &object_place,
-        config.objects.as_slice(),
-    )?;
-    refuse(faults)
+    judge_objects(alloc, config, |faults, at, object| {
+        new_scripts_in(faults, at, scripts_in(&object.body))
+    })
 }
 
 /// Whether an action executes a script table.
@@ -100,60 +68,25 @@ fn executes(directory: &Directory<'_>, action: &ActionParts) -> bool
     }
 }
 
-/// What an action executes.
-#[derive(Drop)]
-struct NoExecute<'d, 'c> {
-    directory: &'d Directory<'c>,
-}
-
-impl<'d, 'c> Judge for NoExecute<'d, 'c> {
-    ghost use Rattle.config_rules.specs.Passes.{no_execute};
-
-    type Part = ActionParts;
-
-    ghost judges = { λ all. no_execute all.directory.now.config.now };
-
-    fn judge(
-        &self,
-        faults: &mut Vec<PlacedFault>,
-        at: &Place<'_>,
-        action: &ActionParts,
-    ) -> Result<(), Memory> {
-        let executes = executes(self.directory, action);
-        note_if(faults, Code::Execute, at, ".object", executes)
-    }
-}
-
-/// What an object's scripts execute.
-#[derive(Drop)]
-struct NoExecutes<'d, 'c> {
-    directory: &'d Directory<'c>,
-}
-
-impl<'d, 'c> Judge for NoExecutes<'d, 'c> {
-    ghost use Rattle.config_rules.specs.Names.{scripts_in};
-    ghost use Rattle.config_rules.specs.Passes.{no_execute};
-    ghost use Rattle.config_rules.specs.Walks as walks;
-
-    type Part = ObjectParts;
-
-    ghost judges = { λ all at o. walks.each_action (no_execute all.directory.now.config.now) at
-        (scripts_in o.body) };
-
-    fn judge(
-        &self,
-        faults: &mut Vec<PlacedFault>,
-        at: &Place<'_>,
-        object: &ObjectParts,
-    ) -> Result<(), Memory> {
-        let directory = self.directory;
-        each_action(
+/// Notes the actions of scripts that execute a script table.
+fn no_executes_in(
+    faults: &mut Vec<PlacedFault>,
+    directory: &Directory<'_>,
+    at: &Place<'_>,
+    scripts: &[ScriptParts],
+) -> Result<(), Memory>
+    ensures { OnOk result (faults.new.items ≡ faults.old.items
+        ++ walks.each_action (passes.no_execute directory.now.config.now) at.now scripts.now) }
+{
+    each_action(faults, at, scripts, |faults, at, action| {
+        note_if(
             faults,
-            &NoExecute { directory },
+            Code::Execute,
             at,
-            scripts_in(&object.body),
+            ".object",
+            executes(directory, action),
         )
-    }
+    })
 }
 
 /// Judges what scripts execute.
@@ -164,15 +97,7 @@ impl<'d, 'c> Judge for NoExecutes<'d, 'c> {
 pub(crate) fn no_executes(alloc: Global, directory: &Directory<'_>) -> Result<(), Refusal>
     ensures { Finds result (passes.no_executes directory.now.config.now) }
 {
-    let config = directory.config;
-    let objects = config.objects.as_slice();
-    let object_place = Place::top(alloc, "object");
-    let mut faults = Vec::new(alloc);
-    each(
-        &mut faults,
-        &NoExecutes { directory },
-        &object_place,
-        objects,
-    )?;
-    refuse(faults)
+    judge_objects(alloc, directory.config, |faults, at, object| {
+        no_executes_in(faults, directory, at, scripts_in(&object.body))
+    })
 }

@@ -1,18 +1,17 @@
 //! C20: sort methods other than fifo, and parts of attributes captured.
-ghost use Rattle.std.specs.Prelude.{◌≡◌, ◌++◌, OnOk, codes, pos};
+ghost use Rattle.std.specs.Prelude.{◌≡◌, ◌++◌, OnOk, codes};
 ghost use Rattle.config_text.specs.BodyView.{body_text};
 ghost use Rattle.config_text.specs.Refusals.{Finds};
-ghost use Rattle.config_text.specs.declared.fault.Code.TheVariants.{Sorting};
 ghost use Rattle.config_rules.specs.Passes as passes;
 ghost use Rattle.config_rules.specs.Walks as walks;
 
 use crate::reference_walk::each_alternative;
-use crate::walk::{Judge, each, each_below};
+use crate::walk::{each, judge_objects};
 use config_text::fault::Code;
 use config_text::noting::note_if;
-use config_text::parts::{BodyParts, CaptureParts, ConfigParts, ObjectParts};
+use config_text::parts::{BodyParts, CaptureParts, ConfigParts};
 use config_text::place::Place;
-use config_text::refusal::{PlacedFault, Refusal, refuse};
+use config_text::refusal::{PlacedFault, Refusal};
 use cosem_data::memory::Memory;
 use std::alloc::Global;
 
@@ -26,38 +25,29 @@ fn is_other(only: i64, given: Option<i64>) -> bool
     }
 }
 
-/// The part of an attribute that is captured.
-#[derive(Drop)]
-struct WholeCapture;
-
-impl Judge for WholeCapture {
-    ghost use Rattle.config_rules.specs.Passes.{whole_attribute};
-
-    type Part = CaptureParts;
-
-    ghost judges = { λ _. whole_attribute };
-
-    fn judge(
-        &self,
-        faults: &mut Vec<PlacedFault>,
-        at: &Place<'_>,
-        capture: &CaptureParts,
-    ) -> Result<(), Memory> {
-        let other = is_other(0, capture.data_index);
-        note_if(faults, Code::Sorting, at, ".data_index", other)
-    }
+/// Notes that a part of an attribute is captured, where it isn't the whole.
+fn whole_attribute(
+    faults: &mut Vec<PlacedFault>,
+    at: &Place<'_>,
+    capture: &CaptureParts,
+) -> Result<(), Memory>
+    ensures { OnOk result (faults.new.items ≡ faults.old.items
+        ++ passes.whole_attribute at.now capture.now) }
+{
+    let other = is_other(0, capture.data_index);
+    note_if(faults, Code::Sorting, at, ".data_index", other)
 }
 
-/// Judges the parts that are captured.
+/// Notes the parts of attributes that a profile captures at the start.
 fn whole_captures(
     faults: &mut Vec<PlacedFault>,
     at: &Place<'_>,
     captures: &[CaptureParts],
 ) -> Result<(), Memory>
-    ensures { OnOk result (faults.new.items ≡ faults.old.items ++ walks.each passes.whole_attribute
-        (at.now ++ codes ".capture") captures.now) }
+    ensures { OnOk result (faults.new.items ≡ faults.old.items
+        ++ walks.each passes.whole_attribute (at.now ++ codes ".capture") captures.now) }
 {
-    each_below(faults, &WholeCapture, at, ".capture", captures)
+    each(faults, &at.below(".capture"), captures, whole_attribute)
 }
 
 #[tactic(auto, unfolding(config_rules::specs::Passes::valid_sorting_in))]
@@ -79,30 +69,9 @@ fn valid_sorting_in(
             whole_captures(faults, at, capture.as_slice())?;
             let other = is_other(1, *sort_method);
             note_if(faults, Code::Sorting, at, ".sort_method", other)?;
-            each_alternative(faults, &WholeCapture, at, menu)
+            each_alternative(faults, at, menu, whole_attribute)
         }
         _ => Ok(()),
-    }
-}
-
-/// The sorting of an object.
-#[derive(Drop)]
-struct RightSorting;
-
-impl Judge for RightSorting {
-    ghost use Rattle.config_rules.specs.Passes.{valid_sorting_in};
-
-    type Part = ObjectParts;
-
-    ghost judges = { λ _ at o. valid_sorting_in at o.body };
-
-    fn judge(
-        &self,
-        faults: &mut Vec<PlacedFault>,
-        at: &Place<'_>,
-        object: &ObjectParts,
-    ) -> Result<(), Memory> {
-        valid_sorting_in(faults, at, &object.body)
     }
 }
 
@@ -114,13 +83,9 @@ impl Judge for RightSorting {
 pub(crate) fn valid_sorting(alloc: Global, config: &ConfigParts) -> Result<(), Refusal>
     ensures { Finds result (passes.valid_sorting config.now) }
 {
-    let object_place = Place::top(alloc, "object");
-    let mut faults = Vec::new(alloc);
-    each(
-        &mut faults,
-        &RightSorting,
-        &object_place,
-        config.objects.as_slice(),
-    )?;
-    refuse(faults)
+    judge_objects(
+        alloc,
+        config,
+        |faults, at, object| valid_sorting_in(faults, at, &object.body),
+    )
 }

@@ -1,5 +1,5 @@
 //! C11: values that aren't hex, aren't one Data, or aren't of their kind, and times of clocks that are no moments.
-ghost use Rattle.std.specs.Prelude.{◌≡◌, ◌==◌, ◌&&◌, ◌++◌, OnOk, IfOk, codes, length, map, not, is_some};
+ghost use Rattle.std.specs.Prelude.{◌≡◌, ◌==◌, ◌&&◌, ◌++◌, OnOk, IfOk, codes, length, map, not};
 ghost use Rattle.std.specs.List.{list_all, list_any};
 ghost use Rattle.cosem_data.specs.View.{tree};
 ghost use Rattle.cosem_data.specs.Equal.{same_tree};
@@ -8,7 +8,6 @@ ghost use Rattle.cosem_data.specs.declared.kind.Kind.TheVariants.{Array};
 ghost use Rattle.meter_theory.specs.Menus.{alternatives, capture_objects_value, script_ref_value};
 ghost use Rattle.meter_theory.specs.Value.{ClockTime, elements, meets};
 ghost use Rattle.meter_theory.specs.Times.{are_execution_times};
-ghost use Rattle.civil_moment.specs.MomentText.{moment_in};
 ghost use Rattle.value_text.specs.Texts.{value_in};
 ghost use Rattle.config_text.specs.BodyView.{body_text};
 ghost use Rattle.config_text.specs.Refusals.{Finds};
@@ -32,21 +31,21 @@ use crate::menus::menu_in;
 use crate::reference_walk::each_action;
 use crate::targets::{cells_named, script_named};
 use crate::value::{is_moment_text, is_time_text, is_value, kind_in};
-use crate::walk::{Judge, each, each_below};
+use crate::walk::{each, judge_objects};
 use class_control::clock::judge_time;
 use class_control::judge::elements_of;
 use class_control::menus::is_executed_script;
 use class_control::times::are_execution_times;
 use class_profile::menus::is_capture_objects;
 use config_text::fault::Code;
-use config_text::hex_value::{HexBytes, HexValue};
+use config_text::hex_value::HexValue;
 use config_text::noting::note_if;
 use config_text::parts::{
-    ActionParts, AlternativeParts, BodyParts, CaptureParts, ObjectParts, ScriptRefParts,
-    TargetParts, UpDownParts,
+    ActionParts, AlternativeParts, BodyParts, CaptureParts, ScriptRefParts, TargetParts,
+    UpDownParts,
 };
 use config_text::place::Place;
-use config_text::refusal::{PlacedFault, Refusal, refuse};
+use config_text::refusal::{PlacedFault, Refusal};
 use config_text::service::Service;
 use cosem_data::data::Data;
 use cosem_data::kind::Kind;
@@ -255,112 +254,6 @@ fn action_value(
     }
 }
 
-/// The value of an action.
-#[derive(Drop)]
-struct ActionValue<'d, 'c> {
-    directory: &'d Directory<'c>,
-}
-
-impl<'d, 'c> Judge for ActionValue<'d, 'c> {
-    ghost use Rattle.config_rules.specs.Passes.{valid_action_value};
-
-    type Part = ActionParts;
-
-    ghost judges = { λ all. valid_action_value all.directory.now.config.now };
-
-    fn judge(
-        &self,
-        faults: &mut Vec<PlacedFault>,
-        at: &Place<'_>,
-        action: &ActionParts,
-    ) -> Result<(), Memory> {
-        let right = action_value(at.alloc(), self.directory, action)?;
-        note_if(faults, Code::Value, at, ".value", !right)
-    }
-}
-
-/// Thresholds over a value of a kind.
-#[derive(Drop)]
-struct Threshold {
-    kind: Option<Kind>,
-}
-
-impl Judge for Threshold {
-    ghost use Rattle.config_rules.specs.Passes.{threshold_value};
-
-    type Part = HexValue;
-
-    ghost judges = { λ all. threshold_value all.kind };
-
-    fn judge(
-        &self,
-        faults: &mut Vec<PlacedFault>,
-        at: &Place<'_>,
-        hex: &HexValue,
-    ) -> Result<(), Memory> {
-        note_if(faults, Code::Value, at, "", !is_of_kind(self.kind, hex))
-    }
-}
-
-/// Times and dates.
-#[derive(Drop)]
-struct TimeText;
-
-impl Judge for TimeText {
-    ghost use Rattle.std.specs.Prelude.{not};
-    ghost use Rattle.config_text.specs.Fault.{fault_where};
-    ghost use Rattle.config_text.specs.declared.fault.Code.TheVariants.{Value};
-    ghost use Rattle.config_rules.specs.Values.{is_time_text};
-
-    type Part = HexBytes;
-
-    ghost judges = { λ _ at text. fault_where Value at (not (is_time_text text)) };
-
-    fn judge(
-        &self,
-        faults: &mut Vec<PlacedFault>,
-        at: &Place<'_>,
-        hex: &HexBytes,
-    ) -> Result<(), Memory> {
-        let is_time = is_time_text(at.alloc(), hex)?;
-        note_if(faults, Code::Value, at, "", !is_time)
-    }
-}
-
-/// The value of a data object.
-fn data_value(faults: &mut Vec<PlacedFault>, at: &Place<'_>, value: &HexValue) -> Result<(), Memory>
-    ensures { OnOk result (faults.new.items ≡ faults.old.items ++ fault_where Value
-        (at.now ++ codes ".value") (not (is_some (value_in value.now)))) }
-{
-    note_if(faults, Code::Value, at, ".value", !is_value(value))
-}
-
-/// The value and the default of a register. The default is of the value's kind, where this is one of numbers.
-fn register_values(
-    faults: &mut Vec<PlacedFault>,
-    at: &Place<'_>,
-    value: &HexValue,
-    default: &HexValue,
-) -> Result<(), Memory>
-    ensures { OnOk result (faults.new.items ≡ faults.old.items
-        ++ (fault_where Value (at.now ++ codes ".value") (not (spec.is_number (spec.kind_in value.now)))
-        ++ fault_where Value (at.now ++ codes ".default")
-        (not (spec.is_of_kind (spec.number_kind (spec.kind_in value.now)) (value_in default.now))))) }
-{
-    let kind = kind_in(value);
-    note_if(faults, Code::Value, at, ".value", !is_number(kind))?;
-    let fits = is_of_kind(number_kind(kind), default);
-    note_if(faults, Code::Value, at, ".default", !fits)
-}
-
-/// The time of a clock.
-fn clock_time(faults: &mut Vec<PlacedFault>, at: &Place<'_>, time: &str) -> Result<(), Memory>
-    ensures { OnOk result (faults.new.items ≡ faults.old.items ++ fault_where Value
-        (at.now ++ codes ".time") (not (is_some (moment_in time.now)))) }
-{
-    note_if(faults, Code::Value, at, ".time", !is_moment_text(time))
-}
-
 /// Notes the thresholds that aren't values of a kind.
 fn thresholds(
     faults: &mut Vec<PlacedFault>,
@@ -371,7 +264,9 @@ fn thresholds(
     ensures { OnOk result (faults.new.items ≡ faults.old.items
         ++ walks.each (passes.threshold_value kind) (at.now ++ codes ".thresholds") texts.now) }
 {
-    each_below(faults, &Threshold { kind }, at, ".thresholds", texts)
+    each(faults, &at.below(".thresholds"), texts, |faults, at, hex| {
+        note_if(faults, Code::Value, at, "", !is_of_kind(kind, hex))
+    })
 }
 
 /// The monitored value is a number, and the thresholds are of its kind, where it is.
@@ -395,7 +290,8 @@ fn monitor_values(
     thresholds(faults, at, number_kind(kind), texts)
 }
 
-/// The values in an object's body.
+/// Notes the values in an object's body that aren't right. A default is of the kind of the register's value, where this is
+/// one of numbers, and so are thresholds of the kind of the monitored value.
 #[tactic(auto, unfolding(config_rules::specs::Passes::valid_values_in))]
 fn valid_values_in(
     faults: &mut Vec<PlacedFault>,
@@ -404,48 +300,47 @@ fn valid_values_in(
     body: &BodyParts,
 ) -> Result<(), Memory>
     ensures { OnOk result (faults.new.items ≡ faults.old.items
-        ++ passes.valid_values_in directory.now.config.now at.now
-        (body_text body.now)) }
+        ++ passes.valid_values_in directory.now.config.now at.now (body_text body.now)) }
 {
     match body {
-        BodyParts::Data { value } => data_value(faults, at, value),
-        BodyParts::Register { value, default, .. } => register_values(faults, at, value, default),
-        BodyParts::Clock { time } => clock_time(faults, at, time.as_str()),
-        BodyParts::ScriptTable { scripts } => {
-            each_action(faults, &ActionValue { directory }, at, scripts.as_slice())
+        BodyParts::Data { value } => note_if(faults, Code::Value, at, ".value", !is_value(value)),
+        BodyParts::Register { value, default, .. } => {
+            let kind = kind_in(value);
+            note_if(faults, Code::Value, at, ".value", !is_number(kind))?;
+            let fits = is_of_kind(number_kind(kind), default);
+            note_if(faults, Code::Value, at, ".default", !fits)
         }
+        BodyParts::Clock { time } => note_if(
+            faults,
+            Code::Value,
+            at,
+            ".time",
+            !is_moment_text(time),
+        ),
+        BodyParts::ScriptTable { scripts } => each_action(
+            faults,
+            at,
+            scripts,
+            |faults, at, action| {
+                let right = action_value(at.alloc(), directory, action)?;
+                note_if(faults, Code::Value, at, ".value", !right)
+            },
+        ),
         BodyParts::RegisterMonitor {
             monitored,
             thresholds,
             ..
         } => monitor_values(faults, directory, at, monitored, thresholds.as_slice()),
-        BodyParts::SingleActionSchedule { times, .. } => {
-            each_below(faults, &TimeText, at, ".times", times.as_slice())
-        }
+        BodyParts::SingleActionSchedule { times, .. } => each(
+            faults,
+            &at.below(".times"),
+            times,
+            |faults, at, text| {
+                let is_time = is_time_text(at.alloc(), text)?;
+                note_if(faults, Code::Value, at, "", !is_time)
+            },
+        ),
         BodyParts::ProfileGeneric { .. } | BodyParts::Unknown => Ok(()),
-    }
-}
-
-/// The values of an object.
-#[derive(Drop)]
-struct ObjectValues<'d, 'c> {
-    directory: &'d Directory<'c>,
-}
-
-impl<'d, 'c> Judge for ObjectValues<'d, 'c> {
-    ghost use Rattle.config_rules.specs.Passes.{valid_values_in};
-
-    type Part = ObjectParts;
-
-    ghost judges = { λ all at o. valid_values_in all.directory.now.config.now at o.body };
-
-    fn judge(
-        &self,
-        faults: &mut Vec<PlacedFault>,
-        at: &Place<'_>,
-        object: &ObjectParts,
-    ) -> Result<(), Memory> {
-        valid_values_in(faults, self.directory, at, &object.body)
     }
 }
 
@@ -458,15 +353,7 @@ impl<'d, 'c> Judge for ObjectValues<'d, 'c> {
 pub(crate) fn valid_values(alloc: Global, directory: &Directory<'_>) -> Result<(), Refusal>
     ensures { Finds result (passes.valid_values directory.now.config.now) }
 {
-    let config = directory.config;
-    let objects = config.objects.as_slice();
-    let object_place = Place::top(alloc, "object");
-    let mut faults = Vec::new(alloc);
-    each(
-        &mut faults,
-        &ObjectValues { directory },
-        &object_place,
-        objects,
-    )?;
-    refuse(faults)
+    judge_objects(alloc, directory.config, |faults, at, object| {
+        valid_values_in(faults, directory, at, &object.body)
+    })
 }

@@ -1,181 +1,127 @@
-//! Walks over the elements of an array, each at its place, as `object[6]`. What they find is noted behind what was found
-//! before; the error of each is that memory was refused.
+//! Walks over the elements of an array, each at its place, as `object[6]`, by a closure that notes the faults of one after those
+//! that were found before. The error of each walk is that memory was refused.
 
-ghost use Rattle.std.specs.Prelude.{◌≡◌, ◌++◌, OnOk, map, length, string_bytes};
+ghost use Rattle.std.specs.Prelude.{◌≡◌, ◌++◌, List, OnOk, codes, map, string_bytes};
+ghost use Rattle.config_text.specs.Fault.{Fault};
+ghost use Rattle.config_text.specs.Parts.{Text, ObjectText};
+ghost use Rattle.config_text.specs.Refusals.{Finds};
 ghost use Rattle.config_rules.specs.Passes.{both_sets};
 ghost use Rattle.config_rules.specs.Walks as spec;
 
-use config_text::parts::SetsParts;
+use config_text::parts::{ConfigParts, ObjectParts, SetsParts};
 use config_text::place::Place;
-use config_text::refusal::PlacedFault;
+use config_text::refusal::{PlacedFault, Refusal, refuse};
 use cosem_data::memory::Memory;
+use std::alloc::Global;
 
-/// A judgement of one part of a configuration at its place.
-pub(crate) trait Judge {
-    ghost use Rattle.std.specs.Prelude.{◌≡◌, ◌++◌, List, OnOk};
-    ghost use Rattle.config_text.specs.Fault.{Fault};
-    ghost use Rattle.config_text.specs.Parts.{Text};
-
-    /// What is judged.
-    type Part: Drop;
-
-    /// The faults of the part at the place.
-    ghost judges: { Self → Text → Self.Part → List Fault };
-
-    /// Notes the faults of a part at its place.
-    fn judge(
-        &self,
-        faults: &mut Vec<PlacedFault>,
-        at: &Place<'_>,
-        part: &Self::Part,
-    ) -> Result<(), Memory>
-        ensures { OnOk result (faults.new.items ≡ faults.old.items
-            ++ judges self.now at.now part.now) };
-}
-
-/// A judgement of one part of a configuration at its place, beside those before it in its array.
-pub(crate) trait JudgeNew {
-    ghost use Rattle.std.specs.Prelude.{◌≡◌, ◌++◌, List, OnOk};
-    ghost use Rattle.config_text.specs.Fault.{Fault};
-    ghost use Rattle.config_text.specs.Parts.{Text};
-
-    /// What is judged.
-    type Part: Drop;
-
-    /// The faults of the part at the place, where these were before it.
-    ghost judges: { Self → List Self.Part → Text → Self.Part → List Fault };
-
-    /// Notes the faults of a part at its place.
-    fn judge(
-        &self,
-        faults: &mut Vec<PlacedFault>,
-        earlier: &[Self::Part],
-        at: &Place<'_>,
-        part: &Self::Part,
-    ) -> Result<(), Memory>
-        ensures { OnOk result (faults.new.items ≡ faults.old.items
-            ++ judges self.now earlier.now at.now part.now) };
-}
-
-/// A judgement of a text at its place.
-pub(crate) trait JudgeText {
-    ghost use Rattle.std.specs.Prelude.{◌≡◌, ◌++◌, List, OnOk};
-    ghost use Rattle.config_text.specs.Fault.{Fault};
-    ghost use Rattle.config_text.specs.Parts.{Text};
-
-    /// The faults of the text at the place.
-    ghost judges: { Self → Text → Text → List Fault };
-
-    /// Notes the faults of a text at its place.
-    fn judge(&self, faults: &mut Vec<PlacedFault>, at: &Place<'_>, text: &str) -> Result<(), Memory>
-        ensures { OnOk result (faults.new.items ≡ faults.old.items
-            ++ judges self.now at.now text.now) };
-}
-
-/// Notes the faults of each part of an array in turn, at its place below the name.
+/// Notes the faults of each item in turn, at its place below the name.
 #[tactic(auto, unfolding(config_rules::specs::Walks::each_from))]
-pub(crate) fn each<J: Judge>(
+pub(crate) fn each<T, F: Fn(&mut Vec<PlacedFault>, &Place<'_>, &T) -> Result<(), Memory>>(
     faults: &mut Vec<PlacedFault>,
-    judge: &J,
     name: &Place<'_>,
-    parts: &[J::Part],
+    items: &[T],
+    judge: F,
 ) -> Result<(), Memory>
-    ensures { OnOk result (faults.new.items ≡ faults.old.items
-        ++ spec.each (J.judges judge.now) name.now parts.now) }
+    requires { F.IsAlwaysCallable judge }
+    ensures { (says : Text → T → List Fault)
+        → ((before : _) (at : _) (x : _) (r : _) (after : _) → F.post judge before at x r after
+        → OnOk r (after.now.items ≡ before.now.items ++ says at.now x.now))
+        → OnOk result (faults.new.items ≡ faults.old.items ++ spec.each says name.now items.now) }
 {
-    for (i, part) in parts.iter().enumerate() {
-        judge.judge(faults, &(&*name).element(i), part)?;
+    for (i, item) in items.iter().enumerate() {
+        judge(faults, &(&*name).element(i), item)?;
     }
     Ok(())
 }
 
-/// Notes the faults of each part of the array at a key below a place.
-pub(crate) fn each_below<J: Judge>(
-    faults: &mut Vec<PlacedFault>,
-    judge: &J,
-    at: &Place<'_>,
-    key: &str,
-    parts: &[J::Part],
-) -> Result<(), Memory>
-    ensures { OnOk result (faults.new.items ≡ faults.old.items
-        ++ spec.each (J.judges judge.now) (at.now ++ key.now) parts.now) }
-{
-    each(faults, judge, &at.below(key), parts)
-}
-
-/// Notes the faults of an element of an array, which stands behind the earlier ones.
-fn judge_new_element<J: JudgeNew>(
-    faults: &mut Vec<PlacedFault>,
-    judge: &J,
-    name: &Place<'_>,
-    earlier: &[J::Part],
-    part: &J::Part,
-) -> Result<(), Memory>
-    ensures { OnOk result (faults.new.items ≡ faults.old.items ++ J.judges judge.now earlier.now
-        (spec.element_place name.now (length earlier.now)) part.now) }
-{
-    judge.judge(faults, earlier, &name.element(earlier.len()), part)
-}
-
-/// Notes the faults of each part of an array in turn, beside those before it, at its place below the name.
+/// Notes the faults of each item in turn, beside those before it, at its place below the name.
 #[tactic(auto, unfolding(config_rules::specs::Walks::each_after))]
-pub(crate) fn each_new<J: JudgeNew>(
+pub(crate) fn each_new<T, F: Fn(&mut Vec<PlacedFault>, &[T], &Place<'_>, &T) -> Result<(), Memory>>(
     faults: &mut Vec<PlacedFault>,
-    judge: &J,
     name: &Place<'_>,
-    parts: &[J::Part],
+    items: &[T],
+    judge: F,
 ) -> Result<(), Memory>
-    ensures { OnOk result (faults.new.items ≡ faults.old.items
-        ++ spec.each_new (J.judges judge.now) name.now parts.now) }
+    requires { F.IsAlwaysCallable judge }
+    ensures { (says : List T → Text → T → List Fault)
+        → ((before : _) (earlier : _) (at : _) (x : _) (r : _) (after : _)
+        → F.post judge before earlier at x r after
+        → OnOk r (after.now.items ≡ before.now.items ++ says earlier.now at.now x.now))
+        → OnOk result (faults.new.items ≡ faults.old.items ++ spec.each_new says name.now items.now) }
 {
-    for (i, part) in parts.iter().enumerate() {
-        judge_new_element(faults, judge, name, &parts[..i], part)?;
+    for (i, item) in items.iter().enumerate() {
+        judge(faults, &items[..i], &(&*name).element(i), item)?;
     }
     Ok(())
 }
 
-/// Notes the faults of each text of an array in turn, at its place below the name.
+/// Notes the faults of each text in turn, at its place below the name.
 #[tactic(auto, unfolding(config_rules::specs::Walks::each_from))]
-pub(crate) fn each_text<J: JudgeText>(
+fn each_text<F: Fn(&mut Vec<PlacedFault>, &Place<'_>, &str) -> Result<(), Memory>>(
     faults: &mut Vec<PlacedFault>,
-    judge: &J,
     name: &Place<'_>,
     texts: &[String],
+    judge: F,
 ) -> Result<(), Memory>
-    ensures { OnOk result (faults.new.items ≡ faults.old.items
-        ++ spec.each (J.judges judge.now) name.now
-        (map string_bytes texts.now)) }
+    requires { F.IsAlwaysCallable judge }
+    ensures { (says : Text → Text → List Fault)
+        → ((before : _) (at : _) (x : _) (r : _) (after : _) → F.post judge before at x r after
+        → OnOk r (after.now.items ≡ before.now.items ++ says at.now x.now))
+        → OnOk result (faults.new.items ≡ faults.old.items
+        ++ spec.each says name.now (map string_bytes texts.now)) }
 {
     for (i, text) in texts.iter().enumerate() {
-        judge.judge(faults, &(&*name).element(i), text.as_str())?;
+        judge(faults, &(&*name).element(i), text.as_str())?;
     }
     Ok(())
 }
 
-/// Notes the faults of each text of the array at a key below a place.
-pub(crate) fn each_text_below<J: JudgeText>(
+/// Notes the faults of each client of the sets at a place.
+pub(crate) fn both_sets<F: Fn(&mut Vec<PlacedFault>, &Place<'_>, &str) -> Result<(), Memory>>(
     faults: &mut Vec<PlacedFault>,
-    judge: &J,
-    at: &Place<'_>,
-    key: &str,
-    texts: &[String],
-) -> Result<(), Memory>
-    ensures { OnOk result (faults.new.items ≡ faults.old.items
-        ++ spec.each (J.judges judge.now) (at.now ++ key.now) (map string_bytes texts.now)) }
-{
-    each_text(faults, judge, &at.below(key), texts)
-}
-
-/// Notes the faults of each client of the sets that stand at a place.
-pub(crate) fn both_sets<J: JudgeText>(
-    faults: &mut Vec<PlacedFault>,
-    judge: &J,
     at: &Place<'_>,
     sets: &SetsParts,
+    judge: F,
 ) -> Result<(), Memory>
-    ensures { OnOk result (faults.new.items ≡ faults.old.items
-        ++ both_sets (J.judges judge.now) at.now sets.now) }
+    requires { F.IsAlwaysCallable judge }
+    ensures { (says : Text → Text → List Fault)
+        → ((before : _) (place : _) (x : _) (r : _) (after : _) → F.post judge before place x r after
+        → OnOk r (after.now.items ≡ before.now.items ++ says place.now x.now))
+        → OnOk result (faults.new.items ≡ faults.old.items ++ both_sets says at.now sets.now) }
 {
-    each_text_below(faults, judge, at, ".influence", sets.influence.as_slice())?;
-    each_text_below(faults, judge, at, ".learn", sets.learn.as_slice())
+    each_text(
+        faults,
+        &at.below(".influence"),
+        &sets.influence,
+        |faults, at, x| judge(faults, at, x),
+    )?;
+    each_text(
+        faults,
+        &at.below(".learn"),
+        &sets.learn,
+        |faults, at, x| judge(faults, at, x),
+    )
+}
+
+/// Judges each object of a configuration, at its place.
+///
+/// # Errors
+/// All faults that the closure notes.
+pub(crate) fn judge_objects<
+    F: Fn(&mut Vec<PlacedFault>, &Place<'_>, &ObjectParts) -> Result<(), Memory>,
+>(alloc: Global, config: &ConfigParts, judge: F) -> Result<(), Refusal>
+    requires { F.IsAlwaysCallable judge }
+    ensures { (says : Text → ObjectText → List Fault)
+        → ((before : _) (at : _) (x : _) (r : _) (after : _) → F.post judge before at x r after
+        → OnOk r (after.now.items ≡ before.now.items ++ says at.now x.now))
+        → Finds result (spec.each says (codes "object") config.now.objects) }
+{
+    let mut faults = Vec::new(alloc);
+    each(
+        &mut faults,
+        &Place::top(alloc, "object"),
+        &config.objects,
+        judge,
+    )?;
+    refuse(faults)
 }
