@@ -1,17 +1,12 @@
-//! Where in the text of a configuration a path leads, for messages (own profile). A path is one of a fault's place: keys with dots
-//! between them and indexes from 0 in brackets, as `object[6].name`.
+//! Where in the text of a configuration steps lead, for messages (own profile).
 #![tactic(auto)]
 
-mod contents;
-mod leading;
-mod lines;
-mod meeting;
+mod along;
 mod path;
-mod place;
-mod search;
 mod spot;
-mod step;
 mod values;
+mod walk;
 
-pub use contents::Contents;
-pub use spot::Spot;
+pub use path::read_path;
+pub use spot::{Spot, Step};
+pub use walk::find;

@@ -15,7 +15,7 @@ use Rattle.toml.specs.Parse.{parse_document}
 use Rattle.explanations.specs.Advice.{meaning_at, mending_at}
 use Rattle.explanations.specs.Following.{object_name, shown_at, text_at}
 use Rattle.explanations.specs.Labels.{shown_line}
-use Rattle.explanations.specs.Standing.{place_behind, stand_of}
+use Rattle.explanations.specs.Standing.{Stands, place_behind}
 use Rattle.explanations.specs.Meanings.{meaning, mending, memory_meaning, memory_mending}
 use Rattle.shown_text.specs.Printable.{printable, quoted}
 
@@ -97,12 +97,12 @@ TellsNoToml file text explanation = (start : ℕ) × TellsStop file text start e
 abbrev pub no_memory : List ℕ → List ℕ
 no_memory file = concat (codes "cosem-flow: " ∷ printable file ∷ codes ": " ∷ memory_meaning ∷ codes "\n  " ∷ memory_mending ∷ codes "\n" ∷ [])
 
--- the explanation of a fault with this code at a place of a text that is this table, in this file (own profile)
-abbrev pub explained_at : (file text : List ℕ) → Data → Code → (place : List ℕ) → List ℕ
-explained_at file text whole code place = told (stand_of file text whole code place) code place whole
+-- it tells a fault with this code at a place of a text that is this table, in this file (own profile)
+abbrev pub TellsFault : (file text : List ℕ) → Data → Code → (place explanation : List ℕ) → Type 0
+TellsFault file text whole code place explanation = (stand : List ℕ) × Stands file text stand × (explanation ≡ told stand code place whole)
 
 -- the explanation of a fault that a text has (own profile)
 abbrev pub Explains : List ℕ → List ℕ → ConfigFault → List ℕ → Type 0
 Explains file text faults.Memory explanation = explanation ≡ no_memory file
 Explains file text (faults.Found code place) explanation =
-    MatchOption (parse_document text) (TellsNoToml file text explanation) (λ members. explanation ≡ explained_at file text (table members) code (string_bytes place))
+    MatchOption (parse_document text) (TellsNoToml file text explanation) (λ members. TellsFault file text (table members) code (string_bytes place) explanation)

@@ -8,8 +8,8 @@ use Rattle.config_warnings.specs.declared.warning.Warning.{Warning}
 use Rattle.toml.specs.Data.{Data, table}
 use Rattle.toml.specs.Parse.{parse_document}
 use Rattle.explanations.specs.Config.{shown_lines}
-use Rattle.explanations.specs.Several.{told_first}
-use Rattle.explanations.specs.Standing.{stand_of}
+use Rattle.explanations.specs.Several.{TellsFirst}
+use Rattle.explanations.specs.Standing.{Stands}
 use Rattle.explanations.specs.declared.warnings.TheConstants.{TOLD}
 use Rattle.explanations.specs.declared.warnings.Whose.{Whose}
 use Rattle.explanations.specs.declared.warnings.Whose.TheVariants.{Policy, Labels}
@@ -21,17 +21,14 @@ warning_told stand place words whole =
     codes "cosem-flow: " ++ (printable stand ++ (codes ": " ++ (printable place ++ (codes ": warning: " ++ (words ++ (codes "\n" ++ shown_lines Times place whole))))))
 
 -- what is told of a warning of a text that is this table, in this file
-abbrev pub told_of : (file text : List ℕ) → Data → Warning → List ℕ
-told_of file text whole warning =
-    warning_told (stand_of file text whole Times (path_of warning)) (path_of warning) (words_of warning) whole
+abbrev pub Warns : (file text : List ℕ) → Data → Warning → List ℕ → Type 0
+Warns file text whole warning told =
+    (stand : List ℕ) × Stands file text stand × (told ≡ warning_told stand (path_of warning) (words_of warning) whole)
 
--- what is told of the first of these warnings of a text that is this table, and how many more there are
-abbrev pub told_of_first : (file text : List ℕ) → Data → List Warning → List ℕ
-told_of_first file text whole warnings = told_first (told_of file text whole) TOLD file (codes "warning: ") warnings
-
--- what is told of warnings of a text: nothing where it isn't TOML
+-- what is told of warnings of a text: of the first of them, and how many more there are; nothing where it isn't TOML
 abbrev pub TellsWarnings : (file text : List ℕ) → List Warning → List ℕ → Type 0
-TellsWarnings file text warnings told = MatchOption (parse_document text) (told ≡ []) (λ members. told ≡ told_of_first file text (table members) warnings)
+TellsWarnings file text warnings told =
+    MatchOption (parse_document text) (told ≡ []) (λ members. TellsFirst (Warns file text (table members)) TOLD file (codes "warning: ") warnings told)
 
 -- whose labels a warning is of
 abbrev pub admitting_words : Whose → List ℕ

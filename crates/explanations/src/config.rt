@@ -1,16 +1,14 @@
 //! The explanation of a configuration's fault (own profile).
 ghost use Rattle.std.specs.Prelude.{◌≡◌, ◌++◌, IfOk, OnOk, option_map, string_bytes};
 ghost use Rattle.toml.specs.View.{view};
-ghost use Rattle.config_places.specs.Contents.{text_of};
 ghost use Rattle.explanations.specs.Config as spec;
-ghost use Rattle.explanations.specs.Config.{Explains};
+ghost use Rattle.explanations.specs.Config.{Explains, TellsFault};
 
 use crate::advice::{meaning_at, mending_at};
 use crate::following::{object_name, shown_at};
 use crate::standing::with_stand;
 use crate::syntax::explain_no_toml;
 use crate::value::{decoded_line, value_words};
-use config_places::Contents;
 use config_text::fault::{Code, ConfigFault};
 use cosem_data::memory::Memory;
 use shown_text::printable::printable_text;
@@ -74,19 +72,18 @@ fn told(alloc: Global, file: &str, code: Code, place: &str, whole: &Value) -> Re
     Ok(format!(in alloc; "cosem-flow: {file}: {place}: {meaning}\n{lines}  {mending}\n")?)
 }
 
-/// What is told of a fault at a place of a text with these contents that is this table, with the line and the column.
+/// What is told of a fault at a place of a text that is this table, with the line and the column.
 pub(crate) fn explain_found(
     alloc: Global,
     file: &str,
-    contents: &Contents<'_>,
+    text: &str,
     whole: &Value,
     code: Code,
     place: &str,
 ) -> Result<String, Memory>
-    ensures { IfOk result (λ told. string_bytes told
-        ≡ spec.explained_at file.now (text_of contents.now) (view whole.now) code place.now) }
+    ensures { IfOk result (λ told. TellsFault file.now text.now (view whole.now) code place.now (string_bytes told)) }
 {
-    let file = with_stand(alloc, file, contents, whole, code, place)?;
+    let file = with_stand(alloc, file, text, code, place)?;
     told(alloc, file.as_str(), code, place, whole)
 }
 
@@ -129,8 +126,7 @@ pub fn explain_config(
         ConfigFault::Found { code, place } => match toml::table_from_str(alloc, text) {
             Ok(table) => {
                 let whole = Value::Table(table);
-                let contents = Contents::read(alloc, text)?;
-                explain_found(alloc, file, &contents, &whole, *code, place.as_str())
+                explain_found(alloc, file, text, &whole, *code, place.as_str())
             }
             Err(error) => explain_no_toml(alloc, file, text, &error),
         },

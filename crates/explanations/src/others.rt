@@ -1,12 +1,12 @@
 //! What is told of the other faults that the pass finds which refuses a configuration (own profile).
-ghost use Rattle.std.specs.Prelude.{◌≡◌, ◌++◌, IfOk, OnOk, flat_map, string_bytes};
+ghost use Rattle.std.specs.Prelude.{[], IfOk, string_bytes};
 ghost use Rattle.toml.specs.View.{view};
-ghost use Rattle.config_places.specs.Contents.{text_of};
 ghost use Rattle.explanations.specs.Others as spec;
+ghost use Rattle.explanations.specs.Several.{TellsEach, TellsFirst};
+ghost use Rattle.explanations.specs.declared.others.TheConstants.{TOLD};
 
 use crate::config::explain_found;
 use crate::several::{first_of, more_line};
-use config_places::Contents;
 use config_text::refusal::PlacedFault;
 use cosem_data::memory::Memory;
 use std::alloc::Global;
@@ -32,10 +32,7 @@ pub fn explain_others(
         return Ok(String::new(alloc));
     }
     match toml::table_from_str(alloc, text) {
-        Ok(table) => {
-            let contents = Contents::read(alloc, text)?;
-            explain_first(alloc, file, &contents, &Value::Table(table), faults)
-        }
+        Ok(table) => explain_first(alloc, file, text, &Value::Table(table), faults),
         Err(error) if error.is_memory() => Err(Memory),
         Err(_) => Ok(String::new(alloc)),
     }
@@ -45,15 +42,14 @@ pub fn explain_others(
 fn explain_first(
     alloc: Global,
     file: &str,
-    contents: &Contents<'_>,
+    text: &str,
     whole: &Value,
     faults: &[PlacedFault],
 ) -> Result<String, Memory>
-    ensures { IfOk result (λ told. string_bytes told
-        ≡ spec.explained_first file.now (text_of contents.now) (view whole.now) faults.now) }
+    ensures { IfOk result (λ told. TellsFirst (spec.Explains file.now text.now (view whole.now)) TOLD file.now [] faults.now (string_bytes told)) }
 {
     let told = first_of(TOLD, faults);
-    let mut lines = each_explained(alloc, file, contents, whole, told)?;
+    let mut lines = each_explained(alloc, file, text, whole, told)?;
     let more = more_line(alloc, file, "", faults.len().saturating_sub(TOLD))?;
     lines.push_str(&more)?;
     Ok(lines)
@@ -63,16 +59,15 @@ fn explain_first(
 fn each_explained(
     alloc: Global,
     file: &str,
-    contents: &Contents<'_>,
+    text: &str,
     whole: &Value,
     faults: &[PlacedFault],
 ) -> Result<String, Memory>
-    ensures { IfOk result (λ told. string_bytes told
-        ≡ flat_map (spec.explained file.now (text_of contents.now) (view whole.now)) faults.now) }
+    ensures { IfOk result (λ told. TellsEach (spec.Explains file.now text.now (view whole.now)) faults.now (string_bytes told)) }
 {
     let mut lines = String::new(alloc);
     for fault in faults {
-        let told = explained(alloc, file, contents, whole, fault)?;
+        let told = explained(alloc, file, text, whole, fault)?;
         lines.push_str(&told)?;
     }
     Ok(lines)
@@ -82,19 +77,11 @@ fn each_explained(
 fn explained(
     alloc: Global,
     file: &str,
-    contents: &Contents<'_>,
+    text: &str,
     whole: &Value,
     fault: &PlacedFault,
 ) -> Result<String, Memory>
-    ensures { IfOk result (λ told. string_bytes told
-        ≡ spec.explained file.now (text_of contents.now) (view whole.now) fault.now) }
+    ensures { IfOk result (λ told. spec.Explains file.now text.now (view whole.now) fault.now (string_bytes told)) }
 {
-    explain_found(
-        alloc,
-        file,
-        contents,
-        whole,
-        fault.code,
-        fault.place.as_str(),
-    )
+    explain_found(alloc, file, text, whole, fault.code, fault.place.as_str())
 }

@@ -1,13 +1,13 @@
 //! What is told of what a configuration without fault is warned of (own profile).
-ghost use Rattle.std.specs.Prelude.{◌≡◌, ◌-◌, IfOk, OnOk, flat_map, length, string_bytes, take};
+ghost use Rattle.std.specs.Prelude.{◌≡◌, IfOk, codes, string_bytes};
 ghost use Rattle.toml.specs.View.{view};
-ghost use Rattle.config_places.specs.Contents.{text_of};
+ghost use Rattle.explanations.specs.Several.{TellsEach, TellsFirst};
 ghost use Rattle.explanations.specs.Warnings as spec;
+ghost use Rattle.explanations.specs.declared.warnings.TheConstants.{TOLD};
 
 use crate::config::shown_lines;
 use crate::several::{first_of, more_line};
 use crate::standing::with_stand;
-use config_places::Contents;
 use config_text::fault::Code;
 use config_warnings::warning::Warning;
 use cosem_data::memory::Memory;
@@ -62,10 +62,7 @@ pub fn explain_warnings(
         return Ok(String::new(alloc));
     }
     match toml::table_from_str(alloc, text) {
-        Ok(table) => {
-            let contents = Contents::read(alloc, text)?;
-            told_of(alloc, file, &contents, &Value::Table(table), warnings)
-        }
+        Ok(table) => told_of(alloc, file, text, &Value::Table(table), warnings),
         Err(error) if error.is_memory() => Err(Memory),
         Err(_) => Ok(String::new(alloc)),
     }
@@ -75,15 +72,14 @@ pub fn explain_warnings(
 fn told_of(
     alloc: Global,
     file: &str,
-    contents: &Contents<'_>,
+    text: &str,
     whole: &Value,
     warnings: &[Warning],
 ) -> Result<String, Memory>
-    ensures { IfOk result (λ told. string_bytes told
-        ≡ spec.told_of_first file.now (text_of contents.now) (view whole.now) warnings.now) }
+    ensures { IfOk result (λ told. TellsFirst (spec.Warns file.now text.now (view whole.now)) TOLD file.now (codes "warning: ") warnings.now (string_bytes told)) }
 {
     let told = first_of(TOLD, warnings);
-    let mut lines = each_told(alloc, file, contents, whole, told)?;
+    let mut lines = each_told(alloc, file, text, whole, told)?;
     let more = more_line(
         alloc,
         file,
@@ -98,16 +94,15 @@ fn told_of(
 fn each_told(
     alloc: Global,
     file: &str,
-    contents: &Contents<'_>,
+    text: &str,
     whole: &Value,
     warnings: &[Warning],
 ) -> Result<String, Memory>
-    ensures { IfOk result (λ told. string_bytes told
-        ≡ flat_map (spec.told_of file.now (text_of contents.now) (view whole.now)) warnings.now) }
+    ensures { IfOk result (λ told. TellsEach (spec.Warns file.now text.now (view whole.now)) warnings.now (string_bytes told)) }
 {
     let mut lines = String::new(alloc);
     for warning in warnings {
-        let told = warning_told(alloc, file, contents, whole, *warning)?;
+        let told = warning_told(alloc, file, text, whole, *warning)?;
         lines.push_str(&told)?;
     }
     Ok(lines)
@@ -117,15 +112,14 @@ fn each_told(
 fn warning_told(
     alloc: Global,
     file: &str,
-    contents: &Contents<'_>,
+    text: &str,
     whole: &Value,
     warning: Warning,
 ) -> Result<String, Memory>
-    ensures { IfOk result (λ told. string_bytes told
-        ≡ spec.told_of file.now (text_of contents.now) (view whole.now) warning) }
+    ensures { IfOk result (λ told. spec.Warns file.now text.now (view whole.now) warning (string_bytes told)) }
 {
     let path = warning.path(alloc)?;
-    let stand = with_stand(alloc, file, contents, whole, Code::Times, path.as_str())?;
+    let stand = with_stand(alloc, file, text, Code::Times, path.as_str())?;
     warning_lines(alloc, stand.as_str(), path.as_str(), warning.words(), whole)
 }
 

@@ -1,18 +1,17 @@
-use Rattle.std.proofs.Common.{◌∙◌, ◌-◌, ◌++◌, length, [], List, ℕ, ap, string_bytes}
-use Rattle.std.specs.Prelude.{flat_map}
-use Rattle.config_places.specs.Contents.{text_of}
-use Rattle.config_text.specs.Fault.{Fault}
+use Rattle.std.proofs.Common.{◌∙◌, ◌++◌, [], List, ℕ, ap, string_bytes, subst}
 use Rattle.toml.specs.View.{view}
-use Rattle.explanations.specs.Others.{explained}
-use Rattle.explanations.specs.Several.{more_line}
-use Rattle.explanations.specs.declared.others.TheConstants.{TOLD}
+use Rattle.config_text.specs.Fault.{Fault}
+use Rattle.explanations.specs.Others.{Explains}
+use Rattle.explanations.specs.Several.{TellsEach, more_line}
 use Rattle.explanations.proofs.others.explain_first.Goals as goal
 
 pub returns : goal.returns
 returns c =
+    let file = c.args.file.now in
     let shown = string_bytes c.in_ok-lines.lines in
-    let says = explained c.args.file.now (text_of c.args.contents.now) (view c.args.whole.now) in
-    let more = c.in_ok-more.ensures ∙ ap (λ (n : ℕ). more_line c.args.file.now [] n) c.saturating_sub.ensures in
-    c.in_ok-push_str.ensures.bytes
-    ∙ (ap (λ (line : List ℕ). shown ++ line) (c.deref.ensures ∙ more)
-    ∙ ap (λ (front : List ℕ). front ++ more_line c.args.file.now [] (length c.args.faults.now - TOLD)) (c.in_ok-lines.ensures ∙ ap (λ (faults : List Fault). flat_map says faults) c.first_of-told.ensures))
+    let Tells = Explains file c.args.text.now (view c.args.whole.now) in
+    let more = c.in_ok-more.ensures ∙ ap (λ (n : ℕ). more_line file [] n) c.saturating_sub.ensures in (
+      shown,
+      subst (λ (faults : List Fault). TellsEach Tells faults shown) c.first_of-told.ensures c.in_ok-lines.ensures,
+      c.in_ok-push_str.ensures.bytes ∙ ap (λ (line : List ℕ). shown ++ line) (c.deref.ensures ∙ more),
+    )
