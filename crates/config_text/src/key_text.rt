@@ -1,13 +1,13 @@
 //! Keys as they stand in places, so that a terminal gets no control characters by them (own profile).
 
-ghost use Rattle.std.specs.Prelude.{◌≡◌, ◌++◌, ◌<◌, true, IfOk, OnOk, string_bytes};
+ghost use Rattle.std.specs.Prelude.{◌≡◌, ◌++◌, IfOk, OnOk, string_bytes};
 ghost use Rattle.std.specs.Char.{is_control};
-ghost use Rattle.std.specs.Fmt.{digit_glyph};
 ghost use Rattle.std.specs.List.{list_all};
 ghost use Rattle.config_text.specs.KeyText as spec;
 
 use cosem_data::memory::Memory;
 use std::alloc::Global;
+use value_text::digits::hex_digit;
 
 /// Whether a byte is a letter or digit of ASCII, `_` or `-`.
 fn is_bare_byte(byte: u8) -> bool
@@ -28,19 +28,6 @@ fn is_bare(key: &str) -> bool
     ensures { result ≡ spec.is_bare key.now }
 {
     !key.is_empty() && are_bare(key.as_bytes())
-}
-
-/// The hex digit of a number below 16, in upper case.
-fn hex_digit(value: u8) -> u8
-    requires { value < 16 }
-    ensures digit { result ≡ digit_glyph true value }
-    ensures ascii { result < 128 }
-{
-    if value < 10 {
-        b'0' + value
-    } else {
-        b'A' + (value - 10)
-    }
 }
 
 /// Puts a character behind a text that stands between quotation marks. The error is that memory was refused.

@@ -7,28 +7,32 @@ ghost use Rattle.config_warnings.specs.Widths as spec;
 use cosem_data::cell::CellRef;
 use cosem_data::clients::ClientSet;
 use cosem_data::memory::Memory;
-use flow_map::map::FlowMap;
+use flow_map::least::LeastMap;
 use label_certificate::labels::Labels;
 use label_certificate::numbered::labels_or_nobody;
 use meter_theory::flow::Label;
 use std::alloc::Global;
 
 /// Of how many cells of a plan its policy admits clients that the least labels don't.
-pub fn wider_by_policy(map: &FlowMap<'_>) -> usize
-    ensures { result ≡ spec.wider_cells (labelling_of_policy map.now.plan map.now.policy) map.now.labels }
+pub fn wider_by_policy(least: &LeastMap<'_>) -> usize
+    ensures { result ≡ spec.wider_cells (labelling_of_policy least.now.plan least.now.policy) least.now.labels }
 {
-    map.known();
-    count_wider(map.labels().entries(), map.allowed())
+    least.known();
+    count_wider(least.labels().entries(), least.map().allowed())
 }
 
 /// Of how many cells of a plan labels admit clients that the least labels don't. The only error is want of memory.
-pub fn wider_by_labels(alloc: Global, map: &FlowMap<'_>, labels: &Labels) -> Result<usize, Memory>
-    ensures { IfOk result (λ wider. wider ≡ spec.wider_cells (labelling_of labels.now) map.now.labels) }
+pub fn wider_by_labels(
+    alloc: Global,
+    least: &LeastMap<'_>,
+    labels: &Labels,
+) -> Result<usize, Memory>
+    ensures { IfOk result (λ wider. wider ≡ spec.wider_cells (labelling_of labels.now) least.now.labels) }
 {
-    map.known();
-    let found = map.numbered(alloc, labels)?;
+    least.known();
+    let found = least.map().numbered(alloc, labels)?;
     let given = labels_or_nobody(alloc, &found)?;
-    Ok(count_wider(map.labels().entries(), &given))
+    Ok(count_wider(least.labels().entries(), &given))
 }
 
 /// Of how many cells a label, by the number of the cell, admits a client that the least label doesn't.

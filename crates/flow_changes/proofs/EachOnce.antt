@@ -17,12 +17,12 @@ use Rattle.meter_theory.specs.declared.flow.Edge.{Edge}
 use Rattle.meter_theory.proofs.Lists.{from_filter, from_flat_map, from_map, in_append_cases, in_map}
 use Rattle.flow_edges.specs.Table.{AreCells, cell_at}
 use Rattle.flow_changes.specs.Changes.{gained, lacks}
-use Rattle.flow_map.specs.Access.{highest_for}
+use Rattle.meter_theory.specs.Rights.{highest_for}
 use Rattle.flow_changes.specs.Facts.{Fact, HasCell, HasEdge, HasSap, Holds, IsOpen, Numbered, Reaches, Views, common_facts, facts, is_granted, is_reached, members_for, numbered, own_facts, reached, rights_on, shared_policy}
 use Rattle.flow_map.specs.Map.{Configuration}
 use Rattle.flow_changes.proofs.Exact.{same_edge-refl}
-use Rattle.flow_map.specs.declared.access.Access.{Access}
-use Rattle.flow_map.specs.declared.access.Access.TheVariants as accesses
+use Rattle.meter_theory.specs.declared.flow.Access.{Access}
+use Rattle.meter_theory.specs.declared.flow.Access.TheVariants as accesses
 use Rattle.flow_map.specs.declared.kind.Kind.{Kind}
 use Rattle.flow_map.specs.declared.kind.Kind.TheVariants as kinds
 use Rattle.meter_theory.specs.declared.flow.Reach.{Reach}

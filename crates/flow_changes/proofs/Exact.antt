@@ -15,8 +15,8 @@ use Rattle.meter_theory.proofs.Lists.{any_in, from_filter, in_any, in_filter}
 use Rattle.flow_changes.specs.Changes.{gained, lacks}
 use Rattle.flow_changes.specs.Facts.{Fact, HasCell, HasEdge, HasSap, Holds, IsOpen, Reaches, Views, among, facts, same_access, same_fact, same_reach}
 use Rattle.flow_map.specs.Map.{Configuration}
-use Rattle.flow_map.specs.declared.access.Access.{Access}
-use Rattle.flow_map.specs.declared.access.Access.TheVariants as accesses
+use Rattle.meter_theory.specs.declared.flow.Access.{Access}
+use Rattle.meter_theory.specs.declared.flow.Access.TheVariants as accesses
 use Rattle.flow_map.specs.declared.kind.Kind.{Kind}
 use Rattle.meter_theory.specs.declared.flow.Reach.{Reach}
 use Rattle.meter_theory.specs.declared.flow.Reach.TheVariants as reaches

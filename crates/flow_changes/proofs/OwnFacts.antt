@@ -19,8 +19,8 @@ use Rattle.meter_theory.specs.declared.flow.Reach.{Reach}
 use Rattle.meter_theory.specs.declared.flow.Reach.TheVariants as reaches
 use Rattle.meter_theory.proofs.ClientSets.{nobody_in}
 use Rattle.meter_theory.proofs.Lists.{in_any}
-use Rattle.flow_map.specs.declared.access.Access.{Access}
-use Rattle.flow_map.specs.declared.access.Access.TheVariants as accesses
+use Rattle.meter_theory.specs.declared.flow.Access.{Access}
+use Rattle.meter_theory.specs.declared.flow.Access.TheVariants as accesses
 use Rattle.flow_changes.specs.Changes.{lacks}
 use Rattle.flow_changes.specs.Facts.{Fact, HasSap, Holds, IsOpen, Numbered, Reaches, Views, facts, is_granted, is_reached, members_for, numbered, own_facts, reached, rights_on, same_fact, shared_policy, told_of_client}
 use Rattle.flow_map.specs.Map.{Configuration}

@@ -22,8 +22,8 @@ use Rattle.flow_changes.specs.Facts.{Fact, HasSap, Holds, IsOpen, Numbered, Reac
 use Rattle.flow_map.specs.Map.{Configuration}
 use Rattle.meter_theory.specs.Ways.{set_for}
 use Rattle.flow_changes.specs.Promises.{HasReach, IsNamed, LiesWithin, NamedHolds, NamedLabelling, NamedReaches, NamedSees, NobodyGains, least, policy_of}
-use Rattle.flow_map.specs.declared.access.Access.{Access}
-use Rattle.flow_map.specs.declared.access.Access.TheVariants as accesses
+use Rattle.meter_theory.specs.declared.flow.Access.{Access}
+use Rattle.meter_theory.specs.declared.flow.Access.TheVariants as accesses
 use Rattle.flow_map.specs.declared.kind.Kind.{Kind}
 use Rattle.flow_map.specs.declared.kind.Kind.TheVariants as kinds
 use Rattle.meter_theory.specs.declared.flow.Reach.{Reach}

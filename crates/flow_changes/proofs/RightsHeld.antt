@@ -10,8 +10,8 @@ use Rattle.cosem_data.specs.declared.name.LogicalName.{LogicalName}
 use Rattle.meter_theory.specs.Lists.{some_passes}
 use Rattle.meter_theory.specs.Plan.{Plan, class_of, object_at}
 use Rattle.flow_map.specs.Outline.{AtName}
-use Rattle.flow_map.specs.Access as ways
-use Rattle.flow_map.specs.declared.access.Access.{Access}
+use Rattle.meter_theory.specs.Rights as ways
+use Rattle.meter_theory.specs.declared.flow.Access.{Access}
 use Rattle.flow_changes.specs.Singles.{is_held}
 
 -- a right of the client where an object of the class stands

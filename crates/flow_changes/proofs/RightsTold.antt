@@ -14,10 +14,10 @@ use Rattle.meter_theory.specs.Plan.{Object, Part, Plan, Right, Data1, Register, 
 use Rattle.meter_theory.specs.Rights.{has_right, lists}
 use Rattle.meter_theory.specs.Sound.{IsSound, are_indexes, highest_method}
 use Rattle.meter_theory.proofs.Lists.{any_in, in_any, in_map, in_range}
-use Rattle.flow_map.specs.Access.{highest_for, listed_for}
+use Rattle.meter_theory.specs.Rights.{highest_for, listed}
 use Rattle.flow_changes.specs.Facts.{Holds, Numbered, Views, is_granted, members_for, rights_on, same_access, same_fact}
-use Rattle.flow_map.specs.declared.access.Access.{Access}
-use Rattle.flow_map.specs.declared.access.Access.TheVariants as accesses
+use Rattle.meter_theory.specs.declared.flow.Access.{Access}
+use Rattle.meter_theory.specs.declared.flow.Access.TheVariants as accesses
 use Rattle.flow_changes.proofs.Lists.{list_any-agree, list_any-and, list_any-filter, list_any-flat_map, list_any-map}
 use Rattle.flow_changes.proofs.Once.{any-once, objects-once}
 use Rattle.flow_changes.proofs.Told.{any-cell}
@@ -83,11 +83,11 @@ fewer-methods (ScriptTable scripts) = omega arith
 fewer-methods (RegisterMonitor monitored thresholds actions) = omega arith
 fewer-methods (SingleActionSchedule script type times) = omega arith
 
-granted-within : (access : Access) (o : Object) (r : Right) (i : ℕ) → allows r o ≡ true → lists (listed_for access r) i ≡ true → (1 ≤ i) × (i ≤ highest_for access (interface_of o.part))
-granted-within access o r i ok listed = at access (and_parts (are_indexes (interface_of o.part).attributes r.gets) (are_indexes (interface_of o.part).attributes r.sets && are_indexes (highest_method o.part) r.acts) ok) listed
+granted-within : (access : Access) (o : Object) (r : Right) (i : ℕ) → allows r o ≡ true → lists (listed access r) i ≡ true → (1 ≤ i) × (i ≤ highest_for access (interface_of o.part))
+granted-within access o r i ok has = at access (and_parts (are_indexes (interface_of o.part).attributes r.gets) (are_indexes (interface_of o.part).attributes r.sets && are_indexes (highest_method o.part) r.acts) ok) has
   where
     at : (access : Access) → (are_indexes (interface_of o.part).attributes r.gets ≡ true) × ((are_indexes (interface_of o.part).attributes r.sets && are_indexes (highest_method o.part) r.acts) ≡ true) →
-        lists (listed_for access r) i ≡ true → (1 ≤ i) × (i ≤ highest_for access (interface_of o.part))
+        lists (listed access r) i ≡ true → (1 ≤ i) × (i ≤ highest_for access (interface_of o.part))
     at accesses.Get parts l = listed-within (interface_of o.part).attributes r.gets i parts.0 l
     at accesses.Set parts l = listed-within (interface_of o.part).attributes r.sets i (and_parts (are_indexes (interface_of o.part).attributes r.sets) (are_indexes (highest_method o.part) r.acts) parts.1).0 l
     at accesses.Act parts l =
@@ -98,8 +98,8 @@ granted-within access o r i ok listed = at access (and_parts (are_indexes (inter
 granted-member : (P : Plan) → IsSound P → (c : ℕ) (access : Access) (x : CellRef) → is_granted P c access x ≡ true →
     (o : Object) → object_at P x.name ≡ Some o → (1 ≤ x.index) × (x.index ≤ highest_for access (interface_of o.part))
 granted-member P sound c access x granted o there =
-    let r = any_in (λ r. ((r.client == c) && same_name r.object x.name) && lists (listed_for access r) x.index) P.rights granted in
-    let a = and_parts ((r.0.client == c) && same_name r.0.object x.name) (lists (listed_for access r.0) x.index) r.2 in
+    let r = any_in (λ r. ((r.client == c) && same_name r.object x.name) && lists (listed access r) x.index) P.rights granted in
+    let a = and_parts ((r.0.client == c) && same_name r.0.object x.name) (lists (listed access r.0) x.index) r.2 in
     let named = (and_parts (r.0.client == c) (same_name r.0.object x.name) a.0).1 in
     let same : r.0.object ≡ x.name = same_name-true r.0.object x.name named in
     let sound_right = (and_parts _ (some_passes (allows r.0) (object_at P r.0.object)) (sound.rights r.0 r.1)).1 in

@@ -17,11 +17,12 @@ use Rattle.meter_theory.specs.declared.flow.Reach.{Reach}
 use Rattle.meter_theory.specs.declared.flow.Reach.TheVariants as reaches
 use Rattle.value_text.specs.Edges.{edge_text}
 use Rattle.value_text.specs.Texts.{cell_text}
-use Rattle.flow_map.specs.Access as ways
-use Rattle.flow_map.specs.Access.{access_word, highest_for}
-use Rattle.flow_map.specs.Reaches.{reach_word}
-use Rattle.flow_map.specs.declared.access.Access.{Access}
-use Rattle.flow_map.specs.declared.access.Access.TheVariants as accesses
+use Rattle.meter_theory.specs.Rights as ways
+use Rattle.flow_map.specs.FlowWords.{access_word}
+use Rattle.meter_theory.specs.Rights.{highest_for}
+use Rattle.flow_map.specs.FlowWords.{reach_word}
+use Rattle.meter_theory.specs.declared.flow.Access.{Access}
+use Rattle.meter_theory.specs.declared.flow.Access.TheVariants as accesses
 use Rattle.flow_map.specs.Map.{Configuration}
 use Rattle.flow_map.specs.declared.kind.Kind.{Kind}
 use Rattle.flow_map.specs.declared.kind.Kind.TheVariants as kinds

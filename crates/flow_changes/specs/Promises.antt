@@ -8,7 +8,7 @@ use Rattle.meter_theory.specs.Rights.{has_right}
 use Rattle.flow_changes.specs.Changes.{gainers}
 use Rattle.flow_changes.specs.Facts.{Numbered, is_granted, is_reached, numbered}
 use Rattle.flow_map.specs.Map.{Configuration}
-use Rattle.flow_map.specs.declared.access.Access.{Access}
+use Rattle.meter_theory.specs.declared.flow.Access.{Access}
 use Rattle.meter_theory.specs.declared.flow.Reach.{Reach}
 
 -- the first line of the comparison tells so

@@ -11,8 +11,8 @@ use Rattle.meter_theory.specs.Ways.{set_for}
 use Rattle.meter_theory.specs.declared.flow.Label.{Label}
 use Rattle.meter_theory.specs.declared.flow.Reach.{Reach}
 use Rattle.meter_theory.specs.declared.flow.Reach.TheVariants as reaches
-use Rattle.flow_map.specs.declared.access.Access.{Access}
-use Rattle.flow_map.specs.declared.access.Access.TheVariants as accesses
+use Rattle.meter_theory.specs.declared.flow.Access.{Access}
+use Rattle.meter_theory.specs.declared.flow.Access.TheVariants as accesses
 use Rattle.flow_changes.specs.Facts.{Fact, HasSap, Holds, IsOpen, Reaches, Views, is_granted, members_for}
 use Rattle.flow_map.specs.Map.{Configuration}
 use Rattle.flow_map.specs.declared.kind.Kind.{Kind}

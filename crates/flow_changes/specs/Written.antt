@@ -1,5 +1,5 @@
 -- How a comparison is written. All of it is own profile.
-use Rattle.std.specs.Prelude.{◌≡◌, Bool, List, [], ℕ, Option, Some, Result, Ok, Err, map, slice_get}
+use Rattle.std.specs.Prelude.{◌≡◌, Bool, List, [], ℕ, Option, None, Some, Result, Ok, Err, map, slice_get}
 use Rattle.std.specs.Io.KnownBytes.{Appends}
 use Rattle.meter_theory.specs.Labels.{Policy, has}
 use Rattle.meter_theory.specs.Plan.{Client, Plan}
@@ -37,6 +37,11 @@ pub record AreCompared (old new : Configuration) (told : Comparison) : Type 0 wh
 abbrev pub IsComparison : Plan → Policy → Plan → Policy → Comparison → Type 0
 IsComparison old old_policy new new_policy told =
     (C : Configuration) × (D : Configuration) × IsConfiguration old old_policy C × IsConfiguration new new_policy D × AreCompared C D told
+
+-- what is gained and lost against a plan and a policy before, where there are any
+abbrev pub IsComparedWith : Option (Plan × Policy) → Plan → Policy → Option Comparison → Type 0
+IsComparedWith None P Q told = told ≡ None
+IsComparedWith (Some before) P Q told = (changes : Comparison) × (told ≡ Some changes) × IsComparison before.0 before.1 P Q changes
 
 -- of two configurations whose labels are known; all is made before the first byte is written, so that nothing was where memory is refused
 abbrev pub WritesSides : (old new : Configuration) → (before after : Option (List ℕ)) → Result Bool ListFault → Type 0

@@ -19,7 +19,7 @@ use crate::text::{first_line, lines_of, names_of};
 use cosem_data::clients::ClientSet;
 use cosem_data::memory::Memory;
 use flow_map::kind::{Change, KINDS, Kind};
-use flow_map::map::FlowMap;
+use flow_map::least::LeastMap;
 use meter_theory::flow::Label;
 use std::alloc::Global;
 use std::io::Write;
@@ -34,8 +34,8 @@ use whole_writes::{WriteFailed, write_whole};
 /// Memory was refused, and nothing was written; or a write failed, and a beginning of the text was written.
 pub fn write_comparison<W: Write>(
     alloc: Global,
-    old: &FlowMap<'_>,
-    new: &FlowMap<'_>,
+    old: &LeastMap<'_>,
+    new: &LeastMap<'_>,
     writer: &mut W,
 ) -> Result<bool, ListFault>
     ensures { WritesComparison old.now.plan old.now.policy new.now.plan new.now.policy
@@ -73,8 +73,8 @@ pub struct Comparison<'a> {
 /// How a new configuration differs from an old one. The only error is want of memory.
 pub fn compare<'a>(
     alloc: Global,
-    old: &'a FlowMap<'a>,
-    new: &'a FlowMap<'a>,
+    old: &'a LeastMap<'a>,
+    new: &'a LeastMap<'a>,
 ) -> Result<Comparison<'a>, Memory>
     ensures { IfOk result (AreCompared old.now new.now) }
 {
@@ -93,8 +93,8 @@ pub fn compare<'a>(
 /// Writes how two sides differ, and tells whether somebody gains. All is made before the first byte is written.
 fn write_sides<'a, W: Write>(
     alloc: Global,
-    old: &'a FlowMap<'a>,
-    new: &'a FlowMap<'a>,
+    old: &'a LeastMap<'a>,
+    new: &'a LeastMap<'a>,
     writer: &mut W,
 ) -> Result<bool, ListFault>
     ensures { WritesSides old.now new.now
@@ -102,7 +102,7 @@ fn write_sides<'a, W: Write>(
 {
     let mut kinds = Vec::new(alloc);
     let gaining = push_kinds(alloc, old, new, &mut kinds)?;
-    let names = names_of(alloc, new.plan(), gaining)?;
+    let names = names_of(alloc, new.map().plan(), gaining)?;
     let first = first_line(alloc, &names)?;
     let lines = lines_of(alloc, &kinds)?;
     write_both(&first, lines.as_bytes(), writer)?;
@@ -127,8 +127,8 @@ fn write_both<W: Write>(first: &[u8], second: &[u8], writer: &mut W) -> Result<(
 /// Puts what is gained and lost of each kind behind other kinds, and gives the clients of the new side that gain.
 fn push_kinds<'a>(
     alloc: Global,
-    old: &'a FlowMap<'a>,
-    new: &'a FlowMap<'a>,
+    old: &'a LeastMap<'a>,
+    new: &'a LeastMap<'a>,
     kinds: &mut Vec<KindFacts<'a>>,
 ) -> Result<ClientSet, Memory>
     ensures kinds { OnOk result (map kind_shown kinds.new.items ≡ map kind_shown kinds.old.items
@@ -153,8 +153,8 @@ fn push_kinds<'a>(
 fn push_facts<'a>(
     alloc: Global,
     kind: Kind,
-    mine: &'a FlowMap<'a>,
-    theirs: &'a FlowMap<'a>,
+    mine: &'a LeastMap<'a>,
+    theirs: &'a LeastMap<'a>,
     facts: &mut Vec<Fact<'a>>,
 ) -> Result<ClientSet, Memory>
     ensures facts { OnOk result (map shown facts.new.items ≡ map shown facts.old.items
@@ -172,8 +172,8 @@ fn push_facts<'a>(
 fn push_common(
     alloc: Global,
     kind: Kind,
-    mine: &FlowMap<'_>,
-    theirs: &FlowMap<'_>,
+    mine: &LeastMap<'_>,
+    theirs: &LeastMap<'_>,
     facts: &mut Vec<Fact<'_>>,
 ) -> Result<(), Memory>
     ensures { let C = mine.now in let D = theirs.now in
@@ -181,8 +181,17 @@ fn push_common(
         ++ filter (changes.lacks D C kind) (common_facts C kind)) }
 {
     match kind {
-        Kind::Cell => push_cells(mine.cells(), theirs.plan(), facts),
-        Kind::Edge => push_edges(alloc, mine.table(), theirs.plan(), theirs.table(), facts),
+        Kind::Cell => push_cells(mine.map().cells(), theirs.map().plan(), facts),
+        Kind::Edge => {
+            let theirs = theirs.map();
+            push_edges(
+                alloc,
+                mine.map().table(),
+                theirs.plan(),
+                theirs.table(),
+                facts,
+            )
+        }
         _ => Ok(()),
     }
 }

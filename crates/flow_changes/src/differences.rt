@@ -10,7 +10,7 @@ use crate::reaches::{is_new, is_old};
 use cosem_data::clients::ClientSet;
 use cosem_data::memory::Memory;
 use flow_map::kind::{Change, Kind};
-use flow_map::map::FlowMap;
+use flow_map::least::LeastMap;
 use flow_map::outline::Outline;
 use meter_theory::flow::{Label, Reach};
 use meter_theory::limits::CLIENTS;
@@ -21,15 +21,15 @@ use std::alloc::Global;
 pub(crate) fn reach_changes(
     alloc: Global,
     change: Change,
-    old: &FlowMap<'_>,
-    new: &FlowMap<'_>,
+    old: &LeastMap<'_>,
+    new: &LeastMap<'_>,
 ) -> Result<Vec<Label>, Memory>
     ensures { IfOk result (λ labels. spec.AreReachChanges change
         old.now new.now labels.items) }
 {
-    new.known();
+    new.map().known();
     let pairs = pairs_for(alloc, Kind::May, new, old)?;
-    let others = namesakes(alloc, new.plan(), old.plan())?;
+    let others = namesakes(alloc, new.map().plan(), old.map().plan())?;
     let mut labels = Vec::with_capacity(alloc, pairs.len())?;
     for pair in &pairs {
         labels.push(label_changed(change, &others, pair))?;

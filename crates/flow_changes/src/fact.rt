@@ -1,9 +1,8 @@
 //! What is told of a configuration, fact by fact.
 use cosem_data::cell::CellRef;
 use cosem_data::name::LogicalName;
-use flow_map::access::Access;
-use flow_map::reach_words::reach_word;
-use meter_theory::flow::{Edge, Reach};
+use flow_map::words::{access_word, reach_word};
+use meter_theory::flow::{Access, Edge, Reach};
 use std::fmt;
 use value_text::cell::CellText;
 use value_text::edge::EdgeText;
@@ -68,7 +67,7 @@ impl fmt::Display for Fact<'_> {
                 client,
                 access,
                 member,
-            } => write!(f, "{client} {} {}", access.word(), CellText(member)),
+            } => write!(f, "{client} {} {}", access_word(access), CellText(member)),
             Fact::HasSap { client, sap } => write!(f, "{client} sap {sap}"),
             Fact::IsOpen { client } => write!(f, "{client} open"),
             Fact::HasCell(cell) => write!(f, "{}", CellText(cell)),

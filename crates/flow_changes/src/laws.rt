@@ -9,7 +9,7 @@ ghost use Rattle.flow_changes.specs.Changes.{gained};
 ghost use Rattle.flow_map.specs.Map.{Configuration};
 ghost use Rattle.flow_changes.specs.Facts.{Fact, Numbered, facts, is_granted, members_for, numbered};
 ghost use Rattle.flow_changes.specs.Promises.{HasReach, IsNamed, LiesWithin, NamedHolds, NamedLabelling, NamedReaches, NamedSees, NobodyGains, least, policy_of};
-ghost use Rattle.flow_map.specs.declared.access.Access.{Access};
+ghost use Rattle.meter_theory.specs.declared.flow.Access.{Access};
 ghost use Rattle.flow_map.specs.declared.kind.Kind.{Kind};
 ghost use Rattle.meter_theory.specs.declared.flow.Reach.{Reach};
 

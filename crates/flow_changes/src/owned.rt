@@ -17,7 +17,7 @@ use crate::rights::push_rights;
 use cosem_data::clients::ClientSet;
 use cosem_data::memory::Memory;
 use flow_map::kind::Kind;
-use flow_map::map::FlowMap;
+use flow_map::least::LeastMap;
 use flow_map::outline::{ClientOutline, Outline};
 use std::alloc::Global;
 
@@ -26,8 +26,8 @@ use std::alloc::Global;
 pub(crate) fn push_owned<'a>(
     alloc: Global,
     kind: Kind,
-    mine: &'a FlowMap<'a>,
-    theirs: &'a FlowMap<'a>,
+    mine: &'a LeastMap<'a>,
+    theirs: &'a LeastMap<'a>,
     facts: &mut Vec<Fact<'a>>,
 ) -> Result<ClientSet, Memory>
     ensures facts { let C = mine.now in let D = theirs.now in
@@ -37,8 +37,8 @@ pub(crate) fn push_owned<'a>(
         IfOk result (λ set. (c : ℕ) (client : ClientValue) → slice_get C.plan.clients c ≡ Some client →
         has set c ≡ list_any (lacks D C kind) (own_facts C D kind (c, client))) }
 {
-    mine.known();
-    let plan = mine.plan();
+    mine.map().known();
+    let plan = mine.map().plan();
     let pairs = pairs_for(alloc, kind, mine, theirs)?;
     let sides = Sides {
         kind,
@@ -63,29 +63,23 @@ pub(crate) fn push_owned<'a>(
 pub(crate) fn pairs_for(
     alloc: Global,
     kind: Kind,
-    mine: &FlowMap<'_>,
-    theirs: &FlowMap<'_>,
+    mine: &LeastMap<'_>,
+    theirs: &LeastMap<'_>,
 ) -> Result<Vec<Pair>, Memory>
     ensures { IfOk result (λ pairs.
         ArePairs kind (mine.now) (theirs.now) pairs.items) }
 {
-    let cells = mine.cells();
+    let cells = mine.map().cells();
+    let plan = theirs.map().plan();
     match kind {
-        Kind::May => pairs_of(
-            alloc,
-            kind,
-            cells,
-            mine.least(),
-            theirs.plan(),
-            theirs.least(),
-        ),
+        Kind::May => pairs_of(alloc, kind, cells, mine.reached(), plan, theirs.reached()),
         Kind::Allowed => pairs_of(
             alloc,
             kind,
             cells,
-            mine.allowed(),
-            theirs.plan(),
-            theirs.allowed(),
+            mine.map().allowed(),
+            plan,
+            theirs.map().allowed(),
         ),
         _ => Ok(Vec::new(alloc)),
     }
@@ -95,8 +89,8 @@ pub(crate) fn pairs_for(
 #[derive(Clone, Copy, Drop)]
 struct Sides<'a, 'b> {
     kind: Kind,
-    mine: &'a FlowMap<'a>,
-    theirs: &'a FlowMap<'a>,
+    mine: &'a LeastMap<'a>,
+    theirs: &'a LeastMap<'a>,
     pairs: &'b [Pair],
 }
 
@@ -119,19 +113,20 @@ fn push_own<'a>(
         theirs,
         pairs,
     } = *sides;
-    theirs.known();
+    theirs.map().known();
+    let other_plan = theirs.map().plan();
     let who = Namesakes {
         name: client.name_text(),
-        plan: mine.plan(),
+        plan: mine.map().plan(),
         client: place,
-        other_plan: theirs.plan(),
-        other: theirs.plan().client_named(client.name()),
+        other_plan,
+        other: other_plan.client_named(client.name()),
     };
     match kind {
-        Kind::May => push_reaches(&who, mine.cells(), pairs, facts),
-        Kind::Allowed => push_reaches(&who, mine.cells(), pairs, facts),
+        Kind::May => push_reaches(&who, mine.map().cells(), pairs, facts),
+        Kind::Allowed => push_reaches(&who, mine.map().cells(), pairs, facts),
         Kind::Right => push_rights(&who, facts),
-        Kind::Client => push_client(client, client_at(theirs.plan(), who.other), facts),
+        Kind::Client => push_client(client, client_at(other_plan, who.other), facts),
         Kind::Cell | Kind::Edge => Ok(()),
     }
 }

@@ -11,8 +11,8 @@ use crate::namesakes::Namesakes;
 use cosem_data::cell::CellRef;
 use cosem_data::memory::Memory;
 use cosem_data::name::LogicalName;
-use flow_map::access::Access;
 use flow_map::outline::{ObjectOutline, Outline, RightsAt};
+use meter_theory::flow::Access;
 
 /// Puts a fact behind others for each right of a client that the other, if it is one, lacks, object by object.
 pub(crate) fn push_rights<'a>(who: &Namesakes<'a>, facts: &mut Vec<Fact<'a>>) -> Result<(), Memory>

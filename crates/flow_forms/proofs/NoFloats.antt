@@ -9,10 +9,10 @@ use Rattle.meter_theory.specs.declared.flow.Reach.TheVariants.{Influence, Learn}
 use Rattle.value_text.specs.Texts.{cell_text}
 use Rattle.serde_json.specs.Data.{string}
 use Rattle.serde_json.specs.Written.{has_float}
-use Rattle.flow_map.specs.Access.{highest_for}
+use Rattle.meter_theory.specs.Rights.{highest_for}
 use Rattle.flow_ways.specs.Found.{Distances}
-use Rattle.flow_map.specs.declared.access.Access.{Access}
-use Rattle.flow_map.specs.declared.access.Access.TheVariants.{Get, Set, Act}
+use Rattle.meter_theory.specs.declared.flow.Access.{Access}
+use Rattle.meter_theory.specs.declared.flow.Access.TheVariants.{Get, Set, Act}
 use Rattle.flow_forms.specs.Json as spec
 use Rattle.flow_forms.specs.Rights.{Head, Rights}
 use Rattle.flow_forms.proofs.Values.{NoFloatMembers, no-float-array, no-float-object, no-floats-flat, no-floats-if, no-floats-map, no-floats-members}

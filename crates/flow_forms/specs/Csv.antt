@@ -16,7 +16,7 @@ use Rattle.meter_theory.specs.declared.flow.Reach.{Reach}
 use Rattle.meter_theory.specs.declared.flow.Reach.TheVariants.{Influence, Learn}
 use Rattle.value_text.specs.Texts.{cell_text}
 use Rattle.flow_ways.specs.Found.{AreDistancesOf, Distances}
-use Rattle.flow_map.specs.Reaches.{reach_word}
+use Rattle.flow_map.specs.FlowWords.{reach_word}
 
 abbrev pub yes_or_no : Bool → List ℕ
 yes_or_no true = codes "yes"

@@ -1,14 +1,12 @@
 -- The report as a page for a browser. All of it is own profile. It is a function of what a page shows of a plan (`IsPageOf`) and of the edges between
--- the rows of its matrix, so that no password and no value can be in it.
+-- the rows of its matrix.
 use Rattle.std.specs.Prelude.{ℕ, List, [], ◌∷◌, None, Option, Some, flat_map, map}
 use Rattle.cosem_data.specs.declared.cell.CellRef.{CellRef}
 use Rattle.label_certificate.specs.LabelText.{cell_place}
 use Rattle.meter_theory.specs.Labels.{Policy}
 use Rattle.meter_theory.specs.Plan.{Plan}
-use Rattle.flow_changes.specs.Written.{IsComparison}
 use Rattle.flow_changes.specs.declared.compare.Comparison.{Comparison}
 use Rattle.flow_picture.specs.Picture.{IsPictureOf}
-use Rattle.flow_map.specs.Map.{Configuration}
 use Rattle.flow_page.specs.Page.{IsPageText}
 use Rattle.flow_page.specs.declared.matrix.MatrixRow.{MatrixRow}
 use Rattle.flow_page.specs.declared.page.Page.{Page}
@@ -30,20 +28,10 @@ numbers_in P xs = flat_map (λ x. listed (cell_place P x)) xs
 abbrev pub numbers_of : Plan → List MatrixRow → List (List ℕ)
 numbers_of P rows = map (λ row. numbers_in P row.cells.items) rows
 
--- a plan and a policy
-abbrev pub configuration_of : Configuration → Plan × Policy
-configuration_of C = (C.plan, C.policy)
-
--- what a page shows of a plan and a policy under this heading, compared with those before where these are given
-abbrev pub IsPageAgainst : Plan → Policy → (before : Option (Plan × Policy)) → Heading → Page → Type 0
-IsPageAgainst P Q None heading page = IsPageOf P Q None heading page
-IsPageAgainst P Q (Some before) heading page =
-    (told : Comparison) × IsComparison before.0 before.1 P Q told × IsPageOf P Q (Some told) heading page
-
--- the text of that page, with the picture of the edges between its rows
-pub record IsHtml (P : Plan) (Q : Policy) (before : Option (Plan × Policy)) (heading : Heading) (text : List ℕ) : Type 0 where
+-- the text of the page of a plan and a policy, with what has changed where that is known, and with the picture of the edges between its rows
+pub record IsHtml (P : Plan) (Q : Policy) (changes : Option Comparison) (heading : Heading) (text : List ℕ) : Type 0 where
   pub page : Page
-  pub page_is : IsPageAgainst P Q before heading page
+  pub page_is : IsPageOf P Q changes heading page
   pub picture : Picture
   pub picture_is : IsPictureOf P (numbers_of P page.rows.items) picture
   pub drawn : List ℕ

@@ -17,11 +17,12 @@ use Rattle.serde_json.specs.Data.{Data, Members, array, no_members, number, obje
 use Rattle.serde_json.specs.View.{items_of}
 use Rattle.serde_json.specs.Written.{compact_text}
 use Rattle.value_text.specs.Texts.{cell_text}
-use Rattle.flow_map.specs.Access.{access_word, highest_for}
+use Rattle.flow_map.specs.FlowWords.{access_word}
+use Rattle.meter_theory.specs.Rights.{highest_for}
 use Rattle.flow_ways.specs.Found.{AreDistancesOf, Distances}
-use Rattle.flow_map.specs.Reaches.{reach_word}
-use Rattle.flow_map.specs.declared.access.Access.{Access}
-use Rattle.flow_map.specs.declared.access.Access.TheVariants.{Get, Set, Act}
+use Rattle.flow_map.specs.FlowWords.{reach_word}
+use Rattle.meter_theory.specs.declared.flow.Access.{Access}
+use Rattle.meter_theory.specs.declared.flow.Access.TheVariants.{Get, Set, Act}
 use Rattle.flow_forms.specs.Csv.{client_names}
 use Rattle.flow_forms.specs.Rights.{Head, Rights, heads_of, rights_of}
 

@@ -5,8 +5,8 @@ use Rattle.cosem_data.specs.declared.name.LogicalName.{LogicalName}
 use Rattle.meter_theory.specs.Plan.{Object, Plan, interface_of}
 use Rattle.meter_theory.specs.Rights.{in_view}
 use Rattle.meter_theory.specs.declared.refs.Interface.{Interface}
-use Rattle.flow_map.specs.Access.{is_granted}
-use Rattle.flow_map.specs.declared.access.Access.{Access}
+use Rattle.meter_theory.specs.Rights.{is_granted}
+use Rattle.meter_theory.specs.declared.flow.Access.{Access}
 
 -- an object: its logical name and its interface class
 pub record Head : Type 0 where

@@ -11,7 +11,7 @@ ghost use Rattle.flow_forms.specs.Csv.{AreWritten, IsBetween, IsCsv, client_name
 use cosem_data::cell::CellRef;
 use cosem_data::memory::Memory;
 use csv::{Writer, WriterBuilder};
-use flow_map::reach_words::reach_word;
+use flow_map::words::reach_word;
 use flow_ways::ways::Ways;
 use label_certificate::label_sets::set_for;
 use meter_theory::flow::{Label, Reach};

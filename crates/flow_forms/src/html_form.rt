@@ -1,15 +1,13 @@
 //! The report as a page for a browser.
 ghost use Rattle.std.specs.Prelude.{◌≡◌, ◌++◌, IfOk, OnOk, flat_map, map, option_map, string_bytes};
 ghost use Rattle.label_certificate.specs.LabelText.{cell_place};
-ghost use Rattle.flow_forms.specs.Html.{IsHtml, IsPageAgainst, configuration_of, listed, numbers_in, numbers_of};
+ghost use Rattle.flow_forms.specs.Html.{IsHtml, listed, numbers_in, numbers_of};
 
 use cosem_data::cell::CellRef;
 use cosem_data::memory::Memory;
-use flow_changes::compare::compare;
-use flow_map::map::FlowMap;
+use flow_changes::compare::Comparison;
 use flow_map::outline::Outline;
 use flow_page::matrix::MatrixRow;
-use flow_page::page::Page;
 use flow_page::page_text::page_text;
 use flow_page::view::page::{Heading, page_of};
 use flow_picture::drawing::picture::picture_of;
@@ -17,44 +15,24 @@ use flow_picture::svg::picture_text;
 use flow_ways::ways::Ways;
 use std::alloc::Global;
 
-/// The report of a plan's ways and a policy as a page for a browser, under this heading, and with what has changed where a
-/// configuration before is given: whole in itself, the same bytes for the same configurations (own profile).
+/// The report of a plan's ways and a policy as a page for a browser, under this heading, and with what has changed against the
+/// configuration before where that is known: whole in itself, the same bytes for the same configurations (own profile).
 ///
 /// # Errors
 /// Memory was refused.
 pub fn html_text(
     alloc: Global,
     ways: &Ways<'_>,
-    before: Option<&FlowMap<'_>>,
+    changes: Option<&Comparison<'_>>,
     heading: Heading,
 ) -> Result<String, Memory>
-    ensures { IfOk result (λ text. IsHtml ways.now.plan ways.now.policy (option_map (λ map. configuration_of map.now) before.entry) heading (string_bytes text)) }
+    ensures { IfOk result (λ text. IsHtml ways.now.plan ways.now.policy (option_map (λ c. c.now) changes.entry) heading (string_bytes text)) }
 {
-    let page = page_against(alloc, ways, before, heading)?;
+    let page = page_of(alloc, ways, heading, changes)?;
     let groups = groups_of(alloc, ways.plan(), &page.rows)?;
     let picture = picture_of(alloc, ways, &groups)?;
     let drawn = picture_text(alloc, &picture)?;
     page_text(alloc, &page, drawn.as_str())
-}
-
-/// What a page shows of a plan's ways and a policy, compared with the configuration before where that is given.
-fn page_against(
-    alloc: Global,
-    ways: &Ways<'_>,
-    before: Option<&FlowMap<'_>>,
-    heading: Heading,
-) -> Result<Page, Memory>
-    ensures { IfOk result (IsPageAgainst ways.now.plan ways.now.policy (option_map (λ map. configuration_of map.now) before.entry) heading) }
-{
-    match before {
-        Some(before) => {
-            let told = compare(alloc, before, ways.map())?;
-            before.known();
-            ways.map().known();
-            page_of(alloc, ways, heading, Some(&told))
-        }
-        None => page_of(alloc, ways, heading, None),
-    }
 }
 
 /// The numbers of the cells of each row.

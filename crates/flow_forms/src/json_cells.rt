@@ -15,7 +15,7 @@ use cosem_data::cell::CellRef;
 use cosem_data::clients::ClientSet;
 use cosem_data::memory::Memory;
 use flow_map::outline::Outline;
-use flow_map::reach_words::reach_word;
+use flow_map::words::reach_word;
 use flow_ways::ways::Ways;
 use label_certificate::label_sets::set_for;
 use meter_theory::flow::{Label, Reach};

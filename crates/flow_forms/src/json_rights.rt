@@ -9,8 +9,9 @@ ghost use Rattle.flow_forms.specs.Rights.{head_of, heads_of, rights_of};
 
 use crate::json_values::{client_name, push_text, push_value, put_member, put_text};
 use cosem_data::memory::Memory;
-use flow_map::access::Access;
 use flow_map::outline::{ObjectOutline, Outline, RightsAt};
+use flow_map::words::access_word;
+use meter_theory::flow::Access;
 use serde_json::{Map, Value};
 use std::alloc::Global;
 
@@ -141,7 +142,7 @@ fn put_indexes(
         (spec.indexes_member (rights_of plan.now) client (head_of object.now) access ∷ [])) }
 {
     let value = indexes_value(alloc, plan, client, object, access)?;
-    put_member(alloc, access.word(), value, members)
+    put_member(alloc, access_word(access), value, members)
 }
 
 /// The indexes at which rights allow a client to do something with an object.

@@ -1,7 +1,7 @@
 //! The list of a plan's least labels.
 ghost use Rattle.flow_forms.specs.Listing.{WritesLeast};
 
-use flow_map::map::FlowMap;
+use flow_map::least::LeastMap;
 use std::alloc::Global;
 use std::io::Write;
 use whole_writes::fault::ListFault;
@@ -14,13 +14,13 @@ use whole_writes::write_whole;
 /// Memory was refused, and nothing was written; or a write failed, and a beginning of the list was written.
 pub fn write_least_labels<W: Write>(
     alloc: Global,
-    map: &FlowMap<'_>,
+    least: &LeastMap<'_>,
     writer: &mut W,
 ) -> Result<(), ListFault>
-    ensures { WritesLeast map.now.plan (W.contents writer.old) (W.contents writer.new) result }
+    ensures { WritesLeast least.now.plan (W.contents writer.old) (W.contents writer.new) result }
 {
-    map.known();
-    let text = map.labels_text(alloc)?;
+    least.known();
+    let text = least.labels_text(alloc)?;
     write_whole(writer, &text)?;
     Ok(())
 }

@@ -1,8 +1,7 @@
 pub mod ClassWords
 pub mod Kinds
-pub mod Reaches
+pub mod FlowWords
 pub mod Requests
-pub mod Access
 pub mod Map
 pub mod Grouping
 pub mod Outline

@@ -8,6 +8,18 @@ use Rattle.meter_theory.specs.declared.flow.Label.{Label}
 use Rattle.flow_edges.specs.Table.{CellEdges}
 use Rattle.label_certificate.specs.Granted.{AreGranted}
 
+-- a plan and its policy
+pub record Mapped : Type 0 where
+  pub plan : Plan
+  pub policy : Policy
+
+-- Of a plan and its policy: the plan is sound; its edges; and for each cell whom rights grant it, and whom the policy allows it.
+pub record AreFactsOf (M : Mapped) (table : CellEdges) (granted allowed : List Label) : Type 0 where
+  pub sound : IsSound M.plan
+  pub tabled : table ≡ record { cells = cells M.plan; edges = edges M.plan }
+  pub granted_are : AreGranted M.plan granted
+  pub allowed_are : allowed ≡ map (labelling_of_policy M.plan M.policy) (cells M.plan)
+
 -- a configuration, with the least labels of its plan
 pub record Configuration : Type 0 where
   pub plan : Plan
@@ -19,12 +31,7 @@ pub record AreLeastOf (P : Plan) (labels : Labels) : Type 0 where
   pub least : AreLeast P labels
   pub cells_are : map (λ entry. entry.0) labels ≡ cells P
 
--- Of a configuration: its plan is sound and its labels are the least; its edges; and for each cell whom rights grant it, whom the policy
--- allows it, and who may reach it by the labels.
-pub record AreFactsOf (C : Configuration) (table : CellEdges) (granted allowed least : List Label) : Type 0 where
-  pub sound : IsSound C.plan
-  pub least_are : AreLeastOf C.plan C.labels
-  pub tabled : table ≡ record { cells = cells C.plan; edges = edges C.plan }
-  pub granted_are : AreGranted C.plan granted
-  pub allowed_are : allowed ≡ map (labelling_of_policy C.plan C.policy) (cells C.plan)
-  pub reached_are : least ≡ map (labelling_of C.labels) (cells C.plan)
+-- those, and for each cell who may reach it by them
+pub record AreReached (P : Plan) (labels : Labels) (reached : List Label) : Type 0 where
+  pub least_are : AreLeastOf P labels
+  pub reached_are : reached ≡ map (labelling_of labels) (cells P)

@@ -1,15 +1,13 @@
 //! What is known of the flow of a configuration, made once for all who ask.
 ghost use Rattle.std.specs.Prelude.{◌≡◌, ◌<◌, IfOk, length, map};
 ghost use Rattle.meter_theory.specs.Edges.{edges};
-ghost use Rattle.meter_theory.specs.Labels.{has, label_at, labelling_of, labelling_of_policy};
+ghost use Rattle.meter_theory.specs.Labels.{has, label_at, labelling_of_policy};
 ghost use Rattle.meter_theory.specs.Plan as theory;
 ghost use Rattle.meter_theory.specs.Sound.{IsSound};
 ghost use Rattle.meter_theory.specs.Ways.{set_for};
 ghost use Rattle.flow_edges.specs.Table.{AreCells, AreWithin, cell_at, edge_at};
 ghost use Rattle.label_certificate.specs.Granted.{AreGranted};
 ghost use Rattle.flow_map.specs.Granting.{shown_request};
-ghost use Rattle.flow_map.specs.Map.{AreLeastOf};
-ghost use Rattle.label_certificate.specs.LabelText.{text_of_labels};
 
 use crate::granting::shown_request;
 use crate::outline::Outline;
@@ -21,18 +19,15 @@ use flow_edges::table::{EdgeTable, Link, edges_between};
 use label_certificate::granted::granted_to_cells;
 use label_certificate::label_sets::set_for;
 use label_certificate::labels::Labels;
-use label_certificate::least::least_labels;
-use label_certificate::numbered::{labels_by_number, labels_or_nobody, policy_labels};
-use label_certificate::writing::write_labels;
+use label_certificate::numbered::{labels_by_number, policy_labels};
 use meter_theory::flow::{Edge, Label, Reach};
 use object_model::plan::Plan;
 use object_model::policy::Policy;
 use std::alloc::Global;
 use std::marker::Model;
 
-/// What is known of the flow of a plan and its policy: the cells, the edges between them, and for each cell whom rights grant it,
-/// whom the policy allows it, and who may reach it by the least labels. Cells go by their numbers in plan order. Contracts see
-/// the plan, the policy and the least labels.
+/// What is known of the flow of a plan and its policy: the cells, the edges between them, and for each cell whom rights grant it
+/// and whom the policy allows it. Cells go by their numbers in plan order. Contracts see the plan and the policy.
 #[derive(Drop)]
 pub struct FlowMap<'a> {
     outline: Outline<'a>,
@@ -40,23 +35,20 @@ pub struct FlowMap<'a> {
     table: EdgeTable,
     granted: Vec<Label>,
     allowed: Vec<Label>,
-    labels: Labels,
-    least: Vec<Label>,
 }
 
 impl<'a> Model for FlowMap<'a> {
     ghost use Rattle.std.specs.Coded.{codes};
     ghost use Rattle.meter_theory.specs.PlanCode.{plan_code};
-    ghost use Rattle.flow_map.specs.Map.{AreFactsOf, Configuration};
+    ghost use Rattle.flow_map.specs.Map.{AreFactsOf, Mapped};
 
-    ghost Value = { Configuration };
+    ghost Value = { Mapped };
 
     ghost coded = { Prim.hlevel (codes, plan_code) };
 
-    ghost view = { λ m. record { plan = m.outline; policy = m.policy.now; labels = m.labels } };
+    ghost view = { λ m. record { plan = m.outline; policy = m.policy.now } };
 
-    ghost invariant = { λ m. AreFactsOf (record { plan = m.outline; policy = m.policy.now; labels = m.labels })
-        m.table m.granted.items m.allowed.items m.least.items };
+    ghost invariant = { λ m. AreFactsOf (record { plan = m.outline; policy = m.policy.now }) m.table m.granted.items m.allowed.items };
 }
 
 impl<'a> FlowMap<'a> {
@@ -64,15 +56,11 @@ impl<'a> FlowMap<'a> {
     pub fn new(alloc: Global, plan: &'a Plan, policy: &'a Policy) -> Result<Self, Memory>
         ensures plan { IfOk result (λ map. map.plan ≡ plan.now) }
         ensures policy { IfOk result (λ map. map.policy ≡ policy.now) }
-        ensures least { IfOk result (λ map. AreLeastOf plan.now map.labels) }
     {
         plan.known();
         let outline = Outline::new(alloc, plan)?;
         let table = edge_table(alloc, plan)?;
         let granted = granted_to_cells(alloc, plan, table.cells())?;
-        let labels = least_labels(alloc, plan, &table, &granted)?;
-        let found = labels_by_number(alloc, plan, table.cells().len(), labels.entries())?;
-        let least = labels_or_nobody(alloc, &found)?;
         let allowed = policy_labels(alloc, plan, table.cells(), policy)?;
         Ok(FlowMap {
             outline,
@@ -80,15 +68,12 @@ impl<'a> FlowMap<'a> {
             table,
             granted,
             allowed,
-            labels,
-            least,
         })
     }
 
-    /// What the type keeps, for callers: the plan is sound, its labels are the least, and its cells are few and apart.
+    /// What the type keeps, for callers: the plan is sound, and its cells are few and apart.
     pub fn known(&self)
         ensures sound { IsSound self.now.plan }
-        ensures least { AreLeastOf self.now.plan self.now.labels }
         ensures cells { AreCells (theory.cells self.now.plan) }
     {
         self.table.known();
@@ -177,13 +162,6 @@ impl<'a> FlowMap<'a> {
         self.allowed
     }
 
-    /// For each cell the clients that may reach it by the least labels.
-    pub fn least(&self) -> &[Label]
-        ensures { result.now ≡ map (labelling_of self.now.labels) (theory.cells self.now.plan) }
-    {
-        &self.least
-    }
-
     /// For each cell the label of its first entry in labels, if it has one. The only error is want of memory.
     pub fn numbered(&self, alloc: Global, labels: &Labels) -> Result<Vec<Option<Label>>, Memory>
         ensures { IfOk result (λ found. found.items ≡ map (label_at labels.now) (theory.cells self.now.plan)) }
@@ -194,19 +172,5 @@ impl<'a> FlowMap<'a> {
             self.cells().len(),
             labels.entries(),
         )
-    }
-
-    /// The text of the least labels, in the form in which labels are read. The only error is want of memory.
-    pub fn labels_text(&self, alloc: Global) -> Result<Vec<u8>, Memory>
-        ensures { IfOk result (λ text. text.items ≡ text_of_labels self.now.plan self.now.labels) }
-    {
-        write_labels(alloc, self.outline.plan(), &self.labels)
-    }
-
-    /// The least labels.
-    pub fn labels(&self) -> &Labels
-        ensures { result.now ≡ self.now.labels }
-    {
-        &self.labels
     }
 }

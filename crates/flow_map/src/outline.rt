@@ -5,14 +5,13 @@ ghost use Rattle.std.specs.List.{position_from};
 ghost use Rattle.cosem_data.specs.Cells.{same_cell};
 ghost use Rattle.meter_theory.specs.Lists.{some_passes};
 ghost use Rattle.meter_theory.specs.Plan.{cells, class_of, client_named, interface_of, is_cell, object_at};
-ghost use Rattle.meter_theory.specs.Rights.{has_right, in_view};
+ghost use Rattle.meter_theory.specs.Rights.{has_right, in_view, is_granted};
 ghost use Rattle.meter_theory.specs.Sound.{IsSound};
-ghost use Rattle.flow_map.specs.Access.{is_granted};
 
-use crate::access::Access;
 use cosem_data::cell::CellRef;
 use cosem_data::memory::Memory;
 use cosem_data::name::LogicalName;
+use meter_theory::flow::Access;
 use meter_theory::refs::Interface;
 use object_model::client::Client;
 use object_model::instance::Instance;
@@ -261,11 +260,7 @@ impl RightsAt<'_> {
     pub fn is_granted(&self, access: Access, client: u8, index: u8) -> bool
         ensures { result ≡ is_granted self.now.plan client access self.now.name index }
     {
-        match access {
-            Access::Get => self.instance.may_get(client, index),
-            Access::Set => self.instance.may_set(client, index),
-            Access::Act => self.instance.may_act(client, index),
-        }
+        self.instance.is_granted(access, client, index)
     }
 }
 

@@ -10,9 +10,9 @@ use Rattle.meter_theory.specs.declared.flow.Cause.{Cause}
 use Rattle.meter_theory.specs.declared.flow.Cause.TheVariants as cause
 use Rattle.meter_theory.specs.declared.flow.Edge.{Edge}
 use Rattle.flow_map.specs.Grouping.{AreGrouped}
-use Rattle.flow_map.specs.Access.{highest_for, is_granted}
-use Rattle.flow_map.specs.declared.access.Access.{Access}
-use Rattle.flow_map.specs.declared.access.Access.TheVariants.{Get, Set, Act}
+use Rattle.meter_theory.specs.Rights.{highest_for, is_granted}
+use Rattle.meter_theory.specs.declared.flow.Access.{Access}
+use Rattle.meter_theory.specs.declared.flow.Access.TheVariants.{Get, Set, Act}
 use Rattle.flow_page.specs.declared.objects.Held.{Held}
 use Rattle.flow_page.specs.declared.objects.ObjectRow.{ObjectRow}
 use Rattle.flow_page.specs.declared.page.CauseCount.{CauseCount}

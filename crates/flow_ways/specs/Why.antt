@@ -13,7 +13,7 @@ use Rattle.meter_theory.specs.declared.flow.Reach.{Reach}
 use Rattle.meter_theory.specs.declared.flow.Reach.TheVariants.{Influence, Learn}
 use Rattle.value_text.specs.Edges.{edge_text}
 use Rattle.value_text.specs.Texts.{cell_text}
-use Rattle.flow_map.specs.Reaches.{reach_word}
+use Rattle.flow_map.specs.FlowWords.{reach_word}
 use Rattle.flow_map.specs.Requests.{request_text}
 use Rattle.flow_map.specs.Granting.{shown_request}
 use Rattle.flow_ways.specs.Kept.{IsShown}

@@ -39,10 +39,10 @@ impl<'a> Model for Ways<'a> {
     ghost use Rattle.std.specs.Coded.{codes};
     ghost use Rattle.std.specs.Prelude.{map};
     ghost use Rattle.meter_theory.specs.PlanCode.{plan_code};
-    ghost use Rattle.flow_map.specs.Map.{Configuration};
+    ghost use Rattle.flow_map.specs.Map.{Mapped};
     ghost use Rattle.flow_ways.specs.Kept.{AreWaysOf};
 
-    ghost Value = { Configuration };
+    ghost Value = { Mapped };
 
     ghost coded = { Prim.hlevel (codes, plan_code) };
 

@@ -1,23 +1,21 @@
 //! What the rights of a plan ask of the labels of its cells.
 ghost use Rattle.std.specs.Prelude.{◌≡◌, ℕ, ◌∷◌, [], Some, length, IfOk};
-ghost use Rattle.object_model.specs.Grants.{listed};
 ghost use Rattle.object_model.specs.Tables.{AreNumbersOf, number_at};
 ghost use Rattle.meter_theory.specs.Plan as theory;
 ghost use Rattle.meter_theory.specs.Labels.{has};
-ghost use Rattle.meter_theory.specs.Rights.{has_right, lists, may_get, may_set};
+ghost use Rattle.meter_theory.specs.Rights.{is_granted, may_get, may_set};
 ghost use Rattle.label_certificate.specs.Granted.{AreGranted, AreJoined, AreOwn, may_call_for, may_empty, methods_of};
 
 use crate::joining::{join, join_method};
 use cosem_data::cell::{CellRef, MethodRef};
 use cosem_data::clients::ClientSet;
 use cosem_data::memory::Memory;
-use meter_theory::flow::Label;
+use meter_theory::flow::{Access, Label};
 use meter_theory::limits::CLIENTS;
 use object_model::cells::{empties, entries_of};
 use object_model::instance::Instance;
 use object_model::object::Object;
 use object_model::plan::Plan;
-use object_model::right::Access;
 use std::alloc::Global;
 
 /// For each cell of a plan, in plan order, the clients that have a right to change it, and those that may read it (own
@@ -78,7 +76,7 @@ fn own_label(plan: &Plan, object: u16, cell: &CellRef) -> Label
 /// The clients with a right that lists this index for this access.
 fn clients_with(instance: &Instance<'_>, access: Access, index: u8) -> ClientSet
     ensures { (c : ℕ) → has result c
-        ≡ has_right instance.now.plan c instance.now.name (λ r. lists (listed access r) index) }
+        ≡ is_granted instance.now.plan c access instance.now.name index }
 {
     instance.plan().known();
     let mut clients = ClientSet::new();

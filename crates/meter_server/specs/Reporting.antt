@@ -8,6 +8,8 @@ use Rattle.config_reader.specs.ConfigOf.{config_of}
 use Rattle.config_rules.specs.Faultless.{IsPolicyOf}
 use Rattle.config_rules.specs.PlanOf.{plan_of}
 use Rattle.config_text.specs.Parts.{ConfigText}
+use Rattle.flow_changes.specs.Written.{IsComparedWith}
+use Rattle.flow_changes.specs.declared.compare.Comparison.{Comparison}
 use Rattle.flow_checker.specs.Answer.{IsRefusedAs}
 use Rattle.flow_forms.specs.Csv.{IsCsv}
 use Rattle.flow_forms.specs.Html.{IsHtml}
@@ -60,16 +62,17 @@ IsJsonReport P Q verdict text = (line : List ℕ) × IsWithoutEnd (verdict_line 
 abbrev pub Against : Type 0
 Against = Option (Plan × Policy)
 
--- the text of a report in this form, with this verdict on labels that are given or not, of the configuration in the file with this path
-abbrev pub IsReport : ReportForm → (path : List ℕ) → (given : Bool) → Against → Plan → Policy → Verdict → List ℕ → Type 0
-IsReport forms.Html path given against P Q verdict text = (heading : Heading) × IsHeading path given verdict heading × IsHtml P Q against heading text
-IsReport forms.Csv path given against P Q verdict text = IsCsv P Q text
-IsReport forms.Json path given against P Q verdict text = IsJsonReport P Q verdict text
+-- the text of a report in this form, with this verdict on labels that are given or not, of the configuration in the file with this path, and
+-- with what has changed where that is known
+abbrev pub IsReport : ReportForm → (path : List ℕ) → (given : Bool) → Option Comparison → Plan → Policy → Verdict → List ℕ → Type 0
+IsReport forms.Html path given changes P Q verdict text = (heading : Heading) × IsHeading path given verdict heading × IsHtml P Q changes heading text
+IsReport forms.Csv path given changes P Q verdict text = IsCsv P Q text
+IsReport forms.Json path given changes P Q verdict text = IsJsonReport P Q verdict text
 
 -- it was written, or a beginning of it; it is made before the first byte is written
-abbrev pub WritesReport : ReportForm → (path : List ℕ) → (given : Bool) → Against → Plan → Policy → Verdict → (before after : Option (List ℕ)) → Result (Unit {0}) ListFault → Type 0
-WritesReport form path given against P Q verdict before after (Err faults.Memory) = Appends before after []
-WritesReport form path given against P Q verdict before after r = (text : List ℕ) × IsReport form path given against P Q verdict text × WritesText text before after r
+abbrev pub WritesReport : ReportForm → (path : List ℕ) → (given : Bool) → Option Comparison → Plan → Policy → Verdict → (before after : Option (List ℕ)) → Result (Unit {0}) ListFault → Type 0
+WritesReport form path given changes P Q verdict before after (Err faults.Memory) = Appends before after []
+WritesReport form path given changes P Q verdict before after r = (text : List ℕ) × IsReport form path given changes P Q verdict text × WritesText text before after r
 
 -- a command had no memory for its report, and nothing was written
 abbrev pub IsUnwrittenForMemory : Outcome → Type 0
@@ -82,9 +85,9 @@ IsVerdictOf P Q labels (verdicts.Refused refused) = IsRefusedAs P (labelling_of_
 IsVerdictOf P Q labels _ = ⊥
 
 -- a report is written with the verdict on labels; or there was no memory to come to that
-abbrev pub ReportsOn : ReportForm → (path : List ℕ) → (given : Bool) → Against → Plan → Policy → Labels → (before after : Option (List ℕ)) → Outcome → Type 0
-ReportsOn form path given against P Q labels before after outcome =
-    ((verdict : Verdict) × IsVerdictOf P Q labels verdict × (result : Result (Unit {0}) ListFault) × WritesReport form path given against P Q verdict before after result × (outcome ≡ listed result))
+abbrev pub ReportsOn : ReportForm → (path : List ℕ) → (given : Bool) → Option Comparison → Plan → Policy → Labels → (before after : Option (List ℕ)) → Outcome → Type 0
+ReportsOn form path given changes P Q labels before after outcome =
+    ((verdict : Verdict) × IsVerdictOf P Q labels verdict × (result : Result (Unit {0}) ListFault) × WritesReport form path given changes P Q verdict before after result × (outcome ≡ listed result))
     ⊎ (IsUnwrittenForMemory outcome × (after ≡ before))
 
 -- the labels in the file with this path
@@ -112,10 +115,15 @@ abbrev pub AreJudged : Plan → (given : Option Labels) → Labels → Type 0
 AreJudged P None labels = AreLeastOf P labels
 AreJudged P (Some given) labels = labels ≡ given
 
--- a report is written with the verdict on these; or there was no memory for what is known of the configurations
+-- a report is written with the verdict on these, and with what has changed where that is known
+abbrev pub ReportsChanges : ReportForm → (path : List ℕ) → Option Comparison → Plan → Policy → (given : Option Labels) → (before after : Option (List ℕ)) → Outcome → Type 0
+ReportsChanges form path changes P Q given before after outcome =
+    (labels : Labels) × AreJudged P given labels × ReportsOn form path (is_some given) changes P Q labels before after outcome
+
+-- the same where it is compared with a plan and a policy; or there was no memory for what is known of the configurations
 abbrev pub ReportsSubject : ReportForm → (path : List ℕ) → Against → Plan → Policy → (given : Option Labels) → (before after : Option (List ℕ)) → Outcome → Type 0
 ReportsSubject form path against P Q given before after outcome =
-    ((labels : Labels) × AreJudged P given labels × ReportsOn form path (is_some given) against P Q labels before after outcome)
+    ((changes : Option Comparison) × IsComparedWith against P Q changes × ReportsChanges form path changes P Q given before after outcome)
     ⊎ (IsUnwrittenForMemory outcome × (after ≡ before))
 
 -- with what a report is compared: the configuration in a file, where its path is given

@@ -10,7 +10,7 @@ use crate::texts::Source;
 use config_reader::read_config;
 use config_text::fault::ConfigFault;
 use flow_changes::compare::write_comparison;
-use flow_map::map::FlowMap;
+use flow_map::least::LeastMap;
 use object_model::plan::Plan;
 use object_model::policy::Policy;
 use std::alloc::Global;
@@ -68,8 +68,8 @@ fn write_between<O: Write>(
     ensures { WritesComparison old.now old_policy.now new.now new_policy.now
         (O.contents output.old) (O.contents output.new) result }
 {
-    let old = FlowMap::new(alloc, old, old_policy)?;
-    let new = FlowMap::new(alloc, new, new_policy)?;
+    let old = LeastMap::new(alloc, old, old_policy)?;
+    let new = LeastMap::new(alloc, new, new_policy)?;
     write_comparison(alloc, &old, &new, output)
 }
 

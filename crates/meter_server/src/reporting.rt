@@ -1,8 +1,7 @@
 //! Reports on who may change and who may learn what (own profile).
 ghost use Rattle.std.specs.Prelude.{◌≡◌, IfOk, MatchResult, Some, is_some, option_map};
-ghost use Rattle.flow_forms.specs.Html.{configuration_of};
 ghost use Rattle.meter_server.specs.Reporting as spec;
-ghost use Rattle.meter_server.specs.Reporting.{AreLabelsOf, FailsLabels, IsHeading, IsReport, IsWithoutEnd, ReportsAgainst, ReportsFile, ReportsOn, ReportsPlan, ReportsSubject, WritesReport};
+ghost use Rattle.meter_server.specs.Reporting.{AreLabelsOf, FailsLabels, IsHeading, IsReport, IsWithoutEnd, ReportsAgainst, ReportsChanges, ReportsFile, ReportsOn, ReportsPlan, ReportsSubject, WritesReport};
 ghost use Rattle.command_words.specs.declared.command.ReportForm.TheVariants as forms;
 
 use crate::comparing::made_of;
@@ -12,10 +11,12 @@ use crate::texts::{Source, faulty, judged};
 use command_words::ReportForm;
 use config_reader::read_config;
 use cosem_data::memory::Memory;
+use flow_changes::compare::{Comparison, compare};
 use flow_checker::check::{Refused, verdict_on};
 use flow_forms::csv_form::csv_text;
 use flow_forms::html_form::html_text;
 use flow_forms::json_form::json_text;
+use flow_map::least::LeastMap;
 use flow_map::map::FlowMap;
 use flow_page::view::page::Heading;
 use flow_ways::ways::Ways;
@@ -215,8 +216,8 @@ fn report_beside<O: Write>(
         (option_map (λ made. (made.0.now, made.1.now)) old.entry) subject.now.plan.now subject.now.policy.now subject.now.labels
         (O.contents output.old) (O.contents output.new) result }
 {
-    match FlowMap::new(alloc, subject.plan, subject.policy) {
-        Ok(map) => report_compared(alloc, subject, &map, old, output),
+    match LeastMap::new(alloc, subject.plan, subject.policy) {
+        Ok(least) => report_compared(alloc, subject, &least, old, output),
         Err(_) => Outcome::Unwritten(ListFault::Memory),
     }
 }
@@ -225,63 +226,84 @@ fn report_beside<O: Write>(
 fn report_compared<O: Write>(
     alloc: Global,
     subject: &Subject<'_>,
-    map: &FlowMap<'_>,
+    least: &LeastMap<'_>,
     old: Option<(&Plan, &Policy)>,
     output: &mut O,
 ) -> Outcome
     ensures { ReportsSubject subject.now.asked.form subject.now.asked.config.file.now
-        (option_map (λ made. (made.0.now, made.1.now)) old.entry) map.now.plan map.now.policy subject.now.labels
+        (option_map (λ made. (made.0.now, made.1.now)) old.entry) least.now.plan least.now.policy subject.now.labels
         (O.contents output.old) (O.contents output.new) result }
 {
     match old {
-        None => report_map(alloc, subject, map, None, output),
-        Some(made) => match FlowMap::new(alloc, made.0, made.1) {
-            Ok(before) => report_map(alloc, subject, map, Some(&before), output),
+        None => report_map(alloc, subject, least, None, output),
+        Some(made) => match LeastMap::new(alloc, made.0, made.1) {
+            Ok(before) => report_changed(alloc, subject, least, &before, output),
             Err(_) => Outcome::Unwritten(ListFault::Memory),
         },
     }
 }
 
-/// Writes the report on what is known of a configuration: with the verdict on the labels that are given, or else on the least ones.
-fn report_map<O: Write>(
+/// Writes the report on what is known of a configuration, with what has changed against what is known of the one before.
+fn report_changed<O: Write>(
     alloc: Global,
     subject: &Subject<'_>,
-    map: &FlowMap<'_>,
-    before: Option<&FlowMap<'_>>,
+    least: &LeastMap<'_>,
+    before: &LeastMap<'_>,
     output: &mut O,
 ) -> Outcome
     ensures { ReportsSubject subject.now.asked.form subject.now.asked.config.file.now
-        (option_map (λ map. configuration_of map.now) before.entry) map.now.plan map.now.policy subject.now.labels
+        (Some (before.now.plan, before.now.policy)) least.now.plan least.now.policy subject.now.labels
         (O.contents output.old) (O.contents output.new) result }
 {
-    map.known();
-    match &subject.labels {
-        Some(labels) => report_on(alloc, subject, map, labels, before, output),
-        None => report_on(alloc, subject, map, map.labels(), before, output),
+    before.known();
+    least.known();
+    match compare(alloc, before, least) {
+        Ok(changes) => report_map(alloc, subject, least, Some(&changes), output),
+        Err(_) => Outcome::Unwritten(ListFault::Memory),
     }
 }
 
-/// Writes the report with the verdict on labels, compared with what was before where that is given.
+/// Writes the report on what is known of a configuration: with the verdict on the labels that are given, or else on the least ones,
+/// and with what has changed where that is known.
+fn report_map<O: Write>(
+    alloc: Global,
+    subject: &Subject<'_>,
+    least: &LeastMap<'_>,
+    changes: Option<&Comparison<'_>>,
+    output: &mut O,
+) -> Outcome
+    ensures { ReportsChanges subject.now.asked.form subject.now.asked.config.file.now
+        (option_map (λ c. c.now) changes.entry) least.now.plan least.now.policy subject.now.labels
+        (O.contents output.old) (O.contents output.new) result }
+{
+    least.known();
+    match &subject.labels {
+        Some(labels) => report_on(alloc, subject, least.map(), labels, changes, output),
+        None => report_on(alloc, subject, least.map(), least.labels(), changes, output),
+    }
+}
+
+/// Writes the report with the verdict on labels, and with what has changed where that is known.
 fn report_on<O: Write>(
     alloc: Global,
     subject: &Subject<'_>,
     map: &FlowMap<'_>,
     labels: &Labels,
-    before: Option<&FlowMap<'_>>,
+    changes: Option<&Comparison<'_>>,
     output: &mut O,
 ) -> Outcome
     ensures { ReportsOn subject.now.asked.form subject.now.asked.config.file.now (is_some subject.now.labels)
-        (option_map (λ map. configuration_of map.now) before.entry)
+        (option_map (λ c. c.now) changes.entry)
         map.now.plan map.now.policy labels.now (O.contents output.old) (O.contents output.new) result }
 {
     match verdict_on(alloc, map, labels) {
-        Ok(()) => listed(write_report(alloc, subject, map, before, &Verdict::Accepted, output)),
+        Ok(()) => listed(write_report(alloc, subject, map, changes, &Verdict::Accepted, output)),
         Err(Refused::Memory) => Outcome::Unwritten(ListFault::Memory),
         Err(refused) => listed(write_report(
             alloc,
             subject,
             map,
-            before,
+            changes,
             &Verdict::Refused(refused),
             output,
         )),
@@ -293,16 +315,16 @@ fn write_report<O: Write>(
     alloc: Global,
     subject: &Subject<'_>,
     map: &FlowMap<'_>,
-    before: Option<&FlowMap<'_>>,
+    changes: Option<&Comparison<'_>>,
     verdict: &Verdict,
     output: &mut O,
 ) -> Result<(), ListFault>
     ensures { WritesReport subject.now.asked.form subject.now.asked.config.file.now (is_some subject.now.labels)
-        (option_map (λ map. configuration_of map.now) before.entry) map.now.plan map.now.policy verdict.now
+        (option_map (λ c. c.now) changes.entry) map.now.plan map.now.policy verdict.now
         (O.contents output.old) (O.contents output.new) result }
 {
     let ways = Ways::of_many(alloc, map)?;
-    let text = report_text(alloc, subject, &ways, before, verdict)?;
+    let text = report_text(alloc, subject, &ways, changes, verdict)?;
     write_whole(output, &text)?;
     Ok(())
 }
@@ -312,14 +334,14 @@ fn report_text(
     alloc: Global,
     subject: &Subject<'_>,
     ways: &Ways<'_>,
-    before: Option<&FlowMap<'_>>,
+    changes: Option<&Comparison<'_>>,
     verdict: &Verdict,
 ) -> Result<Vec<u8>, Memory>
     ensures { IfOk result (λ text. IsReport subject.now.asked.form subject.now.asked.config.file.now (is_some subject.now.labels)
-        (option_map (λ map. configuration_of map.now) before.entry) ways.now.plan ways.now.policy verdict.now text.items) }
+        (option_map (λ c. c.now) changes.entry) ways.now.plan ways.now.policy verdict.now text.items) }
 {
     match subject.asked.form {
-        ReportForm::Html => html_of(alloc, subject, ways, before, verdict),
+        ReportForm::Html => html_of(alloc, subject, ways, changes, verdict),
         ReportForm::Csv => csv_text(alloc, ways),
         ReportForm::Json => json_of(alloc, ways, verdict),
     }
@@ -330,11 +352,11 @@ fn html_of(
     alloc: Global,
     subject: &Subject<'_>,
     ways: &Ways<'_>,
-    before: Option<&FlowMap<'_>>,
+    changes: Option<&Comparison<'_>>,
     verdict: &Verdict,
 ) -> Result<Vec<u8>, Memory>
     ensures { IfOk result (λ text. IsReport forms.Html subject.now.asked.config.file.now (is_some subject.now.labels)
-        (option_map (λ map. configuration_of map.now) before.entry) ways.now.plan ways.now.policy verdict.now text.items) }
+        (option_map (λ c. c.now) changes.entry) ways.now.plan ways.now.policy verdict.now text.items) }
 {
     let heading = heading_of(
         alloc,
@@ -342,7 +364,7 @@ fn html_of(
         subject.asked.config.file,
         subject.labels.is_some(),
     )?;
-    let text = html_text(alloc, ways, before, heading)?;
+    let text = html_text(alloc, ways, changes, heading)?;
     Ok(text.into_bytes())
 }
 

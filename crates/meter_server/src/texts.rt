@@ -23,6 +23,7 @@ use explanations::refusal::explain_refusal;
 use flow_checker::check::Checked;
 use flow_forms::edges::{write_dot, write_edges};
 use flow_forms::labels::write_least_labels;
+use flow_map::least::LeastMap;
 use flow_map::map::FlowMap;
 use frame_server::alone::serve_alone;
 use line_server::fault::LineFault;
@@ -234,8 +235,8 @@ fn write_least<O: Write>(
 ) -> Result<(), ListFault>
     ensures { WritesLeast plan.now (O.contents output.old) (O.contents output.new) result }
 {
-    let map = FlowMap::new(alloc, plan, policy)?;
-    write_least_labels(alloc, &map, output)
+    let least = LeastMap::new(alloc, plan, policy)?;
+    write_least_labels(alloc, &least, output)
 }
 
 /// What explains a verdict on the configuration in a file and the labels in another; nothing where they are accepted (own profile).

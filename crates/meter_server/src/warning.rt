@@ -17,7 +17,7 @@ use config_warnings::finding::warnings;
 use config_warnings::widths::{wider_by_labels, wider_by_policy};
 use cosem_data::memory::Memory;
 use explanations::warnings::{Whose, explain_warnings, explain_width};
-use flow_map::map::FlowMap;
+use flow_map::least::LeastMap;
 use label_certificate::fault::LabelFault;
 use label_certificate::reading::read_labels;
 use object_model::plan::Plan;
@@ -62,24 +62,24 @@ fn slip_lines(alloc: Global, config: Source<'_>, plan: &Plan) -> Result<String, 
 fn width_lines(alloc: Global, of: Warning<'_>) -> Result<String, Memory>
     ensures { IfOk result (λ lines. TellsWidths of.entry.config of.entry.labels of.entry.plan.now of.entry.policy.now (string_bytes lines)) }
 {
-    let map = FlowMap::new(alloc, of.plan, of.policy)?;
-    let mut lines = policy_line(alloc, of.config.file, &map)?;
-    let given = given_line(alloc, of.plan, &map, of.labels)?;
+    let least = LeastMap::new(alloc, of.plan, of.policy)?;
+    let mut lines = policy_line(alloc, of.config.file, &least)?;
+    let given = given_line(alloc, of.plan, &least, of.labels)?;
     lines.push_str(&given)?;
     Ok(lines)
 }
 
 /// What is told of the width of a policy.
-fn policy_line(alloc: Global, file: &str, map: &FlowMap<'_>) -> Result<String, Memory>
-    ensures { let C = map.now in IfOk result (λ line. string_bytes line
+fn policy_line(alloc: Global, file: &str, least: &LeastMap<'_>) -> Result<String, Memory>
+    ensures { let C = least.now in IfOk result (λ line. string_bytes line
         ≡ width_line file.now whose.Policy (wider_cells (labelling_of_policy C.plan C.policy) C.labels) (length C.labels)) }
 {
     explain_width(
         alloc,
         file,
         Whose::Policy,
-        wider_by_policy(map),
-        map.labels().entries().len(),
+        wider_by_policy(least),
+        least.labels().entries().len(),
     )
 }
 
@@ -87,39 +87,39 @@ fn policy_line(alloc: Global, file: &str, map: &FlowMap<'_>) -> Result<String, M
 fn given_line(
     alloc: Global,
     plan: &Plan,
-    map: &FlowMap<'_>,
+    least: &LeastMap<'_>,
     labels: Option<Source<'_>>,
 ) -> Result<String, Memory>
-    ensures { IfOk result (λ line. string_bytes line ≡ spec.width_of_given plan.now map.now.labels labels.entry) }
+    ensures { IfOk result (λ line. string_bytes line ≡ spec.width_of_given plan.now least.now.labels labels.entry) }
 {
     let Some(source) = labels else {
         return Ok(String::new(alloc));
     };
-    labels_line(alloc, plan, map, source)
+    labels_line(alloc, plan, least, source)
 }
 
 /// What is told of the width of the labels in a file, where they are read.
 fn labels_line(
     alloc: Global,
     plan: &Plan,
-    map: &FlowMap<'_>,
+    least: &LeastMap<'_>,
     source: Source<'_>,
 ) -> Result<String, Memory>
     ensures { IfOk result (λ line. string_bytes line
-        ≡ spec.width_of_read source.entry.file.now map.now.labels (labels_of_text plan.now source.entry.text.now)) }
+        ≡ spec.width_of_read source.entry.file.now least.now.labels (labels_of_text plan.now source.entry.text.now)) }
 {
     let labels = match read_labels(alloc, plan, source.text) {
         Ok(labels) => labels,
         Err(LabelFault::Memory) => return Err(Memory),
         Err(_) => return Ok(String::new(alloc)),
     };
-    let wider = wider_by_labels(alloc, map, &labels)?;
+    let wider = wider_by_labels(alloc, least, &labels)?;
     explain_width(
         alloc,
         source.file,
         Whose::Labels,
         wider,
-        map.labels().entries().len(),
+        least.labels().entries().len(),
     )
 }
 

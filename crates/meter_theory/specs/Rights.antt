@@ -11,6 +11,8 @@ use Rattle.meter_theory.specs.declared.access.AccessCode.{AccessCode}
 use Rattle.meter_theory.specs.declared.access.AccessCode.TheVariants.{Success, ReadWriteDenied, ObjectUndefined, ObjectClassInconsistent, TypeUnmatched, ScopeOfAccessViolated, OtherReason}
 use Rattle.meter_theory.specs.Value.{Rule, valid_tag, meets}
 use Rattle.meter_theory.specs.Selection.{EntryDescriptor, descriptor_of, as_long_unsigned}
+use Rattle.meter_theory.specs.declared.flow.Access.{Access}
+use Rattle.meter_theory.specs.declared.flow.Access.TheVariants as accesses
 use Rattle.meter_theory.specs.declared.refs.Interface.{Interface}
 pub use Rattle.meter_theory.specs.declared.refs.Descriptor.{Descriptor}
 use Rattle.meter_theory.specs.Plan.{Plan, Object, Right, Script, Part, ScriptTable, class_of, association_name, interface_at, object_at, rule_of}
@@ -49,6 +51,22 @@ in_view P c name = is_client P c && (same_name name association_name || has_righ
 
 abbrev pub lists : List ℕ → ℕ → Bool
 lists indexes index = list_any (λ i. i == index) indexes
+
+-- the attributes, or the methods, that a right lists for an access
+abbrev pub listed : Access → Right → List ℕ
+listed accesses.Get r = r.gets
+listed accesses.Set r = r.sets
+listed accesses.Act r = r.acts
+
+-- a right of the client on the object lists the attribute or the method
+abbrev pub is_granted : Plan → ℕ → Access → LogicalName → ℕ → Bool
+is_granted P c access name index = has_right P c name (λ r. lists (listed access r) index)
+
+-- the highest attribute, or the highest method, of a class (IEC 62056-6-2)
+abbrev pub highest_for : Access → Interface → ℕ
+highest_for accesses.Get interface = interface.attributes
+highest_for accesses.Set interface = interface.attributes
+highest_for accesses.Act interface = interface.methods
 
 abbrev pub may_get : Plan → ℕ → CellRef → Bool
 may_get P c x = has_right P c x.name (λ r. lists r.gets x.index)

@@ -1,4 +1,7 @@
-//! From which cell to which a value may flow, who may influence and learn a cell, and why labels are refused.
+//! From which cell to which a value may flow, who may influence and learn a cell, what rights allow, and why labels are refused.
+ghost use Rattle.std.specs.Prelude.{◌≡◌};
+
+use crate::refs::Interface;
 use cosem_data::cell::CellRef;
 use cosem_data::clients::ClientSet;
 
@@ -68,4 +71,29 @@ pub enum Reach {
     Influence,
     /// The client may learn what the cell holds.
     Learn,
+}
+
+/// What a right is asked for (IEC 62056-6-2, access rights).
+#[derive(Clone, Copy, Debug, PartialEq, Eq, Drop)]
+pub enum Access {
+    /// A GET of an attribute.
+    Get,
+    /// A SET of an attribute.
+    Set,
+    /// An ACTION of a method.
+    Act,
+}
+
+impl Access {
+    ghost use Rattle.meter_theory.specs.Rights.{highest_for};
+
+    /// The highest attribute or method of a class (IEC 62056-6-2).
+    pub fn highest(self, interface: &Interface) -> u8
+        ensures { result ≡ highest_for self interface.now }
+    {
+        match self {
+            Access::Get | Access::Set => interface.attributes,
+            Access::Act => interface.methods,
+        }
+    }
 }

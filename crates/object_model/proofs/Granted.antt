@@ -14,9 +14,9 @@ use Rattle.cosem_data.proofs.Same.{same_name-true, same_name-from}
 use Rattle.meter_theory.specs.Plan.{Right}
 use Rattle.meter_theory.specs.Rights.{lists}
 use Rattle.meter_theory.specs.declared.limits.TheConstants.{CLIENTS}
-use Rattle.object_model.specs.declared.right.Access.{Access}
+use Rattle.meter_theory.specs.declared.flow.Access.{Access}
 use Rattle.object_model.specs.Index.{name_at}
-use Rattle.object_model.specs.Grants.{listed, has_bit, granted_at, grants, place_in, AreMasksOf, HasRoom, IsJoined}
+use Rattle.object_model.specs.Grants.{listed_in, has_bit, granted_at, grants, place_in, AreMasksOf, HasRoom, IsJoined}
 use Rattle.object_model.proofs.Positions.{first}
 use Rattle.std.specs.Prelude.{IfSome}
 
@@ -92,9 +92,9 @@ joined masks place mask indexes h listed_is = record {
   elsewhere = λ other apart. get_or-set_other masks place other (bit_or (get_or masks place 0) mask) 0 apart;
 }
 
-pub one-more : (names : List LogicalName) (access : Access) (rights : List Right) (masks after : List ℕ) (i : ℕ) (r : Right) (at : ℕ) →
+pub one-more : (names : List LogicalName) (access : Option Access) (rights : List Right) (masks after : List ℕ) (i : ℕ) (r : Right) (at : ℕ) →
     i < length rights → r ≡ get_or rights i r → AreMasksOf names access (take i rights) masks → HasRoom names r →
-    IfSome (place_in names r.object) (λ k. at ≡ k * CLIENTS + r.client) → IsJoined masks at (listed access r) after →
+    IfSome (place_in names r.object) (λ k. at ≡ k * CLIENTS + r.client) → IsJoined masks at (listed_in access r) after →
     AreMasksOf names access (take (i + 1) rights) after
 one-more names access rights masks after i r at h is before room placed joins = record {
   size = joins.size ∙ before.size;
@@ -131,18 +131,18 @@ one-more names access rights masks after i r at h is before room placed joins = 
         (granted_at masks q c j || grants access name c j r) ≡ granted_at after q c j
     core name c j None e = by (same_name r.object name) refl
       where
-        by : (b : Bool) → same_name r.object name ≡ b → (((r.client == c) && b) && lists (listed access r) j) ≡ false
+        by : (b : Bool) → same_name r.object name ≡ b → (((r.client == c) && b) && lists (listed_in access r) j) ≡ false
         by true s =
             let same : r.object ≡ name = same_name-true r.object name s in
             let none : Some k ≡ None = found ∙ ap (λ m. position_from (λ n. same_name n m) 0 names) same ∙ e in cc
-        by false s = and_false (r.client == c) (lists (listed access r) j)
+        by false s = and_false (r.client == c) (lists (listed_in access r) j)
     core name c j (Some m) e = by (r.client == c) refl (same_name r.object name) refl
       where
         other : (m < length names) × (name_at names m ≡ name)
         other = at-position names name m (sym e)
 
         by : (a : Bool) → (r.client == c) ≡ a → (b : Bool) → same_name r.object name ≡ b →
-            ((nat_lt c CLIENTS && has_bit (get_or masks (m * CLIENTS + c) 0) j) || ((a && b) && lists (listed access r) j)) ≡ (nat_lt c CLIENTS && has_bit (get_or after (m * CLIENTS + c) 0) j)
+            ((nat_lt c CLIENTS && has_bit (get_or masks (m * CLIENTS + c) 0) j) || ((a && b) && lists (listed_in access r) j)) ≡ (nat_lt c CLIENTS && has_bit (get_or after (m * CLIENTS + c) 0) j)
         by false d b s =
             or_false (nat_lt c CLIENTS && has_bit (get_or masks (m * CLIENTS + c) 0) j)
             ∙ apart m c j (λ low g. false≢true (sym d ∙ tested (omega (arith, g, here, small, low))))
@@ -159,8 +159,8 @@ one-more names access rights masks after i r at h is before room placed joins = 
             let one : Some k ≡ Some m = found ∙ ap (λ z. position_from (λ n. same_name n z) 0 names) named ∙ e in
             let number : k ≡ m = cc in
             let place : m * CLIENTS + c ≡ at = omega (arith, mine, number, here) in
-            ap (λ t. (t && has_bit (get_or masks (m * CLIENTS + c) 0) j) || lists (listed access r) j) (lt_is c CLIENTS (omega (arith, mine, small)))
-            ∙ ap (λ z. has_bit (get_or masks z 0) j || lists (listed access r) j) place
+            ap (λ t. (t && has_bit (get_or masks (m * CLIENTS + c) 0) j) || lists (listed_in access r) j) (lt_is c CLIENTS (omega (arith, mine, small)))
+            ∙ ap (λ z. has_bit (get_or masks z 0) j || lists (listed_in access r) j) place
             ∙ sym (joins.here j)
             ∙ ap (λ z. has_bit (get_or after z 0) j) (sym place)
             ∙ sym (ap (λ t. t && has_bit (get_or after (m * CLIENTS + c) 0) j) (lt_is c CLIENTS (omega (arith, mine, small))))

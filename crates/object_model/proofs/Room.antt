@@ -7,9 +7,9 @@ use Rattle.cosem_data.specs.Cells.{same_name}
 use Rattle.meter_theory.specs.Lists.{IsIn, some_passes}
 use Rattle.meter_theory.specs.Plan.{Plan, Object, Right, Part, Data1, interface_of, object_at}
 use Rattle.meter_theory.specs.Sound.{IsSound, are_indexes, highest_method}
-use Rattle.object_model.specs.declared.right.Access.{Access}
-use Rattle.object_model.specs.declared.right.Access.TheVariants.{View, Get, Set, Act}
-use Rattle.object_model.specs.Grants.{listed, HasRoom}
+use Rattle.meter_theory.specs.declared.flow.Access.{Access}
+use Rattle.meter_theory.specs.declared.flow.Access.TheVariants.{Get, Set, Act}
+use Rattle.object_model.specs.Grants.{listed_in, HasRoom}
 use Rattle.object_model.proofs.ByObject.{position-map}
 use Rattle.object_model.proofs.Positions.{placed}
 
@@ -46,10 +46,10 @@ has-room P sound r i = at (object_at P r.object) refl granted.1
           indexes = each;
         }
       where
-        each : (access : Access) → All (λ i. i < 16) (listed access r)
-        each View = All-cons (λ i. i < 16) 0 [] (omega arith) (All-nil (λ i. i < 16))
-        each Get = small (interface_of o.part).attributes r.gets (few_indexes o.part).0 (and_parts (are_indexes (interface_of o.part).attributes r.gets) _ h).0
-        each Set = small (interface_of o.part).attributes r.sets (few_indexes o.part).0
+        each : (access : Option Access) → All (λ i. i < 16) (listed_in access r)
+        each None = All-cons (λ i. i < 16) 0 [] (omega arith) (All-nil (λ i. i < 16))
+        each (Some Get) = small (interface_of o.part).attributes r.gets (few_indexes o.part).0 (and_parts (are_indexes (interface_of o.part).attributes r.gets) _ h).0
+        each (Some Set) = small (interface_of o.part).attributes r.sets (few_indexes o.part).0
             (and_parts (are_indexes (interface_of o.part).attributes r.sets) _ (and_parts (are_indexes (interface_of o.part).attributes r.gets) _ h).1).0
-        each Act = small (highest_method o.part) r.acts (few_indexes o.part).1
+        each (Some Act) = small (highest_method o.part) r.acts (few_indexes o.part).1
             (and_parts (are_indexes (interface_of o.part).attributes r.sets) _ (and_parts (are_indexes (interface_of o.part).attributes r.gets) _ h).1).1

@@ -1,20 +1,21 @@
 //! What clients are granted on the objects of a plan, as masks: looked up in constant time.
-ghost use Rattle.std.specs.Prelude.{◌≡◌, ◌<◌, ◌≤◌, ◌^◌, ◌*◌, ◌+◌, ℕ, [], length, IfOk, IfSome, All};
+ghost use Rattle.std.specs.Prelude.{◌≡◌, ◌<◌, ◌≤◌, ◌^◌, ◌*◌, ◌+◌, ℕ, [], length, IfOk, IfSome, Option, All};
 ghost use Rattle.meter_theory.specs.Lists.{IsIn};
 ghost use Rattle.meter_theory.specs.Plan as theory;
 ghost use Rattle.meter_theory.specs.Rights.{lists};
-ghost use Rattle.object_model.specs.Grants.{granted_at, has_bit, listed, masks_for, place_in, AreGrants, HasRoom, IsJoined};
+ghost use Rattle.object_model.specs.Grants.{granted_at, has_bit, listed_in, masks_for, place_in, AreGrants, HasRoom, IsJoined};
 
 use crate::index::Index;
-use crate::right::{Access, Right};
+use crate::right::Right;
 use cosem_data::memory::Memory;
+use meter_theory::flow::Access;
 use meter_theory::limits::CLIENTS;
 use std::alloc::Global;
 
 /// The indexes that a mask has.
 const INDEXES: u8 = 16;
 
-/// The masks of each access: for each object, and for each of as many clients as a meter has at most, the indexes that are granted.
+/// The masks of the view and of each access: for each object, and for each of as many clients as a meter has at most, the indexes that are granted.
 #[derive(Drop)]
 pub(crate) struct Grants {
     pub(crate) views: Vec<u16>,
@@ -53,25 +54,25 @@ impl Grants {
 
     /// Joins the indexes that a right lists to the masks at its place.
     fn join(&mut self, place: usize, right: &Right)
-        requires within { (access : Access) → place < length (masks_for access self.old) }
-        requires indexes { (access : Access) → All (λ i. i < 16) (listed access right.now) }
-        ensures { (access : Access) → IsJoined (masks_for access self.old) place (listed access right.now) (masks_for access self.new) }
+        requires within { (access : Option Access) → place < length (masks_for access self.old) }
+        requires indexes { (access : Option Access) → All (λ i. i < 16) (listed_in access right.now) }
+        ensures { (access : Option Access) → IsJoined (masks_for access self.old) place (listed_in access right.now) (masks_for access self.new) }
     {
-        join_in(&mut self.views, place, right.listed(Access::View));
-        join_in(&mut self.gets, place, right.listed(Access::Get));
-        join_in(&mut self.sets, place, right.listed(Access::Set));
-        join_in(&mut self.acts, place, right.listed(Access::Act));
+        join_in(&mut self.views, place, right.listed(None));
+        join_in(&mut self.gets, place, right.listed(Some(Access::Get)));
+        join_in(&mut self.sets, place, right.listed(Some(Access::Set)));
+        join_in(&mut self.acts, place, right.listed(Some(Access::Act)));
     }
 
-    /// The masks of an access.
-    pub(crate) fn masks(&self, access: Access) -> &[u16]
+    /// The masks of an access, or those of the view.
+    pub(crate) fn masks(&self, access: Option<Access>) -> &[u16]
         ensures { result.now ≡ masks_for access self.now }
     {
         match access {
-            Access::View => &self.views,
-            Access::Get => &self.gets,
-            Access::Set => &self.sets,
-            Access::Act => &self.acts,
+            None => &self.views,
+            Some(Access::Get) => &self.gets,
+            Some(Access::Set) => &self.sets,
+            Some(Access::Act) => &self.acts,
         }
     }
 }

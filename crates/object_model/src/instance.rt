@@ -8,11 +8,11 @@ ghost use Rattle.cosem_data.specs.declared.name.LogicalName.{LogicalName as Name
 ghost use Rattle.cosem_class.specs.Judged.{rule_answer};
 ghost use Rattle.meter_theory.specs.Fixed.{fixed_of};
 ghost use Rattle.meter_theory.specs.Plan.{cells, clock_object, interface_at, is_cell, object_at, rule_of, start_values};
-ghost use Rattle.meter_theory.specs.Rights.{has_right, in_view, lists, may_read};
+ghost use Rattle.meter_theory.specs.Rights.{has_right, in_view, is_granted, lists, may_read};
 ghost use Rattle.meter_theory.specs.State.{value};
 ghost use Rattle.meter_theory.specs.Steps.{captures_of};
 ghost use Rattle.class_profile.specs.PartView.{captures_of_part};
-ghost use Rattle.object_model.specs.Grants.{listed};
+ghost use Rattle.object_model.specs.Grants.{listed_in};
 ghost use Rattle.object_model.specs.PartView.{part_of, monitored_kind};
 ghost use Rattle.object_model.specs.Tables.{AreNumbers, AreScriptPlaces, number_at, place_of, references_at, scripts_run_at};
 
@@ -21,7 +21,6 @@ use crate::object::Object;
 use crate::part::Part;
 use crate::place::Place;
 use crate::plan::{ASSOCIATION, ASSOCIATION_LN, Plan};
-use crate::right::Access;
 use crate::script_places::ScriptPlace;
 use class_profile::profile::ProfilePart;
 use cosem_data::cell::CellRef;
@@ -30,6 +29,7 @@ use cosem_data::kind::Kind;
 use cosem_data::memory::Memory;
 use cosem_data::name::LogicalName;
 use meter_theory::access::AccessCode;
+use meter_theory::flow::Access;
 use meter_theory::refs::Interface;
 use std::alloc::Global;
 use std::marker::Model;
@@ -219,7 +219,7 @@ impl<'a> Instance<'a> {
     pub fn has_right(&self, client: u8) -> bool
         ensures { result ≡ has_right self.now.plan client self.now.name (λ r. true) }
     {
-        self.is_granted(Access::View, client, 0)
+        self.is_listed(None, client, 0)
     }
 
     /// Whether a right of the client allows a GET of the attribute with this index.
@@ -256,10 +256,18 @@ impl<'a> Instance<'a> {
         }
     }
 
-    /// Whether a right of the client lists this index for this access; the view has each object on which it has a right, under index 0.
+    /// Whether a right of the client lists the attribute or the method with this index for this access.
     pub fn is_granted(&self, access: Access, client: u8, index: u8) -> bool
+        ensures { result ≡ is_granted self.now.plan client access self.now.name index }
+    {
+        self.is_listed(Some(access), client, index)
+    }
+
+    /// Whether a right of the client lists this index for this access, or for the view, which has each object on which it has a right
+    /// under index 0.
+    fn is_listed(&self, access: Option<Access>, client: u8, index: u8) -> bool
         ensures { result
-            ≡ has_right self.now.plan client self.now.name (λ r. lists (listed access r) index) }
+            ≡ has_right self.now.plan client self.now.name (λ r. lists (listed_in access r) index) }
     {
         is_granted(self.plan.masks(access), self.number, client, index)
     }

@@ -17,12 +17,13 @@ use crate::index::Index;
 use crate::object::Object;
 use crate::place::{Place, places_of};
 use crate::references::References;
-use crate::right::{Access, Right};
+use crate::right::Right;
 use crate::script_places::{ScriptPlace, ScriptPlaces};
 use class_control::clock::Clock;
 use cosem_data::cell::CellRef;
 use cosem_data::memory::Memory;
 use cosem_data::name::LogicalName;
+use meter_theory::flow::Access;
 use meter_theory::refs::Interface;
 use std::alloc::Global;
 use std::marker::Model;
@@ -193,8 +194,8 @@ impl Plan {
         number
     }
 
-    /// The masks of what is granted for an access.
-    pub(crate) fn masks(&self, access: Access) -> &[u16]
+    /// The masks of what is granted for an access, or of the view.
+    pub(crate) fn masks(&self, access: Option<Access>) -> &[u16]
         ensures { AreMasksOf (map (λ o. o.name) self.now.objects) access self.now.rights result.now }
     {
         self.grants.masks(access)

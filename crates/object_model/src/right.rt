@@ -1,21 +1,9 @@
 ghost use Rattle.std.specs.Prelude.{◌≡◌};
-ghost use Rattle.object_model.specs.Grants.{listed};
+ghost use Rattle.object_model.specs.Grants.{listed_in};
 
 use cosem_data::name::LogicalName;
+use meter_theory::flow::Access;
 use std::marker::Model;
-
-/// What a right is asked for (IEC 62056-6-2, access rights).
-#[derive(Clone, Copy)]
-pub enum Access {
-    /// That the object is in the client's view, which any right gives.
-    View,
-    /// A GET of an attribute.
-    Get,
-    /// A SET of an attribute.
-    Set,
-    /// An ACTION of a method.
-    Act,
-}
 
 /// What a client may do with an object: the attributes that it may read and set, and the methods that it may call
 /// (IEC 62056-6-2, access rights). A right without any of them still puts the object into the client's view.
@@ -80,15 +68,15 @@ impl Right {
         &self.object
     }
 
-    /// The indexes that it lists for this access; for the view 0, in each right.
-    pub(crate) fn listed(&self, access: Access) -> &[u8]
-        ensures { result.now ≡ listed access self.now }
+    /// The indexes that it lists for this access; for the view, which each right gives, 0.
+    pub(crate) fn listed(&self, access: Option<Access>) -> &[u8]
+        ensures { result.now ≡ listed_in access self.now }
     {
         match access {
-            Access::View => &[0],
-            Access::Get => &self.gets,
-            Access::Set => &self.sets,
-            Access::Act => &self.acts,
+            None => &[0],
+            Some(Access::Get) => &self.gets,
+            Some(Access::Set) => &self.sets,
+            Some(Access::Act) => &self.acts,
         }
     }
 }

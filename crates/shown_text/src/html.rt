@@ -1,6 +1,6 @@
 //! Texts in HTML (own profile).
-use crate::printable::hex_digit;
 use std::fmt;
+use value_text::digits::hex_digit;
 
 /// A text from outside as HTML shows it, between tags or in an attribute between quotation marks: characters of markup by their
 /// names, and bytes that are no printable characters of ASCII as `\xHH`.

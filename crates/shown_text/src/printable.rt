@@ -1,23 +1,10 @@
 //! Texts as they are shown on a terminal, which gets no control characters by them (own profile).
-ghost use Rattle.std.specs.Prelude.{◌≡◌, ◌++◌, ◌<◌, true, IfOk, OnOk, string_bytes};
-ghost use Rattle.std.specs.Fmt.{digit_glyph};
+ghost use Rattle.std.specs.Prelude.{◌≡◌, ◌++◌, IfOk, OnOk, string_bytes};
 ghost use Rattle.shown_text.specs.Printable as spec;
 
 use cosem_data::memory::Memory;
 use std::alloc::Global;
-
-/// The hex digit of a number below 16, in upper case.
-pub(crate) fn hex_digit(value: u8) -> u8
-    requires { value < 16 }
-    ensures digit { result ≡ digit_glyph true value }
-    ensures ascii { result < 128 }
-{
-    if value < 10 {
-        b'0' + value
-    } else {
-        b'A' + (value - 10)
-    }
-}
+use value_text::digits::hex_digit;
 
 /// Puts a byte behind a text: as it is where it is a printable character of ASCII, and else as `\xHH`. The error is that
 /// memory was refused.

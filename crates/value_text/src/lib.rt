@@ -3,6 +3,7 @@
 
 pub mod cell;
 pub mod client_name;
+pub mod digits;
 pub mod edge;
 pub mod name;
 pub mod value;

@@ -5,9 +5,9 @@ ghost use Rattle.flow_page.specs.Objects as spec;
 
 use crate::objects::Held;
 use cosem_data::memory::Memory;
-use flow_map::access::Access;
 use flow_map::outline::{ObjectOutline, Outline};
 use flow_map::pushing::push_if;
+use meter_theory::flow::Access;
 use std::alloc::Global;
 
 /// What each client may do with an object. The only error is want of memory.

@@ -3,6 +3,8 @@ use Rattle.std.specs.List.{AllZip}
 use Rattle.std.proofs.lemmas.List.{take_all, take_more}
 use Rattle.std.proofs.lemmas.Slice.Zip.{all_zipped_more}
 use Rattle.meter_theory.specs.Plan.{client_named}
+use Rattle.meter_theory.specs.Sound.{IsSound}
+use Rattle.flow_map.specs.Map.{Mapped}
 use Rattle.flow_changes.specs.Differences.{IsChanged}
 use Rattle.flow_changes.proofs.ReachDifferences.{all-changes}
 use Rattle.flow_changes.proofs.differences.reach_changes.Goals as goal
@@ -21,6 +23,6 @@ pub returns : goal.returns
 returns c =
     let pairs = c.deref-pair-items.result.now in
     let R = IsChanged c.args.change c.in_ok-others.others.items in
-    all-changes c.args.change (c.args.old.now) (c.args.new.now) c.known.ensures.sound pairs c.in_ok-others.others.items c.loop-pair.labels.items
-    (c.deref-pair-items.ensures.value ∙ c.in_ok-pairs.ensures) (c.in_ok-others.ensures ∙ ap₂ (λ P Q. map (λ client. client_named Q client.name) P.clients) c.plan.ensures c.plan-2.ensures)
+    all-changes c.args.change (c.args.old.now) (c.args.new.now) (subst (λ (m : Mapped). IsSound m.plan) c.map.ensures c.known.ensures.sound) pairs c.in_ok-others.others.items c.loop-pair.labels.items
+    (c.deref-pair-items.ensures.value ∙ c.in_ok-pairs.ensures) (c.in_ok-others.ensures ∙ ap₂ (λ P Q. map (λ client. client_named Q client.name) P.clients) (c.plan.ensures ∙ ap (λ (m : Mapped). m.plan) c.map-2.ensures) (c.plan-2.ensures ∙ ap (λ (m : Mapped). m.plan) c.map-3.ensures))
     (subst (λ ps. AllZip R ps c.loop-pair.labels.items) (take_all c.loop-pair.pair-index pairs c.loop-pair-test.false) c.loop-pair.invariant)

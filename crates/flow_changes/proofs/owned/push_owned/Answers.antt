@@ -2,6 +2,8 @@ use Rattle.std.proofs.Common.{◌≡◌, ◌++◌, ◌+◌, ◌∙◌, Bool, Som
 use Rattle.std.specs.Prelude.{slice_get}
 use Rattle.std.specs.List.{list_any}
 use Rattle.std.proofs.lemmas.Option.{slice_get_within}
+use Rattle.meter_theory.specs.Sound.{IsSound}
+use Rattle.flow_map.specs.Map.{Mapped}
 use Rattle.flow_changes.specs.Changes.{lacks}
 use Rattle.flow_changes.specs.Facts.{Numbered, numbered, own_facts}
 use Rattle.flow_changes.specs.Shown.{shown}
@@ -18,7 +20,7 @@ loop-client-preserved c =
     let client = c.in-Some.client.now in
     let p : Numbered → Bool = λ n. list_any (lacks D C c.args.kind) (own_facts C D c.args.kind n) in
     let f = lacked_of C D c.args.kind in
-    let there : slice_get C.plan.clients place ≡ Some client = sym (ap (λ P. slice_get P.clients c.loop-client.place) c.plan-plan.ensures) ∙ sym c.client.ensures ∙ ap (option_map (λ x. x.now)) c.in-Some.is in
+    let there : slice_get C.plan.clients place ≡ Some client = sym (ap (λ P. slice_get P.clients c.loop-client.place) (c.plan-plan.ensures ∙ ap (λ (m : Mapped). m.plan) c.map-2.ensures)) ∙ sym c.client.ensures ∙ ap (option_map (λ x. x.now)) c.in-Some.is in
     let before = map shown c.loop-client.facts.items in
     let after = map shown c.push_own.new.facts.items in
     let grown = grows (lacks D C c.args.kind) (own_facts C D c.args.kind (place, client)) c.loop-client.facts c.push_own.new.facts c.in_ok-push_own.ensures in (
@@ -40,7 +42,7 @@ returns-clause-facts c =
     let place = c.loop-client.place in
     let f = lacked_of C D c.args.kind in
     let before = map shown c.args.facts.now.items in
-    let none : slice_get C.plan.clients place ≡ None = sym (ap (λ P. slice_get P.clients c.loop-client.place) c.plan-plan.ensures) ∙ sym c.client.ensures ∙ ap (option_map (λ x. x.now)) c.in_default.is in
+    let none : slice_get C.plan.clients place ≡ None = sym (ap (λ P. slice_get P.clients c.loop-client.place) (c.plan-plan.ensures ∙ ap (λ (m : Mapped). m.plan) c.map-2.ensures)) ∙ sym c.client.ensures ∙ ap (option_map (λ x. x.now)) c.in_default.is in
     client-end C.plan f place (map shown c.loop-client.facts.items) (before ++ flat_map f (numbered C.plan)) none c.loop-client.invariant.0 ∙ ap (λ t. before ++ t) (all-own C D c.args.kind)
 
 pub returns-clause-clients : goal.returns-clause-clients
@@ -49,7 +51,7 @@ returns-clause-clients c =
     let D = c.args.theirs.now in
     let place = c.loop-client.place in
     let p : Numbered → Bool = λ n. list_any (lacks D C c.args.kind) (own_facts C D c.args.kind n) in
-    let none : slice_get C.plan.clients place ≡ None = sym (ap (λ P. slice_get P.clients c.loop-client.place) c.plan-plan.ensures) ∙ sym c.client.ensures ∙ ap (option_map (λ x. x.now)) c.in_default.is in
+    let none : slice_get C.plan.clients place ≡ None = sym (ap (λ P. slice_get P.clients c.loop-client.place) (c.plan-plan.ensures ∙ ap (λ (m : Mapped). m.plan) c.map-2.ensures)) ∙ sym c.client.ensures ∙ ap (option_map (λ x. x.now)) c.in_default.is in
     all-told C.plan p place c.loop-client.owners c.loop-client.invariant.1 none
 
 pub loop-client-init : goal.loop-client-init
@@ -60,10 +62,10 @@ loop-client-init c =
 
 pub loop-client-smaller : goal.loop-client-smaller
 loop-client-smaller c =
-    let there : slice_get c.args.mine.now.plan.clients c.loop-client.place ≡ Some c.in-Some.client.now = sym (ap (λ P. slice_get P.clients c.loop-client.place) c.plan-plan.ensures) ∙ sym c.client.ensures ∙ ap (option_map (λ x. x.now)) c.in-Some.is in
+    let there : slice_get c.args.mine.now.plan.clients c.loop-client.place ≡ Some c.in-Some.client.now = sym (ap (λ P. slice_get P.clients c.loop-client.place) (c.plan-plan.ensures ∙ ap (λ (m : Mapped). m.plan) c.map-2.ensures)) ∙ sym c.client.ensures ∙ ap (option_map (λ x. x.now)) c.in-Some.is in
     omega (arith, slice_get_within c.args.mine.now.plan.clients c.loop-client.place c.in-Some.client.now there)
 
 pub overflow_add-place : goal.overflow_add-place
 overflow_add-place c =
-    let there : slice_get c.args.mine.now.plan.clients c.loop-client.place ≡ Some c.in-Some.client.now = sym (ap (λ P. slice_get P.clients c.loop-client.place) c.plan-plan.ensures) ∙ sym c.client.ensures ∙ ap (option_map (λ x. x.now)) c.in-Some.is in
-    omega (arith, slice_get_within c.args.mine.now.plan.clients c.loop-client.place c.in-Some.client.now there, c.known.ensures.sound.few_clients)
+    let there : slice_get c.args.mine.now.plan.clients c.loop-client.place ≡ Some c.in-Some.client.now = sym (ap (λ P. slice_get P.clients c.loop-client.place) (c.plan-plan.ensures ∙ ap (λ (m : Mapped). m.plan) c.map-2.ensures)) ∙ sym c.client.ensures ∙ ap (option_map (λ x. x.now)) c.in-Some.is in
+    omega (arith, slice_get_within c.args.mine.now.plan.clients c.loop-client.place c.in-Some.client.now there, (subst (λ (m : Mapped). IsSound m.plan) c.map.ensures c.known.ensures.sound).few_clients)

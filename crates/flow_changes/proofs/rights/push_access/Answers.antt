@@ -3,7 +3,7 @@ use Rattle.std.specs.List.{range_with_len}
 use Rattle.cosem_data.specs.Cells.{cell}
 use Rattle.cosem_data.specs.declared.name.LogicalName.{LogicalName}
 use Rattle.meter_theory.specs.Plan.{class_of}
-use Rattle.flow_map.specs.Access.{highest_for}
+use Rattle.meter_theory.specs.Rights.{highest_for}
 use Rattle.flow_changes.specs.Facts.{Fact, Holds}
 use Rattle.flow_changes.specs.Shown.{shown}
 use Rattle.flow_changes.specs.Singles.{is_new_right}

@@ -2,7 +2,7 @@ use Rattle.std.proofs.Common.{◌≡◌, ◌++◌, ◌∙◌, ◌+◌, flat_map,
 use Rattle.std.specs.List.{range_with_len}
 use Rattle.serde_json.specs.View.{view}
 use Rattle.serde_json.proofs.Views.{view-Array}
-use Rattle.flow_map.specs.Access.{highest_for}
+use Rattle.meter_theory.specs.Rights.{highest_for}
 use Rattle.flow_forms.specs.Json.{array_of, index_if}
 use Rattle.flow_forms.specs.Rights.{rights_of}
 use Rattle.flow_forms.proofs.Records.{number-more}

@@ -4,7 +4,7 @@ use Rattle.std.proofs.lemmas.Result.{on_ok_weaker}
 use Rattle.meter_theory.specs.Labels.{has, labelling_of_policy}
 use Rattle.meter_theory.specs.Plan.{cells}
 use Rattle.meter_theory.specs.Ways.{set_for}
-use Rattle.flow_map.specs.Map.{Configuration}
+use Rattle.flow_map.specs.Map.{Mapped}
 use Rattle.flow_edges.specs.Table.{cell_at}
 use Rattle.flow_ways.specs.Kept.{IsShown}
 use Rattle.flow_ways.specs.Why.{IsBlockPut, indented, way_lines}
@@ -20,7 +20,7 @@ returns-in-None c =
     let shown = subst (λ o. IsShown P c.args.reach c.args.client x (option_map (λ es. es.items) o)) c.in-None.is c.in_ok-shown.ensures.shown in
     let allowed =
     c.allows.ensures
-    ∙ ap (λ (C : Configuration). has (set_for c.args.reach (labelling_of_policy C.plan C.policy (cell_at (cells C.plan) c.args.cell))) c.args.client) c.map.ensures in
+    ∙ ap (λ (C : Mapped). has (set_for c.args.reach (labelling_of_policy C.plan C.policy (cell_at (cells C.plan) c.args.cell))) c.args.client) c.map.ensures in
     subst (λ o. IfSome o (λ w. IsBlockPut P Q c.args.reach c.args.client w.name x c.args.text.now.items c.push_head.new.text.items)) (sym who)
     (block-put P Q c.args.reach c.args.client c.in-Some.who.now.name x None _ c.allows.result c.args.text.now.items c.push_head.new.text.items c.push_head.new.text.items shown
     (ap (option_map (λ es. length es.items)) c.in-None.is) allowed c.in_ok-push_head.ensures (sym (append-nil c.push_head.new.text.items)))
@@ -37,7 +37,7 @@ returns-in-Some-shown c =
     let place = ap (λ cs. cell_at cs c.args.cell) c.cells.ensures in
     let allowed =
     c.allows.ensures
-    ∙ ap (λ (C : Configuration). has (set_for c.args.reach (labelling_of_policy C.plan C.policy (cell_at (cells C.plan) c.args.cell))) c.args.client) c.map.ensures in
+    ∙ ap (λ (C : Mapped). has (set_for c.args.reach (labelling_of_policy C.plan C.policy (cell_at (cells C.plan) c.args.cell))) c.args.client) c.map.ensures in
     on_ok_weaker c.push_way.result
     (λ put.
     subst (λ o. IfSome o (λ w. IsBlockPut P Q c.args.reach c.args.client w.name x c.args.text.now.items c.push_way.new.text.items)) (sym who)

@@ -1,7 +1,6 @@
 use Rattle.std.proofs.Common.{subst}
 use Rattle.meter_theory.specs.Sound.{IsSound}
-use Rattle.meter_theory.specs.Rights.{lists}
-use Rattle.object_model.specs.Grants.{listed}
+use Rattle.meter_theory.specs.Rights.{listed, lists}
 use Rattle.label_certificate.proofs.Joins.{asked-all}
 use Rattle.label_certificate.proofs.granted.clients_with.Goals as goal
 

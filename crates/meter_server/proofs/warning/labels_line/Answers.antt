@@ -9,7 +9,7 @@ use Rattle.meter_server.proofs.warning.labels_line.Goals as goal
 pub returns : goal.returns
 returns c =
     let file = c.args.source.file.now in
-    let wider = wider_cells (labelling_of c.in-Ok.labels) c.args.map.now.labels in
+    let wider = wider_cells (labelling_of c.in-Ok.labels) c.args.least.now.labels in
     IfOk-weaker c.explain_width.result _ _
     (λ line is. rw (c.in-Ok.ensures.labels) (is
     ∙ (ap (λ (n : ℕ). width_line file whose.Labels n (length c.entries.result.now)) c.in_ok-wider.ensures

@@ -9,7 +9,7 @@ use Rattle.meter_server.proofs.warning.policy_line.Goals as goal
 pub returns : goal.returns
 returns c =
     let file = c.args.file.now in
-    let wider = wider_cells (labelling_of_policy c.args.map.now.plan c.args.map.now.policy) c.args.map.now.labels in
+    let wider = wider_cells (labelling_of_policy c.args.least.now.plan c.args.least.now.policy) c.args.least.now.labels in
     IfOk-weaker c.explain_width.result _ _
     (λ line is. is
     ∙ (ap (λ (n : ℕ). width_line file whose.Policy n (length c.entries.result.now)) c.wider_by_policy.ensures

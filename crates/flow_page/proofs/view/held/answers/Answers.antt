@@ -1,7 +1,7 @@
 use Rattle.std.proofs.Common.{◌+◌, ◌∷◌, [], ◌++◌, ap, ◌∙◌}
 use Rattle.flow_map.proofs.Ranges.{map-next}
 use Rattle.flow_map.specs.Outline.{AtName}
-use Rattle.flow_map.specs.Access.{is_granted}
+use Rattle.meter_theory.specs.Rights.{is_granted}
 use Rattle.flow_page.proofs.view.held.answers.Goals as goal
 
 pub loop-place-preserved : goal.loop-place-preserved

@@ -1,6 +1,6 @@
 use Rattle.std.proofs.Common.{◌≡◌, map, ◌+◌}
 use Rattle.std.specs.List.{range_with_len}
-use Rattle.flow_map.specs.Access.{is_granted}
+use Rattle.meter_theory.specs.Rights.{is_granted}
 use Rattle.flow_page.proofs.view.held.answers.Given as goal
 
 abbrev pub invariant-loop-place : goal.invariant-loop-place

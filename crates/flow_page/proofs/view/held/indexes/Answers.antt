@@ -1,7 +1,7 @@
 use Rattle.std.proofs.Common.{◌+◌, ◌∷◌, [], ◌++◌, cond, ap, ◌∙◌}
 use Rattle.flow_map.proofs.Ranges.{flat-next}
 use Rattle.flow_map.specs.Outline.{AtName}
-use Rattle.flow_map.specs.Access.{is_granted}
+use Rattle.meter_theory.specs.Rights.{is_granted}
 use Rattle.flow_page.specs.Objects.{index_if}
 use Rattle.flow_page.proofs.view.held.indexes.Goals as goal
 

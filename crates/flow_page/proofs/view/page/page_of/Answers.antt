@@ -4,7 +4,7 @@ use Rattle.meter_theory.specs.Labels.{Policy, labelling_of_policy}
 use Rattle.meter_theory.specs.Plan.{Plan, cells}
 use Rattle.meter_theory.specs.declared.flow.Label.{Label}
 use Rattle.flow_changes.specs.declared.compare.Comparison.{Comparison}
-use Rattle.flow_map.specs.Map.{Configuration}
+use Rattle.flow_map.specs.Map.{Mapped}
 use Rattle.flow_page.specs.declared.changes.Changes.{Changes}
 use Rattle.flow_page.specs.declared.page.Page.{Page}
 use Rattle.flow_page.specs.Changes.{AreChangesOf}
@@ -27,7 +27,7 @@ returns c =
     let P = c.args.ways.now.plan in
     let Q = c.args.ways.now.policy in
     let comparison = option_map (λ told. told.now) c.args.comparison in
-    let allowed = c.allowed.ensures ∙ ap (λ (C : Configuration). map (labelling_of_policy C.plan C.policy) (cells C.plan)) c.map.ensures in
+    let allowed = c.allowed.ensures ∙ ap (λ (C : Mapped). map (labelling_of_policy C.plan C.policy) (cells C.plan)) c.map.ensures in
     let told = ap (λ labels. told-with P labels c.gained_by.result.now c.lost_by.result.now) allowed
     ∙ ap₂ (told-with P (map (labelling_of_policy P Q) (cells P))) c.gained_by.ensures c.lost_by.ensures in
     of-page P Q _ comparison c.args.heading c.in_ok-changes.changes c.page_from.result told c.in_ok-changes.ensures c.page_from.ensures.page c.page_from.ensures.changes
