@@ -26,7 +26,8 @@ pub fn html_text(
     changes: Option<&Comparison<'_>>,
     heading: Heading,
 ) -> Result<String, Memory>
-    ensures { IfOk result (λ text. IsHtml ways.now.plan ways.now.policy (option_map (λ c. c.now) changes.entry) heading (string_bytes text)) }
+    ensures { IfOk result (λ text. IsHtml ways.now.plan ways.now.policy (option_map (λ c. c.now) changes.entry) heading
+        (string_bytes text)) }
 {
     let page = page_of(alloc, ways, heading, changes)?;
     let groups = groups_of(alloc, ways.plan(), &page.rows)?;

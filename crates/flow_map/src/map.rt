@@ -48,7 +48,8 @@ impl<'a> Model for FlowMap<'a> {
 
     ghost view = { λ m. record { plan = m.outline; policy = m.policy.now } };
 
-    ghost invariant = { λ m. AreFactsOf (record { plan = m.outline; policy = m.policy.now }) m.table m.granted.items m.allowed.items };
+    ghost invariant = { λ m. AreFactsOf (record { plan = m.outline; policy = m.policy.now })
+        m.table m.granted.items m.allowed.items };
 }
 
 impl<'a> FlowMap<'a> {
@@ -85,13 +86,6 @@ impl<'a> FlowMap<'a> {
         ensures { result.now ≡ self.now.plan }
     {
         &self.outline
-    }
-
-    /// The policy.
-    pub fn policy(&self) -> &'a Policy
-        ensures { result.now ≡ self.now.policy }
-    {
-        self.policy
     }
 
     /// The cells, in plan order.

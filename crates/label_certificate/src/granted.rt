@@ -18,15 +18,8 @@ use object_model::object::Object;
 use object_model::plan::Plan;
 use std::alloc::Global;
 
-/// For each cell of a plan, in plan order, the clients that have a right to change it, and those that may read it (own
+/// For each of the cells of a plan, in plan order, the clients that have a right to change it, and those that may read it (own
 /// profile). The only error is want of memory.
-pub fn granted_labels(alloc: Global, plan: &Plan) -> Result<Vec<Label>, Memory>
-    ensures { IfOk result (λ labels. AreGranted plan.now labels.items) }
-{
-    granted_to_cells(alloc, plan, &plan.cells(alloc)?)
-}
-
-/// The same, where the cells of the plan are at hand.
 pub fn granted_to_cells(alloc: Global, plan: &Plan, cells: &[CellRef]) -> Result<Vec<Label>, Memory>
     requires { cells.now ≡ theory.cells plan.now }
     ensures { IfOk result (λ labels. AreGranted plan.now labels.items) }
