@@ -46,7 +46,8 @@ fn explain_first(
     whole: &Value,
     faults: &[PlacedFault],
 ) -> Result<String, Memory>
-    ensures { IfOk result (λ told. TellsFirst (spec.Explains file.now text.now (view whole.now)) TOLD file.now [] faults.now (string_bytes told)) }
+    ensures { IfOk result (λ told. TellsFirst (spec.Explains file.now text.now (view whole.now)) TOLD file.now [] faults.now
+        (string_bytes told)) }
 {
     let told = first_of(TOLD, faults);
     let mut lines = each_explained(alloc, file, text, whole, told)?;

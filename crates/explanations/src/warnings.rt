@@ -76,7 +76,8 @@ fn told_of(
     whole: &Value,
     warnings: &[Warning],
 ) -> Result<String, Memory>
-    ensures { IfOk result (λ told. TellsFirst (spec.Warns file.now text.now (view whole.now)) TOLD file.now (codes "warning: ") warnings.now (string_bytes told)) }
+    ensures { IfOk result (λ told. TellsFirst (spec.Warns file.now text.now (view whole.now)) TOLD file.now (codes "warning: ")
+        warnings.now (string_bytes told)) }
 {
     let told = first_of(TOLD, warnings);
     let mut lines = each_told(alloc, file, text, whole, told)?;

@@ -12,6 +12,6 @@ loop-fault-preserved c =
     let i = c.loop-fault.fault-index in
     let before = string_bytes c.loop-fault.lines in
     let next = c.fault-item.result in
-    let grown = take_more faults i next c.loop-fault-test.true ∙ ap (λ fault. take i faults ++ fault ∷ []) (sym c.fault-item.is) in
     let pushed = c.in_ok-push_str.ensures.bytes ∙ ap (λ (line : List ℕ). before ++ line) c.deref.ensures in
-    rw (pushed, grown) (tells-more Tells (take i faults) next before (string_bytes c.in_ok-told.told) c.loop-fault.invariant c.in_ok-told.ensures)
+    rw (pushed, take_more faults i next c.loop-fault-test.true, ← c.fault-item.is)
+    (tells-more Tells (take i faults) next before (string_bytes c.in_ok-told.told) c.loop-fault.invariant c.in_ok-told.ensures)
