@@ -7,9 +7,7 @@ use Rattle.std.proofs.lemmas.List.FromFn.{length-range_with_len}
 use Rattle.meter_theory.specs.Plan.{Plan, cells}
 use Rattle.meter_theory.specs.Sound.{IsSound}
 use Rattle.flow_map.specs.Grouping.{AreGrouped}
-use Rattle.flow_page.specs.Marks.{Told}
-use Rattle.flow_page.specs.Objects.{AreObjectRows, object_key}
-use Rattle.flow_page.specs.Rows.{AreRows, AreRowsOf, IsRow, row_key, singles}
+use Rattle.flow_page.specs.Rows.{AreAlike, AreRowsOf, IsRow, singles}
 use Rattle.flow_page.specs.declared.view.limits.TheConstants.{ROWS}
 use Rattle.flow_map.proofs.Places.{cells-few}
 use Rattle.flow_page.specs.WayTables.{row_at}
@@ -22,23 +20,14 @@ row-there count rows k row are less is =
     let f = λ (v : Vec ℕ Global). v.items in
     subst (IsRow count) (get_or-map f rows k row row.items less ∙ sym (ap f is)) (are k row.items (subst (λ n. k < n) (sym (length-map rows f)) less))
 
-pub matrix-rows : (t : Told) (rows : List (List ℕ)) → AreRows t rows → AreRowsOf (length (cells t.plan)) rows
-matrix-rows t rows are = at (nat_le (length (cells t.plan)) ROWS) are
+pub alike-rows : {A : Type 0} (key : ℕ → A) (count : ℕ) (rows : List (List ℕ)) → AreAlike key count rows → AreRowsOf count rows
+alike-rows key count rows are = at (nat_le count ROWS) are
   where
-    at : (b : Bool) → MatchBool b (rows ≡ singles (length (cells t.plan))) (AreGrouped (map (row_key t) (range_with_len 0 (length (cells t.plan)))) rows) → AreRowsOf (length (cells t.plan)) rows
-    at true is = subst (AreRowsOf (length (cells t.plan))) (sym is) (single-rows (length (cells t.plan)))
+    at : (b : Bool) → MatchBool b (rows ≡ singles count) (AreGrouped (map key (range_with_len 0 count)) rows) → AreRowsOf count rows
+    at true is = subst (AreRowsOf count) (sym is) (single-rows count)
     at false grouped =
-        let n = length (cells t.plan) in
-        subst (λ m. AreRowsOf m rows) (length-map (range_with_len 0 n) (row_key t) ∙ length-range_with_len 0 n) (grouped-rows (map (row_key t) (range_with_len 0 n)) rows grouped)
-
-pub object-rows : (P : Plan) (rows : List (List ℕ)) → AreObjectRows P rows → AreRowsOf (length P.objects) rows
-object-rows P rows are = at (nat_le (length P.objects) ROWS) are
-  where
-    at : (b : Bool) → MatchBool b (rows ≡ singles (length P.objects)) (AreGrouped (map (object_key P) (range_with_len 0 (length P.objects))) rows) → AreRowsOf (length P.objects) rows
-    at true is = subst (AreRowsOf (length P.objects)) (sym is) (single-rows (length P.objects))
-    at false grouped =
-        let n = length P.objects in
-        subst (λ m. AreRowsOf m rows) (length-map (range_with_len 0 n) (object_key P) ∙ length-range_with_len 0 n) (grouped-rows (map (object_key P) (range_with_len 0 n)) rows grouped)
+        subst (λ n. AreRowsOf n rows) (length-map (range_with_len 0 count) key ∙ length-range_with_len 0 count)
+        (grouped-rows (map key (range_with_len 0 count)) rows grouped)
 
 -- a row has no more cells than a plan can have
 pub few-cells : (P : Plan) → IsSound P → (rows : List (Vec ℕ Global)) (r size : ℕ) → AreRowsOf (length (cells P)) (map (λ v. v.items) rows) → r < length rows →

@@ -1,10 +1,9 @@
 -- What rows have alike that are shown as one.
-use Rattle.std.specs.Prelude.{ℕ, Bool, List, Option, Some, None}
+use Rattle.std.specs.Prelude.{ℕ, List, Option, Some, None}
 use Rattle.flow_map.specs.declared.request.GrantedRequest.TheVariants as request
 use Rattle.flow_page.specs.declared.matrix.Found.{Found}
 use Rattle.flow_page.specs.declared.matrix.Found.TheVariants as found
 use Rattle.flow_page.specs.declared.view.keys.MarkKey.{MarkKey}
-use Rattle.flow_page.specs.declared.view.keys.ObjectKey.{ObjectKey}
 use Rattle.flow_page.specs.declared.view.keys.RowKey.{RowKey}
 use Rattle.flow_page.specs.declared.view.keys.Word.{Word}
 use Rattle.flow_page.specs.declared.view.keys.Word.TheVariants.{Nothing, Get, Set, Act, Edges}
@@ -26,13 +25,3 @@ pub record RowFacts : Type 0 where
 
 abbrev pub row_facts : RowKey → RowFacts
 row_facts key = record { class_id = key.class_id; index = key.index; marks = key.marks.items }
-
--- what the objects of a row have alike: their class, whether inputs from outside go to them, and the answers to whether a client
--- sees them and may get, set and call what they have (own profile)
-pub record ObjectFacts : Type 0 where
-  pub class_id : ℕ
-  pub is_fed : Bool
-  pub answers : List Bool
-
-abbrev pub object_facts : ObjectKey → ObjectFacts
-object_facts key = record { class_id = key.class_id; is_fed = key.is_fed; answers = key.answers.items }

@@ -3,7 +3,6 @@ pub mod Tables
 pub mod Matrix
 pub mod Page
 pub mod Keys
-pub mod Equal
 pub mod Marks
 pub mod Rows
 pub mod Clients

@@ -1,6 +1,6 @@
 -- The rows of the matrix with their marks.
 use Rattle.std.specs.Prelude.{ℕ, ◌-◌, ◌==◌, Bool, ◌&&◌, cond, List, [], ◌∷◌, flat_map, length, map, Option, Some, None, option_map}
-use Rattle.std.specs.List.{list_any, range_with_len}
+use Rattle.std.specs.List.{filter, list_any, range_with_len}
 use Rattle.cosem_data.specs.Cells.{same_name}
 use Rattle.cosem_data.specs.declared.cell.CellRef.{CellRef}
 use Rattle.meter_theory.specs.Plan.{Plan, cells}
@@ -17,7 +17,7 @@ use Rattle.flow_page.specs.declared.matrix.WayLink.{WayLink}
 use Rattle.flow_page.specs.declared.ways.Anchor.{Anchor}
 use Rattle.flow_page.specs.Lines.{Line, line_shown, title_of}
 use Rattle.flow_page.specs.Marks.{Told, standing_of}
-use Rattle.flow_page.specs.WayTables.{anchor_of, first_of, is_pick, row_at}
+use Rattle.flow_page.specs.WayTables.{anchor_of, first_of, is_way, leads_to, row_at}
 use Rattle.flow_page.specs.declared.view.picks.Pick.{Pick}
 
 -- where a way is told, and its first lines: own profile
@@ -42,7 +42,8 @@ mark_shown mark = record { reach = mark.reach; found = mark.found; allowed = mar
 abbrev pub link_of : Plan → Reach → ℕ → ℕ → LinkShown
 link_of P reach c i = record { anchor = anchor_of reach c i; title = title_of P reach c (cell_at (cells P) i) }
 
--- the mark of a client and a row, which is that of the row's first cell, with where its way is told if it is one of those: own profile
+-- the mark of a client and a row, which is that of the row's first cell, with where its way is told if it is one of those to the row
+-- (own profile)
 abbrev pub mark_of : Told → List Pick → List (List ℕ) → Reach → ℕ → ℕ → MarkShown
 mark_of t linked rows reach c r =
     let i = first_of rows r in
@@ -52,7 +53,7 @@ mark_of t linked rows reach c r =
       found = s.found;
       allowed = s.allowed;
       change = s.change;
-      link = cond (list_any (is_pick reach c r) linked) (Some (link_of t.plan reach c i)) None;
+      link = cond (list_any (is_way reach c) linked) (Some (link_of t.plan reach c i)) None;
     }
 
 -- that of influence, and then that of learning: own profile
@@ -82,5 +83,5 @@ abbrev pub matrix_row : Told → List Pick → List (List ℕ) → ℕ → RowSh
 matrix_row t linked rows r = record {
   opening = opening_of t.plan rows r;
   cells_are = map (cell_at (cells t.plan)) (row_at rows r);
-  marks = flat_map (client_marks t linked rows r) (range_with_len 0 (length t.plan.clients));
+  marks = flat_map (client_marks t (filter (leads_to r) linked) rows r) (range_with_len 0 (length t.plan.clients));
 }

@@ -1,6 +1,5 @@
 -- The objects of a plan, and the rights on them.
-use Rattle.std.specs.Prelude.{◌≡◌, ℕ, ◌+◌, Bool, false, cond, nat_le, List, [], ◌∷◌, ◌++◌, count_by, flat_map, get_or, length, map}
-use Rattle.std.specs.Bool.{MatchBool}
+use Rattle.std.specs.Prelude.{ℕ, ◌+◌, Bool, false, cond, nat_le, List, [], ◌∷◌, count_by, flat_map, get_or, length, map}
 use Rattle.std.specs.List.{range_with_len}
 use Rattle.cosem_data.specs.declared.name.LogicalName.{LogicalName}
 use Rattle.meter_theory.specs.Edges.{same_cause}
@@ -9,16 +8,15 @@ use Rattle.meter_theory.specs.Rights.{in_view}
 use Rattle.meter_theory.specs.declared.flow.Cause.{Cause}
 use Rattle.meter_theory.specs.declared.flow.Cause.TheVariants as cause
 use Rattle.meter_theory.specs.declared.flow.Edge.{Edge}
-use Rattle.flow_map.specs.Grouping.{AreGrouped}
 use Rattle.meter_theory.specs.Rights.{highest_for, is_granted}
 use Rattle.meter_theory.specs.declared.flow.Access.{Access}
 use Rattle.meter_theory.specs.declared.flow.Access.TheVariants.{Get, Set, Act}
 use Rattle.flow_page.specs.declared.objects.Held.{Held}
 use Rattle.flow_page.specs.declared.objects.ObjectRow.{ObjectRow}
 use Rattle.flow_page.specs.declared.page.CauseCount.{CauseCount}
-use Rattle.flow_page.specs.Keys.{ObjectFacts}
-use Rattle.flow_page.specs.Rows.{singles}
-use Rattle.flow_page.specs.declared.view.limits.TheConstants.{EDGES, ROWS}
+use Rattle.flow_page.specs.Rows.{AreAlike}
+use Rattle.flow_page.specs.declared.view.keys.ObjectKey.{ObjectKey}
+use Rattle.flow_page.specs.declared.view.limits.TheConstants.{EDGES}
 
 -- the object at a place
 abbrev pub object_at : Plan → ℕ → Object
@@ -49,46 +47,36 @@ held_of P o c = record { sees = in_view P c o.name; gets = indexes P o c Get; se
 
 -- Rows
 
--- whether rights allow a client each index: own profile
-abbrev pub answers : Plan → Object → ℕ → Access → List Bool
-answers P o c access = map (λ k. is_granted P c access o.name (k + 1)) (range_with_len 0 (highest_for access (interface_of o.part)))
-
--- whether a client sees an object, and what it may do with it: own profile
-abbrev pub client_answers : Plan → Object → ℕ → List Bool
-client_answers P o c = in_view P c o.name ∷ (answers P o c Get ++ (answers P o c Set ++ answers P o c Act))
-
--- what the objects of a row have alike: own profile
-abbrev pub object_key : Plan → ℕ → ObjectFacts
-object_key P k =
-    let o = object_at P k in
-    record { class_id = (interface_of o.part).class_id; is_fed = o.fed; answers = flat_map (client_answers P o) (range_with_len 0 (length P.clients)) }
-
--- the numbers of the objects of each row: up to 100 objects have a row each, and past it those that are alike share one (own profile)
-abbrev pub AreObjectRows : Plan → List (List ℕ) → Type 0
-AreObjectRows P rows =
-    let count = length P.objects in
-    MatchBool (nat_le count ROWS) (rows ≡ singles count) (AreGrouped (map (object_key P) (range_with_len 0 count)) rows)
-
--- what is told of the objects of a row: own profile
-pub record ObjectShown : Type 0 where
-  pub names : List LogicalName
+-- what the objects of a row have alike: their class, whether inputs from outside go to them, and what each client may do with them
+-- (own profile)
+pub record ObjectFacts : Type 0 where
   pub class_id : ℕ
   pub is_fed : Bool
   pub held : List HeldShown
 
-abbrev pub object_shown : ObjectRow → ObjectShown
-object_shown row = record { names = row.names.items; class_id = row.class_id; is_fed = row.is_fed; held = map held_shown row.held.items }
+abbrev pub object_facts : ObjectKey → ObjectFacts
+object_facts key = record { class_id = key.class_id; is_fed = key.is_fed; held = map held_shown key.held.items }
 
--- their names, and of the first its class and what each client may do: own profile
+abbrev pub object_key : Plan → ℕ → ObjectFacts
+object_key P k =
+    let o = object_at P k in
+    record { class_id = (interface_of o.part).class_id; is_fed = o.fed; held = map (held_of P o) (range_with_len 0 (length P.clients)) }
+
+-- the numbers of the objects of each row: those that are alike share one, where there are many
+abbrev pub AreObjectRows : Plan → List (List ℕ) → Type 0
+AreObjectRows P rows = AreAlike (object_key P) (length P.objects) rows
+
+-- what is told of the objects of a row: own profile
+pub record ObjectShown : Type 0 where
+  pub names : List LogicalName
+  pub alike : ObjectFacts
+
+abbrev pub object_shown : ObjectRow → ObjectShown
+object_shown row = record { names = row.names.items; alike = record { class_id = row.class_id; is_fed = row.is_fed; held = map held_shown row.held.items } }
+
+-- their names, and what they have alike, by the first: own profile
 abbrev pub object_row : Plan → List ℕ → ObjectShown
-object_row P row =
-    let o = object_at P (get_or row 0 0) in
-    record {
-      names = map (λ k. (object_at P k).name) row;
-      class_id = (interface_of o.part).class_id;
-      is_fed = o.fed;
-      held = map (held_of P o) (range_with_len 0 (length P.clients));
-    }
+object_row P row = record { names = map (λ k. (object_at P k).name) row; alike = object_key P (get_or row 0 0) }
 
 -- Edges
 

@@ -14,7 +14,7 @@ use Rattle.flow_page.specs.declared.verdict_text.TheConstants.{ACCEPTED, REFUSED
 
 -- the name of the page, as its title and as its heading
 abbrev pub head_facts : Page → List Fact
-head_facts page = text (string_bytes page.name) ∷ text (string_bytes page.name) ∷ []
+head_facts page = text (string_bytes page.heading.name) ∷ text (string_bytes page.heading.name) ∷ []
 
 -- the client reaches a cell against the policy
 abbrev pub exceeds : ClientRow → Bool
@@ -40,16 +40,16 @@ refusal_facts clients =
 -- the verdict and its line, and what it means: which labels fit and that they keep within the policy, or why labels are refused
 abbrev pub verdict_facts : Page → List Fact
 verdict_facts page =
-    if page.accepted then
-    (mark ACCEPTED.now ∷ text (string_bytes page.verdict)
-    ∷ mark (if page.given_labels then GIVEN_FIT.now else LEAST_FIT.now) ∷ mark KEPT.now ∷ [])
-    else (mark REFUSED.now ∷ text (string_bytes page.verdict) ∷ refusal_facts page.clients.items)
+    if page.heading.accepted then
+    (mark ACCEPTED.now ∷ text (string_bytes page.heading.verdict)
+    ∷ mark (if page.heading.given_labels then GIVEN_FIT.now else LEAST_FIT.now) ∷ mark KEPT.now ∷ [])
+    else (mark REFUSED.now ∷ text (string_bytes page.heading.verdict) ∷ refusal_facts page.clients.items)
 
 -- how many things there are
 abbrev pub numbers_facts : Page → List Fact
 numbers_facts page =
     number page.object_count ∷ number page.cell_count ∷ number (vec_len page.clients) ∷ number page.edge_count
-    ∷ number page.by_right ∷ number page.by_edges ∷ number page.not_allowed ∷ number page.no_way ∷ []
+    ∷ number page.total.by_right ∷ number page.total.by_edges ∷ number page.total.not_allowed ∷ number page.total.no_way ∷ []
 
 -- links to the two parts that not every page has
 abbrev pub contents_facts : Page → List Fact

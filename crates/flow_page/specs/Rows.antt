@@ -38,11 +38,14 @@ row_key t i = record {
 abbrev pub singles : ℕ → List (List ℕ)
 singles count = map (λ i. i ∷ []) (range_with_len 0 count)
 
--- the numbers of the cells of each row: up to 100 cells have a row each, and past it those that are alike share one (own profile)
+-- the numbers of the items of each row, where each number has this key: up to 100 items have a row each, and past it those of equal
+-- keys share one (own profile)
+abbrev pub AreAlike : {A : Type 0} → (ℕ → A) → ℕ → List (List ℕ) → Type 0
+AreAlike key count rows = MatchBool (nat_le count ROWS) (rows ≡ singles count) (AreGrouped (map key (range_with_len 0 count)) rows)
+
+-- those of the cells
 abbrev pub AreRows : Told → List (List ℕ) → Type 0
-AreRows t rows =
-    let count = length (cells t.plan) in
-    MatchBool (nat_le count ROWS) (rows ≡ singles count) (AreGrouped (map (row_key t) (range_with_len 0 count)) rows)
+AreRows t rows = AreAlike (row_key t) (length (cells t.plan)) rows
 
 -- a row of items of which there are so many: it has one at least
 pub record IsRow (count : ℕ) (row : List ℕ) : Type 0 where

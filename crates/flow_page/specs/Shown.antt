@@ -1,12 +1,11 @@
 -- What a page shows of a plan: its value, as a function of the plan, its policy and what has changed.
-use Rattle.std.specs.Prelude.{◌≡◌, ℕ, ◌+◌, ◌==◌, false, List, [], ◌++◌, length, map, Option, Some, None}
-use Rattle.std.specs.List.{range_with_len, sum_by}
+use Rattle.std.specs.Prelude.{◌≡◌, ℕ, ◌==◌, false, List, [], ◌++◌, length, map, Option, Some, None}
+use Rattle.std.specs.List.{range_with_len}
 use Rattle.meter_theory.specs.Edges.{edges}
 use Rattle.meter_theory.specs.Labels.{Policy, labelling_of_policy}
 use Rattle.meter_theory.specs.Plan.{Plan, cells}
 use Rattle.meter_theory.specs.declared.flow.Edge.{Edge}
 use Rattle.meter_theory.specs.declared.flow.Label.{Label}
-use Rattle.meter_theory.specs.declared.flow.Reach.TheVariants.{Influence, Learn}
 use Rattle.flow_changes.specs.declared.compare.Comparison.{Comparison}
 use Rattle.flow_page.specs.declared.matrix.MatrixRow.{MatrixRow}
 use Rattle.flow_page.specs.declared.objects.ObjectRow.{ObjectRow}
@@ -14,23 +13,14 @@ use Rattle.flow_page.specs.declared.page.CauseCount.{CauseCount}
 use Rattle.flow_page.specs.declared.page.Page.{Page}
 use Rattle.flow_page.specs.declared.ways.WayTable.{WayTable}
 use Rattle.flow_page.specs.Changes.{AreChangesOf}
-use Rattle.flow_page.specs.Clients.{client_row, client_shown, count_of}
+use Rattle.flow_page.specs.Clients.{AreClients}
 use Rattle.flow_page.specs.Marks.{Told}
 use Rattle.flow_page.specs.Marked.{matrix_row, row_shown}
 use Rattle.flow_page.specs.Objects.{AreObjectRows, cause_count, causes, listed_edges, object_row, object_shown}
 use Rattle.flow_page.specs.Rows.{AreRows}
 use Rattle.flow_page.specs.WayTables.{IsTable, reached_left, reached_told, refused_left, refused_told}
-use Rattle.flow_page.specs.declared.view.clients.Kind.{Kind}
-use Rattle.flow_page.specs.declared.view.clients.Kind.TheVariants.{ByRight, ByEdges, NotAllowed, NoWay}
 use Rattle.flow_page.specs.declared.view.page.Heading.{Heading}
 use Rattle.flow_page.specs.declared.view.parts.Chosen.{Chosen}
-
--- how many cells of a kind there are, for influence and for learning, over all clients: own profile
-abbrev pub client_total : Told → Kind → ℕ → ℕ
-client_total t kind c = count_of t kind Influence c (length (cells t.plan)) + count_of t kind Learn c (length (cells t.plan))
-
-abbrev pub total_of : Told → Kind → ℕ → ℕ
-total_of t kind clients = sum_by (client_total t kind) (range_with_len 0 clients)
 
 -- the ways that tables tell: own profile
 pub record AreChosen (t : Told) (rows : List (List ℕ)) (chosen : Chosen) : Type 0 where
@@ -67,20 +57,11 @@ pub record AreEdges (P : Plan) (count : ℕ) (counts : List CauseCount) (listed 
 
 -- the page, but for what has changed: own profile
 pub record IsPage (t : Told) (heading : Heading) (page : Page) : Type 0 where
-  -- what its heading says
-  pub name_is : page.name ≡ heading.name
-  pub verdict_is : page.verdict ≡ heading.verdict
-  pub accepted_is : page.accepted ≡ heading.accepted
-  pub given_labels_is : page.given_labels ≡ heading.given_labels
+  pub heading_is : page.heading ≡ heading
   -- how much there is
   pub object_count_is : page.object_count ≡ length t.plan.objects
   pub cell_count_is : page.cell_count ≡ length (cells t.plan)
-  pub by_right_is : page.by_right ≡ total_of t ByRight (length t.plan.clients)
-  pub by_edges_is : page.by_edges ≡ total_of t ByEdges (length t.plan.clients)
-  pub not_allowed_is : page.not_allowed ≡ total_of t NotAllowed (length t.plan.clients)
-  pub no_way_is : page.no_way ≡ total_of t NoWay (length t.plan.clients)
-  -- the clients
-  pub clients_are : map client_shown page.clients.items ≡ map (client_row t) (range_with_len 0 (length t.plan.clients))
+  pub clients_are : AreClients t page.clients.items page.total
   -- the matrix, and both tables of ways
   pub matrix_is : AreMatrix t page.rows.items page.refused page.reached
   -- the objects and the edges

@@ -8,6 +8,7 @@ use Rattle.meter_theory.specs.declared.flow.Reach.{Reach}
 use Rattle.meter_theory.specs.declared.flow.Reach.TheVariants.{Influence, Learn}
 use Rattle.flow_map.specs.Grouping.{AreGrouped}
 use Rattle.flow_edges.specs.Table.{cell_at, no_cell}
+use Rattle.flow_changes.specs.Facts.{same_reach}
 use Rattle.flow_ways.specs.Found.{distance_of}
 use Rattle.flow_map.specs.declared.request.GrantedRequest.{GrantedRequest}
 use Rattle.flow_map.specs.declared.request.GrantedRequest.TheVariants.{Get}
@@ -16,10 +17,8 @@ use Rattle.flow_page.specs.declared.ways.WayGroup.{WayGroup}
 use Rattle.flow_page.specs.declared.ways.WayRow.{WayRow}
 use Rattle.flow_page.specs.declared.ways.WayTable.{WayTable}
 use Rattle.flow_page.specs.Clients.{client_at}
-use Rattle.flow_page.specs.Equal.{same_reach}
 use Rattle.flow_page.specs.Lines.{Line, line_shown, lines_of}
 use Rattle.flow_page.specs.Marks.{Told, has_at, request_of}
-use Rattle.flow_page.specs.declared.view.keys.WayKey.{WayKey}
 use Rattle.flow_page.specs.declared.view.limits.TheConstants.{WAYS}
 use Rattle.flow_page.specs.declared.view.picks.Pick.{Pick}
 use Rattle.flow_page.specs.declared.view.picks.Sort.{Sort}
@@ -85,9 +84,12 @@ reached_told t rows = take (reached_room t rows) (picks t Reached rows)
 abbrev pub reached_left : Told → List (List ℕ) → ℕ
 reached_left t rows = length (picks t Reached rows) - reached_room t rows
 
--- the way of a client to a row is one of those: own profile
-abbrev pub is_pick : Reach → ℕ → ℕ → Pick → Bool
-is_pick reach c r pick = same_reach pick.reach reach && ((pick.client == c) && (pick.row == r))
+-- the way leads to a row, and is of a client: own profile
+abbrev pub leads_to : ℕ → Pick → Bool
+leads_to r pick = pick.row == r
+
+abbrev pub is_way : Reach → ℕ → Pick → Bool
+is_way reach c pick = same_reach pick.reach reach && (pick.client == c)
 
 -- Tables
 
@@ -116,6 +118,11 @@ way_row P rows pick =
     }
 
 -- what the ways of a group have alike: own profile
+pub record WayKey : Type 0 where
+  pub request : GrantedRequest
+  pub client : ℕ
+  pub reach : Reach
+
 abbrev pub way_key : Pick → WayKey
 way_key pick = record { request = pick.request; client = pick.client; reach = pick.reach }
 

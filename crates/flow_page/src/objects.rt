@@ -15,7 +15,7 @@ pub struct ObjectRow {
 }
 
 /// What a client may do with an object.
-#[derive(Drop)]
+#[derive(PartialEq, Eq, Drop)]
 pub struct Held {
     /// Whether it sees the object.
     pub sees: bool,

@@ -2,34 +2,23 @@
 use crate::changes::Changes;
 use crate::matrix::MatrixRow;
 use crate::objects::ObjectRow;
+use crate::view::page::Heading;
 use crate::ways::WayTable;
 use meter_theory::flow::{Cause, Edge};
 
 /// What a page shows of a configuration (own profile).
 #[derive(Drop)]
 pub struct Page {
-    /// The last part of the name of the configuration's file.
-    pub name: String,
-    /// The line of the verdict.
-    pub verdict: String,
-    /// Whether it accepts.
-    pub accepted: bool,
-    /// Whether it is on labels that were given, and not on the least labels.
-    pub given_labels: bool,
+    /// What it says at its head.
+    pub heading: Heading,
     /// How many objects the configuration has.
     pub object_count: usize,
     /// How many cells it has.
     pub cell_count: usize,
     /// How many edges it has.
     pub edge_count: usize,
-    /// How many cells its clients reach by a right: the sum over them, for influence and for learning.
-    pub by_right: usize,
-    /// How many they reach by edges, and not by a right: the same sum.
-    pub by_edges: usize,
-    /// How many of both the policy doesn't allow: the same sum.
-    pub not_allowed: usize,
-    /// How many cells the policy allows them and there is no way to: the same sum.
-    pub no_way: usize,
+    /// How many cells its clients reach, or could: the sum over them, for influence and for learning.
+    pub total: Counts,
     /// Its clients.
     pub clients: Vec<ClientRow>,
     /// The matrix: a row for each cell, or for cells that are alike.

@@ -59,7 +59,7 @@ const TO_CHANGES: &str = "<a href=\"#changes\">Changes</a>";
 pub(crate) fn put_head<'a>(pieces: &mut Pieces<'a>, page: &'a Page) -> Result<(), Memory>
     ensures { OnOk result (facts pieces.new.items ≡ facts pieces.old.items ++ spec.head_facts page.now) }
 {
-    let name = Hole(page.name.as_str());
+    let name = Hole(page.heading.name.as_str());
     fill(
         pieces,
         POLICY,
@@ -142,13 +142,13 @@ fn put_refusal<'a>(pieces: &mut Pieces<'a>, clients: &'a [ClientRow]) -> Result<
 pub(crate) fn put_verdict<'a>(pieces: &mut Pieces<'a>, page: &'a Page) -> Result<(), Memory>
     ensures { OnOk result (facts pieces.new.items ≡ facts pieces.old.items ++ spec.verdict_facts page.now) }
 {
-    let verdict = Hole(page.verdict.as_str());
-    if !page.accepted {
+    let verdict = Hole(page.heading.verdict.as_str());
+    if !page.heading.accepted {
         fill(pieces, "{}{}</strong>", &[Mark(REFUSED), verdict])?;
         put_refusal(pieces, &page.clients)?;
         return fill(pieces, "</div>\n", &[]);
     }
-    let fitting = if page.given_labels {
+    let fitting = if page.heading.given_labels {
         GIVEN_FIT
     } else {
         LEAST_FIT
@@ -169,10 +169,10 @@ pub(crate) fn put_numbers(pieces: &mut Pieces<'_>, page: &Page) -> Result<(), Me
             Number(page.cell_count as u128),
             Number(page.clients.len() as u128),
             Number(page.edge_count as u128),
-            Number(page.by_right as u128),
-            Number(page.by_edges as u128),
-            Number(page.not_allowed as u128),
-            Number(page.no_way as u128),
+            Number(page.total.by_right as u128),
+            Number(page.total.by_edges as u128),
+            Number(page.total.not_allowed as u128),
+            Number(page.total.no_way as u128),
         ],
     )
 }

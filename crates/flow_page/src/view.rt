@@ -10,7 +10,6 @@
 mod changes;
 mod clients;
 mod edges;
-mod equal;
 mod facts;
 mod held;
 mod keys;

@@ -1,11 +1,10 @@
 //! What is told of the clients.
-ghost use Rattle.std.specs.Prelude.{◌≡◌, ◌<◌, ◌≤◌, IfOk, count_by, length, map};
-ghost use Rattle.std.specs.List.{range_with_len};
+ghost use Rattle.std.specs.Prelude.{◌≡◌, ◌+◌, ◌<◌, ◌≤◌, ◌^◌, IfOk, count_by, length};
 ghost use Rattle.meter_theory.specs.Plan as theory;
 ghost use Rattle.meter_theory.specs.Rights.{in_view};
 ghost use Rattle.flow_page.specs.Clients as spec;
+ghost use Rattle.flow_page.specs.Clients.{AreClients, size_of};
 ghost use Rattle.flow_page.specs.Marks.{told};
-ghost use Rattle.flow_page.specs.Shown.{client_total, total_of};
 
 use crate::page::{ClientRow, Counts};
 use crate::view::facts::Facts;
@@ -15,35 +14,42 @@ use flow_map::outline::Outline;
 use meter_theory::flow::Reach;
 use std::alloc::Global;
 
-/// Which cells are counted (own profile).
-#[derive(Clone, Copy)]
-pub(crate) enum Kind {
-    /// Those that a client reaches by a right.
-    ByRight,
-    /// Those that it reaches by edges.
-    ByEdges,
-    /// Of both those that the policy doesn't allow.
-    NotAllowed,
-    /// Those that the policy allows and to which there is no way.
-    NoWay,
+/// What is told of clients.
+#[derive(Drop)]
+pub(crate) struct ClientParts {
+    /// What is told of each.
+    pub rows: Vec<ClientRow>,
+    /// The sum of their counts, for influence and for learning.
+    pub total: Counts,
 }
 
-/// What is told of each client. The only error is want of memory.
-pub(crate) fn client_rows(alloc: Global, facts: &Facts<'_>) -> Result<Vec<ClientRow>, Memory>
-    ensures { IfOk result (λ rows. map spec.client_shown rows.items
-        ≡ map (spec.client_row (told facts.now)) (range_with_len 0 (length facts.now.ways.now.plan.clients))) }
+/// No cells.
+const NONE: Counts = Counts {
+    by_right: 0,
+    by_edges: 0,
+    not_allowed: 0,
+    no_way: 0,
+};
+
+/// What is told of the clients of a plan. The only error is want of memory.
+pub(crate) fn clients_of(alloc: Global, facts: &Facts<'_>) -> Result<ClientParts, Memory>
+    ensures { IfOk result (λ parts. AreClients (told facts.now) parts.rows.items parts.total) }
 {
     let mut rows = Vec::new(alloc);
+    let mut total = NONE;
     for client in 0..facts.ways.plan().client_count() {
-        rows.push(client_row(alloc, facts, client)?)?;
+        let row = client_row(alloc, facts, client)?;
+        total = plus(total, plus(row.influence, row.learn));
+        rows.push(row)?;
     }
-    Ok(rows)
+    Ok(ClientParts { rows, total })
 }
 
 /// What is told of a client.
 fn client_row(alloc: Global, facts: &Facts<'_>, client: u8) -> Result<ClientRow, Memory>
     requires { client < length facts.now.ways.now.plan.clients }
-    ensures { IfOk result (λ row. spec.client_shown row ≡ spec.client_row (told facts.now) client) }
+    ensures is { IfOk result (λ row. spec.client_shown row ≡ spec.client_row (told facts.now) client) }
+    ensures few { IfOk result (λ row. size_of row.influence + size_of row.learn ≤ 12288) }
 {
     let plan = facts.ways.plan();
     let Some(who) = plan.client(client) else {
@@ -72,79 +78,47 @@ fn objects_in_view(plan: &Outline<'_>, client: u8) -> usize
 /// How many cells a client reaches, or could.
 fn counts_of(facts: &Facts<'_>, reach: Reach, client: u8) -> Counts
     requires { client < length facts.now.ways.now.plan.clients }
-    ensures { result ≡ spec.counts_of (told facts.now) reach client }
+    ensures is { result ≡ spec.counts_of (told facts.now) reach client (length (theory.cells facts.now.ways.now.plan)) }
+    ensures few { size_of result ≤ 6144 }
+{
+    facts.ways.plan().known();
+    let mut counts = NONE;
+    for cell in 0..facts.ways.cells().len() {
+        let distance = distance(facts.ways, reach, client, cell);
+        let allowed = has_at(facts.allowed, reach, client, cell);
+        counts = plus(counts, counted(distance, allowed));
+    }
+    counts
+}
+
+/// As what a cell counts at this distance, which the policy allows or not.
+fn counted(distance: Option<usize>, allowed: bool) -> Counts
+    ensures { result ≡ spec.counted distance allowed }
+{
+    match distance {
+        None => Counts {
+            no_way: usize::from(allowed),
+            ..NONE
+        },
+        Some(edges) => Counts {
+            by_right: usize::from(edges == 0),
+            by_edges: usize::from(0 < edges),
+            not_allowed: usize::from(!allowed),
+            no_way: 0,
+        },
+    }
+}
+
+/// The sum of two counts.
+fn plus(counts: Counts, more: Counts) -> Counts
+    requires { size_of counts + size_of more < 2 ^ 32 }
+    ensures is { result ≡ spec.plus counts more }
+    ensures size { size_of result ≡ size_of counts + size_of more }
 {
     Counts {
-        by_right: count(facts, Kind::ByRight, reach, client),
-        by_edges: count(facts, Kind::ByEdges, reach, client),
-        not_allowed: count(facts, Kind::NotAllowed, reach, client),
-        no_way: count(facts, Kind::NoWay, reach, client),
-    }
-}
-
-/// How many cells of this kind there are, for influence and for learning, over all clients.
-pub(crate) fn total_of(facts: &Facts<'_>, kind: Kind) -> usize
-    ensures { result ≡ total_of (told facts.now) kind (length facts.now.ways.now.plan.clients) }
-{
-    facts.ways.plan().known();
-    let mut total = 0;
-    for client in 0..facts.ways.plan().client_count() {
-        total += client_total(facts, kind, client);
-    }
-    total
-}
-
-/// How many there are of a client.
-fn client_total(facts: &Facts<'_>, kind: Kind, client: u8) -> usize
-    requires { client < length facts.now.ways.now.plan.clients }
-    ensures is { result ≡ client_total (told facts.now) kind client }
-    ensures few { result ≤ 4096 }
-{
-    let influence = count(facts, kind, Reach::Influence, client);
-    let learn = count(facts, kind, Reach::Learn, client);
-    influence + learn
-}
-
-/// How many cells are of this kind.
-fn count(facts: &Facts<'_>, kind: Kind, reach: Reach, client: u8) -> usize
-    requires { client < length facts.now.ways.now.plan.clients }
-    ensures is { result ≡ spec.count_of (told facts.now) kind reach client (length (theory.cells facts.now.ways.now.plan)) }
-    ensures few { result ≤ 2048 }
-{
-    facts.ways.plan().known();
-    let mut count = 0;
-    for cell in 0..facts.ways.cells().len() {
-        if counts_at(facts, kind, reach, client, cell) {
-            count += 1;
-        }
-    }
-    count
-}
-
-/// Whether a cell is of this kind.
-fn counts_at(facts: &Facts<'_>, kind: Kind, reach: Reach, client: u8, cell: usize) -> bool
-    requires cell { cell < length (theory.cells facts.now.ways.now.plan) }
-    requires client { client < length facts.now.ways.now.plan.clients }
-    ensures { result ≡ spec.counts_at (told facts.now) kind reach client cell }
-{
-    let distance = distance(facts.ways, reach, client, cell);
-    let allowed = has_at(facts.allowed, reach, client, cell);
-    counts(kind, distance, allowed)
-}
-
-/// Whether a cell at this distance, which the policy allows or not, is of this kind.
-fn counts(kind: Kind, distance: Option<usize>, allowed: bool) -> bool
-    ensures { result ≡ spec.counts kind distance allowed }
-{
-    match (kind, distance) {
-        (Kind::ByRight, Some(0)) => true,
-        (Kind::ByRight, _) => false,
-        (Kind::ByEdges, Some(0)) => false,
-        (Kind::ByEdges, Some(_)) => true,
-        (Kind::ByEdges, None) => false,
-        (Kind::NotAllowed, Some(_)) => !allowed,
-        (Kind::NotAllowed, None) => false,
-        (Kind::NoWay, None) => allowed,
-        (Kind::NoWay, Some(_)) => false,
+        by_right: counts.by_right + more.by_right,
+        by_edges: counts.by_edges + more.by_edges,
+        not_allowed: counts.not_allowed + more.not_allowed,
+        no_way: counts.no_way + more.no_way,
     }
 }

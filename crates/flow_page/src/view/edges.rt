@@ -1,6 +1,6 @@
 //! The edges of a plan, by their causes.
-ghost use Rattle.std.specs.Prelude.{◌≡◌, ◌∷◌, ◌++◌, [], IfOk, OnOk, count_by, map};
-ghost use Rattle.meter_theory.specs.Edges as theory;
+ghost use Rattle.std.specs.Prelude.{◌≡◌, IfOk, count_by, map};
+ghost use Rattle.meter_theory.specs.Edges.{same_cause};
 ghost use Rattle.flow_page.specs.Objects as spec;
 
 use crate::page::CauseCount;
@@ -13,29 +13,28 @@ use std::alloc::Global;
 pub(crate) fn cause_counts(alloc: Global, edges: &[Edge]) -> Result<Vec<CauseCount>, Memory>
     ensures { IfOk result (λ counts. counts.items ≡ map (spec.cause_count edges.now) spec.causes) }
 {
-    let mut counts = Vec::new(alloc);
-    push_count(edges, Cause::Monitored, &mut counts)?;
-    push_count(edges, Cause::Monitor, &mut counts)?;
-    push_count(edges, Cause::Captured, &mut counts)?;
-    push_count(edges, Cause::Menu, &mut counts)?;
-    push_count(edges, Cause::Period, &mut counts)?;
-    push_count(edges, Cause::Schedule, &mut counts)?;
-    push_count(edges, Cause::Clock, &mut counts)?;
-    Ok(counts)
+    Ok(vec![in alloc;
+        cause_count(edges, Cause::Monitored),
+        cause_count(edges, Cause::Monitor),
+        cause_count(edges, Cause::Captured),
+        cause_count(edges, Cause::Menu),
+        cause_count(edges, Cause::Period),
+        cause_count(edges, Cause::Schedule),
+        cause_count(edges, Cause::Clock),
+    ]?)
 }
 
-/// Puts how many of these edges have a cause behind other counts.
-fn push_count(edges: &[Edge], cause: Cause, counts: &mut Vec<CauseCount>) -> Result<(), Memory>
-    ensures { OnOk result (counts.new.items ≡ counts.old.items ++ spec.cause_count edges.now cause ∷ []) }
+/// A cause, and how many of these edges have it.
+fn cause_count(edges: &[Edge], cause: Cause) -> CauseCount
+    ensures { result ≡ spec.cause_count edges.now cause }
 {
     let edges = count(edges, cause);
-    counts.push(CauseCount { cause, edges })?;
-    Ok(())
+    CauseCount { cause, edges }
 }
 
 /// How many of these edges have a cause.
 fn count(edges: &[Edge], cause: Cause) -> usize
-    ensures { result ≡ count_by (λ e. theory.same_cause e.cause cause) edges.now }
+    ensures { result ≡ count_by (λ e. same_cause e.cause cause) edges.now }
 {
     edges.iter().filter(|edge| edge.cause == cause).count()
 }

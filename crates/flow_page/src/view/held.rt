@@ -1,5 +1,5 @@
 //! What clients may do with objects.
-ghost use Rattle.std.specs.Prelude.{◌≡◌, ◌++◌, IfOk, OnOk, flat_map, length, map};
+ghost use Rattle.std.specs.Prelude.{◌≡◌, IfOk, length, map};
 ghost use Rattle.std.specs.List.{range_with_len};
 ghost use Rattle.flow_page.specs.Objects as spec;
 
@@ -61,60 +61,6 @@ fn indexes(
     for place in 0..access.highest(&object.interface()) {
         let allowed = instance.is_granted(access, client, place + 1);
         push_if(allowed, place + 1, &mut list)?;
-    }
-    Ok(list)
-}
-
-/// Whether each client sees an object, and what it may do with it. The only error is want of memory.
-pub(crate) fn answers_to_clients(
-    alloc: Global,
-    plan: &Outline<'_>,
-    object: &ObjectOutline<'_>,
-) -> Result<Vec<bool>, Memory>
-    ensures { IfOk result (λ list. list.items
-        ≡ flat_map (spec.client_answers plan.now object.now) (range_with_len 0 (length plan.now.clients))) }
-{
-    let mut list = Vec::new(alloc);
-    for client in 0..plan.client_count() {
-        push_client(alloc, plan, object, client, &mut list)?;
-    }
-    Ok(list)
-}
-
-/// Puts whether a client sees an object, and what it may do with it, behind other answers.
-fn push_client(
-    alloc: Global,
-    plan: &Outline<'_>,
-    object: &ObjectOutline<'_>,
-    client: u8,
-    list: &mut Vec<bool>,
-) -> Result<(), Memory>
-    ensures { OnOk result (list.new.items ≡ list.old.items ++ spec.client_answers plan.now object.now client) }
-{
-    let gets = answers(alloc, plan, object, client, Access::Get)?;
-    let sets = answers(alloc, plan, object, client, Access::Set)?;
-    let acts = answers(alloc, plan, object, client, Access::Act)?;
-    list.push(plan.rights_at(&object.name()).in_view(client))?;
-    list.extend_from_slice(&gets)?;
-    list.extend_from_slice(&sets)?;
-    list.extend_from_slice(&acts)?;
-    Ok(())
-}
-
-/// Whether rights allow a client to do something with an object, at each index.
-fn answers(
-    alloc: Global,
-    plan: &Outline<'_>,
-    object: &ObjectOutline<'_>,
-    client: u8,
-    access: Access,
-) -> Result<Vec<bool>, Memory>
-    ensures { IfOk result (λ list. list.items ≡ spec.answers plan.now object.now client access) }
-{
-    let instance = plan.rights_at(&object.name());
-    let mut list = Vec::new(alloc);
-    for place in 0..access.highest(&object.interface()) {
-        list.push(instance.is_granted(access, client, place + 1))?;
     }
     Ok(list)
 }

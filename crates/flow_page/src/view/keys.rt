@@ -1,14 +1,15 @@
 //! What rows have alike that are shown as one.
 ghost use Rattle.std.specs.Prelude.{◌≡◌, IfOk, map};
 ghost use Rattle.flow_map.specs.Grouping.{AreGrouped, numbers_of};
-ghost use Rattle.flow_page.specs.Keys.{object_facts, row_facts, word_of};
+ghost use Rattle.flow_page.specs.Keys.{row_facts, word_of};
+ghost use Rattle.flow_page.specs.Objects.{object_facts};
 
 use crate::matrix::Found;
+use crate::objects::Held;
 use cosem_data::memory::Memory;
 use flow_map::grouping::grouped;
 use flow_map::kind::Change;
 use flow_map::request::GrantedRequest;
-use meter_theory::flow::Reach;
 use std::alloc::Global;
 
 /// The word by which a mark tells how a client reaches a cell (own profile).
@@ -27,7 +28,7 @@ pub(crate) enum Word {
 }
 
 /// What marks have alike (own profile).
-#[derive(Clone, Copy, Drop)]
+#[derive(Clone, Copy, PartialEq, Eq, Drop)]
 pub(crate) struct MarkKey {
     /// The word of what is found.
     pub word: Word,
@@ -40,7 +41,7 @@ pub(crate) struct MarkKey {
 }
 
 /// What the cells of a row have alike (own profile).
-#[derive(Drop)]
+#[derive(PartialEq, Eq, Drop)]
 pub(crate) struct RowKey {
     /// The class.
     pub class_id: u16,
@@ -50,26 +51,15 @@ pub(crate) struct RowKey {
     pub marks: Vec<MarkKey>,
 }
 
-/// What the ways of a group have alike (own profile).
-#[derive(Clone, Copy, Drop)]
-pub(crate) struct WayKey {
-    /// The request at their other end.
-    pub request: GrantedRequest,
-    /// The number of the client.
-    pub client: u8,
-    /// Whether they are ways of influence or of learning.
-    pub reach: Reach,
-}
-
 /// What the objects of a row have alike (own profile).
-#[derive(Drop)]
+#[derive(PartialEq, Eq, Drop)]
 pub(crate) struct ObjectKey {
     /// The class.
     pub class_id: u16,
     /// Whether inputs from outside go to them.
     pub is_fed: bool,
-    /// For each client whether it sees them, and whether it may get and set each attribute and call each method.
-    pub answers: Vec<bool>,
+    /// What each client may do with them.
+    pub held: Vec<Held>,
 }
 
 /// The word of what is found.
@@ -89,13 +79,6 @@ pub(crate) fn word_of(found: Option<Found>) -> Word
 /// The numbers of cells with these keys, those of equal keys together. The only error is want of memory.
 pub(crate) fn row_groups(alloc: Global, keys: &[RowKey]) -> Result<Vec<Vec<usize>>, Memory>
     ensures { IfOk result (λ groups. AreGrouped (map row_facts keys.now) (numbers_of groups.items)) }
-{
-    grouped(alloc, keys)
-}
-
-/// The numbers of ways with these keys, those of equal keys together. The only error is want of memory.
-pub(crate) fn way_groups(alloc: Global, keys: &[WayKey]) -> Result<Vec<Vec<usize>>, Memory>
-    ensures { IfOk result (λ groups. AreGrouped keys.now (numbers_of groups.items)) }
 {
     grouped(alloc, keys)
 }

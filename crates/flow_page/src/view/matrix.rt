@@ -1,5 +1,5 @@
 //! The rows of the matrix with their marks.
-ghost use Rattle.std.specs.Prelude.{◌≡◌, ◌<◌, ◌++◌, IfOk, OnOk, cond, flat_map, length, map, option_map, Some, None};
+ghost use Rattle.std.specs.Prelude.{◌≡◌, ◌<◌, IfOk, cond, flat_map, length, map, option_map, Some, None};
 ghost use Rattle.std.specs.List.{All, range_with_len};
 ghost use Rattle.meter_theory.specs.Plan as theory;
 ghost use Rattle.flow_edges.specs.Table.{cell_at};
@@ -9,7 +9,7 @@ ghost use Rattle.flow_page.specs.Marked as spec;
 use crate::matrix::{Mark, MatrixRow, Opening, WayLink};
 use crate::view::lines::title_of;
 use crate::view::marks::standing_of;
-use crate::view::picks::{Pick, is_told};
+use crate::view::picks::{Pick, has_way, picks_to};
 use crate::view::table::Table;
 use crate::ways::Anchor;
 use cosem_data::cell::CellRef;
@@ -47,7 +47,8 @@ fn matrix_row(
         ≡ spec.matrix_row (told_in table.now) linked.now (rows_in table.now) row) }
 {
     let cells = cells_of(alloc, table.facts.ways, &table.rows[row])?;
-    let marks = marks_of(alloc, table, linked, row)?;
+    let linked = picks_to(alloc, linked, row)?;
+    let marks = marks_of(alloc, table, &linked, row)?;
     Ok(MatrixRow {
         opening: opening_of(table, row),
         cells,
@@ -85,7 +86,7 @@ fn opening_of(table: &Table<'_>, row: usize) -> Opening
     }
 }
 
-/// The marks of a row.
+/// The marks of a row, to which these ways that are told lead.
 fn marks_of(
     alloc: Global,
     table: &Table<'_>,
@@ -99,28 +100,10 @@ fn marks_of(
 {
     let mut marks = Vec::new(alloc);
     for client in 0..table.facts.ways.plan().client_count() {
-        push_client(alloc, table, linked, row, client, &mut marks)?;
+        marks.push(mark_of(alloc, table, linked, Reach::Influence, client, row)?)?;
+        marks.push(mark_of(alloc, table, linked, Reach::Learn, client, row)?)?;
     }
     Ok(marks)
-}
-
-/// Puts the two marks of a client behind those of others.
-fn push_client(
-    alloc: Global,
-    table: &Table<'_>,
-    linked: &[Pick],
-    row: usize,
-    client: u8,
-    marks: &mut Vec<Mark>,
-) -> Result<(), Memory>
-    requires row { row < length table.now.rows.now }
-    requires client { client < length table.now.facts.now.ways.now.plan.clients }
-    ensures { OnOk result (map spec.mark_shown marks.new.items ≡ map spec.mark_shown marks.old.items
-        ++ spec.client_marks (told_in table.now) linked.now (rows_in table.now) row client) }
-{
-    marks.push(mark_of(alloc, table, linked, Reach::Influence, client, row)?)?;
-    marks.push(mark_of(alloc, table, linked, Reach::Learn, client, row)?)?;
-    Ok(())
 }
 
 /// The mark of a client and a row.
@@ -139,7 +122,7 @@ fn mark_of(
 {
     let cell = table.first_cell(row);
     let standing = standing_of(table.facts, reach, client, cell);
-    let is_linked = is_told(linked, reach, client, row);
+    let is_linked = has_way(linked, reach, client);
     let link = link_if(alloc, table.facts.ways, is_linked, reach, client, cell)?;
     Ok(Mark {
         reach,

@@ -2,12 +2,12 @@
 ghost use Rattle.std.specs.Prelude.{◌≡◌, ◌<◌, IfOk, length, map};
 ghost use Rattle.std.specs.List.{All, range_with_len};
 ghost use Rattle.flow_map.specs.Grouping.{numbers_of};
-ghost use Rattle.flow_page.specs.Keys.{object_facts};
 ghost use Rattle.flow_page.specs.Objects as spec;
+ghost use Rattle.flow_page.specs.Objects.{object_facts};
 ghost use Rattle.flow_page.specs.Rows.{AreRowsOf, IsRow};
 
 use crate::objects::ObjectRow;
-use crate::view::held::{answers_to_clients, held_by_clients};
+use crate::view::held::held_by_clients;
 use crate::view::keys::{ObjectKey, object_groups};
 use crate::view::limits::ROWS;
 use crate::view::rows::singles;
@@ -48,11 +48,11 @@ fn object_key(alloc: Global, plan: &Outline<'_>, number: usize) -> Result<Object
     ensures { IfOk result (λ key. object_facts key ≡ spec.object_key plan.now number) }
 {
     let object = &plan.objects()[number];
-    let answers = answers_to_clients(alloc, plan, object)?;
+    let held = held_by_clients(alloc, plan, object)?;
     Ok(ObjectKey {
         class_id: object.interface().class_id,
         is_fed: object.is_fed(),
-        answers,
+        held,
     })
 }
 
@@ -78,13 +78,16 @@ fn object_row(alloc: Global, plan: &Outline<'_>, row: &[usize]) -> Result<Object
     requires { IsRow (length plan.now.objects) row.now }
     ensures { IfOk result (λ told. spec.object_shown told ≡ spec.object_row plan.now row.now) }
 {
-    let object = &plan.objects()[row[0]];
     let names = names_of(alloc, plan, row)?;
-    let held = held_by_clients(alloc, plan, object)?;
+    let ObjectKey {
+        class_id,
+        is_fed,
+        held,
+    } = object_key(alloc, plan, row[0])?;
     Ok(ObjectRow {
         names,
-        class_id: object.interface().class_id,
-        is_fed: object.is_fed(),
+        class_id,
+        is_fed,
         held,
     })
 }

@@ -1,21 +1,19 @@
 //! The page of a plan.
-ghost use Rattle.std.specs.Prelude.{◌≡◌, IfOk, length, map, option_map};
-ghost use Rattle.std.specs.List.{range_with_len};
+ghost use Rattle.std.specs.Prelude.{◌≡◌, IfOk, option_map};
 ghost use Rattle.flow_page.specs.Changes.{AreChangesOf};
-ghost use Rattle.flow_page.specs.Clients.{client_row, client_shown};
 ghost use Rattle.flow_page.specs.Marks.{told};
 ghost use Rattle.flow_page.specs.Shown as spec;
-ghost use Rattle.flow_page.specs.Shown.{AreEdges, AreMatrix, AreObjects, IsPage, IsPageOf};
+ghost use Rattle.flow_page.specs.Shown.{AreEdges, AreObjects, IsPage, IsPageOf};
 
 use crate::changes::Changes;
 use crate::objects::ObjectRow;
-use crate::page::{CauseCount, ClientRow, Page};
+use crate::page::{CauseCount, Page};
 use crate::view::changes::changes_of;
-use crate::view::clients::{Kind, client_rows, total_of};
+use crate::view::clients::clients_of;
 use crate::view::edges::{cause_counts, listed_edges};
 use crate::view::facts::Facts;
 use crate::view::objects::{object_numbers, object_rows};
-use crate::view::parts::{MatrixParts, matrix_parts};
+use crate::view::parts::matrix_parts;
 use cosem_data::memory::Memory;
 use flow_changes::compare::Comparison;
 use flow_map::map::FlowMap;
@@ -105,66 +103,18 @@ fn page_from(
     ensures page { IfOk result (λ page. IsPage (told facts.now) heading page) }
     ensures changes { IfOk result (λ page. page.changes ≡ changes) }
 {
-    let clients = client_rows(alloc, facts)?;
+    let clients = clients_of(alloc, facts)?;
     let matrix = matrix_parts(alloc, facts)?;
-    let objects = objects_of(alloc, facts.ways.plan())?;
+    let plan = facts.ways.plan();
+    let objects = objects_of(alloc, plan)?;
     let edges = edges_of(alloc, facts.ways.map())?;
-    let parts = PageParts {
-        clients,
-        matrix,
-        objects,
-        edges,
-    };
-    Ok(page_with(facts, heading, parts, changes))
-}
-
-/// The parts of a page.
-#[derive(Drop)]
-struct PageParts {
-    /// What is told of each client.
-    clients: Vec<ClientRow>,
-    /// The matrix and both tables of ways.
-    matrix: MatrixParts,
-    /// The objects, in rows.
-    objects: Vec<ObjectRow>,
-    /// What is told of the edges.
-    edges: EdgeParts,
-}
-
-/// The page that has these parts.
-fn page_with(
-    facts: &Facts<'_>,
-    heading: Heading,
-    parts: PageParts,
-    changes: Option<Changes>,
-) -> Page
-    requires clients { map client_shown parts.clients.items
-        ≡ map (client_row (told facts.now)) (range_with_len 0 (length facts.now.ways.now.plan.clients)) }
-    requires matrix { AreMatrix (told facts.now) parts.matrix.rows.items parts.matrix.refused parts.matrix.reached }
-    requires objects { AreObjects facts.now.ways.now.plan parts.objects.items }
-    requires edges { AreEdges facts.now.ways.now.plan parts.edges.count parts.edges.causes.items parts.edges.listed.items }
-    ensures page { IsPage (told facts.now) heading result }
-    ensures changes { result.changes ≡ changes }
-{
-    let PageParts {
-        clients,
-        matrix,
-        objects,
-        edges,
-    } = parts;
-    Page {
-        name: heading.name,
-        verdict: heading.verdict,
-        accepted: heading.accepted,
-        given_labels: heading.given_labels,
-        object_count: facts.ways.plan().objects().len(),
+    Ok(Page {
+        heading,
+        object_count: plan.objects().len(),
         cell_count: facts.ways.cells().len(),
         edge_count: edges.count,
-        by_right: total_of(facts, Kind::ByRight),
-        by_edges: total_of(facts, Kind::ByEdges),
-        not_allowed: total_of(facts, Kind::NotAllowed),
-        no_way: total_of(facts, Kind::NoWay),
-        clients,
+        total: clients.total,
+        clients: clients.rows,
         rows: matrix.rows,
         refused: matrix.refused,
         reached: matrix.reached,
@@ -172,7 +122,7 @@ fn page_with(
         objects,
         causes: edges.causes,
         edges: edges.listed,
-    }
+    })
 }
 
 /// The objects of a plan, in rows.

@@ -1,5 +1,5 @@
 //! The matrix and both tables of ways.
-ghost use Rattle.std.specs.Prelude.{◌≡◌, ◌++◌, IfOk, length};
+ghost use Rattle.std.specs.Prelude.{◌≡◌, IfOk, length};
 ghost use Rattle.meter_theory.specs.Plan as theory;
 ghost use Rattle.flow_map.specs.Grouping.{numbers_of};
 ghost use Rattle.flow_page.specs.InTable.{rows_in, told_in};
@@ -84,20 +84,11 @@ fn chosen_ways(alloc: Global, table: &Table<'_>) -> Result<Chosen, Memory>
     let room = WAYS.saturating_sub(refused.len());
     let refused = first_picks(refused, WAYS);
     let reached = first_picks(reached, room);
-    let linked = joined(alloc, &refused.picks, &reached.picks)?;
+    let mut linked = refused.picks.clone()?;
+    linked.extend_from_slice(&reached.picks)?;
     Ok(Chosen {
         refused,
         reached,
         linked,
     })
-}
-
-/// The ones, and then the others.
-fn joined(alloc: Global, picks: &[Pick], others: &[Pick]) -> Result<Vec<Pick>, Memory>
-    ensures { IfOk result (λ list. list.items ≡ picks.now ++ others.now) }
-{
-    let mut list = Vec::with_capacity(alloc, picks.len())?;
-    list.extend_from_slice(picks)?;
-    list.extend_from_slice(others)?;
-    Ok(list)
 }

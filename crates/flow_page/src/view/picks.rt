@@ -1,6 +1,6 @@
 //! Which ways tables tell.
 ghost use Rattle.std.specs.Prelude.{◌≡◌, ◌<◌, ◌-◌, ◌++◌, IfOk, OnOk, length, take};
-ghost use Rattle.std.specs.List.{list_any};
+ghost use Rattle.std.specs.List.{filter, list_any};
 ghost use Rattle.meter_theory.specs.Plan as theory;
 ghost use Rattle.flow_page.specs.InTable.{rows_in, told_in};
 ghost use Rattle.flow_page.specs.WayTables as spec;
@@ -8,19 +8,22 @@ ghost use Rattle.flow_page.specs.WayTables as spec;
 use crate::view::marks::{distance, has_at, request};
 use crate::view::table::Table;
 use cosem_data::memory::Memory;
-use flow_map::pushing::push_some;
+use flow_map::pushing::{push_if, push_some};
 use flow_map::request::GrantedRequest;
 use meter_theory::flow::Reach;
 use std::alloc::Global;
 
-/// A way that is told: that of a client to the first cell of a row (own profile).
+/// A way that is told: that of a client to the first cell of a row (own profile). Two are equal where they are of one request,
+/// client and reach, and so of one group, whatever their rows.
 #[derive(Clone, Copy, Drop)]
+#[derive_where(PartialEq, Eq)]
 pub(crate) struct Pick {
     /// Whether it is a way of influence or of learning.
     pub reach: Reach,
     /// The number of the client.
     pub client: u8,
     /// The number of the row.
+    #[derive_where(skip(EqHashOrd))]
     pub row: usize,
     /// The request at its other end.
     pub request: GrantedRequest,
@@ -42,48 +45,30 @@ pub(crate) fn picks(alloc: Global, table: &Table<'_>, sort: Sort) -> Result<Vec<
 {
     let mut list = Vec::new(alloc);
     for client in 0..table.facts.ways.plan().client_count() {
-        push_client(alloc, table, sort, client, &mut list)?;
+        push_reach(alloc, table, sort, Reach::Influence, client, &mut list)?;
+        push_reach(alloc, table, sort, Reach::Learn, client, &mut list)?;
     }
     Ok(list)
 }
 
-/// Puts those of a client behind others.
-fn push_client(
-    alloc: Global,
-    table: &Table<'_>,
-    sort: Sort,
-    client: u8,
-    list: &mut Vec<Pick>,
-) -> Result<(), Memory>
-    requires client { client < length table.now.facts.now.ways.now.plan.clients }
-    ensures { OnOk result (list.new.items ≡ list.old.items
-        ++ spec.client_picks (told_in table.now) sort (rows_in table.now) client) }
-{
-    let influence = reach_picks(alloc, table, sort, Reach::Influence, client)?;
-    let learn = reach_picks(alloc, table, sort, Reach::Learn, client)?;
-    list.extend_from_slice(&influence)?;
-    list.extend_from_slice(&learn)?;
-    Ok(())
-}
-
-/// Those of a reach of a client.
-fn reach_picks(
+/// Puts those of a reach of a client behind others.
+fn push_reach(
     alloc: Global,
     table: &Table<'_>,
     sort: Sort,
     reach: Reach,
     client: u8,
-) -> Result<Vec<Pick>, Memory>
+    list: &mut Vec<Pick>,
+) -> Result<(), Memory>
     requires client { client < length table.now.facts.now.ways.now.plan.clients }
-    ensures { IfOk result (λ list. list.items
-        ≡ spec.reach_picks (told_in table.now) sort (rows_in table.now) reach client) }
+    ensures { OnOk result (list.new.items ≡ list.old.items
+        ++ spec.reach_picks (told_in table.now) sort (rows_in table.now) reach client) }
 {
-    let mut list = Vec::new(alloc);
     for row in 0..table.rows.len() {
         let pick = pick_at(alloc, table, sort, reach, client, row)?;
-        push_some(pick, &mut list)?;
+        push_some(pick, list)?;
     }
-    Ok(list)
+    Ok(())
 }
 
 /// The way of a client to the first cell of a row, if it is of this sort.
@@ -130,11 +115,23 @@ fn is_of(sort: Sort, distance: Option<usize>, allowed: bool) -> bool
     }
 }
 
-/// Whether the way of a client to a row is one of those.
-pub(crate) fn is_told(list: &[Pick], reach: Reach, client: u8, row: usize) -> bool
-    ensures { result ≡ list_any (spec.is_pick reach client row) list.now }
+/// Those of these ways that lead to a row. The only error is want of memory.
+pub(crate) fn picks_to(alloc: Global, list: &[Pick], row: usize) -> Result<Vec<Pick>, Memory>
+    ensures { IfOk result (λ picks. picks.items ≡ filter (spec.leads_to row) list.now) }
 {
-    list.iter().any(|pick| pick.reach == reach && pick.client == client && pick.row == row)
+    let mut picks = Vec::new(alloc);
+    for pick in list {
+        push_if(pick.row == row, *pick, &mut picks)?;
+    }
+    Ok(picks)
+}
+
+/// Whether one of these ways is of a client.
+pub(crate) fn has_way(list: &[Pick], reach: Reach, client: u8) -> bool
+    ensures { result ≡ list_any (spec.is_way reach client) list.now }
+{
+    list.iter()
+        .any(|pick| pick.reach == reach && pick.client == client)
 }
 
 /// Those of a list that a table tells, and how many are left.

@@ -1,5 +1,5 @@
 //! The rows of the matrix: which cells share one.
-ghost use Rattle.std.specs.Prelude.{◌≡◌, ◌<◌, ◌∷◌, ◌++◌, [], IfOk, OnOk, cond, flat_map, length, map, None};
+ghost use Rattle.std.specs.Prelude.{◌≡◌, ◌<◌, IfOk, cond, flat_map, length, map, None};
 ghost use Rattle.std.specs.List.{range_with_len};
 ghost use Rattle.meter_theory.specs.Plan as theory;
 ghost use Rattle.flow_map.specs.Grouping.{numbers_of};
@@ -36,18 +36,9 @@ pub(crate) fn singles(alloc: Global, count: usize) -> Result<Vec<Vec<usize>>, Me
 {
     let mut rows = Vec::with_capacity(alloc, count)?;
     for number in 0..count {
-        rows.push(single(alloc, number)?)?;
+        rows.push(vec![in alloc; number]?)?;
     }
     Ok(rows)
-}
-
-/// This number alone.
-fn single(alloc: Global, number: usize) -> Result<Vec<usize>, Memory>
-    ensures { IfOk result (λ row. row.items ≡ number ∷ []) }
-{
-    let mut row = Vec::new(alloc);
-    row.push(number)?;
-    Ok(row)
 }
 
 /// What each cell has alike with others of its row.
@@ -85,26 +76,10 @@ fn mark_keys(alloc: Global, facts: &Facts<'_>, cell: usize) -> Result<Vec<MarkKe
 {
     let mut keys = Vec::new(alloc);
     for client in 0..facts.ways.plan().client_count() {
-        push_client(alloc, facts, client, cell, &mut keys)?;
+        keys.push(mark_key(alloc, facts, Reach::Influence, client, cell)?)?;
+        keys.push(mark_key(alloc, facts, Reach::Learn, client, cell)?)?;
     }
     Ok(keys)
-}
-
-/// Puts what the two marks of a client have alike behind those of others.
-fn push_client(
-    alloc: Global,
-    facts: &Facts<'_>,
-    client: u8,
-    cell: usize,
-    keys: &mut Vec<MarkKey>,
-) -> Result<(), Memory>
-    requires cell { cell < length (theory.cells facts.now.ways.now.plan) }
-    requires client { client < length facts.now.ways.now.plan.clients }
-    ensures { OnOk result (keys.new.items ≡ keys.old.items ++ spec.client_keys (told facts.now) cell client) }
-{
-    keys.push(mark_key(alloc, facts, Reach::Influence, client, cell)?)?;
-    keys.push(mark_key(alloc, facts, Reach::Learn, client, cell)?)?;
-    Ok(())
 }
 
 /// What a mark has alike with others.

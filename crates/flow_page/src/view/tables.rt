@@ -2,19 +2,19 @@
 ghost use Rattle.std.specs.Prelude.{◌≡◌, ◌<◌, ◌≤◌, ◌*◌, IfOk, cond, length, map, Some, None};
 ghost use Rattle.std.specs.List.{All};
 ghost use Rattle.meter_theory.specs.Plan as theory;
-ghost use Rattle.flow_map.specs.Grouping.{numbers_of};
+ghost use Rattle.flow_map.specs.Grouping.{AreGrouped, numbers_of};
 ghost use Rattle.flow_page.specs.Rows.{AreRowsOf, IsRow};
 ghost use Rattle.flow_page.specs.InTable.{rows_in};
 ghost use Rattle.flow_page.specs.WayTables as spec;
 ghost use Rattle.flow_page.specs.WayTables.{IsTable, ArePicks};
 
-use crate::view::keys::{WayKey, way_groups};
 use crate::view::limits::WAYS;
 use crate::view::lines::{client_name, lines_of};
 use crate::view::picks::{FirstPicks, Pick};
 use crate::view::table::Table;
 use crate::ways::{Anchor, WayGroup, WayRow, WayTable};
 use cosem_data::memory::Memory;
+use flow_map::grouping::grouped;
 use std::alloc::Global;
 
 /// The table of these ways, those of one request, client and reach together; to how many cells those of a group lead, if that is
@@ -29,8 +29,7 @@ pub(crate) fn way_table(
     requires few { length told.now.picks.items ≤ WAYS }
     ensures { IfOk result (λ made. IsTable table.now.facts.now.ways.now.plan (rows_in table.now) told.now.picks.items told.now.left counted made) }
 {
-    let keys = way_keys(alloc, &told.picks)?;
-    let numbers = way_groups(alloc, &keys)?;
+    let numbers = way_groups(alloc, &told.picks)?;
     let groups = group_rows(alloc, table, &told.picks, counted, &numbers)?;
     Ok(WayTable {
         groups,
@@ -38,19 +37,11 @@ pub(crate) fn way_table(
     })
 }
 
-/// What each way has alike with others of its group.
-fn way_keys(alloc: Global, told: &[Pick]) -> Result<Vec<WayKey>, Memory>
-    ensures { IfOk result (λ keys. keys.items ≡ map spec.way_key told.now) }
+/// The numbers of these ways, those of one request, client and reach together.
+fn way_groups(alloc: Global, told: &[Pick]) -> Result<Vec<Vec<usize>>, Memory>
+    ensures { IfOk result (λ groups. AreGrouped (map spec.way_key told.now) (numbers_of groups.items)) }
 {
-    let mut keys = Vec::with_capacity(alloc, told.len())?;
-    for pick in told {
-        keys.push(WayKey {
-            request: pick.request,
-            client: pick.client,
-            reach: pick.reach,
-        })?;
-    }
-    Ok(keys)
+    grouped(alloc, told)
 }
 
 /// The groups of ways with these numbers.

@@ -1,6 +1,5 @@
 use Rattle.flow_map.proofs.Ranges.{viewed-next}
-use Rattle.flow_page.specs.Keys.{object_facts}
-use Rattle.flow_page.specs.Objects.{object_key}
+use Rattle.flow_page.specs.Objects.{object_facts, object_key}
 use Rattle.flow_page.proofs.view.objects.object_keys.Goals as goal
 
 pub loop-number-preserved : goal.loop-number-preserved

@@ -4,4 +4,4 @@ use Rattle.flow_page.proofs.view.rows.singles.Goals as goal
 
 pub loop-number-preserved : goal.loop-number-preserved
 loop-number-preserved c =
-    viewed-next (λ row. row.items) (λ i. i ∷ []) c.loop-number.number _ _ c.in_ok-single.field-0 c.loop-number.invariant c.in_ok-single.ensures c.in_ok-push.ensures.items
+    viewed-next (λ row. row.items) (λ i. i ∷ []) c.loop-number.number _ _ c.in_ok-vec.field-0 c.loop-number.invariant c.in_ok-vec.ensures.items c.in_ok-push.ensures.items

@@ -7,9 +7,8 @@ use Rattle.flow_page.proofs.view.tables.way_table.Goals as goal
 
 pub group_rows-requires-clause-numbers : goal.group_rows-requires-clause-numbers
 group_rows-requires-clause-numbers c =
-    let told = c.args.told.now.picks.items in
-    let keys = c.deref-2.ensures.value ∙ (c.in_ok-keys.ensures ∙ ap (map way_key) c.deref.ensures.value) in
-    let long = ap length keys ∙ (length-map told way_key ∙ ap length (sym c.deref-3.ensures.value)) in
+    let told = c.deref.result.now in
+    let long = length-map told way_key ∙ ap length (c.deref.ensures.value ∙ sym c.deref-2.ensures.value) in
     let numbers = map (λ group. group.items) c.in_ok-numbers.numbers.items in
-    let rows = subst (λ n. AreRowsOf n numbers) long (grouped-rows c.deref-2.result.now numbers c.in_ok-numbers.ensures) in
-    subst (λ list. AreRowsOf (length c.deref-3.result.now) (map (λ group. group.items) list)) (sym c.deref-4.ensures.value) rows
+    let rows = subst (λ n. AreRowsOf n numbers) long (grouped-rows (map way_key told) numbers c.in_ok-numbers.ensures) in
+    subst (λ list. AreRowsOf (length c.deref-2.result.now) (map (λ group. group.items) list)) (sym c.deref-3.ensures.value) rows
