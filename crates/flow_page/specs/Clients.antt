@@ -15,7 +15,12 @@ use Rattle.flow_page.specs.Marks.{Told, has_at}
 -- as what a cell counts at this distance, which the policy allows or not: own profile
 abbrev pub counted : Option ℕ → Bool → Counts
 counted None allowed = record { by_right = 0; by_edges = 0; not_allowed = 0; no_way = from_bool allowed }
-counted (Some d) allowed = record { by_right = from_bool (d == 0); by_edges = from_bool (nat_lt 0 d); not_allowed = from_bool (not allowed); no_way = 0 }
+counted (Some d) allowed = record {
+  by_right = from_bool (d == 0);
+  by_edges = from_bool (nat_lt 0 d);
+  not_allowed = from_bool (not allowed);
+  no_way = 0;
+}
 
 abbrev pub counted_at : Told → Reach → ℕ → ℕ → Counts
 counted_at t reach c i = counted (distance_of t.plan reach c (cell_at (cells t.plan) i)) (has_at t.allowed reach c i)
