@@ -13,7 +13,7 @@ use Rattle.flow_page.specs.declared.page.Page.{Page}
 use Rattle.flow_picture.specs.Svg.{IsPicture}
 use Rattle.flow_picture.specs.declared.picture.Picture.{Picture}
 use Rattle.flow_page.specs.Shown.{IsPageOf}
-use Rattle.flow_page.specs.declared.view.page.Heading.{Heading}
+use Rattle.flow_page.specs.declared.page.Heading.{Heading}
 
 -- what there is, as a list
 abbrev pub listed : Option ℕ → List ℕ

@@ -19,7 +19,7 @@ use Rattle.flow_page.specs.Marked.{matrix_row, row_shown}
 use Rattle.flow_page.specs.Objects.{AreObjectRows, cause_count, causes, listed_edges, object_row, object_shown}
 use Rattle.flow_page.specs.Rows.{AreRows}
 use Rattle.flow_page.specs.WayTables.{IsTable, reached_left, reached_told, refused_left, refused_told}
-use Rattle.flow_page.specs.declared.view.page.Heading.{Heading}
+use Rattle.flow_page.specs.declared.page.Heading.{Heading}
 use Rattle.flow_page.specs.declared.view.parts.Chosen.{Chosen}
 
 -- the ways that tables tell: own profile

@@ -2,9 +2,21 @@
 use crate::changes::Changes;
 use crate::matrix::MatrixRow;
 use crate::objects::ObjectRow;
-use crate::view::page::Heading;
 use crate::ways::WayTable;
 use meter_theory::flow::{Cause, Edge};
+
+/// What a page says at its head (own profile).
+#[derive(Drop)]
+pub struct Heading {
+    /// The last part of the name of the configuration's file.
+    pub name: String,
+    /// The line of the verdict.
+    pub verdict: String,
+    /// Whether it accepts.
+    pub accepted: bool,
+    /// Whether it is on labels that were given, and not on the least labels.
+    pub given_labels: bool,
+}
 
 /// What a page shows of a configuration (own profile).
 #[derive(Drop)]

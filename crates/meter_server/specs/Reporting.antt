@@ -14,7 +14,7 @@ use Rattle.flow_checker.specs.Answer.{IsRefusedAs}
 use Rattle.flow_forms.specs.Csv.{IsCsv}
 use Rattle.flow_forms.specs.Html.{IsHtml}
 use Rattle.flow_forms.specs.Json.{IsJson}
-use Rattle.flow_page.specs.declared.view.page.Heading.{Heading}
+use Rattle.flow_page.specs.declared.page.Heading.{Heading}
 use Rattle.label_certificate.specs.Faults as label_faults
 use Rattle.label_certificate.specs.LabelText.{labels_of_text}
 use Rattle.label_certificate.specs.declared.fault.LabelFault.{LabelFault}

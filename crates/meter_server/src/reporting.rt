@@ -18,7 +18,7 @@ use flow_forms::html_form::html_text;
 use flow_forms::json_form::json_text;
 use flow_map::least::LeastMap;
 use flow_map::map::FlowMap;
-use flow_page::view::page::Heading;
+use flow_page::page::Heading;
 use flow_ways::ways::Ways;
 use label_certificate::labels::Labels;
 use label_certificate::reading::read_labels;

@@ -7,7 +7,7 @@ ghost use Rattle.flow_page.specs.Shown.{AreEdges, AreObjects, IsPage, IsPageOf};
 
 use crate::changes::Changes;
 use crate::objects::ObjectRow;
-use crate::page::{CauseCount, Page};
+use crate::page::{CauseCount, Heading, Page};
 use crate::view::changes::changes_of;
 use crate::view::clients::clients_of;
 use crate::view::edges::{cause_counts, listed_edges};
@@ -21,19 +21,6 @@ use flow_map::outline::Outline;
 use flow_ways::ways::Ways;
 use meter_theory::flow::{Edge, Label};
 use std::alloc::Global;
-
-/// What a page says at its head (own profile).
-#[derive(Drop)]
-pub struct Heading {
-    /// The last part of the name of the configuration's file.
-    pub name: String,
-    /// The line of the verdict.
-    pub verdict: String,
-    /// Whether it accepts.
-    pub accepted: bool,
-    /// Whether it is on labels that were given, and not on the least labels.
-    pub given_labels: bool,
-}
 
 /// The page of a plan's ways and its policy, under this heading, and with what has changed where it is compared with the
 /// configuration before (own profile).

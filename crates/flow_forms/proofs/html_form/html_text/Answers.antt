@@ -9,7 +9,7 @@ use Rattle.flow_page.specs.Shown.{IsPageOf}
 use Rattle.flow_page.specs.declared.page.Page.{Page}
 use Rattle.flow_picture.specs.Svg.{IsPicture}
 use Rattle.flow_picture.specs.declared.picture.Picture.{Picture}
-use Rattle.flow_page.specs.declared.view.page.Heading.{Heading}
+use Rattle.flow_page.specs.declared.page.Heading.{Heading}
 use Rattle.flow_forms.specs.Html.{IsHtml, numbers_of}
 use Rattle.flow_forms.proofs.html_form.html_text.Goals as goal
 

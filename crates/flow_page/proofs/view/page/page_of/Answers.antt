@@ -10,7 +10,7 @@ use Rattle.flow_page.specs.declared.page.Page.{Page}
 use Rattle.flow_page.specs.Changes.{AreChangesOf}
 use Rattle.flow_page.specs.Marks.{Told}
 use Rattle.flow_page.specs.Shown.{IsPage, IsPageOf, told_of}
-use Rattle.flow_page.specs.declared.view.page.Heading.{Heading}
+use Rattle.flow_page.specs.declared.page.Heading.{Heading}
 use Rattle.flow_page.proofs.view.page.page_of.Goals as goal
 
 abbrev told-with : Plan → List Label → List Label → List Label → Told
