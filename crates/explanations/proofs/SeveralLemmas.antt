@@ -1,5 +1,5 @@
 -- Things that are told one after another.
-use Rattle.std.proofs.Common.{◌≡◌, ◌++◌, ◌∷◌, ◌∙◌, [], List, ℕ, ap, append-nil, append_assoc, refl, sym}
+use Rattle.std.proofs.Common.{◌++◌, ◌∷◌, ◌∙◌, [], List, ℕ, ap, append-nil, append_assoc, refl, sym}
 use Rattle.explanations.specs.Several.{TellsEach}
 
 -- one more is told after the others

@@ -1,4 +1,4 @@
-use Rattle.std.proofs.Common.{◌∙◌, ◌++◌, ◌∷◌, [], List, ℕ, ap, string_bytes, sym, take}
+use Rattle.std.proofs.Common.{string_bytes, take}
 use Rattle.std.proofs.lemmas.List.{take_more}
 use Rattle.toml.specs.View.{view}
 use Rattle.explanations.specs.Others.{Explains}
@@ -10,8 +10,6 @@ loop-fault-preserved c =
     let Tells = Explains c.args.file.now c.args.text.now (view c.args.whole.now) in
     let faults = c.args.faults.now in
     let i = c.loop-fault.fault-index in
-    let before = string_bytes c.loop-fault.lines in
     let next = c.fault-item.result in
-    let pushed = c.in_ok-push_str.ensures.bytes ∙ ap (λ (line : List ℕ). before ++ line) c.deref.ensures in
-    rw (pushed, take_more faults i next c.loop-fault-test.true, ← c.fault-item.is)
-    (tells-more Tells (take i faults) next before (string_bytes c.in_ok-told.told) c.loop-fault.invariant c.in_ok-told.ensures)
+    rw (c.in_ok-push_str.ensures.bytes, c.deref.ensures, take_more faults i next c.loop-fault-test.true, ← c.fault-item.is)
+    (tells-more Tells (take i faults) next (string_bytes c.loop-fault.lines) (string_bytes c.in_ok-told.told) c.loop-fault.invariant c.in_ok-told.ensures)

@@ -1,9 +1,7 @@
-use Rattle.std.proofs.Common.{◌∙◌, ◌++◌, List, ℕ, ap, get_or, string_bytes, subst, sym, take}
+use Rattle.std.proofs.Common.{get_or, string_bytes, take}
 use Rattle.std.proofs.lemmas.List.{take_more}
-use Rattle.config_warnings.specs.declared.warning.Warning.{Warning}
 use Rattle.config_warnings.specs.declared.warning.Warning.TheVariants.{NoSuchDate}
 use Rattle.toml.specs.View.{view}
-use Rattle.explanations.specs.Several.{TellsEach}
 use Rattle.explanations.specs.Warnings.{Warns}
 use Rattle.explanations.proofs.SeveralLemmas.{tells-more}
 use Rattle.explanations.proofs.warnings.each_told.Goals as goal
@@ -14,8 +12,5 @@ loop-warning-preserved c =
     let warnings = c.args.warnings.now in
     let i = c.loop-warning.warning-index in
     let next = get_or warnings i (NoSuchDate 0 0) in
-    let before = string_bytes c.loop-warning.lines in
-    let more = string_bytes c.in_ok-told.told in
-    let pushed = c.in_ok-push_str.ensures.bytes ∙ ap (λ (line : List ℕ). before ++ line) c.deref.ensures in
-    let each = tells-more Tells (take i warnings) next before more c.loop-warning.invariant c.in_ok-told.ensures in
-    rw (pushed, take_more warnings i (NoSuchDate 0 0) c.loop-warning-test.true) each
+    rw (c.in_ok-push_str.ensures.bytes, c.deref.ensures, take_more warnings i (NoSuchDate 0 0) c.loop-warning-test.true)
+    (tells-more Tells (take i warnings) next (string_bytes c.loop-warning.lines) (string_bytes c.in_ok-told.told) c.loop-warning.invariant c.in_ok-told.ensures)
