@@ -2,6 +2,7 @@
 #![tactic(auto)]
 
 mod along;
+mod naming;
 mod path;
 mod spot;
 mod values;

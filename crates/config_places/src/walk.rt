@@ -1,10 +1,11 @@
 //! The walk over a text to where steps lead.
 
-ghost use Rattle.std.specs.Prelude.{IfOk, IfSome};
+ghost use Rattle.std.specs.Prelude.{◌≡◌, ◌-◌, List, length, drop, slice_get, IsSomeAnd, IfOk, IfSome};
 ghost use Rattle.std.specs.Str.{IsCharBoundary};
-ghost use Rattle.config_places.specs.Spots.{IsWithin};
+ghost use Rattle.config_places.specs.Spots.{IsWithin, IsNamed, IsLedTo};
 
 use crate::along::{along, into_last};
+use crate::naming::named_value;
 use crate::spot::{Spot, Step};
 use crate::values::{after_line, after_value};
 use cosem_data::memory::Memory;
@@ -23,6 +24,13 @@ struct Place<'t> {
     key: &'t str,
     /// The text from its value on, where it is named itself.
     value: &'t str,
+}
+
+impl<'t> Place<'t> {
+    /// The text from its value on, or from where it is named in passing.
+    fn within(self) -> &'t str {
+        if self.is_named { self.value } else { self.key }
+    }
 }
 
 /// How far a walk has come.
@@ -199,28 +207,44 @@ fn furthest<'t>(alloc: Global, text: &'t str, wanted: &[Step]) -> Result<Place<'
 
 /// How many bytes of a text are before an end of it.
 fn before(text: &str, end: &str) -> Option<usize>
-    ensures { IfSome result (IsCharBoundary text.now) }
+    ensures boundary { IfSome result (IsCharBoundary text.now) }
+    ensures rest { IfSome result (λ bytes. drop bytes text.now ≡ end.now) }
 {
     Some(text.strip_suffix(end)?.len())
 }
 
-/// What so many steps lead to whose furthest place is this.
-fn spot_at(text: &str, steps: usize, place: Place<'_>) -> Option<Spot>
-    ensures { IfSome result (IsWithin text.now) }
+/// Where a key and its value are, of which a text has these ends.
+fn found(text: &str, key: &str, value: &str) -> Option<Spot>
+    ensures within { IfSome result (IsWithin text.now) }
+    ensures named { (steps : List Step)
+        → IsSomeAnd (slice_get steps (length steps - 1)) (λ step. IsNamed step key.now value.now)
+        → IfSome result (IsLedTo text.now steps) }
 {
-    let key = before(text, place.key)?;
-    let value = before(
-        text,
-        if place.is_named {
-            place.value
-        } else {
-            place.key
+    Some(Spot::Found {
+        key: before(text, key)?,
+        value: before(text, value)?,
+    })
+}
+
+/// Where steps lead in a text.
+fn spot_in(alloc: Global, text: &str, steps: &[Step]) -> Result<Option<Spot>, ParseError>
+    ensures within { IfOk result (λ spot. IfSome spot (IsWithin text.now)) }
+    ensures named { IfOk result (λ spot. IfSome spot (IsLedTo text.now steps.now)) }
+{
+    let Some(last) = steps.last() else {
+        return Ok(None);
+    };
+    let place = furthest(alloc, text, steps)?;
+    match steps.len().checked_sub(place.met) {
+        Some(0) => match named_value(alloc, place.key, last, place.is_named)? {
+            Some(value) => Ok(found(text, place.key, value)),
+            None => Ok(None),
         },
-    )?;
-    match steps.checked_sub(place.met)? {
-        0 => Some(Spot::Found { key, value }),
-        1 => Some(Spot::Missing { within: value }),
-        _ => None,
+        Some(1) => match before(text, place.within()) {
+            Some(within) => Ok(Some(Spot::Missing { within })),
+            None => Ok(None),
+        },
+        _ => Ok(None),
     }
 }
 
@@ -230,13 +254,11 @@ fn spot_at(text: &str, steps: usize, place: Place<'_>) -> Option<Spot>
 /// # Errors
 /// Memory was refused.
 pub fn find(alloc: Global, text: &str, steps: &[Step]) -> Result<Option<Spot>, Memory>
-    ensures { IfOk result (λ spot. IfSome spot (IsWithin text.now)) }
+    ensures within { IfOk result (λ spot. IfSome spot (IsWithin text.now)) }
+    ensures named { IfOk result (λ spot. IfSome spot (IsLedTo text.now steps.now)) }
 {
-    if steps.is_empty() {
-        return Ok(None);
-    }
-    match furthest(alloc, text, steps) {
-        Ok(place) => Ok(spot_at(text, steps.len(), place)),
+    match spot_in(alloc, text, steps) {
+        Ok(spot) => Ok(spot),
         Err(ParseError::OutOfMemory) => Err(Memory),
         Err(ParseError::At(..)) => Ok(None),
     }
