@@ -5,11 +5,12 @@ ghost use Rattle.config_text.specs.Refusals.{Finds};
 ghost use Rattle.config_rules.specs.Passes as passes;
 
 use crate::walk::each_new;
-use config_text::fault::Code;
+use config_text::cause::Cause;
+use config_text::fault::ConfigFault;
 use config_text::noting::note_if;
 use config_text::parts::{ConfigParts, ObjectParts};
 use config_text::place::Place;
-use config_text::refusal::{Refusal, refuse};
+use config_text::refusal::refuse;
 use meter_theory::classes::{Class, is_of_class};
 use std::alloc::Global;
 
@@ -37,7 +38,7 @@ fn is_second(earlier: &[ObjectParts], object: &ObjectParts) -> bool
 /// # Errors
 /// C21 at each clock after the first.
 #[tactic(auto, unfolding(config_rules::specs::Passes::new_clocks))]
-pub(crate) fn new_clocks(alloc: Global, config: &ConfigParts) -> Result<(), Refusal>
+pub(crate) fn new_clocks(alloc: Global, config: &ConfigParts) -> Result<(), ConfigFault>
     ensures { Finds result (passes.new_clocks config.now) }
 {
     let mut faults = Vec::new(alloc);
@@ -48,7 +49,7 @@ pub(crate) fn new_clocks(alloc: Global, config: &ConfigParts) -> Result<(), Refu
         |faults, earlier, at, object| {
             note_if(
                 faults,
-                Code::SecondClock,
+                Cause::SecondClock,
                 at,
                 ".class",
                 is_second(earlier, object),

@@ -3,10 +3,10 @@ ghost use Rattle.config_text.specs.Refusals.{Finds};
 ghost use Rattle.config_rules.specs.Passes as passes;
 
 use crate::walk::judge_objects;
-use config_text::fault::Code;
+use config_text::cause::Cause;
+use config_text::fault::ConfigFault;
 use config_text::noting::note_if;
 use config_text::parts::{BodyParts, ConfigParts};
-use config_text::refusal::Refusal;
 use std::alloc::Global;
 
 /// Judges the numbers of thresholds and actions.
@@ -14,7 +14,7 @@ use std::alloc::Global;
 /// # Errors
 /// C13 at each monitor that has not one action for each threshold.
 #[tactic(auto, unfolding(config_rules::specs::Passes::equal_counts, config_rules::specs::Passes::equal_counts_in))]
-pub(crate) fn equal_counts(alloc: Global, config: &ConfigParts) -> Result<(), Refusal>
+pub(crate) fn equal_counts(alloc: Global, config: &ConfigParts) -> Result<(), ConfigFault>
     ensures { Finds result (passes.equal_counts config.now) }
 {
     judge_objects(alloc, config, |faults, at, object| match &object.body {
@@ -24,7 +24,7 @@ pub(crate) fn equal_counts(alloc: Global, config: &ConfigParts) -> Result<(), Re
             ..
         } => {
             let equal = thresholds.len() == actions.len();
-            note_if(faults, Code::Counts, at, ".action", !equal)
+            note_if(faults, Cause::Counts, at, ".action", !equal)
         }
         _ => Ok(()),
     })

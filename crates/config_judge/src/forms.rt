@@ -7,11 +7,12 @@ ghost use Rattle.config_rules.specs.Passes as spec;
 use crate::form::is_logical_name;
 use crate::reference_walk::references;
 use crate::walk::{both_sets, each};
-use config_text::fault::Code;
+use config_text::cause::Cause;
+use config_text::fault::{ConfigFault, PlacedFault};
 use config_text::noting::note_if;
 use config_text::parts::{ConfigParts, LabelParts, ObjectParts, RightParts, SetsParts};
 use config_text::place::Place;
-use config_text::refusal::{PlacedFault, Refusal, refuse};
+use config_text::refusal::refuse;
 use cosem_data::memory::Memory;
 use std::alloc::Global;
 use value_text::client_name::may_be_named;
@@ -26,7 +27,7 @@ fn logical_form(
     ensures { OnOk result (faults.new.items ≡ faults.old.items
         ++ spec.logical_form (at.now ++ key.now) name.now) }
 {
-    note_if(faults, Code::Form, at, key, !is_logical_name(name))
+    note_if(faults, Cause::LogicalForm, at, key, !is_logical_name(name))
 }
 
 /// Notes a client's name of bad form at a key below a place, in a configuration of this version.
@@ -42,7 +43,7 @@ fn client_form(
 {
     note_if(
         faults,
-        Code::Form,
+        Cause::ClientForm(version),
         at,
         key,
         !may_be_named(version, name.as_bytes()),
@@ -119,7 +120,7 @@ fn label_forms(
 /// # Errors
 /// C4 at each logical name and client's name of bad form.
 #[tactic(auto, unfolding(config_rules::specs::Passes::forms))]
-pub(crate) fn forms(alloc: Global, config: &ConfigParts) -> Result<(), Refusal>
+pub(crate) fn forms(alloc: Global, config: &ConfigParts) -> Result<(), ConfigFault>
     ensures { Finds result (spec.forms config.now) }
 {
     let version = config.version;

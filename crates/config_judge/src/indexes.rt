@@ -3,6 +3,7 @@
 ghost use Rattle.std.specs.Prelude.{◌≡◌, ◌++◌, OnOk};
 ghost use Rattle.config_text.specs.BodyView.{body_text};
 ghost use Rattle.config_text.specs.Refusals.{Finds};
+ghost use Rattle.config_text.specs.declared.cause.Use.TheVariants.{Attribute, Method};
 ghost use Rattle.config_rules.specs.Passes as spec;
 ghost use Rattle.config_rules.specs.Walks as walks;
 ghost use Rattle.meter_theory.specs.Classes as classes;
@@ -10,11 +11,12 @@ ghost use Rattle.meter_theory.specs.Classes as classes;
 use crate::directory::Directory;
 use crate::reference_walk::{each_action, each_capture};
 use crate::walk::each;
-use config_text::fault::Code;
+use config_text::cause::{Cause, Use};
+use config_text::fault::{ConfigFault, PlacedFault};
 use config_text::noting::note_if;
 use config_text::parts::{BodyParts, RightParts};
 use config_text::place::Place;
-use config_text::refusal::{PlacedFault, Refusal, refuse};
+use config_text::refusal::refuse;
 use config_text::service::Service;
 use cosem_data::memory::Memory;
 use meter_theory::classes::{has_attribute, has_method, is_capturable, is_monitorable};
@@ -35,8 +37,10 @@ fn usable_indexes(
         BodyParts::ProfileGeneric { capture, menu, .. } => {
             each_capture(faults, at, capture, menu, |faults, at, capture| {
                 let target = &capture.target;
-                let usable = is_capturable(directory.class(&target.object), target.index);
-                note_if(faults, Code::Index, at, ".index", !usable)
+                let class = directory.class(&target.object);
+                let usable = is_capturable(class, target.index);
+                let cause = Cause::Index(Use::Capturable, class);
+                note_if(faults, cause, at, ".index", !usable)
             })
         }
         BodyParts::ScriptTable { scripts } => each_action(
@@ -44,17 +48,20 @@ fn usable_indexes(
             at,
             scripts,
             |faults, at, action| {
-                let target = &action.target;
-                let usable = match action.service {
-                    Service::Write => directory.is_settable(&target.object, target.index),
-                    Service::Invoke => has_method(directory.class(&target.object), target.index),
+                let (name, index) = (&action.target.object, action.target.index);
+                let class = directory.class(name);
+                let (wanted, usable) = match action.service {
+                    Service::Write => (Use::Settable, directory.is_settable(name, index)),
+                    Service::Invoke => (Use::Method, has_method(class, index)),
                 };
-                note_if(faults, Code::Index, at, ".index", !usable)
+                note_if(faults, Cause::Index(wanted, class), at, ".index", !usable)
             },
         ),
         BodyParts::RegisterMonitor { monitored, .. } => {
-            let usable = is_monitorable(directory.class(&monitored.object), monitored.index);
-            note_if(faults, Code::Index, at, ".monitored.index", !usable)
+            let class = directory.class(&monitored.object);
+            let usable = is_monitorable(class, monitored.index);
+            let cause = Cause::Index(Use::Monitorable, class);
+            note_if(faults, cause, at, ".monitored.index", !usable)
         }
         _ => Ok(()),
     }
@@ -69,10 +76,11 @@ fn attributes_of(
     indexes: &[u8],
 ) -> Result<(), Memory>
     ensures { OnOk result (faults.new.items ≡ faults.old.items
-        ++ walks.each (spec.right_index classes.has_attribute class) (at.now ++ key.now) indexes.now) }
+        ++ walks.each (spec.right_index Attribute classes.has_attribute class) (at.now ++ key.now) indexes.now) }
 {
     each(faults, &at.below(key), indexes, |faults, at, index| {
-        note_if(faults, Code::Index, at, "", !has_attribute(class, *index))
+        let cause = Cause::Index(Use::Attribute, class);
+        note_if(faults, cause, at, "", !has_attribute(class, *index))
     })
 }
 
@@ -85,10 +93,11 @@ fn methods_of(
     indexes: &[u8],
 ) -> Result<(), Memory>
     ensures { OnOk result (faults.new.items ≡ faults.old.items
-        ++ walks.each (spec.right_index classes.has_method class) (at.now ++ key.now) indexes.now) }
+        ++ walks.each (spec.right_index Method classes.has_method class) (at.now ++ key.now) indexes.now) }
 {
     each(faults, &at.below(key), indexes, |faults, at, index| {
-        note_if(faults, Code::Index, at, "", !has_method(class, *index))
+        let cause = Cause::Index(Use::Method, class);
+        note_if(faults, cause, at, "", !has_method(class, *index))
     })
 }
 
@@ -115,7 +124,7 @@ fn right_indexes(
 /// # Errors
 /// C10 at each index that the class doesn't have, or that isn't usable there.
 #[tactic(auto, unfolding(config_rules::specs::Passes::known_indexes))]
-pub(crate) fn known_indexes(alloc: Global, directory: &Directory<'_>) -> Result<(), Refusal>
+pub(crate) fn known_indexes(alloc: Global, directory: &Directory<'_>) -> Result<(), ConfigFault>
     ensures { Finds result (spec.known_indexes directory.now.config.now) }
 {
     let config = directory.config;

@@ -1,11 +1,12 @@
 //! C16: more than a limit allows.
-ghost use Rattle.std.specs.Prelude.{◌≡◌, ◌++◌, ◌||◌, OnOk, [], IfOk, Some, codes, nat_lt};
+ghost use Rattle.std.specs.Prelude.{◌≡◌, ◌++◌, ◌||◌, OnOk, [], IfOk, Some, codes, length, nat_lt, not};
 ghost use Rattle.std.specs.Option.{unwrap_or};
 ghost use Rattle.meter_theory.specs.Value.{is_within_limits};
 ghost use Rattle.config_text.specs.BodyView.{body_text};
 ghost use Rattle.config_text.specs.Refusals.{Finds};
 ghost use Rattle.config_text.specs.Fault.{fault_where};
-ghost use Rattle.config_text.specs.declared.fault.Code.TheVariants.{Limit};
+ghost use Rattle.config_text.specs.declared.cause.Cause.TheVariants as causes;
+ghost use Rattle.config_text.specs.declared.cause.Limit.TheVariants as of;
 ghost use Rattle.config_rules.specs.Passes as passes;
 ghost use Rattle.config_rules.specs.PlanOf.{thresholds_value, times_value};
 ghost use Rattle.value_text.specs.Texts.{value_in};
@@ -15,12 +16,15 @@ ghost use Rattle.config_judge.specs.Menus.{menu_of};
 use crate::arrays::{times_of, values_of};
 use crate::menus::menu_in;
 use crate::walk::each;
-use config_text::fault::Code;
+use config_text::cause::{Cause, Limit};
+use config_text::fault::{ConfigFault, PlacedFault};
 use config_text::hex_value::{HexBytes, HexValue};
 use config_text::noting::note_if;
-use config_text::parts::{AlternativeParts, BodyParts, CaptureParts, ConfigParts, ScriptParts};
+use config_text::parts::{
+    AlternativeParts, BodyParts, CaptureParts, ConfigParts, ScriptParts, UpDownParts,
+};
 use config_text::place::Place;
-use config_text::refusal::{PlacedFault, Refusal, refuse};
+use config_text::refusal::refuse;
 use cosem_class::judge::keeps_limits;
 use cosem_data::data::{Data, Items};
 use cosem_data::memory::Memory;
@@ -33,15 +37,15 @@ use std::alloc::Global;
 /// A number of elements against a limit.
 fn at_most(
     faults: &mut Vec<PlacedFault>,
+    what: Limit,
     at: &Place<'_>,
-    key: &str,
     limit: usize,
     number: usize,
 ) -> Result<(), Memory>
     ensures { OnOk result (faults.new.items ≡ faults.old.items
-        ++ fault_where Limit (at.now ++ key.now) (nat_lt limit number)) }
+        ++ fault_where (causes.Limit what) at.now (nat_lt limit number)) }
 {
-    note_if(faults, Code::Limit, at, key, limit < number)
+    note_if(faults, Cause::Limit(what), at, "", limit < number)
 }
 
 /// Whether a text is no value, or one within the limits.
@@ -64,7 +68,7 @@ fn small_value(
     ensures { OnOk result (faults.new.items ≡ faults.old.items
         ++ passes.small_value (at.now ++ key.now) (Some hex.now)) }
 {
-    note_if(faults, Code::Limit, at, key, !is_small(hex))
+    note_if(faults, Cause::Limit(Limit::Value), at, key, !is_small(hex))
 }
 
 /// Notes the sizes of a script that are past a limit.
@@ -76,7 +80,13 @@ fn script_limits(
 ) -> Result<(), Memory>
     ensures { OnOk result (faults.new.items ≡ faults.old.items ++ passes.script_limits at.now script.now) }
 {
-    at_most(faults, at, ".action", ACTIONS, script.actions.len())?;
+    at_most(
+        faults,
+        Limit::Actions,
+        &at.below(".action"),
+        ACTIONS,
+        script.actions.len(),
+    )?;
     each(
         faults,
         &at.below(".action"),
@@ -101,7 +111,8 @@ fn menu_size<T: Drop>(
     match menu {
         Some(alternatives) => {
             let number = alternatives.len();
-            note_if(faults, Code::Limit, at, key, number < 1 || MENU < number)
+            let cause = Cause::Limit(Limit::Alternatives);
+            note_if(faults, cause, at, key, number < 1 || MENU < number)
         }
         None => Ok(()),
     }
@@ -130,9 +141,15 @@ fn few_captures(
     alternative: &AlternativeParts,
 ) -> Result<(), Memory>
     ensures { OnOk result (faults.new.items ≡ faults.old.items
-        ++ passes.at_most CAPTURE_OBJECTS at.now alternative.now) }
+        ++ passes.at_most of.Captures CAPTURE_OBJECTS at.now alternative.now) }
 {
-    at_most(faults, at, "", CAPTURE_OBJECTS, alternative.captures.len())
+    at_most(
+        faults,
+        Limit::Captures,
+        at,
+        CAPTURE_OBJECTS,
+        alternative.captures.len(),
+    )
 }
 
 /// Notes the alternatives of a menu that have more attributes than a limit allows.
@@ -142,7 +159,7 @@ fn few_in_menu(
     menu: &Option<Vec<AlternativeParts>>,
 ) -> Result<(), Memory>
     ensures { OnOk result (faults.new.items ≡ faults.old.items
-        ++ walks.each (passes.at_most CAPTURE_OBJECTS) (at.now ++ codes ".capture_menu")
+        ++ walks.each (passes.at_most of.Captures CAPTURE_OBJECTS) (at.now ++ codes ".capture_menu")
         (unwrap_or (menu_of menu.now) [])) }
 {
     each(
@@ -163,17 +180,49 @@ fn profile_limits(
     menu: &Option<Vec<AlternativeParts>>,
 ) -> Result<(), Memory>
     ensures { OnOk result (faults.new.items ≡ faults.old.items
-        ++ (passes.at_most CAPTURE_OBJECTS (at.now ++ codes ".capture") captures.now
-        ++ fault_where Limit (at.now ++ codes ".entries") (nat_lt PROFILE_ENTRIES entries)
+        ++ (passes.at_most of.Captures CAPTURE_OBJECTS (at.now ++ codes ".capture") captures.now
+        ++ fault_where (causes.Limit of.Entries) (at.now ++ codes ".entries") (nat_lt PROFILE_ENTRIES entries)
         ++ passes.menu_size (at.now ++ codes ".capture_menu") (menu_of menu.now)
-        ++ walks.each (passes.at_most CAPTURE_OBJECTS) (at.now ++ codes ".capture_menu")
+        ++ walks.each (passes.at_most of.Captures CAPTURE_OBJECTS) (at.now ++ codes ".capture_menu")
         (unwrap_or (menu_of menu.now) []))) }
 {
-    at_most(faults, at, ".capture", CAPTURE_OBJECTS, captures.len())?;
+    at_most(
+        faults,
+        Limit::Captures,
+        &at.below(".capture"),
+        CAPTURE_OBJECTS,
+        captures.len(),
+    )?;
     let many = PROFILE_ENTRIES < entries;
-    note_if(faults, Code::Limit, at, ".entries", many)?;
+    note_if(faults, Cause::Limit(Limit::Entries), at, ".entries", many)?;
     menu_size(faults, at, ".capture_menu", menu)?;
     few_in_menu(faults, at, menu)
+}
+
+/// Notes the sizes in a register monitor that are past a limit: of its thresholds, and of its actions.
+fn monitor_limits(
+    faults: &mut Vec<PlacedFault>,
+    at: &Place<'_>,
+    thresholds: &[HexValue],
+    actions: &[UpDownParts],
+) -> Result<(), Memory>
+    ensures { OnOk result (faults.new.items ≡ faults.old.items
+        ++ (fault_where (causes.Limit of.Thresholds) (at.now ++ codes ".thresholds")
+        (nat_lt THRESHOLDS (length thresholds.now) || not (is_within_limits (thresholds_value thresholds.now)))
+        ++ passes.at_most of.MonitorActions THRESHOLDS (at.now ++ codes ".action") actions.now)) }
+{
+    let small = are_small_thresholds(at.alloc(), thresholds)?;
+    let many = THRESHOLDS < thresholds.len();
+    let cause = Cause::Limit(Limit::Thresholds);
+    note_if(faults, cause, at, ".thresholds", many || !small)?;
+    let place = at.below(".action");
+    at_most(
+        faults,
+        Limit::MonitorActions,
+        &place,
+        THRESHOLDS,
+        actions.len(),
+    )
 }
 
 /// Notes the sizes in an object's body that are past a limit.
@@ -195,23 +244,25 @@ fn limits_in(faults: &mut Vec<PlacedFault>, at: &Place<'_>, body: &BodyParts) ->
             ..
         } => { profile_limits(faults, at, capture, *entries, menu) }
         BodyParts::ScriptTable { scripts } => {
-            at_most(faults, at, ".script", SCRIPTS, scripts.len())?;
+            at_most(
+                faults,
+                Limit::Scripts,
+                &at.below(".script"),
+                SCRIPTS,
+                scripts.len(),
+            )?;
             each(faults, &at.below(".script"), scripts, script_limits)
         }
         BodyParts::RegisterMonitor {
             thresholds,
             actions,
             ..
-        } => {
-            let small = are_small_thresholds(at.alloc(), thresholds)?;
-            let many = THRESHOLDS < thresholds.len();
-            note_if(faults, Code::Limit, at, ".thresholds", many || !small)?;
-            at_most(faults, at, ".action", THRESHOLDS, actions.len())
-        }
+        } => { monitor_limits(faults, at, thresholds, actions) }
         BodyParts::SingleActionSchedule { times, menu, .. } => {
             let small = are_small_times(at.alloc(), times)?;
             let many = EXECUTION_TIMES < times.len();
-            note_if(faults, Code::Limit, at, ".times", many || !small)?;
+            let cause = Cause::Limit(Limit::Times);
+            note_if(faults, cause, at, ".times", many || !small)?;
             menu_size(faults, at, ".script_menu", menu)
         }
         BodyParts::Clock { .. } | BodyParts::Unknown => Ok(()),
@@ -224,13 +275,25 @@ fn limits_in(faults: &mut Vec<PlacedFault>, at: &Place<'_>, body: &BodyParts) ->
 /// C16 at the clients and the objects, where these are more than a limit allows, and at each list of an object that has more
 /// elements, and each value that is larger or nested deeper.
 #[tactic(auto, unfolding(config_rules::specs::Passes::within_limits))]
-pub(crate) fn within_limits(alloc: Global, config: &ConfigParts) -> Result<(), Refusal>
+pub(crate) fn within_limits(alloc: Global, config: &ConfigParts) -> Result<(), ConfigFault>
     ensures { Finds result (passes.within_limits config.now) }
 {
     let mut faults = Vec::new(alloc);
     let top = Place::top(alloc, "");
-    at_most(&mut faults, &top, "client", CLIENTS, config.clients.len())?;
-    at_most(&mut faults, &top, "object", OBJECTS, config.objects.len())?;
+    at_most(
+        &mut faults,
+        Limit::Clients,
+        &top.below("client"),
+        CLIENTS,
+        config.clients.len(),
+    )?;
+    at_most(
+        &mut faults,
+        Limit::Objects,
+        &top.below("object"),
+        OBJECTS,
+        config.objects.len(),
+    )?;
     each(
         &mut faults,
         &top.below("object"),

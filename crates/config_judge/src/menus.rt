@@ -9,13 +9,13 @@ ghost use Rattle.config_rules.specs.Passes as passes;
 ghost use Rattle.config_judge.specs.Menus.{menu_of};
 
 use crate::walk::{each_new, judge_objects};
-use config_text::fault::Code;
+use config_text::cause::Cause;
+use config_text::fault::{ConfigFault, PlacedFault};
 use config_text::noting::note_if;
 use config_text::parts::{
     AlternativeParts, BodyParts, CaptureParts, ConfigParts, ScriptRefParts, TargetParts,
 };
 use config_text::place::Place;
-use config_text::refusal::{PlacedFault, Refusal};
 use cosem_data::memory::Memory;
 use std::alloc::Global;
 
@@ -98,7 +98,7 @@ fn new_captures(
 {
     let captures = alternative.captures.as_slice();
     let twice = same_captures(start, captures) || has_captures(earlier, captures);
-    note_if(faults, Code::AlternativeTwice, at, "", twice)
+    note_if(faults, Cause::AlternativeTwice, at, "", twice)
 }
 
 /// Notes that an alternative is the script that is configured, or an earlier one, where it is.
@@ -113,7 +113,7 @@ fn new_run(
         ++ passes.new_alternative passes.same_script start.now earlier.now at.now script.now) }
 {
     let twice = same_script(start, script) || has_script(earlier, script);
-    note_if(faults, Code::AlternativeTwice, at, "", twice)
+    note_if(faults, Cause::AlternativeTwice, at, "", twice)
 }
 
 /// Notes the alternatives in an object's body that aren't new.
@@ -149,7 +149,7 @@ fn new_alternatives_in(
 /// # Errors
 /// C22 at each alternative that is what is configured, or an earlier one.
 #[tactic(auto, unfolding(config_rules::specs::Passes::new_alternatives))]
-pub(crate) fn new_alternatives(alloc: Global, config: &ConfigParts) -> Result<(), Refusal>
+pub(crate) fn new_alternatives(alloc: Global, config: &ConfigParts) -> Result<(), ConfigFault>
     ensures { Finds result (passes.new_alternatives config.now) }
 {
     judge_objects(

@@ -9,11 +9,12 @@ ghost use Rattle.config_rules.specs.Walks.{element_place};
 
 use crate::directory::Directory;
 use crate::walk::judge_objects;
-use config_text::fault::Code;
+use config_text::cause::Cause;
+use config_text::fault::{ConfigFault, PlacedFault};
 use config_text::noting::note_if;
 use config_text::parts::{ConfigParts, ObjectParts};
 use config_text::place::Place;
-use config_text::refusal::{PlacedFault, Refusal, refuse};
+use config_text::refusal::refuse;
 use cosem_data::memory::Memory;
 use meter_theory::classes::is_known;
 use std::alloc::Global;
@@ -41,10 +42,16 @@ fn new_object(
         ++ spec.new_object (take i directory.now.config.now.objects)
         (element_place (codes "object") i) object.now) }
 {
-    let taken = is_taken(directory, object.name.as_str(), i);
+    let name = object.name.as_str();
+    let taken = is_taken(directory, name, i);
+    let cause = if CURRENT_ASSOCIATION == name {
+        Cause::Association
+    } else {
+        Cause::ObjectTwice
+    };
     note_if(
         faults,
-        Code::ObjectTwice,
+        cause,
         &Place::top(alloc, "object").element(i),
         ".name",
         taken,
@@ -56,7 +63,7 @@ fn new_object(
 /// # Errors
 /// C5 at each name that an earlier object or the current association has.
 #[tactic(auto, unfolding(config_rules::specs::Passes::new_objects, config_rules::specs::Walks::each_after))]
-pub(crate) fn new_objects(alloc: Global, directory: &Directory<'_>) -> Result<(), Refusal>
+pub(crate) fn new_objects(alloc: Global, directory: &Directory<'_>) -> Result<(), ConfigFault>
     ensures { Finds result (spec.new_objects directory.now.config.now) }
 {
     let mut faults = Vec::new(alloc);
@@ -73,11 +80,17 @@ pub(crate) fn new_objects(alloc: Global, directory: &Directory<'_>) -> Result<()
 /// # Errors
 /// C6 at each interface class that isn't.
 #[tactic(auto, unfolding(config_rules::specs::Passes::known_classes))]
-pub(crate) fn known_classes(alloc: Global, config: &ConfigParts) -> Result<(), Refusal>
+pub(crate) fn known_classes(alloc: Global, config: &ConfigParts) -> Result<(), ConfigFault>
     ensures { Finds result (spec.known_classes config.now) }
 {
     judge_objects(alloc, config, |faults, at, object| {
         let known = is_known(config.version, object.class_id);
-        note_if(faults, Code::ClassUnknown, at, ".class", !known)
+        note_if(
+            faults,
+            Cause::ClassUnknown(config.version),
+            at,
+            ".class",
+            !known,
+        )
     })
 }

@@ -1,7 +1,7 @@
 //! The passes over a configuration, one a code, each run only where those before it found nothing (own profile).
 
 ghost use Rattle.config_text.specs.Refusals.{Finds};
-ghost use Rattle.config_rules.specs.Passes.{found};
+ghost use Rattle.config_rules.specs.Passes.{found, known_references};
 ghost use Rattle.config_judge.specs.JudgedNames.{found_in_names, found_in_rest};
 
 use crate::clients::{known_clients, new_clients};
@@ -16,14 +16,26 @@ use crate::laws::names_are_judged_first;
 use crate::limits::within_limits;
 use crate::menus::new_alternatives;
 use crate::objects::{known_classes, new_objects};
-use crate::references::known_references;
+use crate::references::known_references_by;
 use crate::rights::settable_rights;
 use crate::scripts::{new_scripts, no_executes};
 use crate::sorting::valid_sorting;
 use crate::times::valid_times;
 use crate::values::valid_values;
-use config_text::refusal::Refusal;
+use crate::walk::finds_any;
+use config_text::fault::ConfigFault;
 use std::alloc::Global;
+
+/// Judges whether all that is referred to is there.
+///
+/// # Errors
+/// C9 at each reference to no object, to a table that is no script table, or to a script that isn't there.
+fn known_references(alloc: Global, directory: &Directory<'_>) -> Result<(), ConfigFault>
+    ensures { Finds result (known_references directory.now.config.now) }
+{
+    let later = finds_any(new_scripts(alloc, directory.config))?;
+    known_references_by(alloc, directory, later)
+}
 
 /// Judges whether the names and indexes of a configuration are of good form and lead to something (own profile).
 ///
@@ -38,7 +50,7 @@ use std::alloc::Global;
 /// - C10 at each index that the class doesn't have, or that isn't usable there;
 /// - C0 where memory was refused, at any time.
 #[tactic(auto, unfolding(crate::specs::JudgedNames::found_in_names))]
-fn judge_names(alloc: Global, directory: &Directory<'_>) -> Result<(), Refusal>
+fn judge_names(alloc: Global, directory: &Directory<'_>) -> Result<(), ConfigFault>
     ensures { Finds result (found_in_names directory.now.config.now) }
 {
     let config = directory.config;
@@ -56,7 +68,7 @@ fn judge_names(alloc: Global, directory: &Directory<'_>) -> Result<(), Refusal>
 /// # Errors
 /// All faults with the least of the codes that is met.
 #[tactic(auto, unfolding(crate::specs::JudgedNames::found_in_rest))]
-fn judge_values(alloc: Global, directory: &Directory<'_>) -> Result<(), Refusal>
+fn judge_values(alloc: Global, directory: &Directory<'_>) -> Result<(), ConfigFault>
     ensures { Finds result (found_in_rest directory.now.config.now) }
 {
     let config = directory.config;
@@ -79,7 +91,7 @@ fn judge_values(alloc: Global, directory: &Directory<'_>) -> Result<(), Refusal>
 /// # Errors
 /// All faults with the least of the codes C4 to C22 that is met, in the order in which they are looked for; C0 where memory
 /// was refused, at any time.
-pub fn judge(alloc: Global, directory: &Directory<'_>) -> Result<(), Refusal>
+pub fn judge(alloc: Global, directory: &Directory<'_>) -> Result<(), ConfigFault>
     ensures { Finds result (found directory.now.config.now) }
 {
     names_are_judged_first();

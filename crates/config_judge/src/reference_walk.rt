@@ -10,12 +10,12 @@ ghost use Rattle.config_judge.specs.Menus.{menu_of, with_menu};
 
 use crate::menus::menu_in;
 use crate::walk::each;
+use config_text::fault::PlacedFault;
 use config_text::parts::{
     ActionParts, AlternativeParts, BodyParts, CaptureParts, ScriptParts, ScriptRefParts,
     TargetParts, UpDownParts,
 };
 use config_text::place::Place;
-use config_text::refusal::PlacedFault;
 use cosem_data::memory::Memory;
 
 /// Notes the faults of each action of each script.

@@ -10,11 +10,12 @@ ghost use Rattle.config_rules.specs.Passes as spec;
 use crate::directory::Directory;
 use crate::reference_walk::references;
 use crate::walk::each;
-use config_text::fault::Code;
+use config_text::cause::Cause;
+use config_text::fault::{ConfigFault, PlacedFault};
 use config_text::noting::{note, note_if};
 use config_text::parts::{BodyParts, ScriptParts, ScriptRefParts};
 use config_text::place::Place;
-use config_text::refusal::{PlacedFault, Refusal, refuse};
+use config_text::refusal::refuse;
 use cosem_data::memory::Memory;
 use meter_theory::classes::{Class, is_of_class};
 use std::alloc::Global;
@@ -30,7 +31,7 @@ fn known_object(
         ++ spec.known_object directory.now.config.now at.now name.now) }
 {
     let known = directory.has_object(name);
-    note_if(faults, Code::Reference, at, ".object", !known)
+    note_if(faults, Cause::NoObject, at, ".object", !known)
 }
 
 /// The scripts of a script table, none of another object.
@@ -75,28 +76,34 @@ fn has_script(scripts: &[ScriptParts], script: i64) -> bool
 fn known_script(
     faults: &mut Vec<PlacedFault>,
     directory: &Directory<'_>,
+    later: bool,
     at: &Place<'_>,
     script: &ScriptRefParts,
 ) -> Result<(), Memory>
     ensures { OnOk result (faults.new.items ≡ faults.old.items
-        ++ spec.known_script directory.now.config.now at.now script.now) }
+        ++ spec.known_script later directory.now.config.now at.now script.now) }
 {
     let table = script.table.as_str();
     let is_table = is_of_class(directory.class(table), Class::ScriptTable);
     if !is_table {
-        return note(faults, Code::Reference, at, ".table");
+        return note(faults, Cause::NoScriptTable, at, ".table");
     }
     let known = has_script(scripts_of(directory, table), script.script);
-    note_if(faults, Code::Reference, at, ".script", !known)
+    note_if(faults, Cause::NoScript(later), at, ".script", !known)
 }
 
-/// Judges whether all that is referred to is there: objects, script tables, and their scripts.
+/// Judges whether all that is referred to is there: objects, script tables, and their scripts. `later` is whether identifiers of
+/// scripts have faults, which the causes tell.
 ///
 /// # Errors
 /// C9 at each reference to no object, to a table that is no script table, or to a script that isn't in its table.
-#[tactic(auto, unfolding(config_rules::specs::Passes::known_references))]
-pub(crate) fn known_references(alloc: Global, directory: &Directory<'_>) -> Result<(), Refusal>
-    ensures { Finds result (spec.known_references directory.now.config.now) }
+#[tactic(auto, unfolding(config_rules::specs::Passes::known_references_by))]
+pub(crate) fn known_references_by(
+    alloc: Global,
+    directory: &Directory<'_>,
+    later: bool,
+) -> Result<(), ConfigFault>
+    ensures { Finds result (spec.known_references_by later directory.now.config.now) }
 {
     let config = directory.config;
     let mut faults = Vec::new(alloc);
@@ -110,7 +117,7 @@ pub(crate) fn known_references(alloc: Global, directory: &Directory<'_>) -> Resu
                 at,
                 &object.body,
                 |faults, at, target| known_object(faults, directory, at, &target.object),
-                |faults, at, script| known_script(faults, directory, at, script),
+                |faults, at, script| known_script(faults, directory, later, at, script),
             )
         },
     )?;

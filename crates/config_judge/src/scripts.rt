@@ -8,11 +8,11 @@ use crate::directory::Directory;
 use crate::reference_walk::each_action;
 use crate::references::{has_id, scripts_in};
 use crate::walk::{each_new, judge_objects};
-use config_text::fault::Code;
+use config_text::cause::Cause;
+use config_text::fault::{ConfigFault, PlacedFault};
 use config_text::noting::note_if;
 use config_text::parts::{ActionParts, ConfigParts, ScriptParts};
 use config_text::place::Place;
-use config_text::refusal::{PlacedFault, Refusal};
 use config_text::service::Service;
 use cosem_data::memory::Memory;
 use meter_theory::classes::{Class, is_of_class};
@@ -29,7 +29,12 @@ fn new_script(
         ++ passes.new_script earlier.now at.now script.now) }
 {
     let taken = script.id == 0 || has_id(earlier, u64::from(script.id));
-    note_if(faults, Code::ScriptId, at, ".id", taken)
+    let cause = if script.id == 0 {
+        Cause::ScriptZero
+    } else {
+        Cause::ScriptTwice
+    };
+    note_if(faults, cause, at, ".id", taken)
 }
 
 /// Notes the identifiers of scripts that aren't new.
@@ -49,7 +54,7 @@ fn new_scripts_in(
 /// # Errors
 /// C14 at each identifier that is 0 or that of an earlier script of its table.
 #[tactic(auto, unfolding(config_rules::specs::Passes::new_scripts))]
-pub(crate) fn new_scripts(alloc: Global, config: &ConfigParts) -> Result<(), Refusal>
+pub(crate) fn new_scripts(alloc: Global, config: &ConfigParts) -> Result<(), ConfigFault>
     ensures { Finds result (passes.new_scripts config.now) }
 {
     judge_objects(alloc, config, |faults, at, object| {
@@ -81,7 +86,7 @@ fn no_executes_in(
     each_action(faults, at, scripts, |faults, at, action| {
         note_if(
             faults,
-            Code::Execute,
+            Cause::Execute,
             at,
             ".object",
             executes(directory, action),
@@ -94,7 +99,7 @@ fn no_executes_in(
 /// # Errors
 /// C15 at each action that calls a method of a script table.
 #[tactic(auto, unfolding(config_rules::specs::Passes::no_executes))]
-pub(crate) fn no_executes(alloc: Global, directory: &Directory<'_>) -> Result<(), Refusal>
+pub(crate) fn no_executes(alloc: Global, directory: &Directory<'_>) -> Result<(), ConfigFault>
     ensures { Finds result (passes.no_executes directory.now.config.now) }
 {
     judge_objects(alloc, directory.config, |faults, at, object| {

@@ -7,11 +7,11 @@ ghost use Rattle.config_rules.specs.Walks as walks;
 
 use crate::reference_walk::each_alternative;
 use crate::walk::{each, judge_objects};
-use config_text::fault::Code;
+use config_text::cause::Cause;
+use config_text::fault::{ConfigFault, PlacedFault};
 use config_text::noting::note_if;
 use config_text::parts::{BodyParts, CaptureParts, ConfigParts};
 use config_text::place::Place;
-use config_text::refusal::{PlacedFault, Refusal};
 use cosem_data::memory::Memory;
 use std::alloc::Global;
 
@@ -35,7 +35,7 @@ fn whole_attribute(
         ++ passes.whole_attribute at.now capture.now) }
 {
     let other = is_other(0, capture.data_index);
-    note_if(faults, Code::Sorting, at, ".data_index", other)
+    note_if(faults, Cause::DataIndex, at, ".data_index", other)
 }
 
 /// Notes the parts of attributes that a profile captures at the start.
@@ -68,7 +68,7 @@ fn valid_sorting_in(
         } => {
             whole_captures(faults, at, capture.as_slice())?;
             let other = is_other(1, *sort_method);
-            note_if(faults, Code::Sorting, at, ".sort_method", other)?;
+            note_if(faults, Cause::SortMethod, at, ".sort_method", other)?;
             each_alternative(faults, at, menu, whole_attribute)
         }
         _ => Ok(()),
@@ -80,7 +80,7 @@ fn valid_sorting_in(
 /// # Errors
 /// C20 at each data_index other than 0 and each sort_method other than 1, fifo.
 #[tactic(auto, unfolding(config_rules::specs::Passes::valid_sorting))]
-pub(crate) fn valid_sorting(alloc: Global, config: &ConfigParts) -> Result<(), Refusal>
+pub(crate) fn valid_sorting(alloc: Global, config: &ConfigParts) -> Result<(), ConfigFault>
     ensures { Finds result (passes.valid_sorting config.now) }
 {
     judge_objects(

@@ -10,12 +10,12 @@ ghost use Rattle.config_rules.specs.PlanOf.{times_value};
 use crate::arrays::times_of;
 use crate::walk::judge_objects;
 use class_control::times::are_execution_times;
-use config_text::fault::Code;
+use config_text::cause::Cause;
+use config_text::fault::{ConfigFault, PlacedFault};
 use config_text::hex_value::HexBytes;
 use config_text::noting::note_if;
 use config_text::parts::{BodyParts, ConfigParts};
 use config_text::place::Place;
-use config_text::refusal::{PlacedFault, Refusal};
 use cosem_data::memory::Memory;
 use std::alloc::Global;
 
@@ -40,7 +40,7 @@ fn valid_times_in(
     match body {
         BodyParts::SingleActionSchedule { kind, times, .. } => {
             let fit = do_fit(at.alloc(), *kind, times)?;
-            note_if(faults, Code::Times, at, ".times", !fit)
+            note_if(faults, Cause::Times(*kind), at, ".times", !fit)
         }
         _ => Ok(()),
     }
@@ -51,7 +51,7 @@ fn valid_times_in(
 /// # Errors
 /// C19 at the times of each schedule that don't fit the type.
 #[tactic(auto, unfolding(config_rules::specs::Passes::valid_times))]
-pub(crate) fn valid_times(alloc: Global, config: &ConfigParts) -> Result<(), Refusal>
+pub(crate) fn valid_times(alloc: Global, config: &ConfigParts) -> Result<(), ConfigFault>
     ensures { Finds result (passes.valid_times config.now) }
 {
     judge_objects(

@@ -1,5 +1,5 @@
 //! C11: values that aren't hex, aren't one Data, or aren't of their kind, and times of clocks that are no moments.
-ghost use Rattle.std.specs.Prelude.{◌≡◌, ◌==◌, ◌&&◌, ◌++◌, OnOk, IfOk, codes, length, map, not};
+ghost use Rattle.std.specs.Prelude.{◌≡◌, ◌==◌, ◌&&◌, ◌++◌, OnOk, IfOk, codes, length, map, not, option_and_then, option_map};
 ghost use Rattle.std.specs.List.{list_all, list_any};
 ghost use Rattle.cosem_data.specs.View.{tree};
 ghost use Rattle.cosem_data.specs.Equal.{same_tree};
@@ -12,7 +12,7 @@ ghost use Rattle.value_text.specs.Texts.{value_in};
 ghost use Rattle.config_text.specs.BodyView.{body_text};
 ghost use Rattle.config_text.specs.Refusals.{Finds};
 ghost use Rattle.config_text.specs.Fault.{fault_where};
-ghost use Rattle.config_text.specs.declared.fault.Code.TheVariants.{Value};
+ghost use Rattle.config_text.specs.declared.cause.Cause.TheVariants.{NoNumber};
 ghost use Rattle.config_rules.specs.Names.{object_named};
 ghost use Rattle.config_rules.specs.Passes as passes;
 ghost use Rattle.config_rules.specs.Values as spec;
@@ -37,15 +37,15 @@ use class_control::judge::elements_of;
 use class_control::menus::is_executed_script;
 use class_control::times::are_execution_times;
 use class_profile::menus::is_capture_objects;
-use config_text::fault::Code;
+use config_text::cause::{Cause, Rule};
+use config_text::fault::{ConfigFault, PlacedFault};
 use config_text::hex_value::HexValue;
-use config_text::noting::note_if;
+use config_text::noting::{note, note_if};
 use config_text::parts::{
     ActionParts, AlternativeParts, BodyParts, CaptureParts, ScriptRefParts, TargetParts,
     UpDownParts,
 };
 use config_text::place::Place;
-use config_text::refusal::{PlacedFault, Refusal};
 use config_text::service::Service;
 use cosem_data::data::Data;
 use cosem_data::kind::Kind;
@@ -254,6 +254,93 @@ fn action_value(
     }
 }
 
+/// The kind of value that may stand in the cell with this index of an object with this body, if it has to be of one.
+fn kind_in_cell(body: &BodyParts, index: u8) -> Option<Kind>
+    ensures { result ≡ written.kind_in_cell (body_text body.now) index }
+{
+    match body {
+        BodyParts::Data { value } | BodyParts::Register { value, .. } => kind_in(value),
+        BodyParts::ProfileGeneric { .. } if index == 3 => Some(Kind::Array),
+        BodyParts::ProfileGeneric { .. } => Some(Kind::DoubleLongUnsigned),
+        BodyParts::Clock { .. } => Some(Kind::OctetString),
+        BodyParts::RegisterMonitor { .. } => Some(Kind::Array),
+        BodyParts::SingleActionSchedule { .. } if index == 2 => Some(Kind::Structure),
+        BodyParts::SingleActionSchedule { .. } => Some(Kind::Array),
+        BodyParts::ScriptTable { .. } | BodyParts::Unknown => None,
+    }
+}
+
+/// The rule that a value may break that is to stand in the cell with this index of an object with this body.
+fn rule_in_cell(body: &BodyParts, index: u8) -> Rule
+    ensures { result ≡ written.rule_in_cell (body_text body.now) index }
+{
+    match body {
+        BodyParts::Clock { .. } => Rule::Moment,
+        BodyParts::RegisterMonitor { .. } => Rule::Thresholds,
+        BodyParts::SingleActionSchedule { .. } if index != 2 => Rule::Times,
+        _ => Rule::Menu,
+    }
+}
+
+/// The cause of a value that may not stand in a cell.
+fn cause_in_cell(body: &BodyParts, index: u8, value: Option<&Data>) -> Cause
+    ensures { result ≡ written.cause_in_cell (body_text body.now) index (option_map (λ v. tree v.now) value.entry) }
+{
+    let asked = kind_in_cell(body, index);
+    match (value, asked) {
+        (Some(value), Some(kind)) if value.kind() == kind => Cause::Rule(rule_in_cell(body, index)),
+        _ => Cause::Value(asked),
+    }
+}
+
+/// The value that an action has, none where its text is that of none.
+fn value_of(action: &ActionParts) -> Option<&Data>
+    ensures { option_map (λ v. tree v.now) result ≡ option_and_then value_in action.now.value }
+{
+    match &action.value {
+        Some(hex) => hex.value(),
+        None => None,
+    }
+}
+
+/// The cause of a value that may not stand in what is named.
+fn written_cause(directory: &Directory<'_>, target: &TargetParts, value: Option<&Data>) -> Cause
+    ensures { result ≡ written.written_cause
+        (object_named directory.now.config.now target.now.object) target.now.index (option_map (λ v. tree v.now) value.entry) }
+{
+    match directory.object(&target.object) {
+        Some(object) => cause_in_cell(&object.body, target.index, value),
+        None => Cause::Value(None),
+    }
+}
+
+/// The cause of a value of an action that isn't right.
+fn action_cause(directory: &Directory<'_>, action: &ActionParts) -> Cause
+    ensures { result ≡ passes.action_cause directory.now.config.now
+        action.now.service action.now.target action.now.value }
+{
+    match action.service {
+        Service::Write => written_cause(directory, &action.target, value_of(action)),
+        Service::Invoke => Cause::Value(None),
+    }
+}
+
+/// Notes that the value of an action isn't right, where it isn't.
+fn valid_action_value(
+    faults: &mut Vec<PlacedFault>,
+    directory: &Directory<'_>,
+    at: &Place<'_>,
+    action: &ActionParts,
+) -> Result<(), Memory>
+    ensures { OnOk result (faults.new.items ≡ faults.old.items
+        ++ passes.valid_action_value directory.now.config.now at.now action.now) }
+{
+    if action_value(at.alloc(), directory, action)? {
+        return Ok(());
+    }
+    note(faults, action_cause(directory, action), at, ".value")
+}
+
 /// Notes the thresholds that aren't values of a kind.
 fn thresholds(
     faults: &mut Vec<PlacedFault>,
@@ -265,7 +352,7 @@ fn thresholds(
         ++ walks.each (passes.threshold_value kind) (at.now ++ codes ".thresholds") texts.now) }
 {
     each(faults, &at.below(".thresholds"), texts, |faults, at, hex| {
-        note_if(faults, Code::Value, at, "", !is_of_kind(kind, hex))
+        note_if(faults, Cause::Value(kind), at, "", !is_of_kind(kind, hex))
     })
 }
 
@@ -278,7 +365,7 @@ fn monitor_values(
     texts: &[HexValue],
 ) -> Result<(), Memory>
     ensures { OnOk result (faults.new.items ≡ faults.old.items
-        ++ (fault_where Value (at.now ++ codes ".monitored.index")
+        ++ (fault_where NoNumber (at.now ++ codes ".monitored.index")
         (not (spec.may_be_number (spec.kind_named directory.now.config.now monitored.now.object)))
         ++ walks.each (passes.threshold_value
         (spec.number_kind (spec.kind_named directory.now.config.now monitored.now.object)))
@@ -286,7 +373,7 @@ fn monitor_values(
 {
     let kind = kind_at(directory, monitored);
     let right = may_be_number(kind);
-    note_if(faults, Code::Value, at, ".monitored.index", !right)?;
+    note_if(faults, Cause::NoNumber, at, ".monitored.index", !right)?;
     thresholds(faults, at, number_kind(kind), texts)
 }
 
@@ -303,16 +390,19 @@ fn valid_values_in(
         ++ passes.valid_values_in directory.now.config.now at.now (body_text body.now)) }
 {
     match body {
-        BodyParts::Data { value } => note_if(faults, Code::Value, at, ".value", !is_value(value)),
+        BodyParts::Data { value } => {
+            note_if(faults, Cause::Value(None), at, ".value", !is_value(value))
+        }
         BodyParts::Register { value, default, .. } => {
             let kind = kind_in(value);
-            note_if(faults, Code::Value, at, ".value", !is_number(kind))?;
-            let fits = is_of_kind(number_kind(kind), default);
-            note_if(faults, Code::Value, at, ".default", !fits)
+            note_if(faults, Cause::Value(None), at, ".value", !is_number(kind))?;
+            let asked = number_kind(kind);
+            let fits = is_of_kind(asked, default);
+            note_if(faults, Cause::Value(asked), at, ".default", !fits)
         }
         BodyParts::Clock { time } => note_if(
             faults,
-            Code::Value,
+            Cause::Moment,
             at,
             ".time",
             !is_moment_text(time),
@@ -321,10 +411,7 @@ fn valid_values_in(
             faults,
             at,
             scripts,
-            |faults, at, action| {
-                let right = action_value(at.alloc(), directory, action)?;
-                note_if(faults, Code::Value, at, ".value", !right)
-            },
+            |faults, at, action| valid_action_value(faults, directory, at, action),
         ),
         BodyParts::RegisterMonitor {
             monitored,
@@ -337,7 +424,7 @@ fn valid_values_in(
             times,
             |faults, at, text| {
                 let is_time = is_time_text(at.alloc(), text)?;
-                note_if(faults, Code::Value, at, "", !is_time)
+                note_if(faults, Cause::ExecutionTime, at, "", !is_time)
             },
         ),
         BodyParts::ProfileGeneric { .. } | BodyParts::Unknown => Ok(()),
@@ -350,7 +437,7 @@ fn valid_values_in(
 /// C11 at each text that isn't hex, isn't one Data, or isn't of the kind that is asked for there, and at a clock's time that is
 /// no moment.
 #[tactic(auto, unfolding(config_rules::specs::Passes::valid_values))]
-pub(crate) fn valid_values(alloc: Global, directory: &Directory<'_>) -> Result<(), Refusal>
+pub(crate) fn valid_values(alloc: Global, directory: &Directory<'_>) -> Result<(), ConfigFault>
     ensures { Finds result (passes.valid_values directory.now.config.now) }
 {
     judge_objects(alloc, directory.config, |faults, at, object| {

@@ -1,16 +1,17 @@
 //! Walks over the elements of an array, each at its place, as `object[6]`, by a closure that notes the faults of one after those
 //! that were found before. The error of each walk is that memory was refused.
 
-ghost use Rattle.std.specs.Prelude.{◌≡◌, ◌++◌, List, OnOk, codes, map, string_bytes};
+ghost use Rattle.std.specs.Prelude.{◌≡◌, ◌++◌, List, IfOk, OnOk, codes, map, string_bytes};
 ghost use Rattle.config_text.specs.Fault.{Fault};
 ghost use Rattle.config_text.specs.Parts.{Text, ObjectText};
 ghost use Rattle.config_text.specs.Refusals.{Finds};
-ghost use Rattle.config_rules.specs.Passes.{both_sets};
+ghost use Rattle.config_rules.specs.Passes.{are_found, both_sets};
 ghost use Rattle.config_rules.specs.Walks as spec;
 
+use config_text::fault::{ConfigFault, PlacedFault};
 use config_text::parts::{ConfigParts, ObjectParts, SetsParts};
 use config_text::place::Place;
-use config_text::refusal::{PlacedFault, Refusal, refuse};
+use config_text::refusal::refuse;
 use cosem_data::memory::Memory;
 use std::alloc::Global;
 
@@ -109,7 +110,7 @@ pub(crate) fn both_sets<F: Fn(&mut Vec<PlacedFault>, &Place<'_>, &str) -> Result
 /// All faults that the closure notes.
 pub(crate) fn judge_objects<
     F: Fn(&mut Vec<PlacedFault>, &Place<'_>, &ObjectParts) -> Result<(), Memory>,
->(alloc: Global, config: &ConfigParts, judge: F) -> Result<(), Refusal>
+>(alloc: Global, config: &ConfigParts, judge: F) -> Result<(), ConfigFault>
     requires { F.IsAlwaysCallable judge }
     ensures { (says : Text → ObjectText → List Fault)
         → ((before : _) (at : _) (x : _) (r : _) (after : _) → F.post judge before at x r after
@@ -124,4 +125,15 @@ pub(crate) fn judge_objects<
         judge,
     )?;
     refuse(faults)
+}
+
+/// Whether a pass found faults. The error is that memory was refused.
+pub(crate) fn finds_any(found: Result<(), ConfigFault>) -> Result<bool, Memory>
+    ensures { (faults : List Fault) → Finds found faults → IfOk result (λ any. any ≡ are_found faults) }
+{
+    match found {
+        Ok(()) => Ok(false),
+        Err(ConfigFault::Found { .. }) => Ok(true),
+        Err(ConfigFault::Memory) => Err(Memory),
+    }
 }

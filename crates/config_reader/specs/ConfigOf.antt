@@ -3,9 +3,8 @@ use Rattle.std.specs.Prelude.{◌≡◌, List, [], ◌∷◌, Result, Ok, Err}
 use Rattle.meter_theory.specs.Labels.{Policy}
 use Rattle.meter_theory.specs.Plan.{Plan}
 use Rattle.config_text.specs.declared.fault.ConfigFault.{ConfigFault}
-use Rattle.config_text.specs.declared.refusal.Refusal.{Refusal}
-use Rattle.config_text.specs.Fault.{Fault, Fails, first_found, first_of, ◌>>=◌}
-use Rattle.config_text.specs.Refusals.{Refuses}
+use Rattle.config_text.specs.Fault.{Fault, first_found, first_of, ◌>>=◌}
+use Rattle.config_text.specs.Refusals.{Fails, Refuses}
 use Rattle.config_text.specs.Parts.{Text, ConfigText}
 use Rattle.config_rules.specs.Faultless.{IsPolicyOf}
 use Rattle.config_rules.specs.Passes.{found, judged}
@@ -42,7 +41,7 @@ AreFaultsOf (Err fault) faults = first_of faults ≡ Err fault
 
 -- A reader's answer to a text with these faults: the plan and the policy of what it says, or all the faults, unless memory was
 -- refused (own profile).
-abbrev pub ReadsOrRefuses : Result (Plan × Policy) Refusal → Result ConfigText Fault → List Fault → Type 0
+abbrev pub ReadsOrRefuses : Result (Plan × Policy) ConfigFault → Result ConfigText Fault → List Fault → Type 0
 ReadsOrRefuses (Ok made) (Ok c) faults = (made.0 ≡ plan_of c) × IsPolicyOf c made.1
 ReadsOrRefuses (Ok made) (Err fault) faults = ⊥
 ReadsOrRefuses (Err refusal) said faults = Refuses refusal faults

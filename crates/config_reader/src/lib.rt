@@ -1,4 +1,4 @@
-//! A configuration's text read to its plan and its policy, or to its first fault, or all the faults of the pass that finds it.
+//! A configuration's text read to its plan and its policy, or to all the faults of the first pass that finds any.
 #![tactic(auto)]
 
 mod clients;
@@ -12,4 +12,4 @@ mod scripts;
 mod targets;
 
 pub use config_text::fault::ConfigFault;
-pub use reading::{read_config, read_or_refuse};
+pub use reading::read_config;

@@ -16,14 +16,13 @@ use config_judge::judge;
 use config_text::fault::ConfigFault;
 use config_text::parts::ConfigParts;
 use config_text::read_tables;
-use config_text::refusal::Refusal;
 use cosem_data::memory::Memory;
 use object_model::plan::Plan;
 use object_model::policy::Policy;
 use std::alloc::Global;
 
 /// What the names of a configuration lead to, once it is judged.
-fn judge_and_resolve(alloc: Global, parts: &ConfigParts) -> Result<Resolved, Refusal>
+fn judge_and_resolve(alloc: Global, parts: &ConfigParts) -> Result<Resolved, ConfigFault>
     requires { IsRead parts.now }
     ensures judged { Finds result (found parts.now) }
     ensures objects { IfOk result (λ resolved. resolved.objects.items
@@ -55,7 +54,7 @@ fn make(alloc: Global, parts: ConfigParts, resolved: Resolved) -> Result<(Plan, 
 /// Every fault of the first pass that has any, C1 to C22, in the order in which they are looked for; C0 where memory was
 /// refused, at any time.
 #[tactic(auto, unfolding(crate::specs::ConfigOf::config_of, crate::specs::ConfigOf::faults_of, config_rules::specs::Passes::judged))]
-pub fn read_or_refuse(alloc: Global, text: &str) -> Result<(Plan, Policy), Refusal>
+fn read_whole(alloc: Global, text: &str) -> Result<(Plan, Policy), ConfigFault>
     ensures { ReadsOrRefuses result (config_of text.now) (faults_of text.now) }
 {
     configurations_are_read();
@@ -64,17 +63,15 @@ pub fn read_or_refuse(alloc: Global, text: &str) -> Result<(Plan, Policy), Refus
     Ok(make(alloc, parts, resolved)?)
 }
 
-/// The plan and the policy of a configuration's text.
+/// The plan and the policy of a configuration's text, which is read and judged once.
 ///
 /// # Errors
-/// The least code that is met, C1 to C22, at the first place in the text where it is; C0 where memory was refused, at any
-/// time.
+/// Every fault of the first pass that has any, C1 to C22, in the order in which they are looked for, each with the cause that was
+/// met: the first is of the least code, at the first place in the text where it is. C0 where memory was refused, at any time.
 pub fn read_config(alloc: Global, text: &str) -> Result<(Plan, Policy), ConfigFault>
-    ensures { Reads result (config_of text.now) }
+    ensures first { Reads result (config_of text.now) }
+    ensures faults { ReadsOrRefuses result (config_of text.now) (faults_of text.now) }
 {
     texts_are_refused_by_the_first_fault();
-    match read_or_refuse(alloc, text) {
-        Ok(made) => Ok(made),
-        Err(refusal) => Err(refusal.into_first()),
-    }
+    read_whole(alloc, text)
 }

@@ -128,8 +128,8 @@ unfolding passes.usable_indexes passes.valid_values_in passes.limits_in passes.s
 action_at c ok o i scripts is s j a k =
     let refers = subst (EachReference (λ t. (p : ObjectText) × IsTarget c t.object p) (IsScript c)) is (known_of c ok o i) s j a k in
     let found = of_body c ok o i (ScriptTableText scripts) is in
-    let few = both_none (passes.at_most limits.SCRIPTS _ scripts) _ found.limits.1 in
-    let actions = both_none (passes.at_most limits.ACTIONS _ s.actions) _ (each_ok _ _ _ _ few.1 s j).1 in
+    let few = both_none (passes.at_most _ limits.SCRIPTS _ scripts) _ found.limits.1 in
+    let actions = both_none (passes.at_most _ limits.ACTIONS _ s.actions) _ (each_ok _ _ _ _ few.1 s j).1 in
     record {
       object = refers.0;
       target = refers.1;

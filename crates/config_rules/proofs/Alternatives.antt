@@ -11,7 +11,6 @@ use Rattle.meter_theory.specs.Classes.{is_of_class}
 use Rattle.meter_theory.specs.Lists.{IsIn, AreDistinct}
 use Rattle.meter_theory.specs.Sound.{HasOwnAlternatives, is_script_number}
 use Rattle.meter_theory.proofs.Lists.{none_in, any_in, in_map, from_map}
-use Rattle.config_text.specs.declared.fault.Code.TheVariants as code
 use Rattle.config_text.specs.Fault.{fault_where}
 use Rattle.config_text.specs.Parts.{Text, MenuText, ConfigText, ObjectText, TargetText, CaptureText, ScriptRefText, ScriptText, BodyText, DataText, RegisterText, ProfileText, ClockText, ScriptTableText, MonitorText, ScheduleText, UnknownText}
 use Rattle.config_rules.specs.Names.{object_named, class_named, menu_in, scripts_in}
@@ -43,14 +42,14 @@ alternatives_new key same told name m h = (not_start, each_new_distinct key (pas
   where
     other : AsksNewKey key (passes.new_alternative same m.start)
     other earlier at x ok y i is =
-        let none = (or_parts (same m.start x) (list_any (λ z. same z x) earlier) (not_faulty code.AlternativeTwice at _ ok)).1 in
+        let none = (or_parts (same m.start x) (list_any (λ z. same z x) earlier) (not_faulty _ at _ ok)).1 in
         false≢true (sym (none_in (λ z. same z x) earlier y none i) ∙ told y x is)
 
     not_start : IsIn (map key (menu_in m)) (key m.start) → ⊥
     not_start i =
         let x = from_map key (menu_in m) (key m.start) i in
         let r = each_new_in (passes.new_alternative same m.start) name (menu_in m) h x.0 x.1 in
-        let apart = (or_parts (same m.start x.0) (list_any (λ z. same z x.0) r.0) (not_faulty code.AlternativeTwice r.1 _ r.2)).0 in
+        let apart = (or_parts (same m.start x.0) (list_any (λ z. same z x.0) r.0) (not_faulty _ r.1 _ r.2)).0 in
         false≢true (sym apart ∙ told m.start x.0 x.2)
 
 -- Captured attributes
@@ -146,7 +145,7 @@ ranges_in UnknownText h = refl
 found_number : (c : ConfigText) → IsRight c → (r : ScriptRefText) → IsFound c r → IsNumber r.script
 unfolding passes.known_script
 found_number c ok r found =
-    let both = neither_found (fault_where code.Reference _ (not (is_of_class (class_named c r.table) classes.ScriptTable))) _ found.1 in
+    let both = neither_found (fault_where _ _ (not (is_of_class (class_named c r.table) classes.ScriptTable))) _ found.2 in
     at (object_named c r.table) refl (holds _ _ _ both.1)
   where
     at : (o : Option ObjectText) → object_named c r.table ≡ o → passes.has_script (passes.scripts_of o) r.script ≡ true → IsNumber r.script

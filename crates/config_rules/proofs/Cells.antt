@@ -17,8 +17,8 @@ use Rattle.meter_theory.specs.declared.limits.TheConstants as limits
 use Rattle.meter_theory.proofs.Menus.{in_menu, in_period, in_script, in_times}
 use Rattle.meter_theory.proofs.Rights.{cell_of_found}
 use Rattle.config_text.specs.Parts.{Text, ConfigText, ObjectText, TargetText, BodyText, DataText, RegisterText, ProfileText, ClockText, ScriptTableText, MonitorText, ScheduleText, UnknownText}
-use Rattle.config_text.specs.declared.fault.Code.TheVariants.{ClassUnknown, Limit}
 use Rattle.config_text.specs.Fault.{fault_where}
+use Rattle.config_text.specs.declared.cause.Cause.TheVariants.{ClassUnknown}
 use Rattle.config_rules.specs.Names.{object_named, class_named, class_in, has_menu_key, menu_key_of, passes_or_chosen}
 use Rattle.config_rules.specs.Read.{is_body_of, IsRead}
 use Rattle.config_rules.specs.Passes as passes
@@ -105,7 +105,7 @@ unfolding passes.limits_in
 menus_there c at (ProfileText captures period entries sort_method) h =
     menu_there (cells_named c) _ captures.menu (profile_limits at captures period entries sort_method h).2
 menus_there c at (ScheduleText script type times) h =
-    let few = both_none (fault_where Limit _ (nat_lt limits.EXECUTION_TIMES (length times) || not (is_within_limits (times_value times)))) _ h in
+    let few = both_none (fault_where _ _ (nat_lt limits.EXECUTION_TIMES (length times) || not (is_within_limits (times_value times)))) _ h in
     menu_there script_named _ script.menu few.1
 menus_there c at (DataText value) h = λ none. absurd (false≢true none)
 menus_there c at (RegisterText value default scaler unit) h = λ none. absurd (false≢true none)
@@ -130,8 +130,8 @@ right c read judged = record {
   read = read;
   names = names_ok c judged.forms;
   new = names_new c judged.objects;
-  known = λ o i. let at = each_ok (λ place p. fault_where ClassUnknown (place ++ codes ".class") (not (is_known c.version p.class))) (codes "object") 0 c.objects judged.classes o i in
-      holds ClassUnknown (at.0 ++ codes ".class") (is_known c.version o.class) at.1;
+  known = λ o i. let at = each_ok (λ place p. fault_where (ClassUnknown c.version) (place ++ codes ".class") (not (is_known c.version p.class))) (codes "object") 0 c.objects judged.classes o i in
+      holds _ (at.0 ++ codes ".class") (is_known c.version o.class) at.1;
   menus = λ o i. let at = each_ok (λ place p. passes.limits_in place p.body) (codes "object") 0 c.objects (limits_parts c judged.limits).2 o i in
       menus_there c at.0 o.body at.1;
 }

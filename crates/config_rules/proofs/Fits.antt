@@ -27,7 +27,6 @@ use Rattle.meter_theory.proofs.Clock.{value-clock_time}
 use Rattle.meter_theory.proofs.Lists.{from_map, from_flat_map}
 use Rattle.meter_theory.proofs.Menus.{in_menu, in_period, profile_entry, in_script, in_times, schedule_entry}
 use Rattle.meter_theory.proofs.MenuSizes.{captures-within, script-within}
-use Rattle.config_text.specs.declared.fault.Code.TheVariants.{Limit, Value}
 use Rattle.config_text.specs.Fault.{fault_where}
 use Rattle.config_text.specs.Parts.{Text, MenuText, CaptureText, ConfigText, ObjectText, TargetText, ScriptRefText, UpDownText, BodyText, DataText, RegisterText, ProfileText, ClockText, ScriptTableText, MonitorText, ScheduleText, UnknownText}
 use Rattle.config_rules.specs.Names.{object_named}
@@ -47,20 +46,20 @@ use Rattle.config_rules.proofs.Monitored.{IsKept, monitored_cell}
 
 -- a script that was looked up at some place, and found
 abbrev pub IsFound : ConfigText → ScriptRefText → Type 0
-IsFound c r = (place : Text) × (passes.known_script c place r ≡ [])
+IsFound c r = (later : Bool) × (place : Text) × (passes.known_script later c place r ≡ [])
 
 -- whatever an object refers to was looked up
 pub found_of : (c : ConfigText) → IsRight c → (o : ObjectText) → IsIn c.objects o → EachReference (λ t. is_some (object_named c t.object) ≡ true) (IsFound c) o.body
 found_of c ok o i =
     let at = each_ok _ _ _ _ (references_parts c ok.judged.references).0 o i in
-    references_ok (λ t. is_some (object_named c t.object) ≡ true) (IsFound c) _ _ (λ place t h. holds _ _ _ h) (λ place r h. (place, h)) at.0 o.body at.1
+    references_ok (λ t. is_some (object_named c t.object) ≡ true) (IsFound c) _ _ (λ place t h. holds _ _ _ h) (λ place r h. (_, place, h)) at.0 o.body at.1
 
 -- and is there: the objects of targets, and scripts
 pub known_of : (c : ConfigText) → IsRight c → (o : ObjectText) → IsIn c.objects o → EachReference (λ t. (p : ObjectText) × IsTarget c t.object p) (IsScript c) o.body
 known_of c ok o i = both o.body (found_of c ok o i) (ok.names.references o i)
   where
     run : (r : ScriptRefText) → IsFound c r → IsName r.table → IsScript c r
-    run r h n = known_script c ok h.0 r n h.1
+    run r h n = known_script h.0 c ok h.1 r n h.2
 
     both : (body : BodyText) → EachReference (λ t. is_some (object_named c t.object) ≡ true) (IsFound c) body →
         EachReference (λ t. IsName t.object) (λ r. IsName r.table) body → EachReference (λ t. (p : ObjectText) × IsTarget c t.object p) (IsScript c) body
@@ -105,9 +104,9 @@ thresholds_fit c ok o i monitored ths actions is =
     let source = monitor_source c ok o i monitored ths actions is in
     let found = of_body c ok o i (MonitorText monitored ths actions) is in
     let count : (length ths == length actions) ≡ true = holds _ _ _ found.counts.1 in
-    let small = both_none (fault_where Limit _ (nat_lt limits.THRESHOLDS (length ths) || not (is_within_limits (thresholds_value ths)))) _ found.limits.1 in
+    let small = both_none (fault_where _ _ (nat_lt limits.THRESHOLDS (length ths) || not (is_within_limits (thresholds_value ths)))) _ found.limits.1 in
     let limit = not-false (is_within_limits (thresholds_value ths)) (or_parts (nat_lt limits.THRESHOLDS (length ths)) _ (not_faulty _ _ _ small.0)).1 in
-    let texts = both_none (fault_where Value _ (not (may_be_number (kind_named c monitored.object)))) _ found.values.1 in
+    let texts = both_none (fault_where _ _ (not (may_be_number (kind_named c monitored.object)))) _ found.values.1 in
     let known = number_known (kind_named c monitored.object) (holds _ _ _ texts.0) in
     let each_kind : (text : Text) → IsIn ths text → is_of_kind (kind_named c monitored.object) (value_in text) ≡ true = λ text j.
     subst (λ k. is_of_kind k (value_in text) ≡ true) known (holds _ _ _ (each_ok _ _ _ _ texts.1 text j).1) in
@@ -125,7 +124,7 @@ pub times_fit : (c : ConfigText) → IsRight c → (o : ObjectText) → IsIn c.o
 unfolding passes.limits_in passes.valid_times_in
 times_fit c ok o i script type times is =
     let found = of_body c ok o i (ScheduleText script type times) is in
-    let size = both_none (fault_where Limit _ (nat_lt limits.EXECUTION_TIMES (length times) || not (is_within_limits (times_value times)))) _ found.limits.1 in
+    let size = both_none (fault_where _ _ (nat_lt limits.EXECUTION_TIMES (length times) || not (is_within_limits (times_value times)))) _ found.limits.1 in
     let limit = not-false (is_within_limits (times_value times)) (or_parts (nat_lt limits.EXECUTION_TIMES (length times)) _ (not_faulty _ _ _ size.0)).1 in
     and_from (is_within_limits (times_value times)) _ limit (holds _ _ _ found.times.1)
 

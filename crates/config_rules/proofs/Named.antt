@@ -17,7 +17,6 @@ use Rattle.meter_theory.specs.Lists.{IsIn, AreDistinct}
 use Rattle.meter_theory.specs.Plan.{object_at, association_name}
 use Rattle.meter_theory.proofs.Lists.{none_in, found, none_found, in_map, from_map, one_of_key}
 use Rattle.config_text.specs.Fault.{fault_where}
-use Rattle.config_text.specs.declared.fault.Code.TheVariants.{ObjectTwice, ClientTwice}
 use Rattle.config_text.specs.Parts.{Text, ConfigText, ClientText, ObjectText, RightText}
 use Rattle.value_text.specs.Texts.{name_in}
 use Rattle.config_rules.specs.Names.{object_named}
@@ -134,7 +133,7 @@ names_new c h = each_new_distinct (λ o. o.name) passes.new_object other (codes 
   where
     other : AsksNewKey (λ o. o.name) passes.new_object
     other earlier at o ok y i e =
-        let none = (or_parts (bytes_eq (codes "0.0.40.0.0.255") o.name) (list_any (λ z. bytes_eq z.name o.name) earlier) (not_faulty ObjectTwice (at ++ codes ".name") _ ok)).1 in
+        let none = (or_parts (bytes_eq (codes "0.0.40.0.0.255") o.name) (list_any (λ z. bytes_eq z.name o.name) earlier) (not_faulty _ (at ++ codes ".name") _ ok)).1 in
         absurd (false≢true (sym (none_in (λ z. bytes_eq z.name o.name) earlier y none i) ∙ (bytes_eq-Decides y.name o.name).1 e))
 
 -- no two clients have one name
@@ -144,8 +143,8 @@ client_names_new c h = each_new_distinct (λ client. client.name) passes.new_cli
   where
     other : AsksNewKey (λ client. client.name) passes.new_client
     other earlier at client ok y i e =
-        let first = both_none (fault_where ClientTwice (at ++ codes ".name") (list_any (λ z. bytes_eq z.name client.name) earlier)) _ ok in
-        let none = not_faulty ClientTwice (at ++ codes ".name") _ first.0 in
+        let first = both_none (fault_where _ (at ++ codes ".name") (list_any (λ z. bytes_eq z.name client.name) earlier)) _ ok in
+        let none = not_faulty _ (at ++ codes ".name") _ first.0 in
         absurd (false≢true (sym (none_in (λ z. bytes_eq z.name client.name) earlier y none i) ∙ (bytes_eq-Decides y.name client.name).1 e))
 
 -- and no two have one service access point
@@ -155,8 +154,8 @@ saps_new c h = each_new_distinct (λ client. client.sap) passes.new_client other
   where
     other : AsksNewKey (λ client. client.sap) passes.new_client
     other earlier at client ok y i e =
-        let first = both_none (fault_where ClientTwice (at ++ codes ".name") (list_any (λ z. bytes_eq z.name client.name) earlier)) _ ok in
-        let none = not_faulty ClientTwice (at ++ codes ".sap") _ first.1 in
+        let first = both_none (fault_where _ (at ++ codes ".name") (list_any (λ z. bytes_eq z.name client.name) earlier)) _ ok in
+        let none = not_faulty _ (at ++ codes ".sap") _ first.1 in
         absurd (false≢true (sym (none_in (λ z. z.sap == client.sap) earlier y none i) ∙ eq-eqb y.sap client.sap e))
 
 is_association : name_of (codes "0.0.40.0.0.255") ≡ association_name
@@ -171,7 +170,7 @@ pub names_apart : (c : ConfigText) → AreNames c → passes.new_objects c ≡ [
 unfolding passes.new_objects
 names_apart c names h o i =
     let r = each_new_in passes.new_object (codes "object") c.objects h o i in
-    let apart = (or_parts (bytes_eq (codes "0.0.40.0.0.255") o.name) (list_any (λ z. bytes_eq z.name o.name) r.0) (not_faulty ObjectTwice (r.1 ++ codes ".name") _ r.2)).0 in
+    let apart = (or_parts (bytes_eq (codes "0.0.40.0.0.255") o.name) (list_any (λ z. bytes_eq z.name o.name) r.0) (not_faulty _ (r.1 ++ codes ".name") _ r.2)).0 in
     false_from_ne_true (same_name (name_of o.name) association_name) (λ same.
     let e : codes "0.0.40.0.0.255" ≡ o.name = one_text (codes "0.0.40.0.0.255") o.name association_text (names.objects o i)
     (is_association ∙ sym (same_name-true (name_of o.name) association_name same)) in

@@ -5,7 +5,7 @@ use Rattle.std.proofs.lemmas.Bool.{and_from, not-false}
 use Rattle.std.proofs.lemmas.List.{append_assoc, append-nil}
 use Rattle.meter_theory.specs.Lists.{IsIn, AreDistinct}
 use Rattle.meter_theory.proofs.Lists.{in_append_cases, in_map, from_map}
-use Rattle.config_text.specs.declared.fault.Code.{Code}
+use Rattle.config_text.specs.declared.cause.Cause.{Cause}
 use Rattle.config_text.specs.Fault.{Fault, fault_where, first_found}
 use Rattle.config_text.specs.Parts.{Text}
 use Rattle.config_rules.specs.Walks.{Judge, each_from, each_after, each_new, element_place}
@@ -26,13 +26,13 @@ neither_found xs ys h =
     let first = none_found xs (ys ∷ []) h in
     (first.0, (none_found ys [] first.1).0)
 
-pub not_faulty : (code : Code) (place : Text) (b : Bool) → fault_where code place b ≡ [] → b ≡ false
-not_faulty code place true h = cc
-not_faulty code place false h = refl
+pub not_faulty : (cause : Cause) (place : Text) (b : Bool) → fault_where cause place b ≡ [] → b ≡ false
+not_faulty cause place true h = cc
+not_faulty cause place false h = refl
 
 -- the test whose failure is the fault
-pub holds : (code : Code) (place : Text) (b : Bool) → fault_where code place (not b) ≡ [] → b ≡ true
-holds code place b h = not-false b (not_faulty code place (not b) h)
+pub holds : (cause : Cause) (place : Text) (b : Bool) → fault_where cause place (not b) ≡ [] → b ≡ true
+holds cause place b h = not-false b (not_faulty cause place (not b) h)
 
 -- each element was judged at some place, and found right
 pub each_ok : {A : Type 0} (judge : Judge A) (name : Text) (i : ℕ) (xs : List A) → each_from judge name i xs ≡ [] → (x : A) → IsIn xs x → (at : Text) × (judge at x ≡ [])
@@ -46,13 +46,13 @@ each_ok judge name i (y ∷ ys) h x there =
     ]
 
 -- each element passed the test whose failure is the fault
-pub each_holds : {A : Type 0} (code : Code) (test : A → Bool) (name : Text) (i : ℕ) (xs : List A) → each_from (λ at x. fault_where code at (not (test x))) name i xs ≡ [] →
+pub each_holds : {A : Type 0} (cause : Cause) (test : A → Bool) (name : Text) (i : ℕ) (xs : List A) → each_from (λ at x. fault_where cause at (not (test x))) name i xs ≡ [] →
     list_all test xs ≡ true
 unfolding each_from
-each_holds code test name i [] h = refl
-each_holds code test name i (x ∷ xs) h =
-    let r = both_none (fault_where code (element_place name i) (not (test x))) (each_from (λ at y. fault_where code at (not (test y))) name (i + 1) xs) h in
-    and_from (test x) (list_all test xs) (holds code (element_place name i) (test x) r.0) (each_holds code test name (i + 1) xs r.1)
+each_holds cause test name i [] h = refl
+each_holds cause test name i (x ∷ xs) h =
+    let r = both_none (fault_where cause (element_place name i) (not (test x))) (each_from (λ at y. fault_where cause at (not (test y))) name (i + 1) xs) h in
+    and_from (test x) (list_all test xs) (holds cause (element_place name i) (test x) r.0) (each_holds cause test name (i + 1) xs r.1)
 
 -- an element beside those before it has a key of its own, where the judge asks for it
 abbrev pub AsksNewKey : {A K : Type 0} → (A → K) → (List A → Judge A) → Type 0

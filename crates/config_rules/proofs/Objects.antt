@@ -9,7 +9,6 @@ use Rattle.meter_theory.specs.Lists.{IsIn}
 use Rattle.meter_theory.specs.State.{value}
 use Rattle.meter_theory.specs.Plan.{class_of, start_values}
 use Rattle.meter_theory.specs.Sound.{has_ranges, has_numbers, is_script_number}
-use Rattle.config_text.specs.declared.fault.Code.TheVariants as code
 use Rattle.config_text.specs.Fault.{fault_where}
 use Rattle.config_text.specs.Parts.{Text, ConfigText, ObjectText, TargetText, UpDownText, BodyText, DataText, RegisterText, ProfileText, ClockText, ScriptTableText, MonitorText, ScheduleText, UnknownText}
 use Rattle.config_rules.specs.Names.{target_is}
@@ -64,7 +63,7 @@ register_number : (c : ConfigText) → IsRight c → (o : ObjectText) → IsIn c
 unfolding passes.valid_values_in
 register_number c ok o i text default scaler unit is =
     let found = of_body c ok o i (RegisterText text default scaler unit) is in
-    let right = both_none (fault_where code.Value _ (not (is_number (kind_in text)))) _ found.values.1 in
+    let right = both_none (fault_where _ _ (not (is_number (kind_in text)))) _ found.values.1 in
     number_of_start text (register_start c ok o i text default scaler unit is).0 (holds _ _ _ right.0)
 
 monitored_number : (c : ConfigText) → IsRight c → (o : ObjectText) → IsIn c.objects o → (monitored : TargetText) (ths : List Text) (actions : List UpDownText) →
@@ -74,7 +73,7 @@ monitored_number c ok o i monitored ths actions is =
     let source = monitor_source c ok o i monitored ths actions is in
     let found = of_body c ok o i (MonitorText monitored ths actions) is in
     let place : target_is c is_monitorable monitored ≡ true = holds _ _ _ found.indexes.1 in
-    let kind = both_none (fault_where code.Value _ (not (may_be_number (kind_named c monitored.object)))) _ found.values.1 in
+    let kind = both_none (fault_where _ _ (not (may_be_number (kind_named c monitored.object)))) _ found.values.1 in
     let number = subst (λ k. may_be_number k ≡ true) source.1.kind (holds _ _ _ kind.0) in
     and_from (target_is c is_monitorable monitored) (is_number_kind (kind_of (value (start_values (plan_of c)) (cell_named c monitored)))) place
     (subst (λ v. is_number_kind (kind_of v) ≡ true) (sym source.1.starts) number)

@@ -3,7 +3,8 @@ use Rattle.std.proofs.Common.{◌≡◌, ℕ, List, [], ◌∷◌, ◌++◌, ref
 use Rattle.std.specs.Prelude.{ℤ, Option, codes, nat_lt}
 use Rattle.meter_theory.specs.Lists.{IsIn}
 use Rattle.meter_theory.specs.declared.limits.TheConstants as limits
-use Rattle.config_text.specs.declared.fault.Code.TheVariants.{Limit}
+use Rattle.config_text.specs.declared.cause.Cause.TheVariants.{Limit}
+use Rattle.config_text.specs.declared.cause.Limit.TheVariants as of
 use Rattle.config_text.specs.Fault.{Fault, fault_where, first_of, ◌>>=◌}
 use Rattle.config_text.specs.Parts.{Text, MenuText, ConfigText, TargetText, ScriptRefText, CaptureText, ActionText, ScriptText, UpDownText, BodyText, DataText, RegisterText, ProfileText, ClockText, ScriptTableText, MonitorText, ScheduleText, UnknownText}
 use Rattle.config_rules.specs.Walks.{Judge, each, each_action, each_capture, each_run, script_actions, both_scripts, references}
@@ -105,20 +106,21 @@ forms_parts c h =
     let first = both_none clients objects tables.0 in
     (first.0, first.1, tables.1)
 
-pub clients_part : (c : ConfigText) → passes.known_clients c ≡ [] → each (λ at r. passes.known_client c (at ++ codes ".client") r.client) (codes "right") c.rights ≡ []
-unfolding passes.known_clients
+pub clients_part : (c : ConfigText) → passes.known_clients c ≡ [] → each (λ at r. passes.known_client (passes.are_found (passes.new_clients c)) c (at ++ codes ".client") r.client) (codes "right") c.rights ≡ []
+unfolding passes.known_clients_by
 clients_part c h =
-    let rights = each (λ at r. passes.known_client c (at ++ codes ".client") r.client) (codes "right") c.rights in
-    let policy = passes.both_sets (passes.known_client c) (codes "policy") c.policy in
-    let labels = each (λ at l. passes.both_sets (passes.known_client c) at l.sets) (codes "label") c.labels in
+    let known = passes.known_client (passes.are_found (passes.new_clients c)) c in
+    let rights = each (λ at r. known (at ++ codes ".client") r.client) (codes "right") c.rights in
+    let policy = passes.both_sets known (codes "policy") c.policy in
+    let labels = each (λ at l. passes.both_sets known at l.sets) (codes "label") c.labels in
     (both_none rights policy (both_none (rights ++ policy) labels h).0).0
 
 pub references_parts : (c : ConfigText) → passes.known_references c ≡ [] →
-    (each (λ at o. references (λ place t. passes.known_object c place t.object) (passes.known_script c) at o.body) (codes "object") c.objects ≡ [])
+    (each (λ at o. references (λ place t. passes.known_object c place t.object) (passes.known_script (passes.are_found (passes.new_scripts c)) c) at o.body) (codes "object") c.objects ≡ [])
     × (each (λ at r. passes.known_object c at r.object) (codes "right") c.rights ≡ [])
-unfolding passes.known_references
+unfolding passes.known_references_by
 references_parts c h =
-    let objects = each (λ at o. references (λ place t. passes.known_object c place t.object) (passes.known_script c) at o.body) (codes "object") c.objects in
+    let objects = each (λ at o. references (λ place t. passes.known_object c place t.object) (passes.known_script (passes.are_found (passes.new_scripts c)) c) at o.body) (codes "object") c.objects in
     let rights = each (λ at r. passes.known_object c at r.object) (codes "right") c.rights in
     let labels = each (λ at l. passes.known_object c at l.target.object) (codes "label") c.labels in
     both_none objects rights (both_none (objects ++ rights) labels h).0
@@ -129,12 +131,12 @@ unfolding passes.known_indexes
 indexes_parts c h = both_none (each (λ at o. passes.usable_indexes c at o.body) (codes "object") c.objects) (each (passes.right_indexes c) (codes "right") c.rights) h
 
 pub limits_parts : (c : ConfigText) → passes.within_limits c ≡ [] →
-    (passes.at_most limits.CLIENTS (codes "client") c.clients ≡ []) × (passes.at_most limits.OBJECTS (codes "object") c.objects ≡ [])
+    (passes.at_most of.Clients limits.CLIENTS (codes "client") c.clients ≡ []) × (passes.at_most of.Objects limits.OBJECTS (codes "object") c.objects ≡ [])
     × (each (λ at o. passes.limits_in at o.body) (codes "object") c.objects ≡ [])
 unfolding passes.within_limits
 limits_parts c h =
-    let clients = passes.at_most limits.CLIENTS (codes "client") c.clients in
-    let few = passes.at_most limits.OBJECTS (codes "object") c.objects in
+    let clients = passes.at_most of.Clients limits.CLIENTS (codes "client") c.clients in
+    let few = passes.at_most of.Objects limits.OBJECTS (codes "object") c.objects in
     let both = both_none (clients ++ few) (each (λ at o. passes.limits_in at o.body) (codes "object") c.objects) h in
     let arrays = both_none clients few both.0 in
     (arrays.0, arrays.1, both.1)
@@ -143,16 +145,16 @@ limits_parts c h =
 
 pub profile_limits : (at : Text) (captures : MenuText (List CaptureText)) (period entries : ℕ) (sort_method : Option ℤ) →
     passes.limits_in at (ProfileText captures period entries sort_method) ≡ [] →
-    (passes.at_most limits.CAPTURE_OBJECTS (at ++ codes ".capture") captures.start ≡ [])
-    × (fault_where Limit (at ++ codes ".entries") (nat_lt limits.PROFILE_ENTRIES entries) ≡ [])
+    (passes.at_most of.Captures limits.CAPTURE_OBJECTS (at ++ codes ".capture") captures.start ≡ [])
+    × (fault_where (Limit of.Entries) (at ++ codes ".entries") (nat_lt limits.PROFILE_ENTRIES entries) ≡ [])
     × (passes.menu_size (at ++ codes ".capture_menu") captures.menu ≡ [])
-    × (each (passes.at_most limits.CAPTURE_OBJECTS) (at ++ codes ".capture_menu") (menu_in captures) ≡ [])
+    × (each (passes.at_most of.Captures limits.CAPTURE_OBJECTS) (at ++ codes ".capture_menu") (menu_in captures) ≡ [])
 unfolding passes.limits_in
 profile_limits at captures period entries sort_method h =
-    let few = passes.at_most limits.CAPTURE_OBJECTS (at ++ codes ".capture") captures.start in
-    let size = fault_where Limit (at ++ codes ".entries") (nat_lt limits.PROFILE_ENTRIES entries) in
+    let few = passes.at_most of.Captures limits.CAPTURE_OBJECTS (at ++ codes ".capture") captures.start in
+    let size = fault_where (Limit of.Entries) (at ++ codes ".entries") (nat_lt limits.PROFILE_ENTRIES entries) in
     let menu = passes.menu_size (at ++ codes ".capture_menu") captures.menu in
-    let all = both_none (few ++ size ++ menu) (each (passes.at_most limits.CAPTURE_OBJECTS) (at ++ codes ".capture_menu") (menu_in captures)) h in
+    let all = both_none (few ++ size ++ menu) (each (passes.at_most of.Captures limits.CAPTURE_OBJECTS) (at ++ codes ".capture_menu") (menu_in captures)) h in
     let more = both_none (few ++ size) menu all.0 in
     let first = both_none few size more.0 in
     (first.0, first.1, more.1, all.1)

@@ -10,8 +10,9 @@ use Rattle.meter_theory.specs.Classes.{has_attribute, has_method, is_settable}
 use Rattle.meter_theory.specs.Lists.{IsIn, some_passes}
 use Rattle.meter_theory.specs.Plan.{class_of, interface_of, rule_of}
 use Rattle.meter_theory.specs.Sound.{is_right, sets_cells, are_indexes, highest_method}
-use Rattle.config_text.specs.declared.fault.Code.TheVariants as code
 use Rattle.config_text.specs.Fault.{fault_where}
+use Rattle.config_text.specs.declared.cause.Cause.TheVariants.{NotSettable}
+use Rattle.config_text.specs.declared.cause.Use as uses
 use Rattle.config_text.specs.Parts.{Text, ConfigText, ClientText, ObjectText, RightText}
 use Rattle.config_rules.specs.Names.{class_named, passes_or_chosen}
 use Rattle.config_rules.specs.PlanOf.{part_of, plan_of, name_of, or_else, right_of, client_of, client_place}
@@ -59,25 +60,25 @@ right_is c ok r i =
     and_from (nat_lt (client_place c r.client) (length (map client_of c.clients))) _
     (lt-ltb (client_place c r.client) (length (map client_of c.clients)) (subst (λ n. client_place c r.client < n) (sym (length-map c.clients client_of)) (known_right c ok r i)))
     (subst (λ found. some_passes (λ p. are_indexes (interface_of p.part).attributes r.gets && (are_indexes (interface_of p.part).attributes r.sets && are_indexes (highest_method p.part) r.acts)) found ≡ true) (sym o.1.planned)
-    (and_from (are_indexes (interface_of (part_of c o.0.body)).attributes r.gets) _ (attributes_of (part_of c o.0.body) r.gets (at_class o.0 o.1 has_attribute r.gets _ attributes.0))
+    (and_from (are_indexes (interface_of (part_of c o.0.body)).attributes r.gets) _ (attributes_of (part_of c o.0.body) r.gets (at_class o.0 o.1 _ has_attribute r.gets _ attributes.0))
     (and_from (are_indexes (interface_of (part_of c o.0.body)).attributes r.sets) (are_indexes (highest_method (part_of c o.0.body)) r.acts)
-    (attributes_of (part_of c o.0.body) r.sets (at_class o.0 o.1 has_attribute r.sets _ attributes.1))
-    (methods_of (part_of c o.0.body) r.acts (at_class o.0 o.1 has_method r.acts _ all.1)))))
+    (attributes_of (part_of c o.0.body) r.sets (at_class o.0 o.1 _ has_attribute r.sets _ attributes.1))
+    (methods_of (part_of c o.0.body) r.acts (at_class o.0 o.1 _ has_method r.acts _ all.1)))))
   where
-    at_class : (o : ObjectText) → IsTarget c r.object o → (has : ℕ → ℕ → Bool) (indexes : List ℕ) (place : Text) → each (passes.right_index has (class_named c r.object)) place indexes ≡ [] →
+    at_class : (o : ObjectText) → IsTarget c r.object o → (wanted : uses.Use) (has : ℕ → ℕ → Bool) (indexes : List ℕ) (place : Text) → each (passes.right_index wanted has (class_named c r.object)) place indexes ≡ [] →
         list_all (has (class_of (part_of c o.body))) indexes ≡ true
-    at_class o target has indexes place h =
-        subst (λ k. list_all (has k) indexes ≡ true) target.class (each_holds code.Index (has (class_named c r.object)) place 0 indexes h)
+    at_class o target wanted has indexes place h =
+        subst (λ k. list_all (has k) indexes ≡ true) target.class (each_holds _ (has (class_named c r.object)) place 0 indexes h)
 
 -- what a right lets a client set are settable cells
 pub right_sets : (c : ConfigText) → IsRight c → (r : RightText) → IsIn c.rights r → sets_cells (plan_of c) (right_of c r) ≡ true
 unfolding passes.settable_rights
 right_sets c ok r i =
     let o = object_of_right c ok r i in
-    let judged = each_ok (λ at z. each (λ at index. fault_where code.NotSettable at (not (passes_or_chosen c is_settable z.object index))) (at ++ codes ".set") z.sets) _ _ _ ok.judged.rights r i in
+    let judged = each_ok (λ at z. each (λ at index. fault_where (NotSettable (class_named c z.object)) at (not (passes_or_chosen c is_settable z.object index))) (at ++ codes ".set") z.sets) _ _ _ ok.judged.rights r i in
     subst (λ found. some_passes (λ p. list_all (λ index. is_some (rule_of (plan_of c) (cell (class_of p.part) (name_of r.object) index))) r.sets) found ≡ true) (sym o.1.planned)
     (implied (passes_or_chosen c is_settable r.object) (λ index. is_some (rule_of (plan_of c) (cell (class_of (part_of c o.0.body)) (name_of r.object) index)))
-    (settable o.0 o.1) r.sets (each_holds code.NotSettable (passes_or_chosen c is_settable r.object) _ 0 r.sets judged.1))
+    (settable o.0 o.1) r.sets (each_holds _ (passes_or_chosen c is_settable r.object) _ 0 r.sets judged.1))
   where
     settable : (o : ObjectText) → IsTarget c r.object o → (index : ℕ) → passes_or_chosen c is_settable r.object index ≡ true →
         is_some (rule_of (plan_of c) (cell (class_of (part_of c o.body)) (name_of r.object) index)) ≡ true

@@ -11,7 +11,6 @@ use Rattle.meter_theory.specs.Rights.{knows_script}
 use Rattle.meter_theory.specs.Steps.{scripts_of}
 use Rattle.meter_theory.specs.Sound.{has_script}
 use Rattle.meter_theory.proofs.Lists.{none_in, from_map}
-use Rattle.config_text.specs.declared.fault.Code.TheVariants.{Reference, ScriptId}
 use Rattle.config_text.specs.Fault.{fault_where}
 use Rattle.config_text.specs.Parts.{Text, ConfigText, ObjectText, ScriptRefText, ScriptText, BodyText, DataText, RegisterText, ProfileText, ClockText, ScriptTableText, MonitorText, ScheduleText, UnknownText}
 use Rattle.config_rules.specs.Names.{object_named, class_named, class_in, scripts_in}
@@ -56,10 +55,10 @@ known_number c scripts (pos n) h = at (int_le (pos 0) (pos n) && int_le (pos n) 
 known_number c scripts (negsuc n) h = absurd (false≢true h)
 
 -- a script that the passes found in its table
-pub known_script : (c : ConfigText) → IsRight c → (at : Text) (r : ScriptRefText) → IsName r.table → passes.known_script c at r ≡ [] → IsScript c r
+pub known_script : (later : Bool) (c : ConfigText) → IsRight c → (at : Text) (r : ScriptRefText) → IsName r.table → passes.known_script later c at r ≡ [] → IsScript c r
 unfolding passes.known_script
-known_script c ok at r name h =
-    let both = neither_found (fault_where Reference _ (not (is_of_class (class_named c r.table) classes.ScriptTable))) _ h in
+known_script later c ok at r name h =
+    let both = neither_found (fault_where _ _ (not (is_of_class (class_named c r.table) classes.ScriptTable))) _ h in
     let class : is_of_class (class_named c r.table) classes.ScriptTable ≡ true = holds _ _ _ both.0 in
     let number : passes.has_script (passes.scripts_of (object_named c r.table)) r.script ≡ true = holds _ _ _ both.1 in
     let table = target_of c ok r.table name (there (object_named c r.table) class) in
@@ -80,14 +79,14 @@ own_numbers at scripts h = (not_null, each_new_distinct (λ s. s.id) passes.new_
   where
     other : AsksNewKey (λ s. s.id) passes.new_script
     other earlier place s ok e i same =
-        let none = (or_parts (s.id == 0) (list_any (λ z. z.id == s.id) earlier) (not_faulty ScriptId (place ++ codes ".id") _ ok)).1 in
+        let none = (or_parts (s.id == 0) (list_any (λ z. z.id == s.id) earlier) (not_faulty _ (place ++ codes ".id") _ ok)).1 in
         false≢true (sym (none_in (λ z. z.id == s.id) earlier e none i) ∙ eq-eqb e.id s.id same)
 
     not_null : IsIn (map (λ s. s.id) scripts) 0 → ⊥
     not_null i =
         let s = from_map (λ z. z.id) scripts 0 i in
         let r = each_new_in passes.new_script (at ++ codes ".script") scripts h s.0 s.1 in
-        let apart = (or_parts (s.0.id == 0) (list_any (λ z. z.id == s.0.id) r.0) (not_faulty ScriptId (r.1 ++ codes ".id") _ r.2)).0 in
+        let apart = (or_parts (s.0.id == 0) (list_any (λ z. z.id == s.0.id) r.0) (not_faulty _ (r.1 ++ codes ".id") _ r.2)).0 in
         false≢true (sym apart ∙ eq-eqb s.0.id 0 (sym s.2))
 
 pub script_numbers : (c : ConfigText) → IsRight c → (o : ObjectText) → IsIn c.objects o → AreDistinct (0 ∷ map (λ s. s.id) (scripts_of (part_of c o.body)))

@@ -9,8 +9,8 @@ use Rattle.meter_theory.specs.Lists.{IsIn}
 use Rattle.meter_theory.specs.Value.{is_within_limits}
 use Rattle.meter_theory.specs.Sound.{is_name, has_capture_sizes}
 use Rattle.meter_theory.specs.declared.limits.TheConstants as limits
-use Rattle.config_text.specs.declared.fault.Code.TheVariants as code
 use Rattle.config_text.specs.Fault.{fault_where}
+use Rattle.config_text.specs.declared.cause.Limit as of
 use Rattle.config_text.specs.Parts.{Text, MenuText, ConfigText, ObjectText, CaptureText, ScriptRefText, ProfileText, ScheduleText}
 use Rattle.config_rules.specs.Names.{menu_in}
 use Rattle.config_rules.specs.PlanOf.{name_of, cell_named, cells_named, script_named, times_value}
@@ -21,8 +21,8 @@ use Rattle.config_rules.proofs.Named.{IsName, six_bytes, name_of_is}
 use Rattle.config_rules.proofs.Cells.{IsRight}
 use Rattle.config_rules.proofs.Starts.{of_body}
 
-pub at_most_ok : {A : Type 0} (limit : ℕ) (at : Text) (xs : List A) → passes.at_most limit at xs ≡ [] → nat_le (length xs) limit ≡ true
-at_most_ok limit at xs h = le-leb (length xs) limit (ltb-false limit (length xs) (not_faulty code.Limit at (nat_lt limit (length xs)) h))
+pub at_most_ok : {A : Type 0} (what : of.Limit) (limit : ℕ) (at : Text) (xs : List A) → passes.at_most what limit at xs ≡ [] → nat_le (length xs) limit ≡ true
+at_most_ok what limit at xs h = le-leb (length xs) limit (ltb-false limit (length xs) (not_faulty _ at (nat_lt limit (length xs)) h))
 
 pub few_of_map : {A B : Type 0} (f : A → B) (limit : ℕ) (xs : List A) → nat_le (length xs) limit ≡ true → nat_le (length (map f xs)) limit ≡ true
 few_of_map f limit xs h = subst (λ n. nat_le n limit ≡ true) (sym (length-map xs f)) h
@@ -39,7 +39,7 @@ six text name = subst (λ n. is_name n ≡ true) (sym (name_of_is text name.0 na
 menu_few : {A B : Type 0} (f : A → B) (at : Text) (menu : Option (List A)) → passes.menu_size at menu ≡ [] → nat_le (length (map f (unwrap_or menu []))) limits.MENU ≡ true
 menu_few f at None h = refl
 menu_few f at (Some xs) h =
-    let apart = or_parts (nat_lt (length xs) 1) (nat_lt limits.MENU (length xs)) (not_faulty code.Limit at (nat_lt (length xs) 1 || nat_lt limits.MENU (length xs)) h) in
+    let apart = or_parts (nat_lt (length xs) 1) (nat_lt limits.MENU (length xs)) (not_faulty _ at (nat_lt (length xs) 1 || nat_lt limits.MENU (length xs)) h) in
     few_of_map f limits.MENU xs (le-leb (length xs) limits.MENU (ltb-false limits.MENU (length xs) apart.1))
 
 -- what the passes found of the sizes of a profile
@@ -57,8 +57,8 @@ profile_sizes c ok o i captures period entries sort_method is =
     let sizes = profile_limits found.0 captures period entries sort_method found.1 in
     let few : (xs : List CaptureText) → IsIn (alternatives_in captures) xs → nat_le (length xs) limits.CAPTURE_OBJECTS ≡ true = λ xs j.
     elim j [
-      | inl e ↦ subst (λ ys. nat_le (length ys) limits.CAPTURE_OBJECTS ≡ true) (sym e) (at_most_ok limits.CAPTURE_OBJECTS _ captures.start sizes.0)
-      | inr k ↦ at_most_ok limits.CAPTURE_OBJECTS _ xs (each_ok (passes.at_most limits.CAPTURE_OBJECTS) _ 0 (menu_in captures) sizes.3 xs k).1
+      | inl e ↦ subst (λ ys. nat_le (length ys) limits.CAPTURE_OBJECTS ≡ true) (sym e) (at_most_ok _ limits.CAPTURE_OBJECTS _ captures.start sizes.0)
+      | inr k ↦ at_most_ok _ limits.CAPTURE_OBJECTS _ xs (each_ok (passes.at_most _ limits.CAPTURE_OBJECTS) _ 0 (menu_in captures) sizes.3 xs k).1
     ] in
     record {
       few = menu_few (cells_named c) _ captures.menu sizes.2;
@@ -78,7 +78,7 @@ pub schedule_sizes : (c : ConfigText) → IsRight c → (o : ObjectText) → IsI
 unfolding passes.limits_in
 schedule_sizes c ok o i script type times is =
     let names = subst (EachReference (λ t. IsName t.object) (λ r. IsName r.table)) is (ok.names.references o i) in
-    let size = both_none (fault_where code.Limit _ (nat_lt limits.EXECUTION_TIMES (length times) || not (is_within_limits (times_value times)))) _
+    let size = both_none (fault_where _ _ (nat_lt limits.EXECUTION_TIMES (length times) || not (is_within_limits (times_value times)))) _
     (of_body c ok o i (ScheduleText script type times) is).limits.1 in
     record {
       few = menu_few script_named _ script.menu size.1;

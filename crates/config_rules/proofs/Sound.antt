@@ -23,7 +23,6 @@ use Rattle.meter_theory.proofs.Menus.{in_count}
 use Rattle.meter_theory.proofs.Rights.{cell_of_found}
 use Rattle.meter_theory.specs.Edges.{captured_by}
 use Rattle.meter_theory.proofs.Lists.{in_map, from_map, from_flat_map}
-use Rattle.config_text.specs.declared.fault.Code.TheVariants as code
 use Rattle.config_text.specs.declared.service.Service.{Service}
 use Rattle.config_text.specs.declared.service.Service.TheVariants as services
 use Rattle.config_text.specs.Fault.{fault_where}
@@ -214,18 +213,18 @@ part_sizes c ok o i (ProfileText all period entries sort_method) is =
 part_sizes c ok o i (ClockText time) is = refl
 part_sizes c ok o i (ScriptTableText scripts) is =
     let names = subst (EachReference (λ t. IsName t.object) (λ r. IsName r.table)) is (ok.names.references o i) in
-    let few = both_none (passes.at_most limits.SCRIPTS _ scripts) _ (of_body c ok o i (ScriptTableText scripts) is).limits.1 in
-    and_from (nat_le (length (map (script_of c) scripts)) limits.SCRIPTS) (list_all has_script_sizes (map (script_of c) scripts)) (few_of_map (script_of c) limits.SCRIPTS scripts (at_most_ok _ _ scripts few.0))
+    let few = both_none (passes.at_most _ limits.SCRIPTS _ scripts) _ (of_body c ok o i (ScriptTableText scripts) is).limits.1 in
+    and_from (nat_le (length (map (script_of c) scripts)) limits.SCRIPTS) (list_all has_script_sizes (map (script_of c) scripts)) (few_of_map (script_of c) limits.SCRIPTS scripts (at_most_ok _ _ _ scripts few.0))
     (each_of_map has_script_sizes (script_of c) scripts (λ s j.
-    let actions = both_none (passes.at_most limits.ACTIONS _ s.actions) _ (each_ok _ _ _ _ few.1 s j).1 in
-    and_from (nat_le (length (map (λ a. action_of c a.service a.target a.value) s.actions)) limits.ACTIONS) _ (few_of_map (λ a. action_of c a.service a.target a.value) limits.ACTIONS s.actions (at_most_ok _ _ s.actions actions.0))
+    let actions = both_none (passes.at_most _ limits.ACTIONS _ s.actions) _ (each_ok _ _ _ _ few.1 s j).1 in
+    and_from (nat_le (length (map (λ a. action_of c a.service a.target a.value) s.actions)) limits.ACTIONS) _ (few_of_map (λ a. action_of c a.service a.target a.value) limits.ACTIONS s.actions (at_most_ok _ _ _ s.actions actions.0))
     (each_of_map has_action_sizes (λ a. action_of c a.service a.target a.value) s.actions (λ a k.
     action_sizes c a (action_at c ok o i scripts is s j a k) (names s j a k) a.service refl))))
 part_sizes c ok o i (MonitorText monitored ths actions) is =
     let names = subst (EachReference (λ t. IsName t.object) (λ r. IsName r.table)) is (ok.names.references o i) in
-    let few = both_none (fault_where code.Limit _ (nat_lt limits.THRESHOLDS (length ths) || not (is_within_limits (thresholds_value ths)))) _ (of_body c ok o i (MonitorText monitored ths actions) is).limits.1 in
+    let few = both_none (fault_where _ _ (nat_lt limits.THRESHOLDS (length ths) || not (is_within_limits (thresholds_value ths)))) _ (of_body c ok o i (MonitorText monitored ths actions) is).limits.1 in
     and_from (is_name (name_of monitored.object)) _ (six monitored.object names.0)
-    (and_from (nat_le (length (map up_down_of actions)) limits.THRESHOLDS) _ (few_of_map up_down_of limits.THRESHOLDS actions (at_most_ok _ _ actions few.1))
+    (and_from (nat_le (length (map up_down_of actions)) limits.THRESHOLDS) _ (few_of_map up_down_of limits.THRESHOLDS actions (at_most_ok _ _ _ actions few.1))
     (each_of_map (λ a. is_name a.up.table && is_name a.down.table) up_down_of actions (λ a j.
     and_from (is_name (name_of a.up.table)) (is_name (name_of a.down.table)) (six a.up.table (names.1 a j).0) (six a.down.table (names.1 a j).1))))
 part_sizes c ok o i (ScheduleText script type times) is =
@@ -240,7 +239,7 @@ part_sizes c ok o i UnknownText is = refl
 few : (c : ConfigText) → IsRight c → (nat_le (length c.clients) limits.CLIENTS ≡ true) × (nat_le (length c.objects) limits.OBJECTS ≡ true)
 few c ok =
     let parts = limits_parts c ok.judged.limits in
-    (at_most_ok _ _ c.clients parts.0, at_most_ok _ _ c.objects parts.1)
+    (at_most_ok _ _ _ c.clients parts.0, at_most_ok _ _ _ c.objects parts.1)
 
 -- a plan's clients have the names of the configuration's, and their service access points
 names_of_clients : (clients : List ClientText) → map (λ client. client.name) (map client_of clients) ≡ map (λ client. client.name) clients

@@ -12,7 +12,6 @@ use Rattle.meter_theory.specs.State.{value}
 use Rattle.meter_theory.specs.Value.{OfKind, meets, is_within_limits}
 use Rattle.meter_theory.specs.Plan.{start_values, inner_start, clock_object, start_of, rule_in, rule_of, class_of, object_at}
 use Rattle.meter_theory.proofs.Lists.{in_map, one_of_key}
-use Rattle.config_text.specs.declared.fault.Code.TheVariants.{Value}
 use Rattle.config_text.specs.Fault.{fault_where}
 use Rattle.config_text.specs.Parts.{Text, ConfigText, ObjectText, BodyText, DataText, RegisterText}
 use Rattle.value_text.specs.Texts.{value_in}
@@ -134,7 +133,7 @@ pub register_start : (c : ConfigText) → IsRight c → (o : ObjectText) → IsI
 unfolding passes.valid_values_in passes.limits_in
 register_start c ok o i text default scaler unit is =
     let found = of_body c ok o i (RegisterText text default scaler unit) is in
-    let right = both_none (fault_where Value _ (not (is_number (kind_in text)))) _ found.values.1 in
+    let right = both_none (fault_where _ _ (not (is_number (kind_in text)))) _ found.values.1 in
     let small = both_none (passes.small_value _ (Some text)) _ found.limits.1 in
     let number : is_number (kind_in text) ≡ true = holds _ _ _ right.0 in
     let v = is_start text (number_there text number) (holds _ _ _ small.0) in

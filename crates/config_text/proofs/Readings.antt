@@ -1,137 +1,106 @@
 -- What is read, beside what it finds.
-use Rattle.std.proofs.Common.{◌≡◌, ◌∙◌, ◌+◌, ℕ, List, [], ◌∷◌, ◌++◌, map, Result, Ok, Err, refl, sym, ap, subst}
-use Rattle.std.specs.Result.{IsErr, IsErrAnd}
-use Rattle.toml.specs.Data.{Items, no_items, item}
+use Rattle.std.proofs.Common.{◌≡◌, ℕ, List, [], ◌∷◌, ◌++◌, map, Option, Some, None, Result, Ok, Err, refl, sym, ap, subst}
+use Rattle.std.specs.Prelude.{IfOk, option_and_then}
+use Rattle.std.specs.Result.{IsErr, IsErrAnd, result_ok}
 use Rattle.std.proofs.lemmas.List.{append_assoc, append-nil, map-append}
-use Rattle.config_text.specs.Fault.{Fault, Faults, faults_in, unless_faulty, ◌<*>◌, ◌>>=◌}
-use Rattle.config_text.specs.Lists.{each_fault, in_front, no_keys}
-use Rattle.config_text.specs.Parts.{Text}
-use Rattle.config_text.specs.Refusals.{Gives, Keeps, Reads, Refuses}
-use Rattle.config_text.specs.declared.refusal.Refusal.{Refusal}
-use Rattle.config_text.specs.declared.refusal.Refusal.TheVariants as refusals
+use Rattle.toml.specs.Data.{Data, Members, as_integer, get_member}
+use Rattle.config_text.specs.Fault.{Fault, Faults, OfKeys, OfValues, fault_in, faults_in, joined, taken_or, there_or, ◌<*>◌, ◌>>=◌}
+use Rattle.config_text.specs.Document.{faults_of_document, parts_of}
+use Rattle.config_text.specs.Lists.{in_front}
+use Rattle.config_text.specs.Parts.{ConfigText, Text}
+use Rattle.config_text.specs.Reading.{IsSlip, Reads, Slips, slips_in, slips_listed, slips_of_both}
+use Rattle.config_text.specs.Refusals.{Finds, Refuses}
+use Rattle.config_text.specs.Values.{natural_at, number_in}
+use Rattle.config_text.specs.declared.fault.ConfigFault.{ConfigFault}
+use Rattle.config_text.specs.declared.fault.ConfigFault.TheVariants as texts
+use Rattle.config_text.specs.declared.fault.TableFault.{TableFault}
+use Rattle.config_text.specs.declared.takes.KeyTakes.TheVariants.{Number as Wanted}
+use Rattle.config_text.specs.declared.takes.Number.{Number}
 
--- readings beside one another have the faults of each
-pub faults_in_both : {A B : Type 0} (make : Result (A → B) Faults) (r : Result A Faults) → faults_in (make <*> r) ≡ faults_in make ++ faults_in r
-faults_in_both (Ok make) (Ok x) = refl
-faults_in_both (Ok make) (Err faults) = refl
-faults_in_both (Err faults) (Ok x) = sym (append-nil _)
-faults_in_both (Err faults) (Err more) = refl
+-- readings beside one another have the faults of both
+pub slips_in_both : {A B : Type 0} (make : Result (A → B) Faults) (r : Result A Faults) → slips_in (make <*> r) ≡ slips_of_both (slips_in make) (slips_in r)
+slips_in_both (Ok make) (Ok x) = refl
+slips_in_both (Ok make) (Err faults) = refl
+slips_in_both (Err faults) (Ok x) = refl
+slips_in_both (Err faults) (Err more) = refl
 
--- what is made of a reading has its faults
-pub faults_on : {A B : Type 0} (make : A → B) (r : Result A Faults) → faults_in (r >>= (λ x. Ok (make x))) ≡ faults_in r
-faults_on make (Ok x) = refl
-faults_on make (Err faults) = refl
-
--- of lists that have nothing together, each has nothing
-pub first_empty : {A : Type 0} (xs ys : List A) → xs ++ ys ≡ [] → xs ≡ []
-first_empty [] ys none = refl
-first_empty (x ∷ xs) ys none = cc
-
-pub rest_empty : {A : Type 0} (xs ys : List A) → xs ++ ys ≡ [] → ys ≡ []
-rest_empty [] ys none = none
-rest_empty (x ∷ xs) ys none = cc
-
--- elements without keys have no faults of keys
-pub no_keys_each : (name : Text) (i : ℕ) (items : Items) → each_fault no_keys name i items ≡ []
-unfolding each_fault
-no_keys_each name i no_items = refl
-no_keys_each name i (item d rest) = no_keys_each name (i + 1) rest
-
--- what was read where no key is missing or unknown
-pub gives_read : {X Y : Type 0} (view : X → Y) (result : Result X Refusal) (keys : List Fault) (said : Result Y Faults) →
-    Reads view result keys said → keys ≡ [] → Gives view result said
-gives_read view (Ok x) keys said reads none = (reads.0.1, reads.1 none)
-gives_read view (Err e) keys said reads none = (tt, reads.1 none)
+-- a refusal that is handed on
+pub refused_on : {X Y : Type 0} (view : X → Y) (result : Result X TableFault) (refusal : TableFault) (said : Result Y Faults) →
+    IsErr result × IsErrAnd result (λ e. e ≡ refusal) → IsSlip refusal (slips_in said) → Reads view result said
+refused_on view (Ok x) refusal said handed slips = let h = handed.0 in cc
+refused_on view (Err e) refusal said handed slips = (tt, subst (λ r. IsSlip r (slips_in said)) (sym handed.1) slips)
 
 -- what was read has no faults
-pub was_read : {Y : Type 0} (keys : List Fault) (said : Result Y Faults) (y : Y) → keys ≡ [] → said ≡ Ok y →
-    ((keys ≡ []) × (said ≡ Ok y)) × (keys ≡ [] → faults_in said ≡ [])
-was_read keys said y none read = ((none, read), λ _. ap faults_in read)
+pub was_read : {Y : Type 0} (said : Result Y Faults) (y : Y) → said ≡ Ok y → (said ≡ Ok y) × (slips_in said ≡ None)
+was_read said y is = (is, ap slips_in is)
 
--- a refusal that is handed on: of a reading of values alone, and of one of keys too
-pub refused_values : {X Y : Type 0} (view : X → Y) (result : Result X Refusal) (refusal : Refusal) (said : Result Y Faults) →
-    IsErr result × IsErrAnd result (λ e. e ≡ refusal) → Refuses refusal (faults_in said) → Gives view result said
-refused_values view (Ok x) refusal said handed refuses = let h = handed.0 in cc
-refused_values view (Err e) refusal said handed refuses = (tt, subst (λ r. Refuses r (faults_in said)) (sym handed.1) refuses)
+-- three readings, in whatever way two of them are put together first
+joined_assoc : (f g h : Faults) → joined (joined f g) h ≡ joined f (joined g h)
+joined_assoc (OfKeys x xs) (OfKeys y ys) (OfKeys z zs) = ap (OfKeys x) (append_assoc xs (y ∷ ys) (z ∷ zs))
+joined_assoc (OfKeys x xs) (OfKeys y ys) (OfValues z zs) = refl
+joined_assoc (OfKeys x xs) (OfValues y ys) (OfKeys z zs) = refl
+joined_assoc (OfKeys x xs) (OfValues y ys) (OfValues z zs) = refl
+joined_assoc (OfValues x xs) (OfKeys y ys) (OfKeys z zs) = refl
+joined_assoc (OfValues x xs) (OfKeys y ys) (OfValues z zs) = refl
+joined_assoc (OfValues x xs) (OfValues y ys) (OfKeys z zs) = refl
+joined_assoc (OfValues x xs) (OfValues y ys) (OfValues z zs) = ap (OfValues x) (append_assoc xs (y ∷ ys) (z ∷ zs))
 
-pub refused_on : {X Y : Type 0} (view : X → Y) (result : Result X Refusal) (refusal : Refusal) (keys : List Fault) (said : Result Y Faults) →
-    IsErr result × IsErrAnd result (λ e. e ≡ refusal) → (keys ≡ [] → Refuses refusal (faults_in said)) → Reads view result keys said
-refused_on view (Ok x) refusal keys said handed refuses = let h = handed.0 in cc
-refused_on view (Err e) refusal keys said handed refuses = (tt, λ none. (refused_values view (Err e) refusal said handed (refuses none)).1)
-
--- what refuses for no fault does so for want of memory
-nothing_refuses : (refusal : Refusal) (faults : List Fault) → Refuses refusal [] → Refuses refusal faults
-nothing_refuses refusals.Memory faults refuses = tt
-nothing_refuses (refusals.Found first others) faults refuses = cc
-
--- a refusal for some of the faults of keys, which is handed on
-pub refused_keys : {X Y : Type 0} (view : X → Y) (result : Result X Refusal) (refusal : Refusal) (keys found : List Fault) (said : Result Y Faults) →
-    IsErr result × IsErrAnd result (λ e. e ≡ refusal) → Refuses refusal found → (keys ≡ [] → found ≡ []) → Reads view result keys said
-refused_keys view result refusal keys found said handed refuses none_found =
-    refused_on view result refusal keys said handed (λ none. nothing_refuses refusal (faults_in said) (subst (λ fs. Refuses refusal fs) (none_found none) refuses))
-
--- what stands before, and what stands behind it
+-- what stands before, and what stands behind it; and one more behind all
 abbrev pub behind : {A : Type 0} → List A → List A → List A
 behind xs ys = xs ++ ys
+
+abbrev pub one_behind : {A : Type 0} → List A → A → List A
+one_behind xs x = xs ++ x ∷ []
 
 -- nothing stands before
 pub behind_nothing : {A : Type 0} (r : Result (List A) Faults) → Ok behind <*> Ok [] <*> r ≡ r
 behind_nothing (Ok xs) = refl
 behind_nothing (Err faults) = refl
 
--- one more element of an array says something
-one_more : {A : Type 0} (faults : List Fault) (xs : List A) (x : A) (rest : Result (List A) Faults) →
-    Ok behind <*> unless_faulty faults (xs ++ x ∷ []) <*> rest ≡ Ok behind <*> unless_faulty faults xs <*> (Ok in_front <*> Ok x <*> rest)
-one_more [] xs x (Ok ys) = ap Ok (append_assoc xs (x ∷ []) ys)
-one_more [] xs x (Err more) = refl
-one_more (fault ∷ faults) xs x (Ok ys) = refl
-one_more (fault ∷ faults) xs x (Err more) = refl
+-- nothing stands behind
+pub nothing_behind : {A : Type 0} (r : Result (List A) Faults) → Ok behind <*> r <*> Ok [] ≡ r
+nothing_behind (Ok xs) = ap Ok (append-nil xs)
+nothing_behind (Err faults) = refl
 
--- one more has faults
-more_faults : {A : Type 0} (faults : List Fault) (xs : List A) (found : Faults) (rest : Result (List A) Faults) →
-    Ok behind <*> unless_faulty (faults ++ found.first ∷ found.others) xs <*> rest ≡ Ok behind <*> unless_faulty faults xs <*> (Ok in_front <*> Err found <*> rest)
-more_faults [] xs found (Ok ys) = refl
-more_faults [] xs found (Err more) = refl
-more_faults (fault ∷ faults) xs found (Ok ys) = refl
-more_faults (fault ∷ faults) xs found (Err more) =
-    ap (λ fs. Err (record { first = fault; others = fs })) (append_assoc faults (found.first ∷ found.others) (more.first ∷ more.others))
+-- one more element is read before those that are left, or behind those that were read
+pub one_more : {A : Type 0} (so_far : Result (List A) Faults) (next : Result A Faults) (rest : Result (List A) Faults) →
+    Ok behind <*> (Ok one_behind <*> so_far <*> next) <*> rest ≡ Ok behind <*> so_far <*> (Ok in_front <*> next <*> rest)
+one_more (Ok xs) (Ok x) (Ok ys) = ap Ok (append_assoc xs (x ∷ []) ys)
+one_more (Ok xs) (Ok x) (Err h) = refl
+one_more (Ok xs) (Err g) (Ok ys) = refl
+one_more (Ok xs) (Err g) (Err h) = refl
+one_more (Err f) (Ok x) (Ok ys) = refl
+one_more (Err f) (Ok x) (Err h) = refl
+one_more (Err f) (Err g) (Ok ys) = refl
+one_more (Err f) (Err g) (Err h) = ap Err (joined_assoc f g h)
 
--- one more was read, or refused
-kept : {A B : Type 0} (seen : A → B) (read : Result A Refusal) (said : Result B Faults) (xs new_xs : List A) (faults new_faults : List Fault) (rest : Result (List B) Faults) →
-    Gives seen read said → Keeps read xs faults new_xs new_faults →
-    Ok behind <*> unless_faulty new_faults (map seen new_xs) <*> rest ≡ Ok behind <*> unless_faulty faults (map seen xs) <*> (Ok in_front <*> said <*> rest)
-kept seen (Ok x) said xs new_xs faults new_faults rest gives keeps =
-    rw (keeps.0, keeps.1, gives.0, map-append) (one_more faults (map seen xs) (seen x) rest)
-kept seen (Err refusals.Memory) said xs new_xs faults new_faults rest gives keeps = absurd keeps.1
-kept seen (Err (refusals.Found first others)) (Ok y) xs new_xs faults new_faults rest gives keeps = let h = gives.1 in cc
-kept seen (Err (refusals.Found first others)) (Err found) xs new_xs faults new_faults rest gives keeps =
-    rw (keeps.0, keeps.1, ← gives.1) (more_faults faults (map seen xs) found rest)
+-- one more element was read behind those before
+pub next_read : {V A B : Type 0} (items : V → List A) (seen : A → B) (before : Result V TableFault) (next : Result A TableFault) (after : Result V TableFault)
+    (so_far : Result (List B) Faults) (said : Result B Faults) →
+    Reads (λ v. map seen (items v)) before so_far → Reads seen next said → Slips after (slips_of_both (slips_in so_far) (slips_in said)) →
+    IfOk after (λ now. (v : V) × (x : A) × (before ≡ Ok v) × (next ≡ Ok x) × (items now ≡ items v ++ x ∷ [])) →
+    Reads (λ v. map seen (items v)) after (Ok one_behind <*> so_far <*> said)
+next_read items seen before next (Err refusal) so_far said one two slips reads =
+    (tt, rw (slips_in_both (Ok one_behind <*> so_far) said, slips_in_both (Ok one_behind) so_far) slips)
+next_read items seen before next (Ok now) so_far said one two slips reads =
+    let first : so_far ≡ Ok (map seen (items reads.0)) = (subst (λ r. Reads (λ v. map seen (items v)) r so_far) reads.2 one).0 in
+    let second : said ≡ Ok (seen reads.1) = (subst (λ r. Reads seen r said) reads.3 two).0 in
+    rw (first, second, reads.4, map-append) (refl, refl)
 
--- one more element was read without faults, and no key of it is missing or unknown
-known_more : {A B : Type 0} (seen : A → B) (read : Result A Refusal) (key : List Fault) (said : Result B Faults)
-    (xs new_xs : List A) (faults new_faults keys keys_left : List Fault) →
-    Reads seen read key said → Keeps read xs faults new_xs new_faults → (faults ≡ [] → keys ≡ key ++ keys_left) → new_faults ≡ [] → keys ≡ keys_left
-known_more seen (Ok x) key said xs new_xs faults new_faults keys keys_left reads keeps before none =
-    rw (before (sym keeps.1 ∙ none), reads.0.0) refl
-known_more seen (Err refusals.Memory) key said xs new_xs faults new_faults keys keys_left reads keeps before none = absurd keeps.1
-known_more seen (Err (refusals.Found first others)) key said xs new_xs faults new_faults keys keys_left reads keeps before none =
-    let some = rest_empty faults (first ∷ others.items) (sym keeps.1 ∙ none) in cc
+-- the number that was read is the one that stands there, if it is one that the key takes
+pub number_read : (number : Number) (at key : Text) (t : Members) →
+    result_ok (natural_at number at key t) ≡ number_in number (option_and_then as_integer (get_member key t))
+unfolding natural_at
+number_read number at key t = there (get_member key t)
+  where
+    taken : (place : Text) (n : Option ℕ) → result_ok (taken_or (Wanted number) place n) ≡ n
+    taken place (Some n) = refl
+    taken place None = refl
 
--- one more element was read, or refused, and so what is left has faults of keys, and says something
-pub kept_more : {A B : Type 0} (seen : A → B) (read : Result A Refusal) (key : List Fault) (said : Result B Faults)
-    (xs new_xs : List A) (faults new_faults : List Fault) (keys keys_left : List Fault) (all rest : Result (List B) Faults) →
-    Reads seen read key said → Keeps read xs faults new_xs new_faults →
-    (faults ≡ [] → keys ≡ key ++ keys_left)
-    × (keys ≡ [] → (key ++ keys_left ≡ []) × (Ok behind <*> unless_faulty faults (map seen xs) <*> (Ok in_front <*> said <*> rest) ≡ all)) →
-    (new_faults ≡ [] → keys ≡ keys_left)
-    × (keys ≡ [] → (keys_left ≡ []) × (Ok behind <*> unless_faulty new_faults (map seen new_xs) <*> rest ≡ all))
-kept_more seen read key said xs new_xs faults new_faults keys keys_left all rest reads keeps before = (
-  λ none. known_more seen read key said xs new_xs faults new_faults keys keys_left reads keeps before.0 none,
-  λ none.
-      let left = before.1 none in
-      let gives = gives_read seen read key said reads (first_empty key keys_left left.0) in
-      (rest_empty key keys_left left.0, kept seen read said xs new_xs faults new_faults rest gives keeps ∙ left.1),
-)
+    there : (d : Option Data) →
+        result_ok (there_or (at ++ key) d >>= λ d. taken_or (Wanted number) (at ++ key) (number_in number (as_integer d))) ≡ number_in number (option_and_then as_integer d)
+    there (Some d) = taken (at ++ key) (number_in number (as_integer d))
+    there None = refl
 
 -- readings beside one another that were made, and what is made of them
 pub beside_ok : {A B : Type 0} (make : Result (A → B) Faults) (r : Result A Faults) (y : B) → make <*> r ≡ Ok y →
@@ -140,3 +109,23 @@ beside_ok (Ok f) (Ok x) y h = (f, x, refl, refl, cc)
 beside_ok (Ok f) (Err faults) y h = cc
 beside_ok (Err faults) (Ok x) y h = cc
 beside_ok (Err faults) (Err more) y h = cc
+
+-- the fault of a text that is no TOML is the only one that it has, and is handed on
+refused_alone : (refusal : ConfigFault) (d : Result Members Fault) → Refuses refusal (fault_in d) → Refuses refusal (faults_of_document d)
+refused_alone texts.Memory d refuses = tt
+refused_alone (texts.Found first others) (Ok t) refuses = cc
+refused_alone (texts.Found first others) (Err fault) refuses = refuses
+
+pub refused_document : {X : Type 0} (result : Result X ConfigFault) (refusal : ConfigFault) (d : Result Members Fault) →
+    IsErr result × IsErrAnd result (λ e. e ≡ refusal) → Refuses refusal (fault_in d) → Finds result (faults_of_document d)
+refused_document (Ok x) refusal d handed refuses = let h = handed.0 in cc
+refused_document (Err e) refusal d handed refuses = refused_alone e d (subst (λ r. Refuses r (fault_in d)) (sym handed.1) refuses)
+
+-- those of a table that was refused
+pub refused_parts : (refusal : ConfigFault) (slips : TableFault) (d : Result Members Fault) (t : Members) → d ≡ Ok t → IsSlip slips (slips_in (parts_of t)) →
+    ((s : Option Faults) → IsSlip slips s → Refuses refusal (slips_listed s)) → Refuses refusal (faults_of_document d)
+refused_parts refusal slips d t is found told = rw is (subst (Refuses refusal) (all (parts_of t)) (told (slips_in (parts_of t)) found))
+  where
+    all : (r : Result ConfigText Faults) → slips_listed (slips_in r) ≡ faults_in r
+    all (Ok x) = refl
+    all (Err faults) = refl

@@ -1,23 +1,20 @@
 -- The faults of a configuration, and readings, which say something or have faults.
-use Rattle.std.specs.Prelude.{◌≡◌, ℕ, List, [], ◌∷◌, ◌++◌, Option, Some, None, Result, Ok, Err, ⊤, Bool, true, false, string_bytes}
+use Rattle.std.specs.Prelude.{List, [], ◌∷◌, ◌++◌, Option, Some, None, Result, Ok, Err, ⊤, Bool, true, false}
 use Rattle.config_text.specs.Parts.{Text}
-use Rattle.config_text.specs.declared.fault.Code.{Code}
-use Rattle.config_text.specs.declared.fault.Code.TheVariants as codes
-use Rattle.config_text.specs.declared.fault.ConfigFault.{ConfigFault}
-use Rattle.config_text.specs.declared.fault.ConfigFault.TheVariants as faults
+use Rattle.config_text.specs.declared.cause.Cause.{Cause}
+use Rattle.config_text.specs.declared.cause.Cause.TheVariants.{KeyMissing, Kind}
+use Rattle.config_text.specs.declared.takes.KeyTakes.{KeyTakes}
 
 -- what is wrong, and where
 pub record Fault : Type 0 where
-  pub code : Code
+  pub cause : Cause
   pub place : Text
 
-abbrev pub faulty : {A : Type 0} → Code → Text → Result A Fault
-faulty code place = Err (record { code = code; place = place })
-
--- faults, of which there is one at least, in the order in which they are found
-pub record Faults : Type 0 where
-  pub first : Fault
-  pub others : List Fault
+-- the faults of the first pass that finds any, in the order in which they are found: keys that are missing or unknown, or, where there
+-- are none of these, values that their keys don't take
+pub data Faults : Type 0 where
+  OfKeys : (first : Fault) → (others : List Fault) → Faults
+  OfValues : (first : Fault) → (others : List Fault) → Faults
 
 -- the ? of the logic: what can't be read ends a chain of lines
 infixl 10 ◌>>=◌
@@ -25,38 +22,72 @@ abbrev pub ◌>>=◌ : {A B E : Type 0} → Result A E → (A → Result B E) �
 (Ok x) >>= f = f x
 (Err e) >>= f = Err e
 
+-- of two passes' faults those of the first; those of one pass, one after another
+abbrev pub joined : Faults → Faults → Faults
+joined (OfKeys first others) (OfKeys next more) = OfKeys first (others ++ next ∷ more)
+joined (OfKeys first others) (OfValues next more) = OfKeys first others
+joined (OfValues first others) (OfKeys next more) = OfKeys next more
+joined (OfValues first others) (OfValues next more) = OfValues first (others ++ next ∷ more)
+
 -- one reading beside another: what the first makes of what the second says, or the faults of both
 infixl 10 ◌<*>◌
 abbrev pub ◌<*>◌ : {A B : Type 0} → Result (A → B) Faults → Result A Faults → Result B Faults
 (Ok make) <*> (Ok x) = Ok (make x)
 (Ok make) <*> (Err faults) = Err faults
 (Err faults) <*> (Ok x) = Err faults
-(Err faults) <*> (Err more) = Err (record { first = faults.first; others = faults.others ++ more.first ∷ more.others })
+(Err faults) <*> (Err more) = Err (joined faults more)
 
--- what was found, or this fault
-abbrev pub found_or : {A : Type 0} → Code → Text → Option A → Result A Faults
-found_or code place (Some x) = Ok x
-found_or code place None = Err (record { first = record { code = code; place = place }; others = [] })
+-- one reading beside another that only has faults or none
+abbrev pub said_alone : {A : Type 0} → A → ⊤ → A
+said_alone x none = x
 
--- this, unless there are faults
-abbrev pub unless_faulty : {A : Type 0} → List Fault → A → Result A Faults
-unless_faulty [] x = Ok x
-unless_faulty (fault ∷ faults) x = Err (record { first = fault; others = faults })
+infixl 10 ◌<*◌
+abbrev pub ◌<*◌ : {A : Type 0} → Result A Faults → Result ⊤ Faults → Result A Faults
+read <* others = Ok said_alone <*> read <*> others
+
+-- what stands at a key that has to be there
+abbrev pub there_or : {A : Type 0} → Text → Option A → Result A Faults
+there_or place (Some x) = Ok x
+there_or place None = Err (OfKeys (record { cause = KeyMissing; place = place }) [])
+
+-- what a key takes
+abbrev pub taken_or : {A : Type 0} → KeyTakes → Text → Option A → Result A Faults
+taken_or takes place (Some x) = Ok x
+taken_or takes place None = Err (OfValues (record { cause = Kind takes; place = place }) [])
+
+-- no keys are wrong, or these
+abbrev pub none_or : List Fault → Result ⊤ Faults
+none_or [] = Ok tt
+none_or (fault ∷ faults) = Err (OfKeys fault faults)
+
+-- faults as they are told
+abbrev pub listed : Faults → List Fault
+listed (OfKeys first others) = first ∷ others
+listed (OfValues first others) = first ∷ others
 
 -- the faults of a reading
 abbrev pub faults_in : {A : Type 0} → Result A Faults → List Fault
 faults_in (Ok x) = []
-faults_in (Err faults) = faults.first ∷ faults.others
+faults_in (Err faults) = listed faults
 
 -- a reading with the first of its faults alone
+abbrev pub first_in : Faults → Fault
+first_in (OfKeys first others) = first
+first_in (OfValues first others) = first
+
 abbrev pub by_first : {A : Type 0} → Result A Faults → Result A Fault
 by_first (Ok x) = Ok x
-by_first (Err faults) = Err faults.first
+by_first (Err faults) = Err (first_in faults)
+
+-- the fault of a reading that has one at most
+abbrev pub fault_in : {A : Type 0} → Result A Fault → List Fault
+fault_in (Ok x) = []
+fault_in (Err fault) = fault ∷ []
 
 -- this fault where the test holds
-abbrev pub fault_where : Code → Text → Bool → List Fault
-fault_where code place true = record { code = code; place = place } ∷ []
-fault_where code place false = []
+abbrev pub fault_where : Cause → Text → Bool → List Fault
+fault_where cause place true = record { cause = cause; place = place } ∷ []
+fault_where cause place false = []
 
 -- the first of some faults, if there is one
 abbrev pub first_of : List Fault → Result ⊤ Fault
@@ -68,38 +99,3 @@ abbrev pub first_found : List (List Fault) → List Fault
 first_found [] = []
 first_found ([] ∷ passes) = first_found passes
 first_found ((fault ∷ faults) ∷ passes) = fault ∷ faults
-
--- the error is the definition's, unless memory ran out
-abbrev pub Fails : {Y : Type 0} → ConfigFault → Result Y Fault → Type 0
-Fails faults.Memory read = Unit {0}
-Fails (faults.Found code place) read = read ≡ faulty code (string_bytes place)
-
--- what an error tells: its fault, or nothing where memory ran out (own profile)
-abbrev pub told : ConfigFault → Option Fault
-told faults.Memory = None
-told (faults.Found code place) = Some (record { code = code; place = string_bytes place })
-
--- the number of a code
-abbrev pub number_of : Code → ℕ
-number_of codes.NotToml = 1
-number_of codes.Key = 2
-number_of codes.Kind = 3
-number_of codes.Form = 4
-number_of codes.ObjectTwice = 5
-number_of codes.ClassUnknown = 6
-number_of codes.ClientUnknown = 7
-number_of codes.ClientTwice = 8
-number_of codes.Reference = 9
-number_of codes.Index = 10
-number_of codes.Value = 11
-number_of codes.NotSettable = 12
-number_of codes.Counts = 13
-number_of codes.ScriptId = 14
-number_of codes.Execute = 15
-number_of codes.Limit = 16
-number_of codes.Label = 17
-number_of codes.Fed = 18
-number_of codes.Times = 19
-number_of codes.Sorting = 20
-number_of codes.SecondClock = 21
-number_of codes.AlternativeTwice = 22

@@ -4,7 +4,7 @@
 #![tactic(auto)]
 
 mod both;
-mod checks;
+pub mod cause;
 mod client;
 mod clock;
 mod elements;
@@ -13,14 +13,15 @@ pub mod hex_value;
 mod kept;
 pub mod key_text;
 mod keys;
+pub mod known;
 mod lists;
 mod lookup;
 mod monitor;
+mod near;
 pub mod noting;
 mod object;
 pub mod parts;
 pub mod place;
-mod placed;
 mod profile;
 mod read;
 pub mod refusal;
@@ -29,8 +30,8 @@ mod right;
 mod schedule;
 mod script;
 pub mod service;
-mod table_keys;
 mod tables;
+pub mod takes;
 mod target;
 mod values;
 

@@ -1,31 +1,33 @@
 //! The tables that name an attribute or method, and a script.
 
-ghost use Rattle.std.specs.Prelude.{◌≡◌, [], IfOk, codes};
 ghost use Rattle.toml.specs.View.{table_view};
-ghost use Rattle.config_text.specs.Keys as keys;
-ghost use Rattle.config_text.specs.Refusals.{Gives};
+ghost use Rattle.config_text.specs.Reading.{Reads};
 ghost use Rattle.config_text.specs.Targets as spec;
 
 use crate::both::both;
-use crate::keys::{needed, no_others, only};
+use crate::fault::TableFault;
+use crate::keys::no_others;
+use crate::known;
 use crate::parts::{ScriptRefParts, TargetParts};
 use crate::place::Place;
-use crate::placed::PlacedFault;
-use crate::refusal::Refusal;
 use crate::tables::TableForm;
+use crate::takes::{KeyTakes, Number};
 use crate::values::{integer_at, natural_at, text_at};
-use cosem_data::memory::Memory;
 use toml::Table;
+
+/// The keys of an attribute or method.
+const TARGET: [&str; 2] = [known::OBJECT, known::INDEX];
+
+/// The keys of a script of a script table.
+const SCRIPT_REF: [&str; 2] = [known::TABLE, known::SCRIPT];
 
 /// The attribute or method that a table names, among other things that it says.
 #[tactic(auto, unfolding(crate::specs::Targets::target_of))]
-pub(crate) fn target_of(at: &Place<'_>, table: &Table) -> Result<TargetParts, Refusal>
-    ensures value { Gives (λ x. x) result (spec.target_of at.now (table_view table.now)) }
-    ensures object_there { IfOk result (λ _. keys.needed at.now (codes "object") (table_view table.now) ≡ []) }
-    ensures index_there { IfOk result (λ _. keys.needed at.now (codes "index") (table_view table.now) ≡ []) }
+pub(crate) fn target_of(at: &Place<'_>, table: &Table) -> Result<TargetParts, TableFault>
+    ensures { Reads (λ x. x) result (spec.target_of at.now (table_view table.now)) }
 {
-    let object = text_at(at, "object", table);
-    let index = natural_at(0, 127, at, "index", table);
+    let object = text_at(KeyTakes::LogicalName, at, known::OBJECT, table);
+    let index = natural_at(Number::Index, at, known::INDEX, table);
     let (object, index) = both(object, index)?;
     Ok(TargetParts {
         object,
@@ -33,73 +35,38 @@ pub(crate) fn target_of(at: &Place<'_>, table: &Table) -> Result<TargetParts, Re
     })
 }
 
-/// The keys of an attribute or method.
-const TARGET_KEYS: [&str; 2] = ["object", "index"];
-
 /// `object` and `index`: an attribute or method.
 pub(crate) struct TargetTable;
 
 impl TableForm for TargetTable {
-    ghost use Rattle.config_text.specs.Targets.{target_keys, target_of};
+    ghost use Rattle.config_text.specs.Targets.{target_table_of};
 
     type Parts = TargetParts;
 
-    ghost keys = { λ form. target_keys };
+    ghost says = { λ form. target_table_of };
 
-    ghost says = { λ form. target_of };
-
-    #[tactic(auto, unfolding(crate::specs::Targets::target_keys))]
-    fn check_keys(
-        &self,
-        faults: &mut Vec<PlacedFault>,
-        at: &Place<'_>,
-        table: &Table,
-    ) -> Result<(), Memory> {
-        needed(faults, at, "object", table)?;
-        needed(faults, at, "index", table)?;
-        only(faults, at, &TARGET_KEYS, table)
-    }
-
-    #[tactic(auto, unfolding(crate::specs::Targets::target_keys))]
-    fn read(&self, at: &Place<'_>, table: &Table) -> Result<TargetParts, Refusal> {
-        no_others(at, &TARGET_KEYS, table)?;
-        target_of(at, table)
+    fn read(&self, at: &Place<'_>, table: &Table) -> Result<TargetParts, TableFault> {
+        let (target, ()) = both(target_of(at, table), no_others(&TARGET, at, table))?;
+        Ok(target)
     }
 }
-
-/// The keys of a script of a script table.
-const SCRIPT_REF_KEYS: [&str; 2] = ["table", "script"];
 
 /// `table` and `script`: a script of a script table.
 pub(crate) struct ScriptRefTable;
 
 impl TableForm for ScriptRefTable {
-    ghost use Rattle.config_text.specs.Targets.{script_ref_keys, script_ref_of};
+    ghost use Rattle.config_text.specs.Targets.{script_ref_of};
 
     type Parts = ScriptRefParts;
 
-    ghost keys = { λ form. script_ref_keys };
-
     ghost says = { λ form. script_ref_of };
 
-    #[tactic(auto, unfolding(crate::specs::Targets::script_ref_keys))]
-    fn check_keys(
-        &self,
-        faults: &mut Vec<PlacedFault>,
-        at: &Place<'_>,
-        table: &Table,
-    ) -> Result<(), Memory> {
-        needed(faults, at, "table", table)?;
-        needed(faults, at, "script", table)?;
-        only(faults, at, &SCRIPT_REF_KEYS, table)
-    }
-
-    #[tactic(auto, unfolding(crate::specs::Targets::script_ref_of, crate::specs::Targets::script_ref_keys))]
-    fn read(&self, at: &Place<'_>, table: &Table) -> Result<ScriptRefParts, Refusal> {
-        no_others(at, &SCRIPT_REF_KEYS, table)?;
-        let name = text_at(at, "table", table);
-        let script = integer_at(at, "script", table);
-        let (name, script) = both(name, script)?;
+    #[tactic(auto, unfolding(crate::specs::Targets::script_ref_of))]
+    fn read(&self, at: &Place<'_>, table: &Table) -> Result<ScriptRefParts, TableFault> {
+        let name = text_at(KeyTakes::LogicalName, at, known::TABLE, table);
+        let script = integer_at(KeyTakes::Script, at, known::SCRIPT, table);
+        let others = no_others(&SCRIPT_REF, at, table);
+        let ((name, script), ()) = both(both(name, script), others)?;
         Ok(ScriptRefParts {
             table: name,
             script,

@@ -1,38 +1,59 @@
 //! What a table says at a key that holds a text, a number or a yes or no. `at` is the place of the table, up to its dot.
 
-ghost use Rattle.std.specs.Prelude.{◌≡◌, ◌≤◌, ◌≤ℤ◌, ℕ, [], Option, option_map, option_and_then, string_bytes, length, IfOk, IfSome};
+ghost use Rattle.std.specs.Prelude.{◌≡◌, ◌≤◌, ℕ, pos, negsuc, Result};
+ghost use Rattle.std.specs.Prelude.{option_map, string_bytes, IfOk, IfSome};
 ghost use Rattle.std.specs.Char.{is_ascii};
 ghost use Rattle.std.specs.List.{list_all};
 ghost use Rattle.std.specs.Result.{result_ok};
-ghost use Rattle.toml.specs.Data.{as_str, as_integer, get_member};
-ghost use Rattle.toml.specs.View.{table_view};
-ghost use Rattle.config_text.specs.Fault.{found_or};
-ghost use Rattle.config_text.specs.Keys.{needed};
-ghost use Rattle.config_text.specs.Parts.{Text};
-ghost use Rattle.config_text.specs.Refusals.{Gives};
+ghost use Rattle.toml.specs.View.{table_view, view};
+ghost use Rattle.config_text.specs.Fault.{Faults};
+ghost use Rattle.config_text.specs.Keys as keys;
+ghost use Rattle.config_text.specs.Reading.{Reads};
+ghost use Rattle.config_text.specs.KeyTakes.{range_of};
 ghost use Rattle.config_text.specs.Values as spec;
-ghost use Rattle.config_text.specs.declared.fault.Code.TheVariants.{Kind};
 
-use crate::fault::Code;
+use crate::fault::TableFault;
 use crate::kept::Kept;
-use crate::lookup::{integer, text, value_at};
+use crate::lookup::value_at;
 use crate::place::Place;
-use crate::refusal::{Refusal, refused};
+use crate::refusal::{missing, untaken};
+use crate::takes::{KeyTakes, Number};
 use cosem_data::memory::Memory;
-use toml::Table;
+use toml::{Table, Value};
+
+/// What stands at a key that has to be there.
+///
+/// # Errors
+/// C2 at the key where it is missing.
+pub(crate) fn there<'a>(
+    at: &Place<'_>,
+    key: &str,
+    table: &'a Table,
+) -> Result<&'a Value, TableFault>
+    ensures { Reads (λ value. view value.now) result (keys.there at.now key.now (table_view table.now)) }
+{
+    match value_at(table, key) {
+        Some(value) => Ok(value),
+        None => Err(missing(at, key)),
+    }
+}
 
 /// The text at a key.
 ///
 /// # Errors
-/// C3 at the key where it isn't a text.
-#[tactic(auto, unfolding(crate::specs::Values::text_at, crate::specs::Keys::needed))]
-pub(crate) fn text_at<K: Kept>(at: &Place<'_>, key: &str, table: &Table) -> Result<K, Refusal>
-    ensures value { Gives (λ text. K.says text) result (spec.text_at at.now key.now (table_view table.now)) }
-    ensures there { IfOk result (λ _. needed at.now key.now (table_view table.now) ≡ []) }
+/// C2 at the key where it is missing, C3 where it isn't a text.
+#[tactic(auto, unfolding(crate::specs::Values::text_at))]
+pub(crate) fn text_at<K: Kept>(
+    takes: KeyTakes,
+    at: &Place<'_>,
+    key: &str,
+    table: &Table,
+) -> Result<K, TableFault>
+    ensures { Reads (λ text. K.says text) result (spec.text_at takes at.now key.now (table_view table.now)) }
 {
-    match text(table, key) {
+    match there(at, key, table)?.as_str() {
         Some(found) => Ok(K::keep(at.alloc(), found)?),
-        None => Err(refused(Code::Kind, at, key)),
+        None => Err(untaken(takes, at, key)),
     }
 }
 
@@ -42,17 +63,18 @@ pub(crate) fn text_at<K: Kept>(at: &Place<'_>, key: &str, table: &Table) -> Resu
 /// C3 at the key where it isn't a text.
 #[tactic(auto, unfolding(crate::specs::Values::optional_text_at))]
 pub(crate) fn optional_text_at<K: Kept>(
+    takes: KeyTakes,
     at: &Place<'_>,
     key: &str,
     table: &Table,
-) -> Result<Option<K>, Refusal>
-    ensures { Gives (λ text. option_map K.says text) result (spec.optional_text_at at.now key.now
+) -> Result<Option<K>, TableFault>
+    ensures { Reads (λ text. option_map K.says text) result (spec.optional_text_at takes at.now key.now
         (table_view table.now)) }
 {
     match value_at(table, key) {
         Some(value) => match value.as_str() {
             Some(found) => Ok(Some(K::keep(at.alloc(), found)?)),
-            None => Err(refused(Code::Kind, at, key)),
+            None => Err(untaken(takes, at, key)),
         },
         None => Ok(None),
     }
@@ -72,34 +94,32 @@ fn has_ascii(text: &str, low: usize, high: usize) -> bool
     low <= text.len() && text.len() <= high && is_ascii_alone(text)
 }
 
-/// The text of `low` to `high` ASCII characters at a key that may be left out.
+/// The password at a key that may be left out: 1 to 64 characters of ASCII.
 ///
 /// # Errors
 /// C3 at the key where it is something else.
-#[tactic(auto, unfolding(crate::specs::Values::optional_ascii_at))]
-pub(crate) fn optional_ascii_at(
-    low: usize,
-    high: usize,
+#[tactic(auto, unfolding(crate::specs::Values::password_at))]
+pub(crate) fn password_at(
     at: &Place<'_>,
     key: &str,
     table: &Table,
-) -> Result<Option<String>, Refusal>
-    ensures { Gives (λ s. option_map string_bytes s) result
-        (spec.optional_ascii_at low high at.now key.now (table_view table.now)) }
+) -> Result<Option<String>, TableFault>
+    ensures { Reads (λ s. option_map string_bytes s) result
+        (spec.password_at at.now key.now (table_view table.now)) }
 {
     match value_at(table, key) {
         Some(value) => match value.as_str() {
-            Some(found) if has_ascii(found, low, high) => {
+            Some(found) if has_ascii(found, 1, 64) => {
                 Ok(Some(String::from_str(at.alloc(), found)?))
             }
-            _ => Err(refused(Code::Kind, at, key)),
+            _ => Err(untaken(KeyTakes::Password, at, key)),
         },
         None => Ok(None),
     }
 }
 
 /// A whole number from `low` to `high`.
-pub(crate) fn natural(found: Option<i64>, low: u64, high: u64) -> Option<u64>
+fn natural(found: Option<i64>, low: u64, high: u64) -> Option<u64>
     ensures value { result ≡ spec.natural_in low high found }
     ensures range { IfSome result (λ n. (low ≤ n) × (n ≤ high)) }
 {
@@ -111,98 +131,90 @@ pub(crate) fn natural(found: Option<i64>, low: u64, high: u64) -> Option<u64>
     }
 }
 
-/// The whole number at a key, if it has one from `low` to `high`.
-pub(crate) fn natural_or_none(low: u64, high: u64, key: &str, table: &Table) -> Option<u64>
-    ensures value { result ≡ spec.natural_in low high
-        (option_and_then as_integer (get_member key.now (table_view table.now))) }
-    ensures range { IfSome result (λ n. (low ≤ n) × (n ≤ high)) }
+/// A whole number that a key takes.
+pub(crate) fn number(wanted: Number, found: Option<i64>) -> Option<u64>
+    ensures value { result ≡ spec.number_in wanted found }
+    ensures range { IfSome result (λ n. ((range_of wanted).0 ≤ n) × (n ≤ (range_of wanted).1)) }
 {
-    natural(integer(table, key), low, high)
+    let (low, high) = wanted.range();
+    natural(found, low, high)
 }
 
-/// The whole number from `low` to `high` at a key.
+/// The whole number at a key.
 ///
 /// # Errors
-/// C3 at the key where it is something else.
-#[tactic(auto, unfolding(crate::specs::Values::natural_at, crate::specs::Keys::needed))]
+/// C2 at the key where it is missing, C3 where it is something else.
+#[tactic(auto, unfolding(crate::specs::Values::natural_at))]
 pub(crate) fn natural_at(
-    low: u64,
-    high: u64,
+    wanted: Number,
     at: &Place<'_>,
     key: &str,
     table: &Table,
-) -> Result<u64, Refusal>
-    ensures value { Gives (λ n. n) result (spec.natural_at low high at.now key.now
+) -> Result<u64, TableFault>
+    ensures value { Reads (λ n. n) result (spec.natural_at wanted at.now key.now
         (table_view table.now)) }
-    ensures there { IfOk result (λ _. needed at.now key.now (table_view table.now) ≡ []) }
-    ensures range { IfOk result (λ n. (low ≤ n) × (n ≤ high)) }
+    ensures range { IfOk result (λ n. ((range_of wanted).0 ≤ n) × (n ≤ (range_of wanted).1)) }
 {
-    match natural(integer(table, key), low, high) {
+    match number(wanted, there(at, key, table)?.as_integer()) {
         Some(number) => Ok(number),
-        None => Err(refused(Code::Kind, at, key)),
+        None => Err(untaken(KeyTakes::Number(wanted), at, key)),
     }
 }
 
 /// The number of a reading, or none where it found a fault instead. The error is that memory was refused.
-pub(crate) fn natural_read(reading: &Result<u64, Refusal>) -> Result<Option<u64>, Memory>
-    ensures value { IfOk result (λ told. (place : Text) (number : Option ℕ) →
-        Gives (λ n. n) reading.now (found_or Kind place number) → told ≡ number) }
+pub(crate) fn natural_read(reading: &Result<u64, TableFault>) -> Result<Option<u64>, Memory>
+    ensures value { IfOk result (λ told. (said : Result ℕ Faults) → Reads (λ n. n) reading.now said → told ≡ result_ok said) }
     ensures read { IfOk result (λ told. told ≡ result_ok reading.now) }
 {
     match reading {
         Ok(number) => Ok(Some(*number)),
-        Err(Refusal::Found { .. }) => Ok(None),
-        Err(Refusal::Memory) => Err(Memory),
+        Err(TableFault::Keys { .. } | TableFault::Values { .. }) => Ok(None),
+        Err(TableFault::Memory) => Err(Memory),
     }
 }
 
-/// An integer from `low` to `high`.
-fn signed(found: Option<i64>, low: i64, high: i64) -> Option<i64>
-    ensures { result ≡ spec.integer_in low high found }
+/// A scaler, if a number is one.
+fn scaler(found: Option<i64>) -> Option<i8>
+    ensures { result ≡ spec.integer_in (negsuc 127) (pos 127) found }
 {
     let value = found?;
-    if low <= value && value <= high {
-        Some(value)
+    if -128 <= value && value <= 127 {
+        Some(value as i8)
     } else {
         None
     }
 }
 
-/// The integer from `low` to `high` at a key.
+/// The scaler at a key, -128 to 127.
 ///
 /// # Errors
-/// C3 at the key where it is something else.
-#[tactic(auto, unfolding(crate::specs::Values::signed_at, crate::specs::Keys::needed))]
-pub(crate) fn signed_at(
-    low: i64,
-    high: i64,
-    at: &Place<'_>,
-    key: &str,
-    table: &Table,
-) -> Result<i64, Refusal>
-    ensures value { Gives (λ n. n) result (spec.signed_at low high at.now key.now
-        (table_view table.now)) }
-    ensures there { IfOk result (λ _. needed at.now key.now (table_view table.now) ≡ []) }
-    ensures range { IfOk result (λ n. (low ≤ℤ n) × (n ≤ℤ high)) }
+/// C2 at the key where it is missing, C3 where it is something else.
+#[tactic(auto, unfolding(crate::specs::Values::scaler_at))]
+pub(crate) fn scaler_at(at: &Place<'_>, key: &str, table: &Table) -> Result<i8, TableFault>
+    ensures { Reads (λ n. n) result (spec.scaler_at at.now key.now (table_view table.now)) }
 {
-    match signed(integer(table, key), low, high) {
-        Some(number) => Ok(number),
-        None => Err(refused(Code::Kind, at, key)),
+    match scaler(there(at, key, table)?.as_integer()) {
+        Some(scaler) => Ok(scaler),
+        None => Err(untaken(KeyTakes::Scaler, at, key)),
     }
 }
 
 /// The integer at a key.
 ///
 /// # Errors
-/// C3 at the key where it is something else.
-#[tactic(auto, unfolding(crate::specs::Values::integer_at, crate::specs::Keys::needed))]
-pub(crate) fn integer_at(at: &Place<'_>, key: &str, table: &Table) -> Result<i64, Refusal>
-    ensures value { Gives (λ n. n) result (spec.integer_at at.now key.now (table_view table.now)) }
-    ensures there { IfOk result (λ _. needed at.now key.now (table_view table.now) ≡ []) }
+/// C2 at the key where it is missing, C3 where it is something else.
+#[tactic(auto, unfolding(crate::specs::Values::integer_at))]
+pub(crate) fn integer_at(
+    takes: KeyTakes,
+    at: &Place<'_>,
+    key: &str,
+    table: &Table,
+) -> Result<i64, TableFault>
+    ensures { Reads (λ n. n) result (spec.integer_at takes at.now key.now (table_view table.now)) }
 {
-    match integer(table, key) {
+    match there(at, key, table)?.as_integer() {
         Some(number) => Ok(number),
-        None => Err(refused(Code::Kind, at, key)),
+        None => Err(untaken(takes, at, key)),
     }
 }
 
@@ -212,16 +224,17 @@ pub(crate) fn integer_at(at: &Place<'_>, key: &str, table: &Table) -> Result<i64
 /// C3 at the key where it is something else.
 #[tactic(auto, unfolding(crate::specs::Values::optional_integer_at))]
 pub(crate) fn optional_integer_at(
+    takes: KeyTakes,
     at: &Place<'_>,
     key: &str,
     table: &Table,
-) -> Result<Option<i64>, Refusal>
-    ensures { Gives (λ n. n) result (spec.optional_integer_at at.now key.now (table_view table.now)) }
+) -> Result<Option<i64>, TableFault>
+    ensures { Reads (λ n. n) result (spec.optional_integer_at takes at.now key.now (table_view table.now)) }
 {
     match value_at(table, key) {
         Some(value) => match value.as_integer() {
             Some(number) => Ok(Some(number)),
-            None => Err(refused(Code::Kind, at, key)),
+            None => Err(untaken(takes, at, key)),
         },
         None => Ok(None),
     }
@@ -237,13 +250,13 @@ pub(crate) fn flag_at(
     at: &Place<'_>,
     key: &str,
     table: &Table,
-) -> Result<bool, Refusal>
-    ensures { Gives (λ b. b) result (spec.flag_at absent at.now key.now (table_view table.now)) }
+) -> Result<bool, TableFault>
+    ensures { Reads (λ b. b) result (spec.flag_at absent at.now key.now (table_view table.now)) }
 {
     match value_at(table, key) {
         Some(value) => match value.as_bool() {
             Some(flag) => Ok(flag),
-            None => Err(refused(Code::Kind, at, key)),
+            None => Err(untaken(KeyTakes::Flag, at, key)),
         },
         None => Ok(absent),
     }

@@ -1,83 +1,78 @@
-//! The numbers of interface classes in words, from the table of the classes (own profile).
-ghost use Rattle.std.specs.Prelude.{◌≡◌, ◌<◌, ◌++◌, IfOk, string_bytes};
-ghost use Rattle.explanations.specs.ClassWords as spec;
+//! The numbers of interface classes, and of their indexes, in words, from the table of the classes (own profile).
 
+use config_text::cause::Use;
 use cosem_data::memory::Memory;
-use meter_theory::classes::{CLASSES, Class, ClassRow, may_be_fed};
+use meter_theory::classes::{
+    CLASSES, ClassRow, has_attribute, has_method, is_capturable, is_cell, is_monitorable,
+    is_settable,
+};
 use std::alloc::Global;
 
-/// The classes whose numbers are told.
-#[derive(Clone, Copy, Drop)]
-pub(crate) enum ClassesTold {
-    /// Those that a text of this version may have.
-    Known(u8),
-    /// Those to whose objects inputs from outside may go.
-    Fed,
-    /// That of clocks.
-    Clocks,
-}
+/// The highest index that there is.
+const HIGHEST: u8 = 127;
 
-/// Whether the class is one of those that are told.
-fn is_told(told: ClassesTold, row: &ClassRow) -> bool
-    ensures { result ≡ spec.is_told told row.now }
-{
-    match told {
-        ClassesTold::Known(version) => row.since <= version,
-        ClassesTold::Fed => may_be_fed(row.class_id),
-        ClassesTold::Clocks => row.class == Class::Clock,
-    }
-}
-
-/// Their numbers among those of rows of the table, in the order of these. The error is that memory was refused.
-fn numbers_told(alloc: Global, told: ClassesTold, rows: &[ClassRow]) -> Result<Vec<u16>, Memory>
-    ensures { IfOk result (λ numbers. numbers.items ≡ spec.numbers_told told rows.now) }
+/// The numbers of those classes that pass a test, as `1, 3 and 7`. The error is that memory was refused.
+pub(crate) fn classes_told<F: Fn(&ClassRow) -> bool>(
+    alloc: Global,
+    is_told: F,
+) -> Result<String, Memory>
+    requires { F.IsAlwaysCallable is_told }
 {
     let mut numbers = Vec::new(alloc);
-    for row in rows {
-        if is_told(told, row) {
+    for row in &CLASSES {
+        if is_told(row) {
             numbers.push(row.class_id)?;
         }
     }
-    Ok(numbers)
-}
-
-/// What stands before the number at this place of a list of so many.
-fn mark_before(place: usize, count: usize) -> &'static str
-    requires { place < count }
-    ensures { result.now ≡ spec.mark_before place count }
-{
-    if place == 0 {
-        ""
-    } else if place + 1 == count {
-        " and "
-    } else {
-        ", "
-    }
+    listed(alloc, &numbers)
 }
 
 /// Numbers as a list, as `1, 3 and 7`. The error is that memory was refused.
-pub(crate) fn listed(alloc: Global, numbers: &[u16]) -> Result<String, Memory>
-    ensures { IfOk result (λ words. string_bytes words ≡ spec.listed numbers.now) }
-{
+fn listed(alloc: Global, numbers: &[u16]) -> Result<String, Memory> {
     let mut words = String::new(alloc);
-    for (place, number) in numbers.iter().enumerate() {
-        let mark = mark_before(place, numbers.len());
-        words.push_str(format!(in alloc; "{mark}{number}")?.as_str())?;
+    let mut left = numbers.len();
+    for number in numbers {
+        words.push_str(format!(in alloc; "{number}")?.as_str())?;
+        left = left.saturating_sub(1);
+        match left {
+            0 => {}
+            1 => words.push_str(" and ")?,
+            _ => words.push_str(", ")?,
+        }
     }
     Ok(words)
 }
 
-/// The numbers that are told as a list, between words. The error is that memory was refused.
-pub(crate) fn with_classes(
-    alloc: Global,
-    before: &str,
-    told: ClassesTold,
-    behind: &str,
-) -> Result<String, Memory>
-    ensures { IfOk result (λ words. string_bytes words
-        ≡ before.now ++ (spec.class_words told ++ behind.now)) }
+/// Whether an index of a class serves so.
+fn serves(wanted: Use, class: u16, index: u8) -> bool {
+    match wanted {
+        Use::Attribute => has_attribute(class, index),
+        Use::Method => has_method(class, index),
+        Use::Settable => is_settable(class, index),
+        Use::Capturable => is_capturable(class, index),
+        Use::Monitorable => is_monitorable(class, index),
+    }
+}
+
+/// The indexes of a class that pass a test, as `1, 2 and 3`; nothing where there are none. The error is that memory was refused.
+fn indexes_told<F: Fn(u8) -> bool>(alloc: Global, is_told: F) -> Result<String, Memory>
+    requires { F.IsAlwaysCallable is_told }
 {
-    let numbers = numbers_told(alloc, told, &CLASSES)?;
-    let classes = listed(alloc, numbers.as_slice())?;
-    Ok(format!(in alloc; "{before}{classes}{behind}")?)
+    let mut indexes = Vec::new(alloc);
+    for index in 1..=HIGHEST {
+        if is_told(index) {
+            indexes.push(u16::from(index))?;
+        }
+    }
+    listed(alloc, &indexes)
+}
+
+/// The indexes of a class that serve so. The error is that memory was refused.
+pub(crate) fn serving(alloc: Global, wanted: Use, class: u16) -> Result<String, Memory> {
+    indexes_told(alloc, |index| serves(wanted, class, index))
+}
+
+/// The indexes of the cells of a class. The error is that memory was refused.
+pub(crate) fn cells_of(alloc: Global, class: u16) -> Result<String, Memory> {
+    indexes_told(alloc, |index| is_cell(class, index))
 }

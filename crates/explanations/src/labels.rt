@@ -1,19 +1,16 @@
 //! The explanation of a fault of labels (own profile).
-ghost use Rattle.std.specs.Prelude.{◌≡◌, IfOk, option_map, string_bytes};
-ghost use Rattle.explanations.specs.Labels as spec;
-ghost use Rattle.explanations.specs.Labels.{explanation, meaning, mending};
+ghost use Rattle.std.specs.Prelude.{IfOk, string_bytes};
+ghost use Rattle.explanations.specs.Lines.{AreLines};
 
-use crate::split::first_part;
-use crate::value::SHOWN;
+use crate::lines::lines_of;
+use crate::met::shown_line;
 use cosem_data::memory::Memory;
 use label_certificate::fault::{LabelCode, LabelFault};
-use shown_text::printable::{printable_text, push_printable};
+use shown_text::printable::printable_text;
 use std::alloc::Global;
 
 /// What a code means, in one sentence.
-fn meaning_of(code: LabelCode) -> &'static str
-    ensures { result.now ≡ meaning code }
-{
+fn meaning_of(code: LabelCode) -> &'static str {
     match code {
         LabelCode::Form => {
             "the line isn't of the form CELL influence=NAMES learn=NAMES, or no newline ends it"
@@ -25,9 +22,7 @@ fn meaning_of(code: LabelCode) -> &'static str
 }
 
 /// How what a code means is mended.
-fn mending_of(code: LabelCode) -> &'static str
-    ensures { result.now ≡ mending code }
-{
+fn mending_of(code: LabelCode) -> &'static str {
     match code {
         LabelCode::Form => {
             "write it as 1/0.0.96.11.0.255/2 influence=manager learn=reader,manager with one space between parts, - for no client, and a newline behind it"
@@ -39,42 +34,12 @@ fn mending_of(code: LabelCode) -> &'static str
 }
 
 /// The line of a text with this number, from 1.
-fn line_at(text: &str, number: u64) -> Option<&str>
-    ensures { option_map (λ line. line.now) result ≡ spec.line_at number text.now }
-{
-    let mut left = Some(text);
-    let mut before = number.saturating_sub(1);
-    while let Some(lines) = left {
-        let (line, behind) = first_part('\n', lines);
-        if before == 0 {
-            return Some(line);
-        }
-        before -= 1;
-        left = behind;
-    }
-    None
-}
-
-/// What is shown of a line: all of it, or its beginning where it is long.
-pub(crate) fn shown_line(alloc: Global, line: &[u8]) -> Result<String, Memory>
-    ensures { IfOk result (λ shown. string_bytes shown ≡ spec.shown_line line.now) }
-{
-    let mut shown = String::new(alloc);
-    if line.len() <= SHOWN {
-        push_printable(line, &mut shown)?;
-    } else {
-        let (beginning, _) = line.split_at(SHOWN);
-        push_printable(beginning, &mut shown)?;
-        shown.push_str(" ...")?;
-    }
-    Ok(shown)
+fn line_at(text: &str, number: u64) -> Option<&str> {
+    text.split('\n').nth(number.saturating_sub(1) as usize)
 }
 
 /// The line that tells a line of the labels, if it is there.
-fn line_line(alloc: Global, line: Option<&str>) -> Result<String, Memory>
-    ensures { IfOk result (λ told. string_bytes told
-        ≡ spec.line_line (option_map (λ l. l.now) line.entry)) }
-{
+fn line_line(alloc: Global, line: Option<&str>) -> Result<String, Memory> {
     match line {
         Some(line) => {
             let line = shown_line(alloc, line.as_bytes())?;
@@ -91,9 +56,7 @@ fn told(
     text: &str,
     code: LabelCode,
     number: u64,
-) -> Result<String, Memory>
-    ensures { IfOk result (λ told. string_bytes told ≡ spec.told file.now text.now code number) }
-{
+) -> Result<String, Memory> {
     let file = printable_text(alloc, file)?;
     let line = line_line(alloc, line_at(text, number))?;
     let meaning = meaning_of(code);
@@ -117,15 +80,16 @@ pub fn explain_labels(
     text: &str,
     fault: &LabelFault,
 ) -> Result<String, Memory>
-    ensures { IfOk result (λ told. string_bytes told ≡ explanation file.now text.now fault.now) }
+    ensures { IfOk result (λ told. AreLines (string_bytes told)) }
 {
-    match fault {
-        LabelFault::Line { code, line } => told(alloc, file, text, *code, *line),
+    let told = match fault {
+        LabelFault::Line { code, line } => told(alloc, file, text, *code, *line)?,
         LabelFault::Memory => {
             let file = printable_text(alloc, file)?;
-            Ok(format!(in alloc;
+            format!(in alloc;
                 "cosem-flow: {file}: memory was refused, and nothing is known of the labels\n  give the process more memory\n"
-            )?)
+            )?
         }
-    }
+    };
+    lines_of(alloc, &told)
 }

@@ -1,33 +1,21 @@
-//! What is told of a configuration or of labels that are refused, behind the verdict: what is wrong, where, and how it is
-//! mended (own profile).
+//! What is told of a configuration or of labels that are refused, after the verdict, and of what is most likely a slip: what is
+//! wrong, where, and how it is mended (own profile). The causes are those that the judge met; here are their words.
 //!
-//! The definitions stand in `specs/`: texts without control characters (`Printable`), the value to which a place leads
-//! (`Following`), lists of classes (`ClassWords`), the sentences of each code (`Meanings`) and of some places (`Advice`), and the
-//! explanations (`Config`, `Labels`, `Refusals`).
+//! All of it is lines of printable characters of ASCII (`Lines`), whatever stands in the texts.
 #![tactic(auto)]
 
-mod advice;
-mod asked;
-mod causes;
 mod class_words;
 pub mod config;
 mod execution_times;
-mod following;
 mod hexes;
-mod indexes;
-mod key_words;
-mod known;
+mod kind_words;
 pub mod labels;
-mod last;
+mod lines;
 mod meaning;
-mod near;
-mod numbers;
-mod objects;
-pub mod others;
+mod mending;
+mod met;
 pub mod refusal;
-mod several;
-mod split;
 mod standing;
 mod syntax;
-mod value;
+mod takes_words;
 pub mod warnings;

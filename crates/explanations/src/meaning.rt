@@ -1,107 +1,113 @@
-//! What each code of a configuration's fault means, and how it is mended (own profile).
-ghost use Rattle.std.specs.Prelude.{◌≡◌, IfOk, string_bytes};
-ghost use Rattle.explanations.specs.Meanings as spec;
-ghost use Rattle.explanations.specs.Meanings.{meaning, mending};
+//! What each cause of a fault means, in one sentence (own profile).
 
-use crate::class_words::{ClassesTold, with_classes};
-use config_text::fault::Code;
+use crate::class_words::classes_told;
+use crate::execution_times::time_cause;
+use crate::hexes::hex_cause;
+use crate::takes_words::takes_words;
+use config_places::Step;
+use config_text::cause::Cause;
+use config_text::takes::KeyTakes;
 use cosem_data::memory::Memory;
+use meter_theory::classes::may_be_fed;
 use std::alloc::Global;
 
-/// How a class is mended that a text of this version doesn't know. The error is that memory was refused.
-pub(crate) fn known_mending(alloc: Global, version: u8) -> Result<String, Memory>
-    ensures { IfOk result (λ words. string_bytes words ≡ spec.known_mending version) }
-{
-    with_classes(
-        alloc,
-        "use one of the classes ",
-        ClassesTold::Known(version),
-        "",
-    )
+/// The last key of steps, nothing where they have none.
+pub(crate) fn last_key(steps: &[Step]) -> &str {
+    let keys = steps.iter().rev().find_map(|step| match step {
+        Step::Key(key) => Some(key.as_str()),
+        Step::Element(_) => None,
+    });
+    keys.unwrap_or("")
 }
 
-/// What a code means, in one sentence. The error is that memory was refused.
-pub(crate) fn meaning_of(alloc: Global, code: Code) -> Result<String, Memory>
-    ensures { IfOk result (λ words. string_bytes words ≡ meaning code) }
-{
-    let words = match code {
-        Code::NotToml => "the text isn't TOML",
-        Code::Key => "a key is missing or unknown",
-        Code::Kind => "the value is of another TOML kind than the key takes, or out of its range",
-        Code::Form => "a name or client name has a bad form",
-        Code::ObjectTwice => {
-            "an object's name stands twice, or is the one of the current association"
-        }
-        Code::ClassUnknown => "the class isn't known",
-        Code::ClientUnknown => "no client has this name",
-        Code::ClientTwice => "a client's name or sap stands twice",
-        Code::Reference => "there is no such object, no such script table, or no such script in it",
-        Code::Index => "the class doesn't have this index, or it can't be used there",
-        Code::Value => "the value isn't hex, isn't one Data, or isn't of its kind",
-        Code::NotSettable => "what is to be set isn't a settable cell",
-        Code::Counts => "thresholds and actions differ in number",
-        Code::ScriptId => "the id of a script is 0 or stands twice",
-        Code::Execute => "service 2 is on a script table",
-        Code::Limit => "this is more than a limit allows",
-        Code::Label => "the label is on what is no cell, or is the second one for a cell",
-        Code::Fed => {
-            return with_classes(
-                alloc,
-                "fed is true of a class other than ",
-                ClassesTold::Fed,
-                "",
-            );
-        }
-        Code::Times => "the type doesn't allow these times",
-        Code::Sorting => "sort_method isn't 1, or data_index isn't 0",
-        Code::SecondClock => "a second clock: a meter has one at most",
-        Code::AlternativeTwice => {
-            "the alternative is what is configured, or stands before in its menu"
-        }
-    };
-    Ok(String::from_str(alloc, words)?)
+/// What a key takes where something else stands. The error is that memory was refused.
+fn kind_meaning(alloc: Global, takes: KeyTakes, steps: &[Step]) -> Result<String, Memory> {
+    let key = last_key(steps);
+    let words = takes_words(alloc, takes)?;
+    Ok(format!(in alloc; "{key} takes {words}")?)
 }
 
-/// How what a code means is mended, in a text of version 1. The error is that memory was refused.
-pub(crate) fn mending_of(alloc: Global, code: Code) -> Result<String, Memory>
-    ensures { IfOk result (λ words. string_bytes words ≡ mending code) }
-{
-    let words = match code {
-        Code::NotToml => "write each key with its value, as version = 1",
-        Code::Key => "remove it, or add the missing key",
-        Code::Kind => "give a value of the kind and in the range that the key takes",
-        Code::Form => {
-            "write a name as six numbers from 0 to 255 with dots between them, without leading zeros, and a client name as 1 to 16 of a to z, 0 to 9 and _"
+/// What is wrong with a client's name.
+fn client_meaning(name: Option<&str>) -> &'static str {
+    match name {
+        Some("in" | "at" | "eval" | "tick") => {
+            "a client can't have this name, by which other lines begin"
         }
-        Code::ObjectTwice => "give each object its own name, and none the name 0.0.40.0.0.255",
-        Code::ClassUnknown => return known_mending(alloc, 1),
-        Code::ClientUnknown => "add the client, or mend its name",
-        Code::ClientTwice => "give each client its own",
-        Code::Reference => "name one that is there",
-        Code::Index => "use an index of the class that serves there",
-        Code::Value => "encode one value of the kind",
-        Code::NotSettable => "list settable cells alone",
-        Code::Counts => "give one action for each threshold",
-        Code::ScriptId => "number the scripts from 1, each once",
-        Code::Execute => "write out the actions of the other script",
-        Code::Limit => {
-            "keep to 16 clients, 512 objects, 32 captured cells, 1000 entries, 64 scripts, 32 actions, 16 thresholds, 16 times, and values of 1024 bytes that nest 14 deep"
+        _ => "a client name has a bad form",
+    }
+}
+
+/// What is wrong with a text that is to be a value or a time. The error is that memory was refused.
+fn text_meaning(alloc: Global, cause: &Cause, text: Option<&str>) -> Result<String, Memory> {
+    match (cause, text) {
+        (Cause::ExecutionTime, Some(text)) => time_cause(alloc, text),
+        (_, Some(text)) => hex_cause(alloc, text),
+        (_, None) => {
+            let words = "the value isn't hex, isn't one Data, or isn't of its kind";
+            Ok(String::from_str(alloc, words)?)
         }
-        Code::Label => "label each cell once",
-        Code::Fed => {
-            return with_classes(
-                alloc,
-                "feed objects of the classes ",
-                ClassesTold::Fed,
-                " alone",
-            );
+    }
+}
+
+/// What a cause that is looked for by its code before C11 means.
+fn early_meaning(cause: &Cause, text: Option<&str>) -> &'static str {
+    match cause {
+        Cause::KeyMissing => "the key is missing",
+        Cause::KeyUnknown(_) => "the key isn't known",
+        Cause::LogicalForm => "a logical name has a bad form",
+        Cause::ClientForm(_) => client_meaning(text),
+        Cause::ObjectTwice => "an object before it has this name",
+        Cause::Association => "this is the name of the current association",
+        Cause::ClassUnknown(_) => "the class isn't known",
+        Cause::ClientUnknown(_) => "no client has this name",
+        Cause::ClientTwice => "a client before it has this name",
+        Cause::SapTwice => "a client before it has this sap",
+        Cause::NoObject => "no object has this name",
+        Cause::NoScriptTable => "no script table has this name",
+        Cause::NoScript(_) => "the script table has no script with this id",
+        _ => "the class doesn't have this index, or it can't be used there",
+    }
+}
+
+/// What a cause that is looked for by its code from C11 on means.
+fn late_meaning(cause: &Cause) -> &'static str {
+    match cause {
+        Cause::Rule(_) => {
+            "the value is of the kind that is asked there, and breaks a rule of the attribute"
         }
-        Code::Times => "use another type, or fewer times",
-        Code::Sorting => "leave the key out",
-        Code::SecondClock => {
-            return with_classes(alloc, "keep one object of class ", ClassesTold::Clocks, "");
+        Cause::Moment => "the time is no moment",
+        Cause::NoNumber => "a register monitor watches numbers alone",
+        Cause::NotSettable(_) => "what is to be set isn't a settable cell",
+        Cause::Counts => "thresholds and actions differ in number",
+        Cause::ScriptZero => "the id is 0",
+        Cause::ScriptTwice => "a script before it in the table has this id",
+        Cause::Execute => "service 2 is on a script table",
+        Cause::Limit(_) => "this is more than a limit allows",
+        Cause::NoCell(_) => "the object has no cell with this index",
+        Cause::LabelTwice => "a label before it is on this cell",
+        Cause::Times(_) => "the type doesn't allow these times",
+        Cause::SortMethod => "sort_method isn't 1",
+        Cause::DataIndex => "data_index isn't 0",
+        Cause::SecondClock => "a second clock: a meter has one at most",
+        _ => "the alternative is what is configured, or stands before in its menu",
+    }
+}
+
+/// What a cause means at the place to which steps lead, where this text stands. The error is that memory was refused.
+pub(crate) fn meaning_of(
+    alloc: Global,
+    cause: &Cause,
+    steps: &[Step],
+    text: Option<&str>,
+) -> Result<String, Memory> {
+    match cause {
+        Cause::Kind(takes) => kind_meaning(alloc, *takes, steps),
+        Cause::Value(_) | Cause::ExecutionTime => text_meaning(alloc, cause, text),
+        Cause::Fed => {
+            let fed = classes_told(alloc, |row| may_be_fed(row.class_id))?;
+            Ok(format!(in alloc; "fed is true of a class other than {fed}")?)
         }
-        Code::AlternativeTwice => "list other alternatives alone",
-    };
-    Ok(String::from_str(alloc, words)?)
+        cause if cause.code() <= 10 => Ok(String::from_str(alloc, early_meaning(cause, text))?),
+        cause => Ok(String::from_str(alloc, late_meaning(cause))?),
+    }
 }

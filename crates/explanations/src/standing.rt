@@ -1,43 +1,43 @@
 //! Where in a text a fault is (own profile).
-ghost use Rattle.std.specs.Prelude.{ℕ, ◌≤◌, List, length, IfOk, string_bytes};
+ghost use Rattle.std.specs.Prelude.{IfSome};
 ghost use Rattle.config_places.specs.Spots.{IsWithin};
-ghost use Rattle.explanations.specs.Standing.{Stands};
 
-use crate::following::UNKNOWN_KEY;
-use crate::syntax::position_behind;
-use config_places::{Spot, find, read_path};
-use config_text::fault::Code;
+use config_places::Spot;
 use cosem_data::memory::Memory;
 use std::alloc::Global;
 
-/// How many bytes are before what is shown: a key where it is the key that isn't known, the table in which one is missing, and else the
-/// value.
-fn bytes_before(code: Code, spot: Spot) -> usize
-    ensures { (text : List ℕ) → IsWithin text spot → result ≤ length text }
-{
-    match spot {
-        Spot::Found { key, .. } if code.number() == UNKNOWN_KEY => key,
-        Spot::Found { value, .. } => value,
-        Spot::Missing { within } => within,
+/// The line and the column after bytes, both from 1. A column counts characters.
+pub(crate) fn position_after(before: &[u8]) -> (u64, u64) {
+    let mut line = 1u64;
+    let mut column = 1u64;
+    for byte in before {
+        if *byte == b'\n' {
+            line = line.saturating_add(1);
+            column = 1;
+        } else if *byte & 0xC0 != 0x80 {
+            column = column.saturating_add(1);
+        }
     }
+    (line, column)
 }
 
-/// FILE:LINE:COLUMN of a fault with this code at this place of a text, or FILE alone where the place leads nowhere there.
-pub(crate) fn with_stand(
+/// FILE:LINE:COLUMN of what stands at a spot of a text: of the value, of the key where that is asked for, or of the table in which
+/// one is missing. FILE alone where there is no spot. The error is that memory was refused.
+pub(crate) fn stand_of(
     alloc: Global,
     file: &str,
     text: &str,
-    code: Code,
-    place: &str,
+    spot: Option<Spot>,
+    of_key: bool,
 ) -> Result<String, Memory>
-    ensures { IfOk result (λ told. Stands file.now text.now (string_bytes told)) }
+    requires { IfSome spot (IsWithin text.now) }
 {
-    let Some(steps) = read_path(alloc, place)? else {
-        return Ok(String::from_str(alloc, file)?);
+    let before = match spot {
+        Some(Spot::Found { key, .. }) if of_key => key,
+        Some(Spot::Found { value, .. }) => value,
+        Some(Spot::Missing { within }) => within,
+        None => return Ok(String::from_str(alloc, file)?),
     };
-    let Some(spot) = find(alloc, text, &steps)? else {
-        return Ok(String::from_str(alloc, file)?);
-    };
-    let (line, column) = position_behind(&text.as_bytes()[..bytes_before(code, spot)]);
+    let (line, column) = position_after(text[..before].as_bytes());
     Ok(format!(in alloc; "{file}:{line}:{column}")?)
 }

@@ -15,7 +15,9 @@ use Rattle.meter_theory.specs.Sound.{IsSound}
 use Rattle.meter_theory.proofs.Admission.{admits-passes, refusal-right}
 use Rattle.meter_theory.proofs.Unique.{refusal-unique}
 use Rattle.config_text.specs.Document.{tables_of}
-use Rattle.config_text.specs.Fault.{Fault as ConfigFault, Fails, ◌>>=◌}
+use Rattle.config_text.specs.Fault.{Fault as ConfigFault, ◌>>=◌}
+use Rattle.config_text.specs.Refusals.{Fails}
+use Rattle.config_text.specs.Causes.{code_of}
 use Rattle.config_text.specs.declared.fault.ConfigFault.{ConfigFault as FaultTold}
 use Rattle.config_text.specs.declared.fault.ConfigFault.TheVariants as config
 use Rattle.config_text.specs.Parts.{Text as Said, ConfigText, LabelText, SetsText}
@@ -86,14 +88,12 @@ same-policy c p q h k =
 -- a fault of the configuration has one line
 config-line : (said : Result ConfigText ConfigFault) (f g : FaultTold) → Fails f said → Fails g said → is_want_of_memory (Config f) ≡ false → is_want_of_memory (Config g) ≡ false → fault_line f ≡ fault_line g
 config-line said config.Memory g h k m n = cc
-config-line said (config.Found c p) config.Memory h k m n = cc
-config-line said (config.Found c p) (config.Found d q) h k m n =
+config-line said (config.Found first others) config.Memory h k m n = cc
+config-line said (config.Found f fs) (config.Found g gs) h k m n =
     let both = sym h ∙ k in
-    let first : ConfigFault = record { code = c; place = string_bytes p } in
-    let second : ConfigFault = record { code = d; place = string_bytes q } in
-    let same : first ≡ second = cc in
-    let code : c ≡ d = ap (λ (f : ConfigFault). f.code) same in
-    let place : string_bytes p ≡ string_bytes q = ap (λ (f : ConfigFault). f.place) same in
+    let same : f ≡ g = cc in
+    let code : code_of f.cause ≡ code_of g.cause = ap (λ (x : ConfigFault). code_of x.cause) same in
+    let place : f.place ≡ g.place = ap (λ (x : ConfigFault). x.place) same in
     rw (code, place) refl
 
 -- a fault of the labels has one line

@@ -51,7 +51,7 @@ unread-accepts-nothing path why (Untranslated fault) h = tt
 unread-accepts-nothing path why Closed h = tt
 
 -- nor where the verdict doesn't accept
-pub refusal-accepts-nothing : (config labels : Source) (verdict : Verdict) (outcome : Outcome) → verdict ≢ Accepted → IsJudged config labels verdict outcome → IsNoAcceptance outcome
+pub refusal-accepts-nothing : (config labels : Source) (verdict : Verdict) (outcome : Outcome) → verdict ≢ Accepted → IsJudged verdict outcome → IsNoAcceptance outcome
 refusal-accepts-nothing config labels verdict (Judged Accepted text) never h = never (sym h.0)
 refusal-accepts-nothing config labels verdict (Judged (Config fault) text) never h = tt
 refusal-accepts-nothing config labels verdict (Judged (Labels fault) text) never h = tt
@@ -77,7 +77,7 @@ refusal-accepts-nothing config labels verdict (Untranslated fault) never h = abs
 refusal-accepts-nothing config labels verdict Closed never h = absurd h
 
 -- nor where all that fails is told
-whole-accepts-nothing : (config labels : Source) (verdict : Verdict) (told : Option (List ℕ)) (outcome : Outcome) → verdict ≢ Accepted → IsJudgedWhole config labels verdict told outcome → IsNoAcceptance outcome
+whole-accepts-nothing : (config labels : Source) (verdict : Verdict) (told : Option (List ℕ)) (outcome : Outcome) → verdict ≢ Accepted → IsJudgedWhole verdict told outcome → IsNoAcceptance outcome
 whole-accepts-nothing config labels verdict told (Judged Accepted text) never h = never (sym h.1.0)
 whole-accepts-nothing config labels verdict told (Judged (Config fault) text) never h = tt
 whole-accepts-nothing config labels verdict told (Judged (Labels fault) text) never h = tt
@@ -106,7 +106,7 @@ whole-accepts-nothing config labels verdict told (Untranslated fault) never h = 
 whole-accepts-nothing config labels verdict told Closed never h = tt
 
 -- a refusal of a plan is one of the text that has it
-pub refused-so : (tells_all : Bool) (config labels : Source) (made : Plan × Policy) (outcome : Outcome) → Reads (Ok made) (config_of config.text.now) → RefusesOn config labels made.0 made.1 tells_all outcome →
+pub refused-so : (tells_all : Bool) (config labels : Source) (made : Plan × Policy) (outcome : Outcome) → Reads (Ok made) (config_of config.text.now) → RefusesOn labels made.0 made.1 tells_all outcome →
     TellsJudgement tells_all config labels outcome × IsNoAcceptance outcome
 refused-so false config labels made outcome reads h = (
   (h.0, judged made (config_of config.text.now) labels.text.now h.0 reads h.1, h.3),
@@ -121,7 +121,7 @@ refused-so true config labels made outcome reads h = (
 pub accepted-or-not : (reads : MayRead) (tells_all : Bool) (config_path labels_path : List ℕ) (config labels : Source) (made : Plan × Policy) (r : Result Checked Outcome) →
     IsFile reads config_path config → IsFile reads labels_path labels → Reads (Ok made) (config_of config.text.now) →
     IfOk r (λ checked. checked.plan ≡ made.0) → IfOk r (λ checked. checked.policy ≡ made.1) → IfOk r (λ _. IsVerdictOn made.0 made.1 labels.text.now Accepted) →
-    IfErr r (RefusesOn config labels made.0 made.1 tells_all) → MatchResult r (IsAcceptedOf reads config_path labels_path) (RefusesFiles reads tells_all config_path labels_path)
+    IfErr r (RefusesOn labels made.0 made.1 tells_all) → MatchResult r (IsAcceptedOf reads config_path labels_path) (RefusesFiles reads tells_all config_path labels_path)
 accepted-or-not reads tells_all config_path labels_path config labels made (Ok checked) config_is labels_are h plan policy admitted refused =
     let s = said-of made (config_of config.text.now) h in
     record {

@@ -48,9 +48,9 @@ use Rattle.meter_server.specs.Warning.{IsWarned, ListsLabels, Warns}
 
 -- a command came to the verdict on the configuration in a file and the labels in another, and to all that fails where that is asked for
 abbrev pub TellsJudgement : (tells_all : Bool) → Source → Source → Outcome → Type 0
-TellsJudgement false config labels outcome = (verdict : Verdict) × IsVerdict (config_of config.text.now) labels.text.now verdict × IsJudged config labels verdict outcome
+TellsJudgement false config labels outcome = (verdict : Verdict) × IsVerdict (config_of config.text.now) labels.text.now verdict × IsJudged verdict outcome
 TellsJudgement true config labels outcome =
-    (verdict : Verdict) × (told : Option (List ℕ)) × IsWholeVerdict (config_of config.text.now) labels.text.now verdict told × IsJudgedWhole config labels verdict told outcome
+    (verdict : Verdict) × (told : Option (List ℕ)) × IsWholeVerdict (config_of config.text.now) labels.text.now verdict told × IsJudgedWhole verdict told outcome
 
 -- the configuration in a file has no fault
 abbrev pub IsFaultless : Source → Type 0

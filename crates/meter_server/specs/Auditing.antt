@@ -3,7 +3,7 @@ use Rattle.std.specs.Prelude.{◌≡◌, ◌==◌, ◌<◌, ◌⊎◌, ℕ, Bool
 use Rattle.std.specs.List.{AllZip, list_all}
 use Rattle.std.specs.Str.Lines.{lines}
 use Rattle.fleet_audit.specs.Audits.{Audits}
-use Rattle.fleet_audit.specs.Reading.{AreAllUnread, AreTextsOf, config_path, labels_path}
+use Rattle.fleet_audit.specs.Reading.{AreAllUnread, AreTextsOf}
 use Rattle.fleet_audit.specs.Telling.{verdicts_text}
 use Rattle.fleet_audit.specs.declared.fault.AuditFault.TheVariants as audits
 use Rattle.fleet_audit.specs.declared.reading.FleetFault.{FleetFault}
@@ -18,7 +18,6 @@ use Rattle.meter_server.specs.Program.{ExplainsVerdict}
 use Rattle.meter_server.specs.Remarks.{Told, TellsBoth, cut_behind, told_of, whole}
 use Rattle.meter_server.specs.declared.outcome.Outcome.{Outcome}
 use Rattle.meter_server.specs.declared.outcome.Outcome.TheVariants.{Audited, Unaudited, UnreadFleet}
-use Rattle.meter_server.specs.declared.texts.Source.{Source}
 
 -- the names that a text has: its lines, but for the empty ones
 abbrev pub names_in : List ℕ → List (List ℕ)
@@ -28,25 +27,19 @@ names_in text = filter (λ line. not (length line == 0)) (lines text)
 abbrev pub behind_name : (name explanation : List ℕ) → List ℕ
 behind_name name explanation = if length explanation == 0 then [] else printable name ++ (codes ": " ++ explanation)
 
--- the verdict on the two files of a name, which have these texts, is explained so
-pub record IsExplained (name : List ℕ) (text : Text) (verdict : Verdict) (told : Told) : Type 0 where
-  pub config : Source
-  pub config_file : config.file.now ≡ config_path name
-  pub config_text : config.text.now ≡ string_bytes text.config
-  pub labels : Source
-  pub labels_file : labels.file.now ≡ labels_path name
-  pub labels_text : labels.text.now ≡ string_bytes text.labels
+-- the verdict on the two files of a name is explained so
+pub record IsExplained (name : List ℕ) (verdict : Verdict) (told : Told) : Type 0 where
   pub explanation : Told
-  pub explains : ExplainsVerdict config labels verdict explanation
+  pub explains : ExplainsVerdict verdict explanation
   pub are : told ≡ record { lines = behind_name name explanation.lines; is_cut = explanation.is_cut }
 
 -- the same, unless memory was refused for it
-abbrev pub ExplainsOne : List ℕ → Text → Verdict → Told → Type 0
-ExplainsOne name text verdict told = IsExplained name text verdict told ⊎ (told ≡ cut_behind [])
+abbrev pub ExplainsOne : List ℕ → Verdict → Told → Type 0
+ExplainsOne name verdict told = IsExplained name verdict told ⊎ (told ≡ cut_behind [])
 
 -- the verdicts on these names are explained so, one behind another
 abbrev pub ExplainsAll : List (List ℕ) → List Text → List Verdict → Told → Type 0
-ExplainsAll (name ∷ names) (text ∷ texts) (verdict ∷ verdicts) told = TellsBoth (ExplainsOne name text verdict) (ExplainsAll names texts verdicts) told
+ExplainsAll (name ∷ names) (text ∷ texts) (verdict ∷ verdicts) told = TellsBoth (ExplainsOne name verdict) (ExplainsAll names texts verdicts) told
 ExplainsAll _ _ _ told = told ≡ whole []
 
 -- the same where that is asked for, and else nothing

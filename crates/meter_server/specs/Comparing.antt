@@ -3,7 +3,7 @@ use Rattle.std.specs.Prelude.{◌≡◌, ◌⊎◌, ℕ, Bool, List, Option, Res
 use Rattle.config_reader.specs.ConfigOf.{config_of}
 use Rattle.config_rules.specs.Faultless.{IsPolicyOf}
 use Rattle.config_rules.specs.PlanOf.{plan_of}
-use Rattle.config_text.specs.Fault.{Fails}
+use Rattle.config_text.specs.Refusals.{Fails}
 use Rattle.config_text.specs.Parts.{ConfigText}
 use Rattle.config_text.specs.declared.fault.ConfigFault.{ConfigFault}
 use Rattle.flow_changes.specs.Written.{WritesComparison}
@@ -14,8 +14,7 @@ use Rattle.text_files.specs.Files.{MayRead}
 use Rattle.verdict.specs.declared.Verdict.TheVariants.{Config}
 use Rattle.meter_server.specs.Files.{IsFile, IsUnread}
 use Rattle.meter_server.specs.Outcomes.{compared}
-use Rattle.meter_server.specs.Program.{ExplainsFault}
-use Rattle.meter_server.specs.Remarks.{told_of}
+use Rattle.meter_server.specs.Remarks.{AreTold, told_of}
 use Rattle.meter_server.specs.declared.outcome.Outcome.{Outcome}
 use Rattle.meter_server.specs.declared.outcome.Outcome.TheVariants.{JudgedSide}
 use Rattle.meter_server.specs.declared.outcome.Side.{Side}
@@ -23,9 +22,9 @@ use Rattle.meter_server.specs.declared.outcome.Side.TheVariants as sides
 use Rattle.meter_server.specs.declared.texts.Source.{Source}
 
 -- a command came to this fault of the configuration on this side, which is explained
-abbrev pub IsFaultySide : Source → Side → ConfigFault → Outcome → Type 0
-IsFaultySide config side fault (JudgedSide told_side judged remarks) = (told_side ≡ side) × (judged ≡ Config fault) × ExplainsFault config fault (told_of remarks)
-IsFaultySide config side fault _ = ⊥
+abbrev pub IsFaultySide : Side → ConfigFault → Outcome → Type 0
+IsFaultySide side fault (JudgedSide told_side judged remarks) = (told_side ≡ side) × (judged ≡ Config fault) × AreTold (told_of remarks)
+IsFaultySide side fault _ = ⊥
 
 -- the file with this path has a configuration of this plan and this policy
 pub record IsMadeOf (reads : MayRead) (path : List ℕ) (made : Plan × Policy) : Type 0 where
@@ -40,7 +39,7 @@ pub record IsMadeOf (reads : MayRead) (path : List ℕ) (made : Plan × Policy) 
 abbrev pub FailsSide : MayRead → Side → List ℕ → Outcome → Type 0
 FailsSide reads side path outcome =
     IsUnread reads path outcome
-    ⊎ ((source : Source) × IsFile reads path source × (fault : ConfigFault) × Fails fault (config_of source.text.now) × IsFaultySide source side fault outcome)
+    ⊎ ((source : Source) × IsFile reads path source × (fault : ConfigFault) × Fails fault (config_of source.text.now) × IsFaultySide side fault outcome)
 
 -- how the configuration in a new file is compared with an old plan and an old policy
 abbrev pub ComparesWith : MayRead → Plan → Policy → List ℕ → (before after : Option (List ℕ)) → Outcome → Type 0

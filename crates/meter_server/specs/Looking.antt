@@ -4,7 +4,8 @@ use Rattle.std.specs.List.{position_from}
 use Rattle.std.specs.Str.{bytes_eq}
 use Rattle.config_rules.specs.Faultless.{IsPolicyOf}
 use Rattle.config_rules.specs.PlanOf.{plan_of}
-use Rattle.config_text.specs.Fault.{Fault as ConfigFault, Fails}
+use Rattle.config_text.specs.Fault.{Fault as ConfigFault}
+use Rattle.config_text.specs.Refusals.{Fails}
 use Rattle.config_text.specs.Parts.{ConfigText}
 use Rattle.config_text.specs.declared.fault.ConfigFault.{ConfigFault as FaultTold}
 use Rattle.shown_text.specs.Printable.{printable}
@@ -57,5 +58,5 @@ TellsWays P Q name word before after outcome = TellsWaysOf P Q name word (client
 -- how it is told of a text's configuration: its fault is told and explained, and nothing is written; or it is told of its plan and its policy
 abbrev pub AsksWhy : List ℕ → List ℕ → Source → Result ConfigText ConfigFault → (before after : Option (List ℕ)) → Outcome → Type 0
 AsksWhy name word config said before after outcome =
-    ((fault : FaultTold) × Fails fault said × IsFaulty config fault outcome × (after ≡ before))
+    ((fault : FaultTold) × Fails fault said × IsFaulty fault outcome × (after ≡ before))
     ⊎ ((c : ConfigText) × (said ≡ Ok c) × (Q : Policy) × IsPolicyOf c Q × TellsWays (plan_of c) Q name word before after outcome)

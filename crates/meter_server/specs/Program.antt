@@ -1,5 +1,5 @@
 -- What the program does with its words (own profile throughout).
-use Rattle.std.specs.Prelude.{◌≡◌, ◌≢◌, ℕ, Bool, true, false, List, [], drop, string_bytes, Option, None, Some, ◌⊎◌, Result, Ok, Err}
+use Rattle.std.specs.Prelude.{◌≡◌, ◌≢◌, ℕ, Bool, true, false, List, [], string_bytes, Option, None, Some, ◌⊎◌, Result, Ok, Err}
 use Rattle.clap.specs.Words.{IsAmong}
 use Rattle.clap.specs.declared.error.kind.ErrorKind.TheVariants.{DisplayHelp, DisplayVersion}
 use Rattle.command_words.specs.CommandLine.{kinds_of}
@@ -9,14 +9,11 @@ use Rattle.command_words.specs.declared.command.EdgesForm.TheVariants as forms
 use Rattle.command_words.specs.Faults.{HasMistake}
 use Rattle.command_words.specs.declared.fault.WordsFault.TheVariants as words
 use Rattle.config_rules.specs.PlanOf.{plan_of}
-use Rattle.config_reader.specs.ConfigOf.{config_of, faults_of}
-use Rattle.config_text.specs.Fault.{Fault as ConfigFault, Fails}
+use Rattle.config_reader.specs.ConfigOf.{config_of}
+use Rattle.config_text.specs.Fault.{Fault as ConfigFault}
+use Rattle.config_text.specs.Refusals.{Fails}
 use Rattle.config_text.specs.Parts.{ConfigText}
 use Rattle.config_text.specs.declared.fault.ConfigFault.{ConfigFault as FaultTold}
-use Rattle.explanations.specs.Config.{Explains}
-use Rattle.explanations.specs.Others.{ExplainsOthers}
-use Rattle.explanations.specs.Labels as label_words
-use Rattle.explanations.specs.Refusals as refusal_words
 use Rattle.frame_server.specs.Alone.{ServesAlone}
 use Rattle.meter_theory.specs.Edges.{edges}
 use Rattle.meter_theory.specs.Labels.{Policy}
@@ -26,7 +23,7 @@ use Rattle.meter_server.specs.Outcomes.{output_of}
 use Rattle.trail_lines.specs.Running.{RunsTrail}
 use Rattle.line_server.specs.declared.fault.LineFault.{LineFault}
 use Rattle.line_server.specs.Running.{RunsLines}
-use Rattle.meter_server.specs.Remarks.{IsTold, Told, TellsBoth, told_of, whole}
+use Rattle.meter_server.specs.Remarks.{AreTold, Told, told_of, whole}
 use Rattle.meter_server.specs.declared.outcome.Outcome.{Outcome}
 use Rattle.meter_server.specs.declared.outcome.Outcome.TheVariants.{Done, Judged, JudgedWhole, Words, Fault, Broken, Unwritten}
 use Rattle.meter_server.specs.declared.texts.Source.{Source}
@@ -36,7 +33,7 @@ use Rattle.whole_writes.specs.declared.fault.ListFault.{ListFault}
 use Rattle.whole_writes.specs.declared.fault.ListFault.TheVariants as lists
 use Rattle.verdict.specs.Judging.{IsVerdictOn, IsWholeVerdictOn}
 use Rattle.verdict.specs.declared.Verdict.{Verdict}
-use Rattle.verdict.specs.declared.Verdict.TheVariants.{Accepted, Config, Labels, Refused}
+use Rattle.verdict.specs.declared.Verdict.TheVariants.{Accepted, Config}
 
 -- Words
 
@@ -65,53 +62,43 @@ TellsVerdict outcome before after told = ((told ≡ outcome) × WritesText (outp
 
 -- Explanations
 
--- what explains the faults of the configuration in a file that the same pass finds behind the first
-abbrev pub ExplainsRest : Source → List ℕ → Type 0
-ExplainsRest config text = ExplainsOthers config.file.now config.text.now (drop 1 (faults_of config.text.now)) text
-
--- what explains a fault of the configuration in a file is told, and behind it what explains those others
-abbrev pub ExplainsFault : Source → FaultTold → Told → Type 0
-ExplainsFault config fault told = TellsBoth (IsTold (Explains config.file.now config.text.now fault)) (IsTold (ExplainsRest config)) told
-
--- what explains a verdict on the configuration in a file and the labels in another is told: nothing where they are accepted
-abbrev pub ExplainsVerdict : Source → Source → Verdict → Told → Type 0
-ExplainsVerdict config labels Accepted told = told ≡ whole []
-ExplainsVerdict config labels (Config fault) told = ExplainsFault config fault told
-ExplainsVerdict config labels (Labels fault) told = IsTold (λ text. text ≡ label_words.explanation labels.file.now labels.text.now fault) told
-ExplainsVerdict config labels (Refused refused) told = IsTold (λ text. text ≡ refusal_words.explanation refused) told
+-- what explains a verdict is told: nothing where it accepts
+abbrev pub ExplainsVerdict : Verdict → Told → Type 0
+ExplainsVerdict Accepted told = told ≡ whole []
+ExplainsVerdict _ told = AreTold told
 
 -- a command came to this verdict, which is explained
-abbrev pub IsJudged : Source → Source → Verdict → Outcome → Type 0
-IsJudged config labels verdict (Judged judged remarks) = (judged ≡ verdict) × ExplainsVerdict config labels verdict (told_of remarks)
-IsJudged config labels verdict _ = ⊥
+abbrev pub IsJudged : Verdict → Outcome → Type 0
+IsJudged verdict (Judged judged remarks) = (judged ≡ verdict) × ExplainsVerdict verdict (told_of remarks)
+IsJudged verdict _ = ⊥
 
 -- a command came to this verdict, which is explained, and to what is told of all that fails; or there was no memory for that
-abbrev pub IsJudgedWhole : Source → Source → Verdict → Option (List ℕ) → Outcome → Type 0
-IsJudgedWhole config labels verdict told (Judged judged remarks) = (told ≡ Some []) × IsJudged config labels verdict (Judged judged remarks)
-IsJudgedWhole config labels verdict told (JudgedWhole judged failures remarks) = (told ≡ Some (string_bytes failures)) × IsJudged config labels verdict (Judged judged remarks)
-IsJudgedWhole config labels verdict told (Unwritten lists.Memory) = told ≡ None
-IsJudgedWhole config labels verdict told _ = ⊥
+abbrev pub IsJudgedWhole : Verdict → Option (List ℕ) → Outcome → Type 0
+IsJudgedWhole verdict told (Judged judged remarks) = (told ≡ Some []) × IsJudged verdict (Judged judged remarks)
+IsJudgedWhole verdict told (JudgedWhole judged failures remarks) = (told ≡ Some (string_bytes failures)) × IsJudged verdict (Judged judged remarks)
+IsJudgedWhole verdict told (Unwritten lists.Memory) = told ≡ None
+IsJudgedWhole verdict told _ = ⊥
 
 -- a command came to a verdict that doesn't accept, on a plan and its policy, which the configuration in a file has, and on the labels in another; and to all that fails where that is asked for
-abbrev pub RefusesOn : Source → Source → Plan → Policy → (tells_all : Bool) → Outcome → Type 0
-RefusesOn config labels P policy false outcome = (verdict : Verdict) × IsVerdictOn P policy labels.text.now verdict × (verdict ≢ Accepted) × IsJudged config labels verdict outcome
-RefusesOn config labels P policy true outcome =
-    (verdict : Verdict) × (told : Option (List ℕ)) × IsWholeVerdictOn P policy labels.text.now verdict told × (verdict ≢ Accepted) × IsJudgedWhole config labels verdict told outcome
+abbrev pub RefusesOn : Source → Plan → Policy → (tells_all : Bool) → Outcome → Type 0
+RefusesOn labels P policy false outcome = (verdict : Verdict) × IsVerdictOn P policy labels.text.now verdict × (verdict ≢ Accepted) × IsJudged verdict outcome
+RefusesOn labels P policy true outcome =
+    (verdict : Verdict) × (told : Option (List ℕ)) × IsWholeVerdictOn P policy labels.text.now verdict told × (verdict ≢ Accepted) × IsJudgedWhole verdict told outcome
 
 -- a command came to this fault of the configuration in a file, which is explained
-abbrev pub IsFaulty : Source → FaultTold → Outcome → Type 0
-IsFaulty config fault (Judged judged remarks) = (judged ≡ Config fault) × ExplainsFault config fault (told_of remarks)
-IsFaulty config fault _ = ⊥
+abbrev pub IsFaulty : FaultTold → Outcome → Type 0
+IsFaulty fault (Judged judged remarks) = (judged ≡ Config fault) × AreTold (told_of remarks)
+IsFaulty fault _ = ⊥
 
 -- a command came to the fault of the configuration in a file
 abbrev pub TellsFault : Source → Outcome → Type 0
-TellsFault config outcome = (fault : FaultTold) × Fails fault (config_of config.text.now) × IsFaulty config fault outcome
+TellsFault config outcome = (fault : FaultTold) × Fails fault (config_of config.text.now) × IsFaulty fault outcome
 
 -- Texts
 
 -- how the lines of an input are answered by the configuration that a text says: its fault is told and explained, and nothing is read or written; or the lines run so over its plan
 abbrev pub AnswersBy : (Plan → Moment → Moment → Result ℕ LineFault → Type 0) → Source → Result ConfigText ConfigFault → Moment → Moment → Outcome → Type 0
-AnswersBy Runs config said before after (Judged (Config fault) remarks) = Fails fault said × (after ≡ before) × ExplainsFault config fault (told_of remarks)
+AnswersBy Runs config said before after (Judged (Config fault) remarks) = Fails fault said × (after ≡ before) × AreTold (told_of remarks)
 AnswersBy Runs config said before after Done = (c : ConfigText) × (said ≡ Ok c) × (count : ℕ) × Runs (plan_of c) before after (Ok count)
 AnswersBy Runs config said before after (Fault fault) = (c : ConfigText) × (said ≡ Ok c) × Runs (plan_of c) before after (Err fault)
 AnswersBy Runs config said before after _ = ⊥
@@ -126,14 +113,14 @@ AnswersTrail config said before after outcome = AnswersBy RunsTrail config said 
 
 -- how the frames of a connection are answered by it: its fault is told and explained, and nothing is read or written; or they are answered by its plan
 abbrev pub AnswersFrames : Source → Result ConfigText ConfigFault → Moment → Moment → Outcome → Type 0
-AnswersFrames config said before after (Judged (Config fault) remarks) = Fails fault said × (after ≡ before) × ExplainsFault config fault (told_of remarks)
+AnswersFrames config said before after (Judged (Config fault) remarks) = Fails fault said × (after ≡ before) × AreTold (told_of remarks)
 AnswersFrames config said before after Done = (c : ConfigText) × (said ≡ Ok c) × (count : ℕ) × ServesAlone (plan_of c) before.unread after.unread before.written after.written (Ok count)
 AnswersFrames config said before after (Broken fault) = (c : ConfigText) × (said ≡ Ok c) × ServesAlone (plan_of c) before.unread after.unread before.written after.written (Err fault)
 AnswersFrames config said before after _ = ⊥
 
 -- how what the plan of a text's configuration has is listed: its fault is told and explained, and nothing is written; or the list is written as this says
 abbrev pub Lists : (ConfigText → Result (Unit {0}) ListFault → Type 0) → Source → Result ConfigText ConfigFault → (before after : Option (List ℕ)) → Outcome → Type 0
-Lists Writes config said before after (Judged (Config fault) remarks) = Fails fault said × (after ≡ before) × ExplainsFault config fault (told_of remarks)
+Lists Writes config said before after (Judged (Config fault) remarks) = Fails fault said × (after ≡ before) × AreTold (told_of remarks)
 Lists Writes config said before after Done = (c : ConfigText) × (said ≡ Ok c) × Writes c (Ok tt)
 Lists Writes config said before after (Unwritten fault) = (c : ConfigText) × (said ≡ Ok c) × Writes c (Err fault)
 Lists Writes config said before after _ = ⊥

@@ -4,6 +4,7 @@ use Rattle.std.specs.Global.{Global}
 use Rattle.std.specs.Io.KnownBytes.{Appends}
 use Rattle.cosem_data.specs.declared.memory.Memory.{Memory}
 use Rattle.whole_writes.specs.declared.WriteFailed.{WriteFailed}
+use Rattle.explanations.specs.Lines.{AreLines}
 use Rattle.meter_server.specs.declared.remarks.Remarks.{Remarks}
 
 -- lines that are told, and whether memory was refused for more of them
@@ -44,6 +45,10 @@ WritesError text before after (Err failed) = (front : List ℕ) × (left : List 
 -- all is told, and says so; or memory was refused for it
 abbrev pub IsTold : (List ℕ → Type 0) → Told → Type 0
 IsTold Says told = ((lines : List ℕ) × Says lines × (told ≡ whole lines)) ⊎ (told ≡ cut_behind [])
+
+-- lines are told that a terminal may get, whatever stands in the texts of which they tell
+abbrev pub AreTold : Told → Type 0
+AreTold told = IsTold AreLines told
 
 -- the one is told, and the other behind it
 abbrev pub joined : (front behind : Told) → Told

@@ -98,7 +98,7 @@ AreLabelsIn reads P path labels = (source : Source) × IsFile reads path source 
 abbrev pub FailsLabelsIn : MayRead → Source → Plan → List ℕ → Outcome → Type 0
 FailsLabelsIn reads config P path outcome =
     IsUnread reads path outcome
-    ⊎ ((source : Source) × IsFile reads path source × (fault : LabelFault) × label_faults.Fails fault (labels_of_text P source.text.now) × IsJudged config source (verdicts.Labels fault) outcome)
+    ⊎ ((source : Source) × IsFile reads path source × (fault : LabelFault) × label_faults.Fails fault (labels_of_text P source.text.now) × IsJudged (verdicts.Labels fault) outcome)
 
 -- the labels that are given: those in a file, where its path is
 abbrev pub AreLabelsOf : MayRead → Plan → Option (List ℕ) → (given : Option Labels) → Type 0

@@ -4,12 +4,14 @@ use Rattle.command_words.specs.declared.command.Warned.{Warned}
 use Rattle.command_words.specs.declared.command.Warned.TheVariants.{Nothing, Slips, SlipsAndWidths}
 use Rattle.config_rules.specs.Faultless.{IsPolicyOf}
 use Rattle.config_rules.specs.PlanOf.{plan_of}
-use Rattle.config_text.specs.Fault.{Fault as ConfigFault, Fails}
+use Rattle.config_text.specs.Fault.{Fault as ConfigFault}
+use Rattle.config_text.specs.Refusals.{Fails}
 use Rattle.config_text.specs.Parts.{ConfigText}
 use Rattle.config_text.specs.declared.fault.ConfigFault.{ConfigFault as FaultTold}
 use Rattle.config_warnings.specs.Found.{warnings_of}
 use Rattle.config_warnings.specs.Widths.{wider_cells}
-use Rattle.explanations.specs.Warnings.{TellsWarnings, width_line}
+use Rattle.explanations.specs.Lines.{AreLines}
+use Rattle.explanations.specs.Warnings.{width_line}
 use Rattle.explanations.specs.declared.warnings.Whose.TheVariants as whose
 use Rattle.label_certificate.specs.declared.fault.LabelCode.{LabelCode}
 use Rattle.label_certificate.specs.LabelText.{labels_of_text}
@@ -26,9 +28,9 @@ use Rattle.meter_server.specs.declared.outcome.Outcome.TheVariants as outcomes
 use Rattle.meter_server.specs.declared.remarks.Remarks.{Remarks}
 use Rattle.meter_server.specs.declared.texts.Source.{Source}
 
--- what is told of the slips in the configuration in a file, which has this plan
-abbrev pub TellsSlips : Source → Plan → List ℕ → Type 0
-TellsSlips config P text = TellsWarnings config.file.now config.text.now (warnings_of P) text
+-- what is told of the slips in a plan: nothing where it has none
+abbrev pub TellsSlips : Plan → List ℕ → Type 0
+TellsSlips P text = AreLines text × (warnings_of P ≡ [] → text ≡ [])
 
 -- what is told of the width of labels that were read; of others nothing
 abbrev pub width_of_read : (file : List ℕ) → (least : Labels) → Result Labels (LabelCode × ℕ) → List ℕ
@@ -49,8 +51,8 @@ TellsWidths config labels P policy text =
 -- what is warned of a plan and its policy, which the configuration in a file has, and of the labels in another, where they are given
 abbrev pub Warns : Warned → Source → Option Source → Plan → Policy → Told → Type 0
 Warns Nothing config labels P policy told = told ≡ whole []
-Warns Slips config labels P policy told = IsTold (TellsSlips config P) told
-Warns SlipsAndWidths config labels P policy told = TellsBoth (IsTold (TellsSlips config P)) (IsTold (TellsWidths config labels P policy)) told
+Warns Slips config labels P policy told = IsTold (TellsSlips P) told
+Warns SlipsAndWidths config labels P policy told = TellsBoth (IsTold (TellsSlips P)) (IsTold (TellsWidths config labels P policy)) told
 
 -- a verdict is told as before, and behind what explains it these warnings; whatever else a command came to stays as it is
 abbrev pub IsBehind : (before : Outcome) → (warnings : Told) → (after : Outcome) → Type 0
@@ -72,13 +74,13 @@ ListsLabelsOf warned config P policy before after _ = ⊥
 -- how the least labels of a text's configuration are written: its fault is told and explained, and nothing is written; or they are those of its plan, with what is warned of it and its policy
 abbrev pub ListsLabels : Warned → Source → Result ConfigText ConfigFault → (before after : Option (List ℕ)) → Outcome → Type 0
 ListsLabels warned config said before after outcome =
-    ((fault : FaultTold) × Fails fault said × IsFaulty config fault outcome × (after ≡ before))
+    ((fault : FaultTold) × Fails fault said × IsFaulty fault outcome × (after ≡ before))
     ⊎ ((c : ConfigText) × (policy : Policy) × (said ≡ Ok c) × IsPolicyOf c policy × ListsLabelsOf warned config (plan_of c) policy before after outcome)
 
 -- a command came to the verdict on a plan and its policy, which the configuration in a file has, and on the labels in another, and to all that fails where that is asked for
 abbrev pub JudgesOn : (tells_all : Bool) → (config labels : Source) → Plan → Policy → Outcome → Type 0
 JudgesOn tells_all config labels P policy outcome =
-    RefusesOn config labels P policy tells_all outcome
+    RefusesOn labels P policy tells_all outcome
     ⊎ (IsVerdictOn P policy labels.text.now Accepted × ((remarks : Remarks) × (outcome ≡ Judged Accepted remarks) × (told_of remarks ≡ whole [])))
 
 -- the same with what is warned of

@@ -68,7 +68,7 @@ impl<'a> Judged<'a> {
         ensures none { IfNone result (ExplainsAll (map (λ name. name.now) self.entry.names.now)
             self.entry.texts.now self.entry.verdicts.now (whole [])) }
         ensures some { IfSome result (λ x. (told : remarks.Told)
-            → TellsBoth (ExplainsOne x.0.name.now x.0.text.now x.0.verdict.now)
+            → TellsBoth (ExplainsOne x.0.name.now x.0.verdict.now)
             (ExplainsAll (map (λ name. name.now) x.1.names.now) x.1.texts.now x.1.verdicts.now) told
             → ExplainsAll (map (λ name. name.now) self.entry.names.now) self.entry.texts.now self.entry.verdicts.now told) }
         ensures fewer { IfSome result (λ x. length x.1.names.now < length self.entry.names.now) }
@@ -281,7 +281,7 @@ fn explain_all(alloc: Global, names: &[&str], texts: &[Text], verdicts: &[Verdic
 
 /// What explains the verdict on a name, behind the name; nothing where memory is refused for it.
 fn explain_one(alloc: Global, one: One<'_>) -> Remarks
-    ensures { ExplainsOne one.entry.name.now one.entry.text.now one.entry.verdict.now (told_of result) }
+    ensures { ExplainsOne one.entry.name.now one.entry.verdict.now (told_of result) }
 {
     match explain_named(alloc, one.name, one.text, one.verdict) {
         Ok(explanation) => explanation,
@@ -296,7 +296,7 @@ fn explain_named(
     text: &Text,
     verdict: &Verdict,
 ) -> Result<Remarks, Memory>
-    ensures { IfOk result (λ remarks. IsExplained name.now text.now verdict.now (told_of remarks)) }
+    ensures { IfOk result (λ remarks. IsExplained name.now verdict.now (told_of remarks)) }
 {
     let config_file = format!(in alloc; "{name}.toml")?;
     let labels_file = format!(in alloc; "{name}.labels")?;

@@ -3,12 +3,13 @@ ghost use Rattle.std.specs.Prelude.{◌≡◌, MatchResult, Ok, string_bytes};
 ghost use Rattle.flow_changes.specs.Written.{WritesComparison};
 ghost use Rattle.meter_server.specs.Comparing.{ComparesFiles, ComparesWith, FailsSide, IsFaultySide, IsMadeOf};
 
-use crate::explaining::explain_fault;
 use crate::files::{source_of, text_of_file};
 use crate::outcome::{Outcome, Side, compared};
+use crate::remarks::Remarks;
 use crate::texts::Source;
 use config_reader::read_config;
 use config_text::fault::ConfigFault;
+use explanations::config::explain_config;
 use flow_changes::compare::write_comparison;
 use flow_map::least::LeastMap;
 use object_model::plan::Plan;
@@ -94,8 +95,12 @@ pub(crate) fn made_of<F: TextFiles>(
 
 /// A command of two configurations of which this one has a fault, with what explains it.
 fn faulty_side(alloc: Global, side: Side, config: Source<'_>, fault: ConfigFault) -> Outcome
-    ensures { IsFaultySide config.entry side fault result }
+    ensures { IsFaultySide side fault result }
 {
-    let explanation = explain_fault(alloc, config, &fault);
-    Outcome::JudgedSide(side, Verdict::Config(fault), explanation)
+    let explanation = explain_config(alloc, config.file, config.text, &fault);
+    Outcome::JudgedSide(
+        side,
+        Verdict::Config(fault),
+        Remarks::of(alloc, explanation),
+    )
 }

@@ -6,7 +6,6 @@ mod answering;
 mod auditing;
 mod comparing;
 pub mod demo;
-mod explaining;
 mod files;
 mod looking;
 mod noticing;

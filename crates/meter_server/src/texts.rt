@@ -11,13 +11,13 @@ ghost use Rattle.meter_server.specs.Program.{AnswersFrames, AnswersText, Answers
 ghost use Rattle.meter_server.specs.Remarks.{told_of};
 ghost use Rattle.meter_server.specs.Warning.{IsChecked, ListsLabels, ListsLabelsOf};
 
-use crate::explaining::explain_fault;
 use crate::outcome::{Outcome, listed, outcome_of, served};
 use crate::remarks::Remarks;
 use crate::warning::{Warning, warnings_on, with_warnings};
 use command_words::{EdgesForm, Warned};
 use config_reader::read_config;
 use config_text::fault::ConfigFault;
+use explanations::config::explain_config;
 use explanations::labels::explain_labels;
 use explanations::refusal::explain_refusal;
 use flow_checker::check::Checked;
@@ -246,11 +246,16 @@ pub(crate) fn explain_verdict(
     labels: Source<'_>,
     verdict: &Verdict,
 ) -> Remarks
-    ensures { ExplainsVerdict config.entry labels.entry verdict.now (told_of result) }
+    ensures { ExplainsVerdict verdict.now (told_of result) }
 {
     match verdict {
         Verdict::Accepted => Remarks::none(alloc),
-        Verdict::Config(fault) => explain_fault(alloc, config, fault),
+        Verdict::Config(fault) => {
+            Remarks::of(
+                alloc,
+                explain_config(alloc, config.file, config.text, fault),
+            )
+        }
         Verdict::Labels(fault) => {
             Remarks::of(
                 alloc,
@@ -268,7 +273,7 @@ pub(crate) fn judged(
     labels: Source<'_>,
     verdict: Verdict,
 ) -> Outcome
-    ensures { IsJudged config.entry labels.entry verdict result }
+    ensures { IsJudged verdict result }
 {
     let explanation = explain_verdict(alloc, config, labels, &verdict);
     Outcome::Judged(verdict, explanation)
@@ -281,7 +286,7 @@ fn judged_whole(
     labels: Source<'_>,
     whole: WholeVerdict,
 ) -> Outcome
-    ensures { IsJudgedWhole config.entry labels.entry whole.verdict
+    ensures { IsJudgedWhole whole.verdict
         (option_map string_bytes whole.failures) result }
 {
     let WholeVerdict { verdict, failures } = whole;
@@ -299,7 +304,7 @@ fn judged_behind(
     verdict: Verdict,
     failures: String,
 ) -> Outcome
-    ensures { IsJudgedWhole config.entry labels.entry verdict (Some (string_bytes failures)) result }
+    ensures { IsJudgedWhole verdict (Some (string_bytes failures)) result }
 {
     let explanation = explain_verdict(alloc, config, labels, &verdict);
     Outcome::JudgedWhole(verdict, failures, explanation)
@@ -319,7 +324,7 @@ pub(crate) fn accepted_of_texts(
     ensures policy { IfOk result (λ checked. checked.policy ≡ policy.now) }
     ensures admitted { IfOk result (λ _. IsVerdictOn plan policy.now labels.entry.text.now Accepted) }
     ensures refused { IfErr result
-        (RefusesOn config.entry labels.entry plan policy.now tells_all) }
+        (RefusesOn labels.entry plan policy.now tells_all) }
 {
     if tells_all {
         match accepted_or_whole(alloc, plan, policy, labels.text) {
@@ -363,8 +368,8 @@ pub(crate) fn checked(
 
 /// A command whose configuration has a fault, with what explains it.
 pub(crate) fn faulty(alloc: Global, config: Source<'_>, fault: ConfigFault) -> Outcome
-    ensures { IsFaulty config.entry fault result }
+    ensures { IsFaulty fault result }
 {
-    let explanation = explain_fault(alloc, config, &fault);
-    Outcome::Judged(Verdict::Config(fault), explanation)
+    let explanation = explain_config(alloc, config.file, config.text, &fault);
+    Outcome::Judged(Verdict::Config(fault), Remarks::of(alloc, explanation))
 }

@@ -52,7 +52,7 @@ pub(crate) fn warnings_on(alloc: Global, of: Warning<'_>, warned: Warned) -> Rem
 
 /// What is told of slips in a configuration.
 fn slip_lines(alloc: Global, config: Source<'_>, plan: &Plan) -> Result<String, Memory>
-    ensures { IfOk result (λ lines. TellsSlips config.entry plan.now (string_bytes lines)) }
+    ensures { IfOk result (λ lines. TellsSlips plan.now (string_bytes lines)) }
 {
     let slips = warnings(alloc, plan)?;
     explain_warnings(alloc, config.file, config.text, &slips)

@@ -2,7 +2,8 @@
 use Rattle.std.specs.Prelude.{◌≡◌, ℕ, Bool, true, false, List, [], Option, None, Some, Result, Ok}
 use Rattle.config_rules.specs.Faultless.{IsPolicyOf}
 use Rattle.config_rules.specs.PlanOf.{plan_of}
-use Rattle.config_text.specs.Fault.{Fault as ConfigFault, Fails}
+use Rattle.config_text.specs.Fault.{Fault as ConfigFault}
+use Rattle.config_text.specs.Refusals.{Fails}
 use Rattle.config_text.specs.Parts.{ConfigText}
 use Rattle.flow_checker.specs.Answer.{IsRefusedAs}
 use Rattle.flow_checker.specs.Failures.{failures}

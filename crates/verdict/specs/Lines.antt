@@ -1,7 +1,7 @@
 -- What is printed of a verdict.
 use Rattle.std.specs.Prelude.{◌++◌, List, ℕ, codes, flat_map, string_bytes}
 use Rattle.std.specs.Fmt.{decimal}
-use Rattle.config_text.specs.Fault.{number_of}
+use Rattle.config_text.specs.Causes.{code_of}
 use Rattle.config_text.specs.declared.fault.ConfigFault.{ConfigFault}
 use Rattle.config_text.specs.declared.fault.ConfigFault.TheVariants as faults
 use Rattle.label_certificate.specs.Faults as labels
@@ -23,10 +23,10 @@ use Rattle.value_text.specs.Edges.{edge_text}
 use Rattle.verdict.specs.declared.Verdict.{Verdict}
 use Rattle.verdict.specs.declared.Verdict.TheVariants as verdicts
 
--- the number of a fault and its place; for want of memory there is none (own profile)
+-- the code of the first fault and its place; for want of memory there is none (own profile)
 abbrev pub fault_line : ConfigFault → List ℕ
 fault_line faults.Memory = codes "config C0\n"
-fault_line (faults.Found code place) = codes "config C" ++ (decimal (number_of code) ++ (codes " at " ++ (string_bytes place ++ codes "\n")))
+fault_line (faults.Found first others) = codes "config C" ++ (decimal (code_of first.cause) ++ (codes " at " ++ (first.place ++ codes "\n")))
 
 -- the number of a fault of labels and its line, from 1; for want of memory there is none (own profile)
 abbrev pub label_fault_line : LabelFault → List ℕ

@@ -53,9 +53,9 @@ fn fault_line(alloc: Global, fault: &ConfigFault) -> Result<String, Memory>
 {
     match fault {
         ConfigFault::Memory => Ok(String::from_str(alloc, "config C0\n")?),
-        ConfigFault::Found { code, place } => {
-            let number = code.number();
-            Ok(format!(in alloc; "config C{number} at {place}\n")?)
+        ConfigFault::Found { first, .. } => {
+            let (code, place) = (first.cause.code(), &first.place);
+            Ok(format!(in alloc; "config C{code} at {place}\n")?)
         }
     }
 }

@@ -1,8 +1,5 @@
 use Rattle.std.proofs.lemmas.List.{map-id}
-use Rattle.config_text.specs.Lists.{each_fault}
-use Rattle.config_text.specs.Tables.{lists_keys_at}
 use Rattle.config_text.proofs.profile.menu_of.Goals as goal
 
 pub returns-then-menus : goal.returns-then-menus
-unfolding lists_keys_at each_fault
 returns-then-menus c = rw c.if-menus.true (simp map-id at c.menu_at.ensures)

@@ -1,9 +1,9 @@
-use Rattle.std.proofs.Common.{ap, arith, length}
-use Rattle.std.proofs.lemmas.List.{length-append, nil_from_length}
-use Rattle.config_text.specs.Classes.{data_keys}
-use Rattle.config_text.proofs.Readings.{refused_keys}
+use Rattle.config_text.specs.Classes.{data_of}
+use Rattle.config_text.proofs.Readings.{refused_on, slips_in_both}
 use Rattle.config_text.proofs.register.data_of.Goals as goal
 
-pub returns-in_err-no_others : goal.returns-in_err-no_others
-unfolding data_keys
-returns-in_err-no_others c = refused_keys _ _ _ _ _ _ c.from_residual.ensures c.in_err-no_others.ensures (λ none. nil_from_length _ (omega (arith, simp length-append at (ap length none))))
+pub returns-in_err-value : goal.returns-in_err-value
+unfolding data_of
+returns-in_err-value c =
+    let all = c.in_err-value.ensures.slips _ _ c.text_at-value.ensures.1 c.no_others.ensures.1 in
+    refused_on _ _ _ _ c.from_residual.ensures (simp slips_in_both all)

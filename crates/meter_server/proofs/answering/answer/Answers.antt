@@ -4,6 +4,7 @@ use Rattle.meter_server.specs.Answering.{ChecksFiles, ListsFile}
 use Rattle.meter_server.specs.Auditing.{AuditsNamed}
 use Rattle.meter_server.specs.Comparing.{ComparesFiles}
 use Rattle.meter_server.specs.Looking.{AsksWhy}
+use Rattle.meter_server.specs.Program.{ListsEdges}
 use Rattle.meter_server.specs.Reporting.{Paths, ReportsFile}
 use Rattle.meter_server.specs.Sources.{MayGive, ReadsWhere, given_of}
 use Rattle.meter_server.specs.declared.demo.TheConstants.{DEMO}
@@ -30,6 +31,15 @@ returns-in-Check-clause-answers g c =
     let read = subst (λ is_named. ReadsWhere is_named (g.I.Read.remaining c.args.input.now) (g.I.Read.remaining sources.new.input) given) c.is_either_input.ensures sources.ensures.given in
     let judged = subst (λ files. ChecksFiles (MayGive (reads files) given) tells_all warned config labels c.check_files.result) sources.ensures.files c.check_files.ensures in
     rw c.in-Check.is (given, read, refl, judged)
+
+pub returns-in-Edges-clause-answers : goal.returns-in-Edges-clause-answers
+returns-in-Edges-clause-answers g c =
+    let reads = g.F.TextFiles.may_read in
+    let sources = c.new-sources in
+    let given = option_map (given_of string_bytes) sources.result.given in
+    let read = subst (λ is_named. ReadsWhere is_named (g.I.Read.remaining c.args.input.now) (g.I.Read.remaining sources.new.input) given) c.is_input.ensures sources.ensures.given in
+    let told = subst (λ files. ListsFile (ListsEdges c.in-Edges.form) (MayGive (reads files) given) c.in-Edges.config.now (g.O.Write.contents c.args.output.now) (g.O.Write.contents c.list_edges_of_file.new.output) c.list_edges_of_file.result) sources.ensures.files c.list_edges_of_file.ensures in
+    rw c.in-Edges.is (given, read, told)
 
 pub returns-in-Label-clause-answers : goal.returns-in-Label-clause-answers
 returns-in-Label-clause-answers g c =

@@ -24,4 +24,4 @@ answers config made said before after (Err fault) h run =
 pub returns-in-Ok : goal.returns-in-Ok
 returns-in-Ok g c =
     subst (AnswersFrames c.args.config (config_of c.args.config.text.now) _ _) (sym c.served.ensures)
-    (answers c.args.config (c.in-Ok.plan, c.in-Ok._policy) (config_of c.args.config.text.now) _ _ c.serve_alone.result c.in-Ok.ensures c.serve_alone.ensures)
+    (answers c.args.config (c.in-Ok.plan, c.in-Ok._policy) (config_of c.args.config.text.now) _ _ c.serve_alone.result c.in-Ok.ensures.first c.serve_alone.ensures)

@@ -8,4 +8,4 @@ use Rattle.meter_server.proofs.texts.answer_text.Goals as goal
 pub returns-in-Ok : goal.returns-in-Ok
 returns-in-Ok g c =
     subst (AnswersText c.args.config (config_of c.args.config.text.now) _ _) (sym c.outcome_of.ensures)
-    (lines-answered RunsLines c.args.config (c.in-Ok.plan, c.in-Ok._policy) (config_of c.args.config.text.now) _ _ c.run_lines.result c.in-Ok.ensures c.run_lines.ensures.runs)
+    (lines-answered RunsLines c.args.config (c.in-Ok.plan, c.in-Ok._policy) (config_of c.args.config.text.now) _ _ c.run_lines.result c.in-Ok.ensures.first c.run_lines.ensures.runs)

@@ -8,4 +8,4 @@ use Rattle.meter_server.proofs.texts.answer_trail.Goals as goal
 pub returns-in-Ok : goal.returns-in-Ok
 returns-in-Ok g c =
     subst (AnswersTrail c.args.config (config_of c.args.config.text.now) _ _) (sym c.outcome_of.ensures)
-    (lines-answered RunsTrail c.args.config (c.in-Ok.plan, c.in-Ok._policy) (config_of c.args.config.text.now) _ _ c.run_trail.result c.in-Ok.ensures c.run_trail.ensures.runs)
+    (lines-answered RunsTrail c.args.config (c.in-Ok.plan, c.in-Ok._policy) (config_of c.args.config.text.now) _ _ c.run_trail.result c.in-Ok.ensures.first c.run_trail.ensures.runs)

@@ -7,7 +7,7 @@ use Rattle.meter_server.proofs.texts.list_labels.Goals as goal
 
 pub returns-in-Ok : goal.returns-in-Ok
 returns-in-Ok g c =
-    let s = said-of (c.in-Ok.plan, c.in-Ok.policy) (config_of c.args.config.text.now) c.in-Ok.ensures in
+    let s = said-of (c.in-Ok.plan, c.in-Ok.policy) (config_of c.args.config.text.now) c.in-Ok.ensures.first in
     inr (
       s.0,
       c.in-Ok.policy,

@@ -9,7 +9,7 @@ returns-in-SlipsAndWidths c =
     rw c.in-SlipsAndWidths.is (
       told_of c.of-slips.result,
       told_of c.of-widths.result,
-      told-so (TellsSlips of.config of.plan.now) c.slip_lines-in-SlipsAndWidths.result (told_of c.of-slips.result) c.of-slips.ensures c.slip_lines-in-SlipsAndWidths.ensures,
+      told-so (TellsSlips of.plan.now) c.slip_lines-in-SlipsAndWidths.result (told_of c.of-slips.result) c.of-slips.ensures c.slip_lines-in-SlipsAndWidths.ensures,
       told-so (TellsWidths of.config of.labels of.plan.now of.policy.now) c.width_lines.result (told_of c.of-widths.result) c.of-widths.ensures c.width_lines.ensures,
       c.with.ensures,
     )

@@ -1,16 +1,10 @@
-use Rattle.std.proofs.Common.{ap, arith, length}
-use Rattle.std.proofs.lemmas.List.{length-append, nil_from_length}
-use Rattle.config_text.specs.Classes.{capture_keys, capture_of}
-use Rattle.config_text.proofs.Readings.{faults_in_both, refused_keys, refused_on}
+use Rattle.config_text.specs.Classes.{capture_of}
+use Rattle.config_text.proofs.Readings.{refused_on, slips_in_both}
 use Rattle.config_text.proofs.profile.CaptureTableTableForm.read.Goals as goal
 
-pub returns-in_err-no_others : goal.returns-in_err-no_others
-unfolding capture_keys
-returns-in_err-no_others c = refused_keys _ _ _ _ _ _ c.from_residual.ensures c.in_err-no_others.ensures (λ none. nil_from_length _ (omega (arith, simp length-append at (ap length none))))
-
 pub returns-in_err-target : goal.returns-in_err-target
-unfolding capture_keys capture_of
+unfolding capture_of
 returns-in_err-target c =
-    refused_on _ _ _ _ _ c.from_residual-in_err-target.ensures (λ none.
-    let all = c.in_err-target.ensures.faults _ _ c.target_of-target.ensures.value.1 c.optional_integer_at-data_index.ensures.1 in
-    simp faults_in_both all)
+    let two = c.both.ensures.slips _ _ c.target_of-target.ensures.1 c.optional_integer_at-data_index.ensures.1 in
+    let all = c.in_err-target.ensures.slips _ _ two c.no_others-others.ensures.1 in
+    refused_on _ _ _ _ c.from_residual.ensures (simp slips_in_both all)
