@@ -64,8 +64,8 @@ pub fn ended_so(answer: Result<u64, LineFault>) -> Outcome
     outcome_of(answer)
 }
 
-/// What words ask for is done, and then told, whatever reads the files. Words that are no command are told, with the status of a wrong command
-/// line or of refused memory.
+/// What words ask for is done, and then told, whatever reads the files. Words that are no command are told, with the status of a
+/// wrong command line or of refused memory.
 pub fn run_asked<H, F, S, K, P, L, D, I, O, E>(
     rt: &H,
     files: &F,

@@ -10,7 +10,8 @@ use cosem_axdr::reading::read_data;
 use cosem_data::data::Data;
 use std::alloc::Global;
 
-/// The value whose encoding stands in front of bytes, and how many bytes that has; where none is there the fault is the first from the left.
+/// The value whose encoding stands in front of bytes, and how many bytes that has; where none is there the fault is the first from
+/// the left.
 pub fn value_in_front(alloc: Global, bytes: &[u8]) -> Result<(Data, usize), ReadFault>
     ensures found { IfOk result (λ x. BeginsWith bytes.now (tree x.0) (drop x.1 bytes.now)
         × IsEncoding (tree x.0) (take x.1 bytes.now)) }
